@@ -1,0 +1,9 @@
+use Rattle.history.proofs.DelayLaws.{delayed_covers}
+use Rattle.history.proofs.WiderLaws.{rails_delayed-wider}
+use Rattle.history.proofs.delay_laws.delays_cover.Goals as goal
+
+pub returns : goal.returns
+returns c = record {
+  values = λ u v ends c t. delayed_covers u v (ends t) (c t) t;
+  rails = λ u v wide narrow t. rails_delayed-wider u v (wide t) (narrow t) t;
+}

@@ -1,0 +1,14 @@
+use Rattle.std.proofs.Common.{◌∙◌, sym}
+use Rattle.history.specs.Recorded.{at}
+use Rattle.history.proofs.DelayLaws.{delayed_at}
+use Rattle.history.proofs.PlainLaws.{delayed_early}
+use Rattle.history.proofs.plain.delayed_at.Goals as goal
+
+pub returns-then-delay-tick : goal.returns-then-delay-tick
+returns-then-delay-tick c =
+    c.is_on.ensures
+    ∙ sym (delayed_at (at c.args.recorded.now) c.args.delay c.args.tick c.if-delay-tick.true)
+
+pub returns-else-delay-tick : goal.returns-else-delay-tick
+returns-else-delay-tick c =
+    delayed_early (at c.args.recorded.now) c.args.delay c.args.tick c.if-delay-tick.false
