@@ -1,0 +1,4 @@
+pub mod Digits
+pub mod FileLaws
+pub mod Pieces
+pub mod Writes

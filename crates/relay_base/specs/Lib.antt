@@ -1,0 +1,10 @@
+pub mod Bound
+pub mod Counts
+pub mod FileStore
+pub mod Files
+pub mod MemorySink
+pub mod MemoryStore
+pub mod Number
+pub mod Sink
+pub mod StdSink
+pub mod Store
