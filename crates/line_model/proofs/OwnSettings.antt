@@ -1,0 +1,103 @@
+-- Each setting that the logic names is a parameter of the line, and each channel exists.
+use Rattle.std.proofs.Common.{
+  ◌≡◌,
+  ◌≢◌,
+  ℕ,
+  ◌+◌,
+  ◌*◌,
+  ◌<◌,
+  true,
+  false,
+  List,
+  [],
+  length,
+  take,
+  get_or,
+  Option,
+  Some,
+  None,
+  refl,
+  sym,
+  ap,
+  ◌∙◌,
+  subst,
+  arith,
+}
+use Rattle.std.specs.Prelude.{unwrap_or, option_map, is_some}
+use Rattle.std.proofs.lemmas.List.{get_or-map, get_or_default}
+use Rattle.line_model.specs.declared.line.Line.{Line}
+use Rattle.line_model.specs.declared.line.Terminal.{Terminal}
+use Rattle.line_model.specs.declared.line.Owner.{Owner}
+use Rattle.line_model.specs.declared.line.Owner.TheVariants as owner
+use Rattle.line_model.specs.declared.line.Setting.{Setting}
+use Rattle.line_model.specs.Channels.{channel_number, is_pair}
+use Rattle.line_model.specs.Settings.{
+  OwnedSetting,
+  line_settings,
+  settings_of_terminals,
+  channel_settings,
+  is_owned_setting,
+}
+use Rattle.line_model.specs.Places.{terminal_place, channel_place}
+use Rattle.line_model.specs.Parameters.{param_number, terminal_count, channel_count}
+use Rattle.line_model.specs.Names.{HasTime}
+use Rattle.line_model.specs.Elements.{is_guarded, is_weak, setting_of}
+use Rattle.line_model.specs.Received.{channel_to}
+use Rattle.line_model.proofs.Numbers.{position_within, length-line_settings}
+use Rattle.line_model.proofs.Positions.{terminal_number, channel_number_of}
+
+-- a setting with a number in the list is a parameter
+has_number : (line : Line) (o : Owner) (x : Setting) (i : ℕ)
+    → param_number line o x ≡ Some i → HasTime line (setting_of line o x)
+unfolding setting_of
+has_number line o x i number =
+    let all : List OwnedSetting =
+    line_settings line.scheme line.terminals.items line.channels.items in
+    let within : i < 0 + length all = position_within (is_owned_setting o x) 0 i all number in
+    let same : length all ≡ length line.params.items = length-line_settings line in
+    let bound : i < length line.params.items = omega arith in
+    let f : Option ℕ → Type 0 = λ n. unwrap_or n 0 < length line.params.items in
+    subst f (sym number) bound
+
+-- a setting with a place among those of its terminal is a parameter
+pub has_setting : (line : Line) (k p : ℕ) (x : Setting) → k < terminal_count line
+    → terminal_place line.scheme (is_guarded line k) (is_weak line k) x ≡ Some p
+    → HasTime line (setting_of line (owner.Terminal k) x)
+has_setting line k p x lt there =
+    let ts : List Terminal = line.terminals.items in
+    let d : Terminal = record { name = []; weak = false; guard = false } in
+    let t : Terminal = get_or ts k d in
+    let is : t ≡ get_or ts k t = get_or_default ts k d t lt in
+    let guard : is_guarded line k ≡ t.guard = get_or-map (λ u. u.guard) ts k d false lt in
+    let weak : is_weak line k ≡ t.weak = get_or-map (λ u. u.weak) ts k d false lt in
+    let n : ℕ = length (settings_of_terminals line.scheme 0 (take k ts)) in
+    let place : terminal_place line.scheme t.guard t.weak x ≡ Some p =
+    ap (λ g. terminal_place line.scheme g t.weak x) (sym guard)
+    ∙ ap (λ w. terminal_place line.scheme (is_guarded line k) w x) (sym weak) ∙ there in
+    let number : param_number line (owner.Terminal k) x ≡ Some (n + p) =
+    terminal_number line k x t lt is ∙ ap (λ o. option_map (λ i. n + i) o) place in
+    has_number line (owner.Terminal k) x (n + p) number
+
+-- a setting with a place among those of its channel is a parameter
+pub has_channel_setting : (line : Line) (c p : ℕ) (x : Setting) → c < channel_count line
+    → channel_place line.scheme x ≡ Some p → HasTime line (setting_of line (owner.Channel c) x)
+has_channel_setting line c p x lt there =
+    let n : ℕ = length (settings_of_terminals line.scheme 0 line.terminals.items)
+    + c * length (channel_settings line.scheme) in
+    let number : param_number line (owner.Channel c) x ≡ Some (n + p) =
+    channel_number_of line c x lt ∙ ap (λ o. option_map (λ i. n + i) o) there in
+    has_number line (owner.Channel c) x (n + p) number
+
+-- a channel between two terminals exists
+pub has_channel : (line : Line) (k j : ℕ) → k < terminal_count line → j < terminal_count line
+    → j ≢ k → channel_to line k j < channel_count line
+unfolding channel_to
+has_channel line k j lt jt ne =
+    from (channel_number line.channels.items j k) refl (line.pairs_once.found j k jt lt ne) where
+      from : (o : Option ℕ) → channel_number line.channels.items j k ≡ o → is_some o ≡ true
+          → unwrap_or o 0 < channel_count line
+      from None e s = absurd (cc)
+      from (Some c) e s =
+          let below : c < 0 + channel_count line =
+          position_within (is_pair j k) 0 c line.channels.items e in
+          omega arith

@@ -1,0 +1,15 @@
+use Rattle.line_model.specs.Choice.{world_of, pair_world_of}
+use Rattle.line_model.proofs.PairLaws.{pair_mean-past}
+use Rattle.line_model.proofs.PlainLaws.{mean-past}
+use Rattle.line_model.proofs.WorldLaws.{world_delayed, pair_world_delayed}
+use Rattle.line_model.proofs.laws.values_rest_on_earlier_keys.Goals as goal
+
+pub returns : goal.returns
+returns c = record {
+  value = λ line script choice u v x t d lt named same.
+      mean-past line (world_of line script choice) (world_delayed line script choice d) u v x t lt
+      named same;
+  pair = λ line script box u v x t d lt named same.
+      pair_mean-past line (pair_world_of line script box) (pair_world_delayed line script box d) u v
+      x t lt named same;
+}

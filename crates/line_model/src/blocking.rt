@@ -1,0 +1,38 @@
+// The blocking scheme, as formulas.
+
+ghost use Rattle.std.specs.Prelude.{◌≡◌, ◌<◌, IfOk};
+ghost use Rattle.line_model.specs.Tree.{tree_of};
+ghost use Rattle.line_model.specs.Parameters.{terminal_count};
+ghost use Rattle.line_model.specs.Logic.{blocking_key as blocking_key_tree};
+ghost use Rattle.line_model.specs.Logic.{blocking_pilot as blocking_pilot_tree};
+
+use crate::build::{and, not, timer};
+use crate::elements::{reverse, zone2};
+use crate::formula::{Formula, Time};
+use crate::line::{Line, Setting};
+use crate::memory::Memory;
+use crate::permissive::terminal_setting;
+use crate::received::any_received;
+use std::alloc::Global;
+
+#[tactic(auto, unfolding(crate::specs::Logic::blocking_key))]
+pub fn blocking_key(alloc: Global, line: &Line, k: u32) -> Result<Formula, Memory>
+    requires { k < terminal_count line.now }
+    ensures { IfOk result (λ f. tree_of f ≡ blocking_key_tree line.now k) }
+{
+    let not_ahead = not(alloc, zone2(alloc, line, k)?)?;
+    let behind = and(alloc, reverse(alloc, line, k)?, not_ahead)?;
+    let carry = terminal_setting(line, k, Setting::BlockCarry);
+    timer(alloc, behind, Time::Zero, carry)
+}
+
+#[tactic(auto, unfolding(crate::specs::Logic::blocking_pilot))]
+pub fn blocking_pilot(alloc: Global, line: &Line, k: u32) -> Result<Formula, Memory>
+    requires { k < terminal_count line.now }
+    ensures { IfOk result (λ f. tree_of f ≡ blocking_pilot_tree line.now k) }
+{
+    let coordination = terminal_setting(line, k, Setting::BlockCoord);
+    let ahead = timer(alloc, zone2(alloc, line, k)?, coordination, Time::Zero)?;
+    let blocked = any_received(alloc, line, k)?;
+    and(alloc, ahead, not(alloc, blocked)?)
+}

@@ -1,0 +1,22 @@
+// Formulas, which stand for trees.
+
+use crate::script::Place;
+
+#[derive(Clone, Copy, PartialEq, Eq, Hash)]
+pub enum Time {
+    Zero,
+    Param(u32),
+}
+
+#[derive(Drop)]
+pub enum Formula {
+    Const(bool),
+    Seen(Place),
+    Loss(u32),
+    Raw(u32),
+    Not(Box<Formula>),
+    And(Box<Formula>, Box<Formula>),
+    Or(Box<Formula>, Box<Formula>),
+    Timer(Box<Formula>, Time, Time),
+    Seal(Box<Formula>, Box<Formula>),
+}

@@ -1,0 +1,49 @@
+//! Lines, fault scripts and formulas as data: what a line keeps, the number of each parameter, the
+//! key and trip formula of each terminal, and a formula's value at a tick.
+#![tactic(auto)]
+
+mod blocking;
+mod bounds;
+mod build;
+mod channels;
+mod copy;
+mod elements;
+mod formula;
+pub mod laws;
+mod line;
+mod logic;
+mod lookup;
+mod make;
+pub mod mean;
+mod memory;
+mod name;
+mod param_names;
+mod params;
+mod permissive;
+mod received;
+mod script;
+mod script_fits;
+mod setting_places;
+mod settings;
+mod terminals;
+mod transfer;
+mod unblocking;
+
+pub use bounds::Bounds;
+pub use elements::{is_terminal_guarded, is_terminal_weak};
+pub use formula::{Formula, Time};
+pub use line::{Channel, Line, Owner, Param, Scheme, Setting, Terminal};
+pub use logic::{key_formula, trip_formula};
+pub use make::makes_line;
+pub use memory::Memory;
+pub use name::{Name, is_plain};
+pub use param_names::channel_name;
+pub use script::{Element, Kind, Place, Script, SeenSpan, What, loss, seen};
+pub use script_fits::fits;
+pub use setting_places::param_count;
+pub use settings::{settings_of_channel, settings_of_terminal};
+
+#[cfg(test)]
+mod logic_tests;
+#[cfg(test)]
+mod tests;

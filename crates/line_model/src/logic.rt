@@ -1,0 +1,67 @@
+// What each terminal sends and trips on, by the line's scheme.
+
+ghost use Rattle.std.specs.Prelude.{◌≡◌, ◌<◌, ◌≤◌, length, IfOk};
+ghost use Rattle.line_model.specs.Tree.{tree_of};
+ghost use Rattle.line_model.specs.Parameters.{terminal_count};
+ghost use Rattle.line_model.specs.Logic.{pilot_by, key_tree, set_tree, trip_tree};
+
+use crate::blocking::{blocking_key, blocking_pilot};
+use crate::build::{or, seal};
+use crate::elements::{current, zone1};
+use crate::formula::Formula;
+use crate::line::{Channel, Line, Scheme};
+use crate::memory::Memory;
+use crate::permissive::{permissive_key, permissive_pilot};
+use crate::transfer::{transfer_pilot, underreach_pilot};
+use std::alloc::Global;
+
+/// The formula of what a terminal sends.
+#[tactic(auto, unfolding(crate::specs::Logic::key_tree, crate::specs::Permissive::permission))]
+pub fn key_formula(alloc: Global, line: &Line, terminal: u32) -> Result<Formula, Memory>
+    requires { terminal < terminal_count line.now }
+    ensures { IfOk result (λ f. tree_of f ≡ key_tree line.now terminal) }
+{
+    match line.scheme {
+        Scheme::Pott | Scheme::Dcub => permissive_key(alloc, line, terminal),
+        Scheme::Putt | Scheme::Dtt => zone1(alloc, line, terminal),
+        Scheme::Dcb => blocking_key(alloc, line, terminal),
+    }
+}
+
+/// The formula of what trips a terminal.
+#[tactic(auto, unfolding(crate::specs::Logic::trip_tree))]
+pub fn trip_formula(alloc: Global, line: &Line, terminal: u32) -> Result<Formula, Memory>
+    requires { terminal < terminal_count line.now }
+    ensures { IfOk result (λ f. tree_of f ≡ trip_tree line.now terminal) }
+{
+    let set = set(alloc, line, terminal)?;
+    seal(alloc, set, current(terminal))
+}
+
+// What sets the trip.
+#[tactic(auto, unfolding(crate::specs::Logic::set_tree))]
+fn set(alloc: Global, line: &Line, terminal: u32) -> Result<Formula, Memory>
+    requires { terminal < terminal_count line.now }
+    ensures { IfOk result (λ f. tree_of f ≡ set_tree line.now terminal) }
+{
+    let pilot = pilot(alloc, line, terminal)?;
+    if line.zone1_trip {
+        or(alloc, pilot, zone1(alloc, line, terminal)?)
+    } else {
+        Ok(pilot)
+    }
+}
+
+// What the pilot scheme trips on.
+#[tactic(auto, unfolding(crate::specs::Permissive::permission))]
+fn pilot(alloc: Global, line: &Line, terminal: u32) -> Result<Formula, Memory>
+    requires { terminal < terminal_count line.now }
+    ensures { IfOk result (λ f. tree_of f ≡ pilot_by line.now.scheme line.now terminal) }
+{
+    match line.scheme {
+        Scheme::Pott | Scheme::Dcub => permissive_pilot(alloc, line, terminal),
+        Scheme::Putt => underreach_pilot(alloc, line, terminal),
+        Scheme::Dcb => blocking_pilot(alloc, line, terminal),
+        Scheme::Dtt => transfer_pilot(alloc, line, terminal),
+    }
+}

@@ -1,0 +1,74 @@
+// The number of a parameter and of a channel.
+
+ghost use Rattle.std.specs.Prelude.{
+  ◌≡◌,
+  ◌≢◌,
+  ◌≤◌,
+  ◌<◌,
+  ◌+◌,
+  ◌↔◌,
+  length,
+  IsSome,
+  IfSome,
+  option_map,
+};
+ghost use Rattle.line_model.specs.Channels.{channel_number, from_of, to_of};
+ghost use Rattle.line_model.specs.Parameters.{param_number};
+ghost use Rattle.line_model.specs.Parameters.{IsOwner};
+
+use crate::channels::find_channel;
+use crate::line::{Line, Owner, Param, Setting};
+use crate::setting_places::{count_before, count_of_channel, place_in_channel, place_in_terminal};
+
+impl Line {
+    /// The number of a parameter, where the line has it.
+    pub fn param_of(&self, owner: Owner, setting: Setting) -> Option<u32>
+        requires { IsOwner self.now owner }
+        ensures { result ≡ param_number self.now owner setting }
+    {
+        match owner {
+            Owner::Terminal(k) => {
+                let before = count_before(self.scheme, &self.terminals[..k as usize]);
+                let place = place_in_terminal(self.scheme, &self.terminals[k as usize], setting);
+                after(before, place)
+            }
+            Owner::Channel(c) => {
+                let before = count_before(self.scheme, &self.terminals);
+                let place = place_in_channel(self.scheme, setting);
+                after(before + c * count_of_channel(self.scheme), place)
+            }
+        }
+    }
+
+    /// How many parameters the line has: at most 63, in unblocking with three terminals, each weak
+    /// and guarded.
+    pub fn param_count(&self) -> u32
+        ensures count { result ≡ length self.now.params.items }
+        ensures few { result ≤ 63 }
+    {
+        let params: &[Param] = &self.params;
+        params.len() as u32
+    }
+
+    /// The number of the channel from one terminal to another.
+    pub fn channel_of(&self, from: u32, to: u32) -> Option<u32>
+        ensures number { result ≡ channel_number self.now.channels.items from to }
+        ensures some { IsSome result
+            ↔ ((from ≢ to)
+            × (from < length self.now.terminals.items)
+            × (to < length self.now.terminals.items)) }
+        ensures ends { IfSome result (λ c. (c < length self.now.channels.items)
+            × (from_of self.now.channels.items c ≡ from)
+            × (to_of self.now.channels.items c ≡ to)) }
+    {
+        find_channel(&self.channels, from, to)
+    }
+}
+
+fn after(before: u32, place: Option<u32>) -> Option<u32>
+    requires few { before ≤ 100 }
+    requires small { IfSome place (λ i. i ≤ 20) }
+    ensures { result ≡ option_map (λ i. before + i) place }
+{
+    place.map(|i| before + i)
+}

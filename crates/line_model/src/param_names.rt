@@ -1,0 +1,156 @@
+// The names of a line's parameters, in order.
+
+ghost use Rattle.std.specs.Prelude.{
+  ◌≡◌,
+  ◌≤◌,
+  ◌<◌,
+  [],
+  ◌++◌,
+  ◌+◌,
+  take,
+  length,
+  map,
+  IsTrue,
+  OnOk,
+  IfOk,
+};
+ghost use Rattle.line_model.specs.Terminals.{are_plain_names};
+ghost use Rattle.line_model.specs.Channels.{AreChannels};
+ghost use Rattle.line_model.specs.Settings.{line_settings, terminal_settings};
+ghost use Rattle.line_model.specs.ParamNames.{
+  dotted,
+  pair_name,
+  param_name,
+  terminal_names,
+  channel_names,
+};
+
+use crate::line::{Channel, Scheme, Setting, Terminal};
+use crate::memory::Memory;
+use crate::name::Name;
+use crate::settings::{settings_of_channel, settings_of_terminal};
+use std::alloc::Global;
+
+/// The name of each parameter.
+pub fn param_names(
+    alloc: Global,
+    scheme: Scheme,
+    terminals: &[Terminal],
+    channels: &[Channel],
+) -> Result<Vec<Name>, Memory>
+    requires plain { IsTrue (are_plain_names terminals.now) }
+    requires pairs { AreChannels (length terminals.now) channels.now }
+    ensures { IfOk result (λ names. names.items
+        ≡ map (param_name terminals.now channels.now)
+        (line_settings scheme terminals.now channels.now)) }
+{
+    let mut names = Vec::new(alloc);
+    push_terminals(alloc, &mut names, scheme, terminals)?;
+    push_channels(alloc, &mut names, scheme, terminals, channels)?;
+    Ok(names)
+}
+
+fn push_terminals(
+    alloc: Global,
+    names: &mut Vec<Name>,
+    scheme: Scheme,
+    terminals: &[Terminal],
+) -> Result<(), Memory>
+    requires { IsTrue (are_plain_names terminals.now) }
+    ensures { OnOk result (names.new.items ≡ names.old.items ++ terminal_names scheme terminals.now) }
+{
+    for terminal in terminals {
+        push_terminal(alloc, names, scheme, terminal)?;
+    }
+    Ok(())
+}
+
+fn push_terminal(
+    alloc: Global,
+    names: &mut Vec<Name>,
+    scheme: Scheme,
+    terminal: &Terminal,
+) -> Result<(), Memory>
+    requires { length terminal.now.name ≤ 16 }
+    ensures { OnOk result (names.new.items
+        ≡ names.old.items ++ map (dotted terminal.now.name) (terminal_settings scheme terminal.now)) }
+{
+    let settings = settings_of_terminal(alloc, scheme, terminal)?;
+    push_names(names, terminal.name.bytes(), &settings)
+}
+
+fn push_channels(
+    alloc: Global,
+    names: &mut Vec<Name>,
+    scheme: Scheme,
+    terminals: &[Terminal],
+    channels: &[Channel],
+) -> Result<(), Memory>
+    requires plain { IsTrue (are_plain_names terminals.now) }
+    requires pairs { AreChannels (length terminals.now) channels.now }
+    ensures { OnOk result (names.new.items
+        ≡ names.old.items ++ channel_names scheme terminals.now channels.now) }
+{
+    let settings = settings_of_channel(alloc, scheme)?;
+    for channel in channels {
+        let owner = channel_name(terminals, *channel);
+        push_names(names, owner.bytes(), &settings)?;
+    }
+    Ok(())
+}
+
+// A name for each setting of an owner.
+fn push_names(names: &mut Vec<Name>, owner: &[u8], settings: &[Setting]) -> Result<(), Memory>
+    requires { length owner.now ≤ 33 }
+    ensures { OnOk result (names.new.items ≡ names.old.items ++ map (dotted owner.now) settings.now) }
+{
+    for setting in settings {
+        names.push(name_of(owner, *setting))?;
+    }
+    Ok(())
+}
+
+// An owner's name with a dot and a setting.
+fn name_of(owner: &[u8], setting: Setting) -> Name
+    requires { length owner.now ≤ 33 }
+    ensures { result ≡ dotted owner.now setting }
+{
+    joined(owner, b".", setting.text())
+}
+
+/// The name of a channel, as `A>B`.
+pub fn channel_name(terminals: &[Terminal], channel: Channel) -> Name
+    requires plain { IsTrue (are_plain_names terminals.now) }
+    requires from { channel.from < length terminals.now }
+    requires to { channel.to < length terminals.now }
+    ensures name { result ≡ pair_name terminals.now channel }
+    ensures short { length result ≤ 33 }
+{
+    let from = &terminals[channel.from as usize];
+    let to = &terminals[channel.to as usize];
+    joined(from.name.bytes(), b">", to.name.bytes())
+}
+
+// The name of three pieces.
+fn joined(left: &[u8], middle: &[u8; 1], right: &[u8]) -> Name
+    requires { length left.now + length right.now ≤ 60 }
+    ensures { result ≡ left.now ++ (middle.now ++ right.now) }
+{
+    let len = left.len() + 1 + right.len();
+    let mut bytes = [0; 64];
+    put(&mut bytes, 0, left);
+    put(&mut bytes, left.len(), middle);
+    put(&mut bytes, left.len() + 1, right);
+    match Name::from_bytes(&bytes[..len]) {
+        Some(name) => name,
+        None => unreachable!(),
+    }
+}
+
+// Writes bytes behind the first `len`.
+fn put(bytes: &mut [u8; 64], len: usize, more: &[u8])
+    requires { len + length more.now ≤ 64 }
+    ensures { take (len + length more.now) bytes.new ≡ take len bytes.old ++ more.now }
+{
+    bytes[len..len + more.len()].copy_from_slice(more);
+}

@@ -1,0 +1,138 @@
+// Permission schemes, as formulas: current reversal guard, echo, weak infeed, key and trip.
+
+ghost use Rattle.std.specs.Prelude.{◌≡◌, ◌<◌, IfOk};
+ghost use Rattle.line_model.specs.Tree.{tree_of};
+ghost use Rattle.line_model.specs.Parameters.{terminal_count};
+ghost use Rattle.line_model.specs.Permissive.{permission as permission_tree};
+ghost use Rattle.line_model.specs.Permissive.{terminal_setting as terminal_setting_time};
+ghost use Rattle.line_model.specs.Permissive.{reversal_guard as reversal_guard_tree};
+ghost use Rattle.line_model.specs.Permissive.{quiet as quiet_tree, echo_wanted as echo_wanted_tree};
+ghost use Rattle.line_model.specs.Permissive.{echo as echo_tree};
+ghost use Rattle.line_model.specs.Permissive.{weak_infeed_trip as weak_infeed_trip_tree};
+ghost use Rattle.line_model.specs.Permissive.{permissive_key as permissive_key_tree};
+ghost use Rattle.line_model.specs.Permissive.{permissive_pilot as permissive_pilot_tree};
+
+use crate::build::{and, not, or, timer};
+use crate::elements::{
+    is_terminal_guarded, is_terminal_weak, reverse, time_of, undervoltage, zone2,
+};
+use crate::formula::{Formula, Time};
+use crate::line::{Line, Owner, Scheme, Setting};
+use crate::memory::Memory;
+use crate::received::all_received;
+use crate::unblocking::all_open;
+use std::alloc::Global;
+
+#[tactic(auto, unfolding(crate::specs::Permissive::permission))]
+fn permission(alloc: Global, line: &Line, k: u32) -> Result<Formula, Memory>
+    requires { k < terminal_count line.now }
+    ensures { IfOk result (λ f. tree_of f ≡ permission_tree line.now k) }
+{
+    match line.scheme {
+        Scheme::Pott => all_received(alloc, line, k),
+        Scheme::Dcub => all_open(alloc, line, k),
+        Scheme::Putt | Scheme::Dcb | Scheme::Dtt => Ok(Formula::Const(false)),
+    }
+}
+
+#[tactic(auto, unfolding(crate::specs::Permissive::terminal_setting))]
+pub fn terminal_setting(line: &Line, k: u32, setting: Setting) -> Time
+    requires { k < terminal_count line.now }
+    ensures { result ≡ terminal_setting_time line.now k setting }
+{
+    time_of(line, Owner::Terminal(k), setting)
+}
+
+#[tactic(auto, unfolding(crate::specs::Permissive::reversal_guard))]
+fn reversal_guard(alloc: Global, line: &Line, k: u32) -> Result<Formula, Memory>
+    requires { k < terminal_count line.now }
+    ensures { IfOk result (λ f. tree_of f ≡ reversal_guard_tree line.now k) }
+{
+    if is_terminal_guarded(line, k) {
+        let pickup = terminal_setting(line, k, Setting::ReversalPickup);
+        let dropout = terminal_setting(line, k, Setting::ReversalDropout);
+        timer(alloc, reverse(alloc, line, k)?, pickup, dropout)
+    } else {
+        Ok(Formula::Const(false))
+    }
+}
+
+#[tactic(auto, unfolding(crate::specs::Permissive::quiet))]
+fn quiet(alloc: Global, line: &Line, k: u32) -> Result<Formula, Memory>
+    requires { k < terminal_count line.now }
+    ensures { IfOk result (λ f. tree_of f ≡ quiet_tree line.now k) }
+{
+    let fault = or(alloc, zone2(alloc, line, k)?, reverse(alloc, line, k)?)?;
+    let block = terminal_setting(line, k, Setting::EchoBlock);
+    not(alloc, timer(alloc, fault, Time::Zero, block)?)
+}
+
+#[tactic(auto, unfolding(crate::specs::Permissive::echo_wanted))]
+fn echo_wanted(alloc: Global, line: &Line, k: u32) -> Result<Formula, Memory>
+    requires { k < terminal_count line.now }
+    ensures { IfOk result (λ f. tree_of f
+        ≡ echo_wanted_tree line.now k (permission_tree line.now k)) }
+{
+    if is_terminal_weak(line, k) {
+        let permitted = and(alloc, permission(alloc, line, k)?, quiet(alloc, line, k)?)?;
+        let pickup = terminal_setting(line, k, Setting::EchoPickup);
+        timer(alloc, permitted, pickup, Time::Zero)
+    } else {
+        Ok(Formula::Const(false))
+    }
+}
+
+#[tactic(auto, unfolding(crate::specs::Permissive::echo))]
+fn echo(alloc: Global, line: &Line, k: u32) -> Result<Formula, Memory>
+    requires { k < terminal_count line.now }
+    ensures { IfOk result (λ f. tree_of f ≡ echo_tree line.now k (permission_tree line.now k)) }
+{
+    if is_terminal_weak(line, k) {
+        let pulse = terminal_setting(line, k, Setting::EchoPulse);
+        let over = timer(alloc, echo_wanted(alloc, line, k)?, pulse, Time::Zero)?;
+        let within = not(alloc, over)?;
+        and(alloc, echo_wanted(alloc, line, k)?, within)
+    } else {
+        Ok(Formula::Const(false))
+    }
+}
+
+#[tactic(auto, unfolding(crate::specs::Permissive::weak_infeed_trip))]
+fn weak_infeed_trip(alloc: Global, line: &Line, k: u32) -> Result<Formula, Memory>
+    requires { k < terminal_count line.now }
+    ensures { IfOk result (λ f. tree_of f
+        ≡ weak_infeed_trip_tree line.now k (permission_tree line.now k)) }
+{
+    if is_terminal_weak(line, k) {
+        and(
+            alloc,
+            echo_wanted(alloc, line, k)?,
+            undervoltage(alloc, line, k)?,
+        )
+    } else {
+        Ok(Formula::Const(false))
+    }
+}
+
+#[tactic(auto, unfolding(crate::specs::Permissive::permissive_key))]
+pub fn permissive_key(alloc: Global, line: &Line, k: u32) -> Result<Formula, Memory>
+    requires { k < terminal_count line.now }
+    ensures { IfOk result (λ f. tree_of f
+        ≡ permissive_key_tree line.now k (permission_tree line.now k)) }
+{
+    let steady = not(alloc, reversal_guard(alloc, line, k)?)?;
+    let ahead = and(alloc, zone2(alloc, line, k)?, steady)?;
+    or(alloc, ahead, echo(alloc, line, k)?)
+}
+
+#[tactic(auto, unfolding(crate::specs::Permissive::permissive_pilot))]
+pub fn permissive_pilot(alloc: Global, line: &Line, k: u32) -> Result<Formula, Memory>
+    requires { k < terminal_count line.now }
+    ensures { IfOk result (λ f. tree_of f
+        ≡ permissive_pilot_tree line.now k (permission_tree line.now k)) }
+{
+    let permitted = and(alloc, zone2(alloc, line, k)?, permission(alloc, line, k)?)?;
+    let steady = not(alloc, reversal_guard(alloc, line, k)?)?;
+    let ahead = and(alloc, permitted, steady)?;
+    or(alloc, ahead, weak_infeed_trip(alloc, line, k)?)
+}

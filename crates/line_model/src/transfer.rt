@@ -1,0 +1,35 @@
+// Schemes that trip on any received signal, as formulas: underreach permission and transfer trip.
+
+ghost use Rattle.std.specs.Prelude.{◌≡◌, ◌<◌, IfOk};
+ghost use Rattle.line_model.specs.Tree.{tree_of};
+ghost use Rattle.line_model.specs.Parameters.{terminal_count};
+ghost use Rattle.line_model.specs.Logic.{underreach_pilot as underreach_pilot_tree};
+ghost use Rattle.line_model.specs.Logic.{transfer_pilot as transfer_pilot_tree};
+
+use crate::build::{and, timer};
+use crate::elements::zone2;
+use crate::formula::{Formula, Time};
+use crate::line::{Line, Setting};
+use crate::memory::Memory;
+use crate::permissive::terminal_setting;
+use crate::received::any_received;
+use std::alloc::Global;
+
+#[tactic(auto, unfolding(crate::specs::Logic::underreach_pilot))]
+pub fn underreach_pilot(alloc: Global, line: &Line, k: u32) -> Result<Formula, Memory>
+    requires { k < terminal_count line.now }
+    ensures { IfOk result (λ f. tree_of f ≡ underreach_pilot_tree line.now k) }
+{
+    let ahead = zone2(alloc, line, k)?;
+    and(alloc, ahead, any_received(alloc, line, k)?)
+}
+
+#[tactic(auto, unfolding(crate::specs::Logic::transfer_pilot))]
+pub fn transfer_pilot(alloc: Global, line: &Line, k: u32) -> Result<Formula, Memory>
+    requires { k < terminal_count line.now }
+    ensures { IfOk result (λ f. tree_of f ≡ transfer_pilot_tree line.now k) }
+{
+    let sent = any_received(alloc, line, k)?;
+    let security = terminal_setting(line, k, Setting::TransferSecurity);
+    timer(alloc, sent, security, Time::Zero)
+}

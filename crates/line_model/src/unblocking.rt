@@ -1,0 +1,110 @@
+// Channels that open for a while when they are lost, as formulas.
+
+ghost use Rattle.std.specs.Prelude.{◌≡◌, ◌≢◌, ◌<◌, IfOk};
+ghost use Rattle.line_model.specs.Tree.{tree_of};
+ghost use Rattle.line_model.specs.Parameters.{terminal_count};
+ghost use Rattle.line_model.specs.Unblocking.{channel_setting as channel_setting_time};
+ghost use Rattle.line_model.specs.Unblocking.{guard_seen as guard_seen_tree, late as late_tree};
+ghost use Rattle.line_model.specs.Unblocking.{unblocked as unblocked_tree};
+ghost use Rattle.line_model.specs.Unblocking.{locked_out as locked_out_tree};
+ghost use Rattle.line_model.specs.Unblocking.{open_from as open_from_tree};
+ghost use Rattle.line_model.specs.Unblocking.{all_open as all_open_tree};
+
+use crate::build::{and, not, or, seal, timer};
+use crate::elements::time_of;
+use crate::formula::{Formula, Time};
+use crate::line::{Line, Owner, Setting};
+use crate::memory::Memory;
+use crate::received::{channel_to, received};
+use std::alloc::Global;
+
+// A setting of the channel to terminal `k` from terminal `j`.
+#[tactic(auto, unfolding(crate::specs::Unblocking::channel_setting))]
+fn channel_setting(line: &Line, k: u32, j: u32, setting: Setting) -> Time
+    requires inside { k < terminal_count line.now }
+    requires other { j < terminal_count line.now }
+    requires apart { j ≢ k }
+    ensures { result ≡ channel_setting_time line.now k j setting }
+{
+    time_of(line, Owner::Channel(channel_to(line, k, j)), setting)
+}
+
+#[tactic(auto, unfolding(crate::specs::Unblocking::guard_seen))]
+fn guard_seen(alloc: Global, line: &Line, k: u32, j: u32) -> Result<Formula, Memory>
+    ensures { IfOk result (λ f. tree_of f ≡ guard_seen_tree line.now k j) }
+{
+    let channel = channel_to(line, k, j);
+    let silent = not(alloc, Formula::Raw(channel))?;
+    and(alloc, silent, not(alloc, Formula::Loss(channel))?)
+}
+
+#[tactic(auto, unfolding(crate::specs::Unblocking::late))]
+fn late(alloc: Global, line: &Line, k: u32, j: u32) -> Result<Formula, Memory>
+    requires inside { k < terminal_count line.now }
+    requires other { j < terminal_count line.now }
+    requires apart { j ≢ k }
+    ensures { IfOk result (λ f. tree_of f ≡ late_tree line.now k j) }
+{
+    let lost = Formula::Loss(channel_to(line, k, j));
+    let window = channel_setting(line, k, j, Setting::UnblockWindow);
+    timer(alloc, lost, window, Time::Zero)
+}
+
+#[tactic(auto, unfolding(crate::specs::Unblocking::unblocked))]
+fn unblocked(alloc: Global, line: &Line, k: u32, j: u32) -> Result<Formula, Memory>
+    requires inside { k < terminal_count line.now }
+    requires other { j < terminal_count line.now }
+    requires apart { j ≢ k }
+    ensures { IfOk result (λ f. tree_of f ≡ unblocked_tree line.now k j) }
+{
+    let lost = Formula::Loss(channel_to(line, k, j));
+    let pickup = channel_setting(line, k, j, Setting::UnblockPickup);
+    let opened = timer(alloc, lost, pickup, Time::Zero)?;
+    let closed = late(alloc, line, k, j)?;
+    and(alloc, opened, not(alloc, closed)?)
+}
+
+#[tactic(auto, unfolding(crate::specs::Unblocking::locked_out))]
+fn locked_out(alloc: Global, line: &Line, k: u32, j: u32) -> Result<Formula, Memory>
+    requires inside { k < terminal_count line.now }
+    requires other { j < terminal_count line.now }
+    requires apart { j ≢ k }
+    ensures { IfOk result (λ f. tree_of f ≡ locked_out_tree line.now k j) }
+{
+    let guard = guard_seen(alloc, line, k, j)?;
+    let restore = channel_setting(line, k, j, Setting::UnblockRestore);
+    let restored = timer(alloc, guard, restore, Time::Zero)?;
+    let closed = late(alloc, line, k, j)?;
+    seal(alloc, closed, not(alloc, restored)?)
+}
+
+#[tactic(auto, unfolding(crate::specs::Unblocking::open_from))]
+fn open_from(alloc: Global, line: &Line, k: u32, j: u32) -> Result<Formula, Memory>
+    requires inside { k < terminal_count line.now }
+    requires other { j < terminal_count line.now }
+    requires apart { j ≢ k }
+    ensures { IfOk result (λ f. tree_of f ≡ open_from_tree line.now k j) }
+{
+    let sent = received(alloc, line, k, j)?;
+    let open = or(alloc, sent, unblocked(alloc, line, k, j)?)?;
+    let locked = locked_out(alloc, line, k, j)?;
+    and(alloc, open, not(alloc, locked)?)
+}
+
+#[tactic(auto, unfolding(crate::specs::Unblocking::all_open, crate::specs::Received::all_others))]
+pub fn all_open(alloc: Global, line: &Line, k: u32) -> Result<Formula, Memory>
+    requires { k < terminal_count line.now }
+    ensures { IfOk result (λ f. tree_of f ≡ all_open_tree line.now k) }
+{
+    let mut all = None;
+    for j in 0..line.terminals.len() as u32 {
+        if j != k {
+            let next = open_from(alloc, line, k, j)?;
+            all = match all {
+                None => Some(next),
+                Some(before) => Some(and(alloc, before, next)?),
+            };
+        }
+    }
+    Ok(all.unwrap_or(Formula::Const(false)))
+}
