@@ -1,0 +1,2 @@
+pub mod SentKeys
+pub mod Sent

@@ -1,0 +1,16 @@
+//! What is received of a key that is known.
+#![tactic(auto)]
+
+use crate::Carried;
+use tick_signal::{Level, Tick};
+
+impl Carried for Level {
+    fn arrive(sent: &[Level], delay: &Tick) -> Level {
+        let c = delay.value() as usize;
+        if c <= sent.len() {
+            sent[sent.len() - c]
+        } else {
+            Level::Off
+        }
+    }
+}

@@ -1,0 +1,5 @@
+pub mod CountLaws
+pub mod AheadLaws
+pub mod RailsLaws
+pub mod SealLaws
+pub mod VectorLaws

@@ -1,0 +1,5 @@
+pub mod Counts
+pub mod Cells
+pub mod Ahead
+pub mod Seals
+pub mod Vectors
