@@ -1,0 +1,148 @@
+-- That what passes the checks fits the line.
+use Rattle.std.proofs.Common.{
+  ◌≡◌,
+  ◌&&◌,
+  ◌==◌,
+  ℕ,
+  ◌+◌,
+  ◌<◌,
+  ◌≤◌,
+  Bool,
+  true,
+  false,
+  cond,
+  List,
+  [],
+  ◌∷◌,
+  ◌++◌,
+  length,
+  Option,
+  Some,
+  None,
+  refl,
+  sym,
+  ap,
+  subst,
+  arith,
+  ◌∙◌,
+}
+use Rattle.std.specs.Prelude.{nat_lt, nat_le, option_map, IsTrue}
+use Rattle.std.specs.List.{list_all, position_from}
+use Rattle.std.specs.Str.{bytes_eq}
+use Rattle.std.proofs.lemmas.List.Folds.{list_all-append}
+use Rattle.relay_base.specs.Number.{number_of}
+use Rattle.line_model.specs.declared.line.Line.{Line}
+use Rattle.line_model.specs.declared.script.Kind.{Kind}
+use Rattle.line_model.specs.declared.script.Kind.TheVariants.{Internal, External}
+use Rattle.line_model.specs.declared.script.SeenSpan.{SeenSpan}
+use Rattle.line_model.specs.declared.script.What.{What}
+use Rattle.line_model.specs.declared.script.What.TheVariants as what
+use Rattle.line_model.specs.Fits.{exists_in, span_fits, deadline_fits}
+use Rattle.line_model.specs.PlainNames.{is_plain_name}
+use Rattle.fault_script.specs.declared.item.Item.{Item}
+use Rattle.fault_script.specs.declared.item.Item.TheVariants.{Head, Seen, Lost}
+use Rattle.fault_script.specs.Values.{ScriptValues}
+use Rattle.fault_script.specs.Places.{terminal_named, channel_named, has_name}
+use Rattle.fault_script.specs.Checks.{
+  is_empty,
+  below_horizon,
+  deadline_of,
+  span_between,
+  what_at,
+}
+
+-- a script with these values fits the line
+pub record ValuesFit (line : Line) (v : ScriptValues) : Type 0 where
+  pub plain_name : IsTrue (is_plain_name v.name)
+  pub few_spans : length v.spans ≤ 200
+  pub deadline : IsTrue (deadline_fits line.horizon v.kind v.deadline)
+  pub spans : IsTrue (list_all (span_fits line) v.spans)
+
+-- a value that a test let through
+tested : {A : Type 0} (b : Bool) (o : Option A) (x : A) → cond b o None ≡ Some x
+    → (b ≡ true) × (o ≡ Some x)
+tested true o x e = (refl, e)
+tested false o x e = absurd (cc)
+
+below_fits : (horizon : ℕ) (o : Option ℕ) (d : ℕ) → below_horizon horizon o ≡ Some d
+    → nat_lt d horizon ≡ true
+below_fits horizon None d e = absurd (cc)
+below_fits horizon (Some t) d e =
+    let p = tested (nat_lt t horizon) (Some t) d e in
+    let same : t ≡ d = (let f = p.1 in cc) in
+    subst (λ (x : ℕ). nat_lt x horizon ≡ true) same p.0
+
+pub head_deadline_fits : (line : Line) (kind : Kind) (from to : List ℕ) (d : ℕ)
+    → deadline_of line kind from to ≡ Some d → IsTrue (deadline_fits line.horizon kind d)
+head_deadline_fits line Internal from to d e =
+    below_fits line.horizon (number_of from) d
+    (tested (is_empty to) (below_horizon line.horizon (number_of from)) d e).1
+head_deadline_fits line External from to d e =
+    let p = tested (is_empty from && is_empty to) (Some 0) d e in
+    let same : 0 ≡ d = (let f = p.1 in cc) in
+    subst (λ (x : ℕ). (x == 0) ≡ true) same refl
+
+found_below : {X : Type 0} (p : X → Bool) (n : ℕ) (xs : List X) (k : ℕ)
+    → position_from p n xs ≡ Some k → k < n + length xs
+found_below p n [] k e = absurd (cc)
+found_below p n (x ∷ xs) k e =
+    elim (p x) as (λ b. cond b (Some n) (position_from p (n + 1) xs) ≡ Some k
+    → k < n + length (x ∷ xs)) [
+      | true ↦ λ f. let same : n ≡ k = cc in omega arith
+      | false ↦ λ f. let below = found_below p (n + 1) xs k f in omega arith
+    ] e
+
+-- a number that was found, under a constructor
+pub record Mapped {A B : Type 0} (f : A → B) (o : Option A) (y : B) : Type 0 where
+  pub value : A
+  pub found : o ≡ Some value
+  pub is : y ≡ f value
+
+mapped : {A B : Type 0} (f : A → B) (o : Option A) (y : B) → option_map f o ≡ Some y
+    → Mapped f o y
+mapped f None y e = absurd (cc)
+mapped f (Some x) y e = record { value = x; found = refl; is = (let g = e in cc) }
+
+lt_test : (a b : ℕ) → a < b → nat_lt a b ≡ true
+lt_test a b lt = grind arith
+
+what_exists : (line : Line) (item : Item) (place : List ℕ) (w : What)
+    → what_at line item place ≡ Some w → exists_in line w ≡ true
+what_exists line (Head kind) place w e = absurd (cc)
+what_exists line (Seen element) place w e =
+    let f : ℕ → What = λ k. what.Element (record { element = element; terminal = k }) in
+    let m = mapped f (terminal_named line place) w e in
+    let below = found_below (λ t. bytes_eq t.name place) 0 line.terminals.items m.value m.found in
+    subst (λ (x : What). exists_in line x ≡ true) (sym m.is)
+    (lt_test m.value (length line.terminals.items) (omega arith))
+what_exists line Lost place w e =
+    let m = mapped (λ c. what.Loss c) (channel_named line place) w e in
+    let below = found_below (has_name line.terminals.items place) 0 line.channels.items m.value
+    m.found in
+    subst (λ (x : What). exists_in line x ≡ true) (sym m.is)
+    (lt_test m.value (length line.channels.items) (omega arith))
+
+span_within : (line : Line) (w : What) (from to : Option ℕ) (span : SeenSpan)
+    → exists_in line w ≡ true → span_between line.horizon w from to ≡ Some span
+    → span_fits line span ≡ true
+span_within line w None to span there e = absurd (cc)
+span_within line w (Some from) None span there e = absurd (cc)
+span_within line w (Some from) (Some to) span there e =
+    let new : SeenSpan = record { what = w; from = from; to = to } in
+    let p = tested (nat_lt from to && nat_le to line.horizon) (Some new) span e in
+    let same : new ≡ span = (let f = p.1 in cc) in
+    subst (λ (x : SeenSpan). span_fits line x ≡ true) same
+    (ap (λ b. b && (nat_lt from to && nat_le to line.horizon)) there ∙ p.0)
+
+pub row_span_fits : (line : Line) (item : Item) (place : List ℕ) (w : What) (from to : Option ℕ)
+    (span : SeenSpan) → what_at line item place ≡ Some w
+    → span_between line.horizon w from to ≡ Some span → span_fits line span ≡ true
+row_span_fits line item place w from to span found ticks =
+    span_within line w from to span (what_exists line item place w found) ticks
+
+pub one_span_more : (line : Line) (spans : List SeenSpan) (span : SeenSpan)
+    → IsTrue (list_all (span_fits line) spans) → span_fits line span ≡ true
+    → IsTrue (list_all (span_fits line) (spans ++ span ∷ []))
+one_span_more line spans span all here =
+    list_all-append (span_fits line) spans (span ∷ [])
+    ∙ ap (λ b. b && (span_fits line span && true)) all ∙ ap (λ b. b && true) here

@@ -1,0 +1,61 @@
+-- Names of which no two are the same.
+use Rattle.std.proofs.Common.{
+  ◌≡◌,
+  ◌≢◌,
+  ℕ,
+  ◌<◌,
+  ◌≤◌,
+  Bool,
+  true,
+  false,
+  List,
+  [],
+  ◌∷◌,
+  ◌++◌,
+  length,
+  get_or,
+  sym,
+  ap,
+  ◌∙◌,
+  arith,
+  length-append,
+  inl,
+  inr,
+}
+use Rattle.std.specs.List.{list_any}
+use Rattle.std.specs.Str.{bytes_eq}
+use Rattle.std.proofs.lemmas.Bool.{cases_lt}
+use Rattle.std.proofs.lemmas.List.{get_or_append_left}
+use Rattle.std.proofs.Math.Seq.{get_or-append_seam}
+use Rattle.std.proofs.lemmas.List.Folds.{list_any_at}
+use Rattle.fault_script.proofs.Naming.{bytes_same}
+
+abbrev pub AreOnce : List (List ℕ) → Type 0
+AreOnce names = (j k : ℕ) → j < k → k < length names → get_or names j [] ≢ get_or names k []
+
+pub once_none : AreOnce []
+once_none = λ j k less below same. absurd (omega arith)
+
+not_both : (b : Bool) → b ≡ true → b ≡ false → ⊥
+not_both b p q = cc
+
+-- one name more, that none of them has
+pub once_more : (names : List (List ℕ)) (name : List ℕ) → AreOnce names
+    → list_any (λ x. bytes_eq x name) names ≡ false → AreOnce (names ++ name ∷ [])
+once_more names name once new = λ j k less below same.
+    let count = length-append names (name ∷ []) in
+    let early : j < length names = omega arith in
+    let at_j = get_or_append_left names (name ∷ []) [] j early in
+    elim (cases_lt k (length names)) [
+      | inl inside ↦
+          once j k less inside (sym at_j ∙ same ∙ get_or_append_left names (name ∷ []) [] k inside)
+      | inr past ↦
+          let last : k ≡ length names = omega arith in
+          let at_k : get_or (names ++ name ∷ []) k [] ≡ name =
+          ap (λ i. get_or (names ++ name ∷ []) i []) last
+          ∙ get_or-append_seam names name [] [] in
+          let here : bytes_eq (get_or names j []) name ≡ true =
+          ap (λ x. bytes_eq x name) (sym at_j ∙ same ∙ at_k) ∙ bytes_same name in
+          not_both (list_any (λ x. bytes_eq x name) names)
+          (list_any_at (λ x. bytes_eq x name) names j [] early here) new
+    ]

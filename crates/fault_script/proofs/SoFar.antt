@@ -1,0 +1,299 @@
+-- What the scripts that were read keep: each fits the line, and there are few.
+use Rattle.std.proofs.Common.{
+  ◌≡◌,
+  ℕ,
+  ◌+◌,
+  ◌*◌,
+  ◌<◌,
+  ◌≤◌,
+  true,
+  false,
+  cond,
+  List,
+  [],
+  ◌∷◌,
+  ◌++◌,
+  length,
+  map,
+  Option,
+  Some,
+  Result,
+  Ok,
+  Err,
+  refl,
+  sym,
+  subst,
+  ◌∙◌,
+  arith,
+  length-append,
+}
+use Rattle.std.specs.Str.{bytes_eq}
+use Rattle.std.proofs.lemmas.List.{map-append, length-map}
+use Rattle.std.specs.Prelude.{Vec, IfOk}
+use Rattle.std.specs.declared.alloc.Global.{Global}
+use Rattle.std.specs.List.{sum_by, All}
+use Rattle.std.proofs.lemmas.List.Sums.{sum_by-append, sum_by-cons}
+use Rattle.std.proofs.lemmas.List.Elements.{All-nil, All-cons, All-push, All-head, All-tail}
+use Rattle.std.proofs.lemmas.Bool.{ltb-true}
+use Rattle.relay_base.specs.Number.{number_of}
+use Rattle.line_model.specs.declared.line.Line.{Line}
+use Rattle.line_model.specs.declared.script.Kind.{Kind}
+use Rattle.line_model.specs.declared.script.Script.{Script}
+use Rattle.line_model.specs.Fits.{Fits}
+use Rattle.line_model.specs.PlainNames.{is_plain_name}
+use Rattle.fault_script.specs.declared.fault.ScriptFault.{ScriptFault}
+use Rattle.fault_script.specs.declared.fault.ScriptFault.TheVariants as fault
+use Rattle.fault_script.specs.Gives.{Gives}
+use Rattle.fault_script.specs.declared.item.Item.{Item}
+use Rattle.fault_script.specs.declared.item.Item.TheVariants.{Head, Seen, Lost}
+use Rattle.fault_script.specs.Row.{Row}
+use Rattle.fault_script.specs.Values.{
+  ScriptValues,
+  ScriptsSoFar,
+  AreOfOneFile,
+  values_of,
+  all_scripts,
+  no_scripts,
+  with_head,
+  with_row,
+}
+use Rattle.fault_script.specs.Checks.{is_header, is_head, is_taken}
+use Rattle.fault_script.specs.Scripts.{
+  after_item,
+  after_record,
+  after_records,
+  after_header,
+  scripts_in,
+}
+use Rattle.fault_script.proofs.Lists.{All-front, All-last, list_any-map}
+use Rattle.fault_script.proofs.Once.{AreOnce, once_none, once_more}
+use Rattle.fault_script.proofs.Fitting.{
+  ValuesFit,
+  head_deadline_fits,
+  row_span_fits,
+  one_span_more,
+}
+use Rattle.fault_script.proofs.Steps.{
+  passed,
+  choice_passed,
+  same_ok,
+  HeadPassed,
+  head_passed,
+  RowPassed,
+  row_passed,
+  record_passed,
+}
+
+-- the records of a script: its head and its rows
+abbrev pub records_in : ScriptValues → ℕ
+records_in v = 1 + length v.spans
+
+abbrev pub names_in : List ScriptValues → List (List ℕ)
+names_in vs = map (λ v. v.name) vs
+
+-- before record n: at most 64 scripts, each of which fits, and each record counted
+pub record IsSoFar (line : Line) (n : ℕ) (s : ScriptsSoFar) : Type 0 where
+  pub heads : length (all_scripts s) ≤ 64
+  pub fit : All (ValuesFit line) (all_scripts s)
+  pub number : n ≡ 2 + sum_by records_in (all_scripts s)
+  pub once : AreOnce (names_in (all_scripts s))
+
+pub none_so_far : (line : Line) → IsSoFar line 2 no_scripts
+none_so_far line =
+    record { heads = omega arith; fit = All-nil (ValuesFit line); number = refl; once = once_none }
+
+few_records : (line : Line) (vs : List ScriptValues) → All (ValuesFit line) vs
+    → sum_by records_in vs ≤ 201 * length vs
+few_records line [] fit = omega arith
+few_records line (v ∷ vs) fit =
+    let here = All-head (ValuesFit line) v vs fit in
+    let few = here.few_spans in
+    let rest = few_records line vs (All-tail (ValuesFit line) v vs fit) in
+    let sum = sum_by-cons records_in v vs in
+    omega arith
+
+-- so a record's number is small
+pub is_small : (line : Line) (n : ℕ) (s : ScriptsSoFar) → IsSoFar line n s → n < 20000
+is_small line n s so_far =
+    let few = few_records line (all_scripts s) so_far.fit in
+    let heads = so_far.heads in
+    let number = so_far.number in
+    omega arith
+
+one_more : (v : ScriptValues) (vs : List ScriptValues)
+    → sum_by records_in (vs ++ v ∷ []) ≡ sum_by records_in vs + records_in v
+one_more v vs = let e = sum_by-append records_in vs (v ∷ []) in omega arith
+
+after_head_so_far : (line : Line) (s : ScriptsSoFar) (n : ℕ) (row : Row) (kind : Kind)
+    (t : ScriptsSoFar) → IsSoFar line n s → is_plain_name row.name ≡ true
+    → is_taken s row.name ≡ false → HeadPassed line s row kind t → IsSoFar line (n + 1) t
+after_head_so_far line s n row kind t so_far plain unused p =
+    let new : ScriptValues =
+    record { name = row.name; kind = kind; deadline = p.deadline; spans = [] } in
+    let new_fits : ValuesFit line new = record {
+      plain_name = plain;
+      few_spans = omega arith;
+      deadline = head_deadline_fits line kind row.from row.to p.deadline p.ticks;
+      spans = refl;
+    } in
+    let room = ltb-true (length (all_scripts s)) 64 p.room in
+    let count = length-append (all_scripts s) (new ∷ []) in
+    let sum = one_more new (all_scripts s) in
+    let number = so_far.number in
+    let kept : IsSoFar line (n + 1) (with_head s row.name kind p.deadline) = record {
+      heads = omega arith;
+      fit = All-push (ValuesFit line) (all_scripts s) new so_far.fit new_fits;
+      number = omega arith;
+      once = subst (λ (names : List (List ℕ)). AreOnce names)
+          (sym (map-append (λ (v : ScriptValues). v.name) (all_scripts s) (new ∷ [])))
+          (once_more (names_in (all_scripts s)) row.name so_far.once
+          (list_any-map (λ (v : ScriptValues). v.name) (λ name. bytes_eq name row.name)
+          (all_scripts s) ∙ unused));
+    } in
+    subst (λ (x : ScriptsSoFar). IsSoFar line (n + 1) x) (sym p.after) kept
+
+after_row_so_far : (line : Line) (s : ScriptsSoFar) (n : ℕ) (row : Row) (item : Item)
+    (t : ScriptsSoFar) → IsSoFar line n s → RowPassed line s row item t → IsSoFar line (n + 1) t
+after_row_so_far line s n row item t so_far p =
+    let new : ScriptValues =
+    record p.latest { spans = p.latest.spans ++ p.span ∷ [] } in
+    let before : IsSoFar line n (record { done = s.done; latest = Some p.latest }) =
+    subst (λ (o : Option ScriptValues). IsSoFar line n (record { done = s.done; latest = o }))
+    p.stands so_far in
+    let done = All-front (ValuesFit line) s.done (p.latest ∷ []) before.fit in
+    let latest = All-last (ValuesFit line) s.done p.latest before.fit in
+    let room = ltb-true (length p.latest.spans) 200 p.room in
+    let spans = length-append p.latest.spans (p.span ∷ []) in
+    let new_fits : ValuesFit line new = record {
+      plain_name = latest.plain_name;
+      few_spans = omega arith;
+      deadline = latest.deadline;
+      spans = one_span_more line p.latest.spans p.span latest.spans
+          (row_span_fits line item row.place p.place (number_of row.from) (number_of row.to) p.span
+          p.found p.ticks);
+    } in
+    let count = length-append s.done (p.latest ∷ []) in
+    let count_new = length-append s.done (new ∷ []) in
+    let heads = before.heads in
+    let sum = one_more p.latest s.done in
+    let sum_new = one_more new s.done in
+    let number = before.number in
+    let kept : IsSoFar line (n + 1) (with_row s p.latest p.span) = record {
+      heads = omega arith;
+      fit = All-push (ValuesFit line) s.done new done new_fits;
+      number = omega arith;
+      once = subst (λ (names : List (List ℕ)). AreOnce names)
+          (map-append (λ (v : ScriptValues). v.name) s.done (p.latest ∷ [])
+          ∙ sym (map-append (λ (v : ScriptValues). v.name) s.done (new ∷ [])))
+          before.once;
+    } in
+    subst (λ (x : ScriptsSoFar). IsSoFar line (n + 1) x) (sym p.after) kept
+
+item_so_far : (line : Line) (s : ScriptsSoFar) (n : ℕ) (row : Row) (t : ScriptsSoFar)
+    → IsSoFar line n s → is_plain_name row.name ≡ true → (item : Item)
+    → (is_head (Some item) ≡ true → is_taken s row.name ≡ false)
+    → after_item line s n row item ≡ Ok t → IsSoFar line (n + 1) t
+item_so_far line s n row t so_far plain (Head kind) new e =
+    after_head_so_far line s n row kind t so_far plain (new refl)
+    (head_passed line s n row kind t e)
+item_so_far line s n row t so_far plain (Seen element) new e =
+    after_row_so_far line s n row (Seen element) t so_far
+    (row_passed line s n row (Seen element) t e)
+item_so_far line s n row t so_far plain Lost new e =
+    after_row_so_far line s n row Lost t so_far (row_passed line s n row Lost t e)
+
+-- one record more
+pub record_so_far : (line : Line) (s : ScriptsSoFar) (n : ℕ) (fields : List (List ℕ))
+    (t : ScriptsSoFar) → IsSoFar line n s → after_record line s n fields ≡ Ok t
+    → IsSoFar line (n + 1) t
+record_so_far line s n fields t so_far e =
+    let p = record_passed line s n fields t e in
+    item_so_far line s n p.row t so_far p.plain p.item p.new p.after
+
+records_so_far : (line : Line) (rows : List (List (List ℕ))) (s : ScriptsSoFar) (n : ℕ)
+    (t : ScriptsSoFar) → IsSoFar line n s → after_records line s n rows ≡ Ok t
+    → IsSoFar line (n + length rows) t
+unfolding after_records
+records_so_far line [] s n t so_far e =
+    let same : n ≡ n + 0 = omega arith in
+    subst (λ (x : ScriptsSoFar). IsSoFar line (n + 0) x) (same_ok s t e)
+    (subst (λ (m : ℕ). IsSoFar line m s) same so_far)
+records_so_far line (fields ∷ rest) s n t so_far e =
+    let p = passed (after_record line s n fields)
+    (λ next. after_records line next (n + 1) rest) t e in
+    let number : n + 1 + length rest ≡ n + length (fields ∷ rest) = omega arith in
+    subst (λ (m : ℕ). IsSoFar line m t) number
+    (records_so_far line rest p.value (n + 1) t
+    (record_so_far line s n fields p.value so_far p.was) p.rest)
+
+-- the scripts that a file says: each fits the line, and they are of one file
+pub record AreGood (line : Line) (vs : List ScriptValues) : Type 0 where
+  pub fit : All (ValuesFit line) vs
+  pub one_file : AreOfOneFile vs
+
+good : (line : Line) (n : ℕ) (s : ScriptsSoFar) → 2 < n → IsSoFar line n s
+    → AreGood line (all_scripts s)
+good line n s some so_far = record {
+  fit = so_far.fit;
+  one_file = record {
+    some =
+        (let few = few_records line (all_scripts s) so_far.fit in
+        let number = so_far.number in
+        omega arith);
+    few = so_far.heads;
+    once = λ j k less below. so_far.once j k less
+        (let count = length-map (all_scripts s) (λ (v : ScriptValues). v.name) in omega arith);
+  };
+}
+
+header_good : (line : Line) (rows : List (List (List ℕ))) (vs : List ScriptValues)
+    → after_header line rows ≡ Ok vs → AreGood line vs
+header_good line [] vs e = absurd (cc)
+header_good line (fields ∷ rest) vs e =
+    let p = passed (after_records line no_scripts 2 (fields ∷ rest))
+    (λ s. Ok (all_scripts s)) vs e in
+    subst (λ (x : List ScriptValues). AreGood line x)
+    (same_ok (all_scripts p.value) vs p.rest)
+    (good line (2 + length (fields ∷ rest)) p.value (omega arith)
+    (records_so_far line (fields ∷ rest) no_scripts 2 p.value (none_so_far line) p.was))
+
+scripts_good : (line : Line) (rows : List (List (List ℕ))) (vs : List ScriptValues)
+    → scripts_in line rows ≡ Ok vs → AreGood line vs
+unfolding scripts_in
+scripts_good line [] vs e = absurd (cc)
+scripts_good line (header ∷ rest) vs e =
+    header_good line rest vs
+    (choice_passed (is_header header) (after_header line rest) fault.Header vs e)
+
+pub values_fit : (line : Line) (scripts : List Script) → All (ValuesFit line) (map values_of scripts)
+    → All (Fits line) scripts
+values_fit line [] fit = All-nil (Fits line)
+values_fit line (s ∷ scripts) fit =
+    let here = All-head (ValuesFit line) (values_of s) (map values_of scripts) fit in
+    All-cons (Fits line) s scripts
+    (record {
+      plain_name = here.plain_name;
+      few_spans = here.few_spans;
+      deadline = here.deadline;
+      spans = here.spans;
+    })
+    (values_fit line scripts
+    (All-tail (ValuesFit line) (values_of s) (map values_of scripts) fit))
+
+-- so does every script that a reader gives
+pub read_scripts_fit : (line : Line) (rows : List (List (List ℕ)))
+    (r : Result (Vec Script Global) ScriptFault)
+    → Gives (λ v. map values_of v.items) r (scripts_in line rows)
+    → IfOk r (λ v. All (Fits line) v.items)
+read_scripts_fit line rows (Ok v) gives =
+    values_fit line v.items (scripts_good line rows (map values_of v.items) gives).fit
+read_scripts_fit line rows (Err e) gives = tt
+
+-- and they are of one file
+pub read_scripts_one_file : (line : Line) (rows : List (List (List ℕ)))
+    (r : Result (Vec Script Global) ScriptFault)
+    → Gives (λ v. map values_of v.items) r (scripts_in line rows)
+    → IfOk r (λ v. AreOfOneFile (map values_of v.items))
+read_scripts_one_file line rows (Ok v) gives =
+    (scripts_good line rows (map values_of v.items) gives).one_file
+read_scripts_one_file line rows (Err e) gives = tt

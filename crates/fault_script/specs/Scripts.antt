@@ -1,0 +1,99 @@
+-- What a file of scripts says: its scripts, or its first fault.
+use Rattle.std.specs.Prelude.{
+  ◌+◌,
+  ℕ,
+  List,
+  [],
+  ◌∷◌,
+  Result,
+  Ok,
+  Err,
+  if◌then◌else◌,
+}
+use Rattle.line_model.specs.declared.line.Line.{Line}
+use Rattle.line_model.specs.declared.script.Kind.{Kind}
+use Rattle.csv_records.specs.Records.{records_of}
+use Rattle.relay_base.specs.Number.{number_of}
+use Rattle.fault_script.specs.declared.fault.ScriptFault.{ScriptFault}
+use Rattle.fault_script.specs.declared.fault.ScriptFault.TheVariants as fault
+use Rattle.fault_script.specs.declared.item.Item.{Item}
+use Rattle.fault_script.specs.declared.item.Item.TheVariants.{Head, Seen, Lost}
+use Rattle.fault_script.specs.Gives.{◌>>=◌}
+use Rattle.fault_script.specs.Values.{
+  ScriptValues,
+  ScriptsSoFar,
+  all_scripts,
+  no_scripts,
+  with_head,
+  with_row,
+}
+use Rattle.fault_script.specs.Row.{Row, row_in}
+use Rattle.fault_script.specs.Checks.{
+  is_header,
+  item_of,
+  check_name,
+  check_item,
+  check_order,
+  check_heads,
+  check_rows,
+  check_no_place,
+  what_at,
+  check_place,
+  deadline_of,
+  check_deadline,
+  span_between,
+  check_span,
+}
+
+-- a head: room for one more, no place, then its deadline
+unfoldable pub after_head : Line → ScriptsSoFar → ℕ → Row → Kind → Result ScriptsSoFar ScriptFault
+after_head line s n row kind = do
+  room ← check_heads s
+  place ← check_no_place n row.place
+  deadline ← check_deadline n (deadline_of line kind row.from row.to)
+  Ok (with_head s row.name kind deadline)
+
+-- any other row: the latest script's name, room for one more, its place, then its ticks
+unfoldable pub after_row : Line → ScriptsSoFar → ℕ → Row → Item → Result ScriptsSoFar ScriptFault
+after_row line s n row item = do
+  latest ← check_order n row.name s.latest
+  room ← check_rows latest
+  place ← check_place n (what_at line item row.place)
+  span ← check_span n (span_between line.horizon place (number_of row.from) (number_of row.to))
+  Ok (with_row s latest span)
+
+abbrev pub after_item : Line → ScriptsSoFar → ℕ → Row → Item → Result ScriptsSoFar ScriptFault
+after_item line s n row (Head kind) = after_head line s n row kind
+after_item line s n row (Seen element) = after_row line s n row (Seen element)
+after_item line s n row Lost = after_row line s n row Lost
+
+-- what a record makes of the scripts before it
+unfoldable pub after_record : Line → ScriptsSoFar → ℕ → List (List ℕ)
+    → Result ScriptsSoFar ScriptFault
+after_record line s n fields = do
+  row ← row_in n fields
+  name ← check_name s n row
+  item ← check_item n (item_of row.item)
+  after_item line s n row item
+
+-- the records from number n on, in order, up to the first fault
+unfoldable pub after_records : Line → ScriptsSoFar → ℕ → List (List (List ℕ))
+    → Result ScriptsSoFar ScriptFault
+after_records line s n [] = Ok s
+after_records line s n (fields ∷ rest) =
+    after_record line s n fields >>= λ next. after_records line next (n + 1) rest
+
+-- the header, at least one record, and then each record
+abbrev pub after_header : Line → List (List (List ℕ)) → Result (List ScriptValues) ScriptFault
+after_header line [] = Err fault.Empty
+after_header line (fields ∷ rest) =
+    after_records line no_scripts 2 (fields ∷ rest) >>= λ s. Ok (all_scripts s)
+
+unfoldable pub scripts_in : Line → List (List (List ℕ)) → Result (List ScriptValues) ScriptFault
+scripts_in line [] = Err fault.Header
+scripts_in line (header ∷ rest) =
+    if is_header header then after_header line rest else Err fault.Header
+
+-- what these bytes say
+abbrev pub scripts_of : Line → List ℕ → Result (List ScriptValues) ScriptFault
+scripts_of line bytes = scripts_in line (records_of bytes)

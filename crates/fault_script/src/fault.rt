@@ -1,0 +1,73 @@
+// Why a file of scripts is refused.
+
+use csv_records::Memory;
+use std::alloc::{AllocError, AllocFailed};
+use thiserror::Error;
+
+/// Why a file of scripts is refused. The number is that of the record; the header is record 1.
+#[derive(Clone, Copy, Debug, Drop, PartialEq, Eq, Error)]
+pub enum ScriptFault {
+    /// The first record isn't `script,item,place,from,to`.
+    #[error("Header")]
+    Header,
+    /// The record has not five fields.
+    #[error("Fields {0}")]
+    Fields(u32),
+    /// The item is none of the eight.
+    #[error("Item {0}")]
+    Item(u32),
+    /// A head has a place, or the place is no terminal, or for a loss no channel.
+    #[error("Place {0}")]
+    BadPlace(u32),
+    /// A deadline or a span is not within the horizon.
+    #[error("Ticks {0}")]
+    Ticks(u32),
+    /// A row has no head before it, or another name than the latest head.
+    #[error("Order {0}")]
+    Order(u32),
+    /// The name isn't plain, or a head before this one has it.
+    #[error("Name {0}")]
+    BadName(u32),
+    /// A 65th head, or a 201st row after one head.
+    #[error("TooMany")]
+    TooMany,
+    /// No record follows the header.
+    #[error("Empty")]
+    Empty,
+    /// Memory ran out.
+    #[error("Memory")]
+    Memory,
+}
+
+impl From<AllocError> for ScriptFault {
+    ghost use Rattle.std.specs.Prelude.{◌≡◌};
+    ghost use Rattle.fault_script.specs.declared.fault.ScriptFault.TheVariants as fault;
+
+    ghost from_gives = { λ _ e. e ≡ fault.Memory };
+
+    fn from(_: AllocError) -> Self {
+        ScriptFault::Memory
+    }
+}
+
+impl<T: Drop> From<AllocFailed<T>> for ScriptFault {
+    ghost use Rattle.std.specs.Prelude.{◌≡◌};
+    ghost use Rattle.fault_script.specs.declared.fault.ScriptFault.TheVariants as fault;
+
+    ghost from_gives = { λ _ e. e ≡ fault.Memory };
+
+    fn from(_: AllocFailed<T>) -> Self {
+        ScriptFault::Memory
+    }
+}
+
+impl From<Memory> for ScriptFault {
+    ghost use Rattle.std.specs.Prelude.{◌≡◌};
+    ghost use Rattle.fault_script.specs.declared.fault.ScriptFault.TheVariants as fault;
+
+    ghost from_gives = { λ _ e. e ≡ fault.Memory };
+
+    fn from(_: Memory) -> Self {
+        ScriptFault::Memory
+    }
+}

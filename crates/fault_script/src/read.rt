@@ -1,0 +1,170 @@
+// Reading a file of scripts.
+
+ghost use Rattle.std.specs.Prelude.{◌≡◌, IfOk, IsTrue, map};
+ghost use Rattle.std.specs.List.{All};
+ghost use Rattle.csv.specs.Records.{fields_of};
+ghost use Rattle.line_model.specs.Fits.{Fits};
+ghost use Rattle.line_model.specs.PlainNames.{is_plain_name};
+ghost use Rattle.fault_script.specs.Gives.{Gives};
+ghost use Rattle.fault_script.specs.Row.{row_of};
+ghost use Rattle.fault_script.specs.Values.{values_of, so_far_of, no_scripts, AreOfOneFile};
+ghost use Rattle.fault_script.specs.Scripts.{
+  scripts_of,
+  scripts_in,
+  after_records,
+  after_record,
+  after_head,
+  after_row,
+};
+
+use crate::check::{deadline, has_room, is_named_well, is_nothing, span, what_named};
+use crate::fault::ScriptFault;
+use crate::fields::{Fields, fields_in, heads_file};
+use crate::item::{Item, is, item_named};
+use crate::reading::{Reading, finished, nothing_read};
+use csv::ByteRecord;
+use csv_records::read_records;
+use line_model::{Kind, Line, Name, Script};
+use std::alloc::Global;
+
+/// What record n makes of the scripts before it.
+#[tactic(auto, unfolding(crate::specs::Scripts::after_record))]
+pub fn after(
+    alloc: Global,
+    line: &Line,
+    reading: Reading,
+    n: u32,
+    row: &ByteRecord,
+) -> Result<Reading, ScriptFault>
+    ensures { Gives so_far_of result (after_record line.now (so_far_of reading) n (fields_of row.now)) }
+{
+    let fields = fields_in(row, n)?;
+    if !is_named_well(&reading, fields) {
+        return Err(ScriptFault::BadName(n));
+    }
+    match item_named(fields.item) {
+        None => Err(ScriptFault::Item(n)),
+        Some(Item::Head(kind)) => with_head(alloc, line, reading, n, fields, kind),
+        Some(item) => with_row(line, reading, n, fields, item),
+    }
+}
+
+#[tactic(auto, unfolding(crate::specs::Scripts::after_head))]
+fn with_head(
+    alloc: Global,
+    line: &Line,
+    reading: Reading,
+    n: u32,
+    fields: Fields,
+    kind: Kind,
+) -> Result<Reading, ScriptFault>
+    requires { IsTrue (is_plain_name fields.name.now) }
+    ensures { Gives so_far_of result
+        (after_head line.now (so_far_of reading) n (row_of fields.entry) kind) }
+{
+    if !has_room(&reading) {
+        return Err(ScriptFault::TooMany);
+    }
+    if !is_nothing(fields.place) {
+        return Err(ScriptFault::BadPlace(n));
+    }
+    let Some(deadline) = deadline(line, kind, fields.from, fields.to) else {
+        return Err(ScriptFault::Ticks(n));
+    };
+    let script = Script {
+        name: plain_name(fields.name),
+        kind,
+        deadline,
+        spans: Vec::new(alloc),
+    };
+    Ok(Reading {
+        done: finished(reading)?,
+        latest: Some(script),
+    })
+}
+
+fn plain_name(bytes: &[u8]) -> Name
+    requires { IsTrue (is_plain_name bytes.now) }
+    ensures { result ≡ bytes.now }
+{
+    match Name::from_bytes(bytes) {
+        Some(name) => name,
+        None => unreachable!(),
+    }
+}
+
+#[tactic(auto, unfolding(crate::specs::Scripts::after_row))]
+fn with_row(
+    line: &Line,
+    reading: Reading,
+    n: u32,
+    fields: Fields,
+    item: Item,
+) -> Result<Reading, ScriptFault>
+    ensures { Gives so_far_of result
+        (after_row line.now (so_far_of reading) n (row_of fields.entry) item) }
+{
+    let Reading { done, latest } = reading;
+    let Some(mut script) = latest else {
+        return Err(ScriptFault::Order(n));
+    };
+    if !is(script.name.bytes(), fields.name) {
+        return Err(ScriptFault::Order(n));
+    }
+    if script.spans.len() >= 200 {
+        return Err(ScriptFault::TooMany);
+    }
+    let Some(what) = what_named(line, item, fields.place) else {
+        return Err(ScriptFault::BadPlace(n));
+    };
+    let Some(span) = span(line.horizon, what, fields.from, fields.to) else {
+        return Err(ScriptFault::Ticks(n));
+    };
+    script.spans.push(span)?;
+    Ok(Reading {
+        done,
+        latest: Some(script),
+    })
+}
+
+/// What the records behind the header say, of which the first is record 2.
+fn read_rows(alloc: Global, line: &Line, rows: &[ByteRecord]) -> Result<Reading, ScriptFault>
+    ensures { Gives so_far_of result (after_records line.now no_scripts 2 (map fields_of rows.now)) }
+{
+    let mut reading = nothing_read(alloc);
+    let mut n = 2;
+    for row in rows {
+        reading = after(alloc, line, reading, n, row)?;
+        n += 1;
+    }
+    Ok(reading)
+}
+
+// What all records say.
+#[tactic(auto, unfolding(crate::specs::Scripts::scripts_in))]
+fn read_all(alloc: Global, line: &Line, rows: &[ByteRecord]) -> Result<Vec<Script>, ScriptFault>
+    ensures { Gives (λ v. map values_of v.items) result (scripts_in line.now (map fields_of rows.now)) }
+{
+    match rows {
+        [] => Err(ScriptFault::Header),
+        [header, rest @ ..] => {
+            if !heads_file(header) {
+                return Err(ScriptFault::Header);
+            }
+            if rest.is_empty() {
+                return Err(ScriptFault::Empty);
+            }
+            finished(read_rows(alloc, line, rest)?)
+        }
+    }
+}
+
+/// The scripts of a file, in file order, or its first fault.
+pub fn read_scripts(alloc: Global, line: &Line, bytes: &[u8]) -> Result<Vec<Script>, ScriptFault>
+    ensures said { Gives (λ v. map values_of v.items) result (scripts_of line.now bytes.now) }
+    ensures fits { IfOk result (λ v. All (Fits line.now) v.items) }
+    ensures one_file { IfOk result (λ v. AreOfOneFile (map values_of v.items)) }
+{
+    let rows = read_records(alloc, bytes)?;
+    read_all(alloc, line, rows.as_slice())
+}

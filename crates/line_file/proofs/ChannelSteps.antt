@@ -1,0 +1,178 @@
+-- Channels, one after another.
+use Rattle.std.proofs.Common.{◌≡◌, ◌≢◌, ◌+◌, ◌<◌, ◌==◌, ℕ, false, List, [], ◌∷◌, ◌++◌, Option, Some, None, Ok, drop, length, get_or, refl, codes, sym, ap, subst, ◌∙◌, arith, ◌≤◌}
+use Rattle.std.proofs.lemmas.Bool.{eqb-false}
+use Rattle.std.specs.Str.{bytes_eq}
+use Rattle.std.specs.List.{list_any}
+use Rattle.toml.specs.Data.{Data, Members}
+use Rattle.toml.specs.View.{view, items_view}
+use Rattle.toml.specs.declared.value.Value.{Value}
+use Rattle.toml.proofs.Views.{items_view-drop}
+use Rattle.line_model.specs.declared.line.Terminal.{Terminal}
+use Rattle.line_model.specs.declared.line.Channel.{Channel}
+use Rattle.line_model.specs.declared.bounds.Bounds.{Bounds}
+use Rattle.line_model.specs.declared.line.Scheme.{Scheme}
+use Rattle.line_model.specs.declared.line.Scheme.TheVariants.{Pott, Putt, Dcb, Dcub, Dtt}
+use Rattle.line_model.specs.Channels.{is_pair}
+use Rattle.line_model.specs.Settings.{channel_settings}
+use Rattle.line_model.specs.Making.{least_ends}
+use Rattle.line_model.proofs.FirstPositions.{position_within}
+use Rattle.line_file.specs.Paths.{item_path}
+use Rattle.line_file.specs.Reading.{◌>>=◌}
+use Rattle.line_file.specs.Keys.{all_known, table_in, text_at}
+use Rattle.line_file.specs.Times.{time_at}
+use Rattle.line_file.specs.Lines.{LineValues}
+use Rattle.line_file.specs.ChannelTables.{unblock_keys, channel_keys, terminal_called, sender, receiver, from_at, to_at, ends_at, receiver_times, channel_at, channels_at}
+use Rattle.line_file.proofs.Binds.{bind_ok, guard_ok, same_ok}
+use Rattle.line_file.proofs.TimeLaws.{
+  IsTime,
+  Grew,
+  grew_none,
+  grew_one,
+  grew_more,
+  grew_as,
+  any_fewest,
+  time_ok,
+  required_ok,
+}
+
+-- the next channel, and then those after it
+pub channels_at-more :
+    (unit i : ℕ) (vs : List Value) (line : LineValues) (d : Value) → i < length vs
+    → channels_at unit i (items_view (drop i vs)) line
+    ≡ (channel_at unit (item_path (codes "channel") i) (view (get_or vs i d)) line
+    >>= λ more. channels_at unit (i + 1) (items_view (drop (i + 1) vs)) more)
+unfolding channels_at
+channels_at-more unit i vs line d h = rw (items_view-drop vs i d h)
+
+-- two terminals of the line, and no channel between them before
+pub record AreNewEnds (ts : List Terminal) (before : List Channel) (x : Channel) : Type 0 where
+  pub from : x.from < length ts
+  pub to : x.to < length ts
+  pub apart : x.from ≢ x.to
+  pub new : list_any (is_pair x.from x.to) before ≡ false
+
+called_within :
+    (ts : List Terminal) (name : List ℕ) (k : ℕ) → terminal_called ts name ≡ Some k → k < length ts
+called_within ts name k e =
+    let h : k < 0 + length ts = position_within (λ t. bytes_eq t.name name) 0 k ts e in omega arith
+
+sender_ok :
+    (path : List ℕ) (o : Option ℕ) (k : ℕ) → sender path o ≡ Ok k → o ≡ Some k
+sender_ok path None k e = absurd (cc)
+sender_ok path (Some n) k e = let same : n ≡ k = cc in ap Some same
+
+other_ok :
+    (path : List ℕ) (from : ℕ) (o : Option ℕ) (k : ℕ) → receiver path from o ≡ Ok k
+    → (o ≡ Some k) × (from ≢ k)
+other_ok path from None k e = absurd (cc)
+other_ok path from (Some n) k e =
+    let g = guard_ok (n == from) _ (Ok n) k e in
+    let same : n ≡ k = (let f = g.1 in cc) in
+    (ap Some same, λ equal. eqb-false n from g.0 (same ∙ sym equal))
+
+-- what the ends that are read keep
+pub ends_at-ok :
+    (path : List ℕ) (ts : List Terminal) (before : List Channel) (ms : Members) (x : Channel)
+    → ends_at path ts before ms ≡ Ok x → AreNewEnds ts before x
+unfolding ends_at from_at to_at
+ends_at-ok path ts before ms x e =
+    let (from, from_is, e1) = bind_ok (from_at path ts ms) _ x e in
+    let (to, to_is, e2) = bind_ok (to_at path ts from ms) _ x e1 in
+    let (new, made) = guard_ok (list_any (is_pair from to) before) _ _ x e2 in
+    let (name, name_is, from_ok) = bind_ok (text_at path (codes "from") ms) _ from from_is in
+    let (other, other_is, to_ok) = bind_ok (text_at path (codes "to") ms) _ to to_is in
+    let from_called = sender_ok _ (terminal_called ts name) from from_ok in
+    let to_called = other_ok _ from (terminal_called ts other) to to_ok in
+    let same : record { from = from; to = to } ≡ x = cc in
+    subst (λ c. AreNewEnds ts before c) same (record {
+      from = called_within ts name from from_called;
+      to = called_within ts other to to_called.0;
+      apart = to_called.1;
+      new = new;
+    })
+
+-- the least end of an interval behind others
+least_behind :
+    (old : List Bounds) (b : Bounds) (rest : List Bounds)
+    → get_or (least_ends (old ++ b ∷ [] ++ rest)) (length old) 0 ≡ b.least
+least_behind [] b rest = refl
+least_behind (o ∷ old) b rest = least_behind old b rest
+
+-- what one more channel is
+pub record IsOneMoreChannel (line more : LineValues) : Type 0 where
+  pub channel : Channel
+  pub intervals : List Bounds
+  pub ends : AreNewEnds line.terminals line.channels channel
+  pub grew : Grew (length (channel_settings line.scheme)) line.intervals intervals
+  pub delay : 1 ≤ get_or (least_ends intervals) (length line.intervals) 0
+  pub is : record line { channels = line.channels ++ channel ∷ []; intervals = intervals } ≡ more
+
+-- the delay, and what a channel has besides
+receiver_ok :
+    (s : Scheme) (path : List ℕ) (unit : ℕ) (ms : Members) (old : List Bounds) (delay : Bounds)
+    (new : List Bounds) → 0 < unit → IsTime 1 delay
+    → receiver_times s path unit ms (old ++ delay ∷ []) ≡ Ok new
+    → Grew (length (channel_settings s)) old new
+    × (1 ≤ get_or (least_ends new) (length old) 0)
+receiver_ok s path unit ms old delay new some time e =
+    let rest : (n : ℕ) × (1 + n ≡ length (channel_settings s)) × Grew n (old ++ delay ∷ []) new =
+    besides s e in
+    let (n, count, more) = rest in
+    let grown = grew_more 1 n old (old ++ delay ∷ []) new
+    (grew_one old delay (any_fewest 1 delay time)) more in
+    let first : get_or (least_ends new) (length old) 0 ≡ delay.least =
+    subst (λ bs. get_or (least_ends bs) (length old) 0 ≡ delay.least) more.is
+    (least_behind old delay more.added) in
+    (grew_as (1 + n) _ old new count grown, rw first time.enough)
+  where
+    besides :
+        (s : Scheme) → receiver_times s path unit ms (old ++ delay ∷ []) ≡ Ok new
+        → (n : ℕ) × (1 + n ≡ length (channel_settings s)) × Grew n (old ++ delay ∷ []) new
+    besides Dcub e = (3, refl, required_ok path (codes "unblock") unblock_keys unit ms _ new some e)
+    besides Pott e = (
+      0,
+      refl,
+      subst (λ x. Grew 0 (old ++ delay ∷ []) x) (same_ok _ new e)
+          (grew_none _),
+    )
+    besides Putt e = (
+      0,
+      refl,
+      subst (λ x. Grew 0 (old ++ delay ∷ []) x) (same_ok _ new e)
+          (grew_none _),
+    )
+    besides Dcb e = (
+      0,
+      refl,
+      subst (λ x. Grew 0 (old ++ delay ∷ []) x) (same_ok _ new e)
+          (grew_none _),
+    )
+    besides Dtt e = (
+      0,
+      refl,
+      subst (λ x. Grew 0 (old ++ delay ∷ []) x) (same_ok _ new e)
+          (grew_none _),
+    )
+
+pub channel_at-ok :
+    (unit : ℕ) (path : List ℕ) (d : Data) (line more : LineValues) → 0 < unit
+    → channel_at unit path d line ≡ Ok more → IsOneMoreChannel line more
+unfolding channel_at
+channel_at-ok unit path d line more some e =
+    let (ms, ms_is, e1) = bind_ok (table_in path d) _ more e in
+    let (known, known_is, e2) = bind_ok (all_known path (channel_keys line.scheme) ms) _ more e1 in
+    let (x, x_is, e3) = bind_ok (ends_at path line.terminals line.channels ms) _ more e2 in
+    let (delay, delay_is, e4) = bind_ok (time_at path (codes "delay") unit 1 ms) _ more e3 in
+    let (whole, whole_is, e5) =
+    bind_ok (receiver_times line.scheme path unit ms (line.intervals ++ delay ∷ [])) _ more e4 in
+    let time = time_ok path (codes "delay") unit 1 ms delay some delay_is in
+    let grown =
+    receiver_ok line.scheme path unit ms line.intervals delay whole some time whole_is in
+    record {
+      channel = x;
+      intervals = whole;
+      ends = ends_at-ok path line.terminals line.channels ms x x_is;
+      grew = grown.0;
+      delay = grown.1;
+      is = same_ok _ _ e5;
+    }

@@ -1,0 +1,45 @@
+-- Documents, and lists of texts behind references.
+use Rattle.std.proofs.Common.{
+  ◌≡◌,
+  ℕ,
+  Bool,
+  false,
+  List,
+  [],
+  ◌∷◌,
+  map,
+  Option,
+  None,
+  Bor,
+  refl,
+  ap,
+  ◌||◌,
+}
+use Rattle.std.proofs.lemmas.Bool.{false_from_ne_true}
+use Rattle.std.proofs.lemmas.Str.{IsUtf8-from_is_utf8, is_utf8-from_IsUtf8}
+use Rattle.std.specs.Str.{IsUtf8, is_utf8}
+use Rattle.std.specs.List.{list_any}
+use Rattle.toml.specs.Data.{Members}
+use Rattle.toml.specs.Parse.{parse_document}
+use Rattle.line_file.specs.Keys.{document_of}
+
+-- bytes that are a text stand for what the text stands for
+pub document_read :
+    (bytes text : List ℕ) (doc : Option Members) → text ≡ bytes → IsUtf8 bytes
+    → parse_document text ≡ doc → document_of bytes ≡ doc
+document_read bytes text doc same utf8 read = rw (is_utf8-from_IsUtf8 bytes utf8, ← same) read
+
+-- other bytes stand for no document
+pub document_none : (bytes : List ℕ) → (IsUtf8 bytes → ⊥) → document_of bytes ≡ None
+document_none bytes not_text =
+    let e : is_utf8 bytes ≡ false =
+    false_from_ne_true (is_utf8 bytes) (λ h. not_text (IsUtf8-from_is_utf8 bytes h)) in
+    rw e refl
+
+-- a test of some text, through references
+pub any_map :
+    (f : List ℕ → Bool) (xs : List (Bor (List ℕ)))
+    → list_any (λ (x : Bor (List ℕ)). f x.now) xs
+    ≡ list_any f (map (λ (x : Bor (List ℕ)). x.now) xs)
+any_map f [] = refl
+any_map f (x ∷ xs) = ap (λ b. f x.now || b) (any_map f xs)

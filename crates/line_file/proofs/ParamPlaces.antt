@@ -1,0 +1,80 @@
+-- The intervals of a line's parameters, by their places.
+use Rattle.std.proofs.Common.{◌≡◌, ◌+◌, ◌<◌, ◌≤◌, ◌++◌, ℕ, zero, suc, List, [], ◌∷◌, length, take, get_or, Option, Some, refl, sym, ap, ◌∙◌, arith, length-append}
+use Rattle.std.specs.Prelude.{option_map, unwrap_or}
+use Rattle.std.proofs.lemmas.List.{take_more, length-map}
+use Rattle.line_model.specs.declared.bounds.Bounds.{Bounds}
+use Rattle.line_model.specs.declared.line.Line.{Line}
+use Rattle.line_model.specs.declared.line.Param.{Param}
+use Rattle.line_model.specs.declared.line.Scheme.{Scheme}
+use Rattle.line_model.specs.declared.line.Terminal.{Terminal}
+use Rattle.line_model.specs.declared.line.Owner.{Owner}
+use Rattle.line_model.specs.declared.line.Setting.{Setting}
+use Rattle.line_model.specs.Intervals.{leasts, greatests}
+use Rattle.line_model.specs.Parameters.{param_number}
+use Rattle.line_model.specs.Settings.{owned_by, terminal_settings, settings_of_terminals}
+use Rattle.line_model.specs.declared.line.Owner.TheVariants as owner
+use Rattle.line_file.specs.Lines.{intervals_of}
+use Rattle.line_file.specs.Canonical.{interval_of, setting_interval}
+use Rattle.line_file.proofs.TimeLaws.{IsTime}
+
+-- all intervals of a line
+abbrev pub intervals : Line → List Bounds
+intervals line = intervals_of line.params.items
+
+in_list :
+    (ps : List Param) (i : ℕ) (d : Bounds) → i < length ps
+    → get_or (intervals_of ps) i d
+    ≡ record { least = get_or (leasts ps) i 0; greatest = get_or (greatests ps) i 0 }
+in_list [] i d lt = absurd (omega arith)
+in_list (p ∷ ps) zero d lt = refl
+in_list (p ∷ ps) (suc i) d lt = in_list ps i d (omega arith)
+
+pub length-intervals : (line : Line) → length (intervals line) ≡ length line.params.items
+length-intervals line =
+    let f : Param → Bounds = λ p. record { least = p.least; greatest = p.greatest } in
+    length-map line.params.items f
+
+-- the next interval
+pub take_next :
+    (line : Line) (i : ℕ) → i < length line.params.items
+    → take i (intervals line) ++ interval_of line i ∷ [] ≡ take (i + 1) (intervals line)
+take_next line i lt =
+    let d : Bounds = record { least = 0; greatest = 0 } in
+    let within : i < length (intervals line) = rw (length-intervals line) lt in
+    let at : get_or (intervals line) i d ≡ interval_of line i = in_list line.params.items i d lt in
+    sym (rw at at (take_more (intervals line) i d within))
+
+-- each is an interval of times
+pub times_at_place : (line : Line) (i : ℕ) → i < length line.params.items
+    → IsTime 0 (interval_of line i)
+times_at_place line i lt =
+    let within : i < length (leasts line.params.items) =
+    rw (length-map line.params.items (λ (p : Param). p.least)) lt in
+    let range = line.ends_in_range i within in
+    record { ordered = range.0; within = range.1; enough = omega arith }
+
+-- the interval of a setting whose number is known
+pub interval_at :
+    (line : Line) (o : Owner) (x : Setting) (n i : ℕ) (place : Option ℕ)
+    → param_number line o x ≡ option_map (λ j. n + j) place → place ≡ Some i
+    → setting_interval line o x ≡ interval_of line (n + i)
+interval_at line o x n i place number is =
+    let whole : param_number line o x ≡ Some (n + i) =
+    number ∙ ap (λ (p : Option ℕ). option_map (λ j. n + j) p) is in
+    ap (λ (p : Option ℕ). interval_of line (unwrap_or p 0)) whole
+
+-- some terminals have no more settings than all
+pub settings_within :
+    (s : Scheme) (j k : ℕ) (ts : List Terminal)
+    → length (settings_of_terminals s j (take k ts)) ≤ length (settings_of_terminals s j ts)
+settings_within s j zero ts = omega arith
+settings_within s j (suc k) [] = omega arith
+settings_within s j (suc k) (t ∷ ts) =
+    omega (
+      arith,
+      settings_within s (j + 1) k ts,
+      length-append (owned_by (owner.Terminal j) (terminal_settings s t))
+          (settings_of_terminals s (j + 1) (take k ts)),
+      length-append (owned_by (owner.Terminal j) (terminal_settings s t))
+          (settings_of_terminals s (j + 1) ts),
+    )

@@ -1,0 +1,244 @@
+-- What the printed table of a terminal holds under each key.
+use Rattle.std.proofs.Common.{◌≡◌, ◌||◌, ℕ, Bool, true, false, not, List, [], ◌∷◌, Option, Some, None, Ok, refl, codes}
+use Rattle.toml.specs.Data.{Data, string, Members, get_member}
+use Rattle.line_model.specs.declared.line.Line.{Line}
+use Rattle.line_model.specs.declared.line.Scheme.{Scheme}
+use Rattle.line_model.specs.declared.line.Scheme.TheVariants.{Pott, Putt, Dcb, Dcub, Dtt}
+use Rattle.line_model.specs.declared.line.Owner.{Owner}
+use Rattle.line_model.specs.declared.line.Setting.TheVariants.{
+  Z1Pickup,
+  Z1Dropout,
+  Z2Pickup,
+  Z2Dropout,
+  RvPickup,
+  RvDropout,
+  UvPickup,
+  UvDropout,
+  ReversalPickup,
+  ReversalDropout,
+}
+use Rattle.line_model.specs.Terminals.{has_flags}
+use Rattle.line_file.specs.Keys.{all_known}
+use Rattle.line_file.specs.TerminalTables.{terminal_keys}
+use Rattle.line_file.specs.Canonical.{
+  put_all,
+  table_of,
+  times_data,
+  timer_settings,
+  echo_settings,
+  block_settings,
+  transfer_settings,
+  element_pairs,
+  guard_pairs,
+  weak_pairs,
+  scheme_pairs,
+}
+
+module _ (unit : ℕ) (line : Line) (o : Owner) (name : List ℕ) where
+  -- the members of a terminal, by what it has
+  abbrev pub members : Scheme → Bool → Bool → Members
+  members s g w =
+      put_all (scheme_pairs unit line o s)
+      (put_all (weak_pairs unit line o w)
+      (put_all (guard_pairs unit line o g)
+      (put_all (element_pairs unit line o) (table_of ((codes "name", string name) ∷ [])))))
+
+  abbrev pub guard_value : Bool → Option Data
+  guard_value true = Some (times_data unit line o (timer_settings ReversalPickup ReversalDropout))
+  guard_value false = None
+
+  abbrev pub weak_value : Bool → Option Data
+  weak_value true = Some (times_data unit line o echo_settings)
+  weak_value false = None
+
+  abbrev pub block_value : Scheme → Option Data
+  block_value Dcb = Some (times_data unit line o block_settings)
+  block_value Pott = None
+  block_value Putt = None
+  block_value Dcub = None
+  block_value Dtt = None
+
+  abbrev pub transfer_value : Scheme → Option Data
+  transfer_value Dtt = Some (times_data unit line o transfer_settings)
+  transfer_value Pott = None
+  transfer_value Putt = None
+  transfer_value Dcb = None
+  transfer_value Dcub = None
+
+  pub record Holds (path : List ℕ) (s : Scheme) (g w : Bool) : Type 0 where
+    pub known : all_known path (terminal_keys s) (members s g w) ≡ Ok tt
+    pub name_is : get_member (codes "name") (members s g w) ≡ Some (string name)
+    pub z1_is :
+        get_member (codes "z1") (members s g w)
+        ≡ Some (times_data unit line o (timer_settings Z1Pickup Z1Dropout))
+    pub z2_is :
+        get_member (codes "z2") (members s g w)
+        ≡ Some (times_data unit line o (timer_settings Z2Pickup Z2Dropout))
+    pub rv_is :
+        get_member (codes "rv") (members s g w)
+        ≡ Some (times_data unit line o (timer_settings RvPickup RvDropout))
+    pub uv_is :
+        get_member (codes "uv") (members s g w)
+        ≡ Some (times_data unit line o (timer_settings UvPickup UvDropout))
+    pub reversal_is : get_member (codes "reversal") (members s g w) ≡ guard_value g
+    pub echo_is : get_member (codes "echo") (members s g w) ≡ weak_value w
+    pub block_is : get_member (codes "block") (members s g w) ≡ block_value s
+    pub transfer_is : get_member (codes "transfer") (members s g w) ≡ transfer_value s
+
+  -- by the scheme and the flags that it lets
+  pub holds :
+      (path : List ℕ) (s : Scheme) (g w : Bool) → has_flags s || not (w || g) ≡ true
+      → Holds path s g w
+  unfolding all_known
+  holds path Pott true true h =
+      record {
+        known = refl;
+        name_is = refl;
+        z1_is = refl;
+        z2_is = refl;
+        rv_is = refl;
+        uv_is = refl;
+        reversal_is = refl;
+        echo_is = refl;
+        block_is = refl;
+        transfer_is = refl;
+      }
+  holds path Pott true false h =
+      record {
+        known = refl;
+        name_is = refl;
+        z1_is = refl;
+        z2_is = refl;
+        rv_is = refl;
+        uv_is = refl;
+        reversal_is = refl;
+        echo_is = refl;
+        block_is = refl;
+        transfer_is = refl;
+      }
+  holds path Pott false true h =
+      record {
+        known = refl;
+        name_is = refl;
+        z1_is = refl;
+        z2_is = refl;
+        rv_is = refl;
+        uv_is = refl;
+        reversal_is = refl;
+        echo_is = refl;
+        block_is = refl;
+        transfer_is = refl;
+      }
+  holds path Pott false false h =
+      record {
+        known = refl;
+        name_is = refl;
+        z1_is = refl;
+        z2_is = refl;
+        rv_is = refl;
+        uv_is = refl;
+        reversal_is = refl;
+        echo_is = refl;
+        block_is = refl;
+        transfer_is = refl;
+      }
+  holds path Dcub true true h =
+      record {
+        known = refl;
+        name_is = refl;
+        z1_is = refl;
+        z2_is = refl;
+        rv_is = refl;
+        uv_is = refl;
+        reversal_is = refl;
+        echo_is = refl;
+        block_is = refl;
+        transfer_is = refl;
+      }
+  holds path Dcub true false h =
+      record {
+        known = refl;
+        name_is = refl;
+        z1_is = refl;
+        z2_is = refl;
+        rv_is = refl;
+        uv_is = refl;
+        reversal_is = refl;
+        echo_is = refl;
+        block_is = refl;
+        transfer_is = refl;
+      }
+  holds path Dcub false true h =
+      record {
+        known = refl;
+        name_is = refl;
+        z1_is = refl;
+        z2_is = refl;
+        rv_is = refl;
+        uv_is = refl;
+        reversal_is = refl;
+        echo_is = refl;
+        block_is = refl;
+        transfer_is = refl;
+      }
+  holds path Dcub false false h =
+      record {
+        known = refl;
+        name_is = refl;
+        z1_is = refl;
+        z2_is = refl;
+        rv_is = refl;
+        uv_is = refl;
+        reversal_is = refl;
+        echo_is = refl;
+        block_is = refl;
+        transfer_is = refl;
+      }
+  holds path Putt false false h =
+      record {
+        known = refl;
+        name_is = refl;
+        z1_is = refl;
+        z2_is = refl;
+        rv_is = refl;
+        uv_is = refl;
+        reversal_is = refl;
+        echo_is = refl;
+        block_is = refl;
+        transfer_is = refl;
+      }
+  holds path Putt true false h = absurd (cc)
+  holds path Putt true true h = absurd (cc)
+  holds path Putt false true h = absurd (cc)
+  holds path Dcb false false h =
+      record {
+        known = refl;
+        name_is = refl;
+        z1_is = refl;
+        z2_is = refl;
+        rv_is = refl;
+        uv_is = refl;
+        reversal_is = refl;
+        echo_is = refl;
+        block_is = refl;
+        transfer_is = refl;
+      }
+  holds path Dcb true false h = absurd (cc)
+  holds path Dcb true true h = absurd (cc)
+  holds path Dcb false true h = absurd (cc)
+  holds path Dtt false false h =
+      record {
+        known = refl;
+        name_is = refl;
+        z1_is = refl;
+        z2_is = refl;
+        rv_is = refl;
+        uv_is = refl;
+        reversal_is = refl;
+        echo_is = refl;
+        block_is = refl;
+        transfer_is = refl;
+      }
+  holds path Dtt true false h = absurd (cc)
+  holds path Dtt true true h = absurd (cc)
+  holds path Dtt false true h = absurd (cc)

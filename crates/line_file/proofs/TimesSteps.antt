@@ -1,0 +1,32 @@
+-- Times, one after another.
+use Rattle.std.proofs.Common.{◌≡◌, ◌≢◌, ◌+◌, ◌++◌, ◌<◌, ℕ, List, [], ◌∷◌, map, drop, length, get_or, Err, Bor, refl}
+use Rattle.std.proofs.lemmas.List.{drop_more}
+use Rattle.toml.specs.Data.{Members}
+use Rattle.toml.specs.View.{items_view}
+use Rattle.toml.specs.declared.value.Value.{Value}
+use Rattle.line_model.specs.declared.bounds.Bounds.{Bounds}
+use Rattle.line_file.specs.declared.fault.LineFault.TheVariants as fault
+use Rattle.line_file.specs.Reading.{◌>>=◌}
+use Rattle.line_file.specs.Times.{ends_in, time_at, times_at}
+
+-- an array of other than two items is no time
+pub ends_not_two :
+    (path : List ℕ) (unit fewest : ℕ) (vs : List Value) → length vs ≢ 2
+    → ends_in path unit fewest (items_view vs) ≡ Err (fault.WrongKind path)
+ends_not_two path unit fewest [] other = refl
+ends_not_two path unit fewest (a ∷ []) other = refl
+ends_not_two path unit fewest (a ∷ b ∷ []) other = absurd (other refl)
+ends_not_two path unit fewest (a ∷ b ∷ c ∷ vs) other = refl
+
+abbrev pub names : List (Bor (List ℕ)) → List (List ℕ)
+names keys = map (λ name. name.now) keys
+
+-- the next key's time, and then those after it
+pub times_more :
+    (path : List ℕ) (keys : List (Bor (List ℕ))) (i unit : ℕ) (ms : Members) (done : List Bounds)
+    (d : Bor (List ℕ)) → i < length keys
+    → times_at path (names (drop i keys)) unit ms done
+    ≡ (time_at path (get_or keys i d).now unit 0 ms
+    >>= λ time. times_at path (names (drop (i + 1) keys)) unit ms (done ++ time ∷ []))
+unfolding times_at
+times_more path keys i unit ms done d h = rw (drop_more keys i d h)

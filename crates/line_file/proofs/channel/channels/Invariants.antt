@@ -1,0 +1,17 @@
+use Rattle.std.proofs.Common.{◌≡◌, drop, length}
+use Rattle.toml.specs.View.{items_view}
+use Rattle.line_model.specs.Channels.{AreChannelsBelow}
+use Rattle.line_file.specs.Lines.{values_of}
+use Rattle.line_file.specs.ChannelTables.{channels_at}
+use Rattle.line_file.proofs.channel.channels.Given as goal
+
+abbrev pub invariant-loop-i : goal.invariant-loop-i
+invariant-loop-i l =
+    record {
+      read :
+          channels_at l.unit l.i (items_view (drop l.i l.values)) (values_of l.line)
+          ≡ channels_at l.unit 0 (items_view l.values) (values_of l.initial.line);
+      terminals : l.line.terminals.items ≡ l.initial.line.terminals.items;
+      count : length l.line.channels.items ≡ l.i;
+      pairs : AreChannelsBelow (length l.line.terminals.items) l.line.channels.items l.i;
+    }

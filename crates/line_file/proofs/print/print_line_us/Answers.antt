@@ -1,0 +1,12 @@
+use Rattle.std.proofs.Common.{refl}
+use Rattle.std.proofs.lemmas.Result.{IfOk-weaker}
+use Rattle.line_file.proofs.LineBack.{file_back}
+use Rattle.line_file.proofs.print.print_line_us.Goals as goal
+
+pub returns-clause-reads_back : goal.returns-clause-reads_back
+returns-clause-reads_back c =
+    let range = c.args.line.now.tick_in_range in
+    IfOk-weaker c.print.result _ _
+    (λ v is.
+    file_back 2 c.args.line.now.tick_us c.args.line.now v.items is refl refl range.0)
+    c.print.ensures.table

@@ -1,0 +1,89 @@
+-- What the table of a channel says.
+use Rattle.std.specs.Prelude.{◌++◌, ◌+◌, ◌==◌, ℕ, List, [], ◌∷◌, Option, None, Some, Result, Ok, Err, codes, if◌then◌else◌}
+use Rattle.std.specs.Str.{bytes_eq}
+use Rattle.std.specs.List.{list_any, position_from}
+use Rattle.toml.specs.Data.{Data, Members, Items, no_items, item}
+use Rattle.line_model.specs.declared.bounds.Bounds.{Bounds}
+use Rattle.line_model.specs.declared.line.Scheme.{Scheme}
+use Rattle.line_model.specs.declared.line.Scheme.TheVariants.{Dcub}
+use Rattle.line_model.specs.declared.line.Terminal.{Terminal}
+use Rattle.line_model.specs.declared.line.Channel.{Channel}
+use Rattle.line_model.specs.Channels.{is_pair}
+use Rattle.line_file.specs.declared.fault.LineFault.{LineFault}
+use Rattle.line_file.specs.declared.fault.LineFault.TheVariants as fault
+use Rattle.line_file.specs.Paths.{joined, item_path}
+use Rattle.line_file.specs.Reading.{◌>>=◌}
+use Rattle.line_file.specs.Keys.{all_known, text_at, table_in}
+use Rattle.line_file.specs.Times.{time_at, required_times}
+use Rattle.line_file.specs.Lines.{LineValues}
+
+-- the keys of the table of an unblocking receiver
+abbrev pub unblock_keys : List (List ℕ)
+unblock_keys = codes "pickup" ∷ codes "window" ∷ codes "restore" ∷ []
+
+-- the keys of a channel
+abbrev pub channel_keys : Scheme → List (List ℕ)
+channel_keys Dcub = codes "from" ∷ codes "to" ∷ codes "delay" ∷ codes "unblock" ∷ []
+channel_keys _ = codes "from" ∷ codes "to" ∷ codes "delay" ∷ []
+
+-- the number of the terminal of that name
+abbrev pub terminal_called : List Terminal → List ℕ → Option ℕ
+terminal_called ts name = position_from (λ t. bytes_eq t.name name) 0 ts
+
+-- a terminal that sends: one of the line
+abbrev pub sender : List ℕ → Option ℕ → Result ℕ LineFault
+sender path None = Err (fault.BadName path)
+sender path (Some k) = Ok k
+
+-- a terminal that receives: another one of the line
+abbrev pub receiver : List ℕ → ℕ → Option ℕ → Result ℕ LineFault
+receiver path from None = Err (fault.BadName path)
+receiver path from (Some k) = if k == from then Err (fault.BadName path) else Ok k
+
+-- the terminals at the two ends of a channel
+unfoldable pub from_at : List ℕ → List Terminal → Members → Result ℕ LineFault
+from_at path ts ms = do
+  name ← text_at path (codes "from") ms
+  sender (joined path (codes "from")) (terminal_called ts name)
+
+unfoldable pub to_at : List ℕ → List Terminal → ℕ → Members → Result ℕ LineFault
+to_at path ts from ms = do
+  name ← text_at path (codes "to") ms
+  receiver (joined path (codes "to")) from (terminal_called ts name)
+
+-- no earlier channel has the same ends
+abbrev pub new_pair : List ℕ → List Channel → ℕ → ℕ → Result Channel LineFault
+new_pair path before from to =
+    if list_any (is_pair from to) before then Err (fault.Twice path)
+    else Ok (record { from = from; to = to })
+
+-- the ends of a channel
+unfoldable pub ends_at : List ℕ → List Terminal → List Channel → Members → Result Channel LineFault
+ends_at path ts before ms = do
+  from ← from_at path ts ms
+  to ← to_at path ts from ms
+  new_pair path before from to
+
+-- the times that a channel has besides, by the scheme
+abbrev pub receiver_times :
+    Scheme → List ℕ → ℕ → Members → List Bounds → Result (List Bounds) LineFault
+receiver_times Dcub path unit ms done =
+    required_times path (codes "unblock") unblock_keys unit ms done
+receiver_times _ path unit ms done = Ok done
+
+-- the line with one more channel, from the table at the path
+unfoldable pub channel_at : ℕ → List ℕ → Data → LineValues → Result LineValues LineFault
+channel_at unit path d line = do
+  ms ← table_in path d
+  _ ← all_known path (channel_keys line.scheme) ms
+  channel ← ends_at path line.terminals line.channels ms
+  delay ← time_at path (codes "delay") unit 1 ms
+  whole ← receiver_times line.scheme path unit ms (line.intervals ++ delay ∷ [])
+  Ok (record line { channels = line.channels ++ channel ∷ []; intervals = whole })
+
+-- the line with these channels, the first of which has the number i
+unfoldable pub channels_at : ℕ → ℕ → Items → LineValues → Result LineValues LineFault
+channels_at unit i no_items line = Ok line
+channels_at unit i (item d ds) line = do
+  more ← channel_at unit (item_path (codes "channel") i) d line
+  channels_at unit (i + 1) ds more

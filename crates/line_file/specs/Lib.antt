@@ -1,0 +1,11 @@
+pub mod Paths
+pub mod PathBytes
+pub mod Faults
+pub mod Reading
+pub mod Keys
+pub mod Times
+pub mod Lines
+pub mod TerminalTables
+pub mod ChannelTables
+pub mod LineFiles
+pub mod Canonical

@@ -1,0 +1,218 @@
+//! The canonical table of a line.
+
+ghost use Rattle.std.specs.Prelude.{
+  ◌≡◌,
+  ◌<◌,
+  ◌≤◌,
+  ◌∷◌,
+  [],
+  true,
+  pos,
+  IfOk,
+  OnOk,
+  map,
+  get_or,
+  length,
+};
+ghost use Rattle.toml.specs.Data.{table, string, integer, array, boolean};
+ghost use Rattle.toml.specs.View.{view, table_view, items_of};
+ghost use Rattle.line_model.specs.PlainNames.{is_plain_name};
+ghost use Rattle.line_model.specs.Parameters.{IsOwner};
+ghost use Rattle.line_model.specs.ParamNames.{name_at};
+ghost use Rattle.line_model.specs.declared.line.Owner.TheVariants as owner;
+ghost use Rattle.line_file.specs.Canonical.{
+  put_member,
+  put_all,
+  table_of,
+  time_data,
+  setting_interval,
+  terminal_members,
+  terminals_data,
+  receiver_pairs,
+  channel_members,
+  channels_data,
+  scheme_text,
+  head_pairs,
+  canonical_in,
+};
+
+use crate::table::{put, put_by_scheme, put_elements, put_guard, put_times, put_weak, time};
+use line_model::{Channel, Line, Memory, Name, Owner, Scheme, Setting, Terminal};
+use std::alloc::Global;
+use toml::{Table, Value};
+
+// A plain name as a text.
+fn text_of(name: &Name) -> &str
+    requires { is_plain_name name.now ≡ true }
+    ensures { result.now ≡ name.now }
+{
+    match std::str::from_utf8(name.bytes()) {
+        Ok(text) => text,
+        Err(_) => unreachable!(),
+    }
+}
+
+fn put_text(alloc: Global, table: &mut Table, key: &str, text: &str) -> Result<(), Memory>
+    ensures { OnOk result
+        (table_view table.new ≡ put_member key.now (string text.now) (table_view table.old)) }
+{
+    let value = Value::string(alloc, text)?;
+    put(alloc, table, key, value)
+}
+
+fn put_number(alloc: Global, table: &mut Table, key: &str, number: u32) -> Result<(), Memory>
+    ensures { OnOk result
+        (table_view table.new
+        ≡ put_member key.now (integer (pos number)) (table_view table.old)) }
+{
+    put(alloc, table, key, Value::Integer(i64::from(number)))
+}
+
+// The table of terminal k.
+fn terminal_table(
+    alloc: Global,
+    unit: u32,
+    line: &Line,
+    k: u32,
+    terminal: Terminal,
+) -> Result<Value, Memory>
+    requires exists { k < length line.now.terminals.items }
+    requires few { unit ≤ 1000000 }
+    requires plain { is_plain_name terminal.name ≡ true }
+    ensures { IfOk result (λ v. view v ≡ table (terminal_members unit line.now k terminal)) }
+{
+    let owner = Owner::Terminal(k);
+    let mut table = Table::new(alloc);
+    put_text(alloc, &mut table, "name", text_of(&terminal.name))?;
+    put_elements(alloc, unit, line, owner, &mut table)?;
+    put_guard(alloc, unit, line, owner, terminal.guard, &mut table)?;
+    put_weak(alloc, unit, line, owner, terminal.weak, &mut table)?;
+    put_by_scheme(alloc, unit, line, owner, &mut table)?;
+    Ok(Value::Table(table))
+}
+
+fn terminal_tables(alloc: Global, unit: u32, line: &Line) -> Result<Vec<Value>, Memory>
+    requires { unit ≤ 1000000 }
+    ensures { IfOk result
+        (λ vs. map view vs.items ≡ terminals_data unit line.now 0 line.now.terminals.items) }
+{
+    let mut tables = Vec::new(alloc);
+    for (k, terminal) in line.terminals.iter().enumerate() {
+        let table = terminal_table(alloc, unit, line, k as u32, *terminal)?;
+        tables.push(table)?;
+    }
+    Ok(tables)
+}
+
+// What a channel has besides by the scheme.
+fn put_receiver(
+    alloc: Global,
+    unit: u32,
+    line: &Line,
+    owner: Owner,
+    table: &mut Table,
+) -> Result<(), Memory>
+    requires owner { IsOwner line.now owner }
+    requires few { unit ≤ 1000000 }
+    ensures { OnOk result
+        (table_view table.new
+        ≡ put_all (receiver_pairs unit line.now owner line.now.scheme)
+        (table_view table.old)) }
+{
+    match line.scheme {
+        Scheme::Dcub => {
+            let settings = [
+                ("pickup", Setting::UnblockPickup),
+                ("window", Setting::UnblockWindow),
+                ("restore", Setting::UnblockRestore),
+            ];
+            put_times(alloc, unit, line, owner, "unblock", &settings, table)
+        }
+        Scheme::Pott | Scheme::Putt | Scheme::Dcb | Scheme::Dtt => Ok(()),
+    }
+}
+
+// The name of a terminal as a text.
+fn name_of(line: &Line, k: u32) -> &str
+    requires { k < length line.now.terminals.items }
+    ensures { result.now ≡ name_at line.now.terminals.items k }
+{
+    text_of(&line.terminals[k as usize].name)
+}
+
+// The table of channel c.
+fn channel_table(
+    alloc: Global,
+    unit: u32,
+    line: &Line,
+    c: u32,
+    channel: Channel,
+) -> Result<Value, Memory>
+    requires exists { c < length line.now.channels.items }
+    requires few { unit ≤ 1000000 }
+    requires from { channel.from < length line.now.terminals.items }
+    requires to { channel.to < length line.now.terminals.items }
+    ensures { IfOk result (λ v. view v ≡ table (channel_members unit line.now c channel)) }
+{
+    let owner = Owner::Channel(c);
+    let mut table = Table::new(alloc);
+    put_text(alloc, &mut table, "from", name_of(line, channel.from))?;
+    put_text(alloc, &mut table, "to", name_of(line, channel.to))?;
+    let delay = time(alloc, unit, line, owner, Setting::Delay)?;
+    put(alloc, &mut table, "delay", delay)?;
+    put_receiver(alloc, unit, line, owner, &mut table)?;
+    Ok(Value::Table(table))
+}
+
+fn channel_tables(alloc: Global, unit: u32, line: &Line) -> Result<Vec<Value>, Memory>
+    requires { unit ≤ 1000000 }
+    ensures { IfOk result
+        (λ vs. map view vs.items ≡ channels_data unit line.now 0 line.now.channels.items) }
+{
+    let mut tables = Vec::new(alloc);
+    for (c, channel) in line.channels.iter().enumerate() {
+        let table = channel_table(alloc, unit, line, c as u32, *channel)?;
+        tables.push(table)?;
+    }
+    Ok(tables)
+}
+
+fn text_of_scheme(scheme: Scheme) -> &'static str
+    ensures { result.now ≡ scheme_text scheme }
+{
+    match scheme {
+        Scheme::Pott => "pott",
+        Scheme::Putt => "putt",
+        Scheme::Dcb => "dcb",
+        Scheme::Dcub => "dcub",
+        Scheme::Dtt => "dtt",
+    }
+}
+
+// The values at the top.
+fn put_head(alloc: Global, version: u32, line: &Line, table: &mut Table) -> Result<(), Memory>
+    ensures { OnOk result
+        (table_view table.new
+        ≡ put_all (head_pairs version line.now) (table_view table.old)) }
+{
+    put_number(alloc, table, "version", version)?;
+    put_number(alloc, table, "tick_us", line.tick_us)?;
+    put_number(alloc, table, "horizon", line.horizon)?;
+    put_text(alloc, table, "scheme", text_of_scheme(line.scheme))?;
+    put(alloc, table, "zone1_trip", Value::Boolean(line.zone1_trip))
+}
+
+/// The canonical table of a line, with times in units.
+#[tactic(auto, unfolding(crate::specs::Canonical::canonical_in))]
+pub fn canonical(alloc: Global, version: u32, unit: u32, line: &Line) -> Result<Table, Memory>
+    requires { unit ≤ 1000000 }
+    ensures { IfOk result (λ t. table_view t ≡ canonical_in version unit line.now) }
+{
+    let mut table = Table::new(alloc);
+    put_head(alloc, version, line, &mut table)?;
+    let terminals = terminal_tables(alloc, unit, line)?;
+    put(alloc, &mut table, "terminal", Value::Array(terminals))?;
+    let channels = channel_tables(alloc, unit, line)?;
+    put(alloc, &mut table, "channel", Value::Array(channels))?;
+    Ok(table)
+}

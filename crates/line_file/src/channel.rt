@@ -1,0 +1,159 @@
+//! The table of a channel.
+
+ghost use Rattle.std.specs.Prelude.{◌≡◌, ◌<◌, ◌≤◌, [], Ok, IfSome, OnOk, map, length};
+ghost use Rattle.std.specs.Str.{bytes_eq};
+ghost use Rattle.std.specs.List.{list_any};
+ghost use Rattle.toml.specs.View.{view, table_view, items_view};
+ghost use Rattle.line_model.specs.Channels.{is_pair};
+ghost use Rattle.line_file.specs.Reading.{Becomes};
+ghost use Rattle.line_file.specs.Lines.{values_of};
+ghost use Rattle.line_file.specs.ChannelTables.{
+  channel_keys,
+  terminal_called,
+  sender,
+  receiver,
+  from_at,
+  to_at,
+  new_pair,
+  ends_at,
+  receiver_times,
+  channel_at,
+  channels_at,
+};
+
+use crate::draft::Draft;
+use crate::fault::LineFault;
+use crate::keys::{only, table_of, text};
+use crate::path::Path;
+use crate::times::{required, time};
+use line_model::{Bounds, Channel, Scheme, Terminal};
+use toml::{Table, Value};
+
+fn keys(scheme: Scheme) -> &'static [&'static str]
+    ensures { map (λ name. name.now) result.now ≡ channel_keys scheme }
+{
+    match scheme {
+        Scheme::Dcub => &["from", "to", "delay", "unblock"],
+        Scheme::Pott | Scheme::Putt | Scheme::Dcb | Scheme::Dtt => &["from", "to", "delay"],
+    }
+}
+
+// The place of the terminal of that name.
+fn called(terminals: &[Terminal], name: &str) -> Option<usize>
+    ensures place { result ≡ terminal_called terminals.now name.now }
+    ensures within { IfSome result (λ k. k < length terminals.now) }
+{
+    terminals
+        .iter()
+        .position(|terminal| terminal.name.bytes() == name.as_bytes())
+}
+
+#[tactic(auto, unfolding(crate::specs::ChannelTables::from_at))]
+fn from_end(path: Path, terminals: &[Terminal], table: &Table) -> Result<u32, LineFault>
+    requires path { length path ≤ 11 }
+    requires few { length terminals.now ≤ 3 }
+    ensures { result ≡ from_at path terminals.now (table_view table.now) }
+{
+    match called(terminals, text(path, "from", table)?) {
+        Some(from) => Ok(from as u32),
+        None => Err(LineFault::BadName(path.key("from"))),
+    }
+}
+
+#[tactic(auto, unfolding(crate::specs::ChannelTables::to_at))]
+fn to_end(path: Path, terminals: &[Terminal], from: u32, table: &Table) -> Result<u32, LineFault>
+    requires path { length path ≤ 11 }
+    requires few { length terminals.now ≤ 3 }
+    ensures { result ≡ to_at path terminals.now from (table_view table.now) }
+{
+    match called(terminals, text(path, "to", table)?) {
+        Some(to) if to as u32 != from => Ok(to as u32),
+        _ => Err(LineFault::BadName(path.key("to"))),
+    }
+}
+
+/// Whether a channel leads from one terminal to the other.
+pub fn has_pair(channels: &[Channel], from: u32, to: u32) -> bool
+    ensures { result ≡ list_any (is_pair from to) channels.now }
+{
+    channels
+        .iter()
+        .any(|channel| channel.from == from && channel.to == to)
+}
+
+#[tactic(auto, unfolding(crate::specs::ChannelTables::ends_at))]
+fn ends(
+    path: Path,
+    terminals: &[Terminal],
+    before: &[Channel],
+    table: &Table,
+) -> Result<Channel, LineFault>
+    requires path { length path ≤ 11 }
+    requires few { length terminals.now ≤ 3 }
+    ensures { result ≡ ends_at path terminals.now before.now (table_view table.now) }
+{
+    let from = from_end(path, terminals, table)?;
+    let to = to_end(path, terminals, from, table)?;
+    if has_pair(before, from, to) {
+        return Err(LineFault::Twice(path));
+    }
+    Ok(Channel { from, to })
+}
+
+fn by_scheme(
+    scheme: Scheme,
+    path: Path,
+    unit: u32,
+    table: &Table,
+    intervals: &mut Vec<Bounds>,
+) -> Result<(), LineFault>
+    requires some { 0 < unit }
+    requires few { unit ≤ 1000000 }
+    requires path { length path ≤ 11 }
+    ensures { Becomes result intervals.new.items
+        (receiver_times scheme path unit (table_view table.now) intervals.old.items) }
+{
+    match scheme {
+        Scheme::Dcub => {
+            let keys = &["pickup", "window", "restore"];
+            required(path, "unblock", keys, unit, table, intervals)
+        }
+        Scheme::Pott | Scheme::Putt | Scheme::Dcb | Scheme::Dtt => Ok(()),
+    }
+}
+
+/// The line with one more channel, from the table at the path.
+#[tactic(auto, unfolding(crate::specs::ChannelTables::channel_at))]
+pub fn channel(unit: u32, path: Path, value: &Value, line: &mut Draft) -> Result<(), LineFault>
+    requires some { 0 < unit }
+    requires few { unit ≤ 1000000 }
+    requires path { length path ≤ 11 }
+    requires terminals { length line.old.terminals.items ≤ 3 }
+    ensures { Becomes result (values_of line.new)
+        (channel_at unit path (view value.now) (values_of line.old)) }
+{
+    let table = table_of(path, value)?;
+    only(path, keys(line.scheme), table)?;
+    let channel = ends(path, &line.terminals, &line.channels, table)?;
+    let delay = time(path, "delay", unit, 1, table)?;
+    line.intervals.push(delay)?;
+    by_scheme(line.scheme, path, unit, table, &mut line.intervals)?;
+    line.channels.push(channel)?;
+    Ok(())
+}
+
+/// The line with these channels.
+pub fn channels(unit: u32, values: &[Value], line: &mut Draft) -> Result<(), LineFault>
+    requires some { 0 < unit }
+    requires few { unit ≤ 1000000 }
+    requires terminals { length line.old.terminals.items ≤ 3 }
+    requires none { line.old.channels.items ≡ [] }
+    ensures values { Becomes result (values_of line.new)
+        (channels_at unit 0 (items_view values.now) (values_of line.old)) }
+    ensures terminals { OnOk result (line.new.terminals.items ≡ line.old.terminals.items) }
+{
+    for (i, value) in values.iter().enumerate() {
+        channel(unit, Path::item("channel", i), value, line)?;
+    }
+    Ok(())
+}

@@ -1,0 +1,9 @@
+pub mod CandidatesInside
+pub mod ChoiceInside
+pub mod DelayLaws
+pub mod Earlier
+pub mod Passing
+pub mod Rows
+pub mod SoFarInside
+pub mod StepOrder
+pub mod ThreeFields

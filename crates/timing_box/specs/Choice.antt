@@ -1,0 +1,24 @@
+-- The choice of delays that a timing stands for.
+use Rattle.std.specs.Prelude.{◌≡◌, ◌<◌, ℕ, get_or, IsFalse}
+use Rattle.line_model.specs.declared.line.Line.{Line}
+use Rattle.line_model.specs.Parameters.{param_count, channel_count, delay_param}
+use Rattle.line_model.specs.Choice.{Choice}
+use Rattle.timing_box.specs.Delays.{is_delay}
+use Rattle.timing_box.specs.Timing.{TimingValues, number_at}
+
+-- each parameter has its own number; each delay has at every tick that of its step with the
+-- greatest tick not after it, else its own
+unfoldable pub timing_choice : Line → TimingValues → Choice
+timing_choice line timing = record {
+  number = λ i. get_or timing.values i 0;
+  delay = λ c t.
+      let param = delay_param line c in
+      number_at timing.steps param t (get_or timing.values param 0);
+}
+
+-- two choices are the same over the run: each number of a parameter that is no delay, and each
+-- delay at every tick
+pub record IsSameChoice (line : Line) (a b : Choice) : Type 0 where
+  pub numbers : (i : ℕ) → i < param_count line → IsFalse (is_delay line i)
+      → a.number i ≡ b.number i
+  pub delays : (c t : ℕ) → c < channel_count line → t < line.horizon → a.delay c t ≡ b.delay c t

@@ -1,0 +1,11 @@
+pub mod Timing
+pub mod Delays
+pub mod Inside
+pub mod Candidates
+pub mod Choice
+pub mod Gives
+pub mod Row
+pub mod SoFar
+pub mod Checks
+pub mod Opened
+pub mod Timings

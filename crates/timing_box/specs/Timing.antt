@@ -1,0 +1,44 @@
+-- One number for each parameter of a line, and steps: from a tick on, a delay has another number.
+use Rattle.std.specs.Prelude.{
+  ◌&&◌,
+  ◌||◌,
+  ◌==◌,
+  ℕ,
+  Bool,
+  true,
+  List,
+  [],
+  ◌∷◌,
+  nat_le,
+  nat_lt,
+  if◌then◌else◌,
+}
+use Rattle.timing_box.specs.declared.step.Step.{Step}
+
+-- a timing, field by field
+pub record TimingValues : Type 0 where
+  pub values : List ℕ
+  pub steps : List (Step ℕ)
+
+-- a step stands before another: by its parameter, then by its tick
+abbrev pub comes_before : {A : Type 0} → Step A → Step A → Bool
+comes_before a b = nat_lt a.param b.param || ((a.param == b.param) && nat_lt a.from b.from)
+
+-- the steps ascend strictly
+abbrev pub ascend : {A : Type 0} → List (Step A) → Bool
+ascend [] = true
+ascend (s ∷ []) = true
+ascend (s ∷ t ∷ rest) = comes_before s t && ascend (t ∷ rest)
+
+-- the steps with one more, in front of the first that it stands before
+abbrev pub with_step : {A : Type 0} → Step A → List (Step A) → List (Step A)
+with_step step [] = step ∷ []
+with_step step (s ∷ rest) =
+    if comes_before step s then step ∷ s ∷ rest else s ∷ with_step step rest
+
+-- the number of a parameter at tick t: that of its last step not after t, else its own; the steps
+-- ascend, so the last one has the greatest tick
+abbrev pub number_at : {A : Type 0} → List (Step A) → ℕ → ℕ → A → A
+number_at [] param t own = own
+number_at (s ∷ rest) param t own =
+    number_at rest param t (if (s.param == param) && nat_le s.from t then s.value else own)

@@ -1,0 +1,66 @@
+// The candidate timings.
+
+ghost use Rattle.std.specs.Prelude.{◌≡◌, ◌≤◌, ◌<◌, length, take};
+ghost use Rattle.std.specs.List.{count_by};
+ghost use Rattle.line_model.specs.Parameters.{param_count};
+ghost use Rattle.timing_box.specs.Candidates.{
+  is_free as is_free_param,
+  free_count as count_of_free,
+  candidate_count as count_of_candidates,
+  candidate_value as value_of_candidate,
+  is_free_number,
+};
+
+use line_model::{Line, Param};
+
+/// How many candidates a line has: 2, and 2 more for each parameter that is free.
+pub fn candidate_count(line: &Line) -> u32
+    ensures { result ≡ count_of_candidates line.now }
+{
+    2 + 2 * free_count(line.params.as_slice())
+}
+
+/// The number of a parameter in a candidate.
+#[tactic(auto, unfolding(crate::specs::Candidates::candidate_value))]
+pub fn candidate_value(line: &Line, index: u32, param: u32) -> u32
+    requires candidate { index < count_of_candidates line.now }
+    requires param { param < param_count line.now }
+    ensures { result ≡ value_of_candidate line.now index param }
+{
+    let bounds = line.params[param as usize];
+    if index == 0 {
+        return bounds.least;
+    }
+    if index == 1 {
+        return bounds.greatest;
+    }
+    let free = free_count(line.params.as_slice());
+    if index <= 1 + free {
+        if is_number(line, index - 1, param) {
+            bounds.greatest
+        } else {
+            bounds.least
+        }
+    } else if is_number(line, index - 1 - free, param) {
+        bounds.least
+    } else {
+        bounds.greatest
+    }
+}
+
+// Whether the parameter is the i-th free one.
+fn is_number(line: &Line, i: u32, param: u32) -> bool
+    requires { param < param_count line.now }
+    ensures { result ≡ is_free_number line.now i param }
+{
+    let bounds = line.params[param as usize];
+    bounds.least < bounds.greatest && free_count(&line.params[..param as usize]) + 1 == i
+}
+
+fn free_count(params: &[Param]) -> u32
+    requires { length params.now ≤ 100 }
+    ensures count { result ≡ count_by is_free_param params.now }
+    ensures few { result ≤ 100 }
+{
+    params.iter().filter(|p| p.least < p.greatest).count() as u32
+}

@@ -1,0 +1,176 @@
+// Reading a file of timings.
+
+ghost use Rattle.std.specs.Prelude.{
+  ◌≡◌,
+  ◌≤◌,
+  ◌<◌,
+  ◌+◌,
+  ◌^◌,
+  IfOk,
+  IfSome,
+  IsTrue,
+  IsFalse,
+  length,
+  map,
+};
+ghost use Rattle.std.specs.List.{All};
+ghost use Rattle.csv.specs.Records.{fields_of};
+ghost use Rattle.timing_box.specs.Inside.{IsTimingInside};
+ghost use Rattle.timing_box.specs.Gives.{Gives};
+ghost use Rattle.timing_box.specs.Row.{row_of};
+ghost use Rattle.timing_box.specs.SoFar.{
+  values_of,
+  open_of,
+  so_far_of,
+  no_timings,
+  with_row as with_row_of,
+  IsFull,
+  IsNamedIn,
+};
+ghost use Rattle.timing_box.specs.Checks.{is_given as is_given_in};
+ghost use Rattle.timing_box.specs.Timings.{
+  timings_of,
+  timings_in,
+  after_records,
+  after_record,
+  after_row,
+};
+
+use crate::check::{is_given, named, value};
+use crate::fault::TimingFault;
+use crate::fields::{Fields, fields_in, heads_file};
+use crate::named::Named;
+use crate::reading::{Open, Opened, Reading, finished, nothing_read, opened_by};
+use crate::step::Step;
+use crate::timing::NamedTiming;
+use csv::ByteRecord;
+use csv_records::read_records;
+use line_model::{Line, is_plain};
+use std::alloc::Global;
+use tick_signal::Tick;
+
+/// The timings of a file, in file order, each with its steps ascending, or its first fault.
+pub fn read_timings(
+    alloc: Global,
+    line: &Line,
+    bytes: &[u8],
+) -> Result<Vec<NamedTiming>, TimingFault>
+    requires { length bytes.now ≤ 4194304 }
+    ensures said { Gives (λ v. map values_of v.items) result (timings_of line.now bytes.now) }
+    ensures inside { IfOk result (λ v. All (λ t. IsTimingInside line.now t.timing) v.items) }
+{
+    let rows = read_records(alloc, bytes)?;
+    read_all(alloc, line, rows.as_slice())
+}
+
+// What all records say.
+#[tactic(auto, unfolding(crate::specs::Timings::timings_in))]
+fn read_all(
+    alloc: Global,
+    line: &Line,
+    rows: &[ByteRecord],
+) -> Result<Vec<NamedTiming>, TimingFault>
+    requires { length rows.now < 2 ^ 31 }
+    ensures { Gives (λ v. map values_of v.items) result (timings_in line.now (map fields_of rows.now)) }
+{
+    match rows {
+        [] => Err(TimingFault::Header),
+        [header, rest @ ..] => {
+            if !heads_file(header) {
+                return Err(TimingFault::Header);
+            }
+            if rest.is_empty() {
+                return Err(TimingFault::Empty);
+            }
+            finished(read_rows(alloc, line, rest)?)
+        }
+    }
+}
+
+// What the records behind the header say, of which the first is record 2.
+fn read_rows(alloc: Global, line: &Line, rows: &[ByteRecord]) -> Result<Reading, TimingFault>
+    requires { length rows.now < 2 ^ 31 }
+    ensures { Gives so_far_of result (after_records line.now no_timings 2 (map fields_of rows.now)) }
+{
+    let mut reading = nothing_read(alloc);
+    let mut n = 2;
+    for row in rows {
+        reading = after(alloc, line, reading, n, row)?;
+        n += 1;
+    }
+    Ok(reading)
+}
+
+// What record n makes of the timings before it.
+#[tactic(auto, unfolding(crate::specs::Timings::after_record))]
+fn after(
+    alloc: Global,
+    line: &Line,
+    reading: Reading,
+    n: u32,
+    row: &ByteRecord,
+) -> Result<Reading, TimingFault>
+    requires { IfSome reading.latest (λ t. IsFull line.now (open_of t)) }
+    ensures { Gives so_far_of result (after_record line.now (so_far_of reading) n (fields_of row.now)) }
+{
+    let fields = fields_in(row, n)?;
+    if !is_plain(fields.name) {
+        return Err(TimingFault::BadName(n));
+    }
+    let Opened { done, timing } = opened_by(alloc, line, reading, n, fields.name)?;
+    let timing = with_row(line, timing, n, fields)?;
+    Ok(Reading {
+        done,
+        latest: Some(timing),
+    })
+}
+
+#[tactic(auto, unfolding(crate::specs::Timings::after_row))]
+fn with_row(line: &Line, timing: Open, n: u32, fields: Fields) -> Result<Open, TimingFault>
+    requires { IsFull line.now (open_of timing) }
+    ensures { Gives open_of result (after_row line.now (open_of timing) n (row_of fields.entry)) }
+{
+    let Some(what) = named(line, fields.parameter) else {
+        return Err(TimingFault::Parameter(n));
+    };
+    let Some(number) = value(line, what, fields.value) else {
+        return Err(TimingFault::Value(n));
+    };
+    if is_given(&timing, what) {
+        return Err(TimingFault::Twice(n));
+    }
+    entered(line, timing, what, Tick::new(number))
+}
+
+// The timing with what a row says.
+fn entered(line: &Line, latest: Open, what: Named, number: Tick) -> Result<Open, TimingFault>
+    requires full { IsFull line.now (open_of latest) }
+    requires exists { IsNamedIn line.now what }
+    requires once { IsFalse (is_given_in (open_of latest) what) }
+    ensures { Gives open_of result (Ok (with_row_of (open_of latest) what number)) }
+{
+    let Open {
+        name,
+        mut timing,
+        mut given,
+    } = latest;
+    match what {
+        Named::Nothing => {}
+        Named::Number(i) => {
+            timing.set(i, number);
+            given.push(i)?;
+        }
+        Named::Step(param, from) => {
+            timing.insert(Step {
+                param,
+                from,
+                value: number,
+            })?;
+        }
+    }
+    Ok(Open {
+        name,
+        timing,
+        given,
+    })
+}

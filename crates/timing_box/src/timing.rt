@@ -1,0 +1,128 @@
+// A timing.
+
+ghost use Rattle.std.specs.Prelude.{
+  ◌≡◌,
+  ◌<◌,
+  ◌≤◌,
+  ◌&&◌,
+  ◌==◌,
+  [],
+  length,
+  slice_set,
+  IsTrue,
+  IsFalse,
+  OnOk,
+  IfErr,
+};
+ghost use Rattle.std.specs.List.{list_any, position_or_len};
+ghost use Rattle.timing_box.specs.Timing.{comes_before};
+
+use crate::fault::TimingFault;
+use crate::step::Step;
+use line_model::Name;
+use std::marker::Model;
+use tick_signal::Tick;
+
+/// One number of ticks for each parameter, in the order of the line's list, and the steps of the
+/// delays that move within the run, ascending by parameter and tick.
+#[derive(Drop)]
+pub struct Timing {
+    values: Vec<Tick>,
+    steps: Vec<Step<Tick>>,
+}
+
+// contracts see a timing as its two lists
+impl Model for Timing {
+    ghost use Rattle.std.specs.Prelude.{IsTrue};
+    ghost use Rattle.timing_box.specs.Timing.{TimingValues, ascend};
+
+    ghost Value = { TimingValues };
+
+    ghost view = { λ t. record { values = t.values.items; steps = t.steps.items } };
+
+    ghost invariant = { λ t. IsTrue (ascend t.steps.items) };
+}
+
+/// A timing under its name in a file of timings.
+#[derive(Drop)]
+pub struct NamedTiming {
+    pub name: Name,
+    pub timing: Timing,
+}
+
+impl Timing {
+    ghost use Rattle.timing_box.specs.Timing.{ascend, with_step};
+
+    /// A timing whose delays stay as they are.
+    pub fn new(values: Vec<Tick>) -> Timing
+        ensures { result ≡ record { values = values.items; steps = [] } }
+    {
+        let steps = Vec::new(*values.allocator());
+        Timing { values, steps }
+    }
+
+    /// A timing whose delays move by these steps.
+    pub fn with_steps(values: Vec<Tick>, steps: Vec<Step<Tick>>) -> Timing
+        requires { IsTrue (ascend steps.items) }
+        ensures { result ≡ record { values = values.items; steps = steps.items } }
+    {
+        Timing { values, steps }
+    }
+
+    pub fn values(&self) -> &[Tick]
+        ensures { result.now ≡ self.now.values }
+    {
+        self.values.as_slice()
+    }
+
+    pub fn steps(&self) -> &[Step<Tick>]
+        ensures same { result.now ≡ self.now.steps }
+        ensures ascending { IsTrue (ascend self.now.steps) }
+    {
+        self.steps.as_slice()
+    }
+
+    /// Sets a parameter's number.
+    pub fn set(&mut self, param: u32, value: Tick)
+        requires { param < length self.old.values }
+        ensures { self.new ≡ record {
+          values = slice_set self.old.values param value;
+          steps = self.old.steps;
+        } }
+    {
+        self.values[param as usize] = value;
+    }
+
+    /// Adds a step at its place.
+    pub fn insert(&mut self, step: Step<Tick>) -> Result<(), TimingFault>
+        requires { IsFalse (list_any (λ s. (s.param == step.param) && (s.from == step.from)) self.old.steps) }
+        ensures added { OnOk result (self.new ≡ record {
+          values = self.old.values;
+          steps = with_step step self.old.steps;
+        }) }
+        ensures only { IfErr result (λ e. e ≡ TimingFault.Memory) }
+    {
+        let at = place_of(&step, self.steps.as_slice());
+        self.steps.insert(at, step)?;
+        Ok(())
+    }
+}
+
+// The place of the first step that this one stands before, or the length where there is none.
+fn place_of(step: &Step<Tick>, steps: &[Step<Tick>]) -> usize
+    ensures place { result ≡ position_or_len (comes_before step.now) steps.now }
+    ensures within { result ≤ length steps.now }
+{
+    for (i, other) in steps.iter().enumerate() {
+        if is_before(step, other) {
+            return i;
+        }
+    }
+    steps.len()
+}
+
+fn is_before(a: &Step<Tick>, b: &Step<Tick>) -> bool
+    ensures { result ≡ comes_before a.now b.now }
+{
+    a.param < b.param || (a.param == b.param && a.from < b.from)
+}
