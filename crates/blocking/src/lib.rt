@@ -1,0 +1,72 @@
+//! The gates of the blocking scheme: a reverse element sends a blocking signal, and zone 2 trips
+//! after a coordination delay where no other terminal blocks it (DCB).
+//!
+//! Whatever the call answers, the gates that stood keep their numbers, and those that were added
+//! name only what the line has.
+#![tactic(auto)]
+
+ghost use Rattle.std.specs.Prelude.{◌≡◌, ◌<◌, ◌≤◌, ◌+◌, length, IfOk};
+ghost use Rattle.line_model.specs.Parameters.{terminal_count};
+ghost use Rattle.line_model.specs.Logic.{blocking_key, blocking_pilot};
+ghost use Rattle.gate_net.specs.Formulas.{Stands};
+ghost use Rattle.gate_net.specs.Growing.{Grows};
+ghost use Rattle.gate_net.specs.Named.{KeepsNames};
+ghost use Rattle.zones.specs.LocalGates.{AreLocal};
+ghost use Rattle.zones.specs.Outputs.{AreOutputs};
+
+use gate_net::{GateId, NetBuilder};
+use line_model::{Line, Memory, Scheme, Setting, Time};
+use zones::{Local, Out, and_not, any_received, terminal_time};
+
+/// What a terminal of a DCB line sends and trips on.
+pub fn scheme(
+    net: &mut NetBuilder,
+    line: &Line,
+    terminal: u32,
+    local: &Local,
+) -> Result<Out, Memory>
+    requires scheme { line.now.scheme ≡ Scheme.Dcb }
+    requires exists { terminal < terminal_count line.now }
+    requires room { length net.old + 96 ≤ 512 }
+    requires local { AreLocal line.now terminal net.old local.now }
+    ensures grows { Grows net.old net.new 96 }
+    ensures named { KeepsNames line.now net.old net.new }
+    ensures made { IfOk result (λ out. AreOutputs Scheme.Dcb line.now terminal net.new out) }
+{
+    let key = key(net, line, terminal, local)?;
+    let pilot = pilot(net, line, terminal, local)?;
+    Ok(Out { key, pilot })
+}
+
+// The reverse element, where zone 2 does not see the fault, carried on for a while.
+#[tactic(auto, unfolding(line_model::specs::Logic::blocking_key))]
+fn key(net: &mut NetBuilder, line: &Line, terminal: u32, local: &Local) -> Result<GateId, Memory>
+    requires exists { terminal < terminal_count line.now }
+    requires room { length net.old + 3 ≤ 512 }
+    requires local { AreLocal line.now terminal net.old local.now }
+    ensures grows { Grows net.old net.new 3 }
+    ensures named { KeepsNames line.now net.old net.new }
+    ensures made { IfOk result (λ id. Stands net.new id.0 (blocking_key line.now terminal)) }
+{
+    let carry = terminal_time(line, terminal, Setting::BlockCarry);
+    let behind = and_not(net, line, local.rv, local.z2)?;
+    let key = net.timer(behind, Time::Zero, carry)?;
+    Ok(key)
+}
+
+// Zone 2 after the coordination delay, where nothing blocks it.
+#[tactic(auto, unfolding(line_model::specs::Logic::blocking_pilot))]
+fn pilot(net: &mut NetBuilder, line: &Line, terminal: u32, local: &Local) -> Result<GateId, Memory>
+    requires exists { terminal < terminal_count line.now }
+    requires room { length net.old + 19 ≤ 512 }
+    requires local { AreLocal line.now terminal net.old local.now }
+    ensures grows { Grows net.old net.new 19 }
+    ensures named { KeepsNames line.now net.old net.new }
+    ensures made { IfOk result (λ id. Stands net.new id.0 (blocking_pilot line.now terminal)) }
+{
+    let coordination = terminal_time(line, terminal, Setting::BlockCoord);
+    let coordinated = net.timer(local.z2, coordination, Time::Zero)?;
+    let blocked = any_received(net, line, terminal)?;
+    let pilot = and_not(net, line, coordinated, blocked)?;
+    Ok(pilot)
+}

@@ -1,0 +1,4 @@
+pub mod Equal
+pub mod Standing
+pub mod Adding
+pub mod Names

@@ -1,0 +1,5 @@
+pub mod Laws
+pub mod Formulas
+pub mod Growing
+pub mod Named
+pub mod NetOf

@@ -1,0 +1,138 @@
+-- The keys and trips of the terminals below some number.
+use Rattle.std.proofs.Common.{
+  ◌≡◌,
+  ◌⊎◌,
+  ℕ,
+  zero,
+  suc,
+  ◌+◌,
+  ◌*◌,
+  ◌<◌,
+  ◌≤◌,
+  List,
+  [],
+  ◌∷◌,
+  ◌++◌,
+  length,
+  get_or,
+  refl,
+  sym,
+  ap,
+  ◌∙◌,
+  subst,
+  arith,
+  inl,
+  inr,
+  ⊎_elim,
+  length-append,
+}
+use Rattle.std.specs.Prelude.{map, Result, Ok, Err, IfOk}
+use Rattle.line_model.specs.declared.line.Line.{Line}
+use Rattle.line_model.specs.Tree.{Tree}
+use Rattle.line_model.specs.Parameters.{terminal_count}
+use Rattle.line_model.specs.Logic.{key_tree, trip_tree}
+use Rattle.gate_net.specs.declared.gate.Gate.{Gate}
+use Rattle.gate_net.specs.declared.gate.GateId.{GateId}
+use Rattle.gate_net.specs.Formulas.{formula_of, Stands}
+use Rattle.gate_net.specs.Growing.{Grows}
+use Rattle.gate_net.specs.Named.{NamedFrom, KeepsNames}
+use Rattle.gate_net.specs.NetOf.{NetOf, AreGatesOf, IsNet, IsNetOf}
+use Rattle.net_compile.specs.declared.terminal_gates.Ends.{Ends}
+use Rattle.net_compile.specs.Compiled.{AreEnds}
+
+-- one gate for each terminal below j, which stands for the terminal's tree
+pub record StandInOrder (gates : List Gate) (ids : List GateId) (tree : ℕ → Tree) (j : ℕ)
+    : Type 0 where
+  pub count : length ids ≡ j
+  pub each : (k : ℕ) → k < j → Stands gates (get_or (map (λ id. id.0) ids) k 0) (tree k)
+
+-- the terminals below j have their gates
+pub record HaveEnds (line : Line) (gates : List Gate) (keys trips : List GateId) (j : ℕ)
+    : Type 0 where
+  pub few : length gates ≤ 114 * j
+  pub named : NamedFrom line 0 gates
+  pub key_gates : StandInOrder gates keys (key_tree line) j
+  pub trip_gates : StandInOrder gates trips (trip_tree line) j
+
+stands_kept : (old new : List Gate) (n id : ℕ) (tree : Tree) → Grows old new n → Stands old id tree
+    → Stands new id tree
+stands_kept old new n id tree grows s = record {
+  within = omega (arith, s.within, grows.longer);
+  is = grows.same id s.within ∙ s.is;
+}
+
+-- the number at a place of a list with one more at its end
+at_push : (ids : List GateId) (last : GateId) (k : ℕ) → k < suc (length ids)
+    → ((k < length ids)
+    × (get_or (map (λ id. id.0) (ids ++ last ∷ [])) k 0 ≡ get_or (map (λ id. id.0) ids) k 0))
+    ⊎ ((k ≡ length ids) × (get_or (map (λ id. id.0) (ids ++ last ∷ [])) k 0 ≡ last.0))
+at_push [] last zero lt = inr (refl, refl)
+at_push [] last (suc k) lt = absurd (omega arith)
+at_push (id ∷ ids) last zero lt = inl (omega arith, refl)
+at_push (id ∷ ids) last (suc k) lt =
+    ⊎_elim
+    (λ p. let within : suc k < length (id ∷ ids) = omega (arith, p.0) in inl (within, p.1))
+    (λ p. let same : suc k ≡ length (id ∷ ids) = omega (arith, p.0) in inr (same, p.1))
+    (at_push ids last k (omega arith))
+
+pub in_order_more : (old new : List Gate) (n : ℕ) (ids : List GateId) (last : GateId)
+    (tree : ℕ → Tree) (j : ℕ) → Grows old new n → StandInOrder old ids tree j
+    → Stands new last.0 (tree j) → StandInOrder new (ids ++ last ∷ []) tree (suc j)
+in_order_more old new n ids last tree j grows sofar next = record {
+  count = omega (arith, length-append ids (last ∷ []), sofar.count);
+  each = λ k lt.
+      ⊎_elim
+      (λ p. subst (λ id. Stands new id (tree k)) (sym p.1)
+      (stands_kept old new n (get_or (map (λ id. id.0) ids) k 0) (tree k) grows
+      (sofar.each k (omega (arith, p.0, sofar.count)))))
+      (λ p.
+      let here : j ≡ k = omega (arith, p.0, sofar.count) in
+      subst (λ id. Stands new id (tree k)) (sym p.1)
+      (subst (λ i. Stands new last.0 (tree i)) here next))
+      (at_push ids last k (omega (arith, sofar.count)));
+}
+
+pub have_none : (line : Line) → HaveEnds line [] [] [] 0
+have_none line = record {
+  few = omega arith;
+  named = record { each = λ i g le at. absurd (cc) };
+  key_gates = record { count = refl; each = λ k lt. absurd (omega arith) };
+  trip_gates = record { count = refl; each = λ k lt. absurd (omega arith) };
+}
+
+-- and one terminal more
+pub have_more : (line : Line) (old new : List Gate) (keys trips : List GateId) (ends : Ends) (j : ℕ)
+    → HaveEnds line old keys trips j → Grows old new 114 → KeepsNames line old new
+    → AreEnds line j new ends
+    → HaveEnds line new (keys ++ ends.key ∷ []) (trips ++ ends.trip ∷ []) (suc j)
+have_more line old new keys trips ends j sofar grows named next = record {
+  few = omega (arith, sofar.few, grows.few);
+  named = named 0 sofar.named;
+  key_gates =
+      in_order_more old new 114 keys ends.key (key_tree line) j grows sofar.key_gates next.key_gate;
+  trip_gates =
+      in_order_more old new 114 trips ends.trip (trip_tree line) j grows sofar.trip_gates
+      next.trip_gate;
+}
+
+-- the gates that stand in order are gates of the net
+pub in_order_within : (gates : List Gate) (ids : List GateId) (tree : ℕ → Tree) (j : ℕ)
+    → StandInOrder gates ids tree j → AreGatesOf ids (length gates)
+in_order_within gates ids tree j stand k lt = (stand.each k (omega (arith, stand.count))).within
+
+-- a net whose terminals all have their gates is the net of the line
+pub net_of_line : (line : Line) (net : NetOf) (j : ℕ) → j ≡ terminal_count line
+    → HaveEnds line net.gates net.keys net.trips j → IsNet net → IsNetOf line net
+net_of_line line net j all have laws = record {
+  laws = laws;
+  terminals = have.key_gates.count ∙ all;
+  keys = λ k lt. (have.key_gates.each k (omega arith)).is;
+  trips = λ k lt. (have.trip_gates.each k (omega arith)).is;
+  named = have.named;
+}
+
+-- two facts of what a call answers
+pub both_ok : {A E : Type 0} (P Q R : A → Type 0) (r : Result A E)
+    → ((x : A) → P x → Q x → R x) → IfOk r P → IfOk r Q → IfOk r R
+both_ok P Q R (Ok x) f p q = f x p q
+both_ok P Q R (Err e) f p q = tt

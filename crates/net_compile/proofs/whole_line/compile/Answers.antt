@@ -1,0 +1,35 @@
+use Rattle.std.proofs.Common.{◌≡◌, ◌+◌, ◌++◌, ◌∷◌, [], suc, sym, subst, arith}
+use Rattle.line_model.specs.Parameters.{terminal_count}
+use Rattle.gate_net.specs.NetOf.{NetOf, IsNet, IsNetOf}
+use Rattle.net_compile.proofs.Ends.{HaveEnds, have_more, net_of_line, both_ok}
+use Rattle.net_compile.proofs.whole_line.compile.Goals as goal
+
+pub loop-terminal-preserved : goal.loop-terminal-preserved
+loop-terminal-preserved c =
+    let next : suc c.loop-terminal.terminal ≡ c.loop-terminal.terminal + 1 = omega arith in
+    let more : HaveEnds c.args.line.now c.terminal_gates.new.net
+    (c.loop-terminal.keys.items ++ c.in_ok-ends.ends.key ∷ [])
+    (c.loop-terminal.trips.items ++ c.in_ok-ends.ends.trip ∷ []) (suc c.loop-terminal.terminal) =
+    have_more c.args.line.now c.loop-terminal.net c.terminal_gates.new.net
+    c.loop-terminal.keys.items c.loop-terminal.trips.items c.in_ok-ends.ends
+    c.loop-terminal.terminal c.loop-terminal.invariant c.in_ok-ends.ensures.grows
+    c.in_ok-ends.ensures.named c.in_ok-ends.ensures.made in
+    rw (c.in_ok-push.ensures.items, c.in_ok-push-2.ensures.items, ← next) more
+
+pub returns : goal.returns
+returns c =
+    let all : c.loop-terminal.terminal ≡ terminal_count c.args.line.now = omega arith in
+    both_ok
+    (λ (net : NetOf). net ≡ record {
+      gates = c.loop-terminal.net;
+      keys = c.loop-terminal.keys.items;
+      trips = c.loop-terminal.trips.items;
+    })
+    IsNet (IsNetOf c.args.line.now) c.finish.result
+    (λ net same laws.
+    net_of_line c.args.line.now net c.loop-terminal.terminal all
+    (subst
+    (λ (n : NetOf). HaveEnds c.args.line.now n.gates n.keys n.trips c.loop-terminal.terminal)
+    (sym same) c.loop-terminal.invariant)
+    laws)
+    c.finish.ensures.net c.finish.ensures.laws

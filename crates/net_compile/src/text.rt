@@ -1,0 +1,238 @@
+// The text of a net.
+
+ghost use Rattle.std.specs.Prelude.{
+  ◌≡◌,
+  ◌<◌,
+  ◌≤◌,
+  ◌+◌,
+  ◌++◌,
+  ◌∷◌,
+  [],
+  codes,
+  decimal,
+  length,
+  IfOk,
+  OnOk,
+};
+ghost use Rattle.line_model.specs.Names.{HasTime};
+ghost use Rattle.line_model.specs.Parameters.{terminal_count, channel_count};
+ghost use Rattle.line_model.specs.ParamNames.{name_at};
+ghost use Rattle.gate_net.specs.NetOf.{IsNetOf};
+ghost use Rattle.gate_net.specs.Named.{GateNames};
+ghost use Rattle.net_compile.specs.NetText.{
+  truth_text,
+  element_text,
+  place_text,
+  channel_text,
+  time_text,
+  pair_text,
+  gate_text,
+  gate_line,
+  end_line,
+  terminal_lines,
+  lines_below,
+  net_text_of,
+};
+
+use gate_net::{Gate, GateId, Net};
+use itoa::Buffer;
+use line_model::{Element, Line, Memory, Place, Time, channel_name};
+use std::alloc::Global;
+
+/// The text of a net: the number of its gates, a line for each gate, and for each terminal the
+/// lines of its key and its trip. A terminal, a channel and a parameter stand by their names.
+#[tactic(auto, unfolding(crate::specs::NetText::net_text_of))]
+pub fn net_text(alloc: Global, line: &Line, net: &Net) -> Result<Vec<u8>, Memory>
+    requires { IsNetOf line.now net.now }
+    ensures { IfOk result (λ text. text.items ≡ net_text_of line.now net.now) }
+{
+    let mut text = Vec::from_slice(alloc, b"net ")?;
+    put_number(&mut text, net.len())?;
+    put(&mut text, b"\n")?;
+    put_gates(&mut text, line, net)?;
+    put_terminals(&mut text, line, net)?;
+    Ok(text)
+}
+
+fn put_gates(text: &mut Vec<u8>, line: &Line, net: &Net) -> Result<(), Memory>
+    requires { IsNetOf line.now net.now }
+    ensures { OnOk result (text.new.items
+        ≡ text.old.items ++ lines_below (gate_line line.now net.now.gates) (length net.now.gates)) }
+{
+    for i in 0..net.len() {
+        put_gate_line(text, line, net, i)?;
+    }
+    Ok(())
+}
+
+fn put_terminals(text: &mut Vec<u8>, line: &Line, net: &Net) -> Result<(), Memory>
+    requires { IsNetOf line.now net.now }
+    ensures { OnOk result (text.new.items
+        ≡ text.old.items ++ lines_below (terminal_lines line.now net.now)
+        (terminal_count line.now)) }
+{
+    for k in 0..line.terminals.len() as u32 {
+        put_terminal(text, line, net, k)?;
+    }
+    Ok(())
+}
+
+#[tactic(auto, unfolding(crate::specs::NetText::gate_line))]
+fn put_gate_line(text: &mut Vec<u8>, line: &Line, net: &Net, i: u32) -> Result<(), Memory>
+    requires of_line { IsNetOf line.now net.now }
+    requires exists { i < length net.now.gates }
+    ensures { OnOk result (text.new.items ≡ text.old.items ++ gate_line line.now net.now.gates i) }
+{
+    put_number(text, i)?;
+    put(text, b" ")?;
+    put_gate(text, line, net.gate(GateId(i)))?;
+    put(text, b"\n")
+}
+
+#[tactic(auto, unfolding(crate::specs::NetText::terminal_lines))]
+fn put_terminal(text: &mut Vec<u8>, line: &Line, net: &Net, k: u32) -> Result<(), Memory>
+    requires of_line { IsNetOf line.now net.now }
+    requires exists { k < terminal_count line.now }
+    ensures { OnOk result (text.new.items ≡ text.old.items ++ terminal_lines line.now net.now k) }
+{
+    put_end(text, b"key ", line, k, net.key_gate(k))?;
+    put_end(text, b"trip ", line, k, net.trip_gate(k))
+}
+
+fn put_end(text: &mut Vec<u8>, word: &[u8], line: &Line, k: u32, id: GateId) -> Result<(), Memory>
+    requires { k < terminal_count line.now }
+    ensures { OnOk result (text.new.items ≡ text.old.items ++ end_line word.now line.now k id.0) }
+{
+    put(text, word)?;
+    put_terminal_name(text, line, k)?;
+    put(text, b" ")?;
+    put_number(text, id.0)?;
+    put(text, b"\n")
+}
+
+fn put_gate(text: &mut Vec<u8>, line: &Line, gate: &Gate) -> Result<(), Memory>
+    requires { GateNames line.now gate.now }
+    ensures { OnOk result (text.new.items ≡ text.old.items ++ gate_text line.now gate.now) }
+{
+    match *gate {
+        Gate::Const(value) => put_truth(text, value),
+        Gate::Seen(place) => put_place(text, line, place),
+        Gate::Loss(channel) => put_channel(text, b"loss ", line, channel),
+        Gate::Raw(channel) => put_channel(text, b"raw ", line, channel),
+        Gate::Not(input) => put_not(text, input),
+        Gate::And(left, right) => put_pair(text, b"and ", left, right),
+        Gate::Or(left, right) => put_pair(text, b"or ", left, right),
+        Gate::Timer(input, pickup, dropout) => put_timer(text, line, input, pickup, dropout),
+        Gate::Seal(set, hold) => put_pair(text, b"seal ", set, hold),
+    }
+}
+
+fn put_truth(text: &mut Vec<u8>, value: bool) -> Result<(), Memory>
+    ensures { OnOk result (text.new.items ≡ text.old.items ++ truth_text value) }
+{
+    if value {
+        put(text, b"true")
+    } else {
+        put(text, b"false")
+    }
+}
+
+fn put_place(text: &mut Vec<u8>, line: &Line, place: Place) -> Result<(), Memory>
+    requires { place.terminal < terminal_count line.now }
+    ensures { OnOk result (text.new.items
+        ≡ text.old.items ++ (codes "seen " ++ place_text line.now place)) }
+{
+    put(text, b"seen ")?;
+    put_terminal_name(text, line, place.terminal)?;
+    put(text, b".")?;
+    put(text, element_word(place.element))
+}
+
+fn element_word(element: Element) -> &'static [u8]
+    ensures { result.now ≡ element_text element }
+{
+    match element {
+        Element::Z1 => b"z1",
+        Element::Z2 => b"z2",
+        Element::Rv => b"rv",
+        Element::Uv => b"uv",
+        Element::Cur => b"cur",
+    }
+}
+
+fn put_channel(text: &mut Vec<u8>, word: &[u8], line: &Line, channel: u32) -> Result<(), Memory>
+    requires { channel < channel_count line.now }
+    ensures { OnOk result (text.new.items
+        ≡ text.old.items ++ (word.now ++ channel_text line.now channel)) }
+{
+    let name = channel_name(&line.terminals, line.channels[channel as usize]);
+    put(text, word)?;
+    put(text, name.bytes())
+}
+
+fn put_not(text: &mut Vec<u8>, input: GateId) -> Result<(), Memory>
+    ensures { OnOk result (text.new.items ≡ text.old.items ++ (codes "not " ++ decimal input.0)) }
+{
+    put(text, b"not ")?;
+    put_number(text, input.0)
+}
+
+fn put_pair(text: &mut Vec<u8>, word: &[u8], left: GateId, right: GateId) -> Result<(), Memory>
+    ensures { OnOk result (text.new.items ≡ text.old.items ++ (word.now ++ pair_text left right)) }
+{
+    put(text, word)?;
+    put_number(text, left.0)?;
+    put(text, b" ")?;
+    put_number(text, right.0)
+}
+
+fn put_timer(
+    text: &mut Vec<u8>,
+    line: &Line,
+    input: GateId,
+    pickup: Time,
+    dropout: Time,
+) -> Result<(), Memory>
+    requires pickup { HasTime line.now pickup }
+    requires dropout { HasTime line.now dropout }
+    ensures { OnOk result (text.new.items
+        ≡ text.old.items ++ gate_text line.now (Gate.Timer input pickup dropout)) }
+{
+    put(text, b"timer ")?;
+    put_number(text, input.0)?;
+    put(text, b" ")?;
+    put_time(text, line, pickup)?;
+    put(text, b" ")?;
+    put_time(text, line, dropout)
+}
+
+fn put_time(text: &mut Vec<u8>, line: &Line, time: Time) -> Result<(), Memory>
+    requires { HasTime line.now time }
+    ensures { OnOk result (text.new.items ≡ text.old.items ++ time_text line.now time) }
+{
+    match time {
+        Time::Zero => put(text, b"0"),
+        Time::Param(i) => put(text, line.params[i as usize].name.bytes()),
+    }
+}
+
+fn put_terminal_name(text: &mut Vec<u8>, line: &Line, k: u32) -> Result<(), Memory>
+    requires { k < terminal_count line.now }
+    ensures { OnOk result (text.new.items ≡ text.old.items ++ name_at line.now.terminals.items k) }
+{
+    put(text, line.terminals[k as usize].name.bytes())
+}
+
+fn put_number(text: &mut Vec<u8>, number: u32) -> Result<(), Memory>
+    ensures { OnOk result (text.new.items ≡ text.old.items ++ decimal number) }
+{
+    let mut buffer = Buffer::new();
+    put(text, buffer.format(number).as_bytes())
+}
+
+fn put(text: &mut Vec<u8>, bytes: &[u8]) -> Result<(), Memory>
+    ensures { OnOk result (text.new.items ≡ text.old.items ++ bytes.now) }
+{
+    text.extend_from_slice(bytes)?;
+    Ok(())
+}

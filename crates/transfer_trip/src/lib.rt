@@ -1,0 +1,42 @@
+//! The gates of direct transfer trip: an underreaching zone 1 sends, and a signal that lasts for
+//! the security time trips, whatever the terminal sees for itself (DTT).
+//!
+//! Whatever the call answers, the gates that stood keep their numbers, and those that were added
+//! name only what the line has.
+#![tactic(auto)]
+
+ghost use Rattle.std.specs.Prelude.{◌≡◌, ◌<◌, ◌≤◌, ◌+◌, length, IfOk};
+ghost use Rattle.line_model.specs.Parameters.{terminal_count};
+ghost use Rattle.gate_net.specs.Growing.{Grows};
+ghost use Rattle.gate_net.specs.Named.{KeepsNames};
+ghost use Rattle.zones.specs.LocalGates.{AreLocal};
+ghost use Rattle.zones.specs.Outputs.{AreOutputs};
+
+use gate_net::NetBuilder;
+use line_model::{Line, Memory, Scheme, Setting, Time};
+use zones::{Local, Out, any_received, terminal_time};
+
+/// What a terminal of a DTT line sends and trips on.
+#[tactic(auto, unfolding(line_model::specs::Logic::transfer_pilot))]
+pub fn scheme(
+    net: &mut NetBuilder,
+    line: &Line,
+    terminal: u32,
+    local: &Local,
+) -> Result<Out, Memory>
+    requires scheme { line.now.scheme ≡ Scheme.Dtt }
+    requires exists { terminal < terminal_count line.now }
+    requires room { length net.old + 96 ≤ 512 }
+    requires local { AreLocal line.now terminal net.old local.now }
+    ensures grows { Grows net.old net.new 96 }
+    ensures named { KeepsNames line.now net.old net.new }
+    ensures made { IfOk result (λ out. AreOutputs Scheme.Dtt line.now terminal net.new out) }
+{
+    let security = terminal_time(line, terminal, Setting::TransferSecurity);
+    let any = any_received(net, line, terminal)?;
+    let pilot = net.timer(any, security, Time::Zero)?;
+    Ok(Out {
+        key: local.z1,
+        pilot,
+    })
+}

@@ -1,0 +1,8 @@
+use Rattle.line_model.specs.Tree.{And}
+use Rattle.line_model.specs.Unblocking.{open_from}
+use Rattle.zones.proofs.Gathering.{Gathers}
+use Rattle.unblocking.proofs.all_open.Given as goal
+
+abbrev pub invariant-loop-from : goal.invariant-loop-from
+invariant-loop-from l =
+    Gathers l.line And (open_from l.line l.terminal) l.terminal 22 l.initial.net l.net l.all l.from

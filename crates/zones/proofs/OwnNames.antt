@@ -1,0 +1,93 @@
+-- A line has the parameters and channels that its logic may name, also where a look-up finds none.
+use Rattle.std.proofs.Common.{
+  ◌≡◌,
+  ℕ,
+  zero,
+  suc,
+  ◌+◌,
+  ◌*◌,
+  ◌-◌,
+  ◌<◌,
+  ◌≤◌,
+  List,
+  [],
+  ◌∷◌,
+  ◌++◌,
+  length,
+  Option,
+  Some,
+  None,
+  refl,
+  ap,
+  ◌∙◌,
+  subst,
+  arith,
+  length-append,
+}
+use Rattle.std.specs.Prelude.{unwrap_or}
+use Rattle.line_model.specs.declared.line.Line.{Line}
+use Rattle.line_model.specs.declared.line.Scheme.{Scheme}
+use Rattle.line_model.specs.declared.line.Terminal.{Terminal}
+use Rattle.line_model.specs.declared.line.Owner.{Owner}
+use Rattle.line_model.specs.declared.line.Setting.{Setting}
+use Rattle.line_model.specs.Settings.{
+  OwnedSetting,
+  line_settings,
+  settings_of_terminals,
+  settings_of_channels,
+  is_owned_setting,
+}
+use Rattle.line_model.specs.Channels.{channel_number, is_pair}
+use Rattle.line_model.specs.Parameters.{param_number, param_count, terminal_count, channel_count}
+use Rattle.line_model.proofs.Numbers.{position_within, length-line_settings}
+
+-- a terminal has parameters
+some_settings : (s : Scheme) (k : ℕ) (ts : List Terminal) → 1 ≤ length ts
+    → 1 ≤ length (settings_of_terminals s k ts)
+some_settings s k [] h = absurd (omega arith)
+some_settings s k (t ∷ ts) h = omega arith
+
+some_params : (line : Line) → 1 ≤ param_count line
+unfolding line_settings
+some_params line =
+    let own : List OwnedSetting =
+    settings_of_terminals line.scheme 0 line.terminals.items in
+    let rest : List OwnedSetting =
+    settings_of_channels line.scheme 0 line.channels.items in
+    let two : 2 ≤ terminal_count line = line.two_or_three.0 in
+    let some : 1 ≤ length own =
+    some_settings line.scheme 0 line.terminals.items (omega arith) in
+    let all : length (own ++ rest) ≡ param_count line = length-line_settings line in
+    omega (arith, length-append own rest)
+
+pub param_there : (line : Line) (o : Owner) (x : Setting)
+    → unwrap_or (param_number line o x) 0 < param_count line
+param_there line o x = by (param_number line o x) refl where
+  by : (n : Option ℕ) → param_number line o x ≡ n → unwrap_or n 0 < param_count line
+  by None e = omega (arith, some_params line)
+  by (Some i) e =
+      let all : List OwnedSetting =
+      line_settings line.scheme line.terminals.items line.channels.items in
+      let within : i < 0 + length all = position_within (is_owned_setting o x) 0 i all e in
+      let same : length all ≡ param_count line = length-line_settings line in
+      omega arith
+
+some_channels : (n : ℕ) → 2 ≤ n → 1 ≤ n * (n - 1)
+some_channels zero two = absurd (omega arith)
+some_channels (suc zero) two = absurd (omega arith)
+some_channels (suc (suc n)) two = grind arith
+
+pub channel_there : (line : Line) (k j : ℕ)
+    → unwrap_or (channel_number line.channels.items j k) 0 < channel_count line
+channel_there line k j = by (channel_number line.channels.items j k) refl where
+  by : (n : Option ℕ) → channel_number line.channels.items j k ≡ n
+      → unwrap_or n 0 < channel_count line
+  by None e =
+      let two : 2 ≤ terminal_count line = line.two_or_three.0 in
+      let some : 1 ≤ terminal_count line * (terminal_count line - 1) =
+      some_channels (terminal_count line) two in
+      omega (arith, line.pairs_once.count)
+  by (Some i) e =
+      let within : i < 0 + channel_count line =
+      position_within (is_pair j k) 0 i line.channels.items e in
+      omega arith

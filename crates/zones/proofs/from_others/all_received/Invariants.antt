@@ -1,0 +1,8 @@
+use Rattle.line_model.specs.Tree.{And}
+use Rattle.line_model.specs.Received.{received}
+use Rattle.zones.proofs.Gathering.{Gathers}
+use Rattle.zones.proofs.from_others.all_received.Given as goal
+
+abbrev pub invariant-loop-from : goal.invariant-loop-from
+invariant-loop-from l =
+    Gathers l.line And (received l.line l.terminal) l.terminal 5 l.initial.net l.net l.all l.from

@@ -1,0 +1,2 @@
+pub mod LocalGates
+pub mod Outputs

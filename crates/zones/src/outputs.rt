@@ -1,0 +1,10 @@
+// What a scheme makes for a terminal.
+
+use gate_net::GateId;
+
+/// The gates of what a terminal sends and of what its pilot scheme trips on.
+#[derive(Clone, Copy)]
+pub struct Out {
+    pub key: GateId,
+    pub pilot: GateId,
+}
