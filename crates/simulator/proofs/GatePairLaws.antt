@@ -1,0 +1,40 @@
+-- The pair of a gate is its kind over the pairs of its arguments.
+use Rattle.std.proofs.Common.{◌≡◌, ℕ, List, Some, refl, ◌∙◌, ap}
+use Rattle.std.specs.Prelude.{slice_get}
+use Rattle.line_model.specs.PairMean.{PairWorld, PairSignals, pair_mean}
+use Rattle.gate_net.specs.declared.gate.Gate.{Gate}
+use Rattle.gate_net.specs.declared.gate.Gate.TheVariants.{
+  Const,
+  Seen,
+  Loss,
+  Raw,
+  Not,
+  And,
+  Or,
+  Timer,
+  Seal,
+}
+use Rattle.gate_net.specs.Laws.{AreGates}
+use Rattle.gate_net.specs.Formulas.{formula_of, kind_over}
+use Rattle.gate_net.proofs.Standing.{formula_of-gate}
+use Rattle.simulator.specs.GatePairs.{gate_pairs, kind_pair}
+
+module _ (w : PairWorld) (keys : PairSignals) (gates : List Gate) where
+  kind_pair-is : (g : Gate) (t : ℕ)
+      → pair_mean w keys (kind_over gates g) t ≡ kind_pair w keys (gate_pairs w keys gates) g t
+  unfolding pair_mean kind_over gate_pairs formula_of
+  kind_pair-is (Const v) t = refl
+  kind_pair-is (Seen p) t = refl
+  kind_pair-is (Loss c) t = refl
+  kind_pair-is (Raw c) t = refl
+  kind_pair-is (Not a) t = refl
+  kind_pair-is (And a b) t = refl
+  kind_pair-is (Or a b) t = refl
+  kind_pair-is (Timer a p d) t = refl
+  kind_pair-is (Seal a b) t = refl
+
+  pub gate_pairs-kind : (i : ℕ) (g : Gate) (t : ℕ) → AreGates gates → slice_get gates i ≡ Some g
+      → gate_pairs w keys gates i t ≡ kind_pair w keys (gate_pairs w keys gates) g t
+  unfolding gate_pairs
+  gate_pairs-kind i g t laws at =
+      ap (λ x. pair_mean w keys x t) (formula_of-gate gates i g laws at) ∙ kind_pair-is g t

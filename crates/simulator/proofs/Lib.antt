@@ -1,0 +1,11 @@
+pub mod Lists
+pub mod GatePairLaws
+pub mod SearchLaws
+pub mod TickLaws
+pub mod WalkLaws
+pub mod SendLaws
+pub mod ValueLaws
+pub mod RunLaws
+pub mod PointLaws
+pub mod RowLaws
+pub mod PlayLaws

@@ -1,0 +1,21 @@
+use Rattle.std.proofs.Common.{◌≡◌, ℕ, ◌<◌, length, Some}
+use Rattle.std.specs.Prelude.{slice_get}
+use Rattle.line_model.specs.declared.formula.Time.{Time}
+use Rattle.line_model.specs.PairMean.{PairWorld}
+use Rattle.gate_net.specs.declared.gate.Gate.{Gate}
+use Rattle.simulator.specs.LaneBox.{time_ends}
+use Rattle.simulator.specs.GatePairs.{GateSignals}
+use Rattle.simulator.specs.CellStands.{HasCell}
+use Rattle.simulator.specs.Ticks.{AllStand}
+use Rattle.simulator.proofs.fresh.fresh_cells.Given as goal
+
+abbrev pub invariant-loop-i : goal.invariant-loop-i
+invariant-loop-i g l = record {
+  count : length l.cells.items ≡ l.i;
+  shape : (j : ℕ) (gate : Gate) (cell : _) → slice_get l.net.gates j ≡ Some gate
+      → slice_get l.cells.items j ≡ Some cell → HasCell gate cell;
+  stands : (lane : ℕ) (w : PairWorld) (u : GateSignals) → lane < g.V.Signal.LANES
+      → ((x : Time) → w.time x ≡ time_ends g.V.Signal.ends lane l.spans x)
+      → AllStand g.V.Timed.stands_for g.V.Signal.ends g.V.Signal.rails lane w u 0 l.net.gates
+      l.cells.items;
+}

@@ -1,0 +1,83 @@
+use Rattle.std.proofs.Common.{◌≡◌, ◌*◌, length, refl, sym, ◌∙◌, ap, subst}
+use Rattle.line_model.specs.Choice.{Box}
+use Rattle.simulator.specs.LaneBox.{lane_box}
+use Rattle.simulator.specs.GatePairs.{line_pairs}
+use Rattle.simulator.specs.Ticks.{ValuesTold}
+use Rattle.simulator.specs.WavesOf.{WavesOf, AreWaves}
+use Rattle.simulator.specs.Runs.{AreWavesOf}
+use Rattle.simulator.proofs.RunLaws.{made_waves, run_pairs, own_history, run_history, run_covers}
+use Rattle.simulator.proofs.PointLaws.{exact_at}
+use Rattle.simulator.proofs.run_net.run.Goals as goal
+
+pub new-requires : goal.new-requires
+new-requires g c =
+    let made : WavesOf g.row.V.Denot = record {
+      width = c.len-width.result;
+      horizon = c.args.line.now.horizon;
+      values = c.in_ok-values.values.items;
+      keys = c.in_ok-keys.keys.items;
+      trips = c.in_ok-trips.trips.items;
+    } in
+    let of : AreWavesOf c.args.net.now c.args.line.now made = record {
+      width = c.len-width.ensures.len;
+      horizon = refl;
+      keys = c.in_ok-keys.ensures.items ∙ c.key_gates.ensures;
+      trips = c.in_ok-trips.ensures.items ∙ c.trip_gates.ensures;
+    } in
+    made_waves c.args.line.now c.args.net.now made c.requires.of_line.laws
+    c.args.line.now.horizon_in_range.1 of c.in_ok-values.ensures.count
+
+pub returns-clause-waves : goal.returns-clause-waves
+returns-clause-waves g c =
+    let made : WavesOf g.row.V.Denot = record {
+      width = c.len-width.result;
+      horizon = c.args.line.now.horizon;
+      values = c.in_ok-values.values.items;
+      keys = c.in_ok-keys.keys.items;
+      trips = c.in_ok-trips.trips.items;
+    } in
+    let of : AreWavesOf c.args.net.now c.args.line.now made = record {
+      width = c.len-width.ensures.len;
+      horizon = refl;
+      keys = c.in_ok-keys.ensures.items ∙ c.key_gates.ensures;
+      trips = c.in_ok-trips.ensures.items ∙ c.trip_gates.ensures;
+    } in
+    subst (AreWavesOf c.args.net.now c.args.line.now) (sym c.new.ensures) of
+
+pub returns-clause-pairs : goal.returns-clause-pairs
+returns-clause-pairs g c = λ lane inside.
+    let net = c.args.net.now in
+    let line = c.args.line.now in
+    let script = c.args.script.now in
+    let waves : WavesOf g.row.V.Denot = c.new.result in
+    let of : AreWavesOf net line waves = returns-clause-waves g c in
+    let values : waves.values ≡ c.in_ok-values.values.items =
+    ap (λ (w : WavesOf g.row.V.Denot). w.values) c.new.ensures in
+    let count : length waves.values ≡ line.horizon * length net.gates =
+    ap length values ∙ c.in_ok-values.ensures.count in
+    let are : AreWaves waves =
+    made_waves line net waves c.requires.of_line.laws line.horizon_in_range.1 of count in
+    let box : Box = lane_box g.V.Signal.ends line c.args.spans.now c.args.steps.now lane in
+    run_pairs line script box (c.requires.delayed lane inside) net c.requires.of_line
+    g.V.Signal.rails lane waves of are
+    (subst (ValuesTold g.V.Signal.rails lane (line_pairs line script box net) (length net.gates))
+    (sym values) (c.in_ok-values.ensures.told lane inside))
+
+pub returns-clause-history : goal.returns-clause-history
+returns-clause-history g c = λ lane inside.
+    run_history c.args.line.now c.args.script.now _ (c.requires.delayed lane inside)
+    c.args.net.now c.requires.of_line g.V.Signal.rails lane c.new.result
+    (returns-clause-waves g c) (returns-clause-pairs g c lane inside)
+
+pub returns-clause-covers : goal.returns-clause-covers
+returns-clause-covers g c = λ lane inside.
+    run_covers c.args.line.now c.args.script.now _ (c.requires.delayed lane inside)
+    c.args.net.now c.requires.of_line g.V.Signal.rails lane c.new.result
+    (returns-clause-waves g c) (returns-clause-pairs g c lane inside)
+
+pub returns-clause-exact : goal.returns-clause-exact
+returns-clause-exact g c = λ lane choice inside point.
+    exact_at c.args.line.now c.args.script.now _ (c.requires.delayed lane inside) choice point _
+    (own_history c.args.line.now c.args.script.now _ (c.requires.delayed lane inside)
+    c.args.net.now c.requires.of_line g.V.Signal.rails lane c.new.result
+    (returns-clause-waves g c) (returns-clause-pairs g c lane inside))

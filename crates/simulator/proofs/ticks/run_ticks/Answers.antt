@@ -1,0 +1,151 @@
+use Rattle.std.proofs.Common.{
+  ◌≡◌,
+  ℕ,
+  suc,
+  ◌<◌,
+  ◌≤◌,
+  ◌+◌,
+  ◌*◌,
+  ◌++◌,
+  refl,
+  sym,
+  ◌∙◌,
+  ap,
+  arith,
+  length,
+  length-append,
+  subst,
+}
+use Rattle.std.specs.Prelude.{vec_capacity}
+use Rattle.line_model.specs.Parameters.{terminal_count}
+use Rattle.line_model.specs.PairMean.{PairWorld, PairSignals}
+use Rattle.line_model.specs.Choice.{Box, pair_world_of}
+use Rattle.line_model.specs.Logic.{key_tree}
+use Rattle.line_model.specs.Solution.{the_keys}
+use Rattle.gate_net.specs.NetOf.{key_of}
+use Rattle.simulator.specs.LaneBox.{lane_box, lane_world}
+use Rattle.simulator.specs.GatePairs.{GateSignals, line_pairs}
+use Rattle.simulator.specs.Ticks.{AreTold, AreSent, KeysSent, ValuesAgree, ValuesTold, LaneStands}
+use Rattle.simulator.proofs.GatePairLaws.{gate_pairs-kind}
+use Rattle.simulator.proofs.SendLaws.{none_sent, fresh_sent}
+use Rattle.simulator.proofs.ValueLaws.{tick_fits, values_none, values_more}
+use Rattle.simulator.proofs.RunLaws.{key_pair}
+use Rattle.simulator.proofs.ticks.run_ticks.Goals as goal
+
+pub loop-t-init : goal.loop-t-init
+unfolding pair_world_of lane_box
+loop-t-init g c =
+    let line = c.args.line.now in
+    let net = c.args.net.now in
+    let n = length net.gates in
+    let count = length c.deref-ends.result.now in
+    let all : count ≡ terminal_count line = ap length c.deref-ends.ensures.value in
+    let width : c.len-width.result ≡ n = c.len-width.ensures.len in
+    let column : vec_capacity c.in_ok-column.column ≡ c.len-width.result =
+    c.in_ok-column.ensures.exact in
+    let values : vec_capacity c.in_ok-values.values ≡ line.horizon * c.len-width.result =
+    c.in_ok-values.ensures.exact in
+    let whole : vec_capacity c.in_ok-values.values ≡ line.horizon * n =
+    values ∙ ap (λ (m : ℕ). line.horizon * m) width in
+    record {
+      count = omega (arith, ap length c.in_ok-values.ensures.items);
+      column_room = omega (arith, column, width);
+      values_room = omega (arith, whole);
+      cells = c.in_ok-cells.ensures.shape;
+      sent = subst (λ (m : ℕ). AreSent m line.horizon 0 c.in_ok-sent.sent.items) all
+          (fresh_sent count line.horizon c.in_ok-sent.sent.items c.in_ok-sent.ensures);
+      lanes = λ lane inside.
+          let w : PairWorld = lane_world g.V.Signal.ends line c.args.script.now c.args.spans.now
+          c.args.steps.now lane in
+          let keys : PairSignals = the_keys w (key_tree line) in
+          let u : GateSignals = line_pairs line c.args.script.now
+          (lane_box g.V.Signal.ends line c.args.spans.now c.args.steps.now lane) net in
+          record {
+            keys_sent = none_sent g.V.Signal.rails lane count line.horizon keys
+                c.in_ok-sent.sent.items c.in_ok-sent.ensures;
+            cells_stand = c.in_ok-cells.ensures.stands lane w u inside (λ x. refl);
+            told = subst (ValuesTold g.V.Signal.rails lane u n) (sym c.in_ok-values.ensures.items)
+                (values_none g.V.Signal.rails lane u n);
+          };
+    }
+
+pub loop-t-preserved : goal.loop-t-preserved
+loop-t-preserved g c =
+    let t = c.loop-t.t in
+    let net = c.args.net.now in
+    let line = c.args.line.now in
+    let rails = g.V.Signal.rails in
+    let n = length net.gates in
+    let next : suc t ≡ t + 1 = omega arith in
+    let values = c.loop-t.values.items in
+    let column = c.walk.new.column.items in
+    let long : length values ≡ t * n = c.loop-t.invariant.count in
+    let wide : length column ≡ n = c.walk.ensures.count in
+    let pushed : c.extend_within.new.list.items ≡ values ++ column =
+    c.extend_within.ensures.items ∙ ap (λ l. values ++ l) c.as_slice-in-loop-t-2.ensures.value in
+    let longer : length values + length column ≡ (t + 1) * n = omega (arith, long, wide) in
+    let room : line.horizon * n ≤ vec_capacity c.loop-t.values = c.loop-t.invariant.values_room in
+    let more : vec_capacity c.loop-t.values ≤ vec_capacity c.extend_within.new.list =
+    c.extend_within.ensures.room in
+    record {
+      count = ap length pushed ∙ length-append values column ∙ longer;
+      column_room = c.walk.ensures.room;
+      values_room = omega (arith, room, more);
+      cells = c.walk.ensures.cells;
+      sent =
+          subst (λ (m : ℕ). AreSent (terminal_count line) line.horizon m c.send_all.new.sent.items)
+          next
+          (subst (λ (m : ℕ). AreSent m line.horizon (suc t) c.send_all.new.sent.items)
+          c.requires.of_line.terminals c.send_all.ensures.count);
+      lanes = λ lane inside.
+          let w : PairWorld = lane_world g.V.Signal.ends line c.args.script.now c.args.spans.now
+          c.args.steps.now lane in
+          let box : Box = lane_box g.V.Signal.ends line c.args.spans.now c.args.steps.now lane in
+          let keys : PairSignals = the_keys w (key_tree line) in
+          let u : GateSignals = line_pairs line c.args.script.now box net in
+          let before = c.loop-t.invariant.lanes lane inside in
+          let told : AreTold w keys u t net.gates =
+          λ i gate at. gate_pairs-kind w keys net.gates i gate t c.requires.of_line.laws.gates at in
+          let sent : KeysSent rails lane keys t c.as_slice.result.now =
+          subst (KeysSent rails lane keys t) (sym c.as_slice.ensures.value) before.keys_sent in
+          let agree : ValuesAgree rails lane u t column =
+          c.walk.ensures.answers lane keys u inside told sent before.cells_stand in
+          let agree' : ValuesAgree rails lane u t c.as_slice-in-loop-t.result.now =
+          subst (ValuesAgree rails lane u t) (sym c.as_slice-in-loop-t.ensures.value) agree in
+          let are_keys : (k : ℕ) → k < length net.keys → u (key_of net k) t ≡ keys k t =
+          λ k kn. key_pair line c.args.script.now box (c.requires.delayed lane inside) net
+          c.requires.of_line k t (subst (λ (m : ℕ). k < m) c.requires.of_line.terminals kn)
+          c.loop-t-test.true in
+          subst (λ (m : ℕ). LaneStands g.V.Timed.stands_for g.V.Signal.ends rails lane w keys u m
+          net.gates c.send_all.new.sent.items c.walk.new.cells.items
+          c.extend_within.new.list.items) next
+          (record {
+            keys_sent = c.send_all.ensures.keys lane keys u inside agree' are_keys before.keys_sent;
+            cells_stand = c.walk.ensures.stands lane keys u inside told sent before.cells_stand;
+            told = subst (ValuesTold rails lane u n) (sym pushed)
+                (values_more rails lane u t n values column long wide agree before.told);
+          });
+    }
+
+pub extend_within-requires : goal.extend_within-requires
+extend_within-requires g c =
+    let n = length c.args.net.now.gates in
+    let long : length c.loop-t.values.items ≡ c.loop-t.t * n = c.loop-t.invariant.count in
+    let wide : length c.walk.new.column.items ≡ n = c.walk.ensures.count in
+    let same : length c.as_slice-in-loop-t-2.result.now ≡ length c.walk.new.column.items =
+    ap length c.as_slice-in-loop-t-2.ensures.value in
+    let room : c.args.line.now.horizon * n ≤ vec_capacity c.loop-t.values =
+    c.loop-t.invariant.values_room in
+    let fits : c.loop-t.t * n + n ≤ c.args.line.now.horizon * n =
+    tick_fits c.loop-t.t c.args.line.now.horizon n c.loop-t-test.true in
+    omega (arith, long, wide, same, room, fits)
+
+pub returns-clause-count : goal.returns-clause-count
+returns-clause-count g c =
+    let over : c.args.line.now.horizon ≤ c.loop-t.t = c.loop-t-test.false in
+    let under : c.loop-t.t ≤ c.args.line.now.horizon = c.loop-t.auto.t-end in
+    let last : c.loop-t.t ≡ c.args.line.now.horizon = omega arith in
+    c.loop-t.invariant.count ∙ ap (λ (m : ℕ). m * length c.args.net.now.gates) last
+
+pub returns-clause-told : goal.returns-clause-told
+returns-clause-told g c = λ lane inside. (c.loop-t.invariant.lanes lane inside).told

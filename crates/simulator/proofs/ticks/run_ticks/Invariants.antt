@@ -1,0 +1,26 @@
+use Rattle.std.proofs.Common.{◌≡◌, ℕ, ◌<◌, ◌≤◌, ◌*◌, length}
+use Rattle.std.specs.Prelude.{vec_capacity}
+use Rattle.line_model.specs.Parameters.{terminal_count}
+use Rattle.line_model.specs.Logic.{key_tree}
+use Rattle.line_model.specs.Solution.{the_keys}
+use Rattle.simulator.specs.LaneBox.{lane_box, lane_world}
+use Rattle.simulator.specs.GatePairs.{line_pairs}
+use Rattle.simulator.specs.Ticks.{HaveCells, AreSent, LaneStands}
+use Rattle.simulator.proofs.ticks.run_ticks.Given as goal
+
+abbrev pub invariant-loop-t : goal.invariant-loop-t
+invariant-loop-t g l =
+    let gates = l.net.gates in
+    let box = lane_box g.V.Signal.ends l.line l.spans l.steps in
+    let w = lane_world g.V.Signal.ends l.line l.script l.spans l.steps in
+    record {
+      count : length l.values.items ≡ l.t * length gates;
+      column_room : length gates ≤ vec_capacity l.column;
+      values_room : l.line.horizon * length gates ≤ vec_capacity l.values;
+      cells : HaveCells gates l.cells.items;
+      sent : AreSent (terminal_count l.line) l.line.horizon l.t l.sent.items;
+      lanes : (lane : ℕ) → lane < g.V.Signal.LANES →
+          LaneStands g.V.Timed.stands_for g.V.Signal.ends g.V.Signal.rails lane (w lane)
+          (the_keys (w lane) (key_tree l.line)) (line_pairs l.line l.script (box lane) l.net)
+          l.t gates l.sent.items l.cells.items l.values.items;
+    }

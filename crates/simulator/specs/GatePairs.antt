@@ -1,0 +1,58 @@
+-- The pairs of a net's gates.
+use Rattle.std.specs.Prelude.{ℕ, List}
+use Rattle.history.specs.Rails.{
+  Rails,
+  both,
+  rails_not,
+  rails_and,
+  rails_or,
+  rails_timed,
+  rails_sealed,
+  rails_delayed,
+}
+use Rattle.line_model.specs.declared.line.Line.{Line}
+use Rattle.line_model.specs.declared.script.Script.{Script}
+use Rattle.line_model.specs.PairMean.{PairWorld, PairSignals, pair_mean}
+use Rattle.line_model.specs.Choice.{Box, pair_world_of}
+use Rattle.line_model.specs.Logic.{key_tree}
+use Rattle.line_model.specs.Solution.{the_keys}
+use Rattle.gate_net.specs.declared.gate.Gate.{Gate}
+use Rattle.gate_net.specs.declared.gate.Gate.TheVariants.{
+  Const,
+  Seen,
+  Loss,
+  Raw,
+  Not,
+  And,
+  Or,
+  Timer,
+  Seal,
+}
+use Rattle.gate_net.specs.Formulas.{formula_of}
+use Rattle.gate_net.specs.NetOf.{NetOf}
+
+-- a pair for each gate at each tick
+abbrev pub GateSignals : Type 0
+GateSignals = ℕ → ℕ → Rails
+
+-- the pair of a gate at a tick: that of the tree that it stands for
+unfoldable pub gate_pairs : PairWorld → PairSignals → List Gate → GateSignals
+gate_pairs w keys gates i t = pair_mean w keys (formula_of gates i) t
+
+-- the pairs of a net's gates over the interval history of its line
+abbrev pub line_pairs : Line → Script → Box → NetOf → GateSignals
+line_pairs line script box net =
+    let w = pair_world_of line script box in
+    gate_pairs w (the_keys w (key_tree line)) net.gates
+
+-- a gate's own kind over the pairs u of all gates
+abbrev pub kind_pair : PairWorld → PairSignals → GateSignals → Gate → ℕ → Rails
+kind_pair w keys u (Const v) t = both v
+kind_pair w keys u (Seen p) t = both (w.seen p t)
+kind_pair w keys u (Loss c) t = both (w.lost c t)
+kind_pair w keys u (Raw c) t = rails_delayed (keys (w.from c)) (w.delay c t) t
+kind_pair w keys u (Not a) t = rails_not (u a.0 t)
+kind_pair w keys u (And a b) t = rails_and (u a.0 t) (u b.0 t)
+kind_pair w keys u (Or a b) t = rails_or (u a.0 t) (u b.0 t)
+kind_pair w keys u (Timer a p d) t = rails_timed (u a.0) (w.time p) (w.time d) t
+kind_pair w keys u (Seal a b) t = rails_sealed (u a.0) (u b.0) t

@@ -1,0 +1,9 @@
+pub mod Steps
+pub mod LaneBox
+pub mod GatePairs
+pub mod CellStands
+pub mod Ticks
+pub mod WavesOf
+pub mod Runs
+pub mod PlayRows
+pub mod Played

@@ -1,0 +1,147 @@
+// The rows of changes, as text.
+
+ghost use Rattle.std.specs.Prelude.{◌≡◌, ◌++◌, ◌<◌, map, OnOk};
+ghost use Rattle.std.specs.List.{concat};
+ghost use Rattle.simulator.specs.PlayRows.{level_word, row_fields, row_text, change_row};
+ghost use Rattle.simulator.specs.PlayRows.{value_before, signal_row};
+ghost use Rattle.simulator.specs.Played.{is_on};
+
+use crate::waves::Waves;
+use gate_net::GateId;
+use itoa::Buffer;
+use line_model::{Memory, Name};
+use tick_signal::{Level, Signal};
+
+/// What all rows of one run begin with.
+#[derive(Clone, Copy)]
+pub struct RowNames {
+    pub timing: Name,
+    pub script: Name,
+}
+
+// Appends the pieces one after another.
+fn push_pieces(text: &mut Vec<u8>, pieces: &[&[u8]]) -> Result<(), Memory>
+    ensures { OnOk result (text.new.items
+        ≡ text.old.items ++ concat (map (λ piece. piece.now) pieces.now)) }
+{
+    for piece in pieces {
+        text.extend_from_slice(piece)?;
+    }
+    Ok(())
+}
+
+fn word_of_level(level: bool) -> &'static [u8]
+    ensures { result.now ≡ level_word level }
+{
+    if level { b"1" } else { b"0" }
+}
+
+// Appends the row of these fields.
+fn push_fields<'a>(
+    text: &mut Vec<u8>,
+    timing: &'a [u8],
+    script: &'a [u8],
+    tick: &'a [u8],
+    terminal: &'a [u8],
+    signal: &'a [u8],
+    level: bool,
+) -> Result<(), Memory>
+    ensures { OnOk result (text.new.items
+        ≡ text.old.items ++ row_fields timing.now script.now tick.now terminal.now signal.now level) }
+{
+    let level: &'a [u8] = word_of_level(level);
+    let comma: &'a [u8] = b",";
+    let end: &'a [u8] = b"\n";
+    let pieces: [&'a [u8]; 12] = [
+        timing, comma, script, comma, tick, comma, terminal, comma, signal, comma, level, end,
+    ];
+    push_pieces(text, &pieces)
+}
+
+// Appends the row of a change to that level.
+fn push_row(
+    text: &mut Vec<u8>,
+    names: &RowNames,
+    t: u32,
+    terminal: Name,
+    signal: &[u8],
+    level: bool,
+) -> Result<(), Memory>
+    ensures { OnOk result (text.new.items
+        ≡ text.old.items ++ row_text names.now.timing names.now.script t terminal signal.now level) }
+{
+    let mut digits = Buffer::new();
+    let tick = digits.format(t).as_bytes();
+    push_fields(
+        text,
+        names.timing.bytes(),
+        names.script.bytes(),
+        tick,
+        terminal.bytes(),
+        signal,
+        level,
+    )
+}
+
+// Appends the row of a signal where its level differs from that before.
+fn push_change(
+    text: &mut Vec<u8>,
+    names: &RowNames,
+    t: u32,
+    terminal: Name,
+    signal: &[u8],
+    before: bool,
+    level: bool,
+) -> Result<(), Memory>
+    ensures { OnOk result (text.new.items
+        ≡ text.old.items
+        ++ change_row names.now.timing names.now.script t terminal signal.now before level) }
+{
+    if before == level {
+        return Ok(());
+    }
+    push_row(text, names, t, terminal, signal, level)
+}
+
+// Whether a gate is on at a tick.
+fn on_at(waves: &Waves<Level>, gate: GateId, t: u32) -> bool
+    requires gate { gate.0 < waves.now.width }
+    requires tick { t < waves.now.horizon }
+    ensures { result ≡ is_on waves.now gate.0 t }
+{
+    waves.at(gate, t).must(0)
+}
+
+// Whether it was on at the tick before; off before tick 0.
+fn on_before(waves: &Waves<Level>, gate: GateId, t: u32) -> bool
+    requires gate { gate.0 < waves.now.width }
+    requires tick { t < waves.now.horizon }
+    ensures { result ≡ value_before (is_on waves.now gate.0) t }
+{
+    if t == 0 {
+        false
+    } else {
+        on_at(waves, gate, t - 1)
+    }
+}
+
+/// Appends the row of a gate at a tick, if it changes there.
+pub fn push_signal(
+    text: &mut Vec<u8>,
+    names: &RowNames,
+    waves: &Waves<Level>,
+    gate: GateId,
+    t: u32,
+    terminal: Name,
+    signal: &[u8],
+) -> Result<(), Memory>
+    requires gate { gate.0 < waves.now.width }
+    requires tick { t < waves.now.horizon }
+    ensures { OnOk result (text.new.items
+        ≡ text.old.items
+        ++ signal_row names.now.timing names.now.script t terminal signal.now (is_on waves.now gate.0)) }
+{
+    let before = on_before(waves, gate, t);
+    let level = on_at(waves, gate, t);
+    push_change(text, names, t, terminal, signal, before, level)
+}

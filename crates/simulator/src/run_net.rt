@@ -1,0 +1,60 @@
+// A run.
+
+ghost use Rattle.std.specs.Prelude.{◌≡◌, ℕ, ◌<◌, length, IfOk, IsTrue};
+ghost use Rattle.line_model.specs.Parameters.{param_count};
+ghost use Rattle.line_model.specs.Choice.{Choice};
+ghost use Rattle.gate_net.specs.NetOf.{IsNetOf};
+ghost use Rattle.timing_box.specs.Timing.{ascend};
+ghost use Rattle.simulator.specs.LaneBox.{lane_box};
+ghost use Rattle.simulator.specs.WavesOf.{waves_history};
+ghost use Rattle.simulator.specs.Runs.{AreDelayed, AreWavesOf, HavePairs, IsTheHistory};
+ghost use Rattle.simulator.specs.Runs.{CoverChoices, IsPoint, IsExactAt};
+
+use crate::ticks::run_ticks;
+use crate::waves::Waves;
+use channel::Carried;
+use gate_net::Net;
+use line_model::{Line, Memory, Script};
+use std::alloc::Global;
+use timers::Timed;
+use timing_box::Step;
+
+/// Runs the net of a line over a script, from tick 0 to the horizon. A span stands for each parameter,
+/// in the order of the line; a delay has at each tick the span of its step with the greatest `from`
+/// not after the tick, else its own.
+pub fn run<V: Timed + Carried>(
+    alloc: Global,
+    net: &Net,
+    line: &Line,
+    script: &Script,
+    spans: &[V::Span],
+    steps: &[Step<V::Span>],
+) -> Result<Waves<V>, Memory>
+    requires of_line { IsNetOf line.now net.now }
+    requires spans { length spans.now ≡ param_count line.now }
+    requires ascending { IsTrue (ascend steps.now) }
+    requires delayed { AreDelayed V.LANES V.ends line.now spans.now steps.now }
+    ensures waves { IfOk result (λ waves. AreWavesOf net.now line.now waves) }
+    // In each lane each gate has the pairs of its tree over the lane's box and the run's own keys,
+    ensures pairs { IfOk result (λ waves. (lane : ℕ) → lane < V.LANES →
+        HavePairs V.rails lane line.now script.now
+        (lane_box V.ends line.now spans.now steps.now lane) net.now waves) }
+    // keys and trips are the one interval history over that box,
+    ensures history { IfOk result (λ waves. (lane : ℕ) → lane < V.LANES →
+        IsTheHistory line.now script.now (lane_box V.ends line.now spans.now steps.now lane)
+        (waves_history V.rails lane waves)) }
+    // the waves cover the history of each choice within it, gate by gate,
+    ensures covers { IfOk result (λ waves. (lane : ℕ) → lane < V.LANES →
+        CoverChoices V.rails lane line.now script.now
+        (lane_box V.ends line.now spans.now steps.now lane) net.now waves) }
+    // and where it holds one choice alone, keys and trips are the history at that choice.
+    ensures exact { IfOk result (λ waves. (lane : ℕ) (choice : Choice) → lane < V.LANES →
+        IsPoint line.now (lane_box V.ends line.now spans.now steps.now lane) choice →
+        IsExactAt line.now script.now choice (waves_history V.rails lane waves)) }
+{
+    let width = net.len();
+    let keys = Vec::from_slice(alloc, net.key_gates())?;
+    let trips = Vec::from_slice(alloc, net.trip_gates())?;
+    let values = run_ticks::<V>(alloc, net, line, script, spans, steps)?;
+    Ok(Waves::new(width, line.horizon, values, keys, trips))
+}

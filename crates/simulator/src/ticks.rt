@@ -1,0 +1,74 @@
+// All ticks of a run.
+
+ghost use Rattle.std.specs.Prelude.{◌≡◌, ℕ, ◌<◌, ◌*◌, length, IfOk, IsTrue};
+ghost use Rattle.line_model.specs.Parameters.{param_count};
+ghost use Rattle.gate_net.specs.NetOf.{IsNetOf};
+ghost use Rattle.timing_box.specs.Timing.{ascend};
+ghost use Rattle.simulator.specs.LaneBox.{lane_box};
+ghost use Rattle.simulator.specs.GatePairs.{line_pairs};
+ghost use Rattle.simulator.specs.Ticks.{ValuesTold};
+ghost use Rattle.simulator.specs.Runs.{AreDelayed};
+
+use crate::fresh::{fresh_cells, fresh_lines};
+use crate::send::send_all;
+use crate::walk::walk;
+use crate::within::extend_within;
+use channel::Carried;
+use gate_net::Net;
+use line_model::{Line, Memory, Script, Terminal};
+use std::alloc::Global;
+use timers::Timed;
+use timing_box::Step;
+
+/// The values of all gates, tick after tick. All memory is taken before the first tick.
+pub fn run_ticks<V: Timed + Carried>(
+    alloc: Global,
+    net: &Net,
+    line: &Line,
+    script: &Script,
+    spans: &[V::Span],
+    steps: &[Step<V::Span>],
+) -> Result<Vec<V>, Memory>
+    requires of_line { IsNetOf line.now net.now }
+    requires spans { length spans.now ≡ param_count line.now }
+    requires ascending { IsTrue (ascend steps.now) }
+    requires delayed { AreDelayed V.LANES V.ends line.now spans.now steps.now }
+    ensures count { IfOk result (λ values.
+        length values.items ≡ line.now.horizon * length net.now.gates) }
+    ensures told { IfOk result (λ values. (lane : ℕ) → lane < V.LANES →
+        ValuesTold V.rails lane
+        (line_pairs line.now script.now (lane_box V.ends line.now spans.now steps.now lane)
+        net.now)
+        (length net.now.gates) values.items) }
+{
+    let width = net.len() as usize;
+    let ends: &[Terminal] = &line.terminals;
+    let terminals = ends.len() as u32;
+    let mut cells = fresh_cells::<V>(alloc, net, line, spans)?;
+    let mut sent = fresh_lines::<V>(alloc, terminals, line.horizon)?;
+    let mut column: Vec<V> = Vec::with_capacity(alloc, width)?;
+    let mut values: Vec<V> = Vec::with_capacity(alloc, line.horizon as usize * width)?;
+    for t in 0..line.horizon {
+        walk::<V>(
+            net,
+            &mut cells,
+            &mut column,
+            line,
+            script,
+            spans,
+            steps,
+            sent.as_slice(),
+            t,
+        );
+        send_all::<V>(
+            net,
+            column.as_slice(),
+            &mut sent,
+            terminals,
+            line.horizon,
+            t,
+        );
+        extend_within(&mut values, column.as_slice());
+    }
+    Ok(values)
+}
