@@ -1,0 +1,9 @@
+pub mod Changes
+pub mod Closing
+pub mod Fetching
+pub mod Leasts
+pub mod Lists
+pub mod Playing
+pub mod Puts
+pub mod Recording
+pub mod Writing

@@ -1,0 +1,14 @@
+pub mod Answer
+pub mod Clauses
+pub mod Ends
+pub mod Files
+pub mod Lines
+pub mod PlayText
+pub mod Played
+pub mod Reading
+pub mod Recorded
+pub mod Sinks
+pub mod Status
+pub mod Tables
+pub mod View
+pub mod Words

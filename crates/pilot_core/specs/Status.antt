@@ -1,0 +1,43 @@
+-- The exit status of each end of a call.
+use Rattle.std.specs.Prelude.{Result, Ok, Err, ⊤}
+use Rattle.pilot_core.specs.declared.stop.Status.{Status}
+use Rattle.pilot_core.specs.declared.stop.Status.TheVariants as status
+use Rattle.pilot_core.specs.declared.stop.Stop.{Stop}
+use Rattle.pilot_core.specs.declared.stop.Stop.TheVariants as stop
+
+abbrev pub stop_status : Stop → Status
+stop_status stop.Usage = status.Usage
+stop_status (stop.Refused file why) = status.BadInput
+stop_status (stop.Store file) = status.StoreFault
+stop_status stop.Sink = status.SinkFault
+stop_status stop.Memory = status.Memory
+
+abbrev pub status_of : Result Status Stop → Status
+status_of (Ok s) = s
+status_of (Err why) = stop_status why
+
+-- 0 to 3: the command's work is done
+abbrev pub IsDone : Status → Type 0
+IsDone status.Good = ⊤
+IsDone status.SomeNo = ⊤
+IsDone status.SomeUndecided = ⊤
+IsDone status.Rejected = ⊤
+IsDone status.Usage = ⊥
+IsDone status.BadInput = ⊥
+IsDone status.StoreFault = ⊥
+IsDone status.SinkFault = ⊥
+IsDone status.Memory = ⊥
+
+-- 0 to 5: the words and files alone decide
+abbrev pub IsAnswer : Status → Type 0
+IsAnswer status.StoreFault = ⊥
+IsAnswer status.SinkFault = ⊥
+IsAnswer status.Memory = ⊥
+IsAnswer s = ⊤
+
+-- 4 to 6: the call stopped before its work
+abbrev pub IsEarly : Status → Type 0
+IsEarly status.Usage = ⊤
+IsEarly status.BadInput = ⊤
+IsEarly status.StoreFault = ⊤
+IsEarly s = ⊥
