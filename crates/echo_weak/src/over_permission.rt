@@ -1,6 +1,6 @@
 // What a terminal sends and trips on, over a permission.
 
-ghost use Rattle.std.specs.Prelude.{◌≡◌, ◌<◌, ◌≤◌, ◌+◌, length, IfOk};
+ghost use Rattle.std.specs.Prelude.{◌<◌, ◌≤◌, ◌+◌, length, IfOk};
 ghost use Rattle.line_model.specs.Parameters.{terminal_count};
 ghost use Rattle.line_model.specs.Permissive.{
   echo as echo_tree,

@@ -36,7 +36,7 @@ use Rattle.line_model.specs.declared.line.Line.{Line}
 use Rattle.gate_net.specs.declared.gate.Gate.{Gate}
 use Rattle.gate_net.specs.Laws.{HasArguments, AreGates}
 use Rattle.gate_net.specs.Growing.{Grows, Adds}
-use Rattle.gate_net.specs.Named.{GateNames, NamedFrom, KeepsNames}
+use Rattle.gate_net.specs.Named.{GateNames, KeepsNames}
 use Rattle.gate_net.proofs.Standing.{grows_from}
 use Rattle.gate_net.proofs.Equal.{gate_eq, gate_eq-same, gate_eq-refl}
 

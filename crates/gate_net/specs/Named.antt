@@ -1,5 +1,5 @@
 -- What gates name of a line.
-use Rattle.std.specs.Prelude.{◌≡◌, ◌<◌, ◌≤◌, ℕ, List, Some, length, slice_get}
+use Rattle.std.specs.Prelude.{◌≡◌, ◌<◌, ◌≤◌, ℕ, List, Some, slice_get}
 use Rattle.line_model.specs.declared.line.Line.{Line}
 use Rattle.line_model.specs.Parameters.{terminal_count, channel_count}
 use Rattle.line_model.specs.Names.{HasTime}

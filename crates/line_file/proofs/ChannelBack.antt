@@ -1,5 +1,37 @@
 -- A printed channel is read back.
-use Rattle.std.proofs.Common.{◌≡◌, ◌≢◌, ◌+◌, ◌*◌, ◌<◌, ◌≤◌, ◌||◌, ◌==◌, ◌++◌, ℕ, zero, suc, Bool, true, false, List, [], ◌∷◌, length, take, drop, get_or, Some, Ok, cond, refl, sym, ap, ◌∙◌, arith, codes}
+use Rattle.std.proofs.Common.{
+  ◌≡◌,
+  ◌≢◌,
+  ◌+◌,
+  ◌*◌,
+  ◌<◌,
+  ◌≤◌,
+  ◌||◌,
+  ◌==◌,
+  ◌++◌,
+  ℕ,
+  zero,
+  suc,
+  Bool,
+  true,
+  false,
+  List,
+  [],
+  ◌∷◌,
+  length,
+  take,
+  drop,
+  get_or,
+  Some,
+  Ok,
+  cond,
+  refl,
+  sym,
+  ap,
+  ◌∙◌,
+  arith,
+  codes,
+}
 use Rattle.std.specs.Str.{bytes_eq}
 use Rattle.std.specs.List.{list_any, position_from}
 use Rattle.std.proofs.Math.ListN.{get_or-map}
@@ -63,7 +95,13 @@ use Rattle.line_file.specs.Canonical.{
 use Rattle.line_file.proofs.Binds.{ok_of}
 use Rattle.line_file.proofs.TimeLaws.{IsTime}
 use Rattle.line_file.proofs.TimesBack.{time_back, unblock_back}
-use Rattle.line_file.proofs.ParamPlaces.{intervals, length-intervals, take_next, times_at_place, interval_at}
+use Rattle.line_file.proofs.ParamPlaces.{
+  intervals,
+  length-intervals,
+  take_next,
+  times_at_place,
+  interval_at,
+}
 use Rattle.line_file.proofs.TerminalCounts.{name_at-is}
 use Rattle.line_file.proofs.TerminalBack.{read_terminals, new_name}
 

@@ -1,5 +1,34 @@
 -- Channels, each between its own two terminals.
-use Rattle.std.proofs.Common.{◌≡◌, ◌≢◌, ◌+◌, ◌*◌, ◌<◌, ◌≤◌, ℕ, zero, suc, Bool, true, false, List, [], ◌∷◌, ◌++◌, map, length, get_or, Some, cond, refl, sym, ap, ◌∙◌, arith, inl, inr}
+use Rattle.std.proofs.Common.{
+  ◌≡◌,
+  ◌≢◌,
+  ◌+◌,
+  ◌*◌,
+  ◌<◌,
+  ◌≤◌,
+  ℕ,
+  zero,
+  suc,
+  Bool,
+  true,
+  false,
+  List,
+  [],
+  ◌∷◌,
+  ◌++◌,
+  map,
+  length,
+  get_or,
+  Some,
+  cond,
+  refl,
+  sym,
+  ap,
+  ◌∙◌,
+  arith,
+  inl,
+  inr,
+}
 use Rattle.std.proofs.Math.ListN.{get_or-append}
 use Rattle.std.proofs.Math.Dec.{eqb}
 use Rattle.std.proofs.lemmas.Bool.{ne_eqb}

@@ -1,5 +1,32 @@
 -- Channels, one after another.
-use Rattle.std.proofs.Common.{◌≡◌, ◌≢◌, ◌+◌, ◌<◌, ◌==◌, ℕ, false, List, [], ◌∷◌, ◌++◌, Option, Some, None, Ok, drop, length, get_or, refl, codes, sym, ap, subst, ◌∙◌, arith, ◌≤◌}
+use Rattle.std.proofs.Common.{
+  ◌≡◌,
+  ◌≢◌,
+  ◌+◌,
+  ◌<◌,
+  ◌==◌,
+  ℕ,
+  false,
+  List,
+  [],
+  ◌∷◌,
+  ◌++◌,
+  Option,
+  Some,
+  None,
+  Ok,
+  drop,
+  length,
+  get_or,
+  refl,
+  codes,
+  sym,
+  ap,
+  subst,
+  ◌∙◌,
+  arith,
+  ◌≤◌,
+}
 use Rattle.std.proofs.lemmas.Bool.{eqb-false}
 use Rattle.std.specs.Str.{bytes_eq}
 use Rattle.std.specs.List.{list_any}
@@ -21,7 +48,19 @@ use Rattle.line_file.specs.Reading.{◌>>=◌}
 use Rattle.line_file.specs.Keys.{all_known, table_in, text_at}
 use Rattle.line_file.specs.Times.{time_at}
 use Rattle.line_file.specs.Lines.{LineValues}
-use Rattle.line_file.specs.ChannelTables.{unblock_keys, channel_keys, terminal_called, sender, receiver, from_at, to_at, ends_at, receiver_times, channel_at, channels_at}
+use Rattle.line_file.specs.ChannelTables.{
+  unblock_keys,
+  channel_keys,
+  terminal_called,
+  sender,
+  receiver,
+  from_at,
+  to_at,
+  ends_at,
+  receiver_times,
+  channel_at,
+  channels_at,
+}
 use Rattle.line_file.proofs.Binds.{bind_ok, guard_ok, same_ok}
 use Rattle.line_file.proofs.TimeLaws.{
   IsTime,

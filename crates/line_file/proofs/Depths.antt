@@ -1,8 +1,33 @@
 -- How deep the canonical table nests.
-use Rattle.std.proofs.Common.{◌+◌, ◌≤◌, ℕ, Bool, true, false, List, [], ◌∷◌, map, Less, Equal, Greater, arith, codes}
+use Rattle.std.proofs.Common.{
+  ◌+◌,
+  ◌≤◌,
+  ℕ,
+  Bool,
+  true,
+  false,
+  List,
+  [],
+  ◌∷◌,
+  map,
+  Less,
+  Equal,
+  Greater,
+  arith,
+  codes,
+}
 use Rattle.std.specs.Ordering.{nat_cmp, match_ordering}
 use Rattle.std.specs.Cmp.Lexicographic.{slice_cmp}
-use Rattle.toml.specs.Data.{Data, string, Members, no_members, member, depth, items_depth, members_depth}
+use Rattle.toml.specs.Data.{
+  Data,
+  string,
+  Members,
+  no_members,
+  member,
+  depth,
+  items_depth,
+  members_depth,
+}
 use Rattle.toml.specs.View.{items_of}
 use Rattle.line_model.specs.declared.line.Line.{Line}
 use Rattle.line_model.specs.declared.line.Scheme.{Scheme}
@@ -14,7 +39,27 @@ use Rattle.line_model.specs.declared.line.Owner.TheVariants as owner
 use Rattle.line_model.specs.declared.line.Setting.{Setting}
 use Rattle.line_model.specs.declared.line.Setting.TheVariants.{Delay}
 use Rattle.line_model.specs.ParamNames.{name_at}
-use Rattle.line_file.specs.Canonical.{put_member, put_all, table_of, time_data, setting_interval, setting_pair, times_data, element_pairs, guard_pairs, weak_pairs, scheme_pairs, terminal_members, terminals_data, receiver_pairs, channel_members, channels_data, head_pairs, table_pairs, canonical_in}
+use Rattle.line_file.specs.Canonical.{
+  put_member,
+  put_all,
+  table_of,
+  time_data,
+  setting_interval,
+  setting_pair,
+  times_data,
+  element_pairs,
+  guard_pairs,
+  weak_pairs,
+  scheme_pairs,
+  terminal_members,
+  terminals_data,
+  receiver_pairs,
+  channel_members,
+  channels_data,
+  head_pairs,
+  table_pairs,
+  canonical_in,
+}
 
 -- each value nests at most so deep
 abbrev pub AreShallow : ℕ → List (List ℕ × Data) → Type 0

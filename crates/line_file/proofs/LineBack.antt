@@ -1,5 +1,24 @@
 -- The canonical table of a line is read as the line.
-use Rattle.std.proofs.Common.{◌≡◌, ◌<◌, ◌≤◌, ◌&&◌, ℕ, true, List, [], ◌∷◌, length, Some, Ok, refl, ap, ◌∙◌, arith, codes, nat_le}
+use Rattle.std.proofs.Common.{
+  ◌≡◌,
+  ◌<◌,
+  ◌≤◌,
+  ◌&&◌,
+  ℕ,
+  true,
+  List,
+  [],
+  ◌∷◌,
+  length,
+  Some,
+  Ok,
+  refl,
+  ap,
+  ◌∙◌,
+  arith,
+  codes,
+  nat_le,
+}
 use Rattle.std.proofs.lemmas.Bool.{le-leb}
 use Rattle.toml.specs.View.{items_of}
 use Rattle.line_model.specs.declared.line.Line.{Line}

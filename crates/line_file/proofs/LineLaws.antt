@@ -1,5 +1,34 @@
 -- A line can be made of the values that are read.
-use Rattle.std.proofs.Common.{◌≡◌, ◌≢◌, ◌+◌, ◌*◌, ◌<◌, ◌≤◌, ◌||◌, ◌++◌, ℕ, zero, suc, Bool, true, false, List, [], ◌∷◌, length, get_or, Ok, refl, sym, ap, subst, ◌∙◌, arith, codes, length-append}
+use Rattle.std.proofs.Common.{
+  ◌≡◌,
+  ◌≢◌,
+  ◌+◌,
+  ◌*◌,
+  ◌<◌,
+  ◌≤◌,
+  ◌||◌,
+  ◌++◌,
+  ℕ,
+  zero,
+  suc,
+  Bool,
+  true,
+  false,
+  List,
+  [],
+  ◌∷◌,
+  length,
+  get_or,
+  Ok,
+  refl,
+  sym,
+  ap,
+  subst,
+  ◌∙◌,
+  arith,
+  codes,
+  length-append,
+}
 use Rattle.std.specs.Prelude.{IsTrue}
 use Rattle.std.specs.Str.{bytes_eq}
 use Rattle.std.specs.List.{list_all, list_any}
@@ -27,7 +56,13 @@ use Rattle.line_model.specs.Terminals.{
   flags_fit,
 }
 use Rattle.line_model.specs.Channels.{AreChannelsBelow}
-use Rattle.line_model.specs.Settings.{OwnedSetting, owned_by, terminal_settings, channel_settings, settings_of_terminals}
+use Rattle.line_model.specs.Settings.{
+  OwnedSetting,
+  owned_by,
+  terminal_settings,
+  channel_settings,
+  settings_of_terminals,
+}
 use Rattle.line_model.specs.declared.line.Owner.TheVariants as owner
 use Rattle.line_model.specs.Intervals.{leasts, greatests, AreIntervals, delay_number_of}
 use Rattle.line_model.specs.Making.{least_ends, greatest_ends, MakesLine, IsMadeOf}

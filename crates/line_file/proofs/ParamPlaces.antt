@@ -1,5 +1,28 @@
 -- The intervals of a line's parameters, by their places.
-use Rattle.std.proofs.Common.{◌≡◌, ◌+◌, ◌<◌, ◌≤◌, ◌++◌, ℕ, zero, suc, List, [], ◌∷◌, length, take, get_or, Option, Some, refl, sym, ap, ◌∙◌, arith, length-append}
+use Rattle.std.proofs.Common.{
+  ◌≡◌,
+  ◌+◌,
+  ◌<◌,
+  ◌≤◌,
+  ◌++◌,
+  ℕ,
+  zero,
+  suc,
+  List,
+  [],
+  ◌∷◌,
+  length,
+  take,
+  get_or,
+  Option,
+  Some,
+  refl,
+  sym,
+  ap,
+  ◌∙◌,
+  arith,
+  length-append,
+}
 use Rattle.std.specs.Prelude.{option_map, unwrap_or}
 use Rattle.std.proofs.lemmas.List.{take_more, length-map}
 use Rattle.line_model.specs.declared.bounds.Bounds.{Bounds}

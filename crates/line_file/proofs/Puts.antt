@@ -1,5 +1,27 @@
 -- A table's map beside its members, when a value is put under a key.
-use Rattle.std.proofs.Common.{◌≡◌, ◌+◌, ◌<◌, ℕ, List, [], ◌∷◌, length, drop, get_or, map, String, Global, Ordering, Less, Equal, Greater, string_bytes, refl, ◌∙◌, Bor}
+use Rattle.std.proofs.Common.{
+  ◌≡◌,
+  ◌+◌,
+  ◌<◌,
+  ℕ,
+  List,
+  [],
+  ◌∷◌,
+  length,
+  drop,
+  get_or,
+  map,
+  String,
+  Global,
+  Ordering,
+  Less,
+  Equal,
+  Greater,
+  string_bytes,
+  refl,
+  ◌∙◌,
+  Bor,
+}
 use Rattle.std.specs.String.{string_cmp}
 use Rattle.std.specs.Ordering.{match_ordering}
 use Rattle.std.specs.BTreeMap.{insert_entry}

@@ -1,5 +1,37 @@
 -- A printed terminal is read back.
-use Rattle.std.proofs.Common.{◌≡◌, ◌≢◌, ◌+◌, ◌<◌, ◌≤◌, ◌&&◌, ◌||◌, ◌++◌, ℕ, zero, suc, Bool, true, false, not, List, [], ◌∷◌, length, take, drop, get_or, Option, Some, Ok, refl, sym, ap, ◌∙◌, arith, codes}
+use Rattle.std.proofs.Common.{
+  ◌≡◌,
+  ◌≢◌,
+  ◌+◌,
+  ◌<◌,
+  ◌≤◌,
+  ◌&&◌,
+  ◌||◌,
+  ◌++◌,
+  ℕ,
+  zero,
+  suc,
+  Bool,
+  true,
+  false,
+  not,
+  List,
+  [],
+  ◌∷◌,
+  length,
+  take,
+  drop,
+  get_or,
+  Option,
+  Some,
+  Ok,
+  refl,
+  sym,
+  ap,
+  ◌∙◌,
+  arith,
+  codes,
+}
 use Rattle.std.specs.Prelude.{is_some}
 use Rattle.std.specs.Str.{bytes_eq}
 use Rattle.std.specs.List.{list_all, list_any}
@@ -37,7 +69,14 @@ use Rattle.line_model.specs.declared.line.Setting.TheVariants.{
 }
 use Rattle.line_model.specs.PlainNames.{is_plain_name}
 use Rattle.line_model.specs.Places.{terminal_place}
-use Rattle.line_model.specs.Settings.{guard_settings, weak_settings, scheme_settings, terminal_settings, channel_settings, settings_of_terminals}
+use Rattle.line_model.specs.Settings.{
+  guard_settings,
+  weak_settings,
+  scheme_settings,
+  terminal_settings,
+  channel_settings,
+  settings_of_terminals,
+}
 use Rattle.line_model.specs.Terminals.{names_of, has_flags, has_no_flag}
 use Rattle.line_model.proofs.Counts.{one_terminal_more, setting_count}
 use Rattle.line_model.proofs.Numbers.{length-line_settings}
@@ -46,7 +85,18 @@ use Rattle.line_file.specs.Paths.{joined, item_path}
 use Rattle.line_file.specs.Keys.{text_at}
 use Rattle.line_file.specs.Times.{times_in, optional_times, required_times}
 use Rattle.line_file.specs.Lines.{LineValues}
-use Rattle.line_file.specs.TerminalTables.{timer_keys, echo_keys, name_at, element_times, elements_times, permissive_times, scheme_times, terminal_named, terminal_at, terminals_at}
+use Rattle.line_file.specs.TerminalTables.{
+  timer_keys,
+  echo_keys,
+  name_at,
+  element_times,
+  elements_times,
+  permissive_times,
+  scheme_times,
+  terminal_named,
+  terminal_at,
+  terminals_at,
+}
 use Rattle.line_file.specs.Canonical.{
   times_data,
   timer_settings,

@@ -1,5 +1,22 @@
 -- What the printed table of a terminal holds under each key.
-use Rattle.std.proofs.Common.{◌≡◌, ◌||◌, ℕ, Bool, true, false, not, List, [], ◌∷◌, Option, Some, None, Ok, refl, codes}
+use Rattle.std.proofs.Common.{
+  ◌≡◌,
+  ◌||◌,
+  ℕ,
+  Bool,
+  true,
+  false,
+  not,
+  List,
+  [],
+  ◌∷◌,
+  Option,
+  Some,
+  None,
+  Ok,
+  refl,
+  codes,
+}
 use Rattle.toml.specs.Data.{Data, string, Members, get_member}
 use Rattle.line_model.specs.declared.line.Line.{Line}
 use Rattle.line_model.specs.declared.line.Scheme.{Scheme}

@@ -1,5 +1,29 @@
 -- What the terminals that are read keep.
-use Rattle.std.proofs.Common.{◌≡◌, ◌+◌, ◌<◌, ◌||◌, ◌++◌, ℕ, Bool, true, false, not, List, [], ◌∷◌, length, Option, Some, None, Ok, refl, subst, arith, codes, length-append}
+use Rattle.std.proofs.Common.{
+  ◌≡◌,
+  ◌+◌,
+  ◌<◌,
+  ◌||◌,
+  ◌++◌,
+  ℕ,
+  Bool,
+  true,
+  false,
+  not,
+  List,
+  [],
+  ◌∷◌,
+  length,
+  Option,
+  Some,
+  None,
+  Ok,
+  refl,
+  subst,
+  arith,
+  codes,
+  length-append,
+}
 use Rattle.std.specs.Prelude.{IsTrue, is_some}
 use Rattle.std.specs.Str.{bytes_eq}
 use Rattle.std.specs.List.{list_any}
@@ -18,9 +42,32 @@ use Rattle.line_model.specs.Settings.{
 }
 use Rattle.line_file.specs.Keys.{all_known, table_in, text_at}
 use Rattle.line_file.specs.Lines.{LineValues}
-use Rattle.line_file.specs.TerminalTables.{timer_keys, echo_keys, block_keys, transfer_keys, terminal_keys, name_at, no_times, element_times, elements_times, permissive_times, scheme_times, terminal_named, terminal_at}
+use Rattle.line_file.specs.TerminalTables.{
+  timer_keys,
+  echo_keys,
+  block_keys,
+  transfer_keys,
+  terminal_keys,
+  name_at,
+  no_times,
+  element_times,
+  elements_times,
+  permissive_times,
+  scheme_times,
+  terminal_named,
+  terminal_at,
+}
 use Rattle.line_file.proofs.Binds.{bind_ok, guard_ok, same_ok}
-use Rattle.line_file.proofs.TimeLaws.{IsTime, AreTimes, Grew, grew_none, grew_more, grew_as, required_ok, optional_ok}
+use Rattle.line_file.proofs.TimeLaws.{
+  IsTime,
+  AreTimes,
+  Grew,
+  grew_none,
+  grew_more,
+  grew_as,
+  required_ok,
+  optional_ok,
+}
 
 no_times_are : AreTimes no_times
 no_times_are =

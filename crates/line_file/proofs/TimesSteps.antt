@@ -1,5 +1,22 @@
 -- Times, one after another.
-use Rattle.std.proofs.Common.{◌≡◌, ◌≢◌, ◌+◌, ◌++◌, ◌<◌, ℕ, List, [], ◌∷◌, map, drop, length, get_or, Err, Bor, refl}
+use Rattle.std.proofs.Common.{
+  ◌≡◌,
+  ◌≢◌,
+  ◌+◌,
+  ◌++◌,
+  ◌<◌,
+  ℕ,
+  List,
+  [],
+  ◌∷◌,
+  map,
+  drop,
+  length,
+  get_or,
+  Err,
+  Bor,
+  refl,
+}
 use Rattle.std.proofs.lemmas.List.{drop_more}
 use Rattle.toml.specs.Data.{Members}
 use Rattle.toml.specs.View.{items_view}

@@ -1,5 +1,33 @@
 -- Channels that join each pair of terminals are as many as the pairs.
-use Rattle.std.proofs.Common.{◌≡◌, ◌≢◌, ◌+◌, ◌*◌, ◌<◌, ◌≤◌, ◌==◌, ℕ, zero, suc, true, false, List, [], ◌∷◌, map, length, get_or, Ok, cond, refl, sym, ap, ◌∙◌, arith, inl, inr}
+use Rattle.std.proofs.Common.{
+  ◌≡◌,
+  ◌≢◌,
+  ◌+◌,
+  ◌*◌,
+  ◌<◌,
+  ◌≤◌,
+  ◌==◌,
+  ℕ,
+  zero,
+  suc,
+  true,
+  false,
+  List,
+  [],
+  ◌∷◌,
+  map,
+  length,
+  get_or,
+  Ok,
+  cond,
+  refl,
+  sym,
+  ap,
+  ◌∙◌,
+  arith,
+  inl,
+  inr,
+}
 use Rattle.std.proofs.Math.Dec.{eqb}
 use Rattle.std.proofs.lemmas.Bool.Decides.{eqb_tells}
 use Rattle.std.proofs.lemmas.List.{length-map}
@@ -9,7 +37,15 @@ use Rattle.std.specs.Set.{is_member}
 use Rattle.std.specs.List.{list_any, IsDistinct}
 use Rattle.line_model.specs.declared.line.Terminal.{Terminal}
 use Rattle.line_model.specs.declared.line.Channel.{Channel}
-use Rattle.line_model.specs.Channels.{is_pair, from_of, to_of, IsChannel, AreChannels, AreChannelsBelow, AreFoundBelow}
+use Rattle.line_model.specs.Channels.{
+  is_pair,
+  from_of,
+  to_of,
+  IsChannel,
+  AreChannels,
+  AreChannelsBelow,
+  AreFoundBelow,
+}
 use Rattle.line_model.proofs.FirstPositions.{is_some-position}
 use Rattle.line_model.proofs.ChannelPairs.{channels_are}
 use Rattle.line_file.specs.LineFiles.{two_pairs, three_pairs, pair_joined, all_joined, whole}

@@ -1,8 +1,35 @@
 -- The table that is printed for a line.
-use Rattle.std.specs.Prelude.{◌*◌, ◌+◌, ℕ, Bool, true, false, pos, List, [], ◌∷◌, map, get_or, codes, unwrap_or}
+use Rattle.std.specs.Prelude.{
+  ◌*◌,
+  ◌+◌,
+  ℕ,
+  Bool,
+  true,
+  false,
+  pos,
+  List,
+  [],
+  ◌∷◌,
+  map,
+  get_or,
+  codes,
+  unwrap_or,
+}
 use Rattle.std.specs.Ordering.{nat_cmp, match_ordering}
 use Rattle.std.specs.Cmp.Lexicographic.{slice_cmp}
-use Rattle.toml.specs.Data.{Data, string, integer, boolean, array, table, Members, no_members, member, no_items, item}
+use Rattle.toml.specs.Data.{
+  Data,
+  string,
+  integer,
+  boolean,
+  array,
+  table,
+  Members,
+  no_members,
+  member,
+  no_items,
+  item,
+}
 use Rattle.toml.specs.View.{items_of}
 use Rattle.line_model.specs.declared.line.Line.{Line}
 use Rattle.line_model.specs.declared.line.Scheme.{Scheme}

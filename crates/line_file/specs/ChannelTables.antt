@@ -1,5 +1,21 @@
 -- What the table of a channel says.
-use Rattle.std.specs.Prelude.{◌++◌, ◌+◌, ◌==◌, ℕ, List, [], ◌∷◌, Option, None, Some, Result, Ok, Err, codes, if◌then◌else◌}
+use Rattle.std.specs.Prelude.{
+  ◌++◌,
+  ◌+◌,
+  ◌==◌,
+  ℕ,
+  List,
+  [],
+  ◌∷◌,
+  Option,
+  None,
+  Some,
+  Result,
+  Ok,
+  Err,
+  codes,
+  if◌then◌else◌,
+}
 use Rattle.std.specs.Str.{bytes_eq}
 use Rattle.std.specs.List.{list_any, position_from}
 use Rattle.toml.specs.Data.{Data, Members, Items, no_items, item}

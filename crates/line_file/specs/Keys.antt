@@ -1,8 +1,37 @@
 -- The keys of a table and the values under them.
-use Rattle.std.specs.Prelude.{◌&&◌, ℕ, length, List, Bool, false, Option, None, Some, Result, Ok, Err, pos, negsuc, if◌then◌else◌, nat_le}
+use Rattle.std.specs.Prelude.{
+  ◌&&◌,
+  ℕ,
+  length,
+  List,
+  Bool,
+  false,
+  Option,
+  None,
+  Some,
+  Result,
+  Ok,
+  Err,
+  pos,
+  negsuc,
+  if◌then◌else◌,
+  nat_le,
+}
 use Rattle.std.specs.Str.{bytes_eq, is_utf8}
 use Rattle.std.specs.List.{list_any}
-use Rattle.toml.specs.Data.{Data, string, integer, boolean, array, table, Members, no_members, member, Items, get_member}
+use Rattle.toml.specs.Data.{
+  Data,
+  string,
+  integer,
+  boolean,
+  array,
+  table,
+  Members,
+  no_members,
+  member,
+  Items,
+  get_member,
+}
 use Rattle.toml.specs.Parse.{parse_document}
 use Rattle.line_file.specs.declared.fault.LineFault.{LineFault}
 use Rattle.line_file.specs.declared.fault.LineFault.TheVariants as fault

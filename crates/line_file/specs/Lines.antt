@@ -1,5 +1,19 @@
 -- The values of a line, as its file gives them.
-use Rattle.std.specs.Prelude.{ℕ, Bool, List, [], Result, Ok, Err, codes, map, Option, None, Some, if◌then◌else◌}
+use Rattle.std.specs.Prelude.{
+  ℕ,
+  Bool,
+  List,
+  [],
+  Result,
+  Ok,
+  Err,
+  codes,
+  map,
+  Option,
+  None,
+  Some,
+  if◌then◌else◌,
+}
 use Rattle.std.specs.Str.{bytes_eq}
 use Rattle.toml.specs.Data.{Members, Items, no_items, item, get_member}
 use Rattle.line_model.specs.declared.bounds.Bounds.{Bounds}

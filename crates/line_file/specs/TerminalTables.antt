@@ -1,5 +1,20 @@
 -- What the table of a terminal says.
-use Rattle.std.specs.Prelude.{◌++◌, ◌&&◌, ◌+◌, ℕ, not, List, [], ◌∷◌, Result, Ok, Err, codes, is_some, if◌then◌else◌}
+use Rattle.std.specs.Prelude.{
+  ◌++◌,
+  ◌&&◌,
+  ◌+◌,
+  ℕ,
+  not,
+  List,
+  [],
+  ◌∷◌,
+  Result,
+  Ok,
+  Err,
+  codes,
+  is_some,
+  if◌then◌else◌,
+}
 use Rattle.std.specs.Str.{bytes_eq}
 use Rattle.std.specs.List.{list_any}
 use Rattle.toml.specs.Data.{Data, Members, Items, no_items, item, get_member}

@@ -1,6 +1,39 @@
 -- Times, as a line file writes them, and the tables that have only times.
-use Rattle.std.specs.Prelude.{◌+◌, ◌-◌, ◌*◌, ◌/◌, ◌&&◌, ◌==◌, ◌++◌, ℕ, ℤ, pos, negsuc, List, [], ◌∷◌, Option, None, Some, Result, Ok, Err, if◌then◌else◌, nat_le}
-use Rattle.toml.specs.Data.{Data, integer, array, Members, Items, no_items, item, as_integer, get_member}
+use Rattle.std.specs.Prelude.{
+  ◌+◌,
+  ◌-◌,
+  ◌*◌,
+  ◌/◌,
+  ◌&&◌,
+  ◌==◌,
+  ◌++◌,
+  ℕ,
+  ℤ,
+  pos,
+  negsuc,
+  List,
+  [],
+  ◌∷◌,
+  Option,
+  None,
+  Some,
+  Result,
+  Ok,
+  Err,
+  if◌then◌else◌,
+  nat_le,
+}
+use Rattle.toml.specs.Data.{
+  Data,
+  integer,
+  array,
+  Members,
+  Items,
+  no_items,
+  item,
+  as_integer,
+  get_member,
+}
 use Rattle.line_model.specs.declared.bounds.Bounds.{Bounds}
 use Rattle.line_file.specs.declared.fault.LineFault.{LineFault}
 use Rattle.line_file.specs.declared.fault.LineFault.TheVariants as fault

@@ -1,21 +1,8 @@
 //! The canonical table of a line.
 
-ghost use Rattle.std.specs.Prelude.{
-  ◌≡◌,
-  ◌<◌,
-  ◌≤◌,
-  ◌∷◌,
-  [],
-  true,
-  pos,
-  IfOk,
-  OnOk,
-  map,
-  get_or,
-  length,
-};
-ghost use Rattle.toml.specs.Data.{table, string, integer, array, boolean};
-ghost use Rattle.toml.specs.View.{view, table_view, items_of};
+ghost use Rattle.std.specs.Prelude.{◌≡◌, ◌<◌, ◌≤◌, true, pos, IfOk, OnOk, map, length};
+ghost use Rattle.toml.specs.Data.{table, string, integer};
+ghost use Rattle.toml.specs.View.{view, table_view};
 ghost use Rattle.line_model.specs.PlainNames.{is_plain_name};
 ghost use Rattle.line_model.specs.Parameters.{IsOwner};
 ghost use Rattle.line_model.specs.ParamNames.{name_at};
@@ -23,9 +10,6 @@ ghost use Rattle.line_model.specs.declared.line.Owner.TheVariants as owner;
 ghost use Rattle.line_file.specs.Canonical.{
   put_member,
   put_all,
-  table_of,
-  time_data,
-  setting_interval,
   terminal_members,
   terminals_data,
   receiver_pairs,

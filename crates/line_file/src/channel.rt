@@ -1,7 +1,6 @@
 //! The table of a channel.
 
-ghost use Rattle.std.specs.Prelude.{◌≡◌, ◌<◌, ◌≤◌, [], Ok, IfSome, OnOk, map, length};
-ghost use Rattle.std.specs.Str.{bytes_eq};
+ghost use Rattle.std.specs.Prelude.{◌≡◌, ◌<◌, ◌≤◌, [], IfSome, OnOk, map, length};
 ghost use Rattle.std.specs.List.{list_any};
 ghost use Rattle.toml.specs.View.{view, table_view, items_view};
 ghost use Rattle.line_model.specs.Channels.{is_pair};
@@ -10,11 +9,8 @@ ghost use Rattle.line_file.specs.Lines.{values_of};
 ghost use Rattle.line_file.specs.ChannelTables.{
   channel_keys,
   terminal_called,
-  sender,
-  receiver,
   from_at,
   to_at,
-  new_pair,
   ends_at,
   receiver_times,
   channel_at,

@@ -1,8 +1,8 @@
 //! The values that stand at the top of a line file.
 
-ghost use Rattle.std.specs.Prelude.{◌≡◌, ◌≤◌, [], Ok, IfOk, length};
+ghost use Rattle.std.specs.Prelude.{◌≡◌, ◌≤◌, [], IfOk, length};
 ghost use Rattle.toml.specs.View.{table_view, items_view};
-ghost use Rattle.line_file.specs.Reading.{Gives, seen};
+ghost use Rattle.line_file.specs.Reading.{seen};
 ghost use Rattle.line_file.specs.Lines.{
   values_of,
   scheme_named,

@@ -1,24 +1,21 @@
 //! The keys of a table and the values under them.
 
-ghost use Rattle.std.specs.Prelude.{◌≡◌, ◌≤◌, ◌+◌, Ok, IfOk, map, option_map, length};
+ghost use Rattle.std.specs.Prelude.{◌≡◌, ◌≤◌, ◌+◌, IfOk, map, option_map, length};
 ghost use Rattle.std.specs.Str.{bytes_eq};
 ghost use Rattle.std.specs.List.{list_any};
 ghost use Rattle.toml.specs.Data.{get_member};
 ghost use Rattle.toml.specs.View.{view, table_view, items_view};
-ghost use Rattle.line_file.specs.Paths.{joined};
 ghost use Rattle.line_file.specs.Reading.{Gives, seen};
 ghost use Rattle.line_file.specs.Keys.{
   document_of,
   opened,
   first_unknown,
   all_known,
-  required,
   value_at,
   number_in,
   number_at,
   text_in,
   text_at,
-  flag_in,
   flag_or_false,
   array_in,
   array_at,

@@ -1,18 +1,6 @@
 //! Where in a line file something stands.
 
-ghost use Rattle.std.specs.Prelude.{
-  ◌≡◌,
-  ◌+◌,
-  ◌<◌,
-  ◌≤◌,
-  ◌++◌,
-  ◌∷◌,
-  [],
-  ℕ,
-  length,
-  map,
-  take,
-};
+ghost use Rattle.std.specs.Prelude.{◌≡◌, ◌+◌, ◌<◌, ◌≤◌, ◌++◌, ◌∷◌, [], ℕ, length, take};
 ghost use Rattle.line_file.specs.Paths.{joined, item_path, shown_byte, shown_key};
 
 use std::fmt;

@@ -15,8 +15,10 @@ use toml::ser::Error;
 // The text of the canonical table, which stands for that table.
 fn print(alloc: Global, version: u32, unit: u32, line: &Line) -> Result<Vec<u8>, Memory>
     requires { unit ≤ 1000000 }
-    ensures text { IfOk result (λ v. IsDocumentText false (canonical_in version unit line.now) v.items) }
-    ensures table { IfOk result (λ v. document_of v.items ≡ Some (canonical_in version unit line.now)) }
+    ensures text { IfOk result (λ v.
+        IsDocumentText false (canonical_in version unit line.now) v.items) }
+    ensures table { IfOk result (λ v.
+        document_of v.items ≡ Some (canonical_in version unit line.now)) }
 {
     let table = canonical::canonical(alloc, version, unit, line)?;
     match toml::table_to_string(alloc, &table) {

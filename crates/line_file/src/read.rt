@@ -1,6 +1,6 @@
 //! Reading a line file.
 
-ghost use Rattle.std.specs.Prelude.{◌≡◌, ◌<◌, ◌≤◌, Ok, IfOk, map, length};
+ghost use Rattle.std.specs.Prelude.{◌<◌, Ok, IfOk};
 ghost use Rattle.toml.specs.View.{table_view};
 ghost use Rattle.line_model.specs.Making.{MakesLine};
 ghost use Rattle.line_file.specs.Reading.{Gives};

@@ -1,45 +1,22 @@
 //! The tables that are printed for a line.
 
-ghost use Rattle.std.specs.Prelude.{
-  ◌≡◌,
-  ◌<◌,
-  ◌≤◌,
-  ◌*◌,
-  ◌∷◌,
-  [],
-  pos,
-  IfOk,
-  OnOk,
-  map,
-  get_or,
-  length,
-};
-ghost use Rattle.toml.specs.Data.{table, string, integer};
+ghost use Rattle.std.specs.Prelude.{◌≡◌, ◌<◌, ◌≤◌, ◌*◌, pos, IfOk, OnOk, map};
+ghost use Rattle.toml.specs.Data.{table, integer};
 ghost use Rattle.toml.specs.View.{view, table_view};
 ghost use Rattle.line_model.specs.Parameters.{IsOwner};
-ghost use Rattle.line_model.specs.ParamNames.{name_at};
 ghost use Rattle.line_model.specs.declared.line.Owner.TheVariants as owner;
 ghost use Rattle.line_file.specs.Canonical.{
   put_member,
   put_all,
-  table_of,
   time_data,
   interval_of,
   setting_interval,
-  setting_pair,
   times_data,
   timer_settings,
   element_pairs,
   guard_pairs,
   weak_pairs,
   scheme_pairs,
-  terminal_members,
-  terminals_data,
-  receiver_pairs,
-  channel_members,
-  channels_data,
-  scheme_text,
-  canonical_in,
 };
 
 use line_model::{Bounds, Channel, Line, Memory, Owner, Scheme, Setting, Terminal};

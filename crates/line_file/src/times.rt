@@ -1,15 +1,6 @@
 //! Times, as a line file writes them, and the tables that have only times.
 
-ghost use Rattle.std.specs.Prelude.{
-  ◌≡◌,
-  ◌<◌,
-  ◌≤◌,
-  ◌+◌,
-  map,
-  option_map,
-  length,
-  IsTrue,
-};
+ghost use Rattle.std.specs.Prelude.{◌≡◌, ◌<◌, ◌≤◌, ◌+◌, map, length, IsTrue};
 ghost use Rattle.std.specs.List.{list_all};
 ghost use Rattle.toml.specs.View.{view, table_view, items_view};
 ghost use Rattle.line_file.specs.Reading.{Becomes};

@@ -1,5 +1,23 @@
 -- The names of a line's parameters, by owner.
-use Rattle.std.proofs.Common.{◌≡◌, ℕ, zero, suc, ◌+◌, ◌<◌, ◌++◌, List, [], ◌∷◌, length, get_or, refl, sym, ap, ◌∙◌, arith}
+use Rattle.std.proofs.Common.{
+  ◌≡◌,
+  ℕ,
+  zero,
+  suc,
+  ◌+◌,
+  ◌<◌,
+  ◌++◌,
+  List,
+  [],
+  ◌∷◌,
+  length,
+  get_or,
+  refl,
+  sym,
+  ap,
+  ◌∙◌,
+  arith,
+}
 use Rattle.std.specs.Prelude.{map, slice_get, Some}
 use Rattle.std.proofs.lemmas.List.{map-append}
 use Rattle.line_model.specs.declared.line.Scheme.{Scheme}

@@ -2,12 +2,7 @@
 
 ghost use Rattle.std.specs.Prelude.{◌≡◌, ◌≤◌, ◌<◌, ◌↔◌, length, IsTrue, get_or};
 ghost use Rattle.line_model.specs.Settings.{line_settings};
-ghost use Rattle.line_model.specs.Intervals.{
-  IsInterval,
-  AreIntervals,
-  LeastDelaysFromOne,
-  delay_number_of,
-};
+ghost use Rattle.line_model.specs.Intervals.{IsInterval, AreIntervals, LeastDelaysFromOne};
 ghost use Rattle.line_model.specs.Making.{AreBounds, least_ends, greatest_ends};
 ghost use Rattle.line_model.specs.SetBounds.{IsDelayAt, WithBounds, SameButParams};
 
@@ -28,7 +23,8 @@ impl Line {
         requires ordered { least ≤ greatest }
         requires within { greatest ≤ 4000 }
         requires delay { IsDelayAt self.old param → 1 ≤ least }
-        ensures params { WithBounds self.old.params.items self.new.params.items param least greatest }
+        ensures params { WithBounds self.old.params.items self.new.params.items
+            param least greatest }
         ensures rest { SameButParams self.old self.new }
     {
         let old = self.params[param as usize];
@@ -87,7 +83,8 @@ fn delays_from_one(
     requires terminals { length terminals.now ≤ 3 }
     requires channels { length channels.now ≤ 6 }
     requires bounds { length bounds.now ≡ length (line_settings scheme terminals.now channels.now) }
-    ensures { IsTrue result ↔ LeastDelaysFromOne scheme terminals.now channels.now (least_ends bounds.now) }
+    ensures { IsTrue result
+        ↔ LeastDelaysFromOne scheme terminals.now channels.now (least_ends bounds.now) }
 {
     for c in 0..channels.len() {
         if !is_from_one(bounds, delay_index(scheme, terminals, channels, c)) {

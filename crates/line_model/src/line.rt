@@ -116,5 +116,6 @@ pub struct Line {
         ≡ map (param_name terminals.items channels.items)
         (line_settings scheme terminals.items channels.items) },
     pub ghost ends_in_range: { AreIntervals (leasts params.items) (greatests params.items) },
-    pub ghost delays_from_one: { LeastDelaysFromOne scheme terminals.items channels.items (leasts params.items) },
+    pub ghost delays_from_one: { LeastDelaysFromOne scheme terminals.items channels.items
+        (leasts params.items) },
 }

@@ -55,7 +55,8 @@ pub fn makes_line(
     channels: &[Channel],
     bounds: &[Bounds],
 ) -> bool
-    ensures { IsTrue result ↔ MakesLine tick_us horizon scheme terminals.now channels.now bounds.now }
+    ensures { IsTrue result
+        ↔ MakesLine tick_us horizon scheme terminals.now channels.now bounds.now }
 {
     if !is_up_to(tick_us, 1_000_000) || !is_up_to(horizon, 4000) {
         return false;

@@ -4,7 +4,6 @@ ghost use Rattle.std.specs.Prelude.{
   ◌≡◌,
   ◌≤◌,
   ◌<◌,
-  [],
   ◌++◌,
   ◌+◌,
   take,
@@ -57,7 +56,8 @@ fn push_terminals(
     terminals: &[Terminal],
 ) -> Result<(), Memory>
     requires { IsTrue (are_plain_names terminals.now) }
-    ensures { OnOk result (names.new.items ≡ names.old.items ++ terminal_names scheme terminals.now) }
+    ensures { OnOk result (names.new.items
+        ≡ names.old.items ++ terminal_names scheme terminals.now) }
 {
     for terminal in terminals {
         push_terminal(alloc, names, scheme, terminal)?;
@@ -73,7 +73,8 @@ fn push_terminal(
 ) -> Result<(), Memory>
     requires { length terminal.now.name ≤ 16 }
     ensures { OnOk result (names.new.items
-        ≡ names.old.items ++ map (dotted terminal.now.name) (terminal_settings scheme terminal.now)) }
+        ≡ names.old.items
+        ++ map (dotted terminal.now.name) (terminal_settings scheme terminal.now)) }
 {
     let settings = settings_of_terminal(alloc, scheme, terminal)?;
     push_names(names, terminal.name.bytes(), &settings)
@@ -102,7 +103,8 @@ fn push_channels(
 // A name for each setting of an owner.
 fn push_names(names: &mut Vec<Name>, owner: &[u8], settings: &[Setting]) -> Result<(), Memory>
     requires { length owner.now ≤ 33 }
-    ensures { OnOk result (names.new.items ≡ names.old.items ++ map (dotted owner.now) settings.now) }
+    ensures { OnOk result (names.new.items
+        ≡ names.old.items ++ map (dotted owner.now) settings.now) }
 {
     for setting in settings {
         names.push(name_of(owner, *setting))?;

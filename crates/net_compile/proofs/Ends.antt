@@ -5,7 +5,6 @@ use Rattle.std.proofs.Common.{
   ℕ,
   zero,
   suc,
-  ◌+◌,
   ◌*◌,
   ◌<◌,
   ◌≤◌,
@@ -17,7 +16,6 @@ use Rattle.std.proofs.Common.{
   get_or,
   refl,
   sym,
-  ap,
   ◌∙◌,
   subst,
   arith,
@@ -33,7 +31,7 @@ use Rattle.line_model.specs.Parameters.{terminal_count}
 use Rattle.line_model.specs.Logic.{key_tree, trip_tree}
 use Rattle.gate_net.specs.declared.gate.Gate.{Gate}
 use Rattle.gate_net.specs.declared.gate.GateId.{GateId}
-use Rattle.gate_net.specs.Formulas.{formula_of, Stands}
+use Rattle.gate_net.specs.Formulas.{Stands}
 use Rattle.gate_net.specs.Growing.{Grows}
 use Rattle.gate_net.specs.Named.{NamedFrom, KeepsNames}
 use Rattle.gate_net.specs.NetOf.{NetOf, AreGatesOf, IsNet, IsNetOf}

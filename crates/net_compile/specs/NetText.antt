@@ -1,7 +1,6 @@
 -- The text of a net.
 use Rattle.std.specs.Prelude.{
   ◌++◌,
-  ◌+◌,
   ℕ,
   zero,
   suc,

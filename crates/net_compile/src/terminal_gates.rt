@@ -1,8 +1,7 @@
 // The gates of one terminal.
 
-ghost use Rattle.std.specs.Prelude.{◌≡◌, ◌<◌, ◌≤◌, ◌+◌, length, IfOk};
+ghost use Rattle.std.specs.Prelude.{◌<◌, ◌≤◌, ◌+◌, length, IfOk};
 ghost use Rattle.line_model.specs.Parameters.{terminal_count};
-ghost use Rattle.line_model.specs.Elements.{zone1, current};
 ghost use Rattle.line_model.specs.Logic.{pilot_by, key_tree, set_tree, trip_tree};
 ghost use Rattle.gate_net.specs.Formulas.{Stands};
 ghost use Rattle.gate_net.specs.Growing.{Grows};

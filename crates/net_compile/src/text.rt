@@ -1,19 +1,6 @@
 // The text of a net.
 
-ghost use Rattle.std.specs.Prelude.{
-  ◌≡◌,
-  ◌<◌,
-  ◌≤◌,
-  ◌+◌,
-  ◌++◌,
-  ◌∷◌,
-  [],
-  codes,
-  decimal,
-  length,
-  IfOk,
-  OnOk,
-};
+ghost use Rattle.std.specs.Prelude.{◌≡◌, ◌<◌, ◌++◌, codes, decimal, length, IfOk, OnOk};
 ghost use Rattle.line_model.specs.Names.{HasTime};
 ghost use Rattle.line_model.specs.Parameters.{terminal_count, channel_count};
 ghost use Rattle.line_model.specs.ParamNames.{name_at};

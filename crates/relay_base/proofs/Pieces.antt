@@ -1,5 +1,22 @@
 -- A piece that was copied.
-use Rattle.std.proofs.Common.{◌≡◌, ℕ, ◌<◌, ◌≤◌, ◌-◌, min, List, ◌++◌, length, take, drop, refl, sym, ◌∙◌, ap, arith}
+use Rattle.std.proofs.Common.{
+  ◌≡◌,
+  ℕ,
+  ◌<◌,
+  ◌≤◌,
+  ◌-◌,
+  min,
+  List,
+  ◌++◌,
+  length,
+  take,
+  drop,
+  refl,
+  sym,
+  ◌∙◌,
+  ap,
+  arith,
+}
 use Rattle.std.proofs.Common.{Option, None, Some, length-append, length-drop}
 use Rattle.std.proofs.lemmas.List.{take_at, drop-drop, take-append-drop}
 use Rattle.std.specs.Option.{ForSome}

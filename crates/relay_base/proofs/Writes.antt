@@ -1,5 +1,20 @@
 -- One write after another.
-use Rattle.std.proofs.Common.{◌≡◌, ℕ, suc, ◌+◌, ◌≤◌, List, [], ◌∷◌, ◌++◌, length, take, refl, ◌∙◌, ap}
+use Rattle.std.proofs.Common.{
+  ◌≡◌,
+  ℕ,
+  suc,
+  ◌+◌,
+  ◌≤◌,
+  List,
+  [],
+  ◌∷◌,
+  ◌++◌,
+  length,
+  take,
+  refl,
+  ◌∙◌,
+  ap,
+}
 use Rattle.std.proofs.Common.{Option, None, Some, append_assoc, arith, length-append}
 use Rattle.std.proofs.lemmas.List.{take-append-le, take_at}
 use Rattle.std.specs.Io.KnownBytes.{Appends}

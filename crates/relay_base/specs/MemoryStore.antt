@@ -1,5 +1,18 @@
 -- What contracts see of a store in memory.
-use Rattle.std.specs.Prelude.{ℕ, ◌-◌, min, List, [], length, Option, None, IsNone, Contains, ◌⊎◌, refl}
+use Rattle.std.specs.Prelude.{
+  ℕ,
+  ◌-◌,
+  min,
+  List,
+  [],
+  length,
+  Option,
+  None,
+  IsNone,
+  Contains,
+  ◌⊎◌,
+  refl,
+}
 use Rattle.std.specs.Cmp.Lexicographic.{slice_cmp}
 use Rattle.std.specs.Coded.{Coded, code_by, coded×, coded_list, coded_option, coded_ℕ}
 use Rattle.std.specs.FinMap.{FinMap, empty, get, code}

@@ -1,11 +1,38 @@
 //! A store in memory.
-ghost use Rattle.std.specs.Prelude.{◌≡◌, ◌≢◌, ◌<◌, ◌≤◌, ◌-◌, ◌↔◌, ℕ, List, [], ◌∷◌, ◌++◌, Option, Some, None, min, length, take, drop, IfOk, OnOk, OnErr, IsErr, IfSome};
+ghost use Rattle.std.specs.Prelude.{
+  ◌≡◌,
+  ◌<◌,
+  ◌≤◌,
+  ◌-◌,
+  ◌↔◌,
+  [],
+  ◌∷◌,
+  ◌++◌,
+  Some,
+  min,
+  length,
+  take,
+  drop,
+  IfOk,
+  OnOk,
+  OnErr,
+  IsErr,
+  IfSome,
+};
 ghost use Rattle.std.specs.FinMap.{get, insert};
 ghost use Rattle.std.specs.Option.{ForSome};
 ghost use Rattle.relay_base.specs.Bound.{at_most};
 ghost use Rattle.relay_base.specs.Counts.{Rose, Grew, one_more};
 ghost use Rattle.relay_base.specs.Files.{files_of};
-ghost use Rattle.relay_base.specs.MemoryStore.{StoreState, state_code, empty_store, PullFails, pull_count, after_pull, after_failed_pull};
+ghost use Rattle.relay_base.specs.MemoryStore.{
+  StoreState,
+  state_code,
+  empty_store,
+  PullFails,
+  pull_count,
+  after_pull,
+  after_failed_pull,
+};
 ghost use Rattle.relay_base.specs.Store.{IsPiece, SameCounts, NoneFell};
 
 use crate::bound::at_most;

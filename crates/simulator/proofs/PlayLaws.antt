@@ -24,7 +24,7 @@ use Rattle.std.proofs.Common.{
   arith,
   ⊎_elim,
 }
-use Rattle.std.specs.Prelude.{slice_get, option_map, unwrap_or, get_or, map, nat_le, ◌==◌, if◌then◌else◌}
+use Rattle.std.specs.Prelude.{slice_get, option_map, unwrap_or, get_or, nat_le, ◌==◌, if◌then◌else◌}
 use Rattle.std.specs.List.{All}
 use Rattle.std.proofs.lemmas.Bool.{cases_lt, eqb-true}
 use Rattle.std.proofs.lemmas.List.{get_or_past, length-map}

@@ -277,7 +277,8 @@ module _ {S : Type 0} (param t : ℕ) where
   pub record Halves (xs : List (Step S)) (low high : ℕ) : Type 0 where
     pub ordered : low ≤ high
     pub inside : high ≤ length xs
-    pub below : (i : ℕ) (s : Step S) → i < low → slice_get xs i ≡ Some s → is_passed param t s ≡ true
+    pub below : (i : ℕ) (s : Step S) → i < low → slice_get xs i ≡ Some s
+        → is_passed param t s ≡ true
     pub above : (i : ℕ) (s : Step S) → high ≤ i → slice_get xs i ≡ Some s
         → is_passed param t s ≡ false
 

@@ -1,5 +1,20 @@
 -- Keys that are sent, and what is received of them.
-use Rattle.std.proofs.Common.{◌≡◌, ℕ, suc, ◌+◌, ◌≤◌, List, [], ◌∷◌, ◌++◌, length, ◌∙◌, ap, ⊎_elim, length-append}
+use Rattle.std.proofs.Common.{
+  ◌≡◌,
+  ℕ,
+  suc,
+  ◌+◌,
+  ◌≤◌,
+  List,
+  [],
+  ◌∷◌,
+  ◌++◌,
+  length,
+  ◌∙◌,
+  ap,
+  ⊎_elim,
+  length-append,
+}
 use Rattle.std.proofs.lemmas.List.{map-append}
 use Rattle.history.specs.Rails.{Rails, Ends, rails_at, rails_delayed}
 use Rattle.history.specs.Recorded.{first_ticks}

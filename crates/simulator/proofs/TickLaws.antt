@@ -30,7 +30,8 @@ ticks_more u t y e = ap (λ (x : Rails). first_ticks u t ++ x ∷ []) e
 
 module _ (w : PairWorld) (keys : PairSignals) (u : GateSignals) (t : ℕ) (gate : Gate)
     (y : Rails) where
-  pub seen_pair : (p : Place) → gate ≡ Seen p → y ≡ both (w.seen p t) → y ≡ kind_pair w keys u gate t
+  pub seen_pair : (p : Place) → gate ≡ Seen p → y ≡ both (w.seen p t)
+      → y ≡ kind_pair w keys u gate t
   seen_pair p is e = e ∙ ap (λ g. kind_pair w keys u g t) (sym is)
 
   pub loss_pair : (c : ℕ) → gate ≡ Loss c → y ≡ both (w.lost c t) → y ≡ kind_pair w keys u gate t

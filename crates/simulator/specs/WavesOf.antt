@@ -1,5 +1,20 @@
 -- The values of a run, tick by tick.
-use Rattle.std.specs.Prelude.{◌≡◌, ◌≤◌, ◌+◌, ◌*◌, ℕ, List, Option, Some, None, false, length, map, get_or, slice_get}
+use Rattle.std.specs.Prelude.{
+  ◌≡◌,
+  ◌≤◌,
+  ◌+◌,
+  ◌*◌,
+  ℕ,
+  List,
+  Option,
+  Some,
+  None,
+  false,
+  length,
+  map,
+  get_or,
+  slice_get,
+}
 use Rattle.history.specs.Rails.{Rails, both}
 use Rattle.line_model.specs.Histories.{PairHistory}
 use Rattle.gate_net.specs.declared.gate.GateId.{GateId}

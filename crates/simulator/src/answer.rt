@@ -1,7 +1,7 @@
 // What each kind of gate answers at the next tick.
 
-ghost use Rattle.std.specs.Prelude.{◌≡◌, ℕ, suc, ◌<◌, ◌≤◌, List, length, Some, slice_get, IsTrue};
-ghost use Rattle.history.specs.Rails.{Rails, rails_delayed};
+ghost use Rattle.std.specs.Prelude.{◌≡◌, ℕ, suc, ◌<◌, ◌≤◌, length, Some, slice_get, IsTrue};
+ghost use Rattle.history.specs.Rails.{rails_delayed};
 ghost use Rattle.line_model.specs.Channels.{from_of};
 ghost use Rattle.line_model.specs.Parameters.{terminal_count, channel_count, param_count};
 ghost use Rattle.line_model.specs.Parameters.{delay_param};

@@ -1,6 +1,6 @@
 // The rows of a played timing.
 
-ghost use Rattle.std.specs.Prelude.{◌≡◌, ◌<◌, ◌++◌, ℕ, length, OnOk, IfOk};
+ghost use Rattle.std.specs.Prelude.{◌≡◌, ◌<◌, ◌++◌, length, OnOk, IfOk};
 ghost use Rattle.line_model.specs.Parameters.{terminal_count};
 ghost use Rattle.line_model.specs.Histories.{History, IsLineHistory};
 ghost use Rattle.gate_net.specs.NetOf.{IsNetOf};
@@ -18,8 +18,8 @@ use std::alloc::Global;
 use tick_signal::Level;
 use timing_box::NamedTiming;
 
-/// The rows of one timing and script: one for each change of a terminal's key or trip, by tick, then
-/// terminal in line order, then `key` before `trip`. A row is
+/// The rows of one timing and script: one for each change of a terminal's key or trip, by tick,
+/// then terminal in line order, then `key` before `trip`. A row is
 /// `timing,script,tick,terminal,signal,level` and a line feed.
 pub fn play_rows(
     alloc: Global,
@@ -57,7 +57,8 @@ fn push_run(
     requires keys { length waves.now.keys ≡ terminal_count line.now }
     requires trips { length waves.now.trips ≡ terminal_count line.now }
     ensures { OnOk result (text.new.items
-        ≡ text.old.items ++ run_rows names.now.timing names.now.script line.now (played waves.now)) }
+        ≡ text.old.items
+        ++ run_rows names.now.timing names.now.script line.now (played waves.now)) }
 {
     for t in 0..line.horizon {
         push_tick(text, names, line, waves, t)?;
@@ -77,7 +78,8 @@ fn push_tick(
     requires keys { length waves.now.keys ≡ terminal_count line.now }
     requires trips { length waves.now.trips ≡ terminal_count line.now }
     ensures { OnOk result (text.new.items
-        ≡ text.old.items ++ tick_rows names.now.timing names.now.script line.now (played waves.now) t) }
+        ≡ text.old.items
+        ++ tick_rows names.now.timing names.now.script line.now (played waves.now) t) }
 {
     for k in 0..line.terminals.len() {
         push_terminal(text, names, line, waves, t, k)?;

@@ -47,7 +47,8 @@ fn push_fields<'a>(
     level: bool,
 ) -> Result<(), Memory>
     ensures { OnOk result (text.new.items
-        ≡ text.old.items ++ row_fields timing.now script.now tick.now terminal.now signal.now level) }
+        ≡ text.old.items
+        ++ row_fields timing.now script.now tick.now terminal.now signal.now level) }
 {
     let level: &'a [u8] = word_of_level(level);
     let comma: &'a [u8] = b",";
@@ -68,7 +69,8 @@ fn push_row(
     level: bool,
 ) -> Result<(), Memory>
     ensures { OnOk result (text.new.items
-        ≡ text.old.items ++ row_text names.now.timing names.now.script t terminal signal.now level) }
+        ≡ text.old.items
+        ++ row_text names.now.timing names.now.script t terminal signal.now level) }
 {
     let mut digits = Buffer::new();
     let tick = digits.format(t).as_bytes();
@@ -139,7 +141,8 @@ pub fn push_signal(
     requires tick { t < waves.now.horizon }
     ensures { OnOk result (text.new.items
         ≡ text.old.items
-        ++ signal_row names.now.timing names.now.script t terminal signal.now (is_on waves.now gate.0)) }
+        ++ signal_row names.now.timing names.now.script t terminal signal.now
+        (is_on waves.now gate.0)) }
 {
     let before = on_before(waves, gate, t);
     let level = on_at(waves, gate, t);

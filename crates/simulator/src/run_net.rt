@@ -19,9 +19,9 @@ use std::alloc::Global;
 use timers::Timed;
 use timing_box::Step;
 
-/// Runs the net of a line over a script, from tick 0 to the horizon. A span stands for each parameter,
-/// in the order of the line; a delay has at each tick the span of its step with the greatest `from`
-/// not after the tick, else its own.
+/// Runs the net of a line over a script, from tick 0 to the horizon. A span stands for each
+/// parameter, in the order of the line; a delay has at each tick the span of its step with the
+/// greatest `from` not after the tick, else its own.
 pub fn run<V: Timed + Carried>(
     alloc: Global,
     net: &Net,

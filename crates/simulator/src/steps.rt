@@ -6,8 +6,8 @@ ghost use Rattle.simulator.specs.Steps.{is_passed};
 
 use timing_box::Step;
 
-/// The value of a parameter at a tick: that of its step with the greatest `from` not after the tick,
-/// else its own. The search takes as many looks as the number of steps has binary digits.
+/// The value of a parameter at a tick: that of its step with the greatest `from` not after the
+/// tick, else its own. The search takes as many looks as the number of steps has binary digits.
 pub fn value_at<P: Copy>(steps: &[Step<P>], own: P, param: u32, t: u32) -> P
     requires { IsTrue (ascend steps.now) }
     ensures { result ≡ number_at steps.now param t own }

@@ -1,6 +1,6 @@
 // The values of a run.
 
-ghost use Rattle.std.specs.Prelude.{◌≡◌, ◌<◌, ◌≤◌, Some, length};
+ghost use Rattle.std.specs.Prelude.{◌≡◌, ◌<◌, Some, length};
 ghost use Rattle.simulator.specs.WavesOf.{WavesOf, AreWaves, wave_value, number_at};
 
 use gate_net::GateId;

@@ -2,7 +2,7 @@
 #![tactic(auto)]
 
 ghost use Rattle.std.specs.Prelude.{◌≡◌, ◌≤◌, nat_lt};
-ghost use Rattle.timers.specs.Counts.{wait_of, steady_of};
+ghost use Rattle.timers.specs.Counts.{steady_of};
 ghost use Rattle.timers.specs.Cells.{CellNumbers, AreBounded, numbers_of, fresh_numbers};
 ghost use Rattle.timers.specs.Cells.{numbers_after};
 

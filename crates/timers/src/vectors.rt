@@ -2,7 +2,7 @@
 #![tactic(auto)]
 
 ghost use Rattle.std.specs.Prelude.{◌≡◌, ℕ, ◌+◌, ◌-◌, ◌^◌, ◌<◌, ◌≤◌, min, if◌then◌else◌, nat_lt};
-ghost use Rattle.std.specs.Prelude.{length, slice_index};
+ghost use Rattle.std.specs.Prelude.{slice_index};
 ghost use Rattle.tick_signal.specs.Bits.{bit_on};
 ghost use Rattle.timers.specs.Counts.{run_after, left_after};
 ghost use Rattle.timers.specs.Vectors.{HasLanes};

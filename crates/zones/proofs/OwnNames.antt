@@ -18,9 +18,6 @@ use Rattle.std.proofs.Common.{
   Some,
   None,
   refl,
-  ap,
-  ◌∙◌,
-  subst,
   arith,
   length-append,
 }

@@ -1,6 +1,6 @@
 // Gates that join others.
 
-ghost use Rattle.std.specs.Prelude.{◌≡◌, ◌<◌, ◌≤◌, ◌+◌, length, IfOk, option_map, unwrap_or, false};
+ghost use Rattle.std.specs.Prelude.{◌<◌, ◌≤◌, ◌+◌, length, IfOk, option_map, unwrap_or, false};
 ghost use Rattle.std.specs.Option.{ForSome};
 ghost use Rattle.line_model.specs.Tree.{Not, And, Or, Const};
 ghost use Rattle.line_model.specs.Received.{joined};

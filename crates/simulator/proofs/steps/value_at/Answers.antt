@@ -19,7 +19,7 @@ use Rattle.std.proofs.Common.{
 use Rattle.std.specs.Prelude.{slice_get}
 use Rattle.std.proofs.lemmas.Option.{slice_get_read}
 use Rattle.timing_box.specs.declared.step.Step.{Step}
-use Rattle.timing_box.specs.Timing.{ascend, number_at}
+use Rattle.timing_box.specs.Timing.{number_at}
 use Rattle.simulator.proofs.SearchLaws.{
   AreAscending,
   Halves,
