@@ -1,9 +1,7 @@
 -- A terminal or a channel is found by its own name.
 use Rattle.std.proofs.Common.{
   ◌≡◌,
-  ◌≢◌,
   ◌&&◌,
-  ◌||◌,
   ◌==◌,
   ℕ,
   zero,
@@ -21,10 +19,7 @@ use Rattle.std.proofs.Common.{
   ◌++◌,
   length,
   get_or,
-  map,
-  Option,
   Some,
-  None,
   refl,
   sym,
   ap,
@@ -41,14 +36,13 @@ use Rattle.std.specs.List.{list_all, position_from}
 use Rattle.std.specs.Str.{bytes_eq}
 use Rattle.std.proofs.lemmas.Bool.{cases_lt, cases_Bool, eqb-true}
 use Rattle.std.proofs.lemmas.List.{get_or-map}
-use Rattle.line_model.specs.declared.line.Line.{Line}
 use Rattle.line_model.specs.declared.line.Terminal.{Terminal}
 use Rattle.line_model.specs.declared.line.Channel.{Channel}
 use Rattle.line_model.specs.PlainNames.{is_plain_byte, is_plain_name}
 use Rattle.line_model.specs.Terminals.{names_of, are_plain_names, NamesDiffer}
-use Rattle.line_model.specs.Channels.{AreChannels, channel_number, is_pair, from_of, to_of}
+use Rattle.line_model.specs.Channels.{AreChannels, is_pair, from_of, to_of}
 use Rattle.line_model.specs.ParamNames.{name_at, pair_name, channel_name}
-use Rattle.fault_script.specs.Places.{terminal_named, channel_named, has_name}
+use Rattle.fault_script.specs.Places.{has_name}
 
 pub bytes_same : (bs : List ℕ) → bytes_eq bs bs ≡ true
 bytes_same [] = refl
@@ -175,7 +169,8 @@ parts [] [] b d p q e = record { front = refl; back = cc }
 parts [] (y ∷ c) b d p q e =
     let head : 62 ≡ y = cc in
     let plain = (both (is_plain_byte y) (list_all is_plain_byte c) q).0 in
-    let none : is_plain_byte 62 ≡ true = subst (λ (z : ℕ). is_plain_byte z ≡ true) (sym head) plain in
+    let none : is_plain_byte 62 ≡ true =
+    subst (λ (z : ℕ). is_plain_byte z ≡ true) (sym head) plain in
     absurd (cc)
 parts (x ∷ a) [] b d p q e =
     let head : x ≡ 62 = cc in

@@ -6,15 +6,12 @@ use Rattle.std.proofs.Common.{
   ◌<◌,
   ◌≤◌,
   List,
-  [],
-  ◌∷◌,
   length,
   get_or,
   drop,
   map,
   Result,
   Ok,
-  Err,
   refl,
   sym,
   ap,
@@ -26,7 +23,7 @@ use Rattle.line_model.specs.declared.line.Line.{Line}
 use Rattle.fault_script.specs.declared.fault.ScriptFault.{ScriptFault}
 use Rattle.fault_script.specs.declared.fault.ScriptFault.TheVariants as fault
 use Rattle.fault_script.specs.Gives.{◌>>=◌, Fails}
-use Rattle.fault_script.specs.Values.{ScriptsSoFar, no_scripts}
+use Rattle.fault_script.specs.Values.{ScriptsSoFar}
 use Rattle.fault_script.specs.Scripts.{after_record, after_records}
 
 -- what follows a check that fails, fails so too

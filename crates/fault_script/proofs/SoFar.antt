@@ -8,7 +8,6 @@ use Rattle.std.proofs.Common.{
   ◌≤◌,
   true,
   false,
-  cond,
   List,
   [],
   ◌∷◌,
@@ -265,7 +264,8 @@ scripts_good line (header ∷ rest) vs e =
     header_good line rest vs
     (choice_passed (is_header header) (after_header line rest) fault.Header vs e)
 
-pub values_fit : (line : Line) (scripts : List Script) → All (ValuesFit line) (map values_of scripts)
+pub values_fit : (line : Line) (scripts : List Script)
+    → All (ValuesFit line) (map values_of scripts)
     → All (Fits line) scripts
 values_fit line [] fit = All-nil (Fits line)
 values_fit line (s ∷ scripts) fit =

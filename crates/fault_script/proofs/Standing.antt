@@ -3,10 +3,8 @@ use Rattle.std.proofs.Common.{
   ◌≡◌,
   ◌&&◌,
   ℕ,
-  zero,
   suc,
   ◌+◌,
-  ◌^◌,
   ◌<◌,
   ◌≤◌,
   Bool,
@@ -20,16 +18,12 @@ use Rattle.std.proofs.Common.{
   length,
   map,
   get_or,
-  Option,
   Some,
   None,
-  Result,
   Ok,
-  Err,
   refl,
   sym,
   ap,
-  subst,
   ◌∙◌,
   ◌≢◌,
   ◌||◌,
@@ -39,8 +33,8 @@ use Rattle.std.proofs.Common.{
   inl,
   inr,
 }
-use Rattle.std.specs.Prelude.{nat_lt, nat_le, not, option_map, slice_get, IsTrue}
-use Rattle.std.specs.List.{list_all, list_any, flat_map, All}
+use Rattle.std.specs.Prelude.{nat_lt, nat_le, option_map}
+use Rattle.std.specs.List.{list_all, flat_map, All}
 use Rattle.std.specs.Str.{bytes_eq}
 use Rattle.std.specs.Fmt.{decimal}
 use Rattle.std.proofs.lemmas.Bool.{
@@ -73,10 +67,9 @@ use Rattle.line_model.specs.declared.script.What.{What}
 use Rattle.line_model.specs.declared.script.What.TheVariants as what
 use Rattle.line_model.specs.declared.script.SeenSpan.{SeenSpan}
 use Rattle.line_model.specs.PlainNames.{is_plain_name}
-use Rattle.line_model.specs.ParamNames.{name_at, channel_name, pair_name}
+use Rattle.line_model.specs.ParamNames.{channel_name}
 use Rattle.line_model.specs.declared.script.Script.{Script}
 use Rattle.line_model.specs.Fits.{Fits, exists_in, span_fits, deadline_fits}
-use Rattle.fault_script.specs.declared.fault.ScriptFault.{ScriptFault}
 use Rattle.fault_script.specs.declared.item.Item.{Item}
 use Rattle.fault_script.specs.declared.item.Item.TheVariants.{Head, Seen, Lost}
 use Rattle.fault_script.specs.Gives.{◌>>=◌}
@@ -87,23 +80,17 @@ use Rattle.fault_script.specs.Values.{
   AreOfOneFile,
   values_of,
   all_scripts,
-  one_or_none,
   no_scripts,
   with_head,
-  with_row,
 }
-use Rattle.fault_script.specs.Places.{terminal_named, channel_named}
+use Rattle.fault_script.specs.Places.{channel_named}
 use Rattle.fault_script.specs.Checks.{
-  is_header,
   item_of,
   is_head,
   is_taken,
-  has_good_name,
   what_at,
-  is_empty,
   deadline_of,
   below_horizon,
-  span_between,
 }
 use Rattle.fault_script.specs.Scripts.{
   after_head,
@@ -115,7 +102,6 @@ use Rattle.fault_script.specs.Scripts.{
   scripts_in,
 }
 use Rattle.fault_script.specs.Printed.{
-  header_record,
   kind_text,
   deadline_text,
   head_record,
@@ -201,7 +187,8 @@ row_stands : (line : Line) (done : List ScriptValues) (v : ScriptValues) (n : �
     ≡ Ok (at_script done (one_row_more v x))
 unfolding after_record after_row
 row_stands line done v n x plain room fits =
-    let there = both (exists_in line x.what) (nat_lt x.from x.to && nat_le x.to line.horizon) fits in
+    let there =
+    both (exists_in line x.what) (nat_lt x.from x.to && nat_le x.to line.horizon) fits in
     let ends = both (nat_lt x.from x.to) (nat_le x.to line.horizon) there.1 in
     let before = ltb-true x.from x.to ends.0 in
     let within = leb-true x.to line.horizon ends.1 in
@@ -248,7 +235,8 @@ rows_stand line done v n (x ∷ spans) rest plain room fit =
     ∙ rows_stand line done (one_row_more v x) (n + 1) spans rest plain (omega arith) p.1
     ∙ ap (λ list. after_records line (at_script done (record v { spans = list }))
     (n + 1 + length spans) rest) (append_assoc v.spans (x ∷ []) spans)
-    ∙ ap (λ m. after_records line (at_script done (record v { spans = v.spans ++ x ∷ spans })) m rest)
+    ∙ ap (λ m. after_records line
+    (at_script done (record v { spans = v.spans ++ x ∷ spans })) m rest)
     number
 
 deadline_read : (line : Line) (kind : Kind) (d : ℕ) → deadline_fits line.horizon kind d ≡ true
@@ -267,7 +255,13 @@ head_stands : (line : Line) (s : ScriptsSoFar) (n : ℕ) (v : ScriptValues)
 unfolding after_record after_head
 head_stands line s n v fit new few =
     let room : nat_lt (length (all_scripts s)) 64 ≡ true = lt-ltb (length (all_scripts s)) 64 few in
-    rw (kind_read v.kind, fit.plain_name, new, room, deadline_read line v.kind v.deadline fit.deadline)
+    rw (
+      kind_read v.kind,
+      fit.plain_name,
+      new,
+      room,
+      deadline_read line v.kind v.deadline fit.deadline,
+    )
     refl
 
 -- a whole script
@@ -280,8 +274,10 @@ unfolding after_records
 script_stands line s n v rest fit new few =
     let behind : List (List (List ℕ)) = map (row_record line v.name) v.spans ++ rest in
     let bare : ScriptValues = record v { spans = [] } in
-    ap (λ r. r >>= λ next. after_records line next (n + 1) behind) (head_stands line s n v fit new few)
-    ∙ rows_stand line (all_scripts s) bare (n + 1) v.spans rest fit.plain_name (omega arith) fit.spans
+    ap (λ r. r >>= λ next. after_records line next (n + 1) behind)
+    (head_stands line s n v fit new few)
+    ∙ rows_stand line (all_scripts s) bare (n + 1) v.spans rest
+    fit.plain_name (omega arith) fit.spans
 
 -- what is left of the scripts, none of whose names is taken
 record AreNew (s : ScriptsSoFar) (vs : List ScriptValues) : Type 0 where
@@ -343,7 +339,8 @@ unfolding scripts_in
 printed_stand line [] fit one_file = absurd (let some = one_file.some in omega arith)
 printed_stand line (v ∷ vs) fit one_file =
     let new : AreNew no_scripts (v ∷ vs) = record {
-      names = All-from_get_or (λ u. is_taken no_scripts u.name ≡ false) (v ∷ vs) v (λ i below. refl);
+      names =
+          All-from_get_or (λ u. is_taken no_scripts u.name ≡ false) (v ∷ vs) v (λ i below. refl);
       once = one_file.once;
     } in
     ap (after_header line) (flat_map-cons (script_records line) v vs)

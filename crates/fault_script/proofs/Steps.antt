@@ -8,9 +8,6 @@ use Rattle.std.proofs.Common.{
   false,
   cond,
   List,
-  [],
-  ◌∷◌,
-  ◌++◌,
   length,
   Option,
   Some,
@@ -34,18 +31,9 @@ use Rattle.line_model.specs.declared.script.SeenSpan.{SeenSpan}
 use Rattle.fault_script.specs.declared.fault.ScriptFault.{ScriptFault}
 use Rattle.fault_script.specs.declared.fault.ScriptFault.TheVariants as fault
 use Rattle.fault_script.specs.declared.item.Item.{Item}
-use Rattle.fault_script.specs.declared.item.Item.TheVariants.{Head, Seen, Lost}
 use Rattle.fault_script.specs.Gives.{◌>>=◌}
 use Rattle.fault_script.specs.Row.{Row, row_in}
-use Rattle.fault_script.specs.Values.{
-  ScriptValues,
-  ScriptsSoFar,
-  all_scripts,
-  one_or_none,
-  no_scripts,
-  with_head,
-  with_row,
-}
+use Rattle.fault_script.specs.Values.{ScriptValues, ScriptsSoFar, all_scripts, with_head, with_row}
 use Rattle.fault_script.specs.Checks.{
   item_of,
   has_good_name,
@@ -56,7 +44,6 @@ use Rattle.fault_script.specs.Checks.{
   check_order,
   check_heads,
   check_rows,
-  is_empty,
   check_no_place,
   what_at,
   check_place,

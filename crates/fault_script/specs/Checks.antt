@@ -1,9 +1,6 @@
 -- The checks of one record, each of them alone. n is the record's number; the header is record 1.
 use Rattle.std.specs.Prelude.{
-  ◌++◌,
   ◌&&◌,
-  ◌||◌,
-  ◌==◌,
   ℕ,
   Bool,
   true,
@@ -13,7 +10,6 @@ use Rattle.std.specs.Prelude.{
   [],
   ◌∷◌,
   length,
-  map,
   nat_le,
   nat_lt,
   codes,

@@ -5,3 +5,4 @@ pub mod Places
 pub mod Checks
 pub mod Scripts
 pub mod Printed
+pub mod Faults

@@ -48,7 +48,8 @@ place_text line (what.Loss channel) =
 
 abbrev pub row_record : Line → List ℕ → SeenSpan → List (List ℕ)
 row_record line name span =
-    name ∷ item_text span.what ∷ place_text line span.what ∷ decimal span.from ∷ decimal span.to ∷ []
+    name ∷ item_text span.what ∷ place_text line span.what
+    ∷ decimal span.from ∷ decimal span.to ∷ []
 
 -- a head, and then a record for each span
 abbrev pub script_records : Line → ScriptValues → List (List (List ℕ))

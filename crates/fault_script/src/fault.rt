@@ -39,6 +39,45 @@ pub enum ScriptFault {
     Memory,
 }
 
+impl ScriptFault {
+    ghost use Rattle.std.specs.Prelude.{◌≡◌};
+    ghost use Rattle.fault_script.specs.Faults.{fault_name, fault_record};
+
+    /// The fault's printed name.
+    pub fn name(&self) -> &'static str
+        ensures { result.now ≡ fault_name self.now }
+    {
+        match self {
+            ScriptFault::Header => "Header",
+            ScriptFault::Fields(_) => "Fields",
+            ScriptFault::Item(_) => "Item",
+            ScriptFault::BadPlace(_) => "Place",
+            ScriptFault::Ticks(_) => "Ticks",
+            ScriptFault::Order(_) => "Order",
+            ScriptFault::BadName(_) => "Name",
+            ScriptFault::TooMany => "TooMany",
+            ScriptFault::Empty => "Empty",
+            ScriptFault::Memory => "Memory",
+        }
+    }
+
+    /// The number of the record at fault, where it is one record.
+    pub fn record(&self) -> Option<u32>
+        ensures { result ≡ fault_record self.now }
+    {
+        match self {
+            ScriptFault::Fields(n)
+            | ScriptFault::Item(n)
+            | ScriptFault::BadPlace(n)
+            | ScriptFault::Ticks(n)
+            | ScriptFault::Order(n)
+            | ScriptFault::BadName(n) => Some(*n),
+            ScriptFault::Header | ScriptFault::TooMany | ScriptFault::Empty | ScriptFault::Memory =>
+                None,
+        }
+    }
+}
+
 impl From<AllocError> for ScriptFault {
     ghost use Rattle.std.specs.Prelude.{◌≡◌};
     ghost use Rattle.fault_script.specs.declared.fault.ScriptFault.TheVariants as fault;

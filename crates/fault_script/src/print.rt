@@ -1,16 +1,12 @@
 // Printing scripts as a file.
 
-ghost use Rattle.std.specs.Prelude.{◌≡◌, ◌∷◌, [], ◌++◌, IfOk, OnOk, map, unwrap_or};
+ghost use Rattle.std.specs.Prelude.{◌≡◌, ◌∷◌, [], ◌++◌, IfOk, OnOk, map};
 ghost use Rattle.std.specs.List.{All};
 ghost use Rattle.csv.specs.Writing.{row_text, default_writer};
-ghost use Rattle.line_model.specs.Fits.{Fits, exists_in, span_fits};
+ghost use Rattle.line_model.specs.Fits.{Fits, exists_in};
 ghost use Rattle.fault_script.specs.Values.{values_of, AreOfOneFile};
 ghost use Rattle.fault_script.specs.Printed.{
-  header_record,
-  kind_text,
   element_text,
-  item_text,
-  place_text,
   head_record,
   row_record,
   script_records,
@@ -19,7 +15,6 @@ ghost use Rattle.fault_script.specs.Printed.{
 };
 ghost use Rattle.fault_script.specs.Scripts.{scripts_in};
 ghost use Rattle.std.specs.Fmt.{decimal};
-ghost use Rattle.std.specs.List.{list_all};
 ghost use Rattle.std.specs.Prelude.{IsTrue};
 
 use csv::WriterBuilder;
@@ -31,7 +26,8 @@ use std::alloc::Global;
 pub fn print_scripts(alloc: Global, line: &Line, scripts: &[Script]) -> Result<Vec<u8>, Memory>
     requires fit { All (Fits line.now) scripts.now }
     requires one_file { AreOfOneFile (map values_of scripts.now) }
-    ensures text { IfOk result (λ v. v.items ≡ records_text (file_records line.now (map values_of scripts.now))) }
+    ensures text { IfOk result (λ v. v.items
+        ≡ records_text (file_records line.now (map values_of scripts.now))) }
 
     // These records stand for the same scripts.
     ensures stand { scripts_in line.now (file_records line.now (map values_of scripts.now))

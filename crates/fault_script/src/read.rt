@@ -36,7 +36,8 @@ pub fn after(
     n: u32,
     row: &ByteRecord,
 ) -> Result<Reading, ScriptFault>
-    ensures { Gives so_far_of result (after_record line.now (so_far_of reading) n (fields_of row.now)) }
+    ensures { Gives so_far_of result
+        (after_record line.now (so_far_of reading) n (fields_of row.now)) }
 {
     let fields = fields_in(row, n)?;
     if !is_named_well(&reading, fields) {
@@ -129,7 +130,8 @@ fn with_row(
 
 /// What the records behind the header say, of which the first is record 2.
 fn read_rows(alloc: Global, line: &Line, rows: &[ByteRecord]) -> Result<Reading, ScriptFault>
-    ensures { Gives so_far_of result (after_records line.now no_scripts 2 (map fields_of rows.now)) }
+    ensures { Gives so_far_of result
+        (after_records line.now no_scripts 2 (map fields_of rows.now)) }
 {
     let mut reading = nothing_read(alloc);
     let mut n = 2;
@@ -143,7 +145,8 @@ fn read_rows(alloc: Global, line: &Line, rows: &[ByteRecord]) -> Result<Reading,
 // What all records say.
 #[tactic(auto, unfolding(crate::specs::Scripts::scripts_in))]
 fn read_all(alloc: Global, line: &Line, rows: &[ByteRecord]) -> Result<Vec<Script>, ScriptFault>
-    ensures { Gives (λ v. map values_of v.items) result (scripts_in line.now (map fields_of rows.now)) }
+    ensures { Gives (λ v. map values_of v.items) result
+        (scripts_in line.now (map fields_of rows.now)) }
 {
     match rows {
         [] => Err(ScriptFault::Header),

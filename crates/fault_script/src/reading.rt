@@ -1,6 +1,6 @@
 // The scripts that the records so far say.
 
-ghost use Rattle.std.specs.Prelude.{◌≡◌, IfOk, map};
+ghost use Rattle.std.specs.Prelude.{◌≡◌, map};
 ghost use Rattle.fault_script.specs.Gives.{Gives};
 ghost use Rattle.fault_script.specs.Values.{so_far_of, no_scripts, all_scripts, values_of};
 

@@ -1,24 +1,14 @@
 -- The choice of a timing inside is inside.
 use Rattle.std.proofs.Common.{
-  ◌≡◌,
   ◌&&◌,
   ◌==◌,
   ℕ,
-  zero,
-  suc,
-  ◌<◌,
-  ◌≤◌,
   Bool,
-  true,
-  false,
   cond,
   List,
   [],
   ◌∷◌,
-  length,
   get_or,
-  refl,
-  sym,
   subst,
   arith,
   inl,
@@ -26,7 +16,7 @@ use Rattle.std.proofs.Common.{
 }
 use Rattle.std.specs.Prelude.{nat_le}
 use Rattle.std.specs.List.{All}
-use Rattle.std.proofs.lemmas.Bool.{cases_Bool, cases_lt, eqb-true}
+use Rattle.std.proofs.lemmas.Bool.{cases_Bool, cases_lt, eqb-true, and_parts}
 use Rattle.std.proofs.lemmas.List.{length-map, get_or_past}
 use Rattle.std.proofs.lemmas.List.Elements.{All-head, All-tail}
 use Rattle.line_model.specs.declared.line.Line.{Line}
@@ -37,7 +27,6 @@ use Rattle.timing_box.specs.declared.step.Step.{Step}
 use Rattle.timing_box.specs.Inside.{IsStepInside, IsTimingInside}
 use Rattle.timing_box.specs.Timing.{TimingValues, number_at}
 use Rattle.timing_box.specs.Choice.{timing_choice}
-use Rattle.timing_box.proofs.Passing.{both_true}
 
 -- whether the step has a say in the parameter's number at t
 abbrev says : Step ℕ → ℕ → ℕ → Bool
@@ -48,7 +37,7 @@ step_said : (line : Line) (s : Step ℕ) (param t own : ℕ) → IsStepInside li
     → IsIn (cond (says s param t) s.value own) (declared_ends line param)
 step_said line s param t own inside here = elim (cases_Bool (says s param t)) [
   | inl said ↦
-      let p = both_true (s.param == param) (nat_le s.from t) said in
+      let p = and_parts (s.param == param) (nat_le s.from t) said in
       let same = eqb-true s.param param p.0 in
       rw said (subst (λ (i : ℕ). IsIn s.value (declared_ends line i)) same inside.value)
   | inr silent ↦ rw silent here

@@ -1,9 +1,13 @@
 pub mod CandidatesInside
 pub mod ChoiceInside
+pub mod ChoiceSteps
 pub mod DelayLaws
+pub mod DelayOrder
 pub mod Earlier
+pub mod LatestStep
 pub mod Passing
 pub mod Rows
+pub mod SameHistories
 pub mod SoFarInside
 pub mod StepOrder
 pub mod ThreeFields

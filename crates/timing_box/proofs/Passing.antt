@@ -1,7 +1,6 @@
 -- Checks that passed, one after another.
 use Rattle.std.proofs.Common.{
   ◌≡◌,
-  ◌&&◌,
   Bool,
   true,
   false,
@@ -48,7 +47,3 @@ pub tested : {A : Type 0} (b : Bool) (o : Option A) (x : A) → cond b o None �
     → (b ≡ true) × (o ≡ Some x)
 tested true o x e = (refl, e)
 tested false o x e = absurd (cc)
-
-pub both_true : (a b : Bool) → a && b ≡ true → (a ≡ true) × (b ≡ true)
-both_true true b e = (refl, e)
-both_true false b e = absurd (cc)

@@ -1,5 +1,23 @@
 -- Records one after another.
-use Rattle.std.proofs.Common.{◌≡◌, ℕ, ◌+◌, ◌<◌, ◌≤◌, List, length, get_or, drop, map, Result, Ok, refl, sym, ap, subst, ◌∙◌}
+use Rattle.std.proofs.Common.{
+  ◌≡◌,
+  ℕ,
+  ◌+◌,
+  ◌<◌,
+  ◌≤◌,
+  List,
+  length,
+  get_or,
+  drop,
+  map,
+  Result,
+  Ok,
+  refl,
+  sym,
+  ap,
+  subst,
+  ◌∙◌,
+}
 use Rattle.std.proofs.lemmas.List.{drop_more, drop_all}
 use Rattle.line_model.specs.declared.line.Line.{Line}
 use Rattle.timing_box.specs.declared.fault.TimingFault.{TimingFault}

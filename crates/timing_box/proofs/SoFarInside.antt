@@ -1,7 +1,35 @@
 -- Each timing that was read is inside.
-use Rattle.std.proofs.Common.{◌≡◌, ◌&&◌, ℕ, ◌+◌, ◌<◌, ◌≤◌, Bool, true, false, cond, List, [], ◌∷◌, ◌++◌, length, map, Option, Some, None, Result, Ok, Err, subst, ◌∙◌, arith, inl, inr}
+use Rattle.std.proofs.Common.{
+  ◌≡◌,
+  ◌&&◌,
+  ℕ,
+  ◌+◌,
+  ◌<◌,
+  ◌≤◌,
+  Bool,
+  true,
+  false,
+  cond,
+  List,
+  [],
+  ◌∷◌,
+  ◌++◌,
+  length,
+  map,
+  Option,
+  Some,
+  None,
+  Result,
+  Ok,
+  Err,
+  subst,
+  ◌∙◌,
+  arith,
+  inl,
+  inr,
+}
 use Rattle.std.proofs.lemmas.List.{length-map, length-set, get_or-set_same, get_or-set_other}
-use Rattle.std.proofs.lemmas.Bool.{ltb-true, leb-true, cases_eq}
+use Rattle.std.proofs.lemmas.Bool.{ltb-true, leb-true, cases_eq, and_parts}
 use Rattle.std.specs.Str.{bytes_eq}
 use Rattle.std.specs.Prelude.{Vec, IfOk, IfSome, nat_le, nat_lt}
 use Rattle.std.specs.declared.alloc.Global.{Global}
@@ -40,7 +68,24 @@ use Rattle.timing_box.specs.SoFar.{
   opened,
   with_row,
 }
-use Rattle.timing_box.specs.Checks.{Opening, is_header, is_earlier, check_name, check_timing, after_latest, param_named, is_at, step_at, number_or_step, named_in, check_parameter, number_within, value_for, check_value, check_once}
+use Rattle.timing_box.specs.Checks.{
+  Opening,
+  is_header,
+  is_earlier,
+  check_name,
+  check_timing,
+  after_latest,
+  param_named,
+  is_at,
+  step_at,
+  number_or_step,
+  named_in,
+  check_parameter,
+  number_within,
+  value_for,
+  check_value,
+  check_once,
+}
 use Rattle.timing_box.specs.Timings.{
   after_row,
   after_record,
@@ -54,7 +99,6 @@ use Rattle.timing_box.proofs.Passing.{
   refusal_passed,
   same_ok,
   tested,
-  both_true,
 }
 use Rattle.timing_box.proofs.StepOrder.{All-with_step}
 
@@ -83,7 +127,7 @@ opened_inside line name = record {
 in_by_tests : (least v greatest : ℕ) → nat_le least v && nat_le v greatest ≡ true
     → IsIn v (record { least = least; greatest = greatest })
 in_by_tests least v greatest e =
-    let p = both_true (nat_le least v) (nat_le v greatest) e in
+    let p = and_parts (nat_le least v) (nat_le v greatest) e in
     record { least = leb-true least v p.0; greatest = leb-true v greatest p.1 }
 
 within_is : (line : Line) (i : ℕ) (o : Option ℕ) (v : ℕ) → number_within line i o ≡ Some v
@@ -116,8 +160,8 @@ step_is_good line (Some i) (Some from) x e =
     let rest : Bool = nat_le 1 from && nat_lt from line.horizon in
     let p = tested (is_delay line i && rest) (Some (named.Step i from)) x e in
     let same : named.Step i from ≡ x = (let f = p.1 in cc) in
-    let q = both_true (is_delay line i) rest p.0 in
-    let r = both_true (nat_le 1 from) (nat_lt from line.horizon) q.1 in
+    let q = and_parts (is_delay line i) rest p.0 in
+    let r = and_parts (nat_le 1 from) (nat_lt from line.horizon) q.1 in
     subst (λ (y : Named). IsGoodName line y) same (record {
       delay = q.0;
       late = leb-true 1 from r.0;
@@ -192,7 +236,8 @@ after_row_inside line t n row u all e =
     let last : Named → ℕ → Result OpenTiming TimingFault = λ x v.
     check_once n t x >>= λ once. Ok (with_row t x v) in
     let value : Named → Result ℕ TimingFault = λ x. check_value n (value_for line x row.value) in
-    let a = passed (check_parameter n (named_in line row.parameter)) (λ x. value x >>= last x) u e in
+    let a =
+    passed (check_parameter n (named_in line row.parameter)) (λ x. value x >>= last x) u e in
     let b = passed (value a.value) (last a.value) u a.rest in
     let c = passed (check_once n t a.value) (λ once. Ok (with_row t a.value b.value)) u b.rest in
     let good = field_is_good line row.parameter a.value
@@ -274,7 +319,8 @@ all_inside line s so_far =
     last_inside : (line : Line) (o : Option OpenTiming)
         → IfSome o (λ t. IsTimingInside line t.timing) → All (IsInside line) (one_or_none o)
     last_inside line None here = All-nil (IsInside line)
-    last_inside line (Some t) here = All-cons (IsInside line) (closed t) [] here (All-nil (IsInside line))
+    last_inside line (Some t) here =
+        All-cons (IsInside line) (closed t) [] here (All-nil (IsInside line))
 
 records_inside : (line : Line) (rows : List (List (List ℕ))) (s : TimingsSoFar) (n : ℕ)
     (t : TimingsSoFar) → IsSoFar line s → after_records line s n rows ≡ Ok t

@@ -1,5 +1,19 @@
 -- The candidate timings of a line.
-use Rattle.std.specs.Prelude.{◌+◌, ◌-◌, ◌*◌, ◌&&◌, ◌==◌, ℕ, Bool, [], map, take, nat_le, nat_lt, if◌then◌else◌}
+use Rattle.std.specs.Prelude.{
+  ◌+◌,
+  ◌-◌,
+  ◌*◌,
+  ◌&&◌,
+  ◌==◌,
+  ℕ,
+  Bool,
+  [],
+  map,
+  take,
+  nat_le,
+  nat_lt,
+  if◌then◌else◌,
+}
 use Rattle.std.specs.List.{count_by, range_with_len}
 use Rattle.line_model.specs.declared.line.Line.{Line}
 use Rattle.line_model.specs.declared.line.Param.{Param}

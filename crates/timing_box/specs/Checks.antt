@@ -1,5 +1,28 @@
 -- The checks of one record, each of them alone. n is the record's number; the header is record 1.
-use Rattle.std.specs.Prelude.{◌++◌, ◌+◌, ◌&&◌, ◌==◌, ℕ, Bool, true, false, List, [], ◌∷◌, length, nat_le, nat_lt, codes, Option, None, Some, Result, Ok, Err, if◌then◌else◌}
+use Rattle.std.specs.Prelude.{
+  ◌++◌,
+  ◌+◌,
+  ◌&&◌,
+  ◌==◌,
+  ℕ,
+  Bool,
+  true,
+  false,
+  List,
+  [],
+  ◌∷◌,
+  length,
+  nat_le,
+  nat_lt,
+  codes,
+  Option,
+  None,
+  Some,
+  Result,
+  Ok,
+  Err,
+  if◌then◌else◌,
+}
 use Rattle.std.specs.List.{list_any, position_from, before_first, after_first}
 use Rattle.std.specs.Str.{bytes_eq}
 use Rattle.line_model.specs.declared.line.Line.{Line}

@@ -1,9 +1,8 @@
 -- The choice of delays that a timing stands for.
-use Rattle.std.specs.Prelude.{◌≡◌, ◌<◌, ℕ, get_or, IsFalse}
+use Rattle.std.specs.Prelude.{◌≡◌, ◌≤◌, ◌<◌, ℕ, get_or}
 use Rattle.line_model.specs.declared.line.Line.{Line}
 use Rattle.line_model.specs.Parameters.{param_count, channel_count, delay_param}
 use Rattle.line_model.specs.Choice.{Choice}
-use Rattle.timing_box.specs.Delays.{is_delay}
 use Rattle.timing_box.specs.Timing.{TimingValues, number_at}
 
 -- each parameter has its own number; each delay has at every tick that of its step with the
@@ -16,9 +15,9 @@ timing_choice line timing = record {
       number_at timing.steps param t (get_or timing.values param 0);
 }
 
--- two choices are the same over the run: each number of a parameter that is no delay, and each
--- delay at every tick
+-- two choices are the same over the run: each number, and each delay at every tick from 1 on. No
+-- signal arrives at tick 0, since each delay is at least 1.
 pub record IsSameChoice (line : Line) (a b : Choice) : Type 0 where
-  pub numbers : (i : ℕ) → i < param_count line → IsFalse (is_delay line i)
-      → a.number i ≡ b.number i
-  pub delays : (c t : ℕ) → c < channel_count line → t < line.horizon → a.delay c t ≡ b.delay c t
+  pub numbers : (i : ℕ) → i < param_count line → a.number i ≡ b.number i
+  pub delays : (c t : ℕ) → c < channel_count line → 1 ≤ t → t < line.horizon
+      → a.delay c t ≡ b.delay c t

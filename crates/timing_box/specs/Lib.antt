@@ -9,3 +9,4 @@ pub mod SoFar
 pub mod Checks
 pub mod Opened
 pub mod Timings
+pub mod Faults

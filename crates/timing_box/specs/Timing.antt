@@ -1,5 +1,8 @@
 -- One number for each parameter of a line, and steps: from a tick on, a delay has another number.
 use Rattle.std.specs.Prelude.{
+  ◌≡◌,
+  ◌<◌,
+  ◌≤◌,
   ◌&&◌,
   ◌||◌,
   ◌==◌,
@@ -13,6 +16,7 @@ use Rattle.std.specs.Prelude.{
   nat_lt,
   if◌then◌else◌,
 }
+use Rattle.std.specs.List.{All, Contains}
 use Rattle.timing_box.specs.declared.step.Step.{Step}
 
 -- a timing, field by field
@@ -42,3 +46,14 @@ abbrev pub number_at : {A : Type 0} → List (Step A) → ℕ → ℕ → A → 
 number_at [] param t own = own
 number_at (s ∷ rest) param t own =
     number_at rest param t (if (s.param == param) && nat_le s.from t then s.value else own)
+
+-- the step is one of these and not after tick t, and no step of its parameter that is not after t
+-- is later
+pub record IsLatest {A : Type 0} (steps : List (Step A)) (step : Step A) (t : ℕ) : Type 0 where
+  pub stands : Contains steps step
+  pub past : step.from ≤ t
+  pub greatest : All (λ s. s.param ≡ step.param → s.from ≤ t → s.from ≤ step.from) steps
+
+-- each step of the parameter is after tick t
+abbrev pub HasNoStepBy : {A : Type 0} → List (Step A) → ℕ → ℕ → Type 0
+HasNoStepBy steps param t = All (λ s. s.param ≡ param → t < s.from) steps

@@ -25,7 +25,16 @@ use Rattle.timing_box.specs.SoFar.{
   no_timings,
   with_row,
 }
-use Rattle.timing_box.specs.Checks.{is_header, check_name, check_timing, named_in, check_parameter, value_for, check_value, check_once}
+use Rattle.timing_box.specs.Checks.{
+  is_header,
+  check_name,
+  check_timing,
+  named_in,
+  check_parameter,
+  value_for,
+  check_value,
+  check_once,
+}
 
 -- what the row makes of its timing: its parameter, its value, and neither given before
 unfoldable pub after_row : Line → OpenTiming → ℕ → Row → Result OpenTiming TimingFault

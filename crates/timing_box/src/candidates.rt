@@ -1,11 +1,10 @@
 // The candidate timings.
 
-ghost use Rattle.std.specs.Prelude.{◌≡◌, ◌≤◌, ◌<◌, length, take};
+ghost use Rattle.std.specs.Prelude.{◌≡◌, ◌≤◌, ◌<◌, length};
 ghost use Rattle.std.specs.List.{count_by};
 ghost use Rattle.line_model.specs.Parameters.{param_count};
 ghost use Rattle.timing_box.specs.Candidates.{
   is_free as is_free_param,
-  free_count as count_of_free,
   candidate_count as count_of_candidates,
   candidate_value as value_of_candidate,
   is_free_number,

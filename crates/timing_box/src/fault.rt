@@ -39,6 +39,45 @@ pub enum TimingFault {
     Memory,
 }
 
+impl TimingFault {
+    ghost use Rattle.std.specs.Prelude.{◌≡◌};
+    ghost use Rattle.timing_box.specs.Faults.{fault_name, fault_record};
+
+    /// The fault's printed name.
+    pub fn name(&self) -> &'static str
+        ensures { result.now ≡ fault_name self.now }
+    {
+        match self {
+            TimingFault::Header => "Header",
+            TimingFault::Fields(_) => "Fields",
+            TimingFault::Parameter(_) => "Parameter",
+            TimingFault::Value(_) => "Value",
+            TimingFault::Twice(_) => "Twice",
+            TimingFault::Order(_) => "Order",
+            TimingFault::TooMany => "TooMany",
+            TimingFault::Empty => "Empty",
+            TimingFault::BadName(_) => "Name",
+            TimingFault::Memory => "Memory",
+        }
+    }
+
+    /// The number of the record at fault, where it is one record.
+    pub fn record(&self) -> Option<u32>
+        ensures { result ≡ fault_record self.now }
+    {
+        match self {
+            TimingFault::Fields(n)
+            | TimingFault::Parameter(n)
+            | TimingFault::Value(n)
+            | TimingFault::Twice(n)
+            | TimingFault::Order(n)
+            | TimingFault::BadName(n) => Some(*n),
+            TimingFault::Header | TimingFault::TooMany | TimingFault::Empty | TimingFault::Memory =>
+                None,
+        }
+    }
+}
+
 impl From<AllocError> for TimingFault {
     ghost use Rattle.std.specs.Prelude.{◌≡◌};
     ghost use Rattle.timing_box.specs.declared.fault.TimingFault.TheVariants as fault;

@@ -1,6 +1,6 @@
 // Whether a timing is inside the declared intervals.
 
-ghost use Rattle.std.specs.Prelude.{◌≡◌, ◌<◌, ◌↔◌, ℕ, length, map, get_or, IsTrue};
+ghost use Rattle.std.specs.Prelude.{◌≡◌, ◌<◌, ◌↔◌, ℕ, length, get_or, IsTrue};
 ghost use Rattle.line_model.specs.Choice.{IsIn};
 ghost use Rattle.line_model.specs.Parameters.{param_count, declared_ends};
 ghost use Rattle.timing_box.specs.Inside.{IsStepInside, IsTimingInside};

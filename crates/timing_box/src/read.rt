@@ -1,14 +1,12 @@
 // Reading a file of timings.
 
 ghost use Rattle.std.specs.Prelude.{
-  ◌≡◌,
   ◌≤◌,
   ◌<◌,
   ◌+◌,
   ◌^◌,
   IfOk,
   IfSome,
-  IsTrue,
   IsFalse,
   length,
   map,
@@ -71,7 +69,8 @@ fn read_all(
     rows: &[ByteRecord],
 ) -> Result<Vec<NamedTiming>, TimingFault>
     requires { length rows.now < 2 ^ 31 }
-    ensures { Gives (λ v. map values_of v.items) result (timings_in line.now (map fields_of rows.now)) }
+    ensures { Gives (λ v. map values_of v.items) result
+        (timings_in line.now (map fields_of rows.now)) }
 {
     match rows {
         [] => Err(TimingFault::Header),
@@ -90,7 +89,8 @@ fn read_all(
 // What the records behind the header say, of which the first is record 2.
 fn read_rows(alloc: Global, line: &Line, rows: &[ByteRecord]) -> Result<Reading, TimingFault>
     requires { length rows.now < 2 ^ 31 }
-    ensures { Gives so_far_of result (after_records line.now no_timings 2 (map fields_of rows.now)) }
+    ensures { Gives so_far_of result
+        (after_records line.now no_timings 2 (map fields_of rows.now)) }
 {
     let mut reading = nothing_read(alloc);
     let mut n = 2;
@@ -111,7 +111,8 @@ fn after(
     row: &ByteRecord,
 ) -> Result<Reading, TimingFault>
     requires { IfSome reading.latest (λ t. IsFull line.now (open_of t)) }
-    ensures { Gives so_far_of result (after_record line.now (so_far_of reading) n (fields_of row.now)) }
+    ensures { Gives so_far_of result
+        (after_record line.now (so_far_of reading) n (fields_of row.now)) }
 {
     let fields = fields_in(row, n)?;
     if !is_plain(fields.name) {

@@ -87,7 +87,8 @@ pub fn opened_by(
 ) -> Result<Opened, TimingFault>
     requires plain { IsTrue (is_plain_name name.now) }
     requires full { IfSome reading.latest (λ t. IsFull line.now (open_of t)) }
-    ensures said { Gives opening_of result (check_timing line.now (map values_of reading.done.items) n name.now
+    ensures said { Gives opening_of result
+        (check_timing line.now (map values_of reading.done.items) n name.now
         (option_map open_of reading.latest)) }
     ensures full { IfOk result (λ x. IsFull line.now (open_of x.timing)) }
 {

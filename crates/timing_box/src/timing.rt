@@ -95,7 +95,8 @@ impl Timing {
 
     /// Adds a step at its place.
     pub fn insert(&mut self, step: Step<Tick>) -> Result<(), TimingFault>
-        requires { IsFalse (list_any (λ s. (s.param == step.param) && (s.from == step.from)) self.old.steps) }
+        requires { IsFalse (list_any (λ s. (s.param == step.param) && (s.from == step.from))
+            self.old.steps) }
         ensures added { OnOk result (self.new ≡ record {
           values = self.old.values;
           steps = with_step step self.old.steps;

@@ -1,10 +1,9 @@
-use Rattle.std.proofs.Common.{◌≡◌, ◌++◌, map, take}
-use Rattle.csv.specs.Writing.{row_text, default_writer}
-use Rattle.std.specs.List.{flat_map}
+use Rattle.std.proofs.Common.{◌≡◌, map, take}
 use Rattle.fault_script.specs.Values.{values_of}
 use Rattle.fault_script.specs.Printed.{file_records, records_text}
 use Rattle.fault_script.proofs.print.print_scripts.Given as goal
 
 abbrev pub invariant-loop-script : goal.invariant-loop-script
 invariant-loop-script l =
-    l.text.items ≡ records_text (file_records l.line (map values_of (take l.script-index l.scripts)))
+    l.text.items
+    ≡ records_text (file_records l.line (map values_of (take l.script-index l.scripts)))

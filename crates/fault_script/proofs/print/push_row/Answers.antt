@@ -1,13 +1,9 @@
-use Rattle.std.proofs.Common.{◌≡◌, ◌<◌, ◌∙◌, ◌∷◌, [], List, ℕ, Some, length, sym, ap, arith, subst, true}
-use Rattle.std.specs.Prelude.{OnOk, nat_lt, IsTrue}
-use Rattle.std.specs.Fmt.{decimal}
+use Rattle.std.proofs.Common.{◌≡◌, ◌∙◌, length, sym, ap, arith, true}
 use Rattle.std.proofs.lemmas.Bool.{ltb-true}
-use Rattle.csv.specs.Writing.{row_text, default_writer}
 use Rattle.line_model.specs.Fits.{exists_in}
 use Rattle.line_model.specs.ParamNames.{pair_name}
-use Rattle.line_model.specs.declared.script.What.{What}
 use Rattle.line_model.specs.declared.script.What.TheVariants as what
-use Rattle.fault_script.specs.Printed.{item_text, place_text, row_record}
+use Rattle.fault_script.specs.Printed.{item_text, place_text}
 use Rattle.fault_script.proofs.Naming.{name_of-got, channel_name-got, ends_of-got}
 use Rattle.fault_script.proofs.print.push_row.Goals as goal
 

@@ -1,14 +1,16 @@
-use Rattle.std.proofs.Common.{◌≡◌, ◌<◌, ◌+◌, ◌∙◌, [], length, map, sym, arith, rules}
+use Rattle.std.proofs.Common.{◌∙◌, [], map, sym, arith, rules}
 use Rattle.std.proofs.lemmas.Result.{err_from_is_err_and}
 use Rattle.csv.specs.Records.{fields_of}
 use Rattle.fault_script.specs.Values.{so_far_of, no_scripts}
-use Rattle.fault_script.specs.Scripts.{after_record, after_records}
+use Rattle.fault_script.specs.Scripts.{after_records}
 use Rattle.fault_script.proofs.Rows.{record_fails, record_passes, no_more_records}
 use Rattle.fault_script.proofs.SoFar.{record_so_far, none_so_far, is_small}
 use Rattle.fault_script.proofs.read.read_rows.Goals as goal
 
 pub loop-row-init : goal.loop-row-init
-loop-row-init c = rw c.nothing_read-reading.ensures (record { rest = search rules; few = none_so_far c.args.line.now })
+loop-row-init c =
+    rw c.nothing_read-reading.ensures
+    (record { rest = search rules; few = none_so_far c.args.line.now })
 
 pub returns-in_err-reading : goal.returns-in_err-reading
 returns-in_err-reading c =

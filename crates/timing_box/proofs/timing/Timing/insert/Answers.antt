@@ -11,7 +11,8 @@ invariant_of-self-2 c =
     let step : Step ℕ = c.args.step in
     let at : c.place_of-at.result ≡ position_or_len (comes_before step) xs =
     c.place_of-at.ensures.place
-    ∙ ap (λ (ys : List (Step ℕ)). position_or_len (comes_before step) ys) c.as_slice.ensures.value in
+    ∙ ap (λ (ys : List (Step ℕ)). position_or_len (comes_before step) ys)
+    c.as_slice.ensures.value in
     let items : c.insert.new.self.items ≡ insert xs c.place_of-at.result step =
     c.in_ok-insert.ensures.items in
     let all : c.insert.new.self.items ≡ with_step step xs =
@@ -27,7 +28,8 @@ returns-clause-added c =
     let step : Step ℕ = c.args.step in
     let at : c.place_of-at.result ≡ position_or_len (comes_before step) xs =
     c.place_of-at.ensures.place
-    ∙ ap (λ (ys : List (Step ℕ)). position_or_len (comes_before step) ys) c.as_slice.ensures.value in
+    ∙ ap (λ (ys : List (Step ℕ)). position_or_len (comes_before step) ys)
+    c.as_slice.ensures.value in
     let items : c.insert.new.self.items ≡ insert xs c.place_of-at.result step =
     c.in_ok-insert.ensures.items in
     let all : c.insert.new.self.items ≡ with_step step xs =

@@ -1,0 +1,33 @@
+use Rattle.line_model.specs.Choice.{Choice, DelaysFromOne}
+use Rattle.line_model.proofs.DeclaredLaws.{inside_from_one}
+use Rattle.timing_box.specs.Choice.{timing_choice, IsSameChoice}
+use Rattle.timing_box.proofs.ChoiceInside.{choice_inside}
+use Rattle.timing_box.proofs.ChoiceSteps.{timing_of, timing_ascends, timing_inside, timing_same}
+use Rattle.timing_box.proofs.SameHistories.{same_history, same_other_way}
+use Rattle.timing_box.proofs.laws.each_choice_inside_is_a_timing.Goals as goal
+
+pub returns : goal.returns
+returns c = record {
+  choice = λ line choice inside. (
+    timing_of line choice,
+    timing_inside line choice inside,
+    timing_ascends line choice,
+    timing_same line choice,
+  );
+  histories = λ line choice inside.
+      let played : Choice = timing_choice line (timing_of line choice) in
+      let from_choice : DelaysFromOne line choice = inside_from_one line choice inside in
+      let from_played : DelaysFromOne line played =
+      inside_from_one line played
+      (choice_inside line (timing_of line choice) (timing_inside line choice inside)) in
+      let same : IsSameChoice line choice played = timing_same line choice in (
+        timing_of line choice,
+        timing_inside line choice inside,
+        timing_ascends line choice,
+        λ script h. (
+          same_history line script choice played from_choice from_played same h,
+          same_history line script played choice from_played from_choice
+              (same_other_way line choice played same) h,
+        ),
+      );
+}
