@@ -1,0 +1,53 @@
+use Rattle.std.proofs.Common.{◌≡◌, ◌-◌, ◌≤◌, ℕ, List, length, sym, ◌∙◌, ap, arith}
+use Rattle.history.specs.Rails.{Rails, rails_sealed}
+use Rattle.history.specs.Recorded.{first_ticks}
+use Rattle.tick_signal.specs.declared.tern.Tern.{Tern}
+use Rattle.tick_signal.specs.Terns.{tern_rails}
+use Rattle.timers.specs.Seals.{last_seal}
+use Rattle.timers.proofs.SealLaws.{seal_of_standing}
+use Rattle.wave_runs.specs.Waves.{wave_at}
+use Rattle.wave_runs.proofs.WaveLaws.{ticks_more, longer, rails_in, new_length}
+use Rattle.wave_runs.proofs.ElementLaws.{StaysAt, seal_stands, seal_answer, sealed_in}
+use Rattle.wave_runs.proofs.ElementLaws.{kept_to_the_end}
+use Rattle.wave_runs.proofs.elements.seal.Goals as goal
+
+pub stretches-preserved : goal.stretches-preserved
+stretches-preserved c =
+    let u : ℕ → Rails = wave_at c.args.set.now in
+    let v : ℕ → Rails = wave_at c.args.hold.now in
+    let wave : List Tern = c.stretches.wave in
+    let new : List Tern = c.push.new.self in
+    let answer : Tern = c.tick-answer.result in
+    let n : ℕ = length wave in
+    let m : ℕ = c.min.result - c.len-t.result in
+    let here : c.len-t.result ≡ length wave = c.len-t.ensures.length in
+    let x : Rails = tern_rails c.stretch-first.result.level in
+    let y : Rails = tern_rails c.stretch-second.result.level in
+    let some : 1 ≤ m = omega (arith, c.min.ensures) in
+    let stays : StaysAt u x n m =
+    λ k low high. rails_in c.args.set.now c.stretch-first.result.level c.len-t.result
+    c.stretch-first.result.end k c.stretch-first.ensures.level (omega arith)
+    (omega (arith, c.min.ensures)) in
+    let keeps : StaysAt v y n m =
+    λ k low high. rails_in c.args.hold.now c.stretch-second.result.level c.len-t.result
+    c.stretch-second.result.end k c.stretch-second.ensures.level (omega arith)
+    (omega (arith, c.min.ensures)) in
+    let set_now = stays n (omega arith) (omega arith) in
+    let hold_now = keeps n (omega arith) (omega arith) in
+    let stands = seal_stands u v (tern_rails c.stretches.cell) n c.stretches.invariant.last in
+    let now : tern_rails answer ≡ rails_sealed u v n =
+    seal_answer u v x y (tern_rails answer) n set_now hold_now
+    (c.tick-answer.ensures.sealed 0 (first_ticks u n) (first_ticks v n) (omega arith) stands) in
+    let kept : tern_rails c.tick-answer.new.self ≡ rails_sealed u v n =
+    seal_answer u v x y (tern_rails c.tick-answer.new.self) n set_now hold_now
+    (seal_of_standing (first_ticks u n) (first_ticks v n) x y (tern_rails c.tick-answer.new.self)
+    (c.tick-answer.ensures.stands 0 (first_ticks u n) (first_ticks v n) (omega arith) stands)) in
+    record {
+      short = longer wave new answer m (length c.args.set.now) c.in_ok-push.ensures
+          (omega (arith, c.min.ensures));
+      values = ticks_more wave new answer m (rails_sealed u v) c.stretches.invariant.values
+          c.in_ok-push.ensures
+          (λ k low high. now ∙ sym (sealed_in u v x y n m k stays keeps low high));
+      last = kept_to_the_end u v x y (tern_rails c.tick-answer.new.self) n m stays keeps some kept
+          ∙ ap (last_seal u v) (sym (new_length wave new answer m c.in_ok-push.ensures));
+    }

@@ -1,0 +1,16 @@
+use Rattle.std.proofs.Common.{◌≡◌, ◌-◌, ◌≤◌, length}
+use Rattle.history.specs.Rails.{rails_sealed}
+use Rattle.tick_signal.specs.Terns.{tern_rails}
+use Rattle.timers.specs.Seals.{last_seal}
+use Rattle.wave_runs.specs.Waves.{wave_at, IsWaveOf}
+use Rattle.wave_runs.proofs.elements.seal.Given as goal
+
+abbrev pub invariant-stretches : goal.invariant-stretches
+invariant-stretches l = record {
+  short : length l.wave ≤ length l.set;
+  values : IsWaveOf l.wave (length l.wave) (λ t. rails_sealed (wave_at l.set) (wave_at l.hold) t);
+  last : tern_rails l.cell ≡ last_seal (wave_at l.set) (wave_at l.hold) (length l.wave);
+}
+
+abbrev pub decreases-stretches : goal.decreases-stretches
+decreases-stretches l = length l.set - length l.wave

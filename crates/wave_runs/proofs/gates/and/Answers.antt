@@ -1,0 +1,31 @@
+use Rattle.std.proofs.Common.{◌≡◌, ◌-◌, ℕ, List, length, sym, ◌∙◌, ap, arith}
+use Rattle.history.specs.Rails.{Rails, rails_and}
+use Rattle.tick_signal.specs.declared.tern.Tern.{Tern}
+use Rattle.tick_signal.specs.Terns.{tern_rails}
+use Rattle.wave_runs.specs.Waves.{wave_at}
+use Rattle.wave_runs.proofs.WaveLaws.{ticks_more, longer, rails_in}
+use Rattle.wave_runs.proofs.gates.and.Goals as goal
+
+pub stretches-preserved : goal.stretches-preserved
+stretches-preserved c =
+    let a : List Tern = c.args.a.now in
+    let b : List Tern = c.args.b.now in
+    let wave : List Tern = c.stretches.wave in
+    let first : Tern = c.stretch-first.result.level in
+    let second : Tern = c.stretch-second.result.level in
+    let n : ℕ = c.min.result - c.len-t.result in
+    let here : c.len-t.result ≡ length wave = c.len-t.ensures.length in
+    record {
+      short = longer wave c.push.new.self c.and.result n (length a) c.in_ok-push.ensures
+          (omega (arith, c.min.ensures));
+      values = ticks_more wave c.push.new.self c.and.result n
+          (λ t. rails_and (wave_at a t) (wave_at b t)) c.stretches.invariant.values
+          c.in_ok-push.ensures
+          (λ k low high. c.and.ensures 0 (omega arith)
+          ∙ ap (λ (x : Rails). rails_and x (tern_rails second))
+          (sym (rails_in a first c.len-t.result c.stretch-first.result.end k
+          c.stretch-first.ensures.level (omega arith) (omega (arith, c.min.ensures))))
+          ∙ ap (rails_and (wave_at a k))
+          (sym (rails_in b second c.len-t.result c.stretch-second.result.end k
+          c.stretch-second.ensures.level (omega arith) (omega (arith, c.min.ensures)))));
+    }

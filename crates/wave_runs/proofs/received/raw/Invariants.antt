@@ -1,0 +1,13 @@
+use Rattle.std.proofs.Common.{◌-◌, ◌≤◌, length}
+use Rattle.history.specs.Rails.{rails_delayed}
+use Rattle.wave_runs.specs.Waves.{wave_at, IsWaveOf}
+use Rattle.wave_runs.proofs.received.raw.Given as goal
+
+abbrev pub invariant-stretches : goal.invariant-stretches
+invariant-stretches l = record {
+  short : length l.wave ≤ length l.key;
+  values : IsWaveOf l.wave (length l.wave) (λ t. rails_delayed (wave_at l.key) l.delay t);
+}
+
+abbrev pub decreases-stretches : goal.decreases-stretches
+decreases-stretches l = length l.key - length l.wave

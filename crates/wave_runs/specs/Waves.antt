@@ -1,0 +1,55 @@
+-- Waves tick by tick, and as runs.
+use Rattle.std.specs.Prelude.{◌≡◌, ◌≢◌, ℕ, ◌<◌, ◌≤◌, List, [], ◌∷◌, length, replicate}
+use Rattle.std.specs.Prelude.{map, slice_get, Some}
+use Rattle.std.specs.List.{flat_map}
+use Rattle.history.specs.Rails.{Rails, rails_at}
+use Rattle.tick_signal.specs.declared.tern.Tern.{Tern}
+use Rattle.tick_signal.specs.Terns.{tern_rails}
+use Rattle.wave_runs.specs.declared.runs.Run.{Run}
+
+abbrev pub run_of : Tern → ℕ → Run
+run_of level ticks = record { level = level; ticks = ticks }
+
+-- the values of a run, tick by tick
+abbrev pub ticks_of : Run → List Tern
+ticks_of run = replicate run.ticks run.level
+
+-- the values of the runs, one run after another
+abbrev pub levels_of : List Run → List Tern
+levels_of runs = flat_map ticks_of runs
+
+-- each run has a tick at least, and the next run another value
+abbrev pub AreApart : List Run → Type 0
+AreApart [] = Unit {0}
+AreApart (run ∷ []) = 1 ≤ run.ticks
+AreApart (run ∷ next ∷ runs) =
+    (1 ≤ run.ticks) × (run.level ≢ next.level) × AreApart (next ∷ runs)
+
+-- they are the runs of a wave of so many ticks
+pub record AreRunsOf (runs : List Run) (len : ℕ) : Type 0 where
+  pub apart : AreApart runs
+  pub long : len ≡ length (levels_of runs)
+  pub short : len ≤ 4000
+
+-- the wave has this value from tick `from` on until tick `end`
+abbrev pub HasThroughout : List Tern → Tern → ℕ → ℕ → Type 0
+HasThroughout wave level from end = (k : ℕ) → from ≤ k → k < end → slice_get wave k ≡ Some level
+
+-- ---- the rails of a wave
+
+-- the rails at a tick; off outside
+abbrev pub wave_at : List Tern → ℕ → Rails
+wave_at wave t = rails_at (map tern_rails wave) t
+
+-- the wave of so many ticks whose rails at each tick are these
+pub record IsWaveOf (wave : List Tern) (len : ℕ) (value : ℕ → Rails) : Type 0 where
+  pub long : length wave ≡ len
+  pub values : (t : ℕ) → t < len → wave_at wave t ≡ value t
+
+-- `end` is the greatest tick up to `last` such that the values from tick t to `end` - 1 are equal
+pub record IsSameUntil (value : ℕ → Rails) (t last end : ℕ) : Type 0 where
+  pub later : t < end
+  pub limited : end ≤ last
+  pub same : (k : ℕ) → t ≤ k → k < end → value k ≡ value t
+  pub greatest : (m : ℕ) → t < m → m ≤ last → ((k : ℕ) → t ≤ k → k < m → value k ≡ value t)
+      → m ≤ end

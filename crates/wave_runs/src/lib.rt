@@ -1,0 +1,22 @@
+//! Ternary waves: what is known of a truth value at each tick of a horizon, kept as runs of equal
+//! values, so that long quiet waves cost little.
+//!
+//! Contracts see a wave as the list of its values, tick by tick, from tick 0 on.
+#![tactic(auto)]
+
+mod elements;
+mod gates;
+mod laws;
+mod received;
+mod runs;
+mod text;
+
+pub use elements::{seal, timer};
+pub use gates::{and, not, or};
+pub use laws::texts_tell_waves;
+pub use received::{raw, raw_at, raw_until};
+pub use runs::Runs;
+pub use text::{print_runs, read_runs};
+
+#[cfg(test)]
+mod tests;

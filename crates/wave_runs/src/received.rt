@@ -1,0 +1,112 @@
+//! What is received of a key wave.
+#![tactic(auto)]
+
+ghost use Rattle.std.specs.Prelude.{◌≡◌, ◌↔◌, ◌+◌, ◌<◌, ◌≤◌, IsTrue, length, IfOk};
+ghost use Rattle.history.specs.Comes.{AllCome, SomeComes};
+ghost use Rattle.history.specs.Rails.{rails_delayed};
+ghost use Rattle.tick_signal.specs.Spans.{ends_of};
+ghost use Rattle.tick_signal.specs.Terns.{tern_rails};
+ghost use Rattle.wave_runs.specs.Waves.{wave_at, IsWaveOf, IsSameUntil};
+
+use crate::runs::Runs;
+use line_model::Memory;
+use std::alloc::Global;
+use tick_signal::{Signal, Tern, Within};
+
+/// What is received of a key at each tick, where what arrives at a tick was delayed by a number of
+/// ticks within the span.
+pub fn raw(alloc: Global, key: &Runs, delay: Within) -> Result<Runs, Memory>
+    requires { 1 ≤ delay.least }
+    ensures { IfOk result (λ wave.
+        IsWaveOf wave (length key.now) (λ t. rails_delayed (wave_at key.now) delay t)) }
+{
+    let mut wave = Runs::new(alloc);
+    'stretches: while wave.len() < key.len() {
+        let t = wave.len();
+        let end = raw_until(key, delay, t).min(key.len());
+        wave.push(raw_at(key, delay, t), end - t)?;
+    }
+    Ok(wave)
+}
+
+/// What is received at a tick. At the tick after the key's last it rests on that key alone.
+pub fn raw_at(key: &Runs, delay: Within, t: u32) -> Tern
+    requires later { 1 ≤ delay.least }
+    requires known { t ≤ length key.now }
+    ensures { tern_rails result ≡ rails_delayed (wave_at key.now) delay t }
+{
+    received(key, delay, t)
+}
+
+/// Until when the same is received as at that tick: the first tick after it at which that differs,
+/// or at which a longer key would tell.
+pub fn raw_until(key: &Runs, delay: Within, t: u32) -> u32
+    requires later { 1 ≤ delay.least }
+    requires known { t ≤ length key.now }
+    ensures { IsSameUntil (rails_delayed (wave_at key.now) delay) t
+        (length key.now + delay.least) result }
+{
+    let last = key.len() + delay.least();
+    let first = received(key, delay, t);
+    let mut end = t + 1;
+    'ticks: while end < last && received(key, delay, end) == first {
+        end += 1;
+    }
+    end
+}
+
+// What is received at a tick at which every key that may arrive is known.
+fn received(key: &Runs, delay: Within, t: u32) -> Tern
+    requires later { 1 ≤ delay.least }
+    requires known { t < length key.now + delay.least }
+    ensures { tern_rails result ≡ rails_delayed (wave_at key.now) delay t }
+{
+    let least = delay.least();
+    let greatest = delay.greatest();
+    Tern::from_rails(
+        must_come(key, least, greatest, t),
+        may_come(key, least, greatest, t),
+    )
+}
+
+// Whether the key must have been on at every delay.
+fn must_come(key: &Runs, least: u32, greatest: u32, t: u32) -> bool
+    requires ordered { least ≤ greatest }
+    requires known { t < length key.now + least }
+    ensures { IsTrue result
+        ↔ AllCome (λ r. (wave_at key.now r).must) (ends_of least greatest) t }
+{
+    if t < greatest {
+        return false;
+    }
+    let mut k = t - greatest;
+    'stretches: while k <= t - least {
+        let input = key.stretch(k);
+        if !input.level.must(0) {
+            return false;
+        }
+        k = input.end;
+    }
+    true
+}
+
+// Whether the key may have been on at some delay.
+fn may_come(key: &Runs, least: u32, greatest: u32, t: u32) -> bool
+    requires ordered { least ≤ greatest }
+    requires known { t < length key.now + least }
+    ensures { IsTrue result
+        ↔ SomeComes (λ r. (wave_at key.now r).may) (ends_of least greatest) t }
+{
+    if t < least {
+        return false;
+    }
+    let mut k = t.saturating_sub(greatest);
+    'stretches: while k <= t - least {
+        let input = key.stretch(k);
+        if input.level.may(0) {
+            return true;
+        }
+        k = input.end;
+    }
+    false
+}

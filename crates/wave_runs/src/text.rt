@@ -1,0 +1,163 @@
+//! The text of a wave, both ways.
+#![tactic(auto)]
+
+ghost use Rattle.std.specs.Prelude.{◌≡◌, ◌≤◌, ◌<◌, ◌+◌, ◌++◌, List, length, take, drop};
+ghost use Rattle.std.specs.Prelude.{Some, IfOk, OnOk, MatchOption};
+ghost use Rattle.std.specs.List.{position_or_len};
+ghost use Rattle.tick_signal.specs.declared.tern.Tern.{Tern};
+ghost use Rattle.wave_runs.specs.declared.runs.Run.{Run};
+ghost use Rattle.wave_runs.specs.Waves.{AreRunsOf, levels_of};
+ghost use Rattle.wave_runs.specs.Text.{level_letter, item_text, items_text, runs_text, gap};
+ghost use Rattle.wave_runs.specs.Text.{IsTextOf, is_space, level_in, run_in};
+
+use crate::runs::{Run, Runs};
+use itoa::Buffer;
+use line_model::Memory;
+use relay_base::number;
+use std::alloc::Global;
+use tick_signal::Tern;
+
+/// The one text of the wave: items `L:N` in order of time, with one space between each two. L is
+/// `0`, `1` or `?`, N the number of ticks.
+pub fn print_runs(alloc: Global, runs: &Runs) -> Result<Vec<u8>, Memory>
+    ensures { IfOk result (λ text. text.items ≡ runs_text runs.now) }
+{
+    print_items(alloc, runs.as_runs())
+}
+
+fn print_items(alloc: Global, runs: &[Run]) -> Result<Vec<u8>, Memory>
+    ensures { IfOk result (λ text. text.items ≡ items_text runs.now) }
+{
+    let mut text = Vec::new(alloc);
+    for i in 0..runs.len() {
+        push_item(&mut text, gap_before(i), runs[i])?;
+    }
+    Ok(text)
+}
+
+// What stands before the item at that place.
+fn gap_before(i: usize) -> &'static [u8]
+    ensures { result.now ≡ gap i }
+{
+    if i == 0 { b"" } else { b" " }
+}
+
+// Appends an item, and what stands before it.
+fn push_item(text: &mut Vec<u8>, before: &[u8], run: Run) -> Result<(), Memory>
+    ensures { OnOk result (text.new.items ≡ text.old.items ++ (before.now ++ item_text run)) }
+{
+    let mut buffer = Buffer::new();
+    text.extend_from_slice(before)?;
+    text.push(letter_of(run.level))?;
+    text.push(b':')?;
+    text.extend_from_slice(buffer.format(run.ticks).as_bytes())?;
+    Ok(())
+}
+
+fn letter_of(level: Tern) -> u8
+    ensures { result ≡ level_letter level }
+{
+    match level {
+        Tern::Zero => b'0',
+        Tern::One => b'1',
+        Tern::Unknown => b'?',
+    }
+}
+
+/// The wave of this text, if it is the one text of a wave of so many ticks.
+pub fn read_runs(alloc: Global, text: &[u8], horizon: u32) -> Result<Option<Runs>, Memory>
+    requires some { 1 ≤ horizon }
+    requires limited { horizon ≤ 4000 }
+    ensures { IfOk result (λ read. MatchOption read
+        ((wave : List Tern) → ¬ IsTextOf text.now horizon wave)
+        (λ wave. IsTextOf text.now horizon wave)) }
+{
+    let Some(wave) = read_items(alloc, text, horizon)? else {
+        return Ok(None);
+    };
+    let printed = print_runs(alloc, &wave)?;
+    if wave.len() == horizon && printed.as_slice() == text {
+        Ok(Some(wave))
+    } else {
+        Ok(None)
+    }
+}
+
+// The wave of these items: if they are the items of a wave's runs, it is that wave.
+fn read_items(alloc: Global, text: &[u8], horizon: u32) -> Result<Option<Runs>, Memory>
+    requires some { 1 ≤ horizon }
+    requires limited { horizon ≤ 4000 }
+    ensures { IfOk result (λ read. (runs : List Run) → AreRunsOf runs horizon →
+        items_text runs ≡ text.now → read ≡ Some (levels_of runs)) }
+{
+    let mut wave = Runs::new(alloc);
+    let mut rest = text;
+    'items: loop {
+        let end = item_end(rest);
+        let Some(run) = first_run(rest, end) else {
+            return Ok(None);
+        };
+        if run.ticks < 1 || run.ticks > horizon - wave.len() {
+            return Ok(None);
+        }
+        wave.push(run.level, run.ticks)?;
+        if end == rest.len() {
+            return Ok(Some(wave));
+        }
+        rest = after_item(rest, end);
+    }
+}
+
+// Where the first item ends: at the first space, or with the text.
+fn item_end(text: &[u8]) -> usize
+    ensures place { result ≡ position_or_len is_space text.now }
+    ensures inside { result ≤ length text.now }
+{
+    for (i, byte) in text.iter().enumerate() {
+        if *byte == b' ' {
+            return i;
+        }
+    }
+    text.len()
+}
+
+// The run of the first item, which ends there.
+fn first_run(text: &[u8], end: usize) -> Option<Run>
+    requires { end ≤ length text.now }
+    ensures { result ≡ run_in (take end text.now) }
+{
+    item_of(&text[..end])
+}
+
+// What follows the space after the first item.
+fn after_item(text: &[u8], end: usize) -> &[u8]
+    requires { end < length text.now }
+    ensures { result.now ≡ drop (end + 1) text.now }
+{
+    &text[end + 1..]
+}
+
+// The run of an item.
+fn item_of(item: &[u8]) -> Option<Run>
+    ensures { result ≡ run_in item.now }
+{
+    match item {
+        [letter, b':', digits @ ..] => {
+            let level = level_of(*letter)?;
+            let ticks = number(digits)?;
+            Some(Run { level, ticks })
+        }
+        _ => None,
+    }
+}
+
+fn level_of(letter: u8) -> Option<Tern>
+    ensures { result ≡ level_in letter }
+{
+    match letter {
+        b'0' => Some(Tern::Zero),
+        b'1' => Some(Tern::One),
+        b'?' => Some(Tern::Unknown),
+        _ => None,
+    }
+}
