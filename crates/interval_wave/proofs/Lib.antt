@@ -1,0 +1,3 @@
+pub mod WrittenDown
+pub mod Declared
+pub mod Rules

@@ -1,0 +1,3 @@
+pub mod PairWavesOf
+pub mod Rules
+pub mod Spans

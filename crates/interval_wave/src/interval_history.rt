@@ -1,0 +1,44 @@
+// The interval history of the declared intervals.
+
+ghost use Rattle.std.specs.Prelude.{◌≡◌, IfOk};
+ghost use Rattle.line_model.specs.Parameters.{terminal_count};
+ghost use Rattle.line_model.specs.Choice.{Choice, IsInside, declared_box};
+ghost use Rattle.line_model.specs.Histories.{History, IsLineHistory, CoversHistory};
+ghost use Rattle.gate_net.specs.NetOf.{IsNetOf};
+ghost use Rattle.simulator.specs.Runs.{IsTheHistory};
+ghost use Rattle.interval_wave.specs.PairWavesOf.{pair_history};
+
+use crate::pair_waves::PairWaves;
+use crate::spans::declared_spans;
+use gate_net::Net;
+use line_model::laws::{
+    a_wider_box_covers, each_box_has_one_interval_history, each_line_has_a_choice_inside,
+};
+use line_model::{Line, Memory, Script};
+use simulator::run;
+use std::alloc::Global;
+use tick_signal::{Tern, Within};
+use timing_box::Step;
+
+/// Runs the net of a line over a script, for all choices of delays in the declared intervals at
+/// once.
+pub fn analyse(alloc: Global, net: &Net, line: &Line, script: &Script) -> Result<PairWaves, Memory>
+    requires { IsNetOf line.now net.now }
+    ensures terminals { IfOk result (λ w. w.terminals ≡ terminal_count line.now) }
+    ensures horizon { IfOk result (λ w. w.horizon ≡ line.now.horizon) }
+    // The waves are the one interval history over the declared intervals,
+    ensures history { IfOk result (λ w.
+        IsTheHistory line.now script.now (declared_box line.now) (pair_history w)) }
+    // and they cover the history of each choice inside.
+    ensures covers { IfOk result (λ w. (choice : Choice) (h : History) →
+        IsInside line.now choice → IsLineHistory line.now script.now choice h →
+        CoversHistory line.now (pair_history w) h) }
+{
+    each_line_has_a_choice_inside();
+    each_box_has_one_interval_history();
+    a_wider_box_covers();
+    let spans = declared_spans(alloc, line)?;
+    let steps: [Step<Within>; 0] = [];
+    let waves = run::<Tern>(alloc, net, line, script, &spans, &steps)?;
+    Ok(PairWaves::new(line.horizon, waves))
+}

@@ -1,0 +1,19 @@
+// The declared intervals as spans.
+
+ghost use Rattle.std.specs.Prelude.{◌≡◌, IfOk};
+ghost use Rattle.interval_wave.specs.Spans.{declared_spans as spans_of};
+
+use line_model::{Line, Memory};
+use std::alloc::Global;
+use tick_signal::Within;
+
+/// The declared interval of each parameter, in order.
+pub fn declared_spans(alloc: Global, line: &Line) -> Result<Vec<Within>, Memory>
+    ensures { IfOk result (λ spans. spans.items ≡ spans_of line.now) }
+{
+    let mut spans = Vec::with_capacity(alloc, line.params.len())?;
+    for param in &line.params {
+        spans.push(Within::new(param.least, param.greatest))?;
+    }
+    Ok(spans)
+}

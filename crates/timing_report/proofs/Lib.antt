@@ -1,0 +1,3 @@
+pub mod FirstTicks
+pub mod SameRows
+pub mod Texts

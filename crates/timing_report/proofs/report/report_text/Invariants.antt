@@ -1,0 +1,10 @@
+use Rattle.std.proofs.Common.{◌≡◌, take}
+use Rattle.line_model.specs.declared.script.Script.{Script}
+use Rattle.line_model.specs.Histories.{PairHistory}
+use Rattle.timing_report.specs.ReportText.{AreHistories, report_text_of}
+use Rattle.timing_report.proofs.report.report_text.Given as goal
+
+abbrev pub invariant-loop-script : goal.invariant-loop-script
+invariant-loop-script l =
+    (histories : Script → PairHistory) → AreHistories l.line histories
+    → l.text.items ≡ report_text_of l.line (take l.script-index l.scripts) histories

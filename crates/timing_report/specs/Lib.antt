@@ -1,0 +1,3 @@
+pub mod FirstTick
+pub mod Margin
+pub mod ReportText
