@@ -1,0 +1,5 @@
+pub mod ListLaws
+pub mod BlockLaws
+pub mod FailingLaws
+pub mod StandingLaws
+pub mod VerdictLaws

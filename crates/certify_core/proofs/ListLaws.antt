@@ -1,0 +1,34 @@
+-- Lists with one element for each number, made one by one.
+use Rattle.std.proofs.Common.{◌≡◌, ℕ, ◌+◌, List, [], ◌∷◌, ◌++◌, Some, length, length-append}
+use Rattle.std.proofs.Common.{sym, ◌∙◌, ap, subst, ⊎_elim}
+use Rattle.std.specs.Prelude.{slice_get}
+use Rattle.simulator.proofs.Lists.{at_push}
+use Rattle.certify_core.specs.OneEach.{OneEach}
+
+module _ {X : Type 0} (said : ℕ → X → Type 0) where
+  pub none_yet : (xs : List X) → xs ≡ [] → OneEach said 0 xs
+  none_yet xs none = record {
+    count = ap length none;
+    each = λ k x at.
+        let nothing : slice_get [] k ≡ Some x =
+        ap (λ (l : List X). slice_get l k) (sym none) ∙ at in
+        absurd (cc);
+  }
+
+  pub one_more : (n : ℕ) (xs new : List X) (x : X) → new ≡ xs ++ x ∷ [] → said n x
+      → OneEach said n xs → OneEach said (n + 1) new
+  one_more n xs new x is here so_far =
+      subst (OneEach said (n + 1)) (sym is)
+      (record {
+        count = length-append xs (x ∷ []) ∙ ap (λ (k : ℕ). k + 1) so_far.count;
+        each = λ k y at.
+            ⊎_elim (λ before. so_far.each k y before)
+            (λ last.
+            subst (said k) (sym last.1)
+            (subst (λ (j : ℕ). said j x) (sym (last.0 ∙ so_far.count)) here))
+            (at_push xs x y k at);
+      })
+
+  -- after the last
+  pub all_there : (n m : ℕ) (xs : List X) → n ≡ m → OneEach said n xs → OneEach said m xs
+  all_there n m xs same so_far = subst (λ (k : ℕ). OneEach said k xs) same so_far

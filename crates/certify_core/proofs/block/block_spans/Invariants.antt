@@ -1,0 +1,7 @@
+use Rattle.certify_core.specs.OneEach.{OneEach}
+use Rattle.certify_core.specs.Candidates.{IsBlockSpan}
+use Rattle.certify_core.proofs.block.block_spans.Given as goal
+
+abbrev pub invariant-loop-param : goal.invariant-loop-param
+invariant-loop-param l =
+    OneEach (λ param span. IsBlockSpan l.line l.first param span) l.param l.spans.items

@@ -1,0 +1,12 @@
+use Rattle.std.proofs.Common.{◌≡◌, ◌+◌, length}
+use Rattle.line_model.specs.Histories.{PairHistory}
+use Rattle.certify_core.specs.OneEach.{OneEach}
+use Rattle.certify_core.specs.Standings.{IsStanding, AllStand}
+use Rattle.certify_core.proofs.standing.after_block.Given as goal
+
+abbrev pub invariant-loop-k : goal.invariant-loop-k
+invariant-loop-k l = record {
+  count : length l.after.items ≡ l.k;
+  stand : (w : PairHistory) → AllStand l.line l.script w l.first l.standings
+      → OneEach (λ k s. IsStanding l.line l.script k w (l.first + 64) s) l.k l.after.items;
+}

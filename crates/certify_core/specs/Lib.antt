@@ -1,0 +1,5 @@
+pub mod OneEach
+pub mod Verdicts
+pub mod Candidates
+pub mod Standings
+pub mod Piece

@@ -1,0 +1,104 @@
+// Blocks of 64 candidates, which run side by side.
+
+ghost use Rattle.std.specs.Prelude.{◌≡◌, ◌<◌, IfOk};
+ghost use Rattle.line_model.specs.Parameters.{param_count};
+ghost use Rattle.gate_net.specs.NetOf.{IsNetOf};
+ghost use Rattle.timing_box.specs.Candidates.{candidate, candidate_count as count_of};
+ghost use Rattle.timing_box.specs.Candidates.{candidate_value as value_of};
+ghost use Rattle.certify_core.specs.Candidates.{candidate_in, IsBlockSpan, AreBlockSpans};
+ghost use Rattle.certify_core.specs.Candidates.{IsBlockRun};
+
+use gate_net::Net;
+use line_model::laws::each_line_has_a_choice_inside;
+use line_model::{Line, Memory, Script};
+use simulator::{Waves, run};
+use std::alloc::Global;
+use tick_signal::{Lanes64, Tick, Ticks64};
+use timing_box::{
+    Step, Timing, candidate_count, candidate_value, candidates_are_inside,
+    timings_inside_are_choices_inside,
+};
+
+/// The number of the candidate in a lane of the block that begins with candidate `first`. The lanes
+/// past the last candidate repeat it.
+pub fn number_in(line: &Line, first: u32, lane: u32) -> u32
+    requires first { first < count_of line.now }
+    requires lane { lane < 64 }
+    ensures number { result ≡ candidate_in line.now first lane }
+    ensures exists { result < count_of line.now }
+{
+    let count = candidate_count(line);
+    if first + lane < count {
+        first + lane
+    } else {
+        count - 1
+    }
+}
+
+// A parameter's number in a candidate.
+fn tick(line: &Line, number: u32, param: u32) -> Tick
+    requires candidate { number < count_of line.now }
+    requires param { param < param_count line.now }
+    ensures { result ≡ value_of line.now number param }
+{
+    candidates_are_inside();
+    Tick::new(candidate_value(line, number, param))
+}
+
+// A parameter's number in each candidate of a block.
+fn block_span(line: &Line, first: u32, param: u32) -> Ticks64
+    requires first { first < count_of line.now }
+    requires param { param < param_count line.now }
+    ensures { IsBlockSpan line.now first param result }
+{
+    let mut ticks = [Tick::new(0); 64];
+    for lane in 0..64 {
+        ticks[lane] = tick(line, number_in(line, first, lane as u32), param);
+    }
+    Ticks64::new(ticks)
+}
+
+// A span for each parameter.
+fn block_spans(alloc: Global, line: &Line, first: u32) -> Result<Vec<Ticks64>, Memory>
+    requires { first < count_of line.now }
+    ensures { IfOk result (λ spans. AreBlockSpans line.now first spans.items) }
+{
+    let mut spans = Vec::new(alloc);
+    for param in 0..line.param_count() {
+        spans.push(block_span(line, first, param))?;
+    }
+    Ok(spans)
+}
+
+/// Runs the candidates of a block.
+pub fn run_block(
+    alloc: Global,
+    line: &Line,
+    net: &Net,
+    script: &Script,
+    first: u32,
+) -> Result<Waves<Lanes64>, Memory>
+    requires of_line { IsNetOf line.now net.now }
+    requires first { first < count_of line.now }
+    ensures { IfOk result (λ waves. IsBlockRun line.now script.now first waves) }
+{
+    candidates_are_inside();
+    timings_inside_are_choices_inside();
+    each_line_has_a_choice_inside();
+    let spans = block_spans(alloc, line, first)?;
+    let steps: [Step<Ticks64>; 0] = [];
+    let waves = run::<Lanes64>(alloc, net, line, script, &spans, &steps)?;
+    Ok(waves)
+}
+
+/// A candidate.
+pub fn timing_of(alloc: Global, line: &Line, number: u32) -> Result<Timing, Memory>
+    requires { number < count_of line.now }
+    ensures { IfOk result (λ timing. timing ≡ candidate line.now number) }
+{
+    let mut values = Vec::new(alloc);
+    for param in 0..line.param_count() {
+        values.push(tick(line, number, param))?;
+    }
+    Ok(Timing::new(values))
+}

@@ -1,0 +1,15 @@
+//! The verdict of each obligation of a script, with the keys that show it, and its part of a
+//! certificate.
+#![tactic(auto)]
+
+mod block;
+mod certification;
+mod failing;
+mod keys;
+mod piece;
+mod standing;
+mod verdict;
+
+pub use certification::certify;
+pub use piece::{CERT_END, CERT_HEAD, cert_piece};
+pub use verdict::{ScriptVerdict, Verdict};
