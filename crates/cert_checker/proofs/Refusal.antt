@@ -1,0 +1,81 @@
+-- A first fault refuses the claims.
+use Rattle.std.proofs.Common.{◌≢◌, ℕ, List, refl}
+use Rattle.history.specs.Rails.{Rails}
+use Rattle.line_model.specs.declared.line.Line.{Line}
+use Rattle.line_model.specs.declared.script.Script.{Script}
+use Rattle.line_model.specs.PairMean.{PairSignals}
+use Rattle.line_model.proofs.HistoryLaws.{history_exists}
+use Rattle.simulator.proofs.PlayLaws.{inside_delays}
+use Rattle.cert_checker.specs.declared.claim.Claim.{Claim}
+use Rattle.cert_checker.specs.declared.claim.Claim.TheVariants.{Yes, No, Undecided}
+use Rattle.cert_checker.specs.declared.claim.ClaimFault.{ClaimFault}
+use Rattle.cert_checker.specs.declared.claim.ClaimFault.TheVariants.{
+  NotCovered,
+  NotHeld,
+  Outside,
+  Passes,
+  Memory,
+}
+use Rattle.cert_checker.specs.Refutations.{IsRefutation, IsMetInside, choice_of, steady_timing}
+use Rattle.cert_checker.specs.Verdicts.{
+  IsSupported,
+  IsYesFault,
+  IsNoFault,
+  IsFaultOf,
+  IsVerdictFault,
+  IsFirstFault,
+  AreAccepted,
+}
+use Rattle.cert_checker.proofs.Refutations.{met_meets}
+
+-- numbers whose history meets the obligation do not refute it
+passes_or_fails : (line : Line) (script : Script) (k : ℕ) (values : List ℕ) (t : ℕ)
+    → IsMetInside line script k values t → IsRefutation line script k values → ⊥
+passes_or_fails line script k values t met refuted =
+    let h = history_exists line script (choice_of line values)
+    (inside_delays line (steady_timing values) met.inside) in
+    refuted.fails h.0 h.1
+    (met_meets script.kind script.deadline line.horizon (h.0.trip k) t (met.passes h.0 h.1))
+
+module _ (line : Line) (script : Script) (k : ℕ) where
+  yes_refused : (trip : ℕ → Rails) (fault : ClaimFault) → IsYesFault line script k trip fault
+      → IsSupported line script k trip Yes → ⊥
+  yes_refused trip (NotCovered u) h held = h
+  yes_refused trip (NotHeld j) h held = h.1 held
+  yes_refused trip (Outside j i value) h held = h
+  yes_refused trip (Passes j t) h held = h
+  yes_refused trip Memory h held = h
+
+  no_refused : (values : List ℕ) (fault : ClaimFault) → fault ≢ Memory
+      → IsNoFault line script k values fault → IsRefutation line script k values → ⊥
+  no_refused values (NotCovered u) some h refuted = h
+  no_refused values (NotHeld j) some h refuted = h
+  no_refused values (Outside j i value) some h refuted =
+      h.1.first.fails (refuted.inside.values i h.1.first.inside)
+  no_refused values (Passes j t) some h refuted =
+      passes_or_fails line script k values t h.1 refuted
+  no_refused values Memory some h refuted = some refl
+
+  verdict_refused : (trip : ℕ → Rails) (claim : Claim) (fault : ClaimFault) → fault ≢ Memory
+      → IsFaultOf line script k trip claim fault → IsSupported line script k trip claim → ⊥
+  verdict_refused trip Yes fault some h held = yes_refused trip fault h held
+  verdict_refused trip (No values) fault some h refuted =
+      no_refused values.items fault some h refuted
+  verdict_refused trip Undecided fault some h tt = h
+
+module _ (line : Line) (script : Script) (claims : PairSignals) (verdicts : List Claim)
+    (accepted : AreAccepted line script claims verdicts) where
+  by_verdict : (fault : ClaimFault) → fault ≢ Memory
+      → IsVerdictFault line script claims verdicts fault → ⊥
+  by_verdict fault some h =
+      verdict_refused line script h.terminal _ h.claim fault some h.wrong
+      (accepted.supported h.terminal h.claim h.is)
+
+  pub fault_refuses : (fault : ClaimFault) → fault ≢ Memory
+      → IsFirstFault line script claims verdicts fault → ⊥
+  fault_refuses (NotCovered u) some h =
+      h.tick.fails (accepted.covered u.terminal u.tick h.terminal.inside h.tick.inside)
+  fault_refuses (NotHeld k) some h = by_verdict (NotHeld k) some h.1
+  fault_refuses (Outside k i value) some h = by_verdict (Outside k i value) some h.1
+  fault_refuses (Passes k t) some h = by_verdict (Passes k t) some h.1
+  fault_refuses Memory some h = some refl

@@ -1,0 +1,78 @@
+-- What a run at known numbers shows of an obligation.
+use Rattle.std.proofs.Common.{◌≡◌, ℕ, suc, ◌<◌, ◌≤◌, Bool, List, Option, Some, None}
+use Rattle.std.proofs.Common.{sym, ◌∙◌, arith}
+use Rattle.std.specs.Prelude.{IsTrue, MatchOption}
+use Rattle.std.proofs.lemmas.Bool.{ltb-true, eqb-true}
+use Rattle.line_model.specs.declared.line.Line.{Line}
+use Rattle.line_model.specs.declared.script.Kind.{Kind}
+use Rattle.line_model.specs.declared.script.Kind.TheVariants.{Internal, External}
+use Rattle.line_model.specs.declared.script.Script.{Script}
+use Rattle.line_model.specs.Parameters.{terminal_count}
+use Rattle.line_model.specs.Choice.{DelaysFromOne}
+use Rattle.line_model.specs.Fits.{Fits, deadline_fits}
+use Rattle.line_model.specs.Histories.{History, IsLineHistory, IsSameHistory, MeetsBy}
+use Rattle.line_model.proofs.HistoryLaws.{history_once}
+use Rattle.cert_checker.specs.Refutations.{choice_of, FailsAt, IsMetAt, PassesAt}
+
+-- the deadline of a script that fits is below the horizon
+deadline_below : (kind : Kind) (deadline horizon : ℕ) → 1 ≤ horizon
+    → IsTrue (deadline_fits horizon kind deadline) → deadline < horizon
+deadline_below Internal deadline horizon some fits = ltb-true deadline horizon fits
+deadline_below External deadline horizon some fits =
+    let none : deadline ≡ 0 = eqb-true deadline 0 fits in omega (arith, none, some)
+
+pub fitting_deadline : (line : Line) (script : Script) → Fits line script
+    → script.deadline < line.horizon
+fitting_deadline line script fits =
+    deadline_below script.kind script.deadline line.horizon line.horizon_in_range.0 fits.deadline
+
+-- ---- trips that are the same over the run
+
+meets_same : (kind : Kind) (deadline horizon : ℕ) (f g : ℕ → Bool) → deadline < horizon
+    → ((t : ℕ) → t < horizon → f t ≡ g t)
+    → MeetsBy kind deadline horizon f → MeetsBy kind deadline horizon g
+meets_same Internal deadline horizon f g early same met =
+    let le : met.0 ≤ deadline = met.1 in
+    (met.0, met.1, sym (same met.0 (omega arith)) ∙ met.2)
+meets_same External deadline horizon f g early same met = λ t lt. sym (same t lt) ∙ met t lt
+
+met_same : (kind : Kind) (deadline horizon : ℕ) (f g : ℕ → Bool) (t : ℕ) → deadline < horizon
+    → ((r : ℕ) → r < horizon → f r ≡ g r)
+    → IsMetAt kind deadline horizon f t → IsMetAt kind deadline horizon g t
+met_same Internal deadline horizon f g t early same met =
+    let inside : t < suc deadline = met.inside in
+    record {
+      inside = met.inside;
+      on = sym (same t (omega arith)) ∙ met.on;
+      before = λ r lt. sym (same r (omega arith)) ∙ met.before r lt;
+    }
+met_same External deadline horizon f g t early same met =
+    (met.0, λ r lt. sym (same r lt) ∙ met.1 r lt)
+
+-- a tick shows that the obligation is met
+pub met_meets : (kind : Kind) (deadline horizon : ℕ) (trip : ℕ → Bool) (t : ℕ)
+    → IsMetAt kind deadline horizon trip t → MeetsBy kind deadline horizon trip
+met_meets Internal deadline horizon trip t met =
+    let inside : t < suc deadline = met.inside in (t, omega arith, met.on)
+met_meets External deadline horizon trip t met = met.1
+
+-- ---- what one history at the numbers shows, all do
+
+module _ (line : Line) (script : Script) (values : List ℕ)
+    (d : DelaysFromOne line (choice_of line values)) (early : script.deadline < line.horizon)
+    (k : ℕ) (there : k < terminal_count line) (g : History)
+    (is_g : IsLineHistory line script (choice_of line values) g) where
+  pub told_by_one : (met : Option ℕ)
+      → MatchOption met (¬ (MeetsBy script.kind script.deadline line.horizon (g.trip k)))
+      (λ t. IsMetAt script.kind script.deadline line.horizon (g.trip k) t)
+      → MatchOption met (FailsAt line script k values) (λ t. PassesAt line script k values t)
+  told_by_one None fails = λ h is_h meets.
+      let same : IsSameHistory line h g =
+      history_once line script (choice_of line values) d h g is_h is_g in
+      fails (meets_same script.kind script.deadline line.horizon (h.trip k) (g.trip k) early
+      (λ t lt. same.trips k t there lt) meets)
+  told_by_one (Some t) met = λ h is_h.
+      let same : IsSameHistory line g h =
+      history_once line script (choice_of line values) d g h is_g is_h in
+      met_same script.kind script.deadline line.horizon (g.trip k) (h.trip k) t early
+      (λ r lt. same.trips k r there lt) met

@@ -1,0 +1,10 @@
+use Rattle.std.proofs.Common.{arith}
+use Rattle.history.specs.Rails.{both}
+use Rattle.cert_checker.proofs.Waves.{one_level}
+use Rattle.cert_checker.proofs.script_wave.steady.Goals as goal
+
+pub returns : goal.returns
+returns c =
+    one_level c.new-wave.result c.push.new.self c.known.result c.args.horizon
+    (λ t. both c.args.value) c.new-wave.ensures c.in_ok-push.ensures
+    (λ k early. c.known.ensures 0 (omega arith))

@@ -1,0 +1,4 @@
+pub mod Claims
+pub mod Firsts
+pub mod Refutations
+pub mod Verdicts

@@ -1,0 +1,138 @@
+-- When the claims of a script are accepted, and the first fault where they are not.
+use Rattle.std.specs.Prelude.{◌≡◌, ◌<◌, ℕ, List, Some, length, slice_get}
+use Rattle.std.specs.List.{All}
+use Rattle.history.specs.Rails.{Rails, RailsCover}
+use Rattle.tick_signal.specs.Terns.{tern_rails}
+use Rattle.line_model.specs.declared.line.Line.{Line}
+use Rattle.line_model.specs.declared.script.Script.{Script}
+use Rattle.line_model.specs.Parameters.{terminal_count, param_count}
+use Rattle.line_model.specs.PairMean.{PairSignals, pair_mean}
+use Rattle.line_model.specs.Choice.{declared_box}
+use Rattle.line_model.specs.Logic.{key_tree, trip_tree}
+use Rattle.line_model.specs.Histories.{AreCovered}
+use Rattle.line_model.specs.Rule.{Held, rule_of}
+use Rattle.cert_checker.specs.declared.claim.Claim.{Claim}
+use Rattle.cert_checker.specs.declared.claim.Claim.TheVariants.{Yes, No, Undecided}
+use Rattle.cert_checker.specs.declared.claim.Uncovered.{Uncovered}
+use Rattle.cert_checker.specs.declared.claim.ClaimFault.{ClaimFault}
+use Rattle.cert_checker.specs.declared.claim.ClaimFault.TheVariants.{
+  NotCovered,
+  NotHeld,
+  Outside,
+  Passes,
+  Memory,
+}
+use Rattle.cert_checker.specs.Claims.{declared_world}
+use Rattle.cert_checker.specs.Firsts.{IsFirstFailing}
+use Rattle.cert_checker.specs.Refutations.{IsRefutation, IsFirstOutside, IsMetInside}
+
+-- ---- keys
+
+-- what follows from the claims for each terminal's key, and for its trip
+abbrev pub derived_key : Line → Script → PairSignals → PairSignals
+derived_key line script claims k t =
+    pair_mean (declared_world line script) claims (key_tree line k) t
+
+abbrev pub derived_trip : Line → Script → PairSignals → PairSignals
+derived_trip line script claims k t =
+    pair_mean (declared_world line script) claims (trip_tree line k) t
+
+-- terminal k's claim covers what follows for its key at tick t
+abbrev pub IsCovered : Line → Script → PairSignals → ℕ → ℕ → Type 0
+IsCovered line script claims k t = RailsCover (claims k t) (derived_key line script claims k t)
+
+-- it does at each tick
+abbrev pub IsKeyCovered : Line → Script → PairSignals → ℕ → Type 0
+IsKeyCovered line script claims k = (t : ℕ) → t < line.horizon → IsCovered line script claims k t
+
+-- the first terminal whose claim does not cover, in it the first tick, and both values there
+pub record IsFirstUncovered (line : Line) (script : Script) (claims : PairSignals) (u : Uncovered)
+    : Type 0 where
+  pub terminal : IsFirstFailing (IsKeyCovered line script claims) (terminal_count line) u.terminal
+  pub tick : IsFirstFailing (IsCovered line script claims u.terminal) line.horizon u.tick
+  pub claimed : tern_rails u.claimed ≡ claims u.terminal u.tick
+  pub derived : tern_rails u.derived ≡ derived_key line script claims u.terminal u.tick
+
+-- ---- verdicts
+
+-- a `no` has one number for each parameter
+abbrev pub HasNumbers : Line → Claim → Type 0
+HasNumbers line Yes = Unit {0}
+HasNumbers line (No values) = length values.items ≡ param_count line
+HasNumbers line Undecided = Unit {0}
+
+-- one verdict for each terminal
+pub record AreVerdicts (line : Line) (verdicts : List Claim) : Type 0 where
+  pub many : length verdicts ≡ terminal_count line
+  pub numbers : All (HasNumbers line) verdicts
+
+-- the verdict of terminal k stands, where its trip has these pairs: a `yes` is held, a `no` is
+-- refuted by its numbers, and an `undecided` owes nothing
+abbrev pub IsSupported : Line → Script → ℕ → (ℕ → Rails) → Claim → Type 0
+IsSupported line script k trip Yes = rule_of line script trip ≡ Held
+IsSupported line script k trip (No values) = IsRefutation line script k values.items
+IsSupported line script k trip Undecided = Unit {0}
+
+-- what is wrong with a `yes` of terminal k, where its trip has these pairs: it is not held
+abbrev pub IsYesFault : Line → Script → ℕ → (ℕ → Rails) → ClaimFault → Type 0
+IsYesFault line script k trip (NotCovered u) = ⊥
+IsYesFault line script k trip (NotHeld j) = (j ≡ k) × ¬ (rule_of line script trip ≡ Held)
+IsYesFault line script k trip (Outside j i value) = ⊥
+IsYesFault line script k trip (Passes j t) = ⊥
+IsYesFault line script k trip Memory = ⊥
+
+-- what is wrong with a `no` of terminal k: a number is outside, or the numbers' history meets the
+-- obligation. Want of memory says nothing.
+abbrev pub IsNoFault : Line → Script → ℕ → List ℕ → ClaimFault → Type 0
+IsNoFault line script k values (NotCovered u) = ⊥
+IsNoFault line script k values (NotHeld j) = ⊥
+IsNoFault line script k values (Outside j i value) = (j ≡ k) × IsFirstOutside line values i value
+IsNoFault line script k values (Passes j t) = (j ≡ k) × IsMetInside line script k values t
+IsNoFault line script k values Memory = Unit {0}
+
+-- what is wrong with the verdict of terminal k
+abbrev pub IsFaultOf : Line → Script → ℕ → (ℕ → Rails) → Claim → ClaimFault → Type 0
+IsFaultOf line script k trip Yes fault = IsYesFault line script k trip fault
+IsFaultOf line script k trip (No values) fault = IsNoFault line script k values.items fault
+IsFaultOf line script k trip Undecided fault = ⊥
+
+-- each verdict stands, by the trips that follow from the claims
+abbrev pub AreSupported : Line → Script → PairSignals → List Claim → Type 0
+AreSupported line script claims verdicts =
+    (k : ℕ) (claim : Claim) → slice_get verdicts k ≡ Some claim
+    → IsSupported line script k (derived_trip line script claims k) claim
+
+-- this is what is wrong with the first verdict that does not stand
+pub record IsVerdictFault (line : Line) (script : Script) (claims : PairSignals)
+    (verdicts : List Claim) (fault : ClaimFault) : Type 0 where
+  pub terminal : ℕ
+  pub claim : Claim
+  pub is : slice_get verdicts terminal ≡ Some claim
+  pub before : (k : ℕ) (earlier : Claim) → k < terminal → slice_get verdicts k ≡ Some earlier
+      → IsSupported line script k (derived_trip line script claims k) earlier
+  pub wrong : IsFaultOf line script terminal (derived_trip line script claims terminal) claim fault
+
+-- ---- both
+
+-- the claimed keys cover what follows from them, and each verdict stands
+pub record AreAccepted (line : Line) (script : Script) (claims : PairSignals)
+    (verdicts : List Claim) : Type 0 where
+  pub covered : AreCovered line script (declared_box line) claims
+  pub supported : AreSupported line script claims verdicts
+
+-- the claimed keys cover, and this is the first fault of the verdicts
+abbrev pub IsFirstVerdictFault : Line → Script → PairSignals → List Claim → ClaimFault → Type 0
+IsFirstVerdictFault line script claims verdicts fault =
+    AreCovered line script (declared_box line) claims
+    × IsVerdictFault line script claims verdicts fault
+
+-- the first fault: that of the keys, else that of the verdicts. Want of memory says nothing.
+abbrev pub IsFirstFault : Line → Script → PairSignals → List Claim → ClaimFault → Type 0
+IsFirstFault line script claims verdicts (NotCovered u) = IsFirstUncovered line script claims u
+IsFirstFault line script claims verdicts (NotHeld k) =
+    IsFirstVerdictFault line script claims verdicts (NotHeld k)
+IsFirstFault line script claims verdicts (Outside k i value) =
+    IsFirstVerdictFault line script claims verdicts (Outside k i value)
+IsFirstFault line script claims verdicts (Passes k t) =
+    IsFirstVerdictFault line script claims verdicts (Passes k t)
+IsFirstFault line script claims verdicts Memory = Unit {0}

@@ -1,0 +1,58 @@
+// What is claimed of an obligation, and what can be wrong with the claims of a script.
+
+ghost use Rattle.std.specs.Prelude.{◌≡◌};
+
+use line_model::Memory;
+use tick_signal::Tern;
+
+/// A claimed verdict of an obligation, which is a script at a terminal: each choice of delays
+/// inside the declared intervals meets it; it fails at these numbers, one for each parameter; or
+/// neither is said.
+#[derive(Drop)]
+pub enum Claim {
+    Yes,
+    No(Vec<u32>),
+    Undecided,
+}
+
+/// Where a claimed key does not cover what follows from the claims, and both values there.
+#[derive(Clone, Copy, PartialEq, Eq, Debug)]
+pub struct Uncovered {
+    pub terminal: u32,
+    pub tick: u32,
+    pub claimed: Tern,
+    pub derived: Tern,
+}
+
+/// What is wrong with the claims of a script.
+#[derive(Clone, Copy, PartialEq, Eq, Debug)]
+pub enum ClaimFault {
+    /// A claimed key does not cover what follows from the claims.
+    NotCovered(Uncovered),
+    /// The `yes` of this terminal is not held by the trips that follow from the claims.
+    NotHeld(u32),
+    /// The `no` of a terminal has a parameter's number outside its interval.
+    Outside {
+        terminal: u32,
+        param: u32,
+        value: u32,
+    },
+    /// The `no` of a terminal has numbers whose history meets the obligation. Internal fault: it
+    /// first trips at this tick. External fault: the tick is the horizon.
+    Passes {
+        terminal: u32,
+        tick: u32,
+    },
+    /// Memory ran out. Nothing else is answered by it.
+    Memory,
+}
+
+impl From<Memory> for ClaimFault {
+    ghost use Rattle.cert_checker.specs.declared.claim.ClaimFault.{ClaimFault};
+
+    ghost from_gives = { λ _ fault. fault ≡ ClaimFault.Memory };
+
+    fn from(_memory: Memory) -> ClaimFault {
+        ClaimFault::Memory
+    }
+}

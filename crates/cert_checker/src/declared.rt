@@ -1,0 +1,49 @@
+// The declared intervals.
+
+ghost use Rattle.std.specs.Prelude.{◌≡◌, ◌≤◌, ◌<◌};
+ghost use Rattle.line_model.specs.Parameters.{param_count, channel_count, delay_param};
+ghost use Rattle.line_model.specs.Parameters.{declared_ends};
+ghost use Rattle.line_model.specs.Names.{HasTime};
+ghost use Rattle.line_model.specs.Choice.{ends_by};
+
+use line_model::{Line, Owner, Setting, Time};
+use tick_signal::Within;
+
+/// The interval of a pickup or dropout.
+pub fn declared_time(line: &Line, time: Time) -> Within
+    requires { HasTime line.now time }
+    ensures { result ≡ ends_by (declared_ends line.now) time }
+{
+    match time {
+        Time::Zero => Within::new(0, 0),
+        Time::Param(i) => declared_param(line, i),
+    }
+}
+
+/// The interval of a channel's delay.
+pub fn declared_delay(line: &Line, channel: u32) -> Within
+    requires { channel < channel_count line.now }
+    ensures is { result ≡ declared_ends line.now (delay_param line.now channel) }
+    ensures later { 1 ≤ result.least }
+{
+    declared_param(line, delay_number(line, channel))
+}
+
+/// The interval of a parameter.
+pub fn declared_param(line: &Line, param: u32) -> Within
+    requires { param < param_count line.now }
+    ensures { result ≡ declared_ends line.now param }
+{
+    let bounds = line.params[param as usize];
+    Within::new(bounds.least, bounds.greatest)
+}
+
+// The number of a channel's delay among the parameters.
+fn delay_number(line: &Line, channel: u32) -> u32
+    requires { channel < channel_count line.now }
+    ensures is { result ≡ delay_param line.now channel }
+    ensures exists { result < param_count line.now }
+{
+    line.param_of(Owner::Channel(channel), Setting::Delay)
+        .unwrap_or(0)
+}

@@ -1,0 +1,35 @@
+// Whether claimed numbers are inside the declared intervals.
+
+ghost use Rattle.std.specs.Prelude.{◌≡◌, ◌↔◌, ◌<◌, ℕ, length, IsTrue, MatchOption};
+ghost use Rattle.line_model.specs.Parameters.{param_count, declared_ends};
+ghost use Rattle.line_model.specs.Choice.{IsIn};
+ghost use Rattle.cert_checker.specs.Firsts.{IsFirstFailing};
+ghost use Rattle.cert_checker.specs.Refutations.{IsNumberIn};
+
+use crate::declared::declared_param;
+use line_model::Line;
+
+/// The first parameter whose number is not in its interval.
+pub fn first_outside(line: &Line, values: &[u32]) -> Option<u32>
+    requires { length values.now ≡ param_count line.now }
+    ensures { MatchOption result
+        ((i : ℕ) → i < param_count line.now → IsNumberIn line.now values.now i)
+        (λ i. IsFirstFailing (IsNumberIn line.now values.now) (param_count line.now) i) }
+{
+    for i in 0..line.params.len() {
+        let param = i as u32;
+        if !is_in(line, param, values[i]) {
+            return Some(param);
+        }
+    }
+    None
+}
+
+// Whether a number lies in the interval of a parameter.
+fn is_in(line: &Line, param: u32, value: u32) -> bool
+    requires { param < param_count line.now }
+    ensures { IsTrue result ↔ IsIn value (declared_ends line.now param) }
+{
+    let bounds = declared_param(line, param);
+    bounds.least() <= value && value <= bounds.greatest()
+}

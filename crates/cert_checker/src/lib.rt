@@ -1,0 +1,23 @@
+//! The checker of certificates: what is derived from claimed keys, and what a claim must satisfy.
+//!
+//! A claim of what each terminal keys is taken as what is received. From it follows the wave of
+//! each gate; where the claims cover the keys that are so derived, they cover every history of the
+//! line, whatever the claims are.
+#![tactic(auto)]
+
+mod claim;
+mod cover;
+mod declared;
+mod gate;
+mod held;
+mod inside;
+mod laws;
+mod net_waves;
+mod refutation;
+mod script_check;
+mod script_wave;
+
+pub use claim::{Claim, ClaimFault, Uncovered};
+pub use laws::a_fault_refuses_the_claims;
+pub use net_waves::gate_waves;
+pub use script_check::check_claims;

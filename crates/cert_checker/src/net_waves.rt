@@ -1,0 +1,36 @@
+// The waves of all gates of a net, over claimed keys.
+
+ghost use Rattle.std.specs.Prelude.{IfOk};
+ghost use Rattle.line_model.specs.Parameters.{terminal_count};
+ghost use Rattle.gate_net.specs.NetOf.{IsNetOf};
+ghost use Rattle.cert_checker.specs.Claims.{AreWaves, AreGateWaves, pairs_of};
+
+use crate::gate::gate_wave;
+use gate_net::{GateId, Net};
+use line_model::{Line, Memory, Script};
+use std::alloc::Global;
+use wave_runs::Runs;
+
+/// A wave of the horizon's length for each gate, in the order of the net: at each tick the pair
+/// that the interval rules give the gate's formula over the declared intervals, where the keys that
+/// are received are those handed in, one wave for each terminal.
+pub fn gate_waves(
+    alloc: Global,
+    net: &Net,
+    line: &Line,
+    script: &Script,
+    keys: &[Runs],
+) -> Result<Vec<Runs>, Memory>
+    requires of_line { IsNetOf line.now net.now }
+    requires keys { AreWaves (terminal_count line.now) line.now.horizon keys.now }
+    ensures { IfOk result (λ waves.
+        AreGateWaves line.now script.now net.now.gates (pairs_of keys.now) waves.items) }
+{
+    let mut waves = Vec::with_capacity(alloc, net.len() as usize)?;
+    for i in 0..net.len() {
+        let gate = net.gate(GateId(i));
+        let wave = gate_wave(alloc, gate, line, script, keys, waves.as_slice())?;
+        waves.push(wave)?;
+    }
+    Ok(waves)
+}

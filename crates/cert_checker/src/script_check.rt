@@ -1,0 +1,153 @@
+// The check of a script's claims.
+
+ghost use Rattle.std.specs.Prelude.{◌≡◌, ◌<◌, ℕ, Some, length, slice_get, IfOk, MatchResult};
+ghost use Rattle.history.specs.Rails.{Rails};
+ghost use Rattle.line_model.specs.Parameters.{terminal_count, param_count};
+ghost use Rattle.line_model.specs.Choice.{Choice, IsInside};
+ghost use Rattle.line_model.specs.PairMean.{PairSignals};
+ghost use Rattle.line_model.specs.Fits.{Fits};
+ghost use Rattle.line_model.specs.Histories.{History, IsLineHistory, Meets};
+ghost use Rattle.gate_net.specs.NetOf.{IsNetOf};
+ghost use Rattle.wave_runs.specs.Waves.{wave_at};
+ghost use Rattle.cert_checker.specs.Claims.{AreWaves, AreGateWaves, pairs_of};
+ghost use Rattle.cert_checker.specs.Verdicts.{AreVerdicts, HasNumbers, IsSupported, IsFaultOf};
+ghost use Rattle.cert_checker.specs.Refutations.{IsRefutation};
+ghost use Rattle.cert_checker.specs.Verdicts.{IsNoFault, IsVerdictFault, AreSupported};
+ghost use Rattle.cert_checker.specs.Verdicts.{AreAccepted, IsFirstFault};
+
+use crate::claim::{Claim, ClaimFault};
+use crate::cover::first_uncovered;
+use crate::gate::nth;
+use crate::held::is_held;
+use crate::inside::first_outside;
+use crate::net_waves::gate_waves;
+use crate::refutation::met_at;
+use gate_net::Net;
+use line_model::laws::{
+    covered_claims_cover, each_line_has_a_choice_inside, the_rule_speaks_for_what_is_covered,
+};
+use line_model::{Line, Script};
+use std::alloc::Global;
+use wave_runs::Runs;
+
+/// Checks what is claimed of a script: a key wave of the horizon's length and a verdict for each
+/// terminal. First the keys, by terminal and then by tick, then the verdicts by terminal; the error
+/// is the first fault in this order.
+pub fn check_claims(
+    alloc: Global,
+    line: &Line,
+    net: &Net,
+    script: &Script,
+    keys: &[Runs],
+    verdicts: &[Claim],
+) -> Result<(), ClaimFault>
+    requires of_line { IsNetOf line.now net.now }
+    requires fits { Fits line.now script.now }
+    requires keys { AreWaves (terminal_count line.now) line.now.horizon keys.now }
+    requires verdicts { AreVerdicts line.now verdicts.now }
+    ensures exact { MatchResult result
+        (λ _. AreAccepted line.now script.now (pairs_of keys.now) verdicts.now)
+        (λ fault. IsFirstFault line.now script.now (pairs_of keys.now) verdicts.now fault) }
+    // Whatever the claims are: each history of each choice inside meets what has a `yes`.
+    ensures yes { IfOk result (λ _. (k : ℕ) → slice_get verdicts.now k ≡ Some Claim.Yes →
+        (choice : Choice) (h : History) → IsInside line.now choice →
+        IsLineHistory line.now script.now choice h → Meets line.now script.now k h) }
+{
+    each_line_has_a_choice_inside();
+    covered_claims_cover();
+    the_rule_speaks_for_what_is_covered();
+    let waves = gate_waves(alloc, net, line, script, keys)?;
+    if let Some(uncovered) = first_uncovered(line, net, keys, waves.as_slice()) {
+        return Err(ClaimFault::NotCovered(uncovered));
+    }
+    check_verdicts(alloc, line, net, script, waves.as_slice(), verdicts)
+}
+
+// Checks the verdicts by the waves of the gates.
+fn check_verdicts(
+    alloc: Global,
+    line: &Line,
+    net: &Net,
+    script: &Script,
+    waves: &[Runs],
+    verdicts: &[Claim],
+) -> Result<(), ClaimFault>
+    requires of_line { IsNetOf line.now net.now }
+    requires fits { Fits line.now script.now }
+    requires waves { AreWaves (length net.now.gates) line.now.horizon waves.now }
+    requires verdicts { AreVerdicts line.now verdicts.now }
+    ensures { (claims : PairSignals) →
+        AreGateWaves line.now script.now net.now.gates claims waves.now → MatchResult result
+        (λ _. AreSupported line.now script.now claims verdicts.now)
+        (λ fault. IsVerdictFault line.now script.now claims verdicts.now fault) }
+{
+    for i in 0..verdicts.len() {
+        let terminal = i as u32;
+        let trip = nth(waves, net.trip_gate(terminal).0);
+        check_claim(alloc, line, net, script, terminal, trip, &verdicts[i])?;
+    }
+    Ok(())
+}
+
+// Checks the verdict of a terminal, whose trip is this wave.
+fn check_claim(
+    alloc: Global,
+    line: &Line,
+    net: &Net,
+    script: &Script,
+    terminal: u32,
+    trip: &Runs,
+    claim: &Claim,
+) -> Result<(), ClaimFault>
+    requires of_line { IsNetOf line.now net.now }
+    requires fits { Fits line.now script.now }
+    requires terminal { terminal < terminal_count line.now }
+    requires trip { length trip.now ≡ line.now.horizon }
+    requires numbers { HasNumbers line.now claim.now }
+    ensures { (pairs : ℕ → Rails) →
+        ((t : ℕ) → t < line.now.horizon → wave_at trip.now t ≡ pairs t) → MatchResult result
+        (λ _. IsSupported line.now script.now terminal pairs claim.now)
+        (λ fault. IsFaultOf line.now script.now terminal pairs claim.now fault) }
+{
+    match claim {
+        Claim::Yes => {
+            if is_held(script, trip) {
+                Ok(())
+            } else {
+                Err(ClaimFault::NotHeld(terminal))
+            }
+        }
+        Claim::No(values) => check_no(alloc, line, net, script, terminal, values.as_slice()),
+        Claim::Undecided => Ok(()),
+    }
+}
+
+// Checks the numbers of a `no`.
+fn check_no(
+    alloc: Global,
+    line: &Line,
+    net: &Net,
+    script: &Script,
+    terminal: u32,
+    values: &[u32],
+) -> Result<(), ClaimFault>
+    requires of_line { IsNetOf line.now net.now }
+    requires fits { Fits line.now script.now }
+    requires terminal { terminal < terminal_count line.now }
+    requires numbers { length values.now ≡ param_count line.now }
+    ensures { MatchResult result
+        (λ _. IsRefutation line.now script.now terminal values.now)
+        (λ fault. IsNoFault line.now script.now terminal values.now fault) }
+{
+    if let Some(param) = first_outside(line, values) {
+        return Err(ClaimFault::Outside {
+            terminal,
+            param,
+            value: values[param as usize],
+        });
+    }
+    match met_at(alloc, line, net, script, terminal, values)? {
+        Some(tick) => Err(ClaimFault::Passes { terminal, tick }),
+        None => Ok(()),
+    }
+}
