@@ -39,7 +39,7 @@ use Rattle.pilot_core.specs.Clauses.{
 }
 use Rattle.pilot_core.specs.Ends.{EndsOf}
 use Rattle.pilot_core.specs.Files.{StoreCause, NoneRose}
-use Rattle.pilot_core.specs.Lines.{line_of}
+use Rattle.pilot_core.specs.Messages.{message_of}
 use Rattle.pilot_core.specs.Sinks.{SinkView, GrewByAll, Puts}
 use Rattle.pilot_core.specs.Status.{IsDone, status_of, stop_status}
 use Rattle.pilot_core.specs.Words.{Command, Asked}
@@ -74,14 +74,14 @@ module _ (files : List ℕ → Option (List ℕ)) (c1 c2 : List ℕ → ℕ) (ol
   answered None r e =
       rw e.0 (λ _ _. (
         [],
-        line_of stop.Usage,
+        message_of stop.Usage,
         (refl, refl, refl),
         keeps_appends old.written new.written e.2.0,
       ))
   answered (Some x) (Ok s) e = λ _ told. (e.1.1, [], e.1.2 told, e.1.3.taken)
   answered (Some x) (Err stop.Usage) e = absurd e.1
-  answered (Some x) (Err (stop.Refused f why)) e = λ _ told.
-      ([], line_of (stop.Refused f why), e.1.0 told, keeps_appends old.written new.written e.1.1.0)
+  answered (Some x) (Err (stop.Refused why)) e = λ _ told.
+      ([], message_of (stop.Refused why), e.1.0 told, keeps_appends old.written new.written e.1.1.0)
   answered (Some x) (Err (stop.Store f)) e = λ bad _. absurd bad
   answered (Some x) (Err stop.Sink) e = λ bad _. absurd bad
   answered (Some x) (Err stop.Memory) e = λ bad _. absurd bad
@@ -102,7 +102,7 @@ module _ (files : List ℕ → Option (List ℕ)) (c1 c2 : List ℕ → ℕ) (ol
   unwritten None r e = λ _. e.2.0
   unwritten (Some x) (Ok s) e = done_writes s e.1.0
   unwritten (Some x) (Err stop.Usage) e = absurd e.1
-  unwritten (Some x) (Err (stop.Refused f why)) e = λ _. e.1.1.0
+  unwritten (Some x) (Err (stop.Refused why)) e = λ _. e.1.1.0
   unwritten (Some x) (Err (stop.Store f)) e = λ _. e.1.0
   unwritten (Some x) (Err stop.Sink) e = λ bad. absurd bad
   unwritten (Some x) (Err stop.Memory) e = λ bad. absurd bad
@@ -112,7 +112,7 @@ module _ (files : List ℕ → Option (List ℕ)) (c1 c2 : List ℕ → ℕ) (ol
   store_failed None r e = rw e.0 (λ is. cc)
   store_failed (Some x) (Ok s) e = λ is. not_done s status.StoreFault e.1.0 (λ bad. bad) is
   store_failed (Some x) (Err stop.Usage) e = absurd e.1
-  store_failed (Some x) (Err (stop.Refused f why)) e = λ is. cc
+  store_failed (Some x) (Err (stop.Refused why)) e = λ is. cc
   store_failed (Some x) (Err (stop.Store f)) e = λ is. (f, e.0)
   store_failed (Some x) (Err stop.Sink) e = λ is. cc
   store_failed (Some x) (Err stop.Memory) e = λ is. cc
@@ -126,7 +126,7 @@ module _ (files : List ℕ → Option (List ℕ)) (c1 c2 : List ℕ → ℕ) (ol
   store_told None r e = same_counts e.1
   store_told (Some x) (Ok s) e = same_counts e.0
   store_told (Some x) (Err stop.Usage) e = absurd e.1
-  store_told (Some x) (Err (stop.Refused f why)) e = same_counts e.0
+  store_told (Some x) (Err (stop.Refused why)) e = same_counts e.0
   store_told (Some x) (Err (stop.Store f)) e = λ name more. refl
   store_told (Some x) (Err stop.Sink) e = same_counts e.0
   store_told (Some x) (Err stop.Memory) e = same_counts e.0
@@ -136,7 +136,7 @@ module _ (files : List ℕ → Option (List ℕ)) (c1 c2 : List ℕ → ℕ) (ol
   sink_failed None r e = rw e.0 (λ is. cc)
   sink_failed (Some x) (Ok s) e = λ is. not_done s status.SinkFault e.1.0 (λ bad. bad) is
   sink_failed (Some x) (Err stop.Usage) e = absurd e.1
-  sink_failed (Some x) (Err (stop.Refused f why)) e = λ is. cc
+  sink_failed (Some x) (Err (stop.Refused why)) e = λ is. cc
   sink_failed (Some x) (Err (stop.Store f)) e = λ is. cc
   sink_failed (Some x) (Err stop.Sink) e =
       λ is. (e.1.0, λ told. (e.1.1, e.1.2, e.1.3, e.1.4 told, e.1.5))
@@ -150,7 +150,7 @@ module _ (files : List ℕ → Option (List ℕ)) (c1 c2 : List ℕ → ℕ) (ol
   sink_told None r e = same_faults e.2.1
   sink_told (Some x) (Ok s) e = same_faults e.1.3.same
   sink_told (Some x) (Err stop.Usage) e = absurd e.1
-  sink_told (Some x) (Err (stop.Refused f why)) e = same_faults e.1.1.1
+  sink_told (Some x) (Err (stop.Refused why)) e = same_faults e.1.1.1
   sink_told (Some x) (Err (stop.Store f)) e = same_faults e.1.1
   sink_told (Some x) (Err stop.Sink) e = λ more. refl
   sink_told (Some x) (Err stop.Memory) e = same_faults e.1.0
@@ -160,7 +160,7 @@ module _ (files : List ℕ → Option (List ℕ)) (c1 c2 : List ℕ → ℕ) (ol
   memory None r e = rw e.0 (λ is. cc)
   memory (Some x) (Ok s) e = λ is. not_done s status.Memory e.1.0 (λ bad. bad) is
   memory (Some x) (Err stop.Usage) e = absurd e.1
-  memory (Some x) (Err (stop.Refused f why)) e = λ is. cc
+  memory (Some x) (Err (stop.Refused why)) e = λ is. cc
   memory (Some x) (Err (stop.Store f)) e = λ is. cc
   memory (Some x) (Err stop.Sink) e = λ is. cc
   memory (Some x) (Err stop.Memory) e = λ is told. elim e.1.1 [
@@ -173,15 +173,15 @@ module _ (files : List ℕ → Option (List ℕ)) (c1 c2 : List ℕ → ℕ) (ol
   complete None r e =
       rw e.0 (λ told _ _. inr (
         [],
-        line_of stop.Usage,
+        message_of stop.Usage,
         (refl, refl, refl),
         keeps_appends old.written new.written e.2.0,
       ))
   complete (Some x) (Ok s) e = λ told _ _. inr (e.1.1, [], e.1.2 told, e.1.3.taken)
   complete (Some x) (Err stop.Usage) e = absurd e.1
-  complete (Some x) (Err (stop.Refused f why)) e = λ told _ _. inr (
+  complete (Some x) (Err (stop.Refused why)) e = λ told _ _. inr (
     [],
-    line_of (stop.Refused f why),
+    message_of (stop.Refused why),
     e.1.0 told,
     keeps_appends old.written new.written e.1.1.0,
   )
@@ -193,14 +193,14 @@ module _ (files : List ℕ → Option (List ℕ)) (c1 c2 : List ℕ → ℕ) (ol
   -- a stop is told by its line
   pub is_line : (command : Option Command) (why : Stop)
       → EndsOf command files c1 c2 old new (Err why)
-      → IsLine command files c1 c2 (stop_status why) (line_of why)
+      → IsLine command files c1 c2 (stop_status why) (message_of why)
   is_line None stop.Usage e = refl
-  is_line None (stop.Refused f why) e = cc
+  is_line None (stop.Refused why) e = cc
   is_line None (stop.Store f) e = cc
   is_line None stop.Sink e = refl
   is_line None stop.Memory e = refl
   is_line (Some x) stop.Usage e = absurd e.1
-  is_line (Some x) (stop.Refused f why) e = ((f, why, refl), λ told. e.1.0 told)
+  is_line (Some x) (stop.Refused why) e = ((why, refl), λ told. e.1.0 told)
   is_line (Some x) (stop.Store f) e = (f, refl, e.0)
   is_line (Some x) stop.Sink e = refl
   is_line (Some x) stop.Memory e = refl

@@ -43,7 +43,7 @@ pub works_wider : (A B : Status → List ℕ → List ℕ → Type 0) (old new :
     → Works A old new r → Works B old new r
 works_wider A B old new (Ok s) wider w = (w.0, w.1, wider s w.1 [] w.2, w.3)
 works_wider A B old new (Err stop.Usage) wider w = absurd w
-works_wider A B old new (Err (stop.Refused file why)) wider w = (wider _ _ _ w.0, w.1)
+works_wider A B old new (Err (stop.Refused why)) wider w = (wider _ _ _ w.0, w.1)
 works_wider A B old new (Err (stop.Store file)) wider w = absurd w
 works_wider A B old new (Err stop.Sink) wider w =
     (w.0, w.1, w.2, w.3, wider w.1 w.2 w.3 w.4, w.5)
@@ -100,8 +100,8 @@ module _ (next : Result (List (List ℕ)) File → Status → List ℕ → List 
       → SameCounts c1 c2 → Works (next (Ok [])) old new r → Ends next files [] c1 c2 old new r
   ends_of_works c1 c2 (Ok s) same w = (same, at_end (Ok s) w)
   ends_of_works c1 c2 (Err stop.Usage) same w = absurd w
-  ends_of_works c1 c2 (Err (stop.Refused file why)) same w =
-      (same, at_end (Err (stop.Refused file why)) w)
+  ends_of_works c1 c2 (Err (stop.Refused why)) same w =
+      (same, at_end (Err (stop.Refused why)) w)
   ends_of_works c1 c2 (Err (stop.Store file)) same w = absurd w
   ends_of_works c1 c2 (Err stop.Sink) same w = (same, at_end (Err stop.Sink) w)
   ends_of_works c1 c2 (Err stop.Memory) same w = (same, at_end (Err stop.Memory) w)
@@ -132,8 +132,8 @@ module _ (next : Result (List (List ℕ)) File → Status → List ℕ → List 
       → Ends next files (a ∷ rest) c1 c3 old new r
   ends_next c1 c2 c3 (Ok s) same e = (same_both c1 c2 c3 same e.0, go_on (Ok s) e.1)
   ends_next c1 c2 c3 (Err stop.Usage) same e = absurd e.1
-  ends_next c1 c2 c3 (Err (stop.Refused file why)) same e =
-      (same_both c1 c2 c3 same e.0, go_on (Err (stop.Refused file why)) e.1)
+  ends_next c1 c2 c3 (Err (stop.Refused why)) same e =
+      (same_both c1 c2 c3 same e.0, go_on (Err (stop.Refused why)) e.1)
   ends_next c1 c2 c3 (Err (stop.Store file)) same e = (
     inr (short_of (files a.name) v a.limit short is, cause_from files c1 c2 c3 rest file same e.0),
     e.1,
@@ -142,3 +142,24 @@ module _ (next : Result (List (List ℕ)) File → Status → List ℕ → List 
       (same_both c1 c2 c3 same e.0, go_on (Err stop.Sink) e.1)
   ends_next c1 c2 c3 (Err stop.Memory) same e =
       (same_both c1 c2 c3 same e.0, go_on (Err stop.Memory) e.1)
+
+-- a command of one file, which was fetched
+pub ends_of_one : (next : Result (List (List ℕ)) File → Status → List ℕ → List ℕ → Type 0)
+    (files : List ℕ → Option (List ℕ)) (old new : SinkView) (a : Asked) (v : List ℕ)
+    → length v ≤ a.limit → IfSome (files a.name) (λ b. b ≡ v)
+    → (c1 c2 : List ℕ → ℕ) (r : Result Status Stop) → SameCounts c1 c2
+    → Works (next (Ok (v ∷ []))) old new r → Ends next files (a ∷ []) c1 c2 old new r
+ends_of_one next files old new a v short is c1 c2 r same w =
+    ends_next next files old new a [] v short is c1 c2 c2 r same
+    (ends_of_works (λ x. next (in_front v x)) files old new c2 c2 r (λ name. refl) w)
+
+-- a command of two files, which were fetched
+pub ends_of_two : (next : Result (List (List ℕ)) File → Status → List ℕ → List ℕ → Type 0)
+    (files : List ℕ → Option (List ℕ)) (old new : SinkView) (a b : Asked) (v w : List ℕ)
+    → length v ≤ a.limit → IfSome (files a.name) (λ x. x ≡ v)
+    → length w ≤ b.limit → IfSome (files b.name) (λ x. x ≡ w)
+    → (c1 c2 c3 : List ℕ → ℕ) (r : Result Status Stop) → SameCounts c1 c2 → SameCounts c2 c3
+    → Works (next (Ok (v ∷ w ∷ []))) old new r → Ends next files (a ∷ b ∷ []) c1 c3 old new r
+ends_of_two next files old new a b v w short_a is_a short_b is_b c1 c2 c3 r same_a same_b work =
+    ends_next next files old new a (b ∷ []) v short_a is_a c1 c2 c3 r same_a
+    (ends_of_one (λ x. next (in_front v x)) files old new b w short_b is_b c2 c3 r same_b work)

@@ -1,9 +1,8 @@
-pub mod Changes
 pub mod Closing
 pub mod Fetching
-pub mod Leasts
-pub mod Lists
-pub mod Playing
+pub mod Parts
+pub mod Pieces
+pub mod PlayTexts
 pub mod Puts
-pub mod Recording
+pub mod Reading
 pub mod Writing

@@ -107,7 +107,7 @@ pub works_of_stop : (allowed : Status → List ℕ → List ℕ → Type 0) (old
     (text line : List ℕ) (why : Stop)
     → allowed s text line → WriteStops old new text why → Works allowed old new (Err why)
 works_of_stop allowed old new s text line stop.Usage may w = w.cause
-works_of_stop allowed old new s text line (stop.Refused file fault) may w = absurd w.cause
+works_of_stop allowed old new s text line (stop.Refused why) may w = absurd w.cause
 works_of_stop allowed old new s text line (stop.Store file) may w = w.cause
 works_of_stop allowed old new s text line stop.Sink may w =
     let p = w.sink refl in (p.0, s, text, line, may, p.1)

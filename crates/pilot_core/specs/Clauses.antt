@@ -5,12 +5,12 @@ use Rattle.relay_base.specs.Counts.{Rose}
 use Rattle.relay_base.specs.Sink.{GrewByProper, GrewByPart}
 use Rattle.pilot_core.specs.Answer.{Told, answers}
 use Rattle.pilot_core.specs.Files.{StoreCause, NoneRose}
-use Rattle.pilot_core.specs.Lines.{line_of}
+use Rattle.pilot_core.specs.Messages.{message_of}
 use Rattle.pilot_core.specs.Sinks.{SinkView, GrewByAll}
 use Rattle.pilot_core.specs.Status.{IsAnswer, IsEarly}
 use Rattle.pilot_core.specs.Words.{Command, asked_of}
+use Rattle.pilot_core.specs.declared.refusal.Refusal.{Refusal}
 use Rattle.pilot_core.specs.declared.stop.File.{File}
-use Rattle.pilot_core.specs.declared.stop.FileFault.{FileFault}
 use Rattle.pilot_core.specs.declared.stop.Status.{Status}
 use Rattle.pilot_core.specs.declared.stop.Status.TheVariants as status
 use Rattle.pilot_core.specs.declared.stop.Stop.TheVariants as stop
@@ -72,15 +72,15 @@ Complete command files counts_old counts_new old new s = Told command files
 -- the line to err
 abbrev pub IsLine : Option Command → (List ℕ → Option (List ℕ)) → (List ℕ → ℕ) → (List ℕ → ℕ)
     → Status → List ℕ → Type 0
-IsLine command files counts_old counts_new status.Usage line = line ≡ line_of stop.Usage
+IsLine command files counts_old counts_new status.Usage line = line ≡ message_of stop.Usage
 IsLine command files counts_old counts_new status.BadInput line =
-    ((file : File) × (why : FileFault) × (line ≡ line_of (stop.Refused file why)))
+    ((why : Refusal) × (line ≡ message_of (stop.Refused why)))
     × (Told command files → answers command files status.BadInput [] line)
 IsLine command files counts_old counts_new status.StoreFault line =
-    (file : File) × (line ≡ line_of (stop.Store file))
+    (file : File) × (line ≡ message_of (stop.Store file))
     × StoreCause files counts_old counts_new (asked_of command) file
-IsLine command files counts_old counts_new status.SinkFault line = line ≡ line_of stop.Sink
-IsLine command files counts_old counts_new status.Memory line = line ≡ line_of stop.Memory
+IsLine command files counts_old counts_new status.SinkFault line = line ≡ message_of stop.Sink
+IsLine command files counts_old counts_new status.Memory line = line ≡ message_of stop.Memory
 IsLine command files counts_old counts_new s line = line ≡ []
 
 -- err grew by exactly its line, or its count rose and it grew by a front of the line

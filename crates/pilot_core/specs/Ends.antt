@@ -7,7 +7,7 @@ use Rattle.relay_base.specs.Sink.{GrewByProper, GrewByPart}
 use Rattle.relay_base.specs.Store.{SameCounts}
 use Rattle.pilot_core.specs.Answer.{after_files}
 use Rattle.pilot_core.specs.Files.{AllTold, StoreCause, contents}
-use Rattle.pilot_core.specs.Lines.{line_of}
+use Rattle.pilot_core.specs.Messages.{message_of}
 use Rattle.pilot_core.specs.Sinks.{SinkView, GrewByAll, Stays}
 use Rattle.pilot_core.specs.Status.{IsDone}
 use Rattle.pilot_core.specs.Words.{Command, Asked, asked_by}
@@ -23,8 +23,8 @@ abbrev pub Works : (Status → List ℕ → List ℕ → Type 0) → SinkView �
 Works allowed old new (Ok s) =
     IsDone s × (text : List ℕ) × allowed s text [] × GrewByAll old new text
 Works allowed old new (Err stop.Usage) = ⊥
-Works allowed old new (Err (stop.Refused file why)) =
-    allowed status.BadInput [] (line_of (stop.Refused file why)) × Stays old new
+Works allowed old new (Err (stop.Refused why)) =
+    allowed status.BadInput [] (message_of (stop.Refused why)) × Stays old new
 Works allowed old new (Err (stop.Store file)) = ⊥
 Works allowed old new (Err stop.Sink) =
     Rose old.faults new.faults

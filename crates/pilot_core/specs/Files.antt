@@ -25,8 +25,8 @@ use Rattle.std.specs.declared.alloc.Global.{Global}
 use Rattle.relay_base.specs.Counts.{Rose}
 use Rattle.relay_base.specs.Store.{SameCounts}
 use Rattle.pilot_core.specs.Words.{Asked}
+use Rattle.pilot_core.specs.declared.refusal.Refusal.TheVariants as refusal
 use Rattle.pilot_core.specs.declared.stop.File.{File}
-use Rattle.pilot_core.specs.declared.stop.FileFault.TheVariants as fault
 use Rattle.pilot_core.specs.declared.stop.Stop.{Stop}
 use Rattle.pilot_core.specs.declared.stop.Stop.TheVariants as stop
 
@@ -67,8 +67,8 @@ Fetches files old new a (Ok v) =
     SameCounts old new × (length v.items ≤ a.limit)
     × IfSome (files a.name) (λ bytes. bytes ≡ v.items)
 Fetches files old new a (Err stop.Usage) = ⊥
-Fetches files old new a (Err (stop.Refused file why)) =
-    SameCounts old new × (file ≡ a.file) × (why ≡ fault.TooLong)
+Fetches files old new a (Err (stop.Refused why)) =
+    SameCounts old new × (why ≡ refusal.TooLong a.file)
     × IfSome (files a.name) (λ bytes. a.limit < length bytes)
 Fetches files old new a (Err (stop.Store file)) =
     (file ≡ a.file) × Rose (old a.name) (new a.name)

@@ -33,7 +33,7 @@ Puts old new text (Err e) =
 -- what can stop a writer
 abbrev pub StopsWriter : Stop → Type 0
 StopsWriter stop.Usage = ⊥
-StopsWriter (stop.Refused file why) = ⊥
+StopsWriter (stop.Refused why) = ⊥
 StopsWriter (stop.Store file) = ⊥
 StopsWriter stop.Sink = ⊤
 StopsWriter stop.Memory = ⊤

@@ -7,7 +7,7 @@ use Rattle.pilot_core.specs.declared.stop.Stop.TheVariants as stop
 
 abbrev pub stop_status : Stop → Status
 stop_status stop.Usage = status.Usage
-stop_status (stop.Refused file why) = status.BadInput
+stop_status (stop.Refused why) = status.BadInput
 stop_status (stop.Store file) = status.StoreFault
 stop_status stop.Sink = status.SinkFault
 stop_status stop.Memory = status.Memory

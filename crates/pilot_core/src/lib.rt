@@ -2,17 +2,18 @@
 //! another.
 #![tactic(auto)]
 
+mod commands;
 mod files;
-mod lines;
-mod play;
-mod player;
-mod read;
-mod rows;
+mod laws;
+mod messages;
+mod put;
+mod refusal;
 mod run;
 mod stop;
 mod top;
 mod words;
 
+pub use laws::each_play_has_one_text;
 pub use stop::Status;
 pub use top::pilot;
 

@@ -1,8 +1,13 @@
 //! How a call ends: its exit status, and why it stopped.
 ghost use Rattle.std.specs.Prelude.{◌≡◌};
-ghost use Rattle.pilot_core.specs.declared.stop.Stop.TheVariants.{Memory};
+ghost use Rattle.pilot_core.specs.declared.stop.Stop.TheVariants.{Memory, Sink};
 
+use crate::refusal::Refusal;
+use fault_script::ScriptFault;
+use line_file::LineFault;
+use relay_base::PutFailed;
 use std::alloc::{AllocError, AllocFailed};
+use timing_box::TimingFault;
 
 /// The exit statuses, 0 to 8 in this order.
 #[derive(Clone, Copy, Debug, PartialEq, Eq)]
@@ -35,22 +40,18 @@ pub enum File {
     Timings,
 }
 
-/// Why a file is refused.
-#[derive(Clone, Copy, Debug, PartialEq, Eq)]
-pub enum FileFault {
-    /// It is longer than its limit.
-    TooLong,
-    /// It is none of those that are played today.
-    NotBuilt,
-}
-
 /// Why a call stopped, as its line to standard error says it.
 #[derive(Clone, Copy, Debug, PartialEq, Eq)]
 pub enum Stop {
+    /// The words are no command.
     Usage,
-    Refused(File, FileFault),
+    /// A file is refused.
+    Refused(Refusal),
+    /// The file could not be read.
     Store(File),
+    /// The text could not be written.
     Sink,
+    /// Memory ran out.
     Memory,
 }
 
@@ -63,7 +64,7 @@ impl Stop {
     {
         match self {
             Stop::Usage => Status::Usage,
-            Stop::Refused(_, _) => Status::BadInput,
+            Stop::Refused(_) => Status::BadInput,
             Stop::Store(_) => Status::StoreFault,
             Stop::Sink => Status::SinkFault,
             Stop::Memory => Status::Memory,
@@ -95,10 +96,49 @@ impl From<line_model::Memory> for Stop {
     }
 }
 
-impl From<csv_records::Memory> for Stop {
-    ghost from_gives = { λ _ stop. stop ≡ Memory };
+impl From<PutFailed> for Stop {
+    ghost from_gives = { λ _ stop. stop ≡ Sink };
 
-    fn from(_: csv_records::Memory) -> Self {
-        Stop::Memory
+    fn from(_: PutFailed) -> Self {
+        Stop::Sink
+    }
+}
+
+impl From<LineFault> for Stop {
+    ghost use Rattle.pilot_core.specs.Stops.{line_stop};
+
+    ghost from_gives = { λ fault stop. stop ≡ line_stop fault };
+
+    fn from(fault: LineFault) -> Self {
+        match fault {
+            LineFault::Memory => Stop::Memory,
+            fault => Stop::Refused(Refusal::Line(fault)),
+        }
+    }
+}
+
+impl From<ScriptFault> for Stop {
+    ghost use Rattle.pilot_core.specs.Stops.{script_stop};
+
+    ghost from_gives = { λ fault stop. stop ≡ script_stop fault };
+
+    fn from(fault: ScriptFault) -> Self {
+        match fault {
+            ScriptFault::Memory => Stop::Memory,
+            fault => Stop::Refused(Refusal::Scripts(fault)),
+        }
+    }
+}
+
+impl From<TimingFault> for Stop {
+    ghost use Rattle.pilot_core.specs.Stops.{timing_stop};
+
+    ghost from_gives = { λ fault stop. stop ≡ timing_stop fault };
+
+    fn from(fault: TimingFault) -> Self {
+        match fault {
+            TimingFault::Memory => Stop::Memory,
+            fault => Stop::Refused(Refusal::Timings(fault)),
+        }
     }
 }

@@ -1,11 +1,13 @@
 //! The top call.
 ghost use Rattle.std.specs.Prelude.{◌≡◌, ◌↔◌, None, map, string_bytes};
-ghost use Rattle.pilot_core.specs.Clauses.{Answered, Complete, MemoryFailed, Reported, SinkFailed, SinkTold, StoreFailed, StoreTold, Unwritten};
+ghost use Rattle.pilot_core.specs.Clauses.{Answered, Complete, MemoryFailed, Reported};
+ghost use Rattle.pilot_core.specs.Clauses.{SinkFailed, SinkTold, StoreFailed, StoreTold};
+ghost use Rattle.pilot_core.specs.Clauses.{Unwritten};
 ghost use Rattle.pilot_core.specs.Sinks.{sink_view};
 ghost use Rattle.pilot_core.specs.Status.{IsDone};
 ghost use Rattle.pilot_core.specs.Words.{command_of};
 
-use crate::lines::put_line;
+use crate::messages::put_message;
 use crate::run::answer;
 use crate::stop::Status;
 use relay_base::{Sink, Store};
@@ -14,8 +16,10 @@ use std::alloc::Global;
 /// Does the command that the words are, over the store, with its text on `out` and, where it stops
 /// with status 4 to 8, one line on `err`.
 ///
-/// The one command is `play LINE SCRIPTS TIMINGS`, with the names of three files. The files are
-/// fetched in this order, and then the line, the scripts and the timings are read.
+/// The commands are `play LINE SCRIPTS TIMINGS`, `certify LINE SCRIPTS`, `report LINE SCRIPTS`,
+/// `net LINE`, `line LINE` and `migrate LINE`, with the names of files. The files are fetched in
+/// the order of the words, and then the line, the scripts and the timings are read. Any other words
+/// are a usage fault.
 pub fn pilot<S: Store, O: Sink, E: Sink>(
     alloc: Global,
     words: &[String],
@@ -64,7 +68,7 @@ pub fn pilot<S: Store, O: Sink, E: Sink>(
     match answer(alloc, words, store, out) {
         Ok(status) => status,
         Err(stop) => {
-            let _ = put_line(err, stop);
+            let _ = put_message(err, &stop);
             stop.status()
         }
     }

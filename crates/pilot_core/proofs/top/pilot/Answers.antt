@@ -1,5 +1,5 @@
 use Rattle.std.proofs.Common.{Ok, Err, [], map, string_bytes, inl}
-use Rattle.pilot_core.specs.Lines.{line_of}
+use Rattle.pilot_core.specs.Messages.{message_of}
 use Rattle.pilot_core.specs.Sinks.{sink_view}
 use Rattle.pilot_core.specs.Words.{command_of}
 use Rattle.pilot_core.proofs.Closing as closing
@@ -107,11 +107,11 @@ returns-in-Ok-clause-reported g c = (
 
 pub returns-in-Err-clause-reported : goal.returns-in-Err-clause-reported
 returns-in-Err-clause-reported g c = rw c.status.ensures (
-  line_of c.in-Err.stop,
+  message_of c.in-Err.stop,
   closing.is_line (g.S.Store.held c.args.store.now)
       (g.S.Store.faults c.args.store.now) (g.S.Store.faults c.answer.new.store)
       (sink_view g.O.Sink.written g.O.Sink.faults c.args.out.now)
       (sink_view g.O.Sink.written g.O.Sink.faults c.answer.new.out)
       (command_of (map string_bytes c.args.words.now)) c.in-Err.stop c.in-Err.ensures.ends,
-  closing.put_or_part _ _ (line_of c.in-Err.stop) c.put_line.result c.put_line.ensures,
+  closing.put_or_part _ _ (message_of c.in-Err.stop) c.put_message.result c.put_message.ensures,
 )

@@ -1,0 +1,48 @@
+-- What is told of a file that is refused: the file, the fault's printed name, and where it is.
+use Rattle.std.specs.Prelude.{ℕ, List, Option, None, Some, codes}
+use Rattle.line_file.specs.Faults as line_faults
+use Rattle.line_file.specs.declared.fault.LineFault.{LineFault}
+use Rattle.line_file.specs.declared.fault.LineFault.TheVariants as fault
+use Rattle.fault_script.specs.Faults as script_faults
+use Rattle.timing_box.specs.Faults as timing_faults
+use Rattle.pilot_core.specs.declared.refusal.Detail.{Detail}
+use Rattle.pilot_core.specs.declared.refusal.Detail.TheVariants as detail
+use Rattle.pilot_core.specs.declared.refusal.Refusal.{Refusal}
+use Rattle.pilot_core.specs.declared.refusal.Refusal.TheVariants as refusal
+use Rattle.pilot_core.specs.declared.stop.File.{File}
+use Rattle.pilot_core.specs.declared.stop.File.TheVariants as file
+
+abbrev pub file_of : Refusal → File
+file_of (refusal.TooLong f) = f
+file_of (refusal.Line why) = file.Line
+file_of (refusal.Scripts why) = file.Scripts
+file_of (refusal.Timings why) = file.Timings
+
+abbrev pub name_of : Refusal → List ℕ
+name_of (refusal.TooLong f) = codes "TooLong"
+name_of (refusal.Line why) = line_faults.fault_name why
+name_of (refusal.Scripts why) = script_faults.fault_name why
+name_of (refusal.Timings why) = timing_faults.fault_name why
+
+-- the place of a fault of a line file
+abbrev pub line_detail : LineFault → Detail
+line_detail fault.NotToml = detail.Nothing
+line_detail (fault.Unknown path) = detail.Path path
+line_detail (fault.Missing path) = detail.Path path
+line_detail (fault.WrongKind path) = detail.Path path
+line_detail (fault.Range path) = detail.Path path
+line_detail (fault.BadName path) = detail.Path path
+line_detail (fault.Twice path) = detail.Path path
+line_detail (fault.Channels from to) = detail.Channel from to
+line_detail fault.Memory = detail.Nothing
+
+-- the record of a fault of a scripts or timings file
+abbrev pub record_detail : Option ℕ → Detail
+record_detail None = detail.Nothing
+record_detail (Some n) = detail.Record n
+
+abbrev pub detail_of : Refusal → Detail
+detail_of (refusal.TooLong f) = detail.Nothing
+detail_of (refusal.Line why) = line_detail why
+detail_of (refusal.Scripts why) = record_detail (script_faults.fault_record why)
+detail_of (refusal.Timings why) = record_detail (timing_faults.fault_record why)

@@ -1,0 +1,22 @@
+-- How a reader's fault stops a call: want of memory as such, every other fault as a refusal.
+use Rattle.line_file.specs.declared.fault.LineFault.{LineFault}
+use Rattle.line_file.specs.declared.fault.LineFault.TheVariants as line_fault
+use Rattle.fault_script.specs.declared.fault.ScriptFault.{ScriptFault}
+use Rattle.fault_script.specs.declared.fault.ScriptFault.TheVariants as script_fault
+use Rattle.timing_box.specs.declared.fault.TimingFault.{TimingFault}
+use Rattle.timing_box.specs.declared.fault.TimingFault.TheVariants as timing_fault
+use Rattle.pilot_core.specs.declared.refusal.Refusal.TheVariants as refusal
+use Rattle.pilot_core.specs.declared.stop.Stop.{Stop}
+use Rattle.pilot_core.specs.declared.stop.Stop.TheVariants as stop
+
+abbrev pub line_stop : LineFault → Stop
+line_stop line_fault.Memory = stop.Memory
+line_stop why = stop.Refused (refusal.Line why)
+
+abbrev pub script_stop : ScriptFault → Stop
+script_stop script_fault.Memory = stop.Memory
+script_stop why = stop.Refused (refusal.Scripts why)
+
+abbrev pub timing_stop : TimingFault → Stop
+timing_stop timing_fault.Memory = stop.Memory
+timing_stop why = stop.Refused (refusal.Timings why)

@@ -1,0 +1,84 @@
+//! The lines to standard error, piece by piece, with no memory taken.
+ghost use Rattle.std.specs.Prelude.{◌≡◌, map};
+ghost use Rattle.std.specs.List.{concat};
+ghost use Rattle.pilot_core.specs.Messages.{file_word, message_of, refusal_pieces};
+ghost use Rattle.pilot_core.specs.Sinks.{Puts, sink_view};
+
+use crate::refusal::Detail;
+use crate::stop::{File, Stop};
+use itoa::Buffer;
+use relay_base::{PutFailed, Sink, put_all};
+
+// Pushes the pieces one after another.
+fn put_pieces<K: Sink>(sink: &mut K, pieces: &[&[u8]]) -> Result<(), PutFailed>
+    ensures { Puts (sink_view K.written K.faults sink.old) (sink_view K.written K.faults sink.new)
+        (concat (map (λ piece. piece.now) pieces.now)) result }
+{
+    for piece in pieces {
+        put_all(sink, piece)?;
+    }
+    Ok(())
+}
+
+fn word_of_file(file: File) -> &'static [u8]
+    ensures { result.now ≡ file_word file }
+{
+    match file {
+        File::Line => b"line",
+        File::Scripts => b"scripts",
+        File::Timings => b"timings",
+    }
+}
+
+// Pushes the line of a refusal, from the word for the file on.
+fn put_refusal<'a, K: Sink>(
+    sink: &mut K,
+    file: &'a [u8],
+    name: &'a [u8],
+    detail: &'a Detail,
+) -> Result<(), PutFailed>
+    ensures { Puts (sink_view K.written K.faults sink.old) (sink_view K.written K.faults sink.new)
+        (concat (refusal_pieces file.now name.now detail.now)) result }
+{
+    let refused: &'a [u8] = b"refused ";
+    match detail {
+        Detail::Nothing => put_pieces(sink, &[refused, file, b" ", name, b"\n"]),
+        Detail::Path(path) => {
+            put_pieces(
+                sink,
+                &[refused, file, b" ", name, b" ", path.bytes(), b"\n"],
+            )
+        }
+        Detail::Record(number) => {
+            let mut digits = Buffer::new();
+            let number = digits.format(*number).as_bytes();
+            put_pieces(sink, &[refused, file, b" ", name, b" ", number, b"\n"])
+        }
+        Detail::Channel(from, to) => {
+            let (from, to) = (from.bytes(), to.bytes());
+            put_pieces(
+                sink,
+                &[refused, file, b" ", name, b" ", from, b">", to, b"\n"],
+            )
+        }
+    }
+}
+
+/// Pushes the line of a call that stopped.
+pub fn put_message<K: Sink>(sink: &mut K, stop: &Stop) -> Result<(), PutFailed>
+    ensures { Puts (sink_view K.written K.faults sink.old) (sink_view K.written K.faults sink.new)
+        (message_of stop.now) result }
+{
+    match stop {
+        Stop::Usage => put_pieces(sink, &[b"usage: pilot COMMAND FILES\n"]),
+        Stop::Refused(why) => put_refusal(
+            sink,
+            word_of_file(why.file()),
+            why.name().as_bytes(),
+            &why.detail(),
+        ),
+        Stop::Store(file) => put_pieces(sink, &[b"store fault ", word_of_file(*file), b"\n"]),
+        Stop::Sink => put_pieces(sink, &[b"sink fault\n"]),
+        Stop::Memory => put_pieces(sink, &[b"no memory\n"]),
+    }
+}

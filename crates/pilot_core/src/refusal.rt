@@ -1,0 +1,92 @@
+//! Why a file is refused, and what its line to standard error tells of it.
+ghost use Rattle.std.specs.Prelude.{◌≡◌};
+ghost use Rattle.pilot_core.specs.Refusals.{detail_of, file_of, name_of};
+ghost use Rattle.pilot_core.specs.Refusals.{line_detail, record_detail};
+
+use crate::stop::File;
+use fault_script::ScriptFault;
+use line_file::{LineFault, Path};
+use line_model::Name;
+use timing_box::TimingFault;
+
+/// Why a file is refused.
+#[derive(Clone, Copy, Debug, PartialEq, Eq)]
+pub enum Refusal {
+    /// It is longer than its limit.
+    TooLong(File),
+    Line(LineFault),
+    Scripts(ScriptFault),
+    Timings(TimingFault),
+}
+
+/// What is told behind the name of a fault.
+#[derive(Clone, Copy)]
+pub enum Detail {
+    Nothing,
+    /// A place in a line file.
+    Path(Path),
+    /// The number of a record of a scripts or timings file.
+    Record(u32),
+    /// The sender and the receiver of a channel that is not there.
+    Channel(Name, Name),
+}
+
+impl Refusal {
+    pub fn file(&self) -> File
+        ensures { result ≡ file_of self.now }
+    {
+        match self {
+            Refusal::TooLong(file) => *file,
+            Refusal::Line(_) => File::Line,
+            Refusal::Scripts(_) => File::Scripts,
+            Refusal::Timings(_) => File::Timings,
+        }
+    }
+
+    /// The fault's printed name.
+    pub fn name(&self) -> &'static str
+        ensures { result.now ≡ name_of self.now }
+    {
+        match self {
+            Refusal::TooLong(_) => "TooLong",
+            Refusal::Line(fault) => fault.name(),
+            Refusal::Scripts(fault) => fault.name(),
+            Refusal::Timings(fault) => fault.name(),
+        }
+    }
+
+    pub fn detail(&self) -> Detail
+        ensures { result ≡ detail_of self.now }
+    {
+        match self {
+            Refusal::TooLong(_) => Detail::Nothing,
+            Refusal::Line(fault) => detail_of_line(fault),
+            Refusal::Scripts(fault) => detail_of_record(fault.record()),
+            Refusal::Timings(fault) => detail_of_record(fault.record()),
+        }
+    }
+}
+
+fn detail_of_line(fault: &LineFault) -> Detail
+    ensures { result ≡ line_detail fault.now }
+{
+    match fault {
+        LineFault::NotToml | LineFault::Memory => Detail::Nothing,
+        LineFault::Unknown(path)
+        | LineFault::Missing(path)
+        | LineFault::WrongKind(path)
+        | LineFault::Range(path)
+        | LineFault::BadName(path)
+        | LineFault::Twice(path) => Detail::Path(*path),
+        LineFault::Channels(from, to) => Detail::Channel(*from, *to),
+    }
+}
+
+fn detail_of_record(number: Option<u32>) -> Detail
+    ensures { result ≡ record_detail number }
+{
+    match number {
+        None => Detail::Nothing,
+        Some(number) => Detail::Record(number),
+    }
+}

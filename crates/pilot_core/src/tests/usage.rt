@@ -1,0 +1,109 @@
+//! The words of a call: those that are no command, and names that the store does not hold.
+
+use super::worked_files::*;
+use super::*;
+
+#[test]
+fn other_words(rt: HostRuntime) -> Result<(), Fail> {
+    let alloc = rt.alloc();
+    for words in OTHER_WORDS {
+        let what = words.join(alloc, " ")?;
+        let files = texts(POTT, FAULT, LEAST);
+        let got = call(alloc, words, files)?;
+        let usage = "usage: pilot COMMAND FILES\n";
+        assert_ended(&rt, what.as_str(), &got, Status::Usage, "", usage);
+    }
+    Ok(())
+}
+
+#[test]
+fn names_that_are_not_held(rt: HostRuntime) -> Result<(), Fail> {
+    let alloc = rt.alloc();
+    for (words, told) in NOT_HELD {
+        let what = words.join(alloc, " ")?;
+        let got = call(alloc, words, texts(POTT, FAULT, LEAST))?;
+        assert_ended(&rt, what.as_str(), &got, Status::StoreFault, "", told);
+    }
+    Ok(())
+}
+
+// Where one name is given twice, the file is read twice, by two pulls each time.
+#[test]
+fn names_given_twice(rt: HostRuntime) -> Result<(), Fail> {
+    let alloc = rt.alloc();
+    let files = texts(POTT, FAULT, LEAST);
+    let got = call(alloc, &["play", "l", "l", "t"], files)?;
+    let told = "refused scripts Header\n";
+    assert_refused(&rt, "a line file as scripts", &got, told);
+    let got = call(alloc, &["play", "l", "s", "s"], files)?;
+    let told = "refused timings Header\n";
+    assert_refused(&rt, "a scripts file as timings", &got, told);
+    let second_read = Faults {
+        pull: 3,
+        ..NO_FAULTS
+    };
+    let got = call_with(alloc, &["play", "l", "l", "t"], files, second_read)?;
+    let told = "store fault scripts\n";
+    let what = "the second read of the line file";
+    assert_ended(&rt, what, &got, Status::StoreFault, "", told);
+    Ok(())
+}
+
+const OTHER_WORDS: &[&[&str]] = &[
+    // No words, and empty ones.
+    &[],
+    &[""],
+    &["", "l"],
+    // A command with too few words.
+    &["play"],
+    &["play", "l"],
+    &["play", "l", "s"],
+    &["certify"],
+    &["certify", "l"],
+    &["report"],
+    &["report", "l"],
+    &["net"],
+    &["line"],
+    &["migrate"],
+    // A command with too many.
+    &["play", "l", "s", "t", "t"],
+    &["certify", "l", "s", "t"],
+    &["report", "l", "s", "t"],
+    &["net", "l", "l"],
+    &["line", "l", "s"],
+    &["migrate", "l", "s", "t"],
+    // Another case, and another spelling.
+    &["Play", "l", "s", "t"],
+    &["PLAY", "l", "s", "t"],
+    &["play ", "l", "s", "t"],
+    &["Net", "l"],
+    &["LINE", "l"],
+    &["Migrate", "l"],
+    &["lines", "l"],
+    &["l", "line"],
+    // Words that are no command.
+    &["check", "l", "s", "t"],
+    &["bench", "1"],
+    &["bench", "0"],
+    &["bench", "65"],
+    &["bench", "08"],
+    &["split", "l", "s", "1"],
+    &["recheck", "l", "s", "t"],
+    &["margin", "l", "s", "A>B.delay"],
+    &["match", "l", "s", "t"],
+];
+
+const NOT_HELD: &[(&[&str], &str)] = &[
+    (&["play", "none", "s", "t"], "store fault line\n"),
+    (&["play", "l", "none", "t"], "store fault scripts\n"),
+    (&["play", "l", "s", "none"], "store fault timings\n"),
+    (&["play", "l", "s", ""], "store fault timings\n"),
+    (&["play", "none", "none", "none"], "store fault line\n"),
+    (&["certify", "none", "s"], "store fault line\n"),
+    (&["certify", "l", "none"], "store fault scripts\n"),
+    (&["report", "none", "s"], "store fault line\n"),
+    (&["report", "l", "none"], "store fault scripts\n"),
+    (&["net", "none"], "store fault line\n"),
+    (&["line", "none"], "store fault line\n"),
+    (&["migrate", "none"], "store fault line\n"),
+];
