@@ -1,5 +1,5 @@
 -- The delay, and what is received by the interval rule.
-use Rattle.std.proofs.Common.{◌≡◌, ℕ, suc, ◌-◌, ◌<◌, ◌≤◌, Bool, false, ◌&&◌, ◌||◌, ◌∙◌, ap, subst}
+use Rattle.std.proofs.Common.{◌≡◌, ℕ, suc, ◌+◌, ◌-◌, ◌<◌, ◌≤◌, Bool, false, ◌&&◌, ◌||◌, ◌∙◌, ap, subst}
 use Rattle.std.proofs.Common.{arith, inl, inr, ⊎_elim, ◌⊎◌, sym, length}
 use Rattle.std.specs.Prelude.{nat_le, nat_lt, IsTrue, Decides}
 use Rattle.std.proofs.lemmas.Bool.{cases_lt, le-leb, lt-leb}
@@ -140,52 +140,61 @@ single_before u c t h = delayed_single u c t
     (delayed_before (λ r. (u r).must) c t h)
     ∙ ap (λ (b : Bool). record { must = false; may = b }) (delayed_before (λ r. (u r).may) c t h)
 
--- a later delay reads the ticks before t alone
-pub delayed-same : (u v : ℕ → Bool) (c t : ℕ) → 1 ≤ c → ((r : ℕ) → r < t → u r ≡ v r) →
+-- what arrives at t is what was on c ticks before
+pub delayed-same : (u v : ℕ → Bool) (c t : ℕ) → ((r : ℕ) → r + c ≡ t → u r ≡ v r) →
     delayed u c t ≡ delayed v c t
-delayed-same u v c t later same = ⊎_elim
+delayed-same u v c t same = ⊎_elim
     (λ early. delayed_before u c t early ∙ sym (delayed_before v c t early))
-    (λ past. ⊎_elim
-    (λ some. delayed_at u c t past ∙ same (t - c) (omega arith) ∙ sym (delayed_at v c t past))
-    (λ none. absurd (omega arith)) (cases_lt 0 t))
+    (λ past. delayed_at u c t past ∙ same (t - c) (omega arith) ∙ sym (delayed_at v c t past))
     (cases_lt t c)
 
-come_same : (u v : ℕ → Bool) (c t : ℕ) → 1 ≤ c → ((r : ℕ) → r < t → u r ≡ v r) → Comes u c t →
+come_same : (u v : ℕ → Bool) (c t : ℕ) → ((r : ℕ) → r + c ≡ t → u r ≡ v r) → Comes u c t →
     Comes v c t
-come_same u v c t some same h = let past : c ≤ t = h.past in
+come_same u v c t same h = let past : c ≤ t = h.past in
     record { past = past; on = sym (same (t - c) (omega arith)) ∙ h.on }
 
-some_same : (u v : ℕ → Bool) (c : Ends) (t : ℕ) → 1 ≤ c.least → ((r : ℕ) → r < t → u r ≡ v r) →
-    SomeComes u c t → SomeComes v c t
-some_same u v c t some same h =
+some_same : (u v : ℕ → Bool) (c : Ends) (t : ℕ) →
+    ((r : ℕ) → r + c.least ≤ t → t ≤ r + c.greatest → u r ≡ v r) → SomeComes u c t →
+    SomeComes v c t
+some_same u v c t same h =
     let low : c.least ≤ h.c = h.least in
+    let high : h.c ≤ c.greatest = h.greatest in
     record {
       c = h.c;
       least = low;
-      greatest = h.greatest;
-      comes = come_same u v h.c t (omega arith) same h.comes;
+      greatest = high;
+      comes = come_same u v h.c t (λ r at. same r (omega arith) (omega arith)) h.comes;
     }
+
+-- what is received rests on the keys within the ends before t alone
+pub rails_delayed-same : (u v : ℕ → Rails) (c : Ends) (t : ℕ) →
+    ((r : ℕ) → r + c.least ≤ t → t ≤ r + c.greatest → u r ≡ v r) →
+    rails_delayed u c t ≡ rails_delayed v c t
+rails_delayed-same u v c t same =
+    let must : (rails_delayed u c t).must ≡ (rails_delayed v c t).must =
+    same_from_decides (rails_delayed u c t).must (rails_delayed v c t).must (Decides-must u c t) (
+      (λ on k low high. come_same (λ r. (v r).must) (λ r. (u r).must) k t
+          (λ r at. ap must_of (sym (same r (omega arith) (omega arith))))
+          ((Decides-must v c t).0 on k low high)),
+      (λ all. (Decides-must v c t).1 (λ k low high. come_same (λ r. (u r).must)
+          (λ r. (v r).must) k t
+          (λ r at. ap must_of (same r (omega arith) (omega arith))) (all k low high))),
+    ) in
+    let may : (rails_delayed u c t).may ≡ (rails_delayed v c t).may =
+    same_from_decides (rails_delayed u c t).may (rails_delayed v c t).may (Decides-may u c t) (
+      (λ on. some_same (λ r. (v r).may) (λ r. (u r).may) c t
+          (λ r low high. ap may_of (sym (same r low high))) ((Decides-may v c t).0 on)),
+      (λ h. (Decides-may v c t).1 (some_same (λ r. (u r).may) (λ r. (v r).may) c t
+          (λ r low high. ap may_of (same r low high)) h)),
+    ) in
+    ap (λ (b : Bool). record { must = b; may = (rails_delayed u c t).may }) must
+    ∙ ap (λ (b : Bool). record { must = (rails_delayed v c t).must; may = b }) may
 
 -- delays of at least 1 read the ticks before t alone
 pub rails_delayed-past : (u v : ℕ → Rails) (c : Ends) (t : ℕ) → 1 ≤ c.least →
     ((r : ℕ) → r < t → u r ≡ v r) → rails_delayed u c t ≡ rails_delayed v c t
-rails_delayed-past u v c t some same =
-    let must : (rails_delayed u c t).must ≡ (rails_delayed v c t).must =
-    same_from_decides (rails_delayed u c t).must (rails_delayed v c t).must (Decides-must u c t) (
-      (λ on k low high. come_same (λ r. (v r).must) (λ r. (u r).must) k t (omega arith)
-          (λ r lt. ap must_of (sym (same r lt))) ((Decides-must v c t).0 on k low high)),
-      (λ all. (Decides-must v c t).1 (λ k low high. come_same (λ r. (u r).must)
-          (λ r. (v r).must) k t (omega arith) (λ r lt. ap must_of (same r lt)) (all k low high))),
-    ) in
-    let may : (rails_delayed u c t).may ≡ (rails_delayed v c t).may =
-    same_from_decides (rails_delayed u c t).may (rails_delayed v c t).may (Decides-may u c t) (
-      (λ on. some_same (λ r. (v r).may) (λ r. (u r).may) c t some
-          (λ r lt. ap may_of (sym (same r lt))) ((Decides-may v c t).0 on)),
-      (λ h. (Decides-may v c t).1 (some_same (λ r. (u r).may) (λ r. (v r).may) c t some
-          (λ r lt. ap may_of (same r lt)) h)),
-    ) in
-    ap (λ (b : Bool). record { must = b; may = (rails_delayed u c t).may }) must
-    ∙ ap (λ (b : Bool). record { must = (rails_delayed v c t).must; may = b }) may
+rails_delayed-past u v c t later same =
+    rails_delayed-same u v c t (λ r low high. same r (omega arith))
 
 -- what is received, over the keys recorded so far, is that over the whole history
 pub delayed_of_ticks : (u : ℕ → Rails) (c : Ends) (t : ℕ) → 1 ≤ c.least →

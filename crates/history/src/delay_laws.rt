@@ -2,7 +2,7 @@
 //! tick to tick.
 #![tactic(auto)]
 
-ghost use Rattle.std.specs.Prelude.{◌≡◌, ◌≤◌, ◌<◌, ℕ, Bool, Decides};
+ghost use Rattle.std.specs.Prelude.{◌≡◌, ◌≤◌, ◌<◌, ◌+◌, ℕ, Bool, Decides};
 ghost use Rattle.history.specs.Elements.{delayed};
 ghost use Rattle.history.specs.Comes.{Comes, AllCome, SomeComes};
 ghost use Rattle.history.specs.Rails.{Rails, Ends, Covers, RailsCover, IsPartOf, IsSound, both};
@@ -17,12 +17,13 @@ pub fn delays_are_their_facts()
         Decides (rails_delayed u (c t) t).may (SomeComes (λ r. (u r).may) (c t) t) }
 {}
 
-/// A delay of at least 1 reads keys of earlier ticks alone.
+/// What is received at a tick rests on the keys of the ticks from the greatest to the least delay
+/// before it alone, so with delays of at least 1 on keys of earlier ticks alone.
 pub fn delays_read_earlier_ticks()
     ensures delayed { (u v : ℕ → Bool) (c t : ℕ) →
-        1 ≤ c → ((r : ℕ) → r < t → u r ≡ v r) → delayed u c t ≡ delayed v c t }
+        ((r : ℕ) → r + c ≡ t → u r ≡ v r) → delayed u c t ≡ delayed v c t }
     ensures rails { (u v : ℕ → Rails) (c : ℕ → Ends) (t : ℕ) →
-        1 ≤ (c t).least → ((r : ℕ) → r < t → u r ≡ v r) →
+        ((r : ℕ) → r + (c t).least ≤ t → t ≤ r + (c t).greatest → u r ≡ v r) →
         rails_delayed u (c t) t ≡ rails_delayed v (c t) t }
 {}
 
