@@ -1,0 +1,11 @@
+pub mod ClaimLaws
+pub mod FewLines
+pub mod NumberLaws
+pub mod PartLaws
+pub mod ReadBack
+pub mod ReadLaws
+pub mod StandsLaws
+pub mod TextLaws
+pub mod VerdictLaws
+pub mod WholeLaws
+pub mod WrittenLaws

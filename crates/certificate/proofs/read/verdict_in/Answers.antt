@@ -1,0 +1,29 @@
+use Rattle.std.proofs.Common.{◌≡◌, ◌≢◌, List, ℕ, sym, ◌∙◌, ap}
+use Rattle.std.specs.Prelude.{codes}
+use Rattle.certificate.specs.declared.claim.Claim.{Claim}
+use Rattle.text_lines.specs.Named.{named}
+use Rattle.certificate.specs.Grammar.{Verdict, HasNumbers, verdict_words, verdict_in}
+use Rattle.text_lines.specs.AnswerLaws.{map_read}
+use Rattle.text_lines.specs.NamedLaws.{one_text}
+use Rattle.certificate.proofs.read.verdict_in.Goals as goal
+
+pub returns-in-Some : goal.returns-in-Some
+returns-in-Some c =
+    let name : List ℕ = c.args.name in
+    let words : List ℕ = c.in-Some.words.now in
+    let here : c.args.bytes.now ≡ named (codes "verdict") name words =
+    c.in-Some.ensures
+    ∙ ap (λ (n : List ℕ). named (codes "verdict") n words) c.bytes.ensures.same in
+    map_read ((said : Verdict) → HasNumbers c.args.line.now said → words ≢ verdict_words said) _
+    (λ (claim : Claim). HasNumbers c.args.line.now (verdict_in claim)
+    × (words ≡ verdict_words (verdict_in claim))) _ c.read_words.result
+    (λ none said is. none said is.0
+    (one_text (codes "verdict") name words (verdict_words said) (sym here ∙ is.1)))
+    (λ claim is. (is.0, here ∙ ap (named (codes "verdict") name) is.1))
+    c.read_words.ensures
+
+pub returns-in-None : goal.returns-in-None
+returns-in-None c = λ said is.
+    c.in-None.ensures (verdict_words said)
+    (is.1 ∙ ap (λ (n : List ℕ). named (codes "verdict") n (verdict_words said))
+    (sym c.bytes.ensures.same))

@@ -1,0 +1,33 @@
+//! The words of a verdict, read.
+
+ghost use Rattle.std.specs.Prelude.{◌≡◌, ◌≢◌, IfOk, MatchOption};
+ghost use Rattle.line_model.specs.Parameters.{param_count};
+ghost use Rattle.certificate.specs.Grammar.{Verdict, HasNumbers, verdict_words, verdict_in};
+
+use crate::claim::Claim;
+use crate::numbers::read_numbers;
+use line_model::{Line, Memory};
+use std::alloc::Global;
+use text_lines::{after, is};
+
+/// The verdict of these words.
+pub(crate) fn read_words(alloc: Global, line: &Line, words: &[u8]) -> Result<Option<Claim>, Memory>
+    ensures { IfOk result (λ read. MatchOption read
+        ((said : Verdict) → HasNumbers line.now said → words.now ≢ verdict_words said)
+        (λ claim. HasNumbers line.now (verdict_in claim)
+        × (words.now ≡ verdict_words (verdict_in claim)))) }
+{
+    if is(words, b"yes") {
+        return Ok(Some(Claim::Yes));
+    }
+    if is(words, b"undecided") {
+        return Ok(Some(Claim::Undecided));
+    }
+    let Some(text) = after(words, b"no") else {
+        return Ok(None);
+    };
+    match read_numbers(alloc, text, line.params.len())? {
+        Some(numbers) => Ok(Some(Claim::No(numbers))),
+        None => Ok(None),
+    }
+}

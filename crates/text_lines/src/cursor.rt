@@ -1,0 +1,59 @@
+//! A text, line by line.
+
+ghost use Rattle.std.specs.Prelude.{◌≡◌, ◌≤◌, ◌<◌, ◌+◌, ◌^◌, List, ℕ, length, MatchOption};
+ghost use Rattle.std.specs.List.{position_or_len};
+ghost use Rattle.text_lines.specs.Lines.{BeginsWith, is_feed};
+
+/// What is left of a text of lines, and the number of the line that comes next. Lines are counted
+/// from 1 and end with a line feed.
+#[derive(Drop)]
+pub struct LineCursor<'a> {
+    pub rest: &'a [u8],
+    pub number: usize,
+    pub ghost bounded: { number + length rest.now < 2 ^ 64 },
+}
+
+impl<'a> LineCursor<'a> {
+    /// All lines of a text are to come.
+    pub fn new(text: &'a [u8]) -> LineCursor<'a>
+        ensures all { result.rest.now ≡ text.now }
+        ensures first { result.number ≡ 1 }
+    {
+        LineCursor {
+            rest: text,
+            number: 1,
+        }
+    }
+
+    /// Takes the next line and its line feed. None where no line feed is left.
+    pub fn next_line(&mut self) -> Option<&'a [u8]>
+        ensures { MatchOption result
+            (((line rest : List ℕ) → ¬ BeginsWith self.old.rest.now line rest)
+            × (self.new.rest.now ≡ self.old.rest.now)
+            × (self.new.number ≡ self.old.number))
+            (λ line. BeginsWith self.old.rest.now line.now self.new.rest.now
+            × (self.new.number ≡ self.old.number + 1)) }
+    {
+        let end = line_end(self.rest);
+        if end == self.rest.len() {
+            return None;
+        }
+        let line = &self.rest[..end];
+        self.rest = &self.rest[end + 1..];
+        self.number += 1;
+        Some(line)
+    }
+}
+
+// Where the first line ends: at the first line feed, or with the text.
+fn line_end(text: &[u8]) -> usize
+    ensures place { result ≡ position_or_len is_feed text.now }
+    ensures inside { result ≤ length text.now }
+{
+    for (i, byte) in text.iter().enumerate() {
+        if *byte == b'\n' {
+            return i;
+        }
+    }
+    text.len()
+}

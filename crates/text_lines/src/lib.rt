@@ -1,0 +1,13 @@
+//! Texts made of lines, each with its line feed: the lines of a text one after another, the starts
+//! of lines, and what it means that lines stand where they are expected.
+//!
+//! `specs/Lines.antt` has a text as a list of places, each with what can stand there and what it
+//! opens. The laws that every such text has stand beside it (`LineLaws`, `Reading`, `OneReading`), since
+//! they range over relations, of which no clause can speak.
+#![tactic(auto)]
+
+mod cursor;
+mod start;
+
+pub use cursor::LineCursor;
+pub use start::{after, after_name, is};
