@@ -22,3 +22,13 @@ pub mod RuleLaws
 pub mod DeclaredLaws
 pub mod BelowTests
 pub mod KeyReads
+pub mod SameTrees
+pub mod SameCounts
+pub mod SameHistories
+pub mod ChangedBox
+pub mod ChangedChoices
+pub mod DeclaredIntervals
+pub mod NarrowerRules
+pub mod HeldLaws
+pub mod CoveringKeys
+pub mod Deadlines

@@ -28,3 +28,7 @@ pub mod Rule
 pub mod Making
 pub mod SameLine
 pub mod Fits
+pub mod WithBounds
+pub mod Boxes
+pub mod HeldOver
+pub mod IntervalLaws

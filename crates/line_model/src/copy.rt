@@ -1,6 +1,9 @@
-// A copy of a line.
+// Copies of a line.
 
-ghost use Rattle.std.specs.Prelude.{IfOk};
+ghost use Rattle.std.specs.Prelude.{◌≤◌, ◌<◌, IfOk};
+ghost use Rattle.line_model.specs.Parameters.{param_count};
+ghost use Rattle.line_model.specs.SetBounds.{IsDelayAt};
+ghost use Rattle.line_model.specs.WithBounds.{IsWithBounds};
 ghost use Rattle.line_model.specs.SameLine.{SameLine};
 
 use crate::line::Line;
@@ -24,5 +27,24 @@ impl Line {
             channels,
             params,
         })
+    }
+
+    /// A line of its own that is the same but for the interval of one parameter.
+    pub fn with_bounds(
+        &self,
+        alloc: Global,
+        param: u32,
+        least: u32,
+        greatest: u32,
+    ) -> Result<Line, Memory>
+        requires exists { param < param_count self.now }
+        requires ordered { least ≤ greatest }
+        requires within { greatest ≤ 4000 }
+        requires delay { IsDelayAt self.now param → 1 ≤ least }
+        ensures { IfOk result (λ other. IsWithBounds self.now param least greatest other) }
+    {
+        let mut other = self.copy(alloc)?;
+        other.set_bounds(param, least, greatest);
+        Ok(other)
     }
 }

@@ -5,6 +5,7 @@ ghost use Rattle.history.specs.Rails.{Rails, Covers};
 ghost use Rattle.line_model.specs.declared.line.Line.{Line};
 ghost use Rattle.line_model.specs.declared.script.Script.{Script};
 ghost use Rattle.line_model.specs.Parameters.{terminal_count};
+ghost use Rattle.line_model.specs.Fits.{Fits};
 ghost use Rattle.line_model.specs.Names.{Names};
 ghost use Rattle.line_model.specs.Tree.{Tree};
 ghost use Rattle.line_model.specs.Mean.{Signals, mean};
@@ -98,6 +99,17 @@ pub fn a_wider_box_covers()
         (mean (world_of line script choice) h.key x t) }
 {}
 
+/// Over keys that cover those of a history at each tick before t, as its own keys do, the pair of
+/// each tree at t covers the tree's value.
+pub fn covering_keys_give_covering_values()
+    ensures { (line : Line) (script : Script) (box : Box) (choice : Choice) (keys : PairSignals)
+        (plain : Signals) (t : ℕ) → LeastFromOne line box → IsWithin line choice box →
+        ((k r : ℕ) → k < terminal_count line → r < t → Covers (keys k r) (plain k r)) →
+        (x : Tree) → t < line.horizon → Names line x →
+        Covers (pair_mean (pair_world_of line script box) keys x t)
+        (mean (world_of line script choice) plain x t) }
+{}
+
 /// Claims that are covered over a box cover the history of each choice within, and so do the
 /// trips that are derived from them.
 pub fn covered_claims_cover()
@@ -106,6 +118,12 @@ pub fn covered_claims_cover()
         IsWithin line choice box → AreCovered line script box claims →
         IsLineHistory line script choice h →
         CoversHistory line (with_derived_trips line script box claims) h }
+{}
+
+/// The deadline of a script that fits is below the horizon.
+pub fn deadlines_are_below_the_horizon()
+    ensures { (line : Line) (script : Script) →
+        Fits line script → script.deadline < line.horizon }
 {}
 
 /// The rule of an obligation is held exactly where it is held, broken exactly where it is broken

@@ -9,6 +9,7 @@ mod channels;
 mod copy;
 mod elements;
 mod formula;
+pub mod interval_laws;
 pub mod laws;
 mod line;
 mod logic;
