@@ -2,3 +2,4 @@ pub mod Equal
 pub mod Standing
 pub mod Adding
 pub mod Names
+pub mod SameNets

@@ -3,3 +3,4 @@ pub mod Formulas
 pub mod Growing
 pub mod Named
 pub mod NetOf
+pub mod NetLaws

@@ -7,6 +7,7 @@
 
 mod builder;
 mod gate;
+pub mod laws;
 mod net;
 
 pub use builder::NetBuilder;

@@ -1,0 +1,24 @@
+//! The laws of gates and nets.
+
+ghost use Rattle.line_model.specs.declared.line.Line.{Line};
+ghost use Rattle.line_model.specs.SetBounds.{SameButParams};
+ghost use Rattle.gate_net.specs.NetOf.{NetOf, IsNetOf};
+ghost use Rattle.gate_net.specs.NetLaws.{GatesStandForTheirTrees};
+
+use line_model::interval_laws::{
+    counts_do_not_rest_on_the_intervals, trees_do_not_rest_on_the_intervals,
+};
+
+/// A gate stands for its own kind over the trees of its arguments, and names what they name.
+pub fn gates_stand_for_their_trees()
+    ensures { GatesStandForTheirTrees }
+{}
+
+/// A net of a line is a net of it whatever its intervals are.
+pub fn nets_do_not_rest_on_the_intervals()
+    ensures { (line other : Line) (net : NetOf) → SameButParams line other →
+        IsNetOf line net → IsNetOf other net }
+{
+    counts_do_not_rest_on_the_intervals();
+    trees_do_not_rest_on_the_intervals();
+}
