@@ -1,13 +1,15 @@
 -- What comes of a wave through a delay of which the two ends are known.
 use Rattle.std.proofs.Common.{◌≡◌, ℕ, zero, suc, ◌+◌, ◌-◌, ◌≤◌, Bool, List, [], ◌∷◌}
-use Rattle.std.proofs.Common.{◌∙◌, ap, arith}
-use Rattle.std.specs.Prelude.{IsTrue}
+use Rattle.std.proofs.Common.{◌<◌, ◌∙◌, ap, arith, sym, ⊎_elim}
+use Rattle.std.specs.Prelude.{IsTrue, Decides}
+use Rattle.std.proofs.lemmas.Bool.{cases_lt}
+use Rattle.std.proofs.lemmas.Bool.Decides.{same_from_decides, Decides-like}
 use Rattle.history.specs.Comes.{AllCome, SomeComes}
-use Rattle.history.specs.Rails.{IsSound}
+use Rattle.history.specs.Rails.{Rails, Ends, IsSound, rails_delayed, must_of, may_of}
 use Rattle.tick_signal.specs.Spans.{ends_of}
 use Rattle.tick_signal.specs.declared.tern.Tern.{Tern}
 use Rattle.tick_signal.specs.Terns.{tern_sound}
-use Rattle.wave_runs.specs.Waves.{wave_at}
+use Rattle.wave_runs.specs.Waves.{wave_at, ArrivesAlike}
 
 pub wave_sound : (wave : List Tern) (r : ℕ) → IsSound (wave_at wave r)
 wave_sound [] r on = on
@@ -31,3 +33,125 @@ comes u least greatest t k low high on =
       greatest = omega arith;
       comes = record { past = omega arith; on = ap u e ∙ on };
     }
+
+-- ---- while the same arrives after the least and after the greatest delay, the same is received
+
+alike : {A B : Type 0} (f : A → B) (u : ℕ → A) (delay t end : ℕ) → ArrivesAlike u delay t end
+    → ArrivesAlike (λ r. f (u r)) delay t end
+alike f u delay t end h = record {
+  shut = h.shut;
+  passes = λ past r low high. ap f (h.passes past r low high);
+}
+
+all_on : (u : ℕ → Bool) (ends : Ends) (t k a b : ℕ) → ends.least ≤ ends.greatest
+    → ArrivesAlike u ends.least t a → ArrivesAlike u ends.greatest t b → t ≤ k → k < a → k < b
+    → AllCome u ends t → AllCome u ends k
+all_on u ends t k a b ordered first last low high below all c least greatest =
+    let past : ends.greatest ≤ t = (all ends.greatest ordered (omega arith)).past in
+    record {
+      past = omega arith;
+      on = ⊎_elim
+          (λ new. first.passes (omega arith) (k - c) (omega arith) (omega arith)
+          ∙ (all ends.least (omega arith) ordered).on)
+          (λ old. came u ends.least ends.greatest t (k - c) all (omega arith) old)
+          (cases_lt t (k - c + ends.least));
+    }
+
+all_back : (u : ℕ → Bool) (ends : Ends) (t k a b : ℕ) → ends.least ≤ ends.greatest
+    → ArrivesAlike u ends.least t a → ArrivesAlike u ends.greatest t b → t ≤ k → k < a → k < b
+    → AllCome u ends k → AllCome u ends t
+all_back u ends t k a b ordered first last low high below all c least greatest =
+    let reaches : ends.greatest ≤ k = (all ends.greatest ordered (omega arith)).past in
+    let past : ends.greatest ≤ t = ⊎_elim
+    (λ early. let shut : b ≤ ends.greatest = last.shut early in absurd (omega arith))
+    (λ late. late)
+    (cases_lt t ends.greatest) in
+    record {
+      past = omega arith;
+      on = ⊎_elim
+          (λ gone. last.passes past (t - c) (omega arith) (omega arith)
+          ∙ sym (last.passes past (k - ends.greatest) (omega arith) (omega arith))
+          ∙ (all ends.greatest ordered (omega arith)).on)
+          (λ still. came u ends.least ends.greatest k (t - c) all still (omega arith))
+          (cases_lt (t - c + ends.greatest) k);
+    }
+
+some_on : (u : ℕ → Bool) (ends : Ends) (t k a b : ℕ) → ends.least ≤ ends.greatest
+    → ArrivesAlike u ends.least t a → ArrivesAlike u ends.greatest t b → t ≤ k → k < a → k < b
+    → SomeComes u ends t → SomeComes u ends k
+some_on u ends t k a b ordered first last low high below some =
+    let past : some.c ≤ t = some.comes.past in
+    let least : ends.least ≤ some.c = some.least in
+    let greatest : some.c ≤ ends.greatest = some.greatest in
+    ⊎_elim
+    (λ gone. let far : ends.greatest ≤ t = ⊎_elim
+    (λ early. let shut : b ≤ ends.greatest = last.shut early in absurd (omega arith))
+    (λ late. late)
+    (cases_lt t ends.greatest) in
+    comes u ends.least ends.greatest k (k - ends.greatest) (omega arith) (omega arith)
+    (last.passes far (k - ends.greatest) (omega arith) (omega arith)
+    ∙ sym (last.passes far (t - some.c) (omega arith) (omega arith)) ∙ some.comes.on))
+    (λ still. comes u ends.least ends.greatest k (t - some.c) still (omega arith) some.comes.on)
+    (cases_lt (t - some.c + ends.greatest) k)
+
+some_back : (u : ℕ → Bool) (ends : Ends) (t k a b : ℕ) → ends.least ≤ ends.greatest
+    → ArrivesAlike u ends.least t a → ArrivesAlike u ends.greatest t b → t ≤ k → k < a → k < b
+    → SomeComes u ends k → SomeComes u ends t
+some_back u ends t k a b ordered first last low high below some =
+    let past : some.c ≤ k = some.comes.past in
+    let least : ends.least ≤ some.c = some.least in
+    let greatest : some.c ≤ ends.greatest = some.greatest in
+    ⊎_elim
+    (λ new. let near : ends.least ≤ t = ⊎_elim
+    (λ early. let shut : a ≤ ends.least = first.shut early in absurd (omega arith))
+    (λ late. late)
+    (cases_lt t ends.least) in
+    comes u ends.least ends.greatest t (t - ends.least) (omega arith) (omega arith)
+    (sym (first.passes near (k - some.c) (omega arith) (omega arith)) ∙ some.comes.on))
+    (λ old. comes u ends.least ends.greatest t (k - some.c) (omega arith) old some.comes.on)
+    (cases_lt t (k - some.c + ends.least))
+
+-- the rails of what is received, as facts
+abbrev pub MustIsAll : Type 0
+MustIsAll = (u : ℕ → Rails) (c : ℕ → Ends) (t : ℕ)
+    → Decides (rails_delayed u (c t) t).must (AllCome (λ r. (u r).must) (c t) t)
+
+abbrev pub MayIsSome : Type 0
+MayIsSome = (u : ℕ → Rails) (c : ℕ → Ends) (t : ℕ)
+    → Decides (rails_delayed u (c t) t).may (SomeComes (λ r. (u r).may) (c t) t)
+
+-- two that have the same facts are the same
+same_received : (is_all : MustIsAll) (is_some : MayIsSome) (u v : ℕ → Rails) (ends : Ends)
+    (t k : ℕ) → (AllCome (λ r. (u r).must) ends t → AllCome (λ r. (v r).must) ends k)
+    → (AllCome (λ r. (v r).must) ends k → AllCome (λ r. (u r).must) ends t)
+    → (SomeComes (λ r. (u r).may) ends t → SomeComes (λ r. (v r).may) ends k)
+    → (SomeComes (λ r. (v r).may) ends k → SomeComes (λ r. (u r).may) ends t)
+    → rails_delayed u ends t ≡ rails_delayed v ends k
+same_received is_all is_some u v ends t k on back comes_on comes_back =
+    let must : (rails_delayed u ends t).must ≡ (rails_delayed v ends k).must =
+    same_from_decides (rails_delayed u ends t).must (rails_delayed v ends k).must
+    (is_all u (λ _. ends) t)
+    (Decides-like _ back on (is_all v (λ _. ends) k)) in
+    let may : (rails_delayed u ends t).may ≡ (rails_delayed v ends k).may =
+    same_from_decides (rails_delayed u ends t).may (rails_delayed v ends k).may
+    (is_some u (λ _. ends) t)
+    (Decides-like _ comes_back comes_on (is_some v (λ _. ends) k)) in
+    ap (λ (b : Bool). record { must = b; may = (rails_delayed u ends t).may }) must
+    ∙ ap (λ (b : Bool). record { must = (rails_delayed v ends k).must; may = b }) may
+
+pub received_alike : (is_all : MustIsAll) (is_some : MayIsSome) (u : ℕ → Rails) (ends : Ends)
+    (t k a b : ℕ) → ends.least ≤ ends.greatest → ArrivesAlike u ends.least t a
+    → ArrivesAlike u ends.greatest t b → t ≤ k → k < a → k < b
+    → rails_delayed u ends k ≡ rails_delayed u ends t
+received_alike is_all is_some u ends t k a b ordered first last low high below =
+    let must : ℕ → Bool = λ r. (u r).must in
+    let may : ℕ → Bool = λ r. (u r).may in
+    sym (same_received is_all is_some u u ends t k
+    (all_on must ends t k a b ordered (alike must_of u ends.least t a first)
+    (alike must_of u ends.greatest t b last) low high below)
+    (all_back must ends t k a b ordered (alike must_of u ends.least t a first)
+    (alike must_of u ends.greatest t b last) low high below)
+    (some_on may ends t k a b ordered (alike may_of u ends.least t a first)
+    (alike may_of u ends.greatest t b last) low high below)
+    (some_back may ends t k a b ordered (alike may_of u ends.least t a first)
+    (alike may_of u ends.greatest t b last) low high below))

@@ -1,37 +1,123 @@
--- Runs in a list, and the values that they have.
+-- Runs in a list, by their ends, and the values that they have.
 use Rattle.std.proofs.Common.{◌≡◌, ◌≢◌, ℕ, zero, suc, ◌+◌, ◌-◌, ◌<◌, ◌≤◌, List, [], ◌∷◌, ◌++◌}
 use Rattle.std.proofs.Common.{length, replicate, take, drop, get_or, refl, sym, ◌∙◌, ap, arith}
-use Rattle.std.proofs.Common.{append_assoc}
-use Rattle.std.proofs.Common.{length-append, set, subst}
+use Rattle.std.proofs.Common.{append_assoc, length-append, set, subst, ⊎_elim}
+use Rattle.std.proofs.Common.{leb, leb-true, true, false}
+use Rattle.std.proofs.lemmas.Bool.{cases_lt, leb-false}
 use Rattle.std.specs.Prelude.{slice_get, Some}
 use Rattle.std.proofs.lemmas.List.{take-append-drop, drop_more, length-replicate}
-use Rattle.std.proofs.lemmas.List.{append-nil, replicate-append-replicate}
+use Rattle.std.proofs.lemmas.List.{append-nil, replicate-append-replicate, take_more}
 use Rattle.std.proofs.lemmas.List.{drop_all, set_at, length-take-le}
 use Rattle.std.proofs.lemmas.List.Concat.{flat_map-append}
+use Rattle.std.proofs.lemmas.List.Sorted.{IsPartitionedBy-leb}
+use Rattle.std.specs.List.Sorted.{IsPartitionedBy, IsPartitionPoint}
 use Rattle.tick_signal.specs.declared.tern.Tern.{Tern}
+use Rattle.tick_signal.specs.declared.tern.Tern.TheVariants.{Zero}
 use Rattle.wave_runs.specs.declared.runs.Run.{Run}
-use Rattle.wave_runs.specs.Waves.{run_of, ticks_of, levels_of, AreApart}
-use Rattle.wave_runs.specs.Waves.{HasThroughout}
-
--- ---- the runs round one of them
-
-pub runs_round : (runs : List Run) (i : ℕ) (run d : Run) → i < length runs → run ≡ get_or runs i d
-    → runs ≡ take i runs ++ run ∷ drop (i + 1) runs
-runs_round runs i run d inside is =
-    sym (take-append-drop i runs)
-    ∙ ap (λ (rest : List Run). take i runs ++ rest)
-    (drop_more runs i d inside ∙ ap (λ (r : Run). r ∷ drop (i + 1) runs) (sym is))
+use Rattle.wave_runs.specs.declared.runs.Stretch.{Stretch}
+use Rattle.wave_runs.specs.Waves.{run_of, ticks_of, levels_of, runs_from, AreApart}
+use Rattle.wave_runs.specs.Waves.{AreRunsOf, HasThroughout}
 
 pub levels_round : (front : List Run) (run : Run) (rest : List Run)
     → levels_of (front ++ run ∷ rest) ≡ levels_of front ++ (ticks_of run ++ levels_of rest)
 levels_round front run rest = flat_map-append ticks_of front (run ∷ rest)
 
-levels_at : (runs : List Run) (i : ℕ) (run d : Run) → i < length runs → run ≡ get_or runs i d
-    → levels_of runs
-    ≡ levels_of (take i runs) ++ (ticks_of run ++ levels_of (drop (i + 1) runs))
-levels_at runs i run d inside is =
-    ap levels_of (runs_round runs i run d inside is)
-    ∙ levels_round (take i runs) run (drop (i + 1) runs)
+pub length-levels : (run : Run) (runs : List Run)
+    → length (levels_of (run ∷ runs)) ≡ run.ticks + length (levels_of runs)
+length-levels run runs =
+    omega (
+      arith,
+      length-append (ticks_of run) (levels_of runs),
+      length-replicate run.ticks run.level,
+    )
+
+pub some_ticks : (front : List Run) (run : Run) (rest : List Run) → AreApart (front ++ run ∷ rest)
+    → 1 ≤ run.ticks
+some_ticks [] run [] apart = apart
+some_ticks [] run (next ∷ rest) apart = apart.0
+some_ticks (f ∷ []) run rest apart = some_ticks [] run rest apart.2
+some_ticks (f ∷ g ∷ front) run rest apart = some_ticks (g ∷ front) run rest apart.2
+
+later_apart : (run : Run) (runs : List Run) → AreApart (run ∷ runs) → AreApart runs
+later_apart run [] apart = tt
+later_apart run (next ∷ runs) apart = apart.2
+
+-- ---- runs by their ends
+
+-- where they end, if the first begins at that tick
+abbrev pub end_from : ℕ → List Stretch → ℕ
+end_from from [] = from
+end_from from (stretch ∷ stretches) = end_from stretch.end stretches
+
+-- a stretch as a run
+abbrev pub run_to : ℕ → Stretch → Run
+run_to from stretch = run_of stretch.level (stretch.end - from)
+
+pub runs_from-push : (from : ℕ) (stretches : List Stretch) (next : Stretch)
+    → runs_from from (stretches ++ next ∷ [])
+    ≡ runs_from from stretches ++ run_to (end_from from stretches) next ∷ []
+runs_from-push from [] next = refl
+runs_from-push from (x ∷ stretches) next =
+    ap (λ (runs : List Run). run_to from x ∷ runs) (runs_from-push x.end stretches next)
+
+pub length-runs_from : (from : ℕ) (stretches : List Stretch)
+    → length (runs_from from stretches) ≡ length stretches
+length-runs_from from [] = refl
+length-runs_from from (x ∷ stretches) =
+    (let rest = length-runs_from x.end stretches in omega arith)
+
+pub ends_with_the_levels : (from : ℕ) (stretches : List Stretch)
+    → AreApart (runs_from from stretches)
+    → from + length (levels_of (runs_from from stretches)) ≡ end_from from stretches
+ends_with_the_levels from [] apart = omega arith
+ends_with_the_levels from (x ∷ stretches) apart =
+    let rest = ends_with_the_levels x.end stretches
+    (later_apart (run_to from x) (runs_from x.end stretches) apart) in
+    let first : 1 ≤ x.end - from =
+    some_ticks [] (run_to from x) (runs_from x.end stretches) apart in
+    omega (arith, length-levels (run_to from x) (runs_from x.end stretches))
+
+-- each ends after the tick at which the first begins
+after_from : (from : ℕ) (stretches : List Stretch) (j : ℕ) (d : Stretch)
+    → AreApart (runs_from from stretches) → j < length stretches
+    → from < (get_or stretches j d).end
+after_from from [] j d apart inside = absurd (omega arith)
+after_from from (x ∷ stretches) zero d apart inside =
+    let first : 1 ≤ x.end - from =
+    some_ticks [] (run_to from x) (runs_from x.end stretches) apart in
+    omega arith
+after_from from (x ∷ stretches) (suc j) d apart inside =
+    let first : 1 ≤ x.end - from =
+    some_ticks [] (run_to from x) (runs_from x.end stretches) apart in
+    let later = after_from x.end stretches j d
+    (later_apart (run_to from x) (runs_from x.end stretches) apart) (omega arith) in
+    omega arith
+
+pub ends_rise : (from : ℕ) (stretches : List Stretch) → AreApart (runs_from from stretches)
+    → (i j : ℕ) (d : Stretch) → i ≤ j → j < length stretches
+    → (get_or stretches i d).end ≤ (get_or stretches j d).end
+ends_rise from [] apart i j d order inside = absurd (omega arith)
+ends_rise from (x ∷ stretches) apart zero zero d order inside = omega arith
+ends_rise from (x ∷ stretches) apart zero (suc j) d order inside =
+    let later = after_from x.end stretches j d
+    (later_apart (run_to from x) (runs_from x.end stretches) apart) (omega arith) in
+    omega arith
+ends_rise from (x ∷ stretches) apart (suc i) zero d order inside = absurd (omega arith)
+ends_rise from (x ∷ stretches) apart (suc i) (suc j) d order inside =
+    ends_rise x.end stretches (later_apart (run_to from x) (runs_from x.end stretches) apart) i j d
+    (omega arith) (omega arith)
+
+-- the last of them ends where all do
+pub last_end : (from : ℕ) (stretches : List Stretch) (d : Stretch) → 0 < length stretches
+    → (get_or stretches (length stretches - 1) d).end ≡ end_from from stretches
+last_end from [] d some = absurd (omega arith)
+last_end from (x ∷ []) d some = refl
+last_end from (x ∷ y ∷ stretches) d some =
+    let e : length (x ∷ y ∷ stretches) - 1 ≡ suc (length (y ∷ stretches) - 1) = omega arith in
+    ap (λ (i : ℕ). (get_or (x ∷ y ∷ stretches) i d).end) e
+    ∙ last_end x.end (y ∷ stretches) d (omega arith)
+
+-- ---- the run at a tick
 
 -- the value at a tick of a run
 pub in_run : (front rest : List Tern) (level : Tern) (n k : ℕ) → length front ≤ k
@@ -43,30 +129,130 @@ in_run (x ∷ front) rest level n zero low high = absurd (omega arith)
 in_run (x ∷ front) rest level n (suc k) low high =
     in_run front rest level n k (omega arith) (omega arith)
 
--- the run that is reached after the runs before it
-pub reached : (runs : List Run) (i end t : ℕ) (run d : Run) → i < length runs
-    → run ≡ get_or runs i d → end ≡ length (levels_of (take i runs)) → end ≤ t
-    → HasThroughout (levels_of runs) run.level t (end + run.ticks)
-reached runs i end t run d inside is ends past k low high =
-    let before : List Tern = levels_of (take i runs) in
-    let after : List Tern = levels_of (drop (i + 1) runs) in
-    ap (λ (w : List Tern). slice_get w k) (levels_at runs i run d inside is)
-    ∙ in_run before after run.level run.ticks k (omega arith) (omega arith)
+past_run : (rest : List Tern) (level : Tern) (n k : ℕ) → n ≤ k
+    → slice_get (replicate n level ++ rest) k ≡ slice_get rest (k - n)
+past_run rest level zero k low = (let e : k ≡ k - 0 = omega arith in ap (slice_get rest) e)
+past_run rest level (suc n) zero low = absurd (omega arith)
+past_run rest level (suc n) (suc k) low =
+    past_run rest level n k (omega arith)
+    ∙ (let e : k - n ≡ suc k - suc n = omega arith in ap (slice_get rest) e)
 
--- the runs before one and the run itself end within the wave
-pub ends_inside : (runs : List Run) (i end : ℕ) (run d : Run) → i < length runs
-    → run ≡ get_or runs i d → end ≡ length (levels_of (take i runs))
-    → end + run.ticks ≤ length (levels_of runs)
-ends_inside runs i end run d inside is ends =
-    let before : List Tern = levels_of (take i runs) in
-    let after : List Tern = levels_of (drop (i + 1) runs) in
+-- the first that ends after a tick has its value from the tick on
+reached_from : (from : ℕ) (stretches : List Stretch) (i t : ℕ) (d : Stretch)
+    → AreApart (runs_from from stretches) → i < length stretches → from ≤ t
+    → ((j : ℕ) → j < i → (get_or stretches j d).end ≤ t)
+    → (k : ℕ) → t ≤ k → k < (get_or stretches i d).end
+    → slice_get (levels_of (runs_from from stretches)) (k - from)
+    ≡ Some (get_or stretches i d).level
+reached_from from [] i t d apart inside past before k low high = absurd (omega arith)
+reached_from from (x ∷ stretches) zero t d apart inside past before k low high =
+    in_run [] (levels_of (runs_from x.end stretches)) x.level (x.end - from) (k - from)
+    (omega arith) (omega arith)
+reached_from from (x ∷ stretches) (suc i) t d apart inside past before k low high =
+    let gone : x.end ≤ t = before 0 (omega arith) in
+    let first : 1 ≤ x.end - from =
+    some_ticks [] (run_to from x) (runs_from x.end stretches) apart in
+    let rest : List Tern = levels_of (runs_from x.end stretches) in
+    let e : (k - from) - (x.end - from) ≡ k - x.end = omega arith in
+    past_run rest x.level (x.end - from) (k - from) (omega arith)
+    ∙ ap (slice_get rest) e
+    ∙ reached_from x.end stretches i t d
+    (later_apart (run_to from x) (runs_from x.end stretches) apart) (omega arith) gone
+    (λ j lt. before (suc j) (omega arith)) k low high
+
+pub reached : (stretches : List Stretch) (i t : ℕ) (d : Stretch)
+    → AreApart (runs_from 0 stretches) → i < length stretches
+    → ((j : ℕ) → j < i → (get_or stretches j d).end ≤ t)
+    → HasThroughout (levels_of (runs_from 0 stretches)) (get_or stretches i d).level t
+    (get_or stretches i d).end
+reached stretches i t d apart inside before k low high =
+    let e : k ≡ k - 0 = omega arith in
+    ap (slice_get (levels_of (runs_from 0 stretches))) e
+    ∙ reached_from 0 stretches i t d apart inside (omega arith) before k low high
+
+pub ends_inside : (stretches : List Stretch) (i : ℕ) (d : Stretch)
+    → AreApart (runs_from 0 stretches) → i < length stretches
+    → (get_or stretches i d).end ≤ length (levels_of (runs_from 0 stretches))
+ends_inside stretches i d apart inside =
+    let rise = ends_rise 0 stretches apart i (length stretches - 1) d (omega arith) (omega arith) in
     omega (
       arith,
-      ap length (levels_at runs i run d inside is),
-      length-append before (ticks_of run ++ after),
-      length-append (ticks_of run) after,
-      length-replicate run.ticks run.level,
+      rise,
+      last_end 0 stretches d (omega arith),
+      ends_with_the_levels 0 stretches apart,
     )
+
+-- where all that end by a tick are passed, some are left, if the wave goes on
+pub some_left : (stretches : List Stretch) (i t : ℕ) (d : Stretch)
+    → AreApart (runs_from 0 stretches) → t < length (levels_of (runs_from 0 stretches))
+    → i ≤ length stretches → ((j : ℕ) → j < i → (get_or stretches j d).end ≤ t)
+    → i < length stretches
+some_left [] i t d apart inside few before = absurd (omega arith)
+some_left (x ∷ stretches) i t d apart inside few before =
+    let all : List Stretch = x ∷ stretches in
+    ⊎_elim
+    (λ fewer. fewer)
+    (λ whole. let last = before (length all - 1) (omega arith) in
+    absurd (omega (
+      arith,
+      last,
+      last_end 0 all d (omega arith),
+      ends_with_the_levels 0 all apart,
+    )))
+    (cases_lt i (length all))
+
+-- the runs end in order, as a search by halves asks
+pub parted : (stretches : List Stretch) (t : ℕ) → AreApart (runs_from 0 stretches)
+    → IsPartitionedBy (λ (s : Stretch). leb s.end t) stretches
+parted stretches t apart =
+    IsPartitionedBy-leb (λ (s : Stretch). s.end) stretches t
+    (λ i j d order inside. ends_rise 0 stretches apart i j d order inside)
+
+-- the first that ends after tick t, which a search by halves finds, in the wave of its values
+pub record IsFound (stretches : List Stretch) (wave : List Tern) (t i : ℕ) : Type 0 where
+  pub there : i < length stretches
+  pub later : (d : Stretch) → t < (get_or stretches i d).end
+  pub inside : (d : Stretch) → (get_or stretches i d).end ≤ length wave
+  pub level : (d : Stretch)
+      → HasThroughout wave (get_or stretches i d).level t (get_or stretches i d).end
+
+-- all that end by tick t stand before place i
+abbrev pub PartsAt : List Stretch → ℕ → ℕ → Type 0
+PartsAt stretches t i =
+    IsPartitionPoint (λ (s : Stretch). leb s.end t ≡ true) (λ (s : Stretch). leb s.end t ≡ false)
+    stretches i
+
+found : (stretches : List Stretch) (t i : ℕ) → AreApart (runs_from 0 stretches)
+    → t < length (levels_of (runs_from 0 stretches)) → i ≤ length stretches
+    → PartsAt stretches t i → IsFound stretches (levels_of (runs_from 0 stretches)) t i
+found stretches t i apart goes_on few point =
+    let before : (d : Stretch) (j : ℕ) → j < i → (get_or stretches j d).end ≤ t =
+    λ d j lt. leb-true _ _ (point.0 j d (omega arith) lt) in
+    let none : Stretch = record { level = Zero; end = 0 } in
+    let there : i < length stretches =
+    some_left stretches i t none apart goes_on few (before none) in
+    record {
+      there = there;
+      later = λ d. leb-false _ _ (point.1 i d (omega arith) there);
+      inside = λ d. ends_inside stretches i d apart there;
+      level = λ d. reached stretches i t d apart there (before d);
+    }
+
+-- the same of the list that is handed on, which is the wave's
+module _ (stretches items : List Stretch) (wave : List Tern) (len t : ℕ)
+    (same : stretches ≡ items) (are : AreRunsOf (runs_from 0 items) len)
+    (view : levels_of (runs_from 0 items) ≡ wave) where
+  pub apart_in : AreApart (runs_from 0 stretches)
+  apart_in =
+      subst (λ (s : List Stretch). AreApart (runs_from 0 s)) (sym same) are.apart
+
+  pub found_in : (i : ℕ) → t < length wave → i ≤ length stretches → PartsAt stretches t i
+      → IsFound stretches wave t i
+  found_in i goes_on few point =
+      let whole : levels_of (runs_from 0 stretches) ≡ wave =
+      ap (λ (s : List Stretch). levels_of (runs_from 0 s)) same ∙ view in
+      subst (λ (w : List Tern). IsFound stretches w t i) whole
+      (found stretches t i apart_in (omega (arith, ap length whole)) few point)
 
 -- ---- one run more
 
@@ -87,14 +273,15 @@ next_apart (f ∷ []) last run apart differs some =
 next_apart (f ∷ g ∷ front) last run apart differs some =
     (apart.0, apart.1, next_apart (g ∷ front) last run apart.2 differs some)
 
--- the runs up to the last
-pub up_to_last : (runs : List Run) (count : ℕ) (last d : Run) → count ≡ length runs → 0 < count
-    → last ≡ get_or runs (count - 1) d → runs ≡ take (count - 1) runs ++ last ∷ []
-up_to_last runs count last d all some is =
-    let inside : count - 1 < length runs = omega arith in
-    runs_round runs (count - 1) last d inside is
-    ∙ ap (λ (rest : List Run). take (count - 1) runs ++ last ∷ rest)
-    (drop_all (count - 1 + 1) runs (omega arith))
+-- the list up to its last
+up_to_last : {A : Type 0} (xs : List A) (count : ℕ) (last d : A) → count ≡ length xs → 0 < count
+    → last ≡ get_or xs (count - 1) d → xs ≡ take (count - 1) xs ++ last ∷ []
+up_to_last {A} xs count last d all some is =
+    sym (take-append-drop (count - 1) xs)
+    ∙ ap (λ (rest : List A). take (count - 1) xs ++ rest)
+    (drop_more xs (count - 1) d (omega arith)
+    ∙ ap (λ (x : A). x ∷ drop (count - 1 + 1) xs) (sym is)
+    ∙ ap (λ (rest : List A). last ∷ rest) (drop_all (count - 1 + 1) xs (omega arith)))
 
 -- what appending so many ticks with this value is to leave
 pub record Appends (old new : List Run) (level : Tern) (n : ℕ) : Type 0 where
@@ -116,47 +303,127 @@ grown_levels front level n m =
     ∙ ap (λ (w : List Tern). (before ++ w) ++ more) (sym (append-nil first))
     ∙ ap (λ (w : List Tern). w ++ more) (sym (levels_round front (run_of level n) []))
 
-pub last_grows : (runs : List Run) (count : ℕ) (last d : Run) (level : Tern) (m : ℕ)
-    → AreApart runs → count ≡ length runs → 0 < count → last ≡ get_or runs (count - 1) d
-    → last.level ≡ level
-    → Appends runs (set runs (count - 1) (run_of last.level (last.ticks + m))) level m
-last_grows runs count last d level m apart all some is same =
-    let front : List Run = take (count - 1) runs in
-    let whole : runs ≡ front ++ last ∷ [] = up_to_last runs count last d all some is in
-    let grown : Run = run_of last.level (last.ticks + m) in
-    let new : set runs (count - 1) grown ≡ front ++ grown ∷ [] =
-    ap (λ (r : List Run). set r (count - 1) grown) whole
-    ∙ set_at front last [] grown (count - 1) (length-take-le (count - 1) runs (omega arith)) in
-    record {
-      apart = rw new (grown_apart front last.level last.ticks m
-          (let P : List Run → Type 0 = λ r. AreApart r in subst P whole apart));
-      levels = ap levels_of new ∙ grown_levels front last.level last.ticks m
-          ∙ ap (λ (w : List Tern). w ++ replicate m last.level) (sym (ap levels_of whole))
-          ∙ ap (λ (v : Tern). levels_of runs ++ replicate m v) same;
-    }
-
--- a run is appended
 pub new_levels : (runs : List Run) (run : Run)
     → levels_of (runs ++ run ∷ []) ≡ levels_of runs ++ ticks_of run
 new_levels runs run =
     levels_round runs run []
     ∙ ap (λ (w : List Tern). levels_of runs ++ w) (append-nil (ticks_of run))
 
-pub first_run : (runs : List Run) (run : Run) → length runs ≡ 0 → 1 ≤ run.ticks
-    → Appends runs (runs ++ run ∷ []) run.level run.ticks
-first_run [] run none some = record { apart = some; levels = new_levels [] run }
-first_run (r ∷ runs) run none some = absurd (omega arith)
+-- how many ticks the runs have
+abbrev pub ticks_in : List Stretch → ℕ
+ticks_in stretches = length (levels_of (runs_from 0 stretches))
 
-pub next_run : (runs : List Run) (count : ℕ) (last d run : Run) → AreApart runs
-    → count ≡ length runs → 0 < count → last ≡ get_or runs (count - 1) d
-    → last.level ≢ run.level → 1 ≤ run.ticks
-    → Appends runs (runs ++ run ∷ []) run.level run.ticks
-next_run runs count last d run apart all some is differs more =
-    let front : List Run = take (count - 1) runs in
-    let whole : runs ≡ front ++ last ∷ [] = up_to_last runs count last d all some is in
+pub last_grows : (stretches : List Stretch) (count : ℕ) (last d : Stretch) (level : Tern) (end : ℕ)
+    → AreApart (runs_from 0 stretches) → count ≡ length stretches → 0 < count
+    → last ≡ get_or stretches (count - 1) d → last.level ≡ level → ticks_in stretches < end
+    → Appends (runs_from 0 stretches)
+    (runs_from 0 (set stretches (count - 1) (record { level = last.level; end = end })))
+    level (end - ticks_in stretches)
+last_grows stretches count last d level end apart all some is same later =
+    let front : List Stretch = take (count - 1) stretches in
+    let from : ℕ = end_from 0 front in
+    let grown : Stretch = record { level = last.level; end = end } in
+    let whole : stretches ≡ front ++ last ∷ [] = up_to_last stretches count last d all some is in
+    let old : runs_from 0 stretches ≡ runs_from 0 front ++ run_to from last ∷ [] =
+    ap (runs_from 0) whole ∙ runs_from-push 0 front last in
+    let new : runs_from 0 (set stretches (count - 1) grown)
+    ≡ runs_from 0 front ++ run_to from grown ∷ [] =
+    ap (λ (r : List Stretch). runs_from 0 (set r (count - 1) grown)) whole
+    ∙ ap (runs_from 0)
+    (set_at front last [] grown (count - 1) (length-take-le (count - 1) stretches (omega arith)))
+    ∙ runs_from-push 0 front grown in
+    let n : ℕ = last.end - from in
+    let m : ℕ = end - ticks_in stretches in
+    let P : List Run → Type 0 = λ r. AreApart r in
+    let first : 1 ≤ n = some_ticks (runs_from 0 front) (run_to from last) [] (subst P old apart) in
+    let ends : last.end ≡ ticks_in stretches =
+    ap (λ (s : Stretch). s.end) is
+    ∙ (let e : count - 1 ≡ length stretches - 1 = omega arith in
+    ap (λ (i : ℕ). (get_or stretches i d).end) e)
+    ∙ last_end 0 stretches d (omega arith)
+    ∙ sym (ends_with_the_levels 0 stretches apart)
+    ∙ (let e : 0 + ticks_in stretches ≡ ticks_in stretches = omega arith in e) in
+    let sum : n + m ≡ end - from = omega arith in
+    let grew : run_of last.level (n + m) ≡ run_to from grown = ap (run_of last.level) sum in
+    let whole_new : runs_from 0 front ++ run_of last.level (n + m) ∷ []
+    ≡ runs_from 0 (set stretches (count - 1) grown) =
+    ap (λ (r : Run). runs_from 0 front ++ r ∷ []) grew ∙ sym new in
+    record {
+      apart = subst P whole_new
+          (grown_apart (runs_from 0 front) last.level n m (subst P old apart));
+      levels = ap levels_of (sym whole_new)
+          ∙ grown_levels (runs_from 0 front) last.level n m
+          ∙ ap (λ (w : List Tern). w ++ replicate m last.level) (sym (ap levels_of old))
+          ∙ ap (λ (v : Tern). levels_of (runs_from 0 stretches) ++ replicate m v) same;
+    }
+
+-- a run is appended
+appended : (stretches : List Stretch) (level : Tern) (end : ℕ)
+    → AreApart (runs_from 0 stretches)
+    → runs_from 0 (stretches ++ record { level = level; end = end } ∷ [])
+    ≡ runs_from 0 stretches ++ run_of level (end - ticks_in stretches) ∷ []
+appended stretches level end apart =
+    runs_from-push 0 stretches (record { level = level; end = end })
+    ∙ (let e : end - end_from 0 stretches ≡ end - ticks_in stretches =
+    omega (arith, ends_with_the_levels 0 stretches apart) in
+    ap (λ (n : ℕ). runs_from 0 stretches ++ run_of level n ∷ []) e)
+
+pub first_stretch : (stretches : List Stretch) (level : Tern) (end : ℕ) → length stretches ≡ 0
+    → ticks_in stretches < end
+    → Appends (runs_from 0 stretches)
+    (runs_from 0 (stretches ++ record { level = level; end = end } ∷ []))
+    level (end - ticks_in stretches)
+first_stretch [] level end none later = record {
+  apart = omega arith;
+  levels = new_levels [] (run_of level (end - 0));
+}
+first_stretch (x ∷ stretches) level end none later = absurd (omega arith)
+
+pub next_stretch : (stretches : List Stretch) (count : ℕ) (last d : Stretch) (level : Tern)
+    (end : ℕ) → AreApart (runs_from 0 stretches) → count ≡ length stretches → 0 < count
+    → last ≡ get_or stretches (count - 1) d → last.level ≢ level → ticks_in stretches < end
+    → Appends (runs_from 0 stretches)
+    (runs_from 0 (stretches ++ record { level = level; end = end } ∷ []))
+    level (end - ticks_in stretches)
+next_stretch stretches count last d level end apart all some is differs later =
+    let front : List Stretch = take (count - 1) stretches in
+    let from : ℕ = end_from 0 front in
+    let whole : stretches ≡ front ++ last ∷ [] = up_to_last stretches count last d all some is in
+    let old : runs_from 0 stretches ≡ runs_from 0 front ++ run_to from last ∷ [] =
+    ap (runs_from 0) whole ∙ runs_from-push 0 front last in
+    let run : Run = run_of level (end - ticks_in stretches) in
+    let new = appended stretches level end apart in
     let P : List Run → Type 0 = λ r. AreApart r in
     let Q : List Run → Type 0 = λ r. AreApart (r ++ run ∷ []) in
     record {
-      apart = subst Q (sym whole) (next_apart front last run (subst P whole apart) differs more);
-      levels = new_levels runs run;
+      apart = subst P (sym new)
+          (subst Q (sym old)
+          (next_apart (runs_from 0 front) (run_to from last) run (subst P old apart) differs
+          (omega arith)));
+      levels = ap levels_of new ∙ new_levels (runs_from 0 stretches) run;
     }
+
+-- the runs of the first i + 1 stretches
+pub one_run_more : (stretches : List Stretch) (i : ℕ) (d : Stretch) → i < length stretches
+    → runs_from 0 (take (i + 1) stretches)
+    ≡ runs_from 0 (take i stretches)
+    ++ run_to (end_from 0 (take i stretches)) (get_or stretches i d) ∷ []
+one_run_more stretches i d inside =
+    ap (runs_from 0) (take_more stretches i d inside)
+    ∙ runs_from-push 0 (take i stretches) (get_or stretches i d)
+
+pub end_from-push : (from : ℕ) (stretches : List Stretch) (next : Stretch)
+    → end_from from (stretches ++ next ∷ []) ≡ next.end
+end_from-push from [] next = refl
+end_from-push from (x ∷ stretches) next = end_from-push x.end stretches next
+
+-- the first i end before the next does
+pub ends_before : (from : ℕ) (stretches : List Stretch) (i : ℕ) (d : Stretch)
+    → AreApart (runs_from from stretches) → i < length stretches
+    → end_from from (take i stretches) ≤ (get_or stretches i d).end
+ends_before from [] i d apart inside = absurd (omega arith)
+ends_before from (x ∷ stretches) zero d apart inside =
+    (let after = after_from from (x ∷ stretches) 0 d apart (omega arith) in omega arith)
+ends_before from (x ∷ stretches) (suc i) d apart inside =
+    ends_before x.end stretches i d
+    (later_apart (run_to from x) (runs_from x.end stretches) apart) (omega arith)

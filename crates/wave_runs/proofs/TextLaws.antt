@@ -3,7 +3,7 @@ use Rattle.std.proofs.Common.{◌≡◌, ◌≢◌, ◌&&◌, ◌^◌, ℕ, ◌+
 use Rattle.std.proofs.Common.{List, [], ◌∷◌, ◌++◌, length, take, drop, get_or, Some, None}
 use Rattle.std.proofs.Common.{cond, not, refl, sym, ◌∙◌, ap, arith, append_assoc}
 use Rattle.std.proofs.Common.{length-append, subst}
-use Rattle.std.proofs.lemmas.List.{take_more, length-take-le, append-nil, take_at, drop_at}
+use Rattle.std.proofs.lemmas.List.{length-take-le, append-nil, take_at, drop_at}
 use Rattle.std.proofs.Common.{ne_eqb, inl, inr, decimal}
 use Rattle.std.proofs.lemmas.Bool.Decides.{leb_tells}
 use Rattle.std.proofs.lemmas.List.{drop-drop, length-replicate}
@@ -14,12 +14,14 @@ use Rattle.relay_base.specs.Number.{is_digit, number_of}
 use Rattle.tick_signal.specs.declared.tern.Tern.{Tern}
 use Rattle.tick_signal.specs.declared.tern.Tern.TheVariants.{Zero, One, Unknown}
 use Rattle.wave_runs.specs.declared.runs.Run.{Run}
-use Rattle.wave_runs.specs.Waves.{levels_of, AreApart}
+use Rattle.wave_runs.specs.declared.runs.Stretch.{Stretch}
+use Rattle.wave_runs.specs.Waves.{levels_of, runs_from, AreApart}
 use Rattle.wave_runs.specs.Text.{gap, item_text, items_text, level_letter}
 use Rattle.wave_runs.specs.Text.{is_space, level_in, run_with, run_in}
 use Rattle.wave_runs.specs.Waves.{ticks_of, AreRunsOf}
 use Rattle.wave_runs.proofs.Decimals.{are_digits, number_of-decimal}
-use Rattle.wave_runs.proofs.RunLaws.{levels_round, new_levels}
+use Rattle.wave_runs.proofs.RunLaws.{levels_round, new_levels, length-levels, some_ticks}
+use Rattle.wave_runs.proofs.RunLaws.{run_to, end_from, one_run_more, length-runs_from}
 
 -- one item more
 items_more : (runs : List Run) (run : Run)
@@ -32,14 +34,18 @@ items_more (first ∷ next ∷ runs) run =
     ap (λ (text : List ℕ). item_text first ++ (32 ∷ text)) (items_more (next ∷ runs) run)
     ∙ sym (append_assoc (item_text first) (32 ∷ rest) more)
 
-pub one_item_more : (runs : List Run) (i : ℕ) (d : Run) → i < length runs
-    → items_text (take (i + 1) runs)
-    ≡ items_text (take i runs) ++ (gap i ++ item_text (get_or runs i d))
-one_item_more runs i d inside =
-    ap items_text (take_more runs i d inside)
-    ∙ items_more (take i runs) (get_or runs i d)
-    ∙ ap (λ (k : ℕ). items_text (take i runs) ++ (gap k ++ item_text (get_or runs i d)))
-    (length-take-le i runs (omega arith))
+pub one_item_more : (stretches : List Stretch) (i : ℕ) (d : Stretch) → i < length stretches
+    → items_text (runs_from 0 (take (i + 1) stretches))
+    ≡ items_text (runs_from 0 (take i stretches))
+    ++ (gap i ++ item_text (run_to (end_from 0 (take i stretches)) (get_or stretches i d)))
+one_item_more stretches i d inside =
+    let item : List ℕ =
+    item_text (run_to (end_from 0 (take i stretches)) (get_or stretches i d)) in
+    ap items_text (one_run_more stretches i d inside)
+    ∙ items_more (runs_from 0 (take i stretches))
+    (run_to (end_from 0 (take i stretches)) (get_or stretches i d))
+    ∙ ap (λ (k : ℕ). items_text (runs_from 0 (take i stretches)) ++ (gap k ++ item))
+    (length-runs_from 0 (take i stretches) ∙ length-take-le i stretches (omega arith))
 
 -- ---- the end of an item
 
@@ -140,15 +146,6 @@ item_read run small =
 
 -- ---- two lists of runs with one text
 
-length-levels : (run : Run) (runs : List Run)
-    → length (levels_of (run ∷ runs)) ≡ run.ticks + length (levels_of runs)
-length-levels run runs =
-    omega (
-      arith,
-      length-append (ticks_of run) (levels_of runs),
-      length-replicate run.ticks run.level,
-    )
-
 pub items_tell : (runs others : List Run) → length (levels_of runs) ≤ 4000
     → length (levels_of others) ≤ 4000 → items_text runs ≡ items_text others → runs ≡ others
 items_tell [] [] short brief same = refl
@@ -187,13 +184,6 @@ pub record ReadsOn (runs : List Run) (horizon : ℕ) (wave : List Tern) (rest : 
   pub text : rest ≡ items_text (next ∷ later)
   pub some : 1 ≤ next.ticks
   pub room : length wave + next.ticks ≤ horizon
-
-some_ticks : (front : List Run) (run : Run) (rest : List Run) → AreApart (front ++ run ∷ rest)
-    → 1 ≤ run.ticks
-some_ticks [] run [] apart = apart
-some_ticks [] run (next ∷ rest) apart = apart.0
-some_ticks (f ∷ []) run rest apart = some_ticks [] run rest apart.2
-some_ticks (f ∷ g ∷ front) run rest apart = some_ticks (g ∷ front) run rest apart.2
 
 reads : (runs : List Run) (horizon : ℕ) (done : List Run) (next : Run) (later : List Run)
     (wave : List Tern) (rest : List ℕ) → AreRunsOf runs horizon → runs ≡ done ++ next ∷ later

@@ -18,7 +18,7 @@ wave_at-level wave level t is =
     get_or_from_slice_get (map tern_rails wave) t (tern_rails level) (both false)
     (slice_get-map tern_rails wave t ∙ ap (option_map tern_rails) is)
 
-wave_at-front : (wave more : List Tern) (t : ℕ) → t < length wave
+pub wave_at-front : (wave more : List Tern) (t : ℕ) → t < length wave
     → wave_at (wave ++ more) t ≡ wave_at wave t
 wave_at-front wave more t inside =
     let early : t < length (map tern_rails wave) = omega (arith, length-map wave tern_rails) in

@@ -1,11 +1,12 @@
 -- Waves tick by tick, and as runs.
-use Rattle.std.specs.Prelude.{◌≡◌, ◌≢◌, ℕ, ◌<◌, ◌≤◌, List, [], ◌∷◌, length, replicate}
+use Rattle.std.specs.Prelude.{◌≡◌, ◌≢◌, ℕ, ◌+◌, ◌-◌, ◌<◌, ◌≤◌, List, [], ◌∷◌, length, replicate}
 use Rattle.std.specs.Prelude.{map, slice_get, Some}
 use Rattle.std.specs.List.{flat_map}
 use Rattle.history.specs.Rails.{Rails, rails_at}
 use Rattle.tick_signal.specs.declared.tern.Tern.{Tern}
 use Rattle.tick_signal.specs.Terns.{tern_rails}
 use Rattle.wave_runs.specs.declared.runs.Run.{Run}
+use Rattle.wave_runs.specs.declared.runs.Stretch.{Stretch}
 
 abbrev pub run_of : Tern → ℕ → Run
 run_of level ticks = record { level = level; ticks = ticks }
@@ -17,6 +18,12 @@ ticks_of run = replicate run.ticks run.level
 -- the values of the runs, one run after another
 abbrev pub levels_of : List Run → List Tern
 levels_of runs = flat_map ticks_of runs
+
+-- the runs that end at these ticks, one after another, the first from that tick on
+abbrev pub runs_from : ℕ → List Stretch → List Run
+runs_from from [] = []
+runs_from from (stretch ∷ stretches) =
+    run_of stretch.level (stretch.end - from) ∷ runs_from stretch.end stretches
 
 -- each run has a tick at least, and the next run another value
 abbrev pub AreApart : List Run → Type 0
@@ -53,3 +60,9 @@ pub record IsSameUntil (value : ℕ → Rails) (t last end : ℕ) : Type 0 where
   pub same : (k : ℕ) → t ≤ k → k < end → value k ≡ value t
   pub greatest : (m : ℕ) → t < m → m ≤ last → ((k : ℕ) → t ≤ k → k < m → value k ≡ value t)
       → m ≤ end
+
+-- after exactly this delay the same arrives at each tick from t on until `end`: nothing, or what
+-- the history was at t - delay
+pub record ArrivesAlike {A : Type 0} (u : ℕ → A) (delay t end : ℕ) : Type 0 where
+  pub shut : t < delay → end ≤ delay
+  pub passes : delay ≤ t → (r : ℕ) → t ≤ r + delay → r + delay < end → u r ≡ u (t - delay)

@@ -1,14 +1,16 @@
 //! What is received of a key wave.
 #![tactic(auto)]
 
-ghost use Rattle.std.specs.Prelude.{◌≡◌, ◌↔◌, ◌+◌, ◌<◌, ◌≤◌, IsTrue, length, IfOk};
+ghost use Rattle.std.specs.Prelude.{◌≡◌, ◌↔◌, ◌+◌, ◌<◌, ◌≤◌, ◌++◌, ℕ, List, IsTrue, length, IfOk};
 ghost use Rattle.history.specs.Comes.{AllCome, SomeComes};
 ghost use Rattle.history.specs.Rails.{rails_delayed};
+ghost use Rattle.tick_signal.specs.declared.tern.Tern.{Tern};
 ghost use Rattle.tick_signal.specs.Spans.{ends_of};
 ghost use Rattle.tick_signal.specs.Terns.{tern_rails};
-ghost use Rattle.wave_runs.specs.Waves.{wave_at, IsWaveOf, IsSameUntil};
+ghost use Rattle.wave_runs.specs.Waves.{wave_at, IsWaveOf, IsSameUntil, ArrivesAlike};
 
 use crate::runs::Runs;
+use history::delay_laws::{delays_are_their_facts, delays_read_earlier_ticks, delays_stay_sound};
 use line_model::Memory;
 use std::alloc::Global;
 use tick_signal::{Signal, Tern, Within};
@@ -33,8 +35,13 @@ pub fn raw(alloc: Global, key: &Runs, delay: Within) -> Result<Runs, Memory>
 pub fn raw_at(key: &Runs, delay: Within, t: u32) -> Tern
     requires later { 1 ≤ delay.least }
     requires known { t ≤ length key.now }
-    ensures { tern_rails result ≡ rails_delayed (wave_at key.now) delay t }
+    ensures received { tern_rails result ≡ rails_delayed (wave_at key.now) delay t }
+
+    // It is the same whatever the key does later.
+    ensures longer { (more : List Tern) →
+        rails_delayed (wave_at (key.now ++ more)) delay t ≡ tern_rails result }
 {
+    delays_read_earlier_ticks();
     received(key, delay, t)
 }
 
@@ -43,16 +50,51 @@ pub fn raw_at(key: &Runs, delay: Within, t: u32) -> Tern
 pub fn raw_until(key: &Runs, delay: Within, t: u32) -> u32
     requires later { 1 ≤ delay.least }
     requires known { t ≤ length key.now }
-    ensures { IsSameUntil (rails_delayed (wave_at key.now) delay) t
+    ensures same { IsSameUntil (rails_delayed (wave_at key.now) delay) t
         (length key.now + delay.least) result }
+
+    // It is the same until then whatever the key does later.
+    ensures longer { (more : List Tern) (k : ℕ) → t ≤ k → k < result →
+        rails_delayed (wave_at (key.now ++ more)) delay k
+        ≡ rails_delayed (wave_at key.now) delay t }
 {
+    delays_read_earlier_ticks();
     let last = key.len() + delay.least();
     let first = received(key, delay, t);
-    let mut end = t + 1;
-    'ticks: while end < last && received(key, delay, end) == first {
-        end += 1;
+    let mut end = steady_until(key, delay, t);
+    'stretches: while end < last && received(key, delay, end) == first {
+        end = steady_until(key, delay, end);
     }
     end
+}
+
+// A tick until which the same is received as at that tick. No run of the key begins or ends to
+// arrive before it.
+fn steady_until(key: &Runs, delay: Within, t: u32) -> u32
+    requires later { 1 ≤ delay.least }
+    requires known { t < length key.now + delay.least }
+    ensures later { t < result }
+    ensures inside { result ≤ length key.now + delay.least }
+    ensures same { (k : ℕ) → t ≤ k → k < result →
+        rails_delayed (wave_at key.now) delay k ≡ rails_delayed (wave_at key.now) delay t }
+{
+    delays_are_their_facts();
+    arrives_until(key, delay.least(), t).min(arrives_until(key, delay.greatest(), t))
+}
+
+// Until when the same arrives after exactly that delay as at that tick, or nothing still does.
+fn arrives_until(key: &Runs, delay: u32, t: u32) -> u32
+    requires known { t < length key.now + delay }
+    requires limited { delay ≤ 4000 }
+    ensures later { t < result }
+    ensures inside { result ≤ length key.now + delay }
+    ensures alike { ArrivesAlike (wave_at key.now) delay t result }
+{
+    if t < delay {
+        delay
+    } else {
+        key.stretch(t - delay).end + delay
+    }
 }
 
 // What is received at a tick at which every key that may arrive is known.
@@ -61,6 +103,8 @@ fn received(key: &Runs, delay: Within, t: u32) -> Tern
     requires known { t < length key.now + delay.least }
     ensures { tern_rails result ≡ rails_delayed (wave_at key.now) delay t }
 {
+    delays_are_their_facts();
+    delays_stay_sound();
     let least = delay.least();
     let greatest = delay.greatest();
     Tern::from_rails(

@@ -1,10 +1,11 @@
 //! A wave as runs.
 #![tactic(auto)]
 
-ghost use Rattle.std.specs.Prelude.{◌≡◌, ◌+◌, ◌<◌, ◌≤◌, [], ◌++◌, length, replicate, slice_get};
+ghost use Rattle.std.specs.Prelude.{◌≡◌, ◌+◌, ◌-◌, ◌<◌, ◌≤◌, [], ◌++◌, length, replicate, slice_get};
 ghost use Rattle.std.specs.Prelude.{Some, IfOk, MatchResult};
 ghost use Rattle.tick_signal.specs.Terns.{tern_rails};
 ghost use Rattle.wave_runs.specs.Waves.{wave_at, AreApart, AreRunsOf, levels_of, HasThroughout};
+ghost use Rattle.wave_runs.specs.Waves.{runs_from};
 
 use line_model::Memory;
 use std::alloc::Global;
@@ -18,7 +19,7 @@ pub(crate) struct Run {
     pub ticks: u32,
 }
 
-/// The value at a tick, and the tick at which its run ends: the first after it.
+/// A run by its end, the first tick after it. It begins where the one before it ends.
 #[derive(Clone, Copy)]
 pub(crate) struct Stretch {
     pub level: Tern,
@@ -28,20 +29,21 @@ pub(crate) struct Stretch {
 /// A ternary wave of at most 4,000 ticks, as runs. Contracts see its values, tick by tick.
 #[derive(Drop)]
 pub struct Runs {
-    runs: Vec<Run>,
+    // By their ends, so that the run at a tick is found by halves.
+    stretches: Vec<Stretch>,
     len: u32,
 }
 
 impl Model for Runs {
     ghost use Rattle.std.specs.Prelude.{List};
     ghost use Rattle.tick_signal.specs.declared.tern.Tern.{Tern};
-    ghost use Rattle.wave_runs.specs.Waves.{levels_of, AreRunsOf};
+    ghost use Rattle.wave_runs.specs.Waves.{levels_of, runs_from, AreRunsOf};
 
     ghost Value = { List Tern };
 
-    ghost view = { λ a. levels_of a.runs.items };
+    ghost view = { λ a. levels_of (runs_from 0 a.stretches.items) };
 
-    ghost invariant = { λ a. AreRunsOf a.runs.items a.len };
+    ghost invariant = { λ a. AreRunsOf (runs_from 0 a.stretches.items) a.len };
 }
 
 impl Runs {
@@ -50,7 +52,7 @@ impl Runs {
         ensures { result ≡ [] }
     {
         Runs {
-            runs: Vec::new(alloc),
+            stretches: Vec::new(alloc),
             len: 0,
         }
     }
@@ -71,8 +73,9 @@ impl Runs {
             (λ _. self.new ≡ self.old ++ replicate ticks level)
             (λ _. self.new ≡ self.old) }
     {
-        push_run(&mut self.runs, level, ticks)?;
-        self.len += ticks;
+        let end = self.len + ticks;
+        push_stretch(&mut self.stretches, level, end)?;
+        self.len = end;
         Ok(())
     }
 
@@ -90,57 +93,50 @@ impl Runs {
         requires { t < length self.now }
         ensures later { t < result.end }
         ensures inside { result.end ≤ length self.now }
+        ensures limited { length self.now ≤ 4000 }
         ensures level { HasThroughout self.now result.level t result.end }
     {
-        let mut end = 0;
-        for run in &self.runs {
-            end += run.ticks;
-            if t < end {
-                return Stretch {
-                    level: run.level,
-                    end,
-                };
-            }
-        }
-        unreachable!()
+        let stretches = self.stretches.as_slice();
+        let i = stretches.partition_point(|stretch| stretch.end <= t);
+        stretches[i]
     }
 
-    /// The runs.
-    pub(crate) fn as_runs(&self) -> &[Run]
-        ensures runs { AreRunsOf result.now (length self.now) }
-        ensures levels { levels_of result.now ≡ self.now }
+    /// The runs by their ends.
+    pub(crate) fn stretches(&self) -> &[Stretch]
+        ensures runs { AreRunsOf (runs_from 0 result.now) (length self.now) }
+        ensures levels { levels_of (runs_from 0 result.now) ≡ self.now }
     {
-        self.runs.as_slice()
+        self.stretches.as_slice()
     }
 
     /// An equal wave.
     pub fn copy(&self, alloc: Global) -> Result<Runs, Memory>
         ensures { IfOk result (λ wave. wave ≡ self.now) }
     {
-        let runs = Vec::from_slice(alloc, &self.runs)?;
+        let stretches = Vec::from_slice(alloc, &self.stretches)?;
         Ok(Runs {
-            runs,
+            stretches,
             len: self.len,
         })
     }
 }
 
-// Appends a run, joining an equal last one.
-fn push_run(runs: &mut Vec<Run>, level: Tern, ticks: u32) -> Result<(), Memory>
-    requires apart { AreApart runs.old.items }
-    requires some { 1 ≤ ticks }
-    requires room { length (levels_of runs.old.items) + ticks ≤ 4000 }
+// Appends a run up to that end, joining a last one of the same value.
+fn push_stretch(stretches: &mut Vec<Stretch>, level: Tern, end: u32) -> Result<(), Memory>
+    requires apart { AreApart (runs_from 0 stretches.old.items) }
+    requires later { length (levels_of (runs_from 0 stretches.old.items)) < end }
     ensures { MatchResult result
-        (λ _. AreApart runs.new.items
-        × (levels_of runs.new.items ≡ levels_of runs.old.items ++ replicate ticks level))
-        (λ _. runs.new.items ≡ runs.old.items) }
+        (λ _. AreApart (runs_from 0 stretches.new.items)
+        × (levels_of (runs_from 0 stretches.new.items)
+        ≡ levels_of (runs_from 0 stretches.old.items)
+        ++ replicate (end - length (levels_of (runs_from 0 stretches.old.items))) level))
+        (λ _. stretches.new.items ≡ stretches.old.items) }
 {
-    let count = runs.len();
-    if count > 0 && runs[count - 1].level == level {
-        let last = &mut runs[count - 1];
-        last.ticks += ticks;
+    let count = stretches.len();
+    if count > 0 && stretches[count - 1].level == level {
+        stretches[count - 1].end = end;
         return Ok(());
     }
-    runs.push(Run { level, ticks })?;
+    stretches.push(Stretch { level, end })?;
     Ok(())
 }

@@ -6,11 +6,11 @@ ghost use Rattle.std.specs.Prelude.{Some, IfOk, OnOk, MatchOption};
 ghost use Rattle.std.specs.List.{position_or_len};
 ghost use Rattle.tick_signal.specs.declared.tern.Tern.{Tern};
 ghost use Rattle.wave_runs.specs.declared.runs.Run.{Run};
-ghost use Rattle.wave_runs.specs.Waves.{AreRunsOf, levels_of};
+ghost use Rattle.wave_runs.specs.Waves.{AreApart, AreRunsOf, levels_of, runs_from};
 ghost use Rattle.wave_runs.specs.Text.{level_letter, item_text, items_text, runs_text, gap};
 ghost use Rattle.wave_runs.specs.Text.{IsTextOf, is_space, level_in, run_in};
 
-use crate::runs::{Run, Runs};
+use crate::runs::{Run, Runs, Stretch};
 use itoa::Buffer;
 use line_model::Memory;
 use relay_base::number;
@@ -22,15 +22,20 @@ use tick_signal::Tern;
 pub fn print_runs(alloc: Global, runs: &Runs) -> Result<Vec<u8>, Memory>
     ensures { IfOk result (λ text. text.items ≡ runs_text runs.now) }
 {
-    print_items(alloc, runs.as_runs())
+    print_items(alloc, runs.stretches())
 }
 
-fn print_items(alloc: Global, runs: &[Run]) -> Result<Vec<u8>, Memory>
-    ensures { IfOk result (λ text. text.items ≡ items_text runs.now) }
+fn print_items(alloc: Global, stretches: &[Stretch]) -> Result<Vec<u8>, Memory>
+    requires { AreApart (runs_from 0 stretches.now) }
+    ensures { IfOk result (λ text. text.items ≡ items_text (runs_from 0 stretches.now)) }
 {
     let mut text = Vec::new(alloc);
-    for i in 0..runs.len() {
-        push_item(&mut text, gap_before(i), runs[i])?;
+    let mut from = 0;
+    for i in 0..stretches.len() {
+        let Stretch { level, end } = stretches[i];
+        let ticks = end - from;
+        push_item(&mut text, gap_before(i), Run { level, ticks })?;
+        from = end;
     }
     Ok(text)
 }

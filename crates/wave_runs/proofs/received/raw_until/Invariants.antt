@@ -4,13 +4,13 @@ use Rattle.wave_runs.specs.Waves.{wave_at}
 use Rattle.wave_runs.proofs.received.raw_until.Given as goal
 
 -- the same at every tick so far
-abbrev pub invariant-ticks : goal.invariant-ticks
-invariant-ticks l = record {
+abbrev pub invariant-stretches : goal.invariant-stretches
+invariant-stretches l = record {
   later : l.fn.t < l.end;
   limited : l.end ≤ l.last;
   same : (k : ℕ) → l.fn.t ≤ k → k < l.end
       → rails_delayed (wave_at l.key) l.delay k ≡ rails_delayed (wave_at l.key) l.delay l.fn.t;
 }
 
-abbrev pub decreases-ticks : goal.decreases-ticks
-decreases-ticks l = l.last - l.end
+abbrev pub decreases-stretches : goal.decreases-stretches
+decreases-stretches l = l.last - l.end

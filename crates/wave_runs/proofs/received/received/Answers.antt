@@ -1,7 +1,6 @@
 use Rattle.std.proofs.Common.{◌≡◌, ◌∙◌, sym, ap, ℕ, Bool}
 use Rattle.std.proofs.lemmas.Bool.Decides.{same_from_decides}
 use Rattle.history.specs.Rails.{Ends, Rails, rails_delayed}
-use Rattle.history.proofs.DelayLaws.{Decides-must, Decides-may, delayed_sound}
 use Rattle.tick_signal.specs.Spans.{ends_of}
 use Rattle.wave_runs.specs.Waves.{wave_at}
 use Rattle.wave_runs.proofs.DelayLaws.{wave_sound}
@@ -17,12 +16,12 @@ returns c =
     ∙ ap (λ (n : ℕ). ends_of c.args.delay.least n) c.greatest-greatest.ensures.greatest in
     let must : c.must_come.result ≡ (rails_delayed u c.args.delay t).must =
     same_from_decides c.must_come.result (rails_delayed u ends t).must c.must_come.ensures
-    (Decides-must u ends t) ∙ ap (λ (x : Ends). (rails_delayed u x t).must) e in
+    (c.delays_are_their_facts.ensures.must u (λ _. ends) t) ∙ ap (λ (x : Ends). (rails_delayed u x t).must) e in
     let may : c.may_come.result ≡ (rails_delayed u c.args.delay t).may =
     same_from_decides c.may_come.result (rails_delayed u ends t).may c.may_come.ensures
-    (Decides-may u ends t) ∙ ap (λ (x : Ends). (rails_delayed u x t).may) e in
+    (c.delays_are_their_facts.ensures.may u (λ _. ends) t) ∙ ap (λ (x : Ends). (rails_delayed u x t).may) e in
     c.from_rails.ensures (λ on. may
-    ∙ delayed_sound u c.args.delay t c.least-least.ensures.in_order.ordered
+    ∙ c.delays_stay_sound.ensures u (λ _. c.args.delay) t c.least-least.ensures.in_order.ordered
     (λ r _. wave_sound c.args.key.now r) (sym must ∙ on))
     ∙ ap (λ (b : Bool). record { must = b; may = c.may_come.result }) must
     ∙ ap (λ (b : Bool). record { must = (rails_delayed u c.args.delay t).must; may = b }) may

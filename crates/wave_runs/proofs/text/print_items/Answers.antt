@@ -1,18 +1,35 @@
 use Rattle.std.proofs.Common.{◌++◌, List, ℕ, take, get_or, sym, ◌∙◌, ap, arith}
+use Rattle.std.proofs.lemmas.List.{take_more}
 use Rattle.tick_signal.specs.declared.tern.Tern.TheVariants.{Zero}
-use Rattle.wave_runs.specs.declared.runs.Run.{Run}
-use Rattle.wave_runs.specs.Waves.{run_of}
-use Rattle.wave_runs.specs.Text.{item_text, items_text}
+use Rattle.wave_runs.specs.declared.runs.Stretch.{Stretch}
+use Rattle.wave_runs.specs.Waves.{runs_from}
+use Rattle.wave_runs.specs.Text.{gap, item_text, items_text}
+use Rattle.wave_runs.proofs.RunLaws.{run_to, end_from, ends_before, end_from-push}
 use Rattle.wave_runs.proofs.TextLaws.{one_item_more}
 use Rattle.wave_runs.proofs.text.print_items.Goals as goal
 
+pub overflow_sub-ticks : goal.overflow_sub-ticks
+overflow_sub-ticks c =
+    let none : Stretch = record { level = Zero; end = 0 } in
+    let before = ends_before 0 c.args.stretches.now c.loop-i.i none c.requires c.loop-i-test.true in
+    omega (arith, before, c.loop-i.invariant.ends)
+
 pub loop-i-preserved : goal.loop-i-preserved
 loop-i-preserved c =
-    let runs : List Run = c.args.runs.now in
+    let stretches : List Stretch = c.args.stretches.now in
     let i = c.loop-i.i in
-    let none : Run = run_of Zero 0 in
-    let item : List ℕ = item_text (get_or runs i none) in
-    c.in_ok-push_item.ensures
-    ∙ ap (λ (text : List ℕ). text ++ (c.gap_before.result.now ++ item)) c.loop-i.invariant
-    ∙ ap (λ (gap : List ℕ). items_text (take i runs) ++ (gap ++ item)) c.gap_before.ensures
-    ∙ sym (one_item_more runs i none (omega arith))
+    let none : Stretch = record { level = Zero; end = 0 } in
+    let next : Stretch = get_or stretches i none in
+    let item : List ℕ = item_text (run_to c.loop-i.from next) in
+    record {
+      written = c.in_ok-push_item.ensures
+          ∙ ap (λ (text : List ℕ). text ++ (c.gap_before.result.now ++ item))
+          c.loop-i.invariant.written
+          ∙ ap (λ (before : List ℕ). items_text (runs_from 0 (take i stretches)) ++ (before ++ item))
+          c.gap_before.ensures
+          ∙ ap (λ (from : ℕ). items_text (runs_from 0 (take i stretches))
+          ++ (gap i ++ item_text (run_to from next))) c.loop-i.invariant.ends
+          ∙ sym (one_item_more stretches i none (omega arith));
+      ends = sym (ap (end_from 0) (take_more stretches i none (omega arith))
+          ∙ end_from-push 0 (take i stretches) next);
+    }

@@ -1,6 +1,12 @@
 use Rattle.std.proofs.Common.{◌≡◌, take}
+use Rattle.wave_runs.specs.Waves.{runs_from}
 use Rattle.wave_runs.specs.Text.{items_text}
+use Rattle.wave_runs.proofs.RunLaws.{end_from}
 use Rattle.wave_runs.proofs.text.print_items.Given as goal
 
+-- the runs so far are written, and end at `from`
 abbrev pub invariant-loop-i : goal.invariant-loop-i
-invariant-loop-i l = l.text.items ≡ items_text (take l.i l.runs)
+invariant-loop-i l = record {
+  written : l.text.items ≡ items_text (runs_from 0 (take l.i l.stretches));
+  ends : l.from ≡ end_from 0 (take l.i l.stretches);
+}

@@ -1,47 +1,57 @@
-use Rattle.std.proofs.Common.{◌≡◌, ◌≤◌, ◌+◌, List, length, get_or, refl, sym, ◌∙◌, ap, arith}
-use Rattle.std.specs.Prelude.{slice_get}
-use Rattle.tick_signal.specs.declared.tern.Tern.TheVariants.{Zero}
-use Rattle.tick_signal.specs.declared.tern.Tern.{Tern}
-use Rattle.wave_runs.specs.declared.runs.Run.{Run}
-use Rattle.wave_runs.specs.Waves.{run_of, levels_of}
-use Rattle.wave_runs.proofs.RunLaws.{reached, ends_inside}
+use Rattle.std.proofs.Common.{leb, rules}
+use Rattle.std.proofs.lemmas.List.Sorted.{IsPartitionPoint-from_clause}
+use Rattle.wave_runs.specs.declared.runs.Stretch.{Stretch}
+use Rattle.wave_runs.proofs.RunLaws.{apart_in, parted, found_in}
 use Rattle.wave_runs.proofs.runs.Runs.stretch.Goals as goal
 
-pub overflow_add-end : goal.overflow_add-end
-overflow_add-end c =
-    let runs : List Run = c.deref-run-items.result.now in
-    let i = c.loop-run.run-index in
-    let none : Run = run_of Zero 0 in
-    let inside : c.loop-run.end + (get_or runs i none).ticks ≤ length (levels_of runs) =
-    ends_inside runs i c.loop-run.end (get_or runs i none) none c.loop-run-test.true refl
-    c.loop-run.invariant.ends in
-    let same : length (levels_of runs) ≡ c.self.inside.len =
-    omega (
-      arith,
-      ap (λ (r : List Run). length (levels_of r)) c.deref-run-items.ensures.value,
-      c.self.invariant.long,
-    ) in
-    omega (arith, c.self.invariant.short)
+pub bounds-stretches-i : goal.bounds-stretches-i
+bounds-stretches-i c =
+    (found_in c.as_slice-stretches.result.now c.self.inside.stretches.items c.args.self.now
+    c.self.inside.len c.args.t c.as_slice-stretches.ensures.value c.self.invariant c.self.view_is
+    c.partition_point-i.result c.requires c.partition_point-i.ensures.bound
+    (IsPartitionPoint-from_clause (λ (s : Stretch). leb s.end c.args.t) _ _
+    c.partition_point-i.ensures.partitioned
+    (parted c.as_slice-stretches.result.now c.args.t
+    (apart_in c.as_slice-stretches.result.now c.self.inside.stretches.items c.args.self.now
+    c.self.inside.len c.args.t c.as_slice-stretches.ensures.value c.self.invariant
+    c.self.view_is))
+    (λ a r q k. search rules))).there
 
-pub returns-then-t-end-clause-inside : goal.returns-then-t-end-clause-inside
-returns-then-t-end-clause-inside c =
-    let runs : List Run = c.deref-run-items.result.now in
-    let i = c.loop-run.run-index in
-    let none : Run = run_of Zero 0 in
-    let inside : c.loop-run.end + (get_or runs i none).ticks ≤ length (levels_of runs) =
-    ends_inside runs i c.loop-run.end (get_or runs i none) none c.loop-run-test.true refl
-    c.loop-run.invariant.ends in
-    let same : levels_of runs ≡ c.args.self.now =
-    ap levels_of c.deref-run-items.ensures.value ∙ c.self.view_is in
-    omega (arith, ap length same)
+pub returns-clause-later : goal.returns-clause-later
+returns-clause-later c =
+    (found_in c.as_slice-stretches.result.now c.self.inside.stretches.items c.args.self.now
+    c.self.inside.len c.args.t c.as_slice-stretches.ensures.value c.self.invariant c.self.view_is
+    c.partition_point-i.result c.requires c.partition_point-i.ensures.bound
+    (IsPartitionPoint-from_clause (λ (s : Stretch). leb s.end c.args.t) _ _
+    c.partition_point-i.ensures.partitioned
+    (parted c.as_slice-stretches.result.now c.args.t
+    (apart_in c.as_slice-stretches.result.now c.self.inside.stretches.items c.args.self.now
+    c.self.inside.len c.args.t c.as_slice-stretches.ensures.value c.self.invariant
+    c.self.view_is))
+    (λ a r q k. search rules))).later _
 
-pub returns-then-t-end-clause-level : goal.returns-then-t-end-clause-level
-returns-then-t-end-clause-level c = λ k low high.
-    let runs : List Run = c.deref-run-items.result.now in
-    let i = c.loop-run.run-index in
-    let none : Run = run_of Zero 0 in
-    let same : levels_of runs ≡ c.args.self.now =
-    ap levels_of c.deref-run-items.ensures.value ∙ c.self.view_is in
-    ap (λ (w : List Tern). slice_get w k) (sym same)
-    ∙ reached runs i c.loop-run.end c.args.t (get_or runs i none) none c.loop-run-test.true refl
-    c.loop-run.invariant.ends c.loop-run.invariant.past k low high
+pub returns-clause-inside : goal.returns-clause-inside
+returns-clause-inside c =
+    (found_in c.as_slice-stretches.result.now c.self.inside.stretches.items c.args.self.now
+    c.self.inside.len c.args.t c.as_slice-stretches.ensures.value c.self.invariant c.self.view_is
+    c.partition_point-i.result c.requires c.partition_point-i.ensures.bound
+    (IsPartitionPoint-from_clause (λ (s : Stretch). leb s.end c.args.t) _ _
+    c.partition_point-i.ensures.partitioned
+    (parted c.as_slice-stretches.result.now c.args.t
+    (apart_in c.as_slice-stretches.result.now c.self.inside.stretches.items c.args.self.now
+    c.self.inside.len c.args.t c.as_slice-stretches.ensures.value c.self.invariant
+    c.self.view_is))
+    (λ a r q k. search rules))).inside _
+
+pub returns-clause-level : goal.returns-clause-level
+returns-clause-level c =
+    (found_in c.as_slice-stretches.result.now c.self.inside.stretches.items c.args.self.now
+    c.self.inside.len c.args.t c.as_slice-stretches.ensures.value c.self.invariant c.self.view_is
+    c.partition_point-i.result c.requires c.partition_point-i.ensures.bound
+    (IsPartitionPoint-from_clause (λ (s : Stretch). leb s.end c.args.t) _ _
+    c.partition_point-i.ensures.partitioned
+    (parted c.as_slice-stretches.result.now c.args.t
+    (apart_in c.as_slice-stretches.result.now c.self.inside.stretches.items c.args.self.now
+    c.self.inside.len c.args.t c.as_slice-stretches.ensures.value c.self.invariant
+    c.self.view_is))
+    (λ a r q k. search rules))).level _

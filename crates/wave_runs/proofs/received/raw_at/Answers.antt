@@ -1,0 +1,12 @@
+use Rattle.std.proofs.Common.{◌++◌, sym, ◌∙◌, arith}
+use Rattle.wave_runs.specs.Waves.{wave_at}
+use Rattle.wave_runs.proofs.WaveLaws.{wave_at-front}
+use Rattle.wave_runs.proofs.received.raw_at.Goals as goal
+
+pub returns-clause-longer : goal.returns-clause-longer
+returns-clause-longer c = λ more.
+    let key = c.args.key.now in
+    c.delays_read_earlier_ticks.ensures.rails (wave_at (key ++ more)) (wave_at key)
+    (λ _. c.args.delay) c.args.t
+    (λ r early _. wave_at-front key more r (omega (arith, c.requires.later, c.requires.known)))
+    ∙ sym c.received.ensures

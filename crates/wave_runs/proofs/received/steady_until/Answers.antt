@@ -1,0 +1,20 @@
+use Rattle.std.proofs.Common.{ℕ, arith, subst}
+use Rattle.history.specs.Rails.{Rails}
+use Rattle.wave_runs.specs.Waves.{wave_at, ArrivesAlike}
+use Rattle.wave_runs.proofs.DelayLaws.{received_alike}
+use Rattle.wave_runs.proofs.received.steady_until.Goals as goal
+
+pub returns-clause-same : goal.returns-clause-same
+returns-clause-same c = λ k low high.
+    let u : ℕ → Rails = wave_at c.args.key.now in
+    let t = c.args.t in
+    let a = c.arrives_until.result in
+    let b = c.arrives_until-2.result in
+    let first : ArrivesAlike u c.args.delay.least t a =
+    subst (λ (n : ℕ). ArrivesAlike u n t a) c.least.ensures.least c.arrives_until.ensures.alike in
+    let last : ArrivesAlike u c.args.delay.greatest t b =
+    subst (λ (n : ℕ). ArrivesAlike u n t b) c.greatest.ensures.greatest
+    c.arrives_until-2.ensures.alike in
+    received_alike c.delays_are_their_facts.ensures.must c.delays_are_their_facts.ensures.may u
+    c.args.delay t k a b c.least.ensures.in_order.ordered first last low
+    (omega (arith, c.min.ensures)) (omega (arith, c.min.ensures))
