@@ -32,3 +32,4 @@ pub mod NarrowerRules
 pub mod HeldLaws
 pub mod CoveringKeys
 pub mod Deadlines
+pub mod SoundHistories

@@ -1,6 +1,6 @@
 -- The history of a line at a choice, its interval history over a box, and the obligations.
 use Rattle.std.specs.Prelude.{◌≡◌, ◌≤◌, ◌<◌, ℕ, Bool, IsTrue, IsFalse}
-use Rattle.history.specs.Rails.{both, Covers, RailsCover}
+use Rattle.history.specs.Rails.{both, Covers, RailsCover, IsSound}
 use Rattle.line_model.specs.declared.line.Line.{Line}
 use Rattle.line_model.specs.declared.script.Kind.{Kind}
 use Rattle.line_model.specs.declared.script.Kind.TheVariants.{Internal, External}
@@ -76,6 +76,11 @@ pub record CoversPairHistory (line : Line) (wide narrow : PairHistory) : Type 0 
       → RailsCover (wide.key k t) (narrow.key k t)
   pub trips : (k t : ℕ) → k < terminal_count line → t < line.horizon
       → RailsCover (wide.trip k t) (narrow.trip k t)
+
+-- what must be may be, of each key and each trip
+pub record IsSoundHistory (line : Line) (w : PairHistory) : Type 0 where
+  pub keys : (k t : ℕ) → k < terminal_count line → t < line.horizon → IsSound (w.key k t)
+  pub trips : (k t : ℕ) → k < terminal_count line → t < line.horizon → IsSound (w.trip k t)
 
 -- claimed keys are covered over a box: each covers the pair that its key tree has over the claims
 abbrev pub AreCovered : Line → Script → Box → PairSignals → Type 0

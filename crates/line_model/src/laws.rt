@@ -20,7 +20,8 @@ ghost use Rattle.line_model.specs.Solution.{SameBefore};
 ghost use Rattle.line_model.specs.Logic.{key_tree, trip_tree};
 ghost use Rattle.line_model.specs.Histories.{History, IsLineHistory, IsSameHistory, Meets};
 ghost use Rattle.line_model.specs.Histories.{PairHistory, IsPairHistory, IsSamePairHistory};
-ghost use Rattle.line_model.specs.Histories.{IsBothRails, CoversHistory, CoversPairHistory};
+ghost use Rattle.line_model.specs.Histories.{IsBothRails, IsSoundHistory};
+ghost use Rattle.line_model.specs.Histories.{CoversHistory, CoversPairHistory};
 ghost use Rattle.line_model.specs.Histories.{AreCovered, with_derived_trips};
 ghost use Rattle.line_model.specs.Rule.{Held, Broken, Unknown, IsHeld, IsBroken, rule_of};
 
@@ -110,6 +111,13 @@ pub fn covering_keys_give_covering_values()
         (mean (world_of line script choice) plain x t) }
 {}
 
+/// What must be may be in the interval history over each box that a choice lies in.
+pub fn interval_histories_are_sound()
+    ensures { (line : Line) (script : Script) (box : Box) (choice : Choice) (w : PairHistory) →
+        LeastFromOne line box → IsWithin line choice box → IsPairHistory line script box w →
+        IsSoundHistory line w }
+{}
+
 /// Claims that are covered over a box cover the history of each choice within, and so do the
 /// trips that are derived from them.
 pub fn covered_claims_cover()
@@ -140,6 +148,15 @@ pub fn the_rule_is_exact()
         (rule_of line script trip ≡ Unknown)
         ↔ ((¬ (IsHeld script.kind script.deadline line.horizon trip))
         × (¬ (IsBroken script.kind script.deadline line.horizon trip))) }
+{}
+
+/// Where what must be may be, as in an interval history, what is broken is never held: the rule is
+/// broken exactly where it is broken.
+pub fn a_sound_rule_is_broken_where_it_is_broken()
+    ensures { (line : Line) (script : Script) (w : PairHistory) (k : ℕ) →
+        script.deadline < line.horizon → IsSoundHistory line w → k < terminal_count line →
+        (rule_of line script (w.trip k) ≡ Broken)
+        ↔ IsBroken script.kind script.deadline line.horizon (w.trip k) }
 {}
 
 /// Where pairs cover a history, a rule that is held says that the obligation is met, and one that
