@@ -12,7 +12,7 @@ use Rattle.line_model.specs.Parameters.{param_count, channel_count, delay_param,
 use Rattle.line_model.specs.Settings.{line_settings, setting_number}
 use Rattle.line_model.specs.SetBounds.{IsDelayAt}
 use Rattle.line_model.specs.Choice.{declared_box}
-use Rattle.line_model.proofs.Numbers.{delay_number}
+use Rattle.line_model.proofs.DeclaredLaws.{delay_at}
 use Rattle.line_model.specs.WithBounds.{IsWithBounds}
 use Rattle.line_model.specs.Boxes.{ends_with, box_with, declared_with, IsSameBox}
 use Rattle.line_model.proofs.SameCounts.{delay_same}
@@ -84,14 +84,7 @@ module _ (line other : Line) (param least greatest : ℕ) (here : param < param_
   -- a delay's number is another one
   delay_apart : (IsDelayAt line param → ⊥) → (c : ℕ) → c < channel_count line
       → delay_param line c ≡ param → ⊥
-  delay_apart no_delay c lt same =
-      let n = delay_number line c lt in
-      let number : delay_param line c ≡ n.0 = ap (λ o. unwrap_or o 0) n.1 in
-      no_delay (record {
-        channel = c;
-        exists = lt;
-        number = n.1 ∙ ap Some (sym number ∙ same);
-      })
+  delay_apart no_delay c lt same = no_delay (delay_at line c param lt same)
 
   pub number_changed : (IsDelayAt line param → ⊥)
       → IsSameBox line (declared_box other) (box_with (declared_box line) param new_ends)

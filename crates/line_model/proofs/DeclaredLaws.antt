@@ -1,10 +1,11 @@
 -- The declared intervals: a choice inside, and delays of at least 1.
-use Rattle.std.proofs.Common.{◌≡◌, ℕ, ◌<◌, ◌≤◌, length, get_or, ap, arith}
+use Rattle.std.proofs.Common.{◌≡◌, ℕ, ◌<◌, ◌≤◌, Some, length, get_or, sym, ◌∙◌, ap, arith}
 use Rattle.std.specs.Prelude.{unwrap_or}
 use Rattle.std.proofs.lemmas.List.{length-map}
 use Rattle.line_model.specs.declared.line.Line.{Line}
 use Rattle.line_model.specs.Intervals.{leasts}
 use Rattle.line_model.specs.Parameters.{param_count, channel_count, delay_param, declared_ends}
+use Rattle.line_model.specs.SetBounds.{IsDelayAt}
 use Rattle.line_model.specs.Choice.{
   Choice,
   IsIn,
@@ -23,6 +24,14 @@ delay_within line c lt =
     let n = delay_number line c lt in
     let is : delay_param line c ≡ n.0 = ap (λ o. unwrap_or o 0) n.1 in
     omega (arith, n.2)
+
+-- a parameter with the number of a channel's delay is a delay
+pub delay_at : (line : Line) (c i : ℕ) → c < channel_count line → delay_param line c ≡ i
+    → IsDelayAt line i
+delay_at line c i lt same =
+    let n = delay_number line c lt in
+    let number : delay_param line c ≡ n.0 = ap (λ o. unwrap_or o 0) n.1 in
+    record { channel = c; exists = lt; number = n.1 ∙ ap Some (sym number ∙ same) }
 
 -- the least number of an interval is in it
 least_in : (line : Line) (i : ℕ) → i < param_count line

@@ -10,11 +10,13 @@ ghost use Rattle.std.specs.Prelude.{
   length,
   IsSome,
   IfSome,
+  IsTrue,
   option_map,
 };
 ghost use Rattle.line_model.specs.Channels.{channel_number, from_of, to_of};
 ghost use Rattle.line_model.specs.Parameters.{param_number};
-ghost use Rattle.line_model.specs.Parameters.{IsOwner};
+ghost use Rattle.line_model.specs.Parameters.{IsOwner, channel_count, param_count, delay_param};
+ghost use Rattle.line_model.specs.SetBounds.{IsDelayAt};
 
 use crate::channels::find_channel;
 use crate::line::{Line, Owner, Param, Setting};
@@ -38,6 +40,28 @@ impl Line {
                 after(before + c * count_of_channel(self.scheme), place)
             }
         }
+    }
+
+    /// The number of a channel's delay.
+    pub fn delay_of(&self, channel: u32) -> u32
+        requires { channel < channel_count self.now }
+        ensures number { result ≡ delay_param self.now channel }
+        ensures within { result < param_count self.now }
+    {
+        self.param_of(Owner::Channel(channel), Setting::Delay)
+            .unwrap_or(0)
+    }
+
+    /// Whether a parameter is the delay of a channel.
+    pub fn is_delay(&self, param: u32) -> bool
+        ensures { IsTrue result ↔ IsDelayAt self.now param }
+    {
+        for channel in 0..self.channels.len() {
+            if self.delay_of(channel as u32) == param {
+                return true;
+            }
+        }
+        false
     }
 
     /// How many parameters the line has: at most 63, in unblocking with three terminals, each weak
