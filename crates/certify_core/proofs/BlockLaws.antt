@@ -19,7 +19,7 @@ use Rattle.timing_box.specs.Choice.{timing_choice}
 use Rattle.timing_box.specs.Candidates.{is_free, candidate, candidate_count, candidate_value}
 use Rattle.simulator.specs.LaneBox.{ends_in, lane_box}
 use Rattle.simulator.specs.Runs.{AreDelayed, IsPoint}
-use Rattle.simulator.proofs.Lists.{exists_at}
+use Rattle.simulator.specs.ListLaws.{exists_at}
 use Rattle.certify_core.specs.Candidates.{candidate_in, AreBlockSpans}
 
 -- ---- the numbers of candidates

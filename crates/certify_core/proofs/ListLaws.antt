@@ -2,7 +2,7 @@
 use Rattle.std.proofs.Common.{◌≡◌, ℕ, ◌+◌, List, [], ◌∷◌, ◌++◌, Some, length, length-append}
 use Rattle.std.proofs.Common.{sym, ◌∙◌, ap, subst, ⊎_elim}
 use Rattle.std.specs.Prelude.{slice_get}
-use Rattle.simulator.proofs.Lists.{at_push}
+use Rattle.simulator.specs.ListLaws.{at_push}
 use Rattle.certify_core.specs.OneEach.{OneEach}
 
 module _ {X : Type 0} (said : ℕ → X → Type 0) where

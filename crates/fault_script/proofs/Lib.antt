@@ -1,4 +1,3 @@
-pub mod Decimals
 pub mod Fitting
 pub mod FiveFields
 pub mod Lists

@@ -112,7 +112,7 @@ use Rattle.fault_script.specs.Printed.{
   script_records,
   file_records,
 }
-use Rattle.fault_script.proofs.Decimals.{number_of-decimal}
+use Rattle.relay_base.specs.DecimalLaws.{number_of-decimal}
 use Rattle.fault_script.proofs.Fitting.{ValuesFit}
 use Rattle.fault_script.proofs.Naming.{
   bytes_same,

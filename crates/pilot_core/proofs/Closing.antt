@@ -25,7 +25,7 @@ use Rattle.std.proofs.lemmas.List.{append-nil}
 use Rattle.std.specs.Io.KnownBytes.{Appends, Keeps}
 use Rattle.relay_base.specs.Counts.{Rose}
 use Rattle.relay_base.specs.Sink.{GrewByPart}
-use Rattle.relay_base.proofs.Writes.{part_of_proper}
+use Rattle.relay_base.specs.SinkLaws.{part_of_proper}
 use Rattle.pilot_core.specs.Clauses.{
   Answered,
   Unwritten,

@@ -7,7 +7,7 @@ use Rattle.line_model.specs.declared.script.Script.{Script}
 use Rattle.line_model.specs.Choice.{Choice, DelaysFromOne, IsInside}
 use Rattle.line_model.specs.Histories.{History, IsLineHistory, IsSameHistory}
 use Rattle.simulator.specs.PlayRows.{run_rows}
-use Rattle.simulator.proofs.RowLaws.{run_rows-same}
+use Rattle.simulator.specs.RowLaws.{run_rows-same}
 use Rattle.timing_box.specs.Choice.{timing_choice}
 use Rattle.timing_box.specs.Inside.{IsTimingInside}
 use Rattle.timing_box.specs.SoFar.{NamedValues}

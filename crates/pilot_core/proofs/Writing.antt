@@ -24,7 +24,7 @@ use Rattle.std.proofs.Common.{
 use Rattle.std.proofs.lemmas.List.{append-nil, take-append-le}
 use Rattle.std.specs.Io.KnownBytes.{Appends, Keeps}
 use Rattle.relay_base.specs.Sink.{GrewByPart}
-use Rattle.relay_base.proofs.Writes.{appends_both, proper_later, proper_more, take_past}
+use Rattle.relay_base.specs.SinkLaws.{appends_both, proper_later, proper_more, take_past}
 use Rattle.pilot_core.specs.Ends.{Works}
 use Rattle.pilot_core.specs.Sinks.{SinkView, GrewByAll, WriteStops, Writes}
 use Rattle.pilot_core.specs.declared.stop.Status.{Status}

@@ -1,4 +1,3 @@
 pub mod Digits
 pub mod FileLaws
 pub mod Pieces
-pub mod Writes

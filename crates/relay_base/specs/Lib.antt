@@ -8,3 +8,5 @@ pub mod Number
 pub mod Sink
 pub mod StdSink
 pub mod Store
+pub mod SinkLaws
+pub mod DecimalLaws

@@ -7,5 +7,4 @@ pub mod SendLaws
 pub mod ValueLaws
 pub mod RunLaws
 pub mod PointLaws
-pub mod RowLaws
 pub mod PlayLaws

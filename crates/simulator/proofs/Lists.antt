@@ -27,17 +27,6 @@ use Rattle.std.specs.Prelude.{slice_get, slice_set}
 use Rattle.simulator.specs.Ticks.{PartDone}
 
 module _ {X : Type 0} where
-  -- an element of a list with one more
-  pub at_push : (xs : List X) (x y : X) (i : ℕ) → slice_get (xs ++ x ∷ []) i ≡ Some y
-      → (slice_get xs i ≡ Some y) ⊎ ((i ≡ length xs) × (y ≡ x))
-  at_push [] x y zero e = let same : x ≡ y = cc in inr (refl, sym same)
-  at_push [] x y (suc i) e = absurd (cc)
-  at_push (z ∷ xs) x y zero e = inl e
-  at_push (z ∷ xs) x y (suc i) e =
-      ⊎_elim inl
-      (λ p. let n : suc i ≡ length (z ∷ xs) = omega (arith, p.0) in inr (n, p.1))
-      (at_push xs x y i e)
-
   -- an element of a list with one written
   pub at_set : (xs : List X) (i : ℕ) (y : X) (j : ℕ) (z : X)
       → slice_get (slice_set xs i y) j ≡ Some z
@@ -59,11 +48,6 @@ module _ {X : Type 0} where
       ⊎_elim inl
       (λ (q, n, f). let m : suc p ≡ length (z ∷ xs) + q = omega (arith, n) in inr (q, m, f))
       (at_append xs ys p x e)
-
-  pub exists_at : (xs : List X) (i : ℕ) → i < length xs → (x : X) × (slice_get xs i ≡ Some x)
-  exists_at [] i lt = absurd (omega arith)
-  exists_at (x ∷ xs) zero lt = (x, refl)
-  exists_at (x ∷ xs) (suc i) lt = exists_at xs i (omega arith)
 
   pub one_value : (xs : List X) (i j : ℕ) (a b : X) → i ≡ j → slice_get xs i ≡ Some a
       → slice_get xs j ≡ Some b → a ≡ b

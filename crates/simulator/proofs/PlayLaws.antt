@@ -43,7 +43,7 @@ use Rattle.timing_box.specs.Choice.{timing_choice}
 use Rattle.simulator.specs.LaneBox.{ends_in, lane_box}
 use Rattle.simulator.specs.Runs.{AreDelayed, IsPoint}
 use Rattle.simulator.specs.Played.{ends_of_tick}
-use Rattle.simulator.proofs.Lists.{exists_at}
+use Rattle.simulator.specs.ListLaws.{exists_at}
 
 -- a channel's delay is one of the parameters
 delay_there : (line : Line) (c : ℕ) → c < channel_count line → delay_param line c < param_count line
@@ -125,6 +125,13 @@ module _ (line : Line) (timing : TimingValues) (lane : ℕ)
         ∙ ap (λ (v : ℕ). single (number_at timing.steps p t v))
         (sym (get_or_from_slice_get timing.values p own 0 at));
   }
+
+pub timing_delayed : (line : Line) (timing : TimingValues) → IsTimingInside line timing
+    → (lanes : ℕ) → AreDelayed lanes ends_of_tick line timing.values timing.steps
+timing_delayed line timing inside lanes lane below c t lt early =
+    subst (λ (e : Ends). 1 ≤ e.least)
+    (sym ((timing_point line timing lane inside.count).delays c t lt early))
+    (inside_delays line timing inside c t lt early)
 
 -- the same of the lists that are handed on, which are the timing's
 module _ (line : Line) (timing : TimingValues) (values : List ℕ) (steps : List (Step ℕ))

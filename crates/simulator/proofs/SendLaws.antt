@@ -24,7 +24,7 @@ use Rattle.tick_signal.specs.Lanes.{in_lane}
 use Rattle.channel.specs.SentKeys.{SentKeys}
 use Rattle.line_model.specs.PairMean.{PairSignals}
 use Rattle.simulator.specs.Ticks.{AreFresh, AreSent, KeysSent, HasSent}
-use Rattle.simulator.proofs.Lists.{at_push}
+use Rattle.simulator.specs.ListLaws.{at_push}
 
 pub fresh_more : {V : Type 0} (n horizon : ℕ) (lines : List (SentKeys V)) (s : SentKeys V)
     → s ≡ record { keys = []; horizon = horizon } → AreFresh n horizon lines

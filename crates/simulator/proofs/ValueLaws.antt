@@ -26,7 +26,8 @@ use Rattle.history.specs.Rails.{Rails}
 use Rattle.simulator.specs.GatePairs.{GateSignals}
 use Rattle.simulator.specs.Ticks.{ValuesAgree, ValuesTold}
 use Rattle.simulator.specs.WavesOf.{WavesOf, AreWaves, wave_pair, pair_in}
-use Rattle.simulator.proofs.Lists.{at_append, exists_at}
+use Rattle.simulator.specs.ListLaws.{exists_at}
+use Rattle.simulator.proofs.Lists.{at_append}
 
 -- one more tick has room below the horizon
 pub tick_fits : (t h n : ℕ) → t < h → t * n + n ≤ h * n

@@ -27,7 +27,8 @@ use Rattle.simulator.specs.declared.cell.Cell.{Cell}
 use Rattle.simulator.specs.GatePairs.{GateSignals, kind_pair}
 use Rattle.simulator.specs.CellStands.{HasCell, CellStands}
 use Rattle.simulator.specs.Ticks.{ValuesAgree, HaveCells, AreTold, CellsWalked, AllStand}
-use Rattle.simulator.proofs.Lists.{at_push, at_set, one_value}
+use Rattle.simulator.specs.ListLaws.{at_push}
+use Rattle.simulator.proofs.Lists.{at_set, one_value}
 
 -- one more element beside a list of gates, with what each is to have
 pub one_more : {Y : Type 0} (P : Gate → Y → Type 0) (gates : List Gate) (xs : List Y) (i : ℕ)

@@ -1,5 +1,5 @@
 -- The pairs of a net's gates.
-use Rattle.std.specs.Prelude.{ℕ, List}
+use Rattle.std.specs.Prelude.{◌≡◌, ℕ, List, Some, slice_get}
 use Rattle.history.specs.Rails.{
   Rails,
   both,
@@ -29,6 +29,7 @@ use Rattle.gate_net.specs.declared.gate.Gate.TheVariants.{
   Seal,
 }
 use Rattle.gate_net.specs.Formulas.{formula_of}
+use Rattle.gate_net.specs.Laws.{AreGates}
 use Rattle.gate_net.specs.NetOf.{NetOf}
 
 -- a pair for each gate at each tick
@@ -56,3 +57,9 @@ kind_pair w keys u (And a b) t = rails_and (u a.0 t) (u b.0 t)
 kind_pair w keys u (Or a b) t = rails_or (u a.0 t) (u b.0 t)
 kind_pair w keys u (Timer a p d) t = rails_timed (u a.0) (w.time p) (w.time d) t
 kind_pair w keys u (Seal a b) t = rails_sealed (u a.0) (u b.0) t
+
+-- each gate has the pair of its own kind over the pairs of its arguments
+abbrev pub GatesHaveTheirKind : Type 0
+GatesHaveTheirKind = (w : PairWorld) (keys : PairSignals) (gates : List Gate) (i : ℕ) (g : Gate)
+    (t : ℕ) → AreGates gates → slice_get gates i ≡ Some g
+    → gate_pairs w keys gates i t ≡ kind_pair w keys (gate_pairs w keys gates) g t

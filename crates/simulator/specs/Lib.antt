@@ -7,3 +7,5 @@ pub mod WavesOf
 pub mod Runs
 pub mod PlayRows
 pub mod Played
+pub mod ListLaws
+pub mod RowLaws

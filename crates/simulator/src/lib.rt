@@ -7,6 +7,7 @@
 mod answer;
 mod cell;
 mod fresh;
+pub mod laws;
 mod play;
 mod rows;
 mod run_net;

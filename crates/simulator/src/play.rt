@@ -20,7 +20,8 @@ use timing_box::NamedTiming;
 
 /// The rows of one timing and script: one for each change of a terminal's key or trip, by tick,
 /// then terminal in line order, then `key` before `trip`. A row is
-/// `timing,script,tick,terminal,signal,level` and a line feed.
+/// `timing,script,tick,terminal,signal,level` and a line feed. That the timing has a history under
+/// the script, and one alone, is the law `laws::a_timing_is_one_choice`.
 pub fn play_rows(
     alloc: Global,
     line: &Line,

@@ -9,12 +9,14 @@ ghost use Rattle.timers.specs.Ahead.{IsSteadyFor, next_rails};
 use tick_signal::Signal;
 
 mod lanes;
+mod laws;
 mod level;
 mod rail;
 mod seal;
 mod tern;
 mod vectors;
 
+pub use laws::a_seal_is_its_last_answer;
 pub use seal::SealCell;
 
 /// Signals with a timed element.

@@ -2,6 +2,5 @@ pub mod RunLaws
 pub mod WaveLaws
 pub mod DelayLaws
 pub mod ElementLaws
-pub mod Decimals
 pub mod LongestRuns
 pub mod TextLaws

@@ -19,7 +19,7 @@ use Rattle.wave_runs.specs.Waves.{levels_of, runs_from, AreApart}
 use Rattle.wave_runs.specs.Text.{gap, item_text, items_text, level_letter}
 use Rattle.wave_runs.specs.Text.{is_space, level_in, run_with, run_in}
 use Rattle.wave_runs.specs.Waves.{ticks_of, AreRunsOf}
-use Rattle.wave_runs.proofs.Decimals.{are_digits, number_of-decimal}
+use Rattle.relay_base.specs.DecimalLaws.{are_digits, number_of-decimal}
 use Rattle.wave_runs.proofs.RunLaws.{levels_round, new_levels, length-levels, some_ticks}
 use Rattle.wave_runs.proofs.RunLaws.{run_to, end_from, one_run_more, length-runs_from}
 

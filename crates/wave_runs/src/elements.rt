@@ -9,7 +9,7 @@ use crate::runs::Runs;
 use line_model::Memory;
 use std::alloc::Global;
 use tick_signal::{Tern, Within};
-use timers::{SealCell, Timed};
+use timers::{SealCell, Timed, a_seal_is_its_last_answer};
 
 /// The timed element over a wave, tick by tick. It goes from one tick at which its answer may
 /// change to the next.
@@ -57,6 +57,7 @@ pub fn seal(alloc: Global, set: &Runs, hold: &Runs) -> Result<Runs, Memory>
     ensures { IfOk result (λ wave.
         IsWaveOf wave (length set.now) (λ t. rails_sealed (wave_at set.now) (wave_at hold.now) t)) }
 {
+    a_seal_is_its_last_answer();
     let mut wave = Runs::new(alloc);
     let mut cell = SealCell::<Tern>::new();
     'stretches: while wave.len() < set.len() {

@@ -13,7 +13,7 @@ mod text;
 
 pub use elements::{seal, timer};
 pub use gates::{and, not, or};
-pub use laws::texts_tell_waves;
+pub use laws::{texts_tell_waves, waves_grow};
 pub use received::{raw, raw_at, raw_until};
 pub use runs::Runs;
 pub use text::{print_runs, read_runs};

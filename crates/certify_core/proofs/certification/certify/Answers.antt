@@ -9,7 +9,7 @@ use Rattle.timing_box.specs.Timing.{TimingValues}
 use Rattle.timing_box.specs.Choice.{timing_choice}
 use Rattle.timing_box.specs.Candidates.{candidate, candidate_count}
 use Rattle.interval_wave.specs.PairWavesOf.{pair_history}
-use Rattle.simulator.proofs.Lists.{exists_at}
+use Rattle.simulator.specs.ListLaws.{exists_at}
 use Rattle.certify_core.specs.declared.verdict.Verdict.{Verdict}
 use Rattle.certify_core.specs.declared.verdict.Verdict.TheVariants.{Yes, No, Undecided}
 use Rattle.certify_core.specs.declared.standing.Standing.{Standing}

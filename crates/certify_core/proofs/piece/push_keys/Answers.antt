@@ -1,4 +1,4 @@
-use Rattle.simulator.proofs.RowLaws.{texts_more}
+use Rattle.simulator.specs.RowLaws.{texts_more}
 use Rattle.certify_core.specs.Piece.{key_of}
 use Rattle.certify_core.proofs.piece.push_keys.Goals as goal
 

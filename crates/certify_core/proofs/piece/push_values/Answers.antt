@@ -1,7 +1,7 @@
 use Rattle.std.proofs.Common.{◌≡◌, ◌++◌, ◌+◌, List, ℕ, map, take, get_or, sym, ◌∙◌, ap, arith}
 use Rattle.std.proofs.Common.{append_assoc}
 use Rattle.std.specs.List.{concat}
-use Rattle.simulator.proofs.RowLaws.{one_piece_more}
+use Rattle.simulator.specs.RowLaws.{one_piece_more}
 use Rattle.certify_core.specs.Piece.{spaced}
 use Rattle.certify_core.proofs.piece.push_values.Goals as goal
 

@@ -1,7 +1,7 @@
 use Rattle.std.proofs.Common.{◌∙◌, [], arith}
 use Rattle.std.proofs.lemmas.Result.{err_from_is_err_and}
 use Rattle.pilot_core.proofs.Puts.{one_piece_more, pieces_split}
-use Rattle.relay_base.proofs.Writes.{appends_both, proper_later, proper_more}
+use Rattle.relay_base.specs.SinkLaws.{appends_both, proper_later, proper_more}
 use Rattle.pilot_core.proofs.messages.put_pieces.Goals as goal
 
 pub returns-in_err-put_all : goal.returns-in_err-put_all

@@ -8,7 +8,7 @@ use Rattle.timing_box.specs.Timing.{TimingValues, ascend}
 use Rattle.timing_box.specs.Choice.{timing_choice}
 use Rattle.simulator.specs.PlayRows.{run_rows}
 use Rattle.simulator.specs.Played.{played}
-use Rattle.simulator.proofs.RowLaws.{run_rows-same}
+use Rattle.simulator.specs.RowLaws.{run_rows-same}
 use Rattle.simulator.proofs.PlayLaws.{inside_delays, lists_point, lists_delayed}
 use Rattle.simulator.proofs.play.play_rows.Goals as goal
 

@@ -4,7 +4,7 @@ use Rattle.std.proofs.lemmas.Option.{slice_get_read, slice_get-map, get_or_from_
 use Rattle.line_model.specs.declared.line.Terminal.{Terminal}
 use Rattle.simulator.specs.PlayRows.{signal_row, terminal_name}
 use Rattle.simulator.specs.Played.{is_on}
-use Rattle.simulator.proofs.RowLaws.{two_texts_more}
+use Rattle.simulator.specs.RowLaws.{two_texts_more}
 use Rattle.simulator.proofs.play.push_terminal.Goals as goal
 
 pub returns : goal.returns

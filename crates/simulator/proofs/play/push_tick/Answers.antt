@@ -1,6 +1,6 @@
 use Rattle.simulator.specs.PlayRows.{terminal_rows}
 use Rattle.simulator.specs.Played.{played}
-use Rattle.simulator.proofs.RowLaws.{texts_more}
+use Rattle.simulator.specs.RowLaws.{texts_more}
 use Rattle.simulator.proofs.play.push_tick.Goals as goal
 
 pub loop-k-preserved : goal.loop-k-preserved

@@ -16,7 +16,7 @@ use Rattle.std.proofs.Common.{
   ◌+◌,
 }
 use Rattle.std.specs.List.{concat}
-use Rattle.simulator.proofs.RowLaws.{one_piece_more}
+use Rattle.simulator.specs.RowLaws.{one_piece_more}
 use Rattle.simulator.proofs.rows.push_pieces.Goals as goal
 
 pub loop-piece-preserved : goal.loop-piece-preserved

@@ -4,7 +4,7 @@ use Rattle.std.proofs.lemmas.List.{take_all}
 use Rattle.line_model.specs.declared.script.Script.{Script}
 use Rattle.line_model.specs.Choice.{declared_box}
 use Rattle.line_model.specs.Histories.{PairHistory, IsPairHistory}
-use Rattle.simulator.proofs.RowLaws.{one_piece_more}
+use Rattle.simulator.specs.RowLaws.{one_piece_more}
 use Rattle.timing_report.specs.ReportText.{report_header, script_rows, report_text_of, AreHistories}
 use Rattle.timing_report.proofs.Texts.{grown}
 use Rattle.timing_report.proofs.report.report_text.Goals as goal

@@ -4,7 +4,6 @@ use Rattle.history.specs.Recorded.{first_ticks}
 use Rattle.tick_signal.specs.declared.tern.Tern.{Tern}
 use Rattle.tick_signal.specs.Terns.{tern_rails}
 use Rattle.timers.specs.Seals.{last_seal}
-use Rattle.timers.proofs.SealLaws.{seal_of_standing}
 use Rattle.wave_runs.specs.Waves.{wave_at}
 use Rattle.wave_runs.proofs.WaveLaws.{ticks_more, longer, rails_in, new_length}
 use Rattle.wave_runs.proofs.ElementLaws.{StaysAt, seal_stands, seal_answer, sealed_in}
@@ -40,7 +39,7 @@ stretches-preserved c =
     (c.tick-answer.ensures.sealed 0 (first_ticks u n) (first_ticks v n) (omega arith) stands) in
     let kept : tern_rails c.tick-answer.new.self ≡ rails_sealed u v n =
     seal_answer u v x y (tern_rails c.tick-answer.new.self) n set_now hold_now
-    (seal_of_standing (first_ticks u n) (first_ticks v n) x y (tern_rails c.tick-answer.new.self)
+    (c.a_seal_is_its_last_answer.ensures (first_ticks u n) (first_ticks v n) x y (tern_rails c.tick-answer.new.self)
     (c.tick-answer.ensures.stands 0 (first_ticks u n) (first_ticks v n) (omega arith) stands)) in
     record {
       short = longer wave new answer m (length c.args.set.now) c.in_ok-push.ensures

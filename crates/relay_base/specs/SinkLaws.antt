@@ -1,4 +1,4 @@
--- One write after another.
+-- Laws of sinks: one write after another.
 use Rattle.std.proofs.Common.{
   ◌≡◌,
   ℕ,

@@ -1,4 +1,4 @@
--- A number is read back from its decimal text, which has no space in it.
+-- Laws of decimal texts: a number is read back from its own, which has digits alone.
 use Rattle.std.proofs.Common.{◌≡◌, ◌≢◌, ◌&&◌, ℕ, ◌+◌, ◌-◌, ◌/◌, ◌%◌, ◌^◌, ◌<◌, ◌≤◌, true}
 use Rattle.std.proofs.Common.{cond, List, [], ◌∷◌, ◌++◌, length, get_or, Some, None, fold, refl, ap}
 use Rattle.std.proofs.Common.{◌∙◌, arith, ne_eqb, inl, inr}

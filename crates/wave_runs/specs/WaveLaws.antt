@@ -1,0 +1,16 @@
+-- Laws of waves that proofs above cite.
+use Rattle.std.specs.Prelude.{◌≡◌, ◌+◌, ◌<◌, ◌≤◌, ◌++◌, ℕ, List, length, replicate}
+use Rattle.history.specs.Rails.{Rails}
+use Rattle.tick_signal.specs.declared.tern.Tern.{Tern}
+use Rattle.tick_signal.specs.Terns.{tern_rails}
+use Rattle.wave_runs.specs.Waves.{IsWaveOf}
+
+-- a wave with these rails at each tick, and then n ticks of a value that has them, is such a wave
+-- of n ticks more
+pub record WavesGrow : Type 0 where
+  pub ticks : (wave new : List Tern) (level : Tern) (n : ℕ) (value : ℕ → Rails)
+      → IsWaveOf wave (length wave) value → new ≡ wave ++ replicate n level
+      → ((k : ℕ) → length wave ≤ k → k < length wave + n → tern_rails level ≡ value k)
+      → IsWaveOf new (length new) value
+  pub long : (wave new : List Tern) (level : Tern) (n : ℕ) → new ≡ wave ++ replicate n level
+      → length new ≡ length wave + n
