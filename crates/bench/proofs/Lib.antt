@@ -1,0 +1,4 @@
+pub mod Below
+pub mod LineMade
+pub mod ScriptFits
+pub mod ScriptLists

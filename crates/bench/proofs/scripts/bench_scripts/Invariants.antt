@@ -1,0 +1,12 @@
+use Rattle.std.specs.List.{All}
+use Rattle.line_model.specs.declared.line.Line.{Line}
+use Rattle.line_model.specs.Fits.{Fits}
+use Rattle.bench.specs.BenchLine.{IsBenchLine}
+use Rattle.bench.specs.BenchScripts.{AreBenchScripts}
+use Rattle.bench.proofs.scripts.bench_scripts.Given as goal
+
+abbrev pub invariant-loop-before : goal.invariant-loop-before
+invariant-loop-before l = record {
+  are : AreBenchScripts l.before l.scripts.items;
+  fit : (line : Line) → IsBenchLine line → All (Fits line) l.scripts.items;
+}
