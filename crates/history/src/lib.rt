@@ -8,6 +8,7 @@
 
 pub mod delay_laws;
 pub mod element_laws;
+pub mod laws;
 pub mod plain;
 pub mod rails_laws;
 pub mod recorded_laws;

@@ -1,5 +1,16 @@
-use Rattle.history.proofs.WiderLaws.{covers_itself, covers_on, covers_value_on}
+use Rattle.history.proofs.WiderLaws.{
+  covers_itself,
+  covers_on,
+  covers_value_on,
+  covers_both,
+  both_covered,
+}
 use Rattle.history.proofs.rails_laws.covering_is_an_order.Goals as goal
 
 pub returns : goal.returns
-returns c = record { itself = covers_itself; on = covers_on; value = covers_value_on }
+returns c = record {
+  itself = covers_itself;
+  on = covers_on;
+  value = covers_value_on;
+  exact = λ x v. (both_covered x v, covers_both x v);
+}

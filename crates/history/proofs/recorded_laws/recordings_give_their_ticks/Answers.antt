@@ -1,0 +1,10 @@
+use Rattle.history.proofs.RailsBridge.{rails_at-first_ticks}
+use Rattle.history.proofs.RecordedLaws.{length-first_ticks, first_ticks-at}
+use Rattle.history.proofs.recorded_laws.recordings_give_their_ticks.Goals as goal
+
+pub returns : goal.returns
+returns c = record {
+  count = length-first_ticks;
+  rails = rails_at-first_ticks;
+  again = first_ticks-at;
+}
