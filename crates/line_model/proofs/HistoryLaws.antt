@@ -1,6 +1,6 @@
 -- One history for each choice, one interval history for each box, and covering between them.
 use Rattle.std.proofs.Common.{◌≡◌, ℕ, ◌<◌, Bool, refl, sym, ◌∙◌, ap, arith}
-use Rattle.history.specs.Rails.{both}
+use Rattle.history.specs.Rails.{both, must_of}
 use Rattle.line_model.specs.declared.line.Line.{Line}
 use Rattle.line_model.specs.declared.script.Script.{Script}
 use Rattle.line_model.specs.Parameters.{terminal_count}
@@ -26,6 +26,7 @@ use Rattle.line_model.specs.Histories.{
   IsPairHistory,
   IsSamePairHistory,
   IsBothRails,
+  must_history,
 }
 use Rattle.line_model.specs.Solution.{IsDelayed, the_keys}
 use Rattle.line_model.proofs.LogicNames.{names_key_tree, names_trip_tree}
@@ -142,3 +143,32 @@ module _ (line : Line) (script : Script) (choice : Choice) where
       pair_history_once line script (point_box choice) d w
       (record { key = lifted h.key; trip = lifted h.trip }) is_w (point_history h is_h) in
       record { keys = same.keys; trips = same.trips }
+
+  -- the must rails of an interval history over the choice's box are a history
+  pub must_rails : DelaysFromOne line choice → (w : PairHistory)
+      → IsPairHistory line script (point_box choice) w
+      → IsLineHistory line script choice (must_history w)
+  must_rails d w is_w =
+      let (h, is_h) = history_exists line script choice d in
+      let same : IsBothRails line w h = both_rails d w h is_w is_h in
+      let keys : (k t : ℕ) → k < terminal_count line → t < line.horizon
+      → (must_history w).key k t ≡ h.key k t =
+      λ k t kn lt. ap must_of (same.keys k t kn lt) in
+      let trips : (k t : ℕ) → k < terminal_count line → t < line.horizon
+      → (must_history w).trip k t ≡ h.trip k t =
+      λ k t kn lt. ap must_of (same.trips k t kn lt) in
+      let past : (x : Tree) (t : ℕ) → t < line.horizon → Names line x
+      → mean (world_of line script choice) h.key x t
+      ≡ mean (world_of line script choice) (must_history w).key x t =
+      λ x t lt named.
+      mean-past line (world_of line script choice) (world_delayed line script choice d) h.key
+      (must_history w).key x t lt named
+      (λ k r kn before. sym (keys k r kn (omega arith))) in
+      record {
+        keys = λ k t kn lt.
+            keys k t kn lt ∙ is_h.keys k t kn lt
+            ∙ past (key_tree line k) t lt (names_key_tree line k kn);
+        trips = λ k t kn lt.
+            trips k t kn lt ∙ is_h.trips k t kn lt
+            ∙ past (trip_tree line k) t lt (names_trip_tree line k kn);
+      }

@@ -39,25 +39,30 @@ use Rattle.line_model.specs.Settings.{
   is_owned_setting,
 }
 use Rattle.line_model.specs.Places.{terminal_place, channel_place}
-use Rattle.line_model.specs.Parameters.{param_number, terminal_count, channel_count}
+use Rattle.line_model.specs.Parameters.{param_number, terminal_count, channel_count, param_count}
 use Rattle.line_model.specs.Names.{HasTime}
 use Rattle.line_model.specs.Elements.{is_guarded, is_weak, setting_of}
 use Rattle.line_model.specs.Received.{channel_to}
 use Rattle.line_model.proofs.Numbers.{position_within, length-line_settings}
 use Rattle.line_model.proofs.Positions.{terminal_number, channel_number_of}
 
+-- the number of a setting is that of a parameter
+pub number_within : (line : Line) (o : Owner) (x : Setting) (i : ℕ)
+    → param_number line o x ≡ Some i → i < param_count line
+number_within line o x i number =
+    let all : List OwnedSetting =
+    line_settings line.scheme line.terminals.items line.channels.items in
+    let within : i < 0 + length all = position_within (is_owned_setting o x) 0 i all number in
+    let same : length all ≡ param_count line = length-line_settings line in
+    omega arith
+
 -- a setting with a number in the list is a parameter
 has_number : (line : Line) (o : Owner) (x : Setting) (i : ℕ)
     → param_number line o x ≡ Some i → HasTime line (setting_of line o x)
 unfolding setting_of
 has_number line o x i number =
-    let all : List OwnedSetting =
-    line_settings line.scheme line.terminals.items line.channels.items in
-    let within : i < 0 + length all = position_within (is_owned_setting o x) 0 i all number in
-    let same : length all ≡ length line.params.items = length-line_settings line in
-    let bound : i < length line.params.items = omega arith in
     let f : Option ℕ → Type 0 = λ n. unwrap_or n 0 < length line.params.items in
-    subst f (sym number) bound
+    subst f (sym number) (number_within line o x i number)
 
 -- a setting with a place among those of its terminal is a parameter
 pub has_setting : (line : Line) (k p : ℕ) (x : Setting) → k < terminal_count line

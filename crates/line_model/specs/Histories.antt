@@ -45,6 +45,10 @@ pub record PairHistory : Type 0 where
   pub key : PairSignals
   pub trip : PairSignals
 
+-- the must rails of an interval history
+abbrev pub must_history : PairHistory → History
+must_history w = record { key = λ k t. (w.key k t).must; trip = λ k t. (w.trip k t).must }
+
 -- the interval history of a line under a script over a box: the same equations with pairs
 pub record IsPairHistory (line : Line) (script : Script) (box : Box) (w : PairHistory)
     : Type 0 where

@@ -32,3 +32,4 @@ pub mod WithBounds
 pub mod Boxes
 pub mod HeldOver
 pub mod IntervalLaws
+pub mod Laws

@@ -1,5 +1,7 @@
 use Rattle.line_model.specs.Choice.{world_of, pair_world_of}
-use Rattle.line_model.proofs.PairLaws.{pair_mean-past}
+use Rattle.line_model.proofs.PairLaws.{pair_mean-past, the_keys-solve}
+use Rattle.line_model.specs.Logic.{key_tree}
+use Rattle.line_model.proofs.HistoryLaws.{keys_named}
 use Rattle.line_model.proofs.PlainLaws.{mean-past}
 use Rattle.line_model.proofs.WorldLaws.{world_delayed, pair_world_delayed}
 use Rattle.line_model.proofs.laws.values_rest_on_earlier_keys.Goals as goal
@@ -12,4 +14,7 @@ returns c = record {
   pair = λ line script box u v x t d lt named same.
       pair_mean-past line (pair_world_of line script box) (pair_world_delayed line script box d) u v
       x t lt named same;
+  solution = λ line script box d.
+      the_keys-solve line (pair_world_of line script box) (pair_world_delayed line script box d)
+      (key_tree line) (keys_named line);
 }

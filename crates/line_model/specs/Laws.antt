@@ -1,0 +1,299 @@
+-- The laws of lines and histories, each under the name of the function that ensures it, so that the
+-- proofs above can take them as arguments.
+use Rattle.std.specs.Prelude.{
+  ◌≡◌,
+  ◌+◌,
+  ◌*◌,
+  ◌≤◌,
+  ◌<◌,
+  ◌↔◌,
+  ℕ,
+  Decides,
+  List,
+  Some,
+  length,
+  take,
+  get_or,
+  option_map,
+}
+use Rattle.history.specs.Rails.{Rails, Covers}
+use Rattle.line_model.specs.declared.line.Line.{Line}
+use Rattle.line_model.specs.declared.line.Scheme.{Scheme}
+use Rattle.line_model.specs.declared.line.Terminal.{Terminal}
+use Rattle.line_model.specs.declared.line.Channel.{Channel}
+use Rattle.line_model.specs.declared.line.Owner.{Owner}
+use Rattle.line_model.specs.declared.line.Owner.TheVariants as owner
+use Rattle.line_model.specs.declared.line.Setting.{Setting}
+use Rattle.line_model.specs.declared.script.Kind.{Kind}
+use Rattle.line_model.specs.declared.script.Script.{Script}
+use Rattle.line_model.specs.Settings.{
+  settings_of_terminals,
+  terminal_settings,
+  channel_settings,
+  line_settings,
+}
+use Rattle.line_model.specs.Places.{terminal_place, channel_place}
+use Rattle.line_model.specs.Intervals.{leasts, delay_number_of}
+use Rattle.line_model.specs.Parameters.{
+  terminal_count,
+  channel_count,
+  param_count,
+  param_number,
+  delay_param,
+}
+use Rattle.line_model.specs.Fits.{Fits}
+use Rattle.line_model.specs.Names.{Names}
+use Rattle.line_model.specs.Tree.{Tree}
+use Rattle.line_model.specs.Mean.{Signals, mean}
+use Rattle.line_model.specs.PairMean.{PairSignals, pair_mean}
+use Rattle.line_model.specs.Choice.{
+  Choice,
+  Box,
+  IsWithin,
+  IsBoxWithin,
+  IsInside,
+  DelaysFromOne,
+  LeastFromOne,
+  point_box,
+  declared_box,
+  steady_choice,
+  world_of,
+  pair_world_of,
+}
+use Rattle.line_model.specs.Keys.{AgreeBefore}
+use Rattle.line_model.specs.Solution.{Solves, SameBefore, the_keys}
+use Rattle.line_model.specs.Logic.{key_tree, trip_tree}
+use Rattle.line_model.specs.Histories.{
+  History,
+  IsLineHistory,
+  IsSameHistory,
+  Meets,
+  PairHistory,
+  IsPairHistory,
+  IsSamePairHistory,
+  IsBothRails,
+  IsSoundHistory,
+  CoversHistory,
+  CoversPairHistory,
+  AreCovered,
+  must_history,
+  with_derived_trips,
+}
+use Rattle.line_model.specs.Rule.{
+  Held,
+  Broken,
+  Unknown,
+  IsHeld,
+  IsBroken,
+  is_held,
+  is_broken,
+  rule_of,
+}
+
+-- parameters are numbered in the order of the settings: as many as settings and at most 63, each
+-- setting that a line has within them
+pub record ParametersAreNumbered : Type 0 where
+  pub count : (line : Line)
+      → length (line_settings line.scheme line.terminals.items line.channels.items)
+      ≡ param_count line
+  pub few : (line : Line) → param_count line ≤ 63
+  pub within : (line : Line) (o : Owner) (x : Setting) (i : ℕ) → param_number line o x ≡ Some i
+      → i < param_count line
+  pub delays : (line : Line) (c : ℕ) → c < channel_count line
+      → delay_param line c < param_count line
+  pub of_terminal : (line : Line) (k : ℕ) (x : Setting) (t : Terminal) → k < terminal_count line
+      → t ≡ get_or line.terminals.items k t
+      → param_number line (owner.Terminal k) x ≡ option_map
+      (λ i. length (settings_of_terminals line.scheme 0 (take k line.terminals.items)) + i)
+      (terminal_place line.scheme t.guard t.weak x)
+  pub of_channel : (line : Line) (c : ℕ) (x : Setting) → c < channel_count line
+      → param_number line (owner.Channel c) x ≡ option_map
+      (λ i. length (settings_of_terminals line.scheme 0 line.terminals.items)
+      + c * length (channel_settings line.scheme) + i) (channel_place line.scheme x)
+
+-- how many settings terminals and channels have, and the number of a channel's delay
+pub record SettingsAreCounted : Type 0 where
+  pub terminals : (s : Scheme) (ts : List Terminal) (i n k : ℕ) (t : Terminal) → i < length ts
+      → t ≡ get_or ts i t → n ≡ length (settings_of_terminals s 0 (take i ts))
+      → k ≡ length (terminal_settings s t)
+      → n + k ≡ length (settings_of_terminals s 0 (take (i + 1) ts))
+  pub all : (s : Scheme) (ts : List Terminal) (cs : List Channel) (n k : ℕ)
+      → n ≡ length (settings_of_terminals s 0 ts) → k ≡ length (channel_settings s)
+      → n + length cs * k ≡ length (line_settings s ts cs)
+  pub delays : (s : Scheme) (ts : List Terminal) (cs : List Channel) (c n k : ℕ) → c < length cs
+      → n ≡ length (settings_of_terminals s 0 ts) → k ≡ length (channel_settings s)
+      → n + c * k ≡ delay_number_of s ts cs c
+
+-- the logic of each line names only terminals, channels and parameters of the line
+pub record TreesNameTheLine : Type 0 where
+  pub keys : (line : Line) (k : ℕ) → k < terminal_count line → Names line (key_tree line k)
+  pub trips : (line : Line) (k : ℕ) → k < terminal_count line → Names line (trip_tree line k)
+
+-- a tree's value at a tick, and its pair, rest on the keys of earlier ticks alone
+pub record ValuesRestOnEarlierKeys : Type 0 where
+  pub value : (line : Line) (script : Script) (choice : Choice) (u v : Signals) (x : Tree) (t : ℕ)
+      → DelaysFromOne line choice → t < line.horizon → Names line x → AgreeBefore line u v t
+      → mean (world_of line script choice) u x t ≡ mean (world_of line script choice) v x t
+  pub pair : (line : Line) (script : Script) (box : Box) (u v : PairSignals) (x : Tree) (t : ℕ)
+      → LeastFromOne line box → t < line.horizon → Names line x → SameBefore line u v t
+      → pair_mean (pair_world_of line script box) u x t
+      ≡ pair_mean (pair_world_of line script box) v x t
+  pub solution : (line : Line) (script : Script) (box : Box) → LeastFromOne line box
+      → Solves line (pair_world_of line script box) (key_tree line)
+      (the_keys (pair_world_of line script box) (key_tree line))
+
+-- every line has a choice of delays inside its declared intervals, that of their least numbers,
+-- and the delays that are declared, and those of each choice inside, are at least 1
+pub record EachLineHasAChoiceInside : Type 0 where
+  pub inside : (line : Line) → IsInside line (steady_choice line (leasts line.params.items))
+  pub choices : (line : Line) (choice : Choice) → IsInside line choice → DelaysFromOne line choice
+  pub declared : (line : Line) → LeastFromOne line (declared_box line)
+
+-- for each choice of delays the line has exactly one history
+pub record EachChoiceHasOneHistory : Type 0 where
+  pub exists : (line : Line) (script : Script) (choice : Choice) → DelaysFromOne line choice
+      → (h : History) × IsLineHistory line script choice h
+  pub only : (line : Line) (script : Script) (choice : Choice) (g h : History)
+      → DelaysFromOne line choice → IsLineHistory line script choice g
+      → IsLineHistory line script choice h → IsSameHistory line g h
+
+-- for each box the line has exactly one interval history
+pub record EachBoxHasOneIntervalHistory : Type 0 where
+  pub exists : (line : Line) (script : Script) (box : Box) → LeastFromOne line box
+      → (w : PairHistory) × IsPairHistory line script box w
+  pub only : (line : Line) (script : Script) (box : Box) (v w : PairHistory)
+      → LeastFromOne line box → IsPairHistory line script box v → IsPairHistory line script box w
+      → IsSamePairHistory line v w
+
+-- over the box of one choice both rails of the interval history are the history
+pub record APointBoxGivesTheHistory : Type 0 where
+  pub both : (line : Line) (script : Script) (choice : Choice) (w : PairHistory) (h : History)
+      → DelaysFromOne line choice → IsPairHistory line script (point_box choice) w
+      → IsLineHistory line script choice h → IsBothRails line w h
+  pub itself : (line : Line) (script : Script) (choice : Choice) (w : PairHistory)
+      → DelaysFromOne line choice → IsPairHistory line script (point_box choice) w
+      → IsLineHistory line script choice (must_history w)
+
+-- the interval history over a box covers that over each narrower box, and the history of each
+-- choice within; the pair of each tree over it covers the tree's value
+pub record AWiderBoxCovers : Type 0 where
+  pub boxes : (line : Line) (script : Script) (inner outer : Box) (narrow wide : PairHistory)
+      → LeastFromOne line outer → IsBoxWithin line inner outer
+      → IsPairHistory line script inner narrow → IsPairHistory line script outer wide
+      → CoversPairHistory line wide narrow
+  pub choices :
+      (line : Line) (script : Script) (box : Box) (choice : Choice) (w : PairHistory) (h : History)
+      → LeastFromOne line box → IsWithin line choice box → IsPairHistory line script box w
+      → IsLineHistory line script choice h → CoversHistory line w h
+  pub trees :
+      (line : Line) (script : Script) (box : Box) (choice : Choice) (w : PairHistory) (h : History)
+      → LeastFromOne line box → IsWithin line choice box → IsPairHistory line script box w
+      → IsLineHistory line script choice h → (x : Tree) (t : ℕ) → t < line.horizon → Names line x
+      → Covers (pair_mean (pair_world_of line script box) w.key x t)
+      (mean (world_of line script choice) h.key x t)
+
+-- over keys that cover those of a history at each tick before t, as its own keys do, the pair of
+-- each tree at t covers the tree's value
+abbrev pub CoveringKeysGiveCoveringValues : Type 0
+CoveringKeysGiveCoveringValues =
+    (line : Line) (script : Script) (box : Box) (choice : Choice) (keys : PairSignals)
+    (plain : Signals) (t : ℕ) → LeastFromOne line box → IsWithin line choice box
+    → ((k r : ℕ) → k < terminal_count line → r < t → Covers (keys k r) (plain k r)) → (x : Tree)
+    → t < line.horizon → Names line x
+    → Covers (pair_mean (pair_world_of line script box) keys x t)
+    (mean (world_of line script choice) plain x t)
+
+-- what must be may be in the interval history over each box that a choice lies in
+abbrev pub IntervalHistoriesAreSound : Type 0
+IntervalHistoriesAreSound =
+    (line : Line) (script : Script) (box : Box) (choice : Choice) (w : PairHistory)
+    → LeastFromOne line box → IsWithin line choice box → IsPairHistory line script box w
+    → IsSoundHistory line w
+
+-- claims that are covered over a box cover the history of each choice within, and so do the trips
+-- that are derived from them
+abbrev pub CoveredClaimsCover : Type 0
+CoveredClaimsCover =
+    (line : Line) (script : Script) (box : Box) (choice : Choice) (claims : PairSignals)
+    (h : History) → LeastFromOne line box → IsWithin line choice box → AreCovered line script box claims
+    → IsLineHistory line script choice h
+    → CoversHistory line (with_derived_trips line script box claims) h
+
+-- the deadline of a script that fits is below the horizon
+abbrev pub DeadlinesAreBelowTheHorizon : Type 0
+DeadlinesAreBelowTheHorizon = (line : Line) (script : Script) → Fits line script
+    → script.deadline < line.horizon
+
+-- the tests of a rule are what is held and what is broken
+pub record TheRuleIsTested : Type 0 where
+  pub held : (kind : Kind) (deadline horizon : ℕ) (trip : ℕ → Rails)
+      → Decides (is_held kind deadline horizon trip) (IsHeld kind deadline horizon trip)
+  pub broken : (kind : Kind) (deadline horizon : ℕ) (trip : ℕ → Rails)
+      → Decides (is_broken kind deadline horizon trip) (IsBroken kind deadline horizon trip)
+
+-- the rule of an obligation is held exactly where it is held, broken exactly where it is broken
+-- and not held, and unknown exactly where it is neither
+pub record TheRuleIsExact : Type 0 where
+  pub held : (line : Line) (script : Script) (trip : ℕ → Rails)
+      → (rule_of line script trip ≡ Held) ↔ IsHeld script.kind script.deadline line.horizon trip
+  pub broken : (line : Line) (script : Script) (trip : ℕ → Rails)
+      → (rule_of line script trip ≡ Broken)
+      ↔ (IsBroken script.kind script.deadline line.horizon trip
+      × (¬ (IsHeld script.kind script.deadline line.horizon trip)))
+  pub unknown : (line : Line) (script : Script) (trip : ℕ → Rails)
+      → (rule_of line script trip ≡ Unknown)
+      ↔ ((¬ (IsHeld script.kind script.deadline line.horizon trip))
+      × (¬ (IsBroken script.kind script.deadline line.horizon trip)))
+
+-- where what must be may be, as in an interval history, what is broken is never held: the rule is
+-- broken exactly where it is broken
+abbrev pub ASoundRuleIsBrokenWhereItIsBroken : Type 0
+ASoundRuleIsBrokenWhereItIsBroken = (line : Line) (script : Script) (w : PairHistory) (k : ℕ)
+    → script.deadline < line.horizon → IsSoundHistory line w → k < terminal_count line
+    → (rule_of line script (w.trip k) ≡ Broken)
+    ↔ IsBroken script.kind script.deadline line.horizon (w.trip k)
+
+-- where pairs cover a history, a rule that is held says that the obligation is met, and one that
+-- is broken that it is not
+pub record TheRuleSpeaksForWhatIsCovered : Type 0 where
+  pub held : (line : Line) (script : Script) (w : PairHistory) (h : History) (k : ℕ)
+      → script.deadline < line.horizon → CoversHistory line w h → k < terminal_count line
+      → rule_of line script (w.trip k) ≡ Held → Meets line script k h
+  pub broken : (line : Line) (script : Script) (w : PairHistory) (h : History) (k : ℕ)
+      → script.deadline < line.horizon → CoversHistory line w h → k < terminal_count line
+      → rule_of line script (w.trip k) ≡ Broken → ¬ (Meets line script k h)
+
+-- over a box a rule that is held says that every choice within meets the obligation, and one that
+-- is broken that every choice within fails it
+pub record TheRuleSpeaksForEveryChoice : Type 0 where
+  pub held : (line : Line) (script : Script) (box : Box) (w : PairHistory) (k : ℕ)
+      → script.deadline < line.horizon → LeastFromOne line box → IsPairHistory line script box w
+      → k < terminal_count line → rule_of line script (w.trip k) ≡ Held
+      → (choice : Choice) (h : History) → IsWithin line choice box
+      → IsLineHistory line script choice h → Meets line script k h
+  pub broken : (line : Line) (script : Script) (box : Box) (w : PairHistory) (k : ℕ)
+      → script.deadline < line.horizon → LeastFromOne line box → IsPairHistory line script box w
+      → k < terminal_count line → rule_of line script (w.trip k) ≡ Broken
+      → (choice : Choice) (h : History) → IsWithin line choice box
+      → IsLineHistory line script choice h → ¬ (Meets line script k h)
+
+-- all of them, for proofs that rest on several
+pub record LineLaws : Type 0 where
+  pub parameters : ParametersAreNumbered
+  pub settings : SettingsAreCounted
+  pub trees : TreesNameTheLine
+  pub values : ValuesRestOnEarlierKeys
+  pub inside : EachLineHasAChoiceInside
+  pub histories : EachChoiceHasOneHistory
+  pub interval_histories : EachBoxHasOneIntervalHistory
+  pub points : APointBoxGivesTheHistory
+  pub boxes : AWiderBoxCovers
+  pub covering_keys : CoveringKeysGiveCoveringValues
+  pub sound : IntervalHistoriesAreSound
+  pub claims : CoveredClaimsCover
+  pub deadlines : DeadlinesAreBelowTheHorizon
+  pub rule_tests : TheRuleIsTested
+  pub rule : TheRuleIsExact
+  pub sound_rule : ASoundRuleIsBrokenWhereItIsBroken
+  pub covered_rule : TheRuleSpeaksForWhatIsCovered
+  pub every_choice : TheRuleSpeaksForEveryChoice
