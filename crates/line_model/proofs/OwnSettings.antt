@@ -40,10 +40,11 @@ use Rattle.line_model.specs.Settings.{
 }
 use Rattle.line_model.specs.Places.{terminal_place, channel_place}
 use Rattle.line_model.specs.Parameters.{param_number, terminal_count, channel_count, param_count}
-use Rattle.line_model.specs.Names.{HasTime}
+use Rattle.line_model.specs.Names.{IsChannelTo, HasSettingsOf, IsOwnParam, HasOwnTime}
 use Rattle.line_model.specs.Elements.{is_guarded, is_weak, setting_of}
 use Rattle.line_model.specs.Received.{channel_to}
 use Rattle.line_model.proofs.Numbers.{position_within, length-line_settings}
+use Rattle.line_model.proofs.ChannelPairs.{channel_ends}
 use Rattle.line_model.proofs.Positions.{terminal_number, channel_number_of}
 
 -- the number of a setting is that of a parameter
@@ -56,19 +57,19 @@ number_within line o x i number =
     let same : length all ≡ param_count line = length-line_settings line in
     omega arith
 
--- a setting with a number in the list is a parameter
-has_number : (line : Line) (o : Owner) (x : Setting) (i : ℕ)
-    → param_number line o x ≡ Some i → HasTime line (setting_of line o x)
+-- a setting with a number in the list is one of the terminal's, where its owner is
+own_number : (line : Line) (k : ℕ) (o : Owner) (x : Setting) (i : ℕ) → HasSettingsOf line k o
+    → param_number line o x ≡ Some i → HasOwnTime line k (setting_of line o x)
 unfolding setting_of
-has_number line o x i number =
-    let f : Option ℕ → Type 0 = λ n. unwrap_or n 0 < length line.params.items in
-    subst f (sym number) (number_within line o x i number)
+own_number line k o x i own number =
+    subst (λ (n : ℕ). IsOwnParam line k n) (sym (ap (λ n. unwrap_or n 0) number))
+    (record { of = o; setting = x; own = own; number = number })
 
--- a setting with a place among those of its terminal is a parameter
-pub has_setting : (line : Line) (k p : ℕ) (x : Setting) → k < terminal_count line
+-- a setting with a place among those of its terminal is the terminal's
+pub own_setting : (line : Line) (k p : ℕ) (x : Setting) → k < terminal_count line
     → terminal_place line.scheme (is_guarded line k) (is_weak line k) x ≡ Some p
-    → HasTime line (setting_of line (owner.Terminal k) x)
-has_setting line k p x lt there =
+    → HasOwnTime line k (setting_of line (owner.Terminal k) x)
+own_setting line k p x lt there =
     let ts : List Terminal = line.terminals.items in
     let d : Terminal = record { name = []; weak = false; guard = false } in
     let t : Terminal = get_or ts k d in
@@ -81,28 +82,32 @@ has_setting line k p x lt there =
     ∙ ap (λ w. terminal_place line.scheme (is_guarded line k) w x) (sym weak) ∙ there in
     let number : param_number line (owner.Terminal k) x ≡ Some (n + p) =
     terminal_number line k x t lt is ∙ ap (λ o. option_map (λ i. n + i) o) place in
-    has_number line (owner.Terminal k) x (n + p) number
+    own_number line k (owner.Terminal k) x (n + p) refl number
 
--- a setting with a place among those of its channel is a parameter
-pub has_channel_setting : (line : Line) (c p : ℕ) (x : Setting) → c < channel_count line
-    → channel_place line.scheme x ≡ Some p → HasTime line (setting_of line (owner.Channel c) x)
-has_channel_setting line c p x lt there =
+-- a setting with a place among those of its channel is that of the terminal at its end
+pub own_channel_setting : (line : Line) (k c p : ℕ) (x : Setting) → IsChannelTo line k c
+    → channel_place line.scheme x ≡ Some p
+    → HasOwnTime line k (setting_of line (owner.Channel c) x)
+own_channel_setting line k c p x own there =
     let n : ℕ = length (settings_of_terminals line.scheme 0 line.terminals.items)
     + c * length (channel_settings line.scheme) in
     let number : param_number line (owner.Channel c) x ≡ Some (n + p) =
-    channel_number_of line c x lt ∙ ap (λ o. option_map (λ i. n + i) o) there in
-    has_number line (owner.Channel c) x (n + p) number
+    channel_number_of line c x own.exists ∙ ap (λ o. option_map (λ i. n + i) o) there in
+    own_number line k (owner.Channel c) x (n + p) own number
 
--- a channel between two terminals exists
-pub has_channel : (line : Line) (k j : ℕ) → k < terminal_count line → j < terminal_count line
-    → j ≢ k → channel_to line k j < channel_count line
+-- a channel between two terminals exists, and ends at the one that receives
+pub own_channel : (line : Line) (k j : ℕ) → k < terminal_count line → j < terminal_count line
+    → j ≢ k → IsChannelTo line k (channel_to line k j)
 unfolding channel_to
-has_channel line k j lt jt ne =
+own_channel line k j lt jt ne =
     from (channel_number line.channels.items j k) refl (line.pairs_once.found j k jt lt ne) where
       from : (o : Option ℕ) → channel_number line.channels.items j k ≡ o → is_some o ≡ true
-          → unwrap_or o 0 < channel_count line
+          → IsChannelTo line k (unwrap_or o 0)
       from None e s = absurd (cc)
       from (Some c) e s =
-          let below : c < 0 + channel_count line =
-          position_within (is_pair j k) 0 c line.channels.items e in
-          omega arith
+          let ends = channel_ends line.channels.items j k c e in
+          record { exists = ends.0; to = ends.2 }
+
+pub has_channel : (line : Line) (k j : ℕ) → k < terminal_count line → j < terminal_count line
+    → j ≢ k → channel_to line k j < channel_count line
+has_channel line k j lt jt ne = (own_channel line k j lt jt ne).exists

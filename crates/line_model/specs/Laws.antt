@@ -42,7 +42,7 @@ use Rattle.line_model.specs.Parameters.{
   delay_param,
 }
 use Rattle.line_model.specs.Fits.{Fits}
-use Rattle.line_model.specs.Names.{Names}
+use Rattle.line_model.specs.Names.{Names, IsLocal}
 use Rattle.line_model.specs.Tree.{Tree}
 use Rattle.line_model.specs.Mean.{Signals, mean}
 use Rattle.line_model.specs.PairMean.{PairSignals, pair_mean}
@@ -128,6 +128,12 @@ pub record SettingsAreCounted : Type 0 where
 pub record TreesNameTheLine : Type 0 where
   pub keys : (line : Line) (k : ℕ) → k < terminal_count line → Names line (key_tree line k)
   pub trips : (line : Line) (k : ℕ) → k < terminal_count line → Names line (trip_tree line k)
+
+-- the logic of each terminal names only elements that it sees, channels to it, and settings that
+-- the line has for these
+pub record TreesAreLocal : Type 0 where
+  pub keys : (line : Line) (k : ℕ) → k < terminal_count line → IsLocal line k (key_tree line k)
+  pub trips : (line : Line) (k : ℕ) → k < terminal_count line → IsLocal line k (trip_tree line k)
 
 -- a tree's value at a tick, and its pair, rest on the keys of earlier ticks alone
 pub record ValuesRestOnEarlierKeys : Type 0 where
@@ -282,6 +288,7 @@ pub record LineLaws : Type 0 where
   pub parameters : ParametersAreNumbered
   pub settings : SettingsAreCounted
   pub trees : TreesNameTheLine
+  pub local_trees : TreesAreLocal
   pub values : ValuesRestOnEarlierKeys
   pub inside : EachLineHasAChoiceInside
   pub histories : EachChoiceHasOneHistory

@@ -1,7 +1,8 @@
 //! The laws of the definitions: what every choice of delays, every box and every claim keeps.
 
 ghost use Rattle.line_model.specs.Laws.{ParametersAreNumbered, SettingsAreCounted};
-ghost use Rattle.line_model.specs.Laws.{TreesNameTheLine, ValuesRestOnEarlierKeys};
+ghost use Rattle.line_model.specs.Laws.{TreesNameTheLine, TreesAreLocal};
+ghost use Rattle.line_model.specs.Laws.{ValuesRestOnEarlierKeys};
 ghost use Rattle.line_model.specs.Laws.{EachLineHasAChoiceInside, EachChoiceHasOneHistory};
 ghost use Rattle.line_model.specs.Laws.{EachBoxHasOneIntervalHistory, APointBoxGivesTheHistory};
 ghost use Rattle.line_model.specs.Laws.{AWiderBoxCovers, CoveringKeysGiveCoveringValues};
@@ -25,6 +26,12 @@ pub fn settings_are_counted()
 /// The logic of each line names only terminals, channels and parameters of the line.
 pub fn trees_name_the_line()
     ensures { TreesNameTheLine }
+{}
+
+/// The logic of each terminal names only elements that it sees, channels to it, and settings that
+/// the line has for these: what a relay cannot know, and what is not set, is in no tree.
+pub fn trees_are_local()
+    ensures { TreesAreLocal }
 {}
 
 /// A tree's value at a tick, and its pair, rest on the keys of earlier ticks alone.
@@ -118,6 +125,7 @@ pub fn line_laws()
     parameters_are_numbered();
     settings_are_counted();
     trees_name_the_line();
+    trees_are_local();
     values_rest_on_earlier_keys();
     each_line_has_a_choice_inside();
     each_choice_has_one_history();

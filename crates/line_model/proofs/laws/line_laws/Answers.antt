@@ -5,6 +5,7 @@ returns c = record {
   parameters = c.parameters_are_numbered.ensures;
   settings = c.settings_are_counted.ensures;
   trees = c.trees_name_the_line.ensures;
+  local_trees = c.trees_are_local.ensures;
   values = c.values_rest_on_earlier_keys.ensures;
   inside = c.each_line_has_a_choice_inside.ensures;
   histories = c.each_choice_has_one_history.ensures;
