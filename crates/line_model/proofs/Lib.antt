@@ -33,3 +33,5 @@ pub mod HeldLaws
 pub mod CoveringKeys
 pub mod Deadlines
 pub mod SoundHistories
+pub mod SettingTexts
+pub mod NamesApart

@@ -33,3 +33,4 @@ pub mod Boxes
 pub mod HeldOver
 pub mod IntervalLaws
 pub mod Laws
+pub mod ParamNamesApart

@@ -18,6 +18,7 @@ mod make;
 pub mod mean;
 mod memory;
 mod name;
+pub mod name_laws;
 mod param_names;
 mod params;
 mod permissive;

@@ -11,3 +11,4 @@ pub mod SameHistories
 pub mod SoFarInside
 pub mod StepOrder
 pub mod ThreeFields
+pub mod Standing

@@ -10,3 +10,4 @@ pub mod Checks
 pub mod Opened
 pub mod Timings
 pub mod Faults
+pub mod Printed

@@ -1,8 +1,10 @@
 // The laws of timings.
 
-ghost use Rattle.std.specs.Prelude.{◌≡◌, ◌<◌, ◌↔◌, ℕ, List, IsTrue};
+ghost use Rattle.std.specs.Prelude.{◌≡◌, ◌<◌, ◌↔◌, ℕ, List, [], ◌∷◌, IsTrue};
+ghost use Rattle.std.specs.List.{All};
 ghost use Rattle.line_model.specs.declared.line.Line.{Line};
 ghost use Rattle.line_model.specs.declared.script.Script.{Script};
+ghost use Rattle.line_model.specs.PlainNames.{is_plain_name};
 ghost use Rattle.line_model.specs.Choice.{Choice, DelaysFromOne, IsInside};
 ghost use Rattle.line_model.specs.Histories.{History, IsLineHistory};
 ghost use Rattle.timing_box.specs.declared.step.Step.{Step};
@@ -10,6 +12,11 @@ ghost use Rattle.timing_box.specs.Timing.{TimingValues, ascend, number_at, IsLat
 ghost use Rattle.timing_box.specs.Inside.{IsTimingInside};
 ghost use Rattle.timing_box.specs.Choice.{timing_choice, IsSameChoice};
 ghost use Rattle.timing_box.specs.Candidates.{candidate, candidate_count};
+ghost use Rattle.timing_box.specs.SoFar.{NamedValues};
+ghost use Rattle.timing_box.specs.Timings.{timings_in};
+ghost use Rattle.timing_box.specs.Printed.{MayStand, AreOfOneFile, file_records};
+
+use line_model::name_laws::parameters_have_names_of_their_own;
 
 /// Each candidate is inside the declared intervals.
 pub fn candidates_are_inside()
@@ -52,3 +59,18 @@ pub fn each_choice_inside_is_a_timing()
         × ((script : Script) (h : History) → IsLineHistory line script choice h
         ↔ IsLineHistory line script (timing_choice line timing) h) }
 {}
+
+/// The records of timings are read back as the timings, so each choice of delays inside the
+/// declared intervals is, over the run, that of a timing that a file holds, under any plain name.
+pub fn timings_are_read_back()
+    ensures records { (line : Line) (timings : List NamedValues) →
+        All (MayStand line) timings → AreOfOneFile timings →
+        timings_in line (file_records line timings) ≡ Ok timings }
+    ensures choices { (line : Line) (choice : Choice) (name : List ℕ) → IsInside line choice →
+        IsTrue (is_plain_name name) →
+        (timing : TimingValues) × IsSameChoice line choice (timing_choice line timing)
+        × (timings_in line (file_records line (record { name = name; timing = timing } ∷ []))
+        ≡ Ok (record { name = name; timing = timing } ∷ [])) }
+{
+    parameters_have_names_of_their_own();
+}

@@ -21,7 +21,7 @@ pub use fault::TimingFault;
 pub use intervals::inside;
 pub use laws::{
     candidates_are_inside, each_choice_inside_is_a_timing, same_choices_have_the_same_histories,
-    the_latest_step_counts, timings_inside_are_choices_inside,
+    the_latest_step_counts, timings_are_read_back, timings_inside_are_choices_inside,
 };
 pub use read::read_timings;
 pub use step::Step;
