@@ -13,8 +13,7 @@ use Rattle.line_model.specs.Tree.{Tree}
 use Rattle.gate_net.specs.declared.gate.Gate.{Gate}
 use Rattle.gate_net.specs.Formulas.{formula_of}
 use Rattle.wave_runs.specs.Waves.{wave_at}
-use Rattle.cert_checker.specs.declared.claim.Claim.{Claim}
-use Rattle.cert_checker.specs.declared.claim.Claim.TheVariants.{Yes, No, Undecided}
+use Rattle.certificate.specs.Grammar.{Claims, Verdict, yes, no, undecided}
 use Rattle.cert_checker.specs.declared.claim.Uncovered.{Uncovered}
 use Rattle.cert_checker.specs.declared.claim.ClaimFault.{ClaimFault}
 use Rattle.cert_checker.specs.declared.claim.ClaimFault.TheVariants.{
@@ -24,7 +23,7 @@ use Rattle.cert_checker.specs.declared.claim.ClaimFault.TheVariants.{
   Passes,
   Memory,
 }
-use Rattle.cert_checker.specs.Claims.{AreGateWaves, declared_world}
+use Rattle.cert_checker.specs.Claims.{AreGateWaves, declared_world, pairs_of}
 use Rattle.cert_checker.specs.Verdicts.{IsFaultOf, IsVerdictFault, IsFirstFault}
 use Rattle.cert_checker.specs.Verdicts.{AreSupported, AreAccepted}
 
@@ -41,51 +40,50 @@ tree_pairs line script gates claims waves gate tree wave are there is same t ear
     ∙ ap (λ (x : Tree). pair_mean (declared_world line script) claims x t) is
 
 -- the fault of a verdict is none of the keys
-verdict_alone : (line : Line) (script : Script) (k : ℕ) (trip : ℕ → _) (claim : Claim)
-    (u : Uncovered) → IsFaultOf line script k trip claim (NotCovered u) → ⊥
-verdict_alone line script k trip Yes u h = h
-verdict_alone line script k trip (No values) u h = h
-verdict_alone line script k trip Undecided u h = h
+verdict_alone : (line : Line) (script : Script) (k : ℕ) (trip : ℕ → _) (verdict : Verdict)
+    (u : Uncovered) → IsFaultOf line script k trip verdict (NotCovered u) → ⊥
+verdict_alone line script k trip yes u h = h
+verdict_alone line script k trip (no values) u h = h
+verdict_alone line script k trip undecided u h = h
 
 -- where the keys cover, the first fault is that of the verdicts
-pub after_keys : (line : Line) (script : Script) (claims : PairSignals) (verdicts : List Claim)
-    (fault : ClaimFault) → AreCovered line script (declared_box line) claims
-    → IsVerdictFault line script claims verdicts fault
-    → IsFirstFault line script claims verdicts fault
-after_keys line script claims verdicts (NotCovered u) covered h =
-    absurd (verdict_alone line script h.terminal _ h.claim u h.wrong)
-after_keys line script claims verdicts (NotHeld k) covered h = (covered, h)
-after_keys line script claims verdicts (Outside k i value) covered h = (covered, h)
-after_keys line script claims verdicts (Passes k t) covered h = (covered, h)
-after_keys line script claims verdicts Memory covered h = tt
+pub after_keys : (line : Line) (script : Script) (said : Claims) (fault : ClaimFault)
+    → AreCovered line script (declared_box line) (pairs_of said.keys)
+    → IsVerdictFault line script (pairs_of said.keys) said.verdicts fault
+    → IsFirstFault line script said fault
+after_keys line script said (NotCovered u) covered h =
+    absurd (verdict_alone line script h.terminal _ h.verdict u h.wrong)
+after_keys line script said (NotHeld k) covered h = record { covered = covered; verdict = h }
+after_keys line script said (Outside k i value) covered h =
+    record { covered = covered; verdict = h }
+after_keys line script said (Passes k t) covered h = record { covered = covered; verdict = h }
+after_keys line script said Memory covered h = tt
 
 -- one verdict more
-pub one_verdict : (said : ℕ → Claim → Type 0) (verdicts : List Claim) (i : ℕ) (now : Claim)
+pub one_verdict : (said : ℕ → Verdict → Type 0) (verdicts : List Verdict) (i : ℕ) (now : Verdict)
     → slice_get verdicts i ≡ Some now
-    → ((k : ℕ) (claim : Claim) → k < i → slice_get verdicts k ≡ Some claim → said k claim)
+    → ((k : ℕ) (verdict : Verdict) → k < i → slice_get verdicts k ≡ Some verdict → said k verdict)
     → said i now
-    → (k : ℕ) (claim : Claim) → k < i + 1 → slice_get verdicts k ≡ Some claim → said k claim
-one_verdict said verdicts i now at before holds k claim lt is =
-    ⊎_elim (λ early. before k claim early is)
+    → (k : ℕ) (verdict : Verdict) → k < i + 1 → slice_get verdicts k ≡ Some verdict → said k verdict
+one_verdict said verdicts i now at before holds k verdict lt is =
+    ⊎_elim (λ early. before k verdict early is)
     (λ late.
     let here : i ≡ k = omega (arith, lt, late) in
-    let both : Some now ≡ Some claim = sym at ∙ ap (slice_get verdicts) here ∙ is in
-    let same : now ≡ claim = cc in
-    let Q : ℕ → Type 0 = λ j. said j claim in
+    let both : Some now ≡ Some verdict = sym at ∙ ap (slice_get verdicts) here ∙ is in
+    let same : now ≡ verdict = cc in
+    let Q : ℕ → Type 0 = λ j. said j verdict in
     subst Q here (subst (said i) same holds))
     (cases_lt k i)
 
 -- the answer for the verdicts is that for all, where the keys cover
-pub with_keys : {U : Type 0} (line : Line) (script : Script) (claims : PairSignals)
-    (verdicts : List Claim) → AreCovered line script (declared_box line) claims
-    → (r : Result U ClaimFault)
-    → MatchResult r (λ _. AreSupported line script claims verdicts)
-    (λ fault. IsVerdictFault line script claims verdicts fault)
-    → MatchResult r (λ _. AreAccepted line script claims verdicts)
-    (λ fault. IsFirstFault line script claims verdicts fault)
-with_keys line script claims verdicts covered (Ok x) h = record { covered = covered; supported = h }
-with_keys line script claims verdicts covered (Err fault) h =
-    after_keys line script claims verdicts fault covered h
+pub with_keys : {U : Type 0} (line : Line) (script : Script) (said : Claims)
+    → AreCovered line script (declared_box line) (pairs_of said.keys) → (r : Result U ClaimFault)
+    → MatchResult r (λ _. AreSupported line script (pairs_of said.keys) said.verdicts)
+    (λ fault. IsVerdictFault line script (pairs_of said.keys) said.verdicts fault)
+    → MatchResult r (λ _. AreAccepted line script said)
+    (λ fault. IsFirstFault line script said fault)
+with_keys line script said covered (Ok x) h = record { covered = covered; supported = h }
+with_keys line script said covered (Err fault) h = after_keys line script said fault covered h
 
 -- what follows from an answer that is good
 pub where_good : {U : Type 0} (good told : Type 0) (wrong : ClaimFault → Type 0)

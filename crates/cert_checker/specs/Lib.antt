@@ -1,4 +1,6 @@
+pub mod Check
 pub mod Claims
+pub mod Counts
 pub mod Firsts
 pub mod Refutations
 pub mod Verdicts

@@ -1,18 +1,16 @@
 -- When the claims of a script are accepted, and the first fault where they are not.
-use Rattle.std.specs.Prelude.{◌≡◌, ◌<◌, ℕ, List, Some, length, slice_get}
-use Rattle.std.specs.List.{All}
+use Rattle.std.specs.Prelude.{◌≡◌, ◌<◌, ℕ, List, Some, slice_get}
 use Rattle.history.specs.Rails.{Rails, RailsCover}
 use Rattle.tick_signal.specs.Terns.{tern_rails}
 use Rattle.line_model.specs.declared.line.Line.{Line}
 use Rattle.line_model.specs.declared.script.Script.{Script}
-use Rattle.line_model.specs.Parameters.{terminal_count, param_count}
+use Rattle.line_model.specs.Parameters.{terminal_count}
 use Rattle.line_model.specs.PairMean.{PairSignals, pair_mean}
-use Rattle.line_model.specs.Choice.{declared_box}
+use Rattle.line_model.specs.Choice.{Choice, IsInside, declared_box}
 use Rattle.line_model.specs.Logic.{key_tree, trip_tree}
-use Rattle.line_model.specs.Histories.{AreCovered}
+use Rattle.line_model.specs.Histories.{AreCovered, History, IsLineHistory, Meets}
 use Rattle.line_model.specs.Rule.{Held, rule_of}
-use Rattle.cert_checker.specs.declared.claim.Claim.{Claim}
-use Rattle.cert_checker.specs.declared.claim.Claim.TheVariants.{Yes, No, Undecided}
+use Rattle.certificate.specs.Grammar.{Claims, Verdict, yes, no, undecided}
 use Rattle.cert_checker.specs.declared.claim.Uncovered.{Uncovered}
 use Rattle.cert_checker.specs.declared.claim.ClaimFault.{ClaimFault}
 use Rattle.cert_checker.specs.declared.claim.ClaimFault.TheVariants.{
@@ -22,7 +20,7 @@ use Rattle.cert_checker.specs.declared.claim.ClaimFault.TheVariants.{
   Passes,
   Memory,
 }
-use Rattle.cert_checker.specs.Claims.{declared_world}
+use Rattle.cert_checker.specs.Claims.{declared_world, pairs_of}
 use Rattle.cert_checker.specs.Firsts.{IsFirstFailing}
 use Rattle.cert_checker.specs.Refutations.{IsRefutation, IsFirstOutside, IsMetInside}
 
@@ -55,23 +53,12 @@ pub record IsFirstUncovered (line : Line) (script : Script) (claims : PairSignal
 
 -- ---- verdicts
 
--- a `no` has one number for each parameter
-abbrev pub HasNumbers : Line → Claim → Type 0
-HasNumbers line Yes = Unit {0}
-HasNumbers line (No values) = length values.items ≡ param_count line
-HasNumbers line Undecided = Unit {0}
-
--- one verdict for each terminal
-pub record AreVerdicts (line : Line) (verdicts : List Claim) : Type 0 where
-  pub many : length verdicts ≡ terminal_count line
-  pub numbers : All (HasNumbers line) verdicts
-
 -- the verdict of terminal k stands, where its trip has these pairs: a `yes` is held, a `no` is
 -- refuted by its numbers, and an `undecided` owes nothing
-abbrev pub IsSupported : Line → Script → ℕ → (ℕ → Rails) → Claim → Type 0
-IsSupported line script k trip Yes = rule_of line script trip ≡ Held
-IsSupported line script k trip (No values) = IsRefutation line script k values.items
-IsSupported line script k trip Undecided = Unit {0}
+abbrev pub IsSupported : Line → Script → ℕ → (ℕ → Rails) → Verdict → Type 0
+IsSupported line script k trip yes = rule_of line script trip ≡ Held
+IsSupported line script k trip (no values) = IsRefutation line script k values
+IsSupported line script k trip undecided = Unit {0}
 
 -- what is wrong with a `yes` of terminal k, where its trip has these pairs: it is not held
 abbrev pub IsYesFault : Line → Script → ℕ → (ℕ → Rails) → ClaimFault → Type 0
@@ -91,48 +78,52 @@ IsNoFault line script k values (Passes j t) = (j ≡ k) × IsMetInside line scri
 IsNoFault line script k values Memory = Unit {0}
 
 -- what is wrong with the verdict of terminal k
-abbrev pub IsFaultOf : Line → Script → ℕ → (ℕ → Rails) → Claim → ClaimFault → Type 0
-IsFaultOf line script k trip Yes fault = IsYesFault line script k trip fault
-IsFaultOf line script k trip (No values) fault = IsNoFault line script k values.items fault
-IsFaultOf line script k trip Undecided fault = ⊥
+abbrev pub IsFaultOf : Line → Script → ℕ → (ℕ → Rails) → Verdict → ClaimFault → Type 0
+IsFaultOf line script k trip yes fault = IsYesFault line script k trip fault
+IsFaultOf line script k trip (no values) fault = IsNoFault line script k values fault
+IsFaultOf line script k trip undecided fault = ⊥
 
 -- each verdict stands, by the trips that follow from the claims
-abbrev pub AreSupported : Line → Script → PairSignals → List Claim → Type 0
+abbrev pub AreSupported : Line → Script → PairSignals → List Verdict → Type 0
 AreSupported line script claims verdicts =
-    (k : ℕ) (claim : Claim) → slice_get verdicts k ≡ Some claim
-    → IsSupported line script k (derived_trip line script claims k) claim
+    (k : ℕ) (verdict : Verdict) → slice_get verdicts k ≡ Some verdict
+    → IsSupported line script k (derived_trip line script claims k) verdict
 
 -- this is what is wrong with the first verdict that does not stand
 pub record IsVerdictFault (line : Line) (script : Script) (claims : PairSignals)
-    (verdicts : List Claim) (fault : ClaimFault) : Type 0 where
+    (verdicts : List Verdict) (fault : ClaimFault) : Type 0 where
   pub terminal : ℕ
-  pub claim : Claim
-  pub is : slice_get verdicts terminal ≡ Some claim
-  pub before : (k : ℕ) (earlier : Claim) → k < terminal → slice_get verdicts k ≡ Some earlier
+  pub verdict : Verdict
+  pub is : slice_get verdicts terminal ≡ Some verdict
+  pub before : (k : ℕ) (earlier : Verdict) → k < terminal → slice_get verdicts k ≡ Some earlier
       → IsSupported line script k (derived_trip line script claims k) earlier
-  pub wrong : IsFaultOf line script terminal (derived_trip line script claims terminal) claim fault
+  pub wrong : IsFaultOf line script terminal (derived_trip line script claims terminal) verdict fault
 
 -- ---- both
 
 -- the claimed keys cover what follows from them, and each verdict stands
-pub record AreAccepted (line : Line) (script : Script) (claims : PairSignals)
-    (verdicts : List Claim) : Type 0 where
-  pub covered : AreCovered line script (declared_box line) claims
-  pub supported : AreSupported line script claims verdicts
+pub record AreAccepted (line : Line) (script : Script) (said : Claims) : Type 0 where
+  pub covered : AreCovered line script (declared_box line) (pairs_of said.keys)
+  pub supported : AreSupported line script (pairs_of said.keys) said.verdicts
 
 -- the claimed keys cover, and this is the first fault of the verdicts
-abbrev pub IsFirstVerdictFault : Line → Script → PairSignals → List Claim → ClaimFault → Type 0
-IsFirstVerdictFault line script claims verdicts fault =
-    AreCovered line script (declared_box line) claims
-    × IsVerdictFault line script claims verdicts fault
+pub record IsFirstVerdictFault (line : Line) (script : Script) (said : Claims) (fault : ClaimFault)
+    : Type 0 where
+  pub covered : AreCovered line script (declared_box line) (pairs_of said.keys)
+  pub verdict : IsVerdictFault line script (pairs_of said.keys) said.verdicts fault
 
 -- the first fault: that of the keys, else that of the verdicts. Want of memory says nothing.
-abbrev pub IsFirstFault : Line → Script → PairSignals → List Claim → ClaimFault → Type 0
-IsFirstFault line script claims verdicts (NotCovered u) = IsFirstUncovered line script claims u
-IsFirstFault line script claims verdicts (NotHeld k) =
-    IsFirstVerdictFault line script claims verdicts (NotHeld k)
-IsFirstFault line script claims verdicts (Outside k i value) =
-    IsFirstVerdictFault line script claims verdicts (Outside k i value)
-IsFirstFault line script claims verdicts (Passes k t) =
-    IsFirstVerdictFault line script claims verdicts (Passes k t)
-IsFirstFault line script claims verdicts Memory = Unit {0}
+abbrev pub IsFirstFault : Line → Script → Claims → ClaimFault → Type 0
+IsFirstFault line script said (NotCovered u) =
+    IsFirstUncovered line script (pairs_of said.keys) u
+IsFirstFault line script said (NotHeld k) = IsFirstVerdictFault line script said (NotHeld k)
+IsFirstFault line script said (Outside k i value) =
+    IsFirstVerdictFault line script said (Outside k i value)
+IsFirstFault line script said (Passes k t) = IsFirstVerdictFault line script said (Passes k t)
+IsFirstFault line script said Memory = Unit {0}
+
+-- each history of each choice inside meets what has a `yes`
+abbrev pub AreSound : Line → Script → Claims → Type 0
+AreSound line script said =
+    (k : ℕ) → slice_get said.verdicts k ≡ Some yes → (choice : Choice) (h : History)
+    → IsInside line choice → IsLineHistory line script choice h → Meets line script k h

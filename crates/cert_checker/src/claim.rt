@@ -1,19 +1,9 @@
-// What is claimed of an obligation, and what can be wrong with the claims of a script.
+//! What can be wrong with the claims of a script.
 
 ghost use Rattle.std.specs.Prelude.{◌≡◌};
 
 use line_model::Memory;
 use tick_signal::Tern;
-
-/// A claimed verdict of an obligation, which is a script at a terminal: each choice of delays
-/// inside the declared intervals meets it; it fails at these numbers, one for each parameter; or
-/// neither is said.
-#[derive(Drop)]
-pub enum Claim {
-    Yes,
-    No(Vec<u32>),
-    Undecided,
-}
 
 /// Where a claimed key does not cover what follows from the claims, and both values there.
 #[derive(Clone, Copy, PartialEq, Eq, Debug)]

@@ -1,4 +1,4 @@
-// Whether claimed keys cover what follows from them.
+//! Whether claimed keys cover what follows from them.
 
 ghost use Rattle.std.specs.Prelude.{◌≡◌, ◌<◌, ℕ, length, MatchOption};
 ghost use Rattle.history.specs.Rails.{RailsCover};

@@ -1,4 +1,4 @@
-// The declared intervals.
+//! The declared intervals.
 
 ghost use Rattle.std.specs.Prelude.{◌≡◌, ◌≤◌, ◌<◌};
 ghost use Rattle.line_model.specs.Parameters.{param_count, channel_count, delay_param};

@@ -1,4 +1,4 @@
-// The wave of one gate, over those of its arguments and the claimed keys.
+//! The wave of one gate, over those of its arguments and the claimed keys.
 
 ghost use Rattle.std.specs.Prelude.{◌≡◌, ◌<◌, [], length, get_or, IfOk};
 ghost use Rattle.history.specs.Rails.{rails_delayed};

@@ -1,4 +1,4 @@
-// Whether an obligation is held by the trip that follows from the claims.
+//! Whether an obligation is held by the trip that follows from the claims.
 
 ghost use Rattle.std.specs.Prelude.{◌≡◌, ◌<◌, ◌≤◌, length};
 ghost use Rattle.history.specs.Elements.{some_below};

@@ -1,4 +1,4 @@
-// Whether claimed numbers are inside the declared intervals.
+//! Whether claimed numbers are inside the declared intervals.
 
 ghost use Rattle.std.specs.Prelude.{◌≡◌, ◌↔◌, ◌<◌, ℕ, length, IsTrue, MatchOption};
 ghost use Rattle.line_model.specs.Parameters.{param_count, declared_ends};

@@ -1,18 +1,65 @@
-// The law of acceptance.
+//! The laws of acceptance.
 
-ghost use Rattle.std.specs.Prelude.{◌≢◌, List};
+ghost use Rattle.std.specs.Prelude.{◌≡◌, ◌≢◌, ℕ, List};
 ghost use Rattle.line_model.specs.declared.line.Line.{Line};
 ghost use Rattle.line_model.specs.declared.script.Script.{Script};
-ghost use Rattle.line_model.specs.PairMean.{PairSignals};
-ghost use Rattle.cert_checker.specs.declared.claim.Claim.{Claim};
+ghost use Rattle.certificate.specs.Grammar.{Claims};
 ghost use Rattle.cert_checker.specs.declared.claim.ClaimFault.{ClaimFault};
+ghost use Rattle.cert_checker.specs.declared.counts.Counts.{Counts};
+ghost use Rattle.cert_checker.specs.declared.fault.CheckFault.{CheckFault};
+ghost use Rattle.cert_checker.specs.Check.{IsAccepted, IsCheckFault};
 ghost use Rattle.cert_checker.specs.Verdicts.{AreAccepted, IsFirstFault};
 
-/// Claims that have a first fault are not acceptable. So `check_claims` is good exactly where they
+use certificate::{a_text_has_one_meaning, a_text_leaves_at_one_line};
+use line_model::laws::{each_choice_has_one_history, each_line_has_a_choice_inside};
+use timing_box::timings_inside_are_choices_inside;
+
+/// Claims that have a first fault are not accepted. So `check_claims` is good exactly where they
 /// are, but for want of memory.
 pub fn a_fault_refuses_the_claims()
-    ensures { (line : Line) (script : Script) (claims : PairSignals) (verdicts : List Claim)
-        (fault : ClaimFault) → fault ≢ ClaimFault.Memory →
-        IsFirstFault line script claims verdicts fault →
-        ¬ (AreAccepted line script claims verdicts) }
-{}
+    ensures { (line : Line) (script : Script) (said : Claims) (fault : ClaimFault) →
+        fault ≢ ClaimFault.Memory → IsFirstFault line script said fault →
+        ¬ (AreAccepted line script said) }
+{
+    each_choice_has_one_history();
+    each_line_has_a_choice_inside();
+    timings_inside_are_choices_inside();
+}
+
+/// Claims have at most one first fault.
+pub fn claims_have_one_first_fault()
+    ensures { (line : Line) (script : Script) (said : Claims) (fault other : ClaimFault) →
+        fault ≢ ClaimFault.Memory → other ≢ ClaimFault.Memory →
+        IsFirstFault line script said fault → IsFirstFault line script said other →
+        fault ≡ other }
+{
+    each_choice_has_one_history();
+    each_line_has_a_choice_inside();
+    timings_inside_are_choices_inside();
+}
+
+/// A certificate that has a first fault is not accepted, whatever the counts. So `check` is good
+/// exactly where there is none, but for want of memory.
+pub fn a_fault_refuses_the_certificate()
+    ensures { (line : Line) (scripts : List Script) (bytes : List ℕ) (counts : Counts)
+        (fault : CheckFault) → fault ≢ CheckFault.Memory →
+        IsCheckFault line scripts bytes fault → ¬ (IsAccepted line scripts bytes counts) }
+{
+    a_fault_refuses_the_claims();
+    a_text_has_one_meaning();
+    a_text_leaves_at_one_line();
+}
+
+/// A certificate has at most one first fault. So the error of `check` is the fault of the text, but
+/// for want of memory.
+pub fn a_certificate_has_one_first_fault()
+    ensures { (line : Line) (scripts : List Script) (bytes : List ℕ) (fault other : CheckFault) →
+        fault ≢ CheckFault.Memory → other ≢ CheckFault.Memory →
+        IsCheckFault line scripts bytes fault → IsCheckFault line scripts bytes other →
+        fault ≡ other }
+{
+    a_fault_refuses_the_claims();
+    claims_have_one_first_fault();
+    a_text_has_one_meaning();
+    a_text_leaves_at_one_line();
+}

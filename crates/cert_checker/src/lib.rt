@@ -6,8 +6,10 @@
 #![tactic(auto)]
 
 mod claim;
+mod counts;
 mod cover;
 mod declared;
+mod fault;
 mod gate;
 mod held;
 mod inside;
@@ -16,8 +18,16 @@ mod net_waves;
 mod refutation;
 mod script_check;
 mod script_wave;
+mod whole;
 
-pub use claim::{Claim, ClaimFault, Uncovered};
-pub use laws::a_fault_refuses_the_claims;
+pub use certificate::{Claim, ScriptClaims};
+pub use claim::{ClaimFault, Uncovered};
+pub use counts::Counts;
+pub use fault::CheckFault;
+pub use laws::{
+    a_certificate_has_one_first_fault, a_fault_refuses_the_certificate, a_fault_refuses_the_claims,
+    claims_have_one_first_fault,
+};
 pub use net_waves::gate_waves;
 pub use script_check::check_claims;
+pub use whole::check;

@@ -1,4 +1,4 @@
-// The waves of all gates of a net, over claimed keys.
+//! The waves of all gates of a net, over claimed keys.
 
 ghost use Rattle.std.specs.Prelude.{IfOk};
 ghost use Rattle.line_model.specs.Parameters.{terminal_count};

@@ -1,4 +1,4 @@
-// Whether claimed numbers refute an obligation.
+//! Whether claimed numbers refute an obligation.
 
 ghost use Rattle.std.specs.Prelude.{◌≡◌, ◌<◌, ◌≤◌, length, IfOk};
 ghost use Rattle.std.specs.Prelude.{MatchOption};

@@ -1,27 +1,29 @@
-// The check of a script's claims.
+//! The check of a script's claims.
 
-ghost use Rattle.std.specs.Prelude.{◌≡◌, ◌<◌, ℕ, Some, length, slice_get, IfOk, MatchResult};
+ghost use Rattle.std.specs.Prelude.{◌≡◌, ◌<◌, ℕ, length, map, IfOk, MatchResult};
+ghost use Rattle.std.specs.List.{All};
 ghost use Rattle.history.specs.Rails.{Rails};
 ghost use Rattle.line_model.specs.Parameters.{terminal_count, param_count};
-ghost use Rattle.line_model.specs.Choice.{Choice, IsInside};
 ghost use Rattle.line_model.specs.PairMean.{PairSignals};
 ghost use Rattle.line_model.specs.Fits.{Fits};
-ghost use Rattle.line_model.specs.Histories.{History, IsLineHistory, Meets};
 ghost use Rattle.gate_net.specs.NetOf.{IsNetOf};
 ghost use Rattle.wave_runs.specs.Waves.{wave_at};
-ghost use Rattle.cert_checker.specs.Claims.{AreWaves, AreGateWaves, pairs_of};
-ghost use Rattle.cert_checker.specs.Verdicts.{AreVerdicts, HasNumbers, IsSupported, IsFaultOf};
+ghost use Rattle.certificate.specs.Grammar.{HasNumbers, claims_in, verdict_in};
+ghost use Rattle.certificate.specs.Text.{CanBeWritten};
+ghost use Rattle.cert_checker.specs.Claims.{AreWaves, AreGateWaves};
+ghost use Rattle.cert_checker.specs.Verdicts.{IsSupported, IsFaultOf, AreSound};
 ghost use Rattle.cert_checker.specs.Refutations.{IsRefutation};
 ghost use Rattle.cert_checker.specs.Verdicts.{IsNoFault, IsVerdictFault, AreSupported};
 ghost use Rattle.cert_checker.specs.Verdicts.{AreAccepted, IsFirstFault};
 
-use crate::claim::{Claim, ClaimFault};
+use crate::claim::ClaimFault;
 use crate::cover::first_uncovered;
 use crate::gate::nth;
 use crate::held::is_held;
 use crate::inside::first_outside;
 use crate::net_waves::gate_waves;
 use crate::refutation::met_at;
+use certificate::{Claim, ScriptClaims};
 use gate_net::Net;
 use line_model::laws::{
     covered_claims_cover, each_line_has_a_choice_inside, the_rule_speaks_for_what_is_covered,
@@ -30,37 +32,40 @@ use line_model::{Line, Script};
 use std::alloc::Global;
 use wave_runs::Runs;
 
-/// Checks what is claimed of a script: a key wave of the horizon's length and a verdict for each
-/// terminal. First the keys, by terminal and then by tick, then the verdicts by terminal; the error
-/// is the first fault in this order.
+/// Checks what is claimed of a script. First the keys, by terminal and then by tick, then the
+/// verdicts by terminal; the error is the first fault in this order.
 pub fn check_claims(
     alloc: Global,
     line: &Line,
     net: &Net,
     script: &Script,
-    keys: &[Runs],
-    verdicts: &[Claim],
+    said: &ScriptClaims,
 ) -> Result<(), ClaimFault>
     requires of_line { IsNetOf line.now net.now }
     requires fits { Fits line.now script.now }
-    requires keys { AreWaves (terminal_count line.now) line.now.horizon keys.now }
-    requires verdicts { AreVerdicts line.now verdicts.now }
+    requires written { CanBeWritten line.now (claims_in said.now) }
     ensures exact { MatchResult result
-        (λ _. AreAccepted line.now script.now (pairs_of keys.now) verdicts.now)
-        (λ fault. IsFirstFault line.now script.now (pairs_of keys.now) verdicts.now fault) }
+        (λ _. AreAccepted line.now script.now (claims_in said.now))
+        (λ fault. IsFirstFault line.now script.now (claims_in said.now) fault) }
     // Whatever the claims are: each history of each choice inside meets what has a `yes`.
-    ensures yes { IfOk result (λ _. (k : ℕ) → slice_get verdicts.now k ≡ Some Claim.Yes →
-        (choice : Choice) (h : History) → IsInside line.now choice →
-        IsLineHistory line.now script.now choice h → Meets line.now script.now k h) }
+    ensures yes { IfOk result (λ _. AreSound line.now script.now (claims_in said.now)) }
 {
     each_line_has_a_choice_inside();
     covered_claims_cover();
     the_rule_speaks_for_what_is_covered();
+    let keys = said.keys.as_slice();
     let waves = gate_waves(alloc, net, line, script, keys)?;
     if let Some(uncovered) = first_uncovered(line, net, keys, waves.as_slice()) {
         return Err(ClaimFault::NotCovered(uncovered));
     }
-    check_verdicts(alloc, line, net, script, waves.as_slice(), verdicts)
+    check_verdicts(
+        alloc,
+        line,
+        net,
+        script,
+        waves.as_slice(),
+        said.verdicts.as_slice(),
+    )
 }
 
 // Checks the verdicts by the waves of the gates.
@@ -75,11 +80,12 @@ fn check_verdicts(
     requires of_line { IsNetOf line.now net.now }
     requires fits { Fits line.now script.now }
     requires waves { AreWaves (length net.now.gates) line.now.horizon waves.now }
-    requires verdicts { AreVerdicts line.now verdicts.now }
+    requires many { length verdicts.now ≡ terminal_count line.now }
+    requires numbers { All (HasNumbers line.now) (map verdict_in verdicts.now) }
     ensures { (claims : PairSignals) →
         AreGateWaves line.now script.now net.now.gates claims waves.now → MatchResult result
-        (λ _. AreSupported line.now script.now claims verdicts.now)
-        (λ fault. IsVerdictFault line.now script.now claims verdicts.now fault) }
+        (λ _. AreSupported line.now script.now claims (map verdict_in verdicts.now))
+        (λ fault. IsVerdictFault line.now script.now claims (map verdict_in verdicts.now) fault) }
 {
     for i in 0..verdicts.len() {
         let terminal = i as u32;
@@ -103,11 +109,11 @@ fn check_claim(
     requires fits { Fits line.now script.now }
     requires terminal { terminal < terminal_count line.now }
     requires trip { length trip.now ≡ line.now.horizon }
-    requires numbers { HasNumbers line.now claim.now }
+    requires numbers { HasNumbers line.now (verdict_in claim.now) }
     ensures { (pairs : ℕ → Rails) →
         ((t : ℕ) → t < line.now.horizon → wave_at trip.now t ≡ pairs t) → MatchResult result
-        (λ _. IsSupported line.now script.now terminal pairs claim.now)
-        (λ fault. IsFaultOf line.now script.now terminal pairs claim.now fault) }
+        (λ _. IsSupported line.now script.now terminal pairs (verdict_in claim.now))
+        (λ fault. IsFaultOf line.now script.now terminal pairs (verdict_in claim.now) fault) }
 {
     match claim {
         Claim::Yes => {

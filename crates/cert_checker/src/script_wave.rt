@@ -1,4 +1,4 @@
-// The waves that a script tells whatever the delays.
+//! The waves that a script tells whatever the delays.
 
 ghost use Rattle.std.specs.Prelude.{◌≤◌, IfOk};
 ghost use Rattle.history.specs.Rails.{both};

@@ -1,7 +1,8 @@
 use Rattle.std.proofs.Common.{◌≡◌, ℕ, refl, sym, ◌∙◌, ap, subst}
 use Rattle.line_model.specs.Rule.{is_held}
 use Rattle.wave_runs.specs.Waves.{wave_at}
-use Rattle.cert_checker.specs.declared.claim.Claim.{Claim}
+use Rattle.certificate.specs.declared.claim.Claim.{Claim}
+use Rattle.certificate.specs.Grammar.{verdict_in}
 use Rattle.cert_checker.specs.declared.claim.ClaimFault.TheVariants.{NotHeld}
 use Rattle.cert_checker.specs.Verdicts.{IsSupported, IsFaultOf}
 use Rattle.cert_checker.proofs.HeldRules.{told_held, told_not_held}
@@ -16,7 +17,7 @@ returns-then-is_held c = λ pairs same.
     let tested : c.is_held.result ≡ is_held script.kind script.deadline line.horizon trip =
     c.is_held.ensures
     ∙ ap (λ (n : ℕ). is_held script.kind script.deadline n trip) c.requires.trip in
-    subst (λ (x : Claim). IsSupported line script c.args.terminal pairs x) (sym c.in-Yes.is)
+    subst (λ (x : Claim). IsSupported line script c.args.terminal pairs (verdict_in x)) (sym c.in-Yes.is)
     (told_held script.kind script.deadline line.horizon trip pairs
     (fitting_deadline line script c.requires.fits) same c.is_held.result tested c.if-is_held.true)
 
@@ -29,7 +30,7 @@ returns-else-is_held c = λ pairs same.
     let tested : c.is_held.result ≡ is_held script.kind script.deadline line.horizon trip =
     c.is_held.ensures
     ∙ ap (λ (n : ℕ). is_held script.kind script.deadline n trip) c.requires.trip in
-    subst (λ (x : Claim). IsFaultOf line script k pairs x (NotHeld k)) (sym c.in-Yes.is) (
+    subst (λ (x : Claim). IsFaultOf line script k pairs (verdict_in x) (NotHeld k)) (sym c.in-Yes.is) (
       refl,
       told_not_held script.kind script.deadline line.horizon trip pairs
           (fitting_deadline line script c.requires.fits) same c.is_held.result tested

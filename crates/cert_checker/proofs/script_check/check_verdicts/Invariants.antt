@@ -1,7 +1,7 @@
-use Rattle.std.proofs.Common.{◌≡◌, ◌<◌, ℕ, Some}
+use Rattle.std.proofs.Common.{◌≡◌, ◌<◌, ℕ, Some, map}
 use Rattle.std.specs.Prelude.{slice_get}
 use Rattle.line_model.specs.PairMean.{PairSignals}
-use Rattle.cert_checker.specs.declared.claim.Claim.{Claim}
+use Rattle.certificate.specs.Grammar.{Verdict, verdict_in}
 use Rattle.cert_checker.specs.Claims.{AreGateWaves}
 use Rattle.cert_checker.specs.Verdicts.{IsSupported, derived_trip}
 use Rattle.cert_checker.proofs.script_check.check_verdicts.Given as goal
@@ -9,5 +9,5 @@ use Rattle.cert_checker.proofs.script_check.check_verdicts.Given as goal
 abbrev pub invariant-loop-i : goal.invariant-loop-i
 invariant-loop-i l =
     (claims : PairSignals) → AreGateWaves l.line l.script l.net.gates claims l.waves
-    → (k : ℕ) (claim : Claim) → k < l.i → slice_get l.verdicts k ≡ Some claim
-    → IsSupported l.line l.script k (derived_trip l.line l.script claims k) claim
+    → (k : ℕ) (verdict : Verdict) → k < l.i → slice_get (map verdict_in l.verdicts) k ≡ Some verdict
+    → IsSupported l.line l.script k (derived_trip l.line l.script claims k) verdict

@@ -1,0 +1,85 @@
+-- Counts grow verdict by verdict and script by script.
+use Rattle.std.proofs.Common.{◌≡◌, ◌<◌, ◌≤◌, ◌+◌, ◌++◌, ℕ, Bool, List, [], ◌∷◌, length, map, take, get_or}
+use Rattle.std.proofs.Common.{sym, ◌∙◌, ap, refl, arith, subst}
+use Rattle.std.specs.Prelude.{Some, slice_get}
+use Rattle.std.proofs.lemmas.Option.{slice_get_read}
+use Rattle.std.specs.List.{All, count_by}
+use Rattle.std.proofs.lemmas.List.{map-append, take_more, append-nil, length-map, length-take-le}
+use Rattle.std.proofs.Math.ListN.{get_or-map}
+use Rattle.std.proofs.lemmas.List.Sums.{sum_by-append, count_by-le-length}
+use Rattle.std.proofs.lemmas.Grind.{flat_map-append}
+use Rattle.certificate.specs.declared.claim.Claim.{Claim}
+use Rattle.certificate.specs.declared.claim.ScriptClaims.{ScriptClaims}
+use Rattle.certificate.specs.Grammar.{Claims, Verdict, verdict_in, claims_in}
+use Rattle.cert_checker.specs.declared.counts.Counts.{Counts}
+use Rattle.cert_checker.proofs.MapLaws.{each_mapped}
+use Rattle.cert_checker.specs.Counts.{Adds, AreCounts, all_verdicts, is_yes, is_no, is_undecided}
+
+count_then : (p : Verdict → Bool) (xs ys : List Verdict) (a b c : ℕ) → b ≡ a + count_by p xs
+    → c ≡ b + count_by p ys → c ≡ a + count_by p (xs ++ ys)
+count_then p xs ys a b c first second =
+    let both : count_by p (xs ++ ys) ≡ count_by p xs + count_by p ys = sum_by-append _ xs ys in
+    omega (arith, first, second, both)
+
+-- some verdicts, and then others
+pub adds_then : (a b c : Counts) (xs ys : List Verdict) → Adds a xs b → Adds b ys c
+    → Adds a (xs ++ ys) c
+adds_then a b c xs ys first second = record {
+  yes = count_then is_yes xs ys a.yes b.yes c.yes first.yes second.yes;
+  no = count_then is_no xs ys a.no b.no c.no first.no second.no;
+  undecided = count_then is_undecided xs ys a.undecided b.undecided c.undecided first.undecided second.undecided;
+}
+
+-- the first verdicts, one more
+pub first_verdicts : (written : List Claim) (i : ℕ) (item : Claim) → i < length written
+    → item ≡ get_or written i item
+    → map verdict_in (take i written) ++ verdict_in item ∷ [] ≡ map verdict_in (take (i + 1) written)
+first_verdicts written i item inside is =
+    ap (λ (w : Claim). map verdict_in (take i written) ++ verdict_in w ∷ []) is
+    ∙ sym (map-append (λ x. verdict_in x) (take i written) (get_or written i item ∷ []))
+    ∙ ap (λ (l : List Claim). map verdict_in l) (sym (take_more written i item inside))
+
+-- those of the first scripts, one more
+pub first_scripts : (claims : List ScriptClaims) (i : ℕ) (item : ScriptClaims) → i < length claims
+    → item ≡ get_or claims i item
+    → all_verdicts (map claims_in (take i claims)) ++ map verdict_in item.verdicts.items
+    ≡ all_verdicts (map claims_in (take (i + 1) claims))
+first_scripts claims i item inside is =
+    let now : ScriptClaims = get_or claims i item in
+    ap (λ (s : ScriptClaims). all_verdicts (map claims_in (take i claims)) ++ map verdict_in s.verdicts.items) is
+    ∙ ap (λ (l : List Verdict). all_verdicts (map claims_in (take i claims)) ++ l) (sym (append-nil (map verdict_in now.verdicts.items)))
+    ∙ sym (flat_map-append (λ (said : Claims). said.verdicts) (map claims_in (take i claims)) (claims_in now ∷ []))
+    ∙ ap (λ (l : List Claims). all_verdicts l)
+    (sym (map-append (λ x. claims_in x) (take i claims) (now ∷ []))
+    ∙ ap (λ (l : List ScriptClaims). map claims_in l) (sym (take_more claims i item inside)))
+
+-- no count grows by more than the verdicts are
+pub adds_few : (p : Verdict → Bool) (verdicts : List Verdict) (a b n : ℕ)
+    → b ≡ a + count_by p verdicts → length verdicts ≤ n → b ≤ a + n
+adds_few p verdicts a b n grown few =
+    let bound : count_by p verdicts ≤ length verdicts = count_by-le-length p verdicts in
+    omega (arith, grown, few, bound)
+
+-- what is said of one of the scripts has few verdicts
+pub few_verdicts : (claims : List ScriptClaims) (i : ℕ) (item : ScriptClaims) → i < length claims
+    → item ≡ get_or claims i item → All (λ said. length said.verdicts ≤ 3) (map claims_in claims)
+    → length item.verdicts.items ≤ 3
+few_verdicts claims i item inside is each =
+    let few : length (map verdict_in item.verdicts.items) ≤ 3 =
+    each_mapped (λ x. claims_in x) claims i item inside is (λ said. length said.verdicts ≤ 3) each in
+    omega (arith, few, length-map item.verdicts.items (λ x. verdict_in x))
+
+-- counts from nothing
+pub adds_scripts : (a b : Counts) (xs ys : List Verdict) → AreCounts xs a → Adds a ys b
+    → AreCounts (xs ++ ys) b
+adds_scripts a b xs ys are added = record {
+  yes = omega (arith, count_then is_yes xs ys 0 a.yes b.yes (omega (arith, are.yes)) added.yes);
+  no = omega (arith, count_then is_no xs ys 0 a.no b.no (omega (arith, are.no)) added.no);
+  undecided = omega (arith, count_then is_undecided xs ys 0 a.undecided b.undecided (omega (arith, are.undecided)) added.undecided);
+}
+
+-- the first of few verdicts are few
+pub few_first : (written : List Claim) (i : ℕ) → i ≤ length written → length written ≤ 3
+    → length (map verdict_in (take i written)) ≤ 3
+few_first written i le few =
+    omega (arith, few, le, length-map (take i written) (λ x. verdict_in x), length-take-le i written le)

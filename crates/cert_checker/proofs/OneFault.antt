@@ -1,0 +1,261 @@
+-- Claims have one first fault.
+use Rattle.std.proofs.Common.{◌≡◌, ◌≢◌, ◌<◌, ℕ, suc, Bool, true, false, List, Some, get_or, refl}
+use Rattle.std.proofs.Common.{sym, ◌∙◌, ap, subst, arith, ⊎_elim}
+use Rattle.std.specs.Prelude.{slice_get}
+use Rattle.std.proofs.lemmas.Bool.{cases_lt}
+use Rattle.std.proofs.lemmas.Option.{same_Some}
+use Rattle.history.specs.Rails.{Rails}
+use Rattle.tick_signal.specs.declared.tern.Tern.{Tern}
+use Rattle.tick_signal.specs.declared.tern.Tern.TheVariants.{Zero, One, Unknown}
+use Rattle.tick_signal.specs.Terns.{tern_rails}
+use Rattle.line_model.specs.declared.line.Line.{Line}
+use Rattle.line_model.specs.declared.script.Kind.{Kind}
+use Rattle.line_model.specs.declared.script.Kind.TheVariants.{Internal, External}
+use Rattle.line_model.specs.declared.script.Script.{Script}
+use Rattle.line_model.specs.Parameters.{param_count, terminal_count}
+use Rattle.line_model.specs.PairMean.{PairSignals}
+use Rattle.certificate.specs.Grammar.{Claims, Verdict, yes, no, undecided}
+use Rattle.cert_checker.specs.declared.claim.Uncovered.{Uncovered}
+use Rattle.cert_checker.specs.declared.claim.ClaimFault.{ClaimFault}
+use Rattle.cert_checker.specs.declared.claim.ClaimFault.TheVariants.{
+  NotCovered,
+  NotHeld,
+  Outside,
+  Passes,
+  Memory,
+}
+use Rattle.cert_checker.specs.Claims.{pairs_of}
+use Rattle.cert_checker.specs.Firsts.{IsFirstFailing, IsFirstOn}
+use Rattle.cert_checker.specs.Refutations.{IsMetAt, IsNumberIn, IsFirstOutside, IsMetInside}
+use Rattle.cert_checker.specs.Verdicts.{
+  IsSupported,
+  IsYesFault,
+  IsNoFault,
+  IsFaultOf,
+  IsCovered,
+  IsKeyCovered,
+  IsFirstUncovered,
+  IsVerdictFault,
+  IsFirstVerdictFault,
+  IsFirstFault,
+  derived_key,
+  derived_trip,
+}
+use Rattle.cert_checker.proofs.Firsts.{not_both}
+use Rattle.cert_checker.proofs.Refusal.{HaveHistories, verdict_refused}
+
+-- ---- first numbers
+
+-- neither of two numbers is below the other
+pub same_number : (n m : ℕ) → ¬ (n < m) → ¬ (m < n) → n ≡ m
+same_number n m a b =
+    ⊎_elim (λ lt. absurd (a lt))
+    (λ ge. ⊎_elim (λ lt. absurd (b lt)) (λ le. omega (arith, ge, le)) (cases_lt m n))
+    (cases_lt n m)
+
+first_failing_once : (fact : ℕ → Type 0) (count n m : ℕ) → IsFirstFailing fact count n
+    → IsFirstFailing fact count m → n ≡ m
+first_failing_once fact count n m a b =
+    same_number n m (λ lt. a.fails (b.before n lt)) (λ lt. b.fails (a.before m lt))
+
+first_on_once : (u : ℕ → Bool) (ticks n m : ℕ) → IsFirstOn u ticks n → IsFirstOn u ticks m
+    → n ≡ m
+first_on_once u ticks n m a b =
+    same_number n m (λ lt. not_both (u n) (b.before n lt) a.on)
+    (λ lt. not_both (u m) (a.before m lt) b.on)
+
+-- ---- keys
+
+tern_once : (a b : Tern) → tern_rails a ≡ tern_rails b → a ≡ b
+tern_once Zero Zero e = refl
+tern_once Zero One e = absurd (let m : false ≡ true = ap (λ (r : Rails). r.must) e in cc)
+tern_once Zero Unknown e = absurd (let m : false ≡ true = ap (λ (r : Rails). r.may) e in cc)
+tern_once One Zero e = absurd (let m : true ≡ false = ap (λ (r : Rails). r.must) e in cc)
+tern_once One One e = refl
+tern_once One Unknown e = absurd (let m : true ≡ false = ap (λ (r : Rails). r.must) e in cc)
+tern_once Unknown Zero e = absurd (let m : true ≡ false = ap (λ (r : Rails). r.may) e in cc)
+tern_once Unknown One e = absurd (let m : false ≡ true = ap (λ (r : Rails). r.must) e in cc)
+tern_once Unknown Unknown e = refl
+
+uncovered_once : (line : Line) (script : Script) (claims : PairSignals) (u v : Uncovered)
+    → IsFirstUncovered line script claims u → IsFirstUncovered line script claims v → u ≡ v
+uncovered_once line script claims u v a b =
+    let k : u.terminal ≡ v.terminal =
+    first_failing_once (IsKeyCovered line script claims) (terminal_count line) u.terminal v.terminal
+    a.terminal b.terminal in
+    let P : ℕ → Type 0 = λ j.
+    IsFirstFailing (IsCovered line script claims j) line.horizon v.tick in
+    let t : u.tick ≡ v.tick =
+    first_failing_once (IsCovered line script claims u.terminal) line.horizon u.tick v.tick a.tick
+    (subst P (sym k) b.tick) in
+    let both : (f : PairSignals) → f u.terminal u.tick ≡ f v.terminal v.tick =
+    λ f. ap (λ (j : ℕ). f j u.tick) k ∙ ap (f v.terminal) t in
+    let claimed : u.claimed ≡ v.claimed =
+    tern_once u.claimed v.claimed (a.claimed ∙ both claims ∙ sym b.claimed) in
+    let derived : u.derived ≡ v.derived =
+    tern_once u.derived v.derived
+    (a.derived ∙ both (derived_key line script claims) ∙ sym b.derived) in
+    ap (λ (x : ℕ). record {
+      terminal = x;
+      tick = u.tick;
+      claimed = u.claimed;
+      derived = u.derived;
+    }) k
+    ∙ ap (λ (x : ℕ). record {
+      terminal = v.terminal;
+      tick = x;
+      claimed = u.claimed;
+      derived = u.derived;
+    }) t
+    ∙ ap (λ (x : Tern). record {
+      terminal = v.terminal;
+      tick = v.tick;
+      claimed = x;
+      derived = u.derived;
+    }) claimed
+    ∙ ap (λ (x : Tern). record {
+      terminal = v.terminal;
+      tick = v.tick;
+      claimed = v.claimed;
+      derived = x;
+    }) derived
+
+-- ---- verdicts
+
+met_once : (kind : Kind) (deadline horizon : ℕ) (trip : ℕ → Bool) (t r : ℕ)
+    → IsMetAt kind deadline horizon trip t → IsMetAt kind deadline horizon trip r → t ≡ r
+met_once Internal deadline horizon trip t r a b = first_on_once trip (suc deadline) t r a b
+met_once External deadline horizon trip t r a b = a.0 ∙ sym b.0
+
+module _ (line : Line) (script : Script) (have : HaveHistories line script) (k : ℕ) where
+  yes_once : (trip : ℕ → Rails) (f g : ClaimFault) → IsYesFault line script k trip f
+      → IsYesFault line script k trip g → f ≡ g
+  yes_once trip (NotCovered u) g a b = absurd a
+  yes_once trip (Outside j i value) g a b = absurd a
+  yes_once trip (Passes j t) g a b = absurd a
+  yes_once trip Memory g a b = absurd a
+  yes_once trip (NotHeld j) (NotCovered u) a b = absurd b
+  yes_once trip (NotHeld j) (NotHeld l) a b = ap NotHeld (a.0 ∙ sym b.0)
+  yes_once trip (NotHeld j) (Outside l i value) a b = absurd b
+  yes_once trip (NotHeld j) (Passes l t) a b = absurd b
+  yes_once trip (NotHeld j) Memory a b = absurd b
+
+  outside_once : (values : List ℕ) (i x j y : ℕ) → IsFirstOutside line values i x
+      → IsFirstOutside line values j y → (i ≡ j) × (x ≡ y)
+  outside_once values i x j y a b =
+      let same : i ≡ j =
+      first_failing_once (IsNumberIn line values) (param_count line) i j a.first b.first in
+      (same, a.number ∙ ap (λ (n : ℕ). get_or values n 0) same ∙ sym b.number)
+
+  outside_or_inside : (values : List ℕ) (i x t : ℕ) → IsFirstOutside line values i x
+      → IsMetInside line script k values t → ⊥
+  outside_or_inside values i x t a b =
+      a.first.fails (b.inside.values i a.first.inside)
+
+  passes_once : (values : List ℕ) (t r : ℕ) → IsMetInside line script k values t
+      → IsMetInside line script k values r → t ≡ r
+  passes_once values t r a b =
+      let h = have values a.inside in
+      met_once script.kind script.deadline line.horizon (h.0.trip k) t r (a.passes h.0 h.1)
+      (b.passes h.0 h.1)
+
+  no_once : (values : List ℕ) (f g : ClaimFault) → f ≢ Memory → g ≢ Memory
+      → IsNoFault line script k values f → IsNoFault line script k values g → f ≡ g
+  no_once values (NotCovered u) g some other a b = absurd a
+  no_once values (NotHeld j) g some other a b = absurd a
+  no_once values Memory g some other a b = absurd (some refl)
+  no_once values (Outside j i x) (NotCovered u) some other a b = absurd b
+  no_once values (Outside j i x) (NotHeld l) some other a b = absurd b
+  no_once values (Outside j i x) Memory some other a b = absurd (other refl)
+  no_once values (Outside j i x) (Outside l m y) some other a b =
+      let same = outside_once values i x m y a.1 b.1 in
+      let terminal : j ≡ l = a.0 ∙ sym b.0 in
+      let param : i ≡ m = same.0 in
+      let value : x ≡ y = same.1 in
+      cc
+  no_once values (Outside j i x) (Passes l t) some other a b =
+      absurd (outside_or_inside values i x t a.1 b.1)
+  no_once values (Passes j t) (NotCovered u) some other a b = absurd b
+  no_once values (Passes j t) (NotHeld l) some other a b = absurd b
+  no_once values (Passes j t) Memory some other a b = absurd (other refl)
+  no_once values (Passes j t) (Outside l m y) some other a b =
+      absurd (outside_or_inside values m y t b.1 a.1)
+  no_once values (Passes j t) (Passes l r) some other a b =
+      let terminal : j ≡ l = a.0 ∙ sym b.0 in
+      let tick : t ≡ r = passes_once values t r a.1 b.1 in
+      cc
+
+  fault_once : (trip : ℕ → Rails) (verdict : Verdict) (f g : ClaimFault) → f ≢ Memory
+      → g ≢ Memory → IsFaultOf line script k trip verdict f
+      → IsFaultOf line script k trip verdict g → f ≡ g
+  fault_once trip yes f g some other a b = yes_once trip f g a b
+  fault_once trip (no values) f g some other a b = no_once values f g some other a b
+  fault_once trip undecided f g some other a b = absurd a
+
+module _ (line : Line) (script : Script) (have : HaveHistories line script) (claims : PairSignals)
+    (verdicts : List Verdict) where
+  -- the first verdict that does not stand is not after that of another fault
+  not_later : (f g : ClaimFault) → f ≢ Memory
+      → (a : IsVerdictFault line script claims verdicts f)
+      → (b : IsVerdictFault line script claims verdicts g) → ¬ (a.terminal < b.terminal)
+  not_later f g some a b lt =
+      verdict_refused line script have a.terminal (derived_trip line script claims a.terminal)
+      a.verdict f some a.wrong (b.before a.terminal a.verdict lt a.is)
+
+  verdict_fault_once : (f g : ClaimFault) → f ≢ Memory → g ≢ Memory
+      → IsVerdictFault line script claims verdicts f
+      → IsVerdictFault line script claims verdicts g → f ≡ g
+  verdict_fault_once f g some other a b =
+      let k : b.terminal ≡ a.terminal =
+      same_number b.terminal a.terminal (not_later g f other b a) (not_later f g some a b) in
+      let v : b.verdict ≡ a.verdict =
+      same_Some b.verdict a.verdict
+      (sym b.is ∙ ap (slice_get verdicts) k ∙ a.is) in
+      let P : ℕ → Type 0 = λ j.
+      IsFaultOf line script j (derived_trip line script claims j) b.verdict g in
+      let Q : Verdict → Type 0 = λ x.
+      IsFaultOf line script a.terminal (derived_trip line script claims a.terminal) x g in
+      fault_once line script have a.terminal (derived_trip line script claims a.terminal)
+      a.verdict f g some other a.wrong (subst Q v (subst P k b.wrong))
+
+-- ---- both
+
+module _ (line : Line) (script : Script) (have : HaveHistories line script) (said : Claims) where
+  covered_or_not : (u : Uncovered) (g : ClaimFault)
+      → IsFirstUncovered line script (pairs_of said.keys) u
+      → IsFirstVerdictFault line script said g → ⊥
+  covered_or_not u g a b =
+      a.tick.fails (b.covered u.terminal u.tick a.terminal.inside a.tick.inside)
+
+  after_keys_once : (f g : ClaimFault) → f ≢ Memory → g ≢ Memory
+      → IsFirstVerdictFault line script said f → IsFirstVerdictFault line script said g → f ≡ g
+  after_keys_once f g some other a b =
+      verdict_fault_once line script have (pairs_of said.keys) said.verdicts f g some other
+      a.verdict b.verdict
+
+  -- a fault of the verdicts, and another fault
+  verdict_then : (f g : ClaimFault) → f ≢ Memory → g ≢ Memory
+      → IsFirstVerdictFault line script said f → IsFirstFault line script said g → f ≡ g
+  verdict_then f (NotCovered u) some other a b = absurd (covered_or_not u f b a)
+  verdict_then f (NotHeld k) some other a b = after_keys_once f (NotHeld k) some other a b
+  verdict_then f (Outside k i x) some other a b =
+      after_keys_once f (Outside k i x) some other a b
+  verdict_then f (Passes k t) some other a b = after_keys_once f (Passes k t) some other a b
+  verdict_then f Memory some other a b = absurd (other refl)
+
+  pub first_fault_once : (f g : ClaimFault) → f ≢ Memory → g ≢ Memory
+      → IsFirstFault line script said f → IsFirstFault line script said g → f ≡ g
+  first_fault_once (NotCovered u) (NotCovered v) some other a b =
+      ap NotCovered (uncovered_once line script (pairs_of said.keys) u v a b)
+  first_fault_once (NotCovered u) (NotHeld k) some other a b =
+      absurd (covered_or_not u (NotHeld k) a b)
+  first_fault_once (NotCovered u) (Outside k i x) some other a b =
+      absurd (covered_or_not u (Outside k i x) a b)
+  first_fault_once (NotCovered u) (Passes k t) some other a b =
+      absurd (covered_or_not u (Passes k t) a b)
+  first_fault_once (NotCovered u) Memory some other a b = absurd (other refl)
+  first_fault_once (NotHeld k) g some other a b = verdict_then (NotHeld k) g some other a b
+  first_fault_once (Outside k i x) g some other a b =
+      verdict_then (Outside k i x) g some other a b
+  first_fault_once (Passes k t) g some other a b = verdict_then (Passes k t) g some other a b
+  first_fault_once Memory g some other a b = absurd (some refl)

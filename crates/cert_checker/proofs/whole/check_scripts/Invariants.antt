@@ -1,0 +1,11 @@
+use Rattle.std.proofs.Common.{map}
+use Rattle.certificate.specs.Grammar.{claims_in}
+use Rattle.cert_checker.specs.Check.{EachBelow}
+use Rattle.cert_checker.specs.Verdicts.{AreAccepted, AreSound}
+use Rattle.cert_checker.proofs.whole.check_scripts.Given as goal
+
+abbrev pub invariant-loop-i : goal.invariant-loop-i
+invariant-loop-i l = record {
+  accepted : EachBelow (AreAccepted l.line) l.scripts (map claims_in l.claims) l.i;
+  sound : EachBelow (AreSound l.line) l.scripts (map claims_in l.claims) l.i;
+}
