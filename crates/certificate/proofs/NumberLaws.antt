@@ -11,7 +11,7 @@ use Rattle.std.proofs.lemmas.Option.{same_Some}
 use Rattle.std.proofs.lemmas.List.Elements.{All-get_or, All-head, All-tail}
 use Rattle.std.specs.List.{All, list_all, position_or_len}
 use Rattle.relay_base.specs.Number.{is_digit, number_of}
-use Rattle.wave_runs.proofs.Decimals.{are_digits, number_of-decimal}
+use Rattle.relay_base.specs.DecimalLaws.{are_digits, number_of-decimal}
 use Rattle.certificate.specs.Grammar.{spaced, numbers_text}
 use Rattle.certificate.specs.Numbers.{is_space, BeginsNumber}
 use Rattle.text_lines.specs.LineLaws.{both_true}

@@ -1,5 +1,5 @@
 -- The text of claims is a certificate that claims them.
-use Rattle.std.proofs.Common.{◌≡◌, ℕ, true, List, [], ◌∷◌, ◌++◌, length, map, refl, sym}
+use Rattle.std.proofs.Common.{◌≡◌, ◌≤◌, ℕ, true, List, [], ◌∷◌, ◌++◌, length, map, refl, sym}
 use Rattle.std.proofs.Common.{◌∙◌}
 use Rattle.std.proofs.Common.{arith, append_assoc}
 use Rattle.std.specs.Prelude.{codes}
@@ -23,7 +23,11 @@ use Rattle.certificate.specs.Text.{line_text, lines_text, CanBeWritten, certific
 use Rattle.text_lines.specs.LineLaws.{both_true}
 use Rattle.certificate.proofs.ReadLaws.{names_count}
 use Rattle.text_lines.specs.NamedLaws.{named_whole, whole_append}
-use Rattle.certificate.proofs.WholeLaws.{name_whole, runs_whole, numbers_whole}
+use Rattle.certificate.proofs.WholeLaws.{name_whole, numbers_whole}
+
+-- the text of a wave has no line feed
+abbrev pub WavesAreLines : Type 0
+WavesAreLines = (wave : List Tern) → length wave ≤ 4000 → is_one_line (runs_text wave) ≡ true
 
 -- each place can say what is said there, in a line with no line feed
 abbrev AllSay : Line → List Place → List Said → Type 0
@@ -62,14 +66,14 @@ say_append line (p ∷ a) (s ∷ m) b n x y = (x.0, (x.1.0, say_append line a m 
 
 -- ---- the lines of a script
 
-keys_say : (line : Line) (names : List (List ℕ)) (keys : List (List Tern))
+keys_say : WavesAreLines → (line : Line) (names : List (List ℕ)) (keys : List (List Tern))
     → length names ≡ length keys → All (λ name. is_one_line name ≡ true) names
     → All (λ wave. length wave ≡ line.horizon) keys
     → AllSay line (map key_of names) (map says_key keys)
-keys_say line [] [] long plain waves = tt
-keys_say line [] (w ∷ keys) long plain waves = absurd (omega arith)
-keys_say line (name ∷ names) [] long plain waves = absurd (omega arith)
-keys_say line (name ∷ names) (w ∷ keys) long plain waves =
+keys_say lines line [] [] long plain waves = tt
+keys_say lines line [] (w ∷ keys) long plain waves = absurd (omega arith)
+keys_say lines line (name ∷ names) [] long plain waves = absurd (omega arith)
+keys_say lines line (name ∷ names) (w ∷ keys) long plain waves =
     let P : List ℕ → Type 0 = λ n. is_one_line n ≡ true in
     let Q : List Tern → Type 0 = λ v. length v ≡ line.horizon in
     let here : length w ≡ line.horizon = All-head Q w keys waves in
@@ -77,8 +81,8 @@ keys_say line (name ∷ names) (w ∷ keys) long plain waves =
       (here, refl),
       (
         named_whole (codes "key") name (runs_text w) refl (All-head P name names plain)
-            (runs_whole w (omega arith)),
-        keys_say line names keys (omega arith) (All-tail P name names plain) (All-tail Q w keys waves),
+            (lines w (omega arith)),
+        keys_say lines line names keys (omega arith) (All-tail P name names plain) (All-tail Q w keys waves),
       ),
     )
 
@@ -117,9 +121,9 @@ plain_names (t ∷ terminals) all =
     All-cons (λ (name : List ℕ). is_one_line name ≡ true) t.name (map (λ x. x.name) terminals)
     (name_whole t.name both.0) (plain_names terminals both.1)
 
-part_says : (line : Line) (script : Script) (claims : Claims) → Fits line script
+part_says : WavesAreLines → (line : Line) (script : Script) (claims : Claims) → Fits line script
     → CanBeWritten line claims → AllSay line (part_places line script) (part_said claims)
-part_says line script claims fits can =
+part_says lines line script claims fits can =
     let names : List (List ℕ) = terminal_names line in
     let plain : All (λ name. is_one_line name ≡ true) names =
     plain_names line.terminals.items line.plain_names in (
@@ -129,30 +133,30 @@ part_says line script claims fits can =
             (name_whole script.name fits.plain_name),
         say_append line (map key_of names) (map says_key claims.keys) (map verdict_of names)
             (map says_verdict claims.verdicts)
-            (keys_say line names claims.keys (names_count line ∙ sym can.each.keys) plain can.waves)
+            (keys_say lines line names claims.keys (names_count line ∙ sym can.each.keys) plain can.waves)
             (verdicts_say line names claims.verdicts (names_count line ∙ sym can.each.verdicts) plain
             can.numbers),
       ),
     )
 
-parts_say : (line : Line) (scripts : List Script) (claims : List Claims)
+parts_say : WavesAreLines → (line : Line) (scripts : List Script) (claims : List Claims)
     → length claims ≡ length scripts → All (Fits line) scripts → All (CanBeWritten line) claims
     → AllSay line (flat_map (part_places line) scripts) (flat_map part_said claims)
-parts_say line [] [] long fits can = tt
-parts_say line [] (c ∷ claims) long fits can = absurd (omega arith)
-parts_say line (script ∷ scripts) [] long fits can = absurd (omega arith)
-parts_say line (script ∷ scripts) (c ∷ claims) long fits can =
+parts_say lines line [] [] long fits can = tt
+parts_say lines line [] (c ∷ claims) long fits can = absurd (omega arith)
+parts_say lines line (script ∷ scripts) [] long fits can = absurd (omega arith)
+parts_say lines line (script ∷ scripts) (c ∷ claims) long fits can =
     say_append line (part_places line script) (part_said c) (flat_map (part_places line) scripts)
     (flat_map part_said claims)
-    (part_says line script c (All-head (Fits line) script scripts fits)
+    (part_says lines line script c (All-head (Fits line) script scripts fits)
     (All-head (CanBeWritten line) c claims can))
-    (parts_say line scripts claims (omega arith) (All-tail (Fits line) script scripts fits)
+    (parts_say lines line scripts claims (omega arith) (All-tail (Fits line) script scripts fits)
     (All-tail (CanBeWritten line) c claims can))
 
-pub text_is_certificate : (line : Line) (scripts : List Script) (claims : List Claims)
+pub text_is_certificate : WavesAreLines → (line : Line) (scripts : List Script) (claims : List Claims)
     → length claims ≡ length scripts → All (Fits line) scripts → All (CanBeWritten line) claims
     → IsCertificate line scripts claims (certificate_text line scripts claims)
-text_is_certificate line scripts claims long fits can = record {
+text_is_certificate lines line scripts claims long fits can = record {
   many = long;
   each = All-weaker (CanBeWritten line) (HasOneEach line) (λ c is. is.each) claims can;
   lines = lines_stand line (certificate_places line scripts) (certificate_said claims) (
@@ -161,7 +165,7 @@ text_is_certificate line scripts claims long fits can = record {
       refl,
       say_append line (flat_map (part_places line) scripts)
           (flat_map part_said claims) (fixed end_text ∷ []) (says_nothing ∷ [])
-          (parts_say line scripts claims long fits can) (refl, (refl, tt)),
+          (parts_say lines line scripts claims long fits can) (refl, (refl, tt)),
     ),
   );
 }

@@ -8,7 +8,7 @@ ghost use Rattle.line_model.specs.declared.line.Line.{Line};
 ghost use Rattle.line_model.specs.declared.script.Script.{Script};
 ghost use Rattle.certificate.specs.Grammar.{Claims, IsCertificate, LeavesGrammar};
 
-use wave_runs::texts_tell_waves;
+use wave_runs::{texts_tell_waves, the_text_of_a_wave_is_one_line};
 
 /// A text is a certificate of the scripts with at most one meaning.
 pub fn a_text_has_one_meaning()
@@ -47,7 +47,9 @@ pub fn printed_claims_are_a_certificate()
         length claims ≡ length scripts → All (Fits line) scripts →
         All (CanBeWritten line) claims →
         IsCertificate line scripts claims (certificate_text line scripts claims) }
-{}
+{
+    the_text_of_a_wave_is_one_line();
+}
 
 /// What a certificate says can be written: waves of the horizon's length, and in each `no` one
 /// number for each parameter.

@@ -1,6 +1,8 @@
 -- Laws of starts of lines, and of texts with no line feed.
-use Rattle.std.specs.Prelude.{◌≡◌, ◌&&◌, ℕ, true, List, ◌∷◌, ◌++◌, drop}
-use Rattle.std.proofs.Common.{sym, ◌∙◌, ap}
+use Rattle.std.specs.Prelude.{◌≡◌, ◌&&◌, ◌<◌, ◌+◌, ◌%◌, ◌^◌, ℕ, Bool, true, not, List, [], ◌∷◌, ◌++◌}
+use Rattle.std.specs.Prelude.{drop, decimal}
+use Rattle.std.proofs.Common.{sym, ◌∙◌, ap, arith, ne_eqb}
+use Rattle.std.proofs.lemmas.Fmt.{decimal_by_steps}
 use Rattle.std.proofs.lemmas.List.{append_cancel_left}
 use Rattle.std.proofs.lemmas.List.Folds.{list_all-append}
 use Rattle.text_lines.specs.Lines.{is_no_feed, is_one_line}
@@ -38,3 +40,15 @@ pub named_whole : (word name text : List ℕ) → is_one_line word ≡ true → 
     → is_one_line text ≡ true → is_one_line (named word name text) ≡ true
 named_whole word name text w n t =
     whole_append word (32 ∷ (name ++ (32 ∷ text))) w (whole_append name (32 ∷ text) n t)
+
+-- ---- decimals
+
+digit_whole : (d : ℕ) → is_one_line ((48 + d) ∷ []) ≡ true
+digit_whole d =
+    ap (λ (b : Bool). not b && true) (ne_eqb (48 + d) 10 (λ e. omega (arith, e)))
+
+pub decimal_whole : (n : ℕ) → n < 2 ^ 64 → is_one_line (decimal n) ≡ true
+decimal_whole n small =
+    decimal_by_steps (λ m digits. is_one_line digits ≡ true) (λ m below. digit_whole m)
+    (λ m digits ten whole. whole_append digits ((48 + m % 10) ∷ []) whole (digit_whole (m % 10))) n
+    small

@@ -4,3 +4,4 @@ pub mod DelayLaws
 pub mod ElementLaws
 pub mod LongestRuns
 pub mod TextLaws
+pub mod OneLine

@@ -7,6 +7,7 @@
 mod elements;
 mod gates;
 mod laws;
+mod line_laws;
 mod received;
 mod runs;
 mod text;
@@ -14,6 +15,7 @@ mod text;
 pub use elements::{seal, timer};
 pub use gates::{and, not, or};
 pub use laws::{texts_tell_waves, waves_grow};
+pub use line_laws::the_text_of_a_wave_is_one_line;
 pub use received::{raw, raw_at, raw_until};
 pub use runs::Runs;
 pub use text::{print_runs, read_runs};
