@@ -6,7 +6,7 @@ ghost use Rattle.line_model.specs.Parameters.{declared_ends};
 ghost use Rattle.line_model.specs.Names.{HasTime};
 ghost use Rattle.line_model.specs.Choice.{ends_by};
 
-use line_model::{Line, Owner, Setting, Time};
+use line_model::{Line, Time};
 use tick_signal::Within;
 
 /// The interval of a pickup or dropout.
@@ -26,7 +26,7 @@ pub fn declared_delay(line: &Line, channel: u32) -> Within
     ensures is { result ≡ declared_ends line.now (delay_param line.now channel) }
     ensures later { 1 ≤ result.least }
 {
-    declared_param(line, delay_number(line, channel))
+    declared_param(line, line.delay_of(channel))
 }
 
 /// The interval of a parameter.
@@ -36,14 +36,4 @@ pub fn declared_param(line: &Line, param: u32) -> Within
 {
     let bounds = line.params[param as usize];
     Within::new(bounds.least, bounds.greatest)
-}
-
-// The number of a channel's delay among the parameters.
-fn delay_number(line: &Line, channel: u32) -> u32
-    requires { channel < channel_count line.now }
-    ensures is { result ≡ delay_param line.now channel }
-    ensures exists { result < param_count line.now }
-{
-    line.param_of(Owner::Channel(channel), Setting::Delay)
-        .unwrap_or(0)
 }
