@@ -1,0 +1,4 @@
+pub mod RaisedLaws
+pub mod MarginLaws
+pub mod LossLaws
+pub mod OneMargin
