@@ -69,7 +69,7 @@ fn text_of(
     line: &Line,
     scripts: &[Script],
     param: u32,
-    end: &UpperEnd,
+    end: UpperEnd,
 ) -> Result<Vec<u8>, Fail> {
     if param as usize >= line.params.len() {
         return Err("no parameter")?;
@@ -81,9 +81,9 @@ fn text_of(
             {
                 return Err("no obligation")?;
             }
-            margin_text(alloc, line, scripts, param, end)
+            margin_text(alloc, line, scripts, param, &end)
         }
-        None => margin_text(alloc, line, scripts, param, end),
+        None => margin_text(alloc, line, scripts, param, &end),
     };
     Ok(text.map_err(|_| "no memory")?)
 }
@@ -129,7 +129,7 @@ fn texts(rt: HostRuntime) -> Result<(), Fail> {
         let line = two_terminals(alloc, delay)?;
         let scripts = one_script(alloc, name)?;
         let end = UpperEnd { greatest, lost };
-        let printed = text_of(alloc, &line, &scripts, param, &end)?;
+        let printed = text_of(alloc, &line, &scripts, param, end)?;
         assert!(rt; printed.as_slice() == text);
     }
     Ok(())
