@@ -28,7 +28,7 @@ module _ (known : Known) (line : Line) (scripts : List Script) (param : ℕ)
   early : (s : ℕ) (script : Script) → slice_get scripts s ≡ Some script
       → script.deadline < line.horizon
   early s script at =
-      known.deadline_early line script (one_of_all (Fits line) scripts s script fit at)
+      known.lines.deadlines line script (one_of_all (Fits line) scripts s script fit at)
 
   pub held_below : (u v : ℕ) → u ≤ v → IsHeldTo line scripts param v
       → IsHeldTo line scripts param u

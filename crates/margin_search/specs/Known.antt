@@ -1,5 +1,5 @@
--- The laws of boxes and of lines that differ in their intervals that the proofs here rest on, word
--- for word.
+-- The laws below that the proofs here rest on: those of lines and histories, and, word for word,
+-- some of boxes and of lines that differ in their intervals.
 use Rattle.std.specs.Prelude.{◌≡◌, ◌<◌, ℕ}
 use Rattle.line_model.specs.declared.line.Line.{Line}
 use Rattle.line_model.specs.declared.script.Script.{Script}
@@ -15,7 +15,6 @@ use Rattle.line_model.specs.Choice.{
   LeastFromOne,
   declared_box,
 }
-use Rattle.line_model.specs.Fits.{Fits}
 use Rattle.line_model.specs.Histories.{
   History,
   IsLineHistory,
@@ -24,12 +23,11 @@ use Rattle.line_model.specs.Histories.{
   PairHistory,
 }
 use Rattle.line_model.specs.HeldOver.{IsHeldOver}
+use Rattle.line_model.specs.Laws.{LineLaws}
 use Rattle.line_model.specs.Rule.{Held, rule_of}
 
 pub record Known : Type 0 where
-  pub deadline_early : (line : Line) (script : Script) → Fits line script
-      → script.deadline < line.horizon
-  pub declared_delayed : (line : Line) → LeastFromOne line (declared_box line)
+  pub lines : LineLaws
   pub same_terminals : (line other : Line) → SameButParams line other
       → terminal_count other ≡ terminal_count line
   pub box_changed : (line other : Line) (param least greatest : ℕ) → param < param_count line

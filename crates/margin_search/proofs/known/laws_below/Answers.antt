@@ -2,8 +2,7 @@ use Rattle.margin_search.proofs.known.laws_below.Goals as goal
 
 pub returns : goal.returns
 returns c = record {
-  deadline_early = c.deadlines_are_below_the_horizon.ensures;
-  declared_delayed = c.each_line_has_a_choice_inside.ensures.declared;
+  lines = c.line_laws.ensures;
   same_terminals = c.counts_do_not_rest_on_the_intervals.ensures.terminals;
   box_changed = c.a_changed_interval_changes_the_box.ensures.all;
   held_of = c.the_rule_over_a_box.ensures.one;
