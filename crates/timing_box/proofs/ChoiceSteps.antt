@@ -38,6 +38,7 @@ use Rattle.std.proofs.lemmas.List.Elements.{
 }
 use Rattle.line_model.specs.declared.line.Line.{Line}
 use Rattle.line_model.specs.Parameters.{param_count, channel_count, delay_param, declared_ends}
+use Rattle.line_model.specs.Laws.{SettingsAreCounted}
 use Rattle.line_model.specs.Choice.{Choice, IsIn, IsInside, declared_box}
 use Rattle.timing_box.specs.declared.step.Step.{Step}
 use Rattle.timing_box.specs.Delays.{is_delay}
@@ -130,17 +131,17 @@ module _ (line : Line) (choice : Choice) where
       (omega arith))))
       (cases_lt c d)
 
-  ascend_from : (c n : ℕ) → c + n ≤ channel_count line → ascend (steps_from c n) ≡ true
-  ascend_from c zero within = refl
-  ascend_from c (suc n) within =
+  ascend_from : (counted : SettingsAreCounted) (c n : ℕ) → c + n ≤ channel_count line → ascend (steps_from c n) ≡ true
+  ascend_from counted c zero within = refl
+  ascend_from counted c (suc n) within =
       ascend-append (channel_steps c) (steps_from (c + 1) n)
       (ascend_of (delay_param line c) (choice.delay c) 1 (line.horizon - 1))
-      (ascend_from (c + 1) n (omega arith))
+      (ascend_from counted (c + 1) n (omega arith))
       (all_of (delay_param line c) (choice.delay c)
       (λ x. All (λ y. comes_before x y ≡ true) (steps_from (c + 1) n)) 1 (line.horizon - 1)
       (λ r late early. all_from (λ y. comes_before (step_at c r) y ≡ true) (c + 1) n
       (λ d t low high since before. before_by_param (step_at c r) (step_at d t)
-      (delays_ascend line c d (omega arith) (omega arith)))))
+      (delays_ascend counted line c d (omega arith) (omega arith)))))
 
   -- ---- the timing
 
@@ -150,8 +151,8 @@ module _ (line : Line) (choice : Choice) where
     steps = steps_from 0 (channel_count line);
   }
 
-  pub timing_ascends : IsTrue (ascend timing_of.steps)
-  timing_ascends = ascend_from 0 (channel_count line) (omega arith)
+  pub timing_ascends : (counted : SettingsAreCounted) → IsTrue (ascend timing_of.steps)
+  timing_ascends counted = ascend_from counted 0 (channel_count line) (omega arith)
 
   same_number : (i : ℕ) → i < param_count line
       → get_or (map choice.number (range_with_len 0 (param_count line))) i 0 ≡ choice.number i
@@ -190,12 +191,12 @@ module _ (line : Line) (choice : Choice) where
     greatest = λ k d lt same past. past;
   }
 
-  pub timing_same : IsSameChoice line choice (timing_choice line timing_of)
+  pub timing_same : (counted : SettingsAreCounted) → IsSameChoice line choice (timing_choice line timing_of)
   unfolding timing_choice
-  timing_same = record {
+  timing_same counted = record {
     numbers = λ i below. sym (same_number i below);
     delays = λ c t below late early.
         sym (number_at-latest timing_of.steps (step_at c t) t
-        (get_or timing_of.values (delay_param line c) 0) timing_ascends
+        (get_or timing_of.values (delay_param line c) 0) (timing_ascends counted)
         (step_latest c t below late early));
   }

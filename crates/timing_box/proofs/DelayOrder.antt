@@ -6,7 +6,7 @@ use Rattle.line_model.specs.declared.line.Scheme.{Scheme}
 use Rattle.line_model.specs.declared.line.Scheme.TheVariants.{Pott, Putt, Dcb, Dcub, Dtt}
 use Rattle.line_model.specs.Settings.{channel_settings, settings_of_terminals}
 use Rattle.line_model.specs.Parameters.{channel_count, delay_param}
-use Rattle.line_model.proofs.Positions.{delay_number_is}
+use Rattle.line_model.specs.Laws.{SettingsAreCounted}
 
 some_settings : (s : Scheme) → 1 ≤ length (channel_settings s)
 some_settings Pott = omega arith
@@ -15,17 +15,17 @@ some_settings Dcb = omega arith
 some_settings Dcub = omega arith
 some_settings Dtt = omega arith
 
-pub delays_ascend : (line : Line) (c d : ℕ) → c < d → d < channel_count line
+pub delays_ascend : (counted : SettingsAreCounted) (line : Line) (c d : ℕ) → c < d → d < channel_count line
     → delay_param line c < delay_param line d
-delays_ascend line c d less within =
+delays_ascend counted line c d less within =
     let before : ℕ = length (settings_of_terminals line.scheme 0 line.terminals.items) in
     let each : ℕ = length (channel_settings line.scheme) in
     let some : 1 ≤ each = some_settings line.scheme in
     let rows : suc c * each ≤ d * each = mul-le-mul_right each less in
     let at_c : before + c * each ≡ delay_param line c =
-    delay_number_is line.scheme line.terminals.items line.channels.items c before each
+    counted.delays line.scheme line.terminals.items line.channels.items c before each
     (omega arith) refl refl in
     let at_d : before + d * each ≡ delay_param line d =
-    delay_number_is line.scheme line.terminals.items line.channels.items d before each within refl
+    counted.delays line.scheme line.terminals.items line.channels.items d before each within refl
     refl in
     omega arith

@@ -20,7 +20,7 @@ use Rattle.std.proofs.Common.{
 use Rattle.std.specs.Prelude.{◌||◌}
 use Rattle.std.proofs.lemmas.Bool.{lt-leb}
 use Rattle.history.specs.Elements.{timed, delayed}
-use Rattle.history.proofs.ElementLaws.{timed-same, sealed-same}
+use Rattle.history.specs.Laws.{ElementsReadThePast}
 use Rattle.line_model.specs.declared.line.Line.{Line}
 use Rattle.line_model.specs.declared.script.Script.{Script}
 use Rattle.line_model.specs.declared.formula.Time.{Time}
@@ -33,7 +33,7 @@ use Rattle.line_model.specs.Parameters.{channel_count}
 use Rattle.line_model.specs.Choice.{Choice, DelaysFromOne, time_by, world_of}
 use Rattle.line_model.specs.Logic.{key_tree, trip_tree}
 use Rattle.line_model.specs.Histories.{History, IsLineHistory}
-use Rattle.line_model.proofs.LogicNames.{names_key_tree, names_trip_tree}
+use Rattle.line_model.specs.Laws.{TreesNameTheLine}
 use Rattle.timing_box.specs.Choice.{IsSameChoice}
 
 -- nothing arrives at tick 0
@@ -41,7 +41,8 @@ none_at_start : (u : ℕ → Bool) (d : ℕ) → 1 ≤ d → delayed u d 0 ≡ f
 unfolding delayed
 none_at_start u d some = ap (λ b. b && u (0 - d)) (lt-leb d 0 some)
 
-module _ (line : Line) (script : Script) (a b : Choice) (from_a : DelaysFromOne line a)
+module _ (past : ElementsReadThePast) (trees : TreesNameTheLine) (line : Line) (script : Script)
+    (a b : Choice) (from_a : DelaysFromOne line a)
     (from_b : DelaysFromOne line b) (same : IsSameChoice line a b) where
   same_time : (x : Time) → HasTime line x → time_by a.number x ≡ time_by b.number x
   same_time Zero has = refl
@@ -73,14 +74,14 @@ module _ (line : Line) (script : Script) (a b : Choice) (from_a : DelaysFromOne 
   mean_same keys (Timer x p d) t early h =
       let wa : World = world_of line script a in
       let wb : World = world_of line script b in
-      timed-same (mean wa keys x) (mean wb keys x) (wa.time p) (wa.time d) t
+      past.timed (mean wa keys x) (mean wb keys x) (wa.time p) (wa.time d) t
       (λ r le. mean_same keys x r (omega arith) h.0)
       ∙ ap (λ n. timed (mean wb keys x) n (wa.time d) t) (same_time p h.1.0)
       ∙ ap (λ n. timed (mean wb keys x) (wb.time p) n t) (same_time d h.1.1)
   mean_same keys (Seal x y) t early h =
       let wa : World = world_of line script a in
       let wb : World = world_of line script b in
-      sealed-same (mean wa keys x) (mean wa keys y) (mean wb keys x) (mean wb keys y) t
+      past.sealed (mean wa keys x) (mean wa keys y) (mean wb keys x) (mean wb keys y) t
       (λ r le. mean_same keys x r (omega arith) h.0)
       (λ r le. mean_same keys y r (omega arith) h.1)
 
@@ -88,10 +89,10 @@ module _ (line : Line) (script : Script) (a b : Choice) (from_a : DelaysFromOne 
   same_history h is = record {
     keys = λ k t below early.
         is.keys k t below early
-        ∙ mean_same h.key (key_tree line k) t early (names_key_tree line k below);
+        ∙ mean_same h.key (key_tree line k) t early (trees.keys line k below);
     trips = λ k t below early.
         is.trips k t below early
-        ∙ mean_same h.key (trip_tree line k) t early (names_trip_tree line k below);
+        ∙ mean_same h.key (trip_tree line k) t early (trees.trips line k below);
   }
 
 pub same_other_way : (line : Line) (a b : Choice) → IsSameChoice line a b → IsSameChoice line b a

@@ -10,12 +10,14 @@ ghost use Rattle.timing_box.specs.Candidates.{
   is_free_number,
 };
 
+use line_model::laws::parameters_are_numbered;
 use line_model::{Line, Param};
 
 /// How many candidates a line has: 2, and 2 more for each parameter that is free.
 pub fn candidate_count(line: &Line) -> u32
     ensures { result ≡ count_of_candidates line.now }
 {
+    parameters_are_numbered();
     2 + 2 * free_count(line.params.as_slice())
 }
 
@@ -26,6 +28,7 @@ pub fn candidate_value(line: &Line, index: u32, param: u32) -> u32
     requires param { param < param_count line.now }
     ensures { result ≡ value_of_candidate line.now index param }
 {
+    parameters_are_numbered();
     let bounds = line.params[param as usize];
     if index == 0 {
         return bounds.least;
@@ -52,6 +55,7 @@ fn is_number(line: &Line, i: u32, param: u32) -> bool
     requires { param < param_count line.now }
     ensures { result ≡ is_free_number line.now i param }
 {
+    parameters_are_numbered();
     let bounds = line.params[param as usize];
     bounds.least < bounds.greatest && free_count(&line.params[..param as usize]) + 1 == i
 }

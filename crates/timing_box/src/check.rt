@@ -25,6 +25,7 @@ use crate::reading::Open;
 use crate::step::Step;
 use crate::timing::NamedTiming;
 use line_model::Line;
+use line_model::laws::parameters_are_numbered;
 use relay_base::number;
 use tick_signal::Tick;
 
@@ -53,6 +54,7 @@ fn param(line: &Line, name: &[u8]) -> Option<u32>
     ensures number { result ≡ param_named line.now name.now }
     ensures exists { IfSome result (λ i. i < param_count line.now) }
 {
+    parameters_are_numbered();
     for (i, param) in line.params.iter().enumerate() {
         if is(param.name.bytes(), name) {
             return Some(i as u32);

@@ -9,6 +9,7 @@ use crate::delays::is_delay;
 use crate::step::Step;
 use crate::timing::Timing;
 use line_model::Line;
+use line_model::laws::parameters_are_numbered;
 use tick_signal::Tick;
 
 /// Whether there is one number for each parameter, each lies in its interval, and each step is of
@@ -27,6 +28,7 @@ fn are_values_inside(line: &Line, values: &[Tick]) -> bool
     ensures { IsTrue result ↔ ((i : ℕ) → i < param_count line.now
         → IsIn (get_or values.now i 0) (declared_ends line.now i)) }
 {
+    parameters_are_numbered();
     for i in 0..line.params.len() {
         if !is_in(line, i as u32, values[i].value()) {
             return false;

@@ -16,6 +16,8 @@ ghost use Rattle.timing_box.specs.SoFar.{NamedValues};
 ghost use Rattle.timing_box.specs.Timings.{timings_in};
 ghost use Rattle.timing_box.specs.Printed.{MayStand, AreOfOneFile, file_records};
 
+use history::element_laws::elements_read_the_past;
+use line_model::laws::{each_line_has_a_choice_inside, settings_are_counted, trees_name_the_line};
 use line_model::name_laws::parameters_have_names_of_their_own;
 
 /// Each candidate is inside the declared intervals.
@@ -46,7 +48,10 @@ pub fn same_choices_have_the_same_histories()
     ensures { (line : Line) (script : Script) (a b : Choice) (h : History) →
         DelaysFromOne line a → DelaysFromOne line b → IsSameChoice line a b →
         IsLineHistory line script a h → IsLineHistory line script b h }
-{}
+{
+    elements_read_the_past();
+    trees_name_the_line();
+}
 
 /// Each choice of delays inside the declared intervals is, over the run, that of a timing inside:
 /// under every script the histories of the choice are those of the timing.
@@ -58,7 +63,12 @@ pub fn each_choice_inside_is_a_timing()
         (timing : TimingValues) × IsTimingInside line timing × IsTrue (ascend timing.steps)
         × ((script : Script) (h : History) → IsLineHistory line script choice h
         ↔ IsLineHistory line script (timing_choice line timing) h) }
-{}
+{
+    each_line_has_a_choice_inside();
+    settings_are_counted();
+    elements_read_the_past();
+    trees_name_the_line();
+}
 
 /// The records of timings are read back as the timings, so each choice of delays inside the
 /// declared intervals is, over the run, that of a timing that a file holds, under any plain name.
@@ -73,4 +83,5 @@ pub fn timings_are_read_back()
         ≡ Ok (record { name = name; timing = timing } ∷ [])) }
 {
     parameters_have_names_of_their_own();
+    settings_are_counted();
 }

@@ -5,6 +5,7 @@ use Rattle.std.specs.Prelude.{IsTrue, Decides}
 use Rattle.std.proofs.lemmas.Bool.{cases_lt}
 use Rattle.std.proofs.lemmas.Bool.Decides.{same_from_decides, Decides-like}
 use Rattle.history.specs.Comes.{AllCome, SomeComes}
+use Rattle.history.specs.Laws.{DelaysAreTheirFacts}
 use Rattle.history.specs.Rails.{Rails, Ends, IsSound, rails_delayed, must_of, may_of}
 use Rattle.tick_signal.specs.Spans.{ends_of}
 use Rattle.tick_signal.specs.declared.tern.Tern.{Tern}
@@ -111,42 +112,33 @@ some_back u ends t k a b ordered first last low high below some =
     (λ old. comes u ends.least ends.greatest t (k - some.c) (omega arith) old some.comes.on)
     (cases_lt t (k - some.c + ends.least))
 
--- the rails of what is received, as facts
-abbrev pub MustIsAll : Type 0
-MustIsAll = (u : ℕ → Rails) (c : ℕ → Ends) (t : ℕ)
-    → Decides (rails_delayed u (c t) t).must (AllCome (λ r. (u r).must) (c t) t)
-
-abbrev pub MayIsSome : Type 0
-MayIsSome = (u : ℕ → Rails) (c : ℕ → Ends) (t : ℕ)
-    → Decides (rails_delayed u (c t) t).may (SomeComes (λ r. (u r).may) (c t) t)
-
 -- two that have the same facts are the same
-same_received : (is_all : MustIsAll) (is_some : MayIsSome) (u v : ℕ → Rails) (ends : Ends)
+same_received : (facts : DelaysAreTheirFacts) (u v : ℕ → Rails) (ends : Ends)
     (t k : ℕ) → (AllCome (λ r. (u r).must) ends t → AllCome (λ r. (v r).must) ends k)
     → (AllCome (λ r. (v r).must) ends k → AllCome (λ r. (u r).must) ends t)
     → (SomeComes (λ r. (u r).may) ends t → SomeComes (λ r. (v r).may) ends k)
     → (SomeComes (λ r. (v r).may) ends k → SomeComes (λ r. (u r).may) ends t)
     → rails_delayed u ends t ≡ rails_delayed v ends k
-same_received is_all is_some u v ends t k on back comes_on comes_back =
+same_received facts u v ends t k on back comes_on comes_back =
     let must : (rails_delayed u ends t).must ≡ (rails_delayed v ends k).must =
     same_from_decides (rails_delayed u ends t).must (rails_delayed v ends k).must
-    (is_all u (λ _. ends) t)
-    (Decides-like _ back on (is_all v (λ _. ends) k)) in
+    (facts.must u (λ _. ends) t)
+    (Decides-like _ back on (facts.must v (λ _. ends) k)) in
     let may : (rails_delayed u ends t).may ≡ (rails_delayed v ends k).may =
     same_from_decides (rails_delayed u ends t).may (rails_delayed v ends k).may
-    (is_some u (λ _. ends) t)
-    (Decides-like _ comes_back comes_on (is_some v (λ _. ends) k)) in
+    (facts.may u (λ _. ends) t)
+    (Decides-like _ comes_back comes_on (facts.may v (λ _. ends) k)) in
     ap (λ (b : Bool). record { must = b; may = (rails_delayed u ends t).may }) must
     ∙ ap (λ (b : Bool). record { must = (rails_delayed v ends k).must; may = b }) may
 
-pub received_alike : (is_all : MustIsAll) (is_some : MayIsSome) (u : ℕ → Rails) (ends : Ends)
+pub received_alike : (facts : DelaysAreTheirFacts) (u : ℕ → Rails) (ends : Ends)
     (t k a b : ℕ) → ends.least ≤ ends.greatest → ArrivesAlike u ends.least t a
     → ArrivesAlike u ends.greatest t b → t ≤ k → k < a → k < b
     → rails_delayed u ends k ≡ rails_delayed u ends t
-received_alike is_all is_some u ends t k a b ordered first last low high below =
+received_alike facts u ends t k a b ordered first last low high below =
     let must : ℕ → Bool = λ r. (u r).must in
     let may : ℕ → Bool = λ r. (u r).may in
-    sym (same_received is_all is_some u u ends t k
+    sym (same_received facts u u ends t k
     (all_on must ends t k a b ordered (alike must_of u ends.least t a first)
     (alike must_of u ends.greatest t b last) low high below)
     (all_back must ends t k a b ordered (alike must_of u ends.least t a first)

@@ -6,6 +6,7 @@ ghost use Rattle.history.specs.Rails.{Rails, rails_timed, rails_sealed, rails_at
 ghost use Rattle.wave_runs.specs.Waves.{wave_at, IsWaveOf};
 
 use crate::runs::Runs;
+use history::laws::history_laws;
 use line_model::Memory;
 use std::alloc::Global;
 use tick_signal::{Tern, Within};
@@ -17,6 +18,7 @@ pub fn timer(alloc: Global, a: &Runs, pickup: Within, dropout: Within) -> Result
     ensures { IfOk result (λ wave.
         IsWaveOf wave (length a.now) (λ t. rails_timed (wave_at a.now) pickup dropout t)) }
 {
+    history_laws();
     let mut wave = Runs::new(alloc);
     let mut cells = Tern::fresh(pickup, dropout);
     'stretches: while wave.len() < a.len() {
@@ -57,6 +59,7 @@ pub fn seal(alloc: Global, set: &Runs, hold: &Runs) -> Result<Runs, Memory>
     ensures { IfOk result (λ wave.
         IsWaveOf wave (length set.now) (λ t. rails_sealed (wave_at set.now) (wave_at hold.now) t)) }
 {
+    history_laws();
     a_seal_is_its_last_answer();
     let mut wave = Runs::new(alloc);
     let mut cell = SealCell::<Tern>::new();

@@ -1,5 +1,4 @@
 use Rattle.line_model.specs.Choice.{Choice, DelaysFromOne}
-use Rattle.line_model.proofs.DeclaredLaws.{inside_from_one}
 use Rattle.timing_box.specs.Choice.{timing_choice, IsSameChoice}
 use Rattle.timing_box.proofs.ChoiceInside.{choice_inside}
 use Rattle.timing_box.proofs.ChoiceSteps.{timing_of, timing_ascends, timing_inside, timing_same}
@@ -11,22 +10,22 @@ returns c = record {
   choice = λ line choice inside. (
     timing_of line choice,
     timing_inside line choice inside,
-    timing_ascends line choice,
-    timing_same line choice,
+    timing_ascends line choice c.settings_are_counted.ensures,
+    timing_same line choice c.settings_are_counted.ensures,
   );
   histories = λ line choice inside.
       let played : Choice = timing_choice line (timing_of line choice) in
-      let from_choice : DelaysFromOne line choice = inside_from_one line choice inside in
+      let from_choice : DelaysFromOne line choice = c.each_line_has_a_choice_inside.ensures.choices line choice inside in
       let from_played : DelaysFromOne line played =
-      inside_from_one line played
+      c.each_line_has_a_choice_inside.ensures.choices line played
       (choice_inside line (timing_of line choice) (timing_inside line choice inside)) in
-      let same : IsSameChoice line choice played = timing_same line choice in (
+      let same : IsSameChoice line choice played = timing_same line choice c.settings_are_counted.ensures in (
         timing_of line choice,
         timing_inside line choice inside,
-        timing_ascends line choice,
+        timing_ascends line choice c.settings_are_counted.ensures,
         λ script h. (
-          same_history line script choice played from_choice from_played same h,
-          same_history line script played choice from_played from_choice
+          same_history c.elements_read_the_past.ensures c.trees_name_the_line.ensures line script choice played from_choice from_played same h,
+          same_history c.elements_read_the_past.ensures c.trees_name_the_line.ensures line script played choice from_played from_choice
               (same_other_way line choice played same) h,
         ),
       );

@@ -3,4 +3,4 @@ use Rattle.timing_box.proofs.laws.same_choices_have_the_same_histories.Goals as 
 
 pub returns : goal.returns
 returns c line script a b h from_a from_b same is =
-    same_history line script a b from_a from_b same h is
+    same_history c.elements_read_the_past.ensures c.trees_name_the_line.ensures line script a b from_a from_b same h is

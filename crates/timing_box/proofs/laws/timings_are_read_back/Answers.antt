@@ -16,13 +16,13 @@ returns-clause-choices c = λ line choice name inside plain.
     let timing : TimingValues = timing_of line choice in
     let v : NamedValues = record { name = name; timing = timing } in (
       timing,
-      timing_same line choice,
+      timing_same line choice c.settings_are_counted.ensures,
       records_stand line (c.parameters_have_names_of_their_own.ensures line) (v ∷ [])
           (All-cons (MayStand line) v []
           (record {
             plain_name = plain;
             inside = timing_inside line choice inside;
-            ascending = timing_ascends line choice;
+            ascending = timing_ascends line choice c.settings_are_counted.ensures;
           })
           (All-nil (MayStand line)))
           (record {

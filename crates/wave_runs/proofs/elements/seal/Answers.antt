@@ -33,12 +33,12 @@ stretches-preserved c =
     (omega (arith, c.min.ensures)) in
     let set_now = stays n (omega arith) (omega arith) in
     let hold_now = keeps n (omega arith) (omega arith) in
-    let stands = seal_stands u v (tern_rails c.stretches.cell) n c.stretches.invariant.last in
+    let stands = seal_stands c.history_laws.ensures u v (tern_rails c.stretches.cell) n c.stretches.invariant.last in
     let now : tern_rails answer ≡ rails_sealed u v n =
-    seal_answer u v x y (tern_rails answer) n set_now hold_now
+    seal_answer c.history_laws.ensures u v x y (tern_rails answer) n set_now hold_now
     (c.tick-answer.ensures.sealed 0 (first_ticks u n) (first_ticks v n) (omega arith) stands) in
     let kept : tern_rails c.tick-answer.new.self ≡ rails_sealed u v n =
-    seal_answer u v x y (tern_rails c.tick-answer.new.self) n set_now hold_now
+    seal_answer c.history_laws.ensures u v x y (tern_rails c.tick-answer.new.self) n set_now hold_now
     (c.a_seal_is_its_last_answer.ensures (first_ticks u n) (first_ticks v n) x y (tern_rails c.tick-answer.new.self)
     (c.tick-answer.ensures.stands 0 (first_ticks u n) (first_ticks v n) (omega arith) stands)) in
     record {
@@ -46,7 +46,7 @@ stretches-preserved c =
           (omega (arith, c.min.ensures));
       values = ticks_more wave new answer m (rails_sealed u v) c.stretches.invariant.values
           c.in_ok-push.ensures
-          (λ k low high. now ∙ sym (sealed_in u v x y n m k stays keeps low high));
-      last = kept_to_the_end u v x y (tern_rails c.tick-answer.new.self) n m stays keeps some kept
+          (λ k low high. now ∙ sym (sealed_in c.history_laws.ensures u v x y n m k stays keeps low high));
+      last = kept_to_the_end c.history_laws.ensures u v x y (tern_rails c.tick-answer.new.self) n m stays keeps some kept
           ∙ ap (last_seal u v) (sym (new_length wave new answer m c.in_ok-push.ensures));
     }

@@ -65,7 +65,7 @@ stretches-preserved c =
           (omega (arith, c.min-count.ensures));
       values = ticks_more wave new answer m (rails_timed u p d) c.stretches.invariant.values
           c.in_ok-push.ensures
-          (timed_in u p d x (tern_rails answer) n m stays
+          (timed_in c.history_laws.ensures u p d x (tern_rails answer) n m stays
           (λ i inside. steady.same 0 i (omega arith) (omega (arith, c.min-count.ensures)))
           (c.first_answer-answer.ensures.timed p d 0 (first_ticks u n) (omega arith)
           c.stretches.invariant.stand));

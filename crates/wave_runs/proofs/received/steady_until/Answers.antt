@@ -15,6 +15,6 @@ returns-clause-same c = λ k low high.
     let last : ArrivesAlike u c.args.delay.greatest t b =
     subst (λ (n : ℕ). ArrivesAlike u n t b) c.greatest.ensures.greatest
     c.arrives_until-2.ensures.alike in
-    received_alike c.delays_are_their_facts.ensures.must c.delays_are_their_facts.ensures.may u
+    received_alike c.delays_are_their_facts.ensures u
     c.args.delay t k a b c.least.ensures.in_order.ordered first last low
     (omega (arith, c.min.ensures)) (omega (arith, c.min.ensures))
