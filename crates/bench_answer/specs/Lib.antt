@@ -1,0 +1,2 @@
+pub mod BenchText
+pub mod Answer

@@ -1,0 +1,210 @@
+-- What is certified of several scripts: that there is one list of claims, and that it is accepted.
+use Rattle.std.proofs.Common.{◌≡◌, ◌≢◌, ℕ, zero, suc, List, [], ◌∷◌, ◌++◌, Some, length}
+use Rattle.std.proofs.Common.{map, refl, sym, ◌∙◌, ap, subst, arith, append_assoc}
+use Rattle.std.specs.Prelude.{slice_get}
+use Rattle.std.specs.List.{All, count_by}
+use Rattle.std.proofs.lemmas.List.{append-nil}
+use Rattle.std.proofs.lemmas.List.Elements.{All-cons, All-head, All-nil, All-tail}
+use Rattle.line_model.specs.declared.line.Line.{Line}
+use Rattle.line_model.specs.declared.script.Script.{Script}
+use Rattle.line_model.specs.Choice.{declared_box}
+use Rattle.line_model.specs.Fits.{Fits}
+use Rattle.tick_signal.specs.declared.tern.Tern.{Tern}
+use Rattle.certificate.specs.Grammar.{Claims, IsCertificate}
+use Rattle.certificate.specs.Grammar.{Verdict as Written}
+use Rattle.certificate.specs.Text.{CanBeWritten, certificate_text, part_text, parts_text}
+use Rattle.certify_core.specs.declared.verdict.Verdict.{Verdict}
+use Rattle.own_certificate.specs.Written.{claims_of, written_as}
+use Rattle.cert_checker.specs.declared.counts.Counts.{Counts}
+use Rattle.cert_checker.specs.declared.fault.CheckFault.{CheckFault}
+use Rattle.cert_checker.specs.declared.fault.CheckFault.TheVariants as wrong
+use Rattle.cert_checker.specs.Check.{IsAccepted, IsCheckFault}
+use Rattle.cert_checker.specs.Counts.{AreCounts, all_verdicts, is_no, is_undecided, is_yes}
+use Rattle.cert_checker.specs.Verdicts.{AreAccepted}
+use Rattle.own_certificate.specs.Certified.{AreCertified, IsCertified}
+use Rattle.own_certificate.specs.Known.{Known}
+use Rattle.own_certificate.proofs.Accepted.{accepted, can_be_written}
+use Rattle.own_certificate.proofs.KeyLists.{keys_exist, keys_once}
+use Rattle.own_certificate.proofs.VerdictLists.{verdicts_exist, verdicts_once}
+
+-- claims with the same keys and the same verdicts
+claims_by : (a b : Claims) → a.keys ≡ b.keys → a.verdicts ≡ b.verdicts → a ≡ b
+claims_by a b keys verdicts =
+    let by_keys : List (List Tern) → Claims = λ k. record { keys = k; verdicts = a.verdicts } in
+    let by_verdicts : List Written → Claims = λ v. record { keys = b.keys; verdicts = v } in
+    ap by_keys keys ∙ ap by_verdicts verdicts
+
+written_claims : (claims : Claims) (verdicts : List Verdict)
+    → claims.verdicts ≡ map written_as verdicts → claims_of claims.keys verdicts ≡ claims
+written_claims claims verdicts is =
+    claims_by (claims_of claims.keys verdicts) claims refl (sym is)
+
+-- ---- one script
+
+module _ (known : Known) (line : Line) (script : Script) where
+  pub written : (claims : Claims) → IsCertified line script claims → CanBeWritten line claims
+  written claims is =
+      subst (CanBeWritten line) (written_claims claims is.verdicts is.written)
+      (can_be_written known line script is.history claims.keys is.verdicts is.are_keys
+      is.are_verdicts)
+
+  pub script_accepted : (claims : Claims) → Fits line script → IsCertified line script claims
+      → AreAccepted line script claims
+  script_accepted claims fits is =
+      subst (AreAccepted line script) (written_claims claims is.verdicts is.written)
+      (accepted known line script fits is.history is.is_history claims.keys is.are_keys is.verdicts
+      is.are_verdicts)
+
+  one_exists : Fits line script → (claims : Claims) × IsCertified line script claims
+  one_exists fits =
+      let (w, is_w) =
+      known.lines.interval_histories.exists line script (declared_box line) (known.lines.inside.declared line) in
+      let (keys, are_keys) = keys_exist known line script w is_w in
+      let (verdicts, are_verdicts) = verdicts_exist known line script w fits in (
+        claims_of keys verdicts,
+        record {
+          history = w;
+          is_history = is_w;
+          are_keys = are_keys;
+          verdicts = verdicts;
+          are_verdicts = are_verdicts;
+          written = refl;
+        },
+      )
+
+  one_only : Fits line script → (a b : Claims) → IsCertified line script a
+      → IsCertified line script b → a ≡ b
+  one_only fits a b p q =
+      claims_by a b
+      (keys_once known line script p.history q.history a.keys b.keys p.is_history q.is_history
+      p.are_keys q.are_keys)
+      (p.written
+      ∙ ap (map written_as)
+      (verdicts_once known line script p.history q.history p.verdicts q.verdicts fits p.is_history
+      q.is_history p.are_verdicts q.are_verdicts)
+      ∙ sym q.written)
+
+-- ---- several scripts
+
+pub many : (line : Line) (scripts : List Script) (claims : List Claims)
+    → AreCertified line scripts claims → length claims ≡ length scripts
+many line [] [] are = refl
+many line [] (c ∷ claims) are = absurd are
+many line (s ∷ scripts) [] are = absurd are
+many line (s ∷ scripts) (c ∷ claims) are = ap suc (many line scripts claims are.1)
+
+pub claims_more : (line : Line) (scripts : List Script) (claims : List Claims) (script : Script)
+    (said : Claims) → AreCertified line scripts claims → IsCertified line script said
+    → AreCertified line (scripts ++ script ∷ []) (claims ++ said ∷ [])
+claims_more line [] [] script said are is = (is, tt)
+claims_more line [] (c ∷ claims) script said are is = absurd are
+claims_more line (s ∷ scripts) [] script said are is = absurd are
+claims_more line (s ∷ scripts) (c ∷ claims) script said are is =
+    (are.0, claims_more line scripts claims script said are.1 is)
+
+pub text_more : (line : Line) (scripts : List Script) (claims : List Claims) (script : Script)
+    (said : Claims) → length claims ≡ length scripts
+    → parts_text line (scripts ++ script ∷ []) (claims ++ said ∷ [])
+    ≡ parts_text line scripts claims ++ part_text line script said
+text_more line [] [] script said long = append-nil (part_text line script said)
+text_more line [] (c ∷ claims) script said long = absurd (omega (arith, long))
+text_more line (s ∷ scripts) [] script said long = absurd (omega (arith, long))
+text_more line (s ∷ scripts) (c ∷ claims) script said long =
+    ap (λ (t : List ℕ). part_text line s c ++ t)
+    (text_more line scripts claims script said (omega (arith, long)))
+    ∙ sym (append_assoc (part_text line s c) (parts_text line scripts claims)
+    (part_text line script said))
+
+module _ (known : Known) (line : Line) where
+  pub claims_exist : (scripts : List Script) → All (Fits line) scripts
+      → (claims : List Claims) × AreCertified line scripts claims
+  claims_exist [] fit = ([], tt)
+  claims_exist (s ∷ scripts) fit =
+      let (c, is) = one_exists known line s (All-head (Fits line) s scripts fit) in
+      let (claims, are) = claims_exist scripts (All-tail (Fits line) s scripts fit) in
+      (c ∷ claims, (is, are))
+
+  pub claims_once : (scripts : List Script) (a b : List Claims) → All (Fits line) scripts
+      → AreCertified line scripts a → AreCertified line scripts b → a ≡ b
+  claims_once [] [] [] fit p q = refl
+  claims_once [] [] (d ∷ b) fit p q = absurd q
+  claims_once [] (c ∷ a) b fit p q = absurd p
+  claims_once (s ∷ scripts) [] b fit p q = absurd p
+  claims_once (s ∷ scripts) (c ∷ a) [] fit p q = absurd q
+  claims_once (s ∷ scripts) (c ∷ a) (d ∷ b) fit p q =
+      ap (λ (x : Claims). x ∷ a)
+      (one_only known line s (All-head (Fits line) s scripts fit) c d p.0 q.0)
+      ∙ ap (λ (xs : List Claims). d ∷ xs)
+      (claims_once scripts a b (All-tail (Fits line) s scripts fit) p.1 q.1)
+
+  all_written : (scripts : List Script) (claims : List Claims) → AreCertified line scripts claims
+      → All (CanBeWritten line) claims
+  all_written [] [] are = All-nil (CanBeWritten line)
+  all_written [] (c ∷ claims) are = absurd are
+  all_written (s ∷ scripts) [] are = absurd are
+  all_written (s ∷ scripts) (c ∷ claims) are =
+      All-cons (CanBeWritten line) c claims (written known line s c are.0)
+      (all_written scripts claims are.1)
+
+  each_accepted : (scripts : List Script) (claims : List Claims) → All (Fits line) scripts
+      → AreCertified line scripts claims → (i : ℕ) (script : Script) (said : Claims)
+      → slice_get scripts i ≡ Some script → slice_get claims i ≡ Some said
+      → AreAccepted line script said
+  each_accepted [] claims fit are i script said at there = absurd (cc)
+  each_accepted (s ∷ scripts) [] fit are i script said at there = absurd are
+  each_accepted (s ∷ scripts) (c ∷ claims) fit are zero script said at there =
+      let same : s ≡ script = cc in
+      let says : c ≡ said = cc in
+      subst (AreAccepted line script) says
+      (subst (λ (x : Script). AreAccepted line x c) same
+      (script_accepted known line s c (All-head (Fits line) s scripts fit) are.0))
+  each_accepted (s ∷ scripts) (c ∷ claims) fit are (suc i) script said at there =
+      each_accepted scripts claims (All-tail (Fits line) s scripts fit) are.1 i script said at there
+
+  module _ (printed : (line : Line) (scripts : List Script) (claims : List Claims)
+      → length claims ≡ length scripts → All (Fits line) scripts → All (CanBeWritten line) claims
+      → IsCertificate line scripts claims (certificate_text line scripts claims))
+      (scripts : List Script) (claims : List Claims) (fit : All (Fits line) scripts)
+      (are : AreCertified line scripts claims) where
+    pub is_certificate : IsCertificate line scripts claims (certificate_text line scripts claims)
+    is_certificate =
+        printed line scripts claims (many line scripts claims are) fit
+        (all_written scripts claims are)
+
+    pub text_accepted : (counts : Counts) → AreCounts (all_verdicts claims) counts
+        → IsAccepted line scripts (certificate_text line scripts claims) counts
+    text_accepted counts counted = record {
+      claims = claims;
+      is = is_certificate;
+      each = λ i script said lt at there. each_accepted scripts claims fit are i script said at there;
+      counted = counted;
+    }
+
+    abbrev the_counts : Counts
+    the_counts = record {
+      yes = count_by is_yes (all_verdicts claims);
+      no = count_by is_no (all_verdicts claims);
+      undecided = count_by is_undecided (all_verdicts claims);
+    }
+
+    counted : IsAccepted line scripts (certificate_text line scripts claims) the_counts
+    counted = text_accepted the_counts (record { yes = refl; no = refl; undecided = refl })
+
+    module _ (refuses : (line : Line) (scripts : List Script) (bytes : List ℕ) (counts : Counts)
+        (fault : CheckFault) → fault ≢ wrong.Memory → IsCheckFault line scripts bytes fault
+        → ¬ (IsAccepted line scripts bytes counts)) where
+      only_memory : (f : CheckFault) → (f ≢ wrong.Memory → ⊥) → f ≡ wrong.Memory
+      only_memory (wrong.Line n) never = absurd (never (λ same. absurd (cc)))
+      only_memory (wrong.NotCovered i k t claimed derived) never =
+          absurd (never (λ same. absurd (cc)))
+      only_memory (wrong.NotHeld i k) never = absurd (never (λ same. absurd (cc)))
+      only_memory (wrong.Outside i k p value) never = absurd (never (λ same. absurd (cc)))
+      only_memory (wrong.Passes i k t) never = absurd (never (λ same. absurd (cc)))
+      only_memory wrong.Memory never = refl
+
+      pub no_fault : (f : CheckFault)
+          → IsCheckFault line scripts (certificate_text line scripts claims) f → f ≡ wrong.Memory
+      no_fault f is =
+          only_memory f
+          (λ other.
+          refuses line scripts (certificate_text line scripts claims) the_counts f other is counted)

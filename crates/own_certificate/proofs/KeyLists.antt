@@ -1,0 +1,116 @@
+-- An interval history has exactly one list of key waves.
+use Rattle.std.proofs.Common.{◌≡◌, ℕ, ◌<◌, Bool, true, false, List, Some, get_or, map}
+use Rattle.std.proofs.Common.{refl, sym, ◌∙◌, ap, arith}
+use Rattle.std.specs.Prelude.{slice_get, IsTrue, option_map}
+use Rattle.std.proofs.lemmas.Option.{
+  get_or_from_slice_get,
+  slice_get-get_or,
+  slice_get-map,
+  slice_get_within,
+}
+use Rattle.history.specs.Rails.{Rails, IsSound, both, must_of, may_of}
+use Rattle.tick_signal.specs.declared.tern.Tern.{Tern}
+use Rattle.tick_signal.specs.declared.tern.Tern.TheVariants.{Zero, One, Unknown}
+use Rattle.tick_signal.specs.Terns.{tern_rails}
+use Rattle.line_model.specs.declared.line.Line.{Line}
+use Rattle.line_model.specs.declared.script.Script.{Script}
+use Rattle.line_model.specs.Intervals.{leasts}
+use Rattle.line_model.specs.Parameters.{terminal_count}
+use Rattle.line_model.specs.Choice.{declared_box, steady_choice}
+use Rattle.line_model.specs.Histories.{PairHistory, IsPairHistory}
+use Rattle.wave_runs.specs.Waves.{IsWaveOf, wave_at}
+use Rattle.certify_core.specs.Verdicts.{AreKeys}
+use Rattle.own_certificate.specs.Known.{Known}
+use Rattle.own_certificate.proofs.Lists.{one_each_once, one_each_exists, same_list}
+
+-- ---- values of three kinds
+
+tern_by : (must may : Bool) → (IsTrue must → IsTrue may)
+    → (x : Tern) × (tern_rails x ≡ record { must = must; may = may })
+tern_by true true sound = (One, refl)
+tern_by true false sound = absurd (let off : false ≡ true = sound refl in cc)
+tern_by false true sound = (Unknown, refl)
+tern_by false false sound = (Zero, refl)
+
+-- each pair of which what must be may be is that of a value
+tern_for : (r : Rails) → IsSound r → (x : Tern) × (tern_rails x ≡ r)
+tern_for r sound = tern_by r.must r.may sound
+
+-- and of one alone
+tern_once : (x y : Tern) → tern_rails x ≡ tern_rails y → x ≡ y
+tern_once Zero Zero same = refl
+tern_once Zero One same = absurd (let on : false ≡ true = ap may_of same in cc)
+tern_once Zero Unknown same = absurd (let on : false ≡ true = ap may_of same in cc)
+tern_once One Zero same = absurd (let on : true ≡ false = ap may_of same in cc)
+tern_once One One same = refl
+tern_once One Unknown same = absurd (let on : true ≡ false = ap must_of same in cc)
+tern_once Unknown Zero same = absurd (let on : true ≡ false = ap may_of same in cc)
+tern_once Unknown One same = absurd (let on : false ≡ true = ap must_of same in cc)
+tern_once Unknown Unknown same = refl
+
+-- ---- waves
+
+-- the rails of a wave at a tick are those of its value there
+wave_at-level : (wave : List Tern) (t : ℕ) (x : Tern) → slice_get wave t ≡ Some x
+    → wave_at wave t ≡ tern_rails x
+wave_at-level wave t x at =
+    get_or_from_slice_get (map tern_rails wave) t (tern_rails x) (both false)
+    (slice_get-map tern_rails wave t ∙ ap (option_map tern_rails) at)
+
+wave_exists : (n : ℕ) (value : ℕ → Rails) → ((t : ℕ) → t < n → IsSound (value t))
+    → (wave : List Tern) × IsWaveOf wave n value
+wave_exists n value sound =
+    let (wave, is) =
+    one_each_exists (λ t x. tern_rails x ≡ value t) n (λ t lt. tern_for (value t) (sound t lt)) in (
+      wave,
+      record {
+        long = is.count;
+        values = λ t lt.
+            let count = is.count in
+            let at = slice_get-get_or wave t Zero (omega arith) in
+            wave_at-level wave t (get_or wave t Zero) at ∙ is.each t (get_or wave t Zero) at;
+      },
+    )
+
+wave_once : (n : ℕ) (u v : ℕ → Rails) (a b : List Tern) → ((t : ℕ) → t < n → u t ≡ v t)
+    → IsWaveOf a n u → IsWaveOf b n v → a ≡ b
+wave_once n u v a b same p q =
+    same_list a b (p.long ∙ sym q.long)
+    (λ t x y at there.
+    let inside = slice_get_within a t x at in
+    let long = p.long in
+    let lt : t < n = omega arith in
+    tern_once x y
+    (sym (wave_at-level a t x at) ∙ p.values t lt ∙ same t lt ∙ sym (q.values t lt)
+    ∙ wave_at-level b t y there))
+
+-- ---- keys
+
+-- what must be keyed may be
+key_sound : Known → (line : Line) (script : Script) (w : PairHistory)
+    → IsPairHistory line script (declared_box line) w → (k t : ℕ) → k < terminal_count line
+    → t < line.horizon → IsSound (w.key k t)
+key_sound known line script w is_w k t there lt =
+    (known.lines.sound line script (declared_box line)
+    (steady_choice line (leasts line.params.items)) w (known.lines.inside.declared line)
+    (known.lines.inside.inside line) is_w).keys k t there lt
+
+pub keys_exist : Known → (line : Line) (script : Script) (w : PairHistory)
+    → IsPairHistory line script (declared_box line) w → (keys : List (List Tern)) × AreKeys line w keys
+keys_exist known line script w is_w =
+    one_each_exists (λ k wave. IsWaveOf wave line.horizon (w.key k)) (terminal_count line)
+    (λ k there.
+    wave_exists line.horizon (w.key k) (λ t lt. key_sound known line script w is_w k t there lt))
+
+pub keys_once : Known → (line : Line) (script : Script) (v w : PairHistory)
+    (a b : List (List Tern)) → IsPairHistory line script (declared_box line) v
+    → IsPairHistory line script (declared_box line) w → AreKeys line v a → AreKeys line w b → a ≡ b
+keys_once known line script v w a b is_v is_w are_a are_b =
+    let same =
+    known.lines.interval_histories.only line script (declared_box line) v w (known.lines.inside.declared line) is_v
+    is_w in
+    one_each_once (λ k wave. IsWaveOf wave line.horizon (v.key k))
+    (λ k wave. IsWaveOf wave line.horizon (w.key k)) (terminal_count line) a b
+    (λ k x y there p q.
+    wave_once line.horizon (v.key k) (w.key k) x y (λ t lt. same.keys k t there lt) p q)
+    are_a are_b

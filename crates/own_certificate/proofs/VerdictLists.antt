@@ -1,0 +1,155 @@
+-- A script that fits has exactly one list of verdicts.
+use Rattle.std.proofs.Common.{◌≡◌, ◌⊎◌, ℕ, zero, suc, ◌<◌, ◌≤◌, List}
+use Rattle.std.proofs.Common.{refl, sym, ◌∙◌, ap, subst, arith, inl, inr, ⊎_elim}
+use Rattle.std.proofs.lemmas.Bool.{cases_lt}
+use Rattle.line_model.specs.declared.line.Line.{Line}
+use Rattle.line_model.specs.declared.script.Script.{Script}
+use Rattle.line_model.specs.Parameters.{terminal_count}
+use Rattle.line_model.specs.Choice.{Choice, DelaysFromOne, declared_box}
+use Rattle.line_model.specs.Fits.{Fits}
+use Rattle.line_model.specs.Histories.{PairHistory, IsPairHistory}
+use Rattle.timing_box.specs.Candidates.{candidate, candidate_count}
+use Rattle.timing_box.specs.Choice.{timing_choice}
+use Rattle.certify_core.specs.declared.verdict.Verdict.{Verdict}
+use Rattle.certify_core.specs.declared.verdict.Verdict.TheVariants.{Yes, No, Undecided}
+use Rattle.certify_core.specs.Verdicts.{
+  AreVerdicts,
+  FailsAt,
+  IsFirstFailing,
+  IsRuleHeld,
+  IsVerdict,
+  PassesAt,
+}
+use Rattle.own_certificate.specs.Known.{Known}
+use Rattle.own_certificate.proofs.Lists.{one_each_once, one_each_exists}
+use Rattle.own_certificate.proofs.Obligations.{
+  held_same,
+  met_or_not,
+  rule_held_or_not,
+  same_meets,
+}
+
+-- ---- one verdict at most
+
+module _ (line : Line) (script : Script) (k : ℕ) where
+  -- a candidate that passes does not fail
+  pass_or_fail : (i j : ℕ) → i ≡ j → PassesAt line script k (candidate line i)
+      → FailsAt line script k (candidate line j) → ⊥
+  pass_or_fail i j same passes fails =
+      let here : PassesAt line script k (candidate line j) =
+      subst (λ (n : ℕ). PassesAt line script k (candidate line n)) same passes in
+      fails.fails (here.meets fails.h fails.is)
+
+  -- one candidate alone is the first that fails
+  first_once : (i j : ℕ) → IsFirstFailing line script k i → IsFirstFailing line script k j → i ≡ j
+  first_once i j p q =
+      ⊎_elim (λ before. absurd (pass_or_fail i i refl (q.earlier i before) p.fails))
+      (λ late.
+      ⊎_elim (λ after. absurd (pass_or_fail j j refl (p.earlier j after) q.fails))
+      (λ even. omega arith)
+      (cases_lt j i))
+      (cases_lt i j)
+
+  -- over two interval histories whose rules are held together
+  verdict_once : (v w : PairHistory) → (IsRuleHeld line script k v → IsRuleHeld line script k w)
+      → (IsRuleHeld line script k w → IsRuleHeld line script k v) → (a b : Verdict)
+      → IsVerdict line script k v a → IsVerdict line script k w b → a ≡ b
+  verdict_once v w there back Yes Yes p q = refl
+  verdict_once v w there back Yes (No timing) p q = absurd (q.not_held (there p))
+  verdict_once v w there back Yes Undecided p q = absurd (q.not_held (there p))
+  verdict_once v w there back (No timing) Yes p q = absurd (p.not_held (back q))
+  verdict_once v w there back (No timing) (No other) p q =
+      ap No (p.is ∙ ap (candidate line) (first_once p.number q.number p.first q.first) ∙ sym q.is)
+  verdict_once v w there back (No timing) Undecided p q =
+      absurd (pass_or_fail p.number p.number refl (q.passes p.number p.first.below) p.first.fails)
+  verdict_once v w there back Undecided Yes p q = absurd (p.not_held (back q))
+  verdict_once v w there back Undecided (No timing) p q =
+      absurd (pass_or_fail q.number q.number refl (p.passes q.number q.first.below) q.first.fails)
+  verdict_once v w there back Undecided Undecided p q = refl
+
+-- ---- one verdict at least
+
+module _ (known : Known) (line : Line) (script : Script) (fits : Fits line script) (k : ℕ)
+    (there : k < terminal_count line) where
+  delayed : (i : ℕ) → i < candidate_count line
+      → DelaysFromOne line (timing_choice line (candidate line i))
+  delayed i exists =
+      known.lines.inside.choices line (timing_choice line (candidate line i))
+      (known.timings_inside line (candidate line i) (known.candidates_inside line i exists))
+
+  -- each candidate passes or fails
+  candidate_told : (i : ℕ) → i < candidate_count line
+      → PassesAt line script k (candidate line i) ⊎ FailsAt line script k (candidate line i)
+  candidate_told i exists =
+      let choice : Choice = timing_choice line (candidate line i) in
+      let (h, is_h) = known.lines.histories.exists line script choice (delayed i exists) in
+      ⊎_elim
+      (λ met. inl (record {
+        meets = λ g is_g.
+            let same = known.lines.histories.only line script choice h g (delayed i exists) is_h is_g in
+            same_meets line script k h g (known.lines.deadlines line script fits)
+            (λ t lt. same.trips k t there lt) met;
+      }))
+      (λ fails. inr (record { h = h; is = is_h; fails = fails }))
+      (met_or_not known line script k h)
+
+  abbrev AllPass : ℕ → Type 0
+  AllPass n = (i : ℕ) → i < n → PassesAt line script k (candidate line i)
+
+  -- all of the first candidates pass, or one is the first that fails
+  first_fault : (n : ℕ) → n ≤ candidate_count line
+      → AllPass n ⊎ ((i : ℕ) × IsFirstFailing line script k i)
+  first_fault zero le = inl (λ i lt. absurd (omega arith))
+  first_fault (suc n) le =
+      ⊎_elim
+      (λ before.
+      ⊎_elim
+      (λ passes. inl (λ i lt.
+      ⊎_elim (λ early. before i early)
+      (λ late.
+      let last : n ≡ i = omega arith in
+      subst (λ (j : ℕ). PassesAt line script k (candidate line j)) last passes)
+      (cases_lt i n)))
+      (λ fails. inr (n, record { below = omega arith; fails = fails; earlier = before }))
+      (candidate_told n (omega arith)))
+      inr
+      (first_fault n (omega arith))
+
+  verdict_exists : (w : PairHistory) → (verdict : Verdict) × IsVerdict line script k w verdict
+  verdict_exists w =
+      ⊎_elim (λ held. (Yes, held))
+      (λ not_held.
+      ⊎_elim (λ passes. (Undecided, record { not_held = not_held; passes = passes }))
+      (λ (i, first). (
+        No (candidate line i),
+        record { not_held = not_held; number = i; first = first; is = refl },
+      ))
+      (first_fault (candidate_count line) (omega arith)))
+      (rule_held_or_not line script (w.trip k))
+
+-- ---- lists
+
+pub verdicts_exist : Known → (line : Line) (script : Script) (w : PairHistory) → Fits line script
+    → (verdicts : List Verdict) × AreVerdicts line script w verdicts
+verdicts_exist known line script w fits =
+    one_each_exists (λ k verdict. IsVerdict line script k w verdict) (terminal_count line)
+    (λ k there. verdict_exists known line script fits k there w)
+
+pub verdicts_once : Known → (line : Line) (script : Script) (v w : PairHistory) (a b : List Verdict)
+    → Fits line script → IsPairHistory line script (declared_box line) v
+    → IsPairHistory line script (declared_box line) w → AreVerdicts line script v a
+    → AreVerdicts line script w b → a ≡ b
+verdicts_once known line script v w a b fits is_v is_w are_a are_b =
+    let same =
+    known.lines.interval_histories.only line script (declared_box line) v w (known.lines.inside.declared line) is_v
+    is_w in
+    let early = known.lines.deadlines line script fits in
+    one_each_once (λ k verdict. IsVerdict line script k v verdict)
+    (λ k verdict. IsVerdict line script k w verdict) (terminal_count line) a b
+    (λ k x y there p q.
+    verdict_once line script k v w
+    (held_same known line script (v.trip k) (w.trip k) early (λ t lt. same.trips k t there lt))
+    (held_same known line script (w.trip k) (v.trip k) early
+    (λ t lt. sym (same.trips k t there lt)))
+    x y p q)
+    are_a are_b
