@@ -7,6 +7,7 @@ ghost use Rattle.tick_signal.specs.Bits.{bit_rails};
 ghost use Rattle.tick_signal.specs.Lanes.{in_lane};
 
 use crate::Carried;
+use history::delay_laws::one_delay_reads_one_tick;
 use tick_signal::{Lanes64, Signal, Ticks64};
 
 impl Carried for Lanes64 {
@@ -27,5 +28,6 @@ fn comes(sent: &[Lanes64], c: usize, lane: u32) -> bool
     ensures { both result
         ≡ rails_delayed (rails_at (in_lane bit_rails lane sent.now)) (single c) (length sent.now) }
 {
+    one_delay_reads_one_tick();
     c <= sent.len() && sent[sent.len() - c].must(lane)
 }

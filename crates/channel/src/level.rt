@@ -2,10 +2,12 @@
 #![tactic(auto)]
 
 use crate::Carried;
+use history::delay_laws::one_delay_reads_one_tick;
 use tick_signal::{Level, Tick};
 
 impl Carried for Level {
     fn arrive(sent: &[Level], delay: &Tick) -> Level {
+        one_delay_reads_one_tick();
         let c = delay.value() as usize;
         if c <= sent.len() {
             sent[sent.len() - c]

@@ -7,10 +7,13 @@ ghost use Rattle.tick_signal.specs.Spans.{ends_of};
 ghost use Rattle.channel.specs.Sent.{sent_must, sent_may};
 
 use crate::Carried;
+use history::delay_laws::{delays_are_their_facts, delays_stay_sound};
 use tick_signal::{Signal, Tern, Within};
 
 impl Carried for Tern {
     fn arrive(sent: &[Tern], delay: &Within) -> Tern {
+        delays_are_their_facts();
+        delays_stay_sound();
         let least = delay.least() as usize;
         let greatest = delay.greatest() as usize;
         Tern::from_rails(

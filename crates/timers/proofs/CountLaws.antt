@@ -8,8 +8,7 @@ use Rattle.std.proofs.lemmas.Bool.Decides.{Decides-ltb, same_from_decides, Decid
 use Rattle.std.proofs.lemmas.List.Sums.{fold-append}
 use Rattle.history.specs.Elements.{Holds, IsTimed, timed}
 use Rattle.history.specs.Recorded.{at, first_ticks}
-use Rattle.history.proofs.ElementLaws.{Decides-timed}
-use Rattle.history.proofs.RecordedLaws.{first_ticks-at}
+use Rattle.history.specs.Laws.{HistoryLaws}
 use Rattle.timers.specs.Cells.{CellNumbers, RailStandsFor}
 use Rattle.timers.specs.Counts.{Counts, none, run_after, left_after, counts_after, counts}
 
@@ -157,34 +156,29 @@ counted u p d (suc n) =
           (left_after p d 1 (run_after p 1 c.run (u n)) c.left) in subst Q e lasts);
     })
 
--- a count is what it is of the ticks that its list was recorded from
-counted_list : (p d : ℕ) (l : List Bool) → Counted (at l) p d (length l) (counts p d l)
-counted_list p d l = let P : List Bool → Type 0 =
-    λ k. Counted (at l) p d (length l) (counts p d k) in
-    subst P (first_ticks-at l) (counted (at l) p d (length l))
+module _ (laws : HistoryLaws) where
+  -- a count is what it is of the ticks that its list was recorded from
+  counted_list : (p d : ℕ) (l : List Bool) → Counted (at l) p d (length l) (counts p d l)
+  counted_list p d l = let P : List Bool → Type 0 =
+      λ k. Counted (at l) p d (length l) (counts p d k) in
+      subst P (laws.recordings.again l) (counted (at l) p d (length l))
 
-pub run_bound : (p d : ℕ) (l : List Bool) → (counts p d l).run ≤ p + 1
-run_bound p d l = (counted_list p d l).runs.in_pickup
+  -- the element is on at the last tick exactly where some ticks are left
+  pub left_is_timed : (p d : ℕ) (l : List Bool) (x : Bool) →
+      nat_lt 0 (counts p d (l ++ x ∷ [])).left ≡ timed (at (l ++ x ∷ [])) p d (length l)
+  left_is_timed p d l x =
+      let u : ℕ → Bool = at (l ++ x ∷ []) in
+      let left : ℕ = (counts p d (l ++ x ∷ [])).left in
+      let e : length (l ++ x ∷ []) ≡ length l + 1 = length-append l (x ∷ []) in
+      let lasts : Lasts u p d (length l + 1) left =
+      (let Q : ℕ → Type 0 = λ m. Lasts u p d m left in
+      subst Q e (counted_list p d (l ++ x ∷ [])).lasts) in
+      same_from_decides (nat_lt 0 left) (timed u p d (length l))
+      (Decides-like _ (on_from_lasts u p d (length l) left lasts)
+      (lasts_from_on u p d (length l) left lasts) (Decides-ltb 0 left))
+      (laws.elements.timed u p d (length l))
 
-pub left_bound : (p d : ℕ) (l : List Bool) → (counts p d l).left ≤ d + 1
-left_bound p d l = (counted_list p d l).lasts.in_dropout
-
--- the element is on at the last tick exactly where some ticks are left
-pub left_is_timed : (p d : ℕ) (l : List Bool) (x : Bool) →
-    nat_lt 0 (counts p d (l ++ x ∷ [])).left ≡ timed (at (l ++ x ∷ [])) p d (length l)
-left_is_timed p d l x =
-    let u : ℕ → Bool = at (l ++ x ∷ []) in
-    let left : ℕ = (counts p d (l ++ x ∷ [])).left in
-    let e : length (l ++ x ∷ []) ≡ length l + 1 = length-append l (x ∷ []) in
-    let lasts : Lasts u p d (length l + 1) left =
-    (let Q : ℕ → Type 0 = λ m. Lasts u p d m left in
-    subst Q e (counted_list p d (l ++ x ∷ [])).lasts) in
-    same_from_decides (nat_lt 0 left) (timed u p d (length l))
-    (Decides-like _ (on_from_lasts u p d (length l) left lasts)
-    (lasts_from_on u p d (length l) left lasts) (Decides-ltb 0 left))
-    (Decides-timed u p d (length l))
-
--- numbers that stand for a history tell the element at its last tick
-pub timed_of_standing : (c : CellNumbers) (p d : ℕ) (l : List Bool) (x : Bool) →
-    RailStandsFor c p d (l ++ x ∷ []) → nat_lt 0 c.left ≡ timed (at (l ++ x ∷ [])) p d (length l)
-timed_of_standing c p d l x h = ap (nat_lt 0) h.left_is ∙ left_is_timed p d l x
+  -- numbers that stand for a history tell the element at its last tick
+  pub timed_of_standing : (c : CellNumbers) (p d : ℕ) (l : List Bool) (x : Bool) →
+      RailStandsFor c p d (l ++ x ∷ []) → nat_lt 0 c.left ≡ timed (at (l ++ x ∷ [])) p d (length l)
+  timed_of_standing c p d l x h = ap (nat_lt 0) h.left_is ∙ left_is_timed p d l x

@@ -2,15 +2,14 @@
 use Rattle.std.proofs.Common.{◌≡◌, ℕ, zero, suc, ◌+◌, ◌<◌, ◌≤◌, ◌⊎◌, ⊎_elim, inl, inr, min}
 use Rattle.std.proofs.Common.{replicate, Bool, List, [], ◌∷◌, ◌++◌, length, map, refl, sym, ◌∙◌, ap}
 use Rattle.std.proofs.Common.{subst, arith}
-use Rattle.std.specs.Prelude.{nat_lt}
+use Rattle.std.specs.Prelude.{false, nat_lt}
 use Rattle.std.proofs.lemmas.Bool.{cases_lt}
 use Rattle.std.proofs.lemmas.List.{map-append, length-map}
-use Rattle.history.specs.Rails.{Rails, Ends, IsSound, must_of, may_of, rails_timed, rails_at}
+use Rattle.std.proofs.Math.ListN.{get_or-map}
+use Rattle.history.specs.Rails.{Rails, Ends, IsSound, both, must_of, may_of, rails_timed, rails_at}
 use Rattle.history.specs.Elements.{timed}
 use Rattle.history.specs.Recorded.{at}
-use Rattle.history.proofs.ElementLaws.{timed-same}
-use Rattle.history.proofs.RailsBridge.{must_at, may_at}
-use Rattle.history.proofs.SoundLaws.{timed_sound}
+use Rattle.history.specs.Laws.{HistoryLaws}
 use Rattle.timers.specs.Counts.{steady_of}
 use Rattle.timers.specs.Cells.{CellNumbers, AreBounded, AreSound, RailStandsFor, RailsStandFor}
 use Rattle.timers.specs.Cells.{fresh_numbers, numbers_after}
@@ -42,6 +41,12 @@ map-append_replicate : (f : Rails → Bool) (l : List Rails) (x : Rails) (n : �
 map-append_replicate f l x n = ap (λ (k : List Bool). map f l ++ k) (sym (map-replicate f n x))
     ∙ sym (map-append f l (replicate n x))
 
+must_at : (l : List Rails) (r : ℕ) → at (map must_of l) r ≡ (rails_at l r).must
+must_at l r = get_or-map must_of l r (both false)
+
+may_at : (l : List Rails) (r : ℕ) → at (map may_of l) r ≡ (rails_at l r).may
+may_at l r = get_or-map may_of l r (both false)
+
 -- numbers that counted n more ticks of the rail
 rail_skip : (f : Rails → Bool) (c : CellNumbers) (p d : ℕ) (l : List Rails) (x : Rails) (n : ℕ) →
     RailStandsFor c p d (map f l) → 1 ≤ n →
@@ -50,7 +55,7 @@ rail_skip f c p d l x n h some =
     let P : List Bool → Type 0 = λ k. RailStandsFor (numbers_after n c (f x)) p d k in
     subst P (map-append_replicate f l x n) (standing_skip c p d n (map f l) (f x) h some)
 
-module _ (f : Rails → Bool)
+module _ (laws : HistoryLaws) (f : Rails → Bool)
     (reads : (l : List Rails) (r : ℕ) → at (map f l) r ≡ f (rails_at l r)) where
   -- the element at the last tick, by the numbers
   rail_answer : (c : CellNumbers) (p d : ℕ) (l : List Rails) (x : Rails) →
@@ -58,10 +63,10 @@ module _ (f : Rails → Bool)
       nat_lt 0 c.left ≡ timed (λ r. f (rails_at (l ++ x ∷ []) r)) p d (length l)
   rail_answer c p d l x h =
       let P : List Bool → Type 0 = λ k. RailStandsFor c p d k in
-      timed_of_standing c p d (map f l) (f x) (subst P (map-append f l (x ∷ [])) h)
+      timed_of_standing laws c p d (map f l) (f x) (subst P (map-append f l (x ∷ [])) h)
       ∙ ap (λ (k : List Bool). timed (at k) p d (length (map f l))) (sym (map-append f l (x ∷ [])))
       ∙ ap (timed (at (map f (l ++ x ∷ []))) p d) (length-map l f)
-      ∙ timed-same (at (map f (l ++ x ∷ []))) (λ r. f (rails_at (l ++ x ∷ []) r)) p d (length l)
+      ∙ laws.elements_past.timed (at (map f (l ++ x ∷ []))) (λ r. f (rails_at (l ++ x ∷ []) r)) p d (length l)
       (λ r _. reads (l ++ x ∷ []) r)
 
   -- the element at the k-th of the next ticks
@@ -72,7 +77,7 @@ module _ (f : Rails → Bool)
       ap (λ (r : List Bool). timed (at r) p d (length (map f l) + k))
       (map-append_replicate f l x (suc k))
       ∙ ap (λ (n : ℕ). timed (at (map f (l ++ replicate (suc k) x))) p d (n + k)) (length-map l f)
-      ∙ timed-same (at (map f (l ++ replicate (suc k) x)))
+      ∙ laws.elements_past.timed (at (map f (l ++ replicate (suc k) x)))
       (λ r. f (rails_at (l ++ replicate (suc k) x) r)) p d (length l + k)
       (λ r _. reads (l ++ replicate (suc k) x) r)
 
@@ -117,42 +122,42 @@ rails_skipped m n m' n' p d l x a b count now some ea eb em en h =
 abbrev pub answer_of : CellNumbers → CellNumbers → Rails
 answer_of m n = record { must = nat_lt 0 m.left; may = nat_lt 0 n.left }
 
-pub rails_answer : (m n : CellNumbers) (p d : Ends) (l : List Rails) (x : Rails) →
+pub rails_answer : HistoryLaws → (m n : CellNumbers) (p d : Ends) (l : List Rails) (x : Rails) →
     RailsStandFor m n p d (l ++ x ∷ []) →
     answer_of m n ≡ rails_timed (rails_at (l ++ x ∷ [])) p d (length l)
-rails_answer m n p d l x h =
+rails_answer laws m n p d l x h =
     ap (λ (v : Bool). record { must = v; may = nat_lt 0 n.left })
-    (rail_answer must_of must_at m p.greatest d.least l x h.must_stands)
+    (rail_answer laws must_of must_at m p.greatest d.least l x h.must_stands)
     ∙ ap (λ (v : Bool). record {
       must = timed (λ r. (rails_at (l ++ x ∷ []) r).must) p.greatest d.least (length l);
       may = v;
     })
-    (rail_answer may_of may_at n p.least d.greatest l x h.may_stands)
+    (rail_answer laws may_of may_at n p.least d.greatest l x h.may_stands)
 
-pub answer_sound : (m n : CellNumbers) (p d : Ends) (l : List Rails) (x : Rails) →
+pub answer_sound : HistoryLaws → (m n : CellNumbers) (p d : Ends) (l : List Rails) (x : Rails) →
     RailsStandFor m n p d (l ++ x ∷ []) → IsSound (answer_of m n)
-answer_sound m n p d l x h =
+answer_sound laws m n p d l x h =
     let P : Rails → Type 0 = λ y. IsSound y in
-    subst P (sym (rails_answer m n p d l x h))
-    (timed_sound (rails_at (l ++ x ∷ [])) p d (length l) h.pickup_ordered h.dropout_ordered
+    subst P (sym (rails_answer laws m n p d l x h))
+    (laws.rails_sound.timed (rails_at (l ++ x ∷ [])) p d (length l) h.pickup_ordered h.dropout_ordered
     (λ r _. sound_at (l ++ x ∷ []) r h.sound))
 
 -- the next answers of both rails, from those of each
-next_rails_is : (p d : Ends) (l : List Rails) (x : Rails) (k : ℕ) →
+next_rails_is : HistoryLaws → (p d : Ends) (l : List Rails) (x : Rails) (k : ℕ) →
     next_rails p d l x k ≡ record {
       must = next_on p.greatest d.least (map must_of l) x.must k;
       may = next_on p.least d.greatest (map may_of l) x.may k;
     }
-next_rails_is p d l x k =
+next_rails_is laws p d l x k =
     ap (λ (v : Bool). record {
       must = v;
       may = timed (λ r. (rails_at (l ++ replicate (suc k) x) r).may) p.least d.greatest
           (length l + k);
-    }) (sym (rail_next must_of must_at p.greatest d.least l x k))
+    }) (sym (rail_next laws must_of must_at p.greatest d.least l x k))
     ∙ ap (λ (v : Bool). record {
       must = next_on p.greatest d.least (map must_of l) x.must k;
       may = v;
-    }) (sym (rail_next may_of may_at p.least d.greatest l x k))
+    }) (sym (rail_next laws may_of may_at p.least d.greatest l x k))
 
 -- ---- all lanes together
 
@@ -216,7 +221,7 @@ abbrev pub rail_time : CellNumbers → Bool → ℕ
 rail_time c on = steady_of c.pickup c.run c.left on
 
 -- the cells of all lanes, from the numbers of both rails in each
-pub rails_steady : (lanes : ℕ) (m n : ℕ → CellNumbers) (p d : ℕ → Ends) (inputs : ℕ → List Rails)
+pub rails_steady : HistoryLaws → (lanes : ℕ) (m n : ℕ → CellNumbers) (p d : ℕ → Ends) (inputs : ℕ → List Rails)
     (x : ℕ → Rails) (steps : ℕ) →
     ((lane : ℕ) → lane < lanes → RailsStandFor (m lane) (n lane) (p lane) (d lane) (inputs lane)) →
     ((lane : ℕ) → lane < lanes → AreBounded (m lane) × AreBounded (n lane)) →
@@ -226,18 +231,18 @@ pub rails_steady : (lanes : ℕ) (m n : ℕ → CellNumbers) (p d : ℕ → Ends
     (steps < 4000 → (lane : ℕ) × (lane < lanes) ×
     ((steps ≡ rail_time (m lane) (x lane).must) ⊎ (steps ≡ rail_time (n lane) (x lane).may))) →
     IsSteadyFor lanes (λ lane k. next_rails (p lane) (d lane) (inputs lane) (x lane) k) steps
-rails_steady lanes m n p d inputs x steps stands bounded limited under met =
+rails_steady laws lanes m n p d inputs x steps stands bounded limited under met =
     least_steady lanes
     (λ lane. next_on (p lane).greatest (d lane).least (map must_of (inputs lane)) (x lane).must)
     (λ lane. next_on (p lane).least (d lane).greatest (map may_of (inputs lane)) (x lane).may)
     (λ lane. rail_time (m lane) (x lane).must)
     (λ lane. rail_time (n lane) (x lane).may)
     (λ lane k. next_rails (p lane) (d lane) (inputs lane) (x lane) k)
-    (λ lane k _. next_rails_is (p lane) (d lane) (inputs lane) (x lane) k)
-    (λ lane inside. steady_from_numbers (m lane) (p lane).greatest (d lane).least
+    (λ lane k _. next_rails_is laws (p lane) (d lane) (inputs lane) (x lane) k)
+    (λ lane inside. steady_from_numbers laws (m lane) (p lane).greatest (d lane).least
     (map must_of (inputs lane)) (stands lane inside).must_stands (bounded lane inside).0
     (x lane).must)
-    (λ lane inside. steady_from_numbers (n lane) (p lane).least (d lane).greatest
+    (λ lane inside. steady_from_numbers laws (n lane) (p lane).least (d lane).greatest
     (map may_of (inputs lane)) (stands lane inside).may_stands (bounded lane inside).1
     (x lane).may)
     steps limited under met

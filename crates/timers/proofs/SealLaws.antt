@@ -5,12 +5,22 @@ use Rattle.std.proofs.Common.{arith, inl, inr, ⊎_elim, length-append, append_a
 use Rattle.std.specs.Prelude.{IsTrue, Decides}
 use Rattle.std.proofs.lemmas.Bool.{cases_lt}
 use Rattle.std.proofs.lemmas.Bool.Decides.{Decides-like, Decides-and, Decides-or, same_from_decides}
-use Rattle.std.proofs.lemmas.List.{replicate_more}
+use Rattle.std.proofs.lemmas.List.{replicate_more, get_or_append_left}
+use Rattle.std.proofs.Math.Seq.{get_or-append_seam}
 use Rattle.history.specs.Elements.{sealed, IsSealed}
-use Rattle.history.specs.Rails.{Rails, rails_or, rails_and, rails_sealed, rails_at}
-use Rattle.history.proofs.ElementLaws.{Decides-sealed, Decides-true}
-use Rattle.history.proofs.RailsBridge.{rails_sealed-same, rails_at_push, rails_at_last}
+use Rattle.history.specs.Rails.{Rails, both, rails_or, rails_and, rails_sealed, rails_at}
+use Rattle.history.specs.Laws.{HistoryLaws}
 use Rattle.timers.specs.Seals.{last_seal, SealStandsFor}
+
+Decides-true : (b : Bool) → Decides b (IsTrue b)
+Decides-true b = (λ e. e, λ e. e)
+
+rails_at_push : (l : List Rails) (x : Rails) (r : ℕ) → r < length l →
+    rails_at (l ++ x ∷ []) r ≡ rails_at l r
+rails_at_push l x r lt = get_or_append_left l (x ∷ []) (both false) r lt
+
+rails_at_last : (l : List Rails) (x : Rails) → rails_at (l ++ x ∷ []) (length l) ≡ x
+rails_at_last l x = get_or-append_seam l x [] (both false)
 
 -- ---- one rail: a seal is set now, or it was on and is kept
 
@@ -51,16 +61,16 @@ next_on set keep t h = ⊎_elim
     inl (ap set (sym e) ∙ h.starts))
     (cases_lt h.s (suc t))
 
-sealed-next : (set keep : ℕ → Bool) (t : ℕ) →
+sealed-next : HistoryLaws → (set keep : ℕ → Bool) (t : ℕ) →
     (set (suc t) || (keep (suc t) && sealed set keep t)) ≡ sealed set keep (suc t)
-sealed-next set keep t =
+sealed-next laws set keep t =
     let now : Decides (set (suc t) || (keep (suc t) && sealed set keep t))
     (IsTrue (set (suc t)) ⊎ (IsTrue (keep (suc t)) × IsSealed set keep t)) =
     Decides-or _ _ (Decides-true (set (suc t)))
-    (Decides-and _ _ (Decides-true (keep (suc t))) (Decides-sealed set keep t)) in
+    (Decides-and _ _ (Decides-true (keep (suc t))) (laws.elements.sealed set keep t)) in
     same_from_decides _ (sealed set keep (suc t))
     (Decides-like _ (on_next set keep t) (next_on set keep t) now)
-    (Decides-sealed set keep (suc t))
+    (laws.elements.sealed set keep (suc t))
 
 first_on : (set keep : ℕ → Bool) → IsTrue (set 0) → IsSealed set keep 0
 first_on set keep now = record {
@@ -76,10 +86,10 @@ on_first set keep h =
     let e : h.s ≡ 0 = omega arith in
     ap set (sym e) ∙ h.starts
 
-sealed-first : (set keep : ℕ → Bool) → set 0 ≡ sealed set keep 0
-sealed-first set keep = same_from_decides (set 0) (sealed set keep 0)
+sealed-first : HistoryLaws → (set keep : ℕ → Bool) → set 0 ≡ sealed set keep 0
+sealed-first laws set keep = same_from_decides (set 0) (sealed set keep 0)
     (Decides-like _ (first_on set keep) (on_first set keep) (Decides-true (set 0)))
-    (Decides-sealed set keep 0)
+    (laws.elements.sealed set keep 0)
 
 -- ---- both rails
 
@@ -95,21 +105,21 @@ or_nothing false true = refl
 or_nothing false false = refl
 
 -- one more tick, where the histories so far are those before it
-seal_step : (set keep set' keep' : ℕ → Rails) (n : ℕ) → ((r : ℕ) → r < n → set' r ≡ set r) →
+seal_step : HistoryLaws → (set keep set' keep' : ℕ → Rails) (n : ℕ) → ((r : ℕ) → r < n → set' r ≡ set r) →
     ((r : ℕ) → r < n → keep' r ≡ keep r) →
     rails_or (set' n) (rails_and (keep' n) (last_seal set keep n)) ≡ rails_sealed set' keep' n
-seal_step set keep set' keep' zero same same' =
+seal_step laws set keep set' keep' zero same same' =
     both_rails
-    (or_nothing (set' 0).must (keep' 0).must ∙ sealed-first (λ r. (set' r).must)
+    (or_nothing (set' 0).must (keep' 0).must ∙ sealed-first laws (λ r. (set' r).must)
     (λ r. (keep' r).must))
-    (or_nothing (set' 0).may (keep' 0).may ∙ sealed-first (λ r. (set' r).may) (λ r. (keep' r).may))
-seal_step set keep set' keep' (suc n) same same' =
+    (or_nothing (set' 0).may (keep' 0).may ∙ sealed-first laws (λ r. (set' r).may) (λ r. (keep' r).may))
+seal_step laws set keep set' keep' (suc n) same same' =
     ap (λ (last : Rails). rails_or (set' (suc n)) (rails_and (keep' (suc n)) last))
-    (sym (rails_sealed-same set' keep' set keep n (λ r le. same r (omega arith))
+    (sym (laws.rails_past.sealed set' keep' set keep n (λ r le. same r (omega arith))
     (λ r le. same' r (omega arith))))
     ∙ both_rails
-    (sealed-next (λ r. (set' r).must) (λ r. (keep' r).must) n)
-    (sealed-next (λ r. (set' r).may) (λ r. (keep' r).may) n)
+    (sealed-next laws (λ r. (set' r).must) (λ r. (keep' r).must) n)
+    (sealed-next laws (λ r. (set' r).may) (λ r. (keep' r).may) n)
 
 -- ---- the cell
 
@@ -122,9 +132,9 @@ seal_of_standing sets keeps x y now h =
     omega (arith, length-append sets (x ∷ [])) in
     h.last_is ∙ ap (last_seal (rails_at (sets ++ x ∷ [])) (rails_at (keeps ++ y ∷ []))) longer
 
-seal_push : (sets keeps : List Rails) (x y last now : Rails) → SealStandsFor last sets keeps →
+seal_push : HistoryLaws → (sets keeps : List Rails) (x y last now : Rails) → SealStandsFor last sets keeps →
     now ≡ rails_or x (rails_and y last) → SealStandsFor now (sets ++ x ∷ []) (keeps ++ y ∷ [])
-seal_push sets keeps x y last now h e =
+seal_push laws sets keeps x y last now h e =
     let together : length keeps ≡ length sets = h.together in
     let longer : length (sets ++ x ∷ []) ≡ suc (length sets) =
     omega (arith, length-append sets (x ∷ [])) in
@@ -139,7 +149,7 @@ seal_push sets keeps x y last now h e =
           ∙ ap (λ (z : Rails). rails_or (set (length sets)) (rails_and z last)) now_keep
           ∙ ap (λ (z : Rails). rails_or (set (length sets))
           (rails_and (keep (length sets)) z)) h.last_is
-          ∙ seal_step (rails_at sets) (rails_at keeps) set keep (length sets)
+          ∙ seal_step laws (rails_at sets) (rails_at keeps) set keep (length sets)
           (λ r lt. rails_at_push sets x r lt) (λ r lt. rails_at_push keeps y r (omega arith))
           ∙ ap (last_seal set keep) (sym longer);
     }
@@ -163,17 +173,17 @@ append_one_more l z n =
     append_assoc l (replicate n z) (z ∷ []) ∙ ap (λ (k : List Rails). l ++ k)
     (replicate_more n z ∙ ap (λ (m : ℕ). replicate m z) i)
 
-pub seal_skipped : (sets keeps : List Rails) (x y last now : Rails) (n : ℕ) →
+pub seal_skipped : HistoryLaws → (sets keeps : List Rails) (x y last now : Rails) (n : ℕ) →
     SealStandsFor last sets keeps → now ≡ rails_or x (rails_and y last) → 1 ≤ n →
     SealStandsFor now (sets ++ replicate n x) (keeps ++ replicate n y)
-seal_skipped sets keeps x y last now zero h e some = absurd (omega arith)
-seal_skipped sets keeps x y last now (suc zero) h e some = seal_push sets keeps x y last now h e
-seal_skipped sets keeps x y last now (suc (suc n)) h e some =
+seal_skipped laws sets keeps x y last now zero h e some = absurd (omega arith)
+seal_skipped laws sets keeps x y last now (suc zero) h e some = seal_push laws sets keeps x y last now h e
+seal_skipped laws sets keeps x y last now (suc (suc n)) h e some =
     let before : SealStandsFor now (sets ++ replicate (suc n) x) (keeps ++ replicate (suc n) y) =
-    seal_skipped sets keeps x y last now (suc n) h e (omega arith) in
+    seal_skipped laws sets keeps x y last now (suc n) h e (omega arith) in
     let P : List Rails → Type 0 = λ l. SealStandsFor now l (keeps ++ replicate (suc (suc n)) y) in
     let Q : List Rails → Type 0 =
     λ l. SealStandsFor now ((sets ++ replicate (suc n) x) ++ x ∷ []) l in
     subst P (append_one_more sets x (suc n)) (subst Q (append_one_more keeps y (suc n))
-    (seal_push (sets ++ replicate (suc n) x) (keeps ++ replicate (suc n) y) x y now now before
+    (seal_push laws (sets ++ replicate (suc n) x) (keeps ++ replicate (suc n) y) x y now now before
     (rails_again x y last now e)))

@@ -10,6 +10,7 @@ ghost use Rattle.timers.specs.Vectors.{vectors_of, numbers_in, steady_in};
 use crate::Timed;
 use crate::rail::steady_ticks;
 use crate::vectors::{lasting, left_over, runs_after, splat, ticks_of};
+use history::laws::history_laws;
 use std::marker::Model;
 use std::simd::prelude::*;
 use tick_signal::{Lanes64, Signal, Ticks64};
@@ -122,10 +123,12 @@ impl Timed for Lanes64 {
     }
 
     fn tick(cells: &mut LaneCells, input: Lanes64) -> Lanes64 {
+        history_laws();
         cells.tick(input)
     }
 
     fn ahead(cells: &LaneCells, input: Lanes64) -> u32 {
+        history_laws();
         cells.ahead(input)
     }
 

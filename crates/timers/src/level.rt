@@ -3,6 +3,7 @@
 
 use crate::Timed;
 use crate::rail::RailCell;
+use history::laws::history_laws;
 use tick_signal::{Level, Signal, Tick};
 
 impl Timed for Level {
@@ -20,10 +21,12 @@ impl Timed for Level {
     }
 
     fn tick(cells: &mut RailCell, input: Level) -> Level {
+        history_laws();
         Level::known(cells.tick(input.must(0)))
     }
 
     fn ahead(cells: &RailCell, input: Level) -> u32 {
+        history_laws();
         cells.ahead(input.must(0))
     }
 

@@ -5,6 +5,7 @@ ghost use Rattle.std.specs.Prelude.{◌≡◌, ℕ, ◌<◌, ◌≤◌, List, []
 ghost use Rattle.history.specs.Rails.{Rails, rails_sealed, rails_at, rails_or, rails_and};
 ghost use Rattle.timers.specs.Seals.{SealStandsFor};
 
+use history::laws::history_laws;
 use std::marker::Model;
 use tick_signal::Signal;
 
@@ -58,6 +59,7 @@ impl<V: Signal> SealCell<V> {
             (sets ++ replicate count (V.rails set lane))
             (holds ++ replicate count (V.rails hold lane)) }
     {
+        history_laws();
         self.last = next(set, hold, self.last);
     }
 }

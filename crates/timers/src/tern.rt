@@ -3,6 +3,7 @@
 
 use crate::Timed;
 use crate::rail::RailCell;
+use history::laws::history_laws;
 use tick_signal::{Signal, Tern, Within};
 
 /// A timed cell for each rail.
@@ -28,12 +29,14 @@ impl Timed for Tern {
     }
 
     fn tick(cells: &mut TernCells, input: Tern) -> Tern {
+        history_laws();
         let must = cells.must.tick(input.must(0));
         let may = cells.may.tick(input.may(0));
         Tern::from_rails(must, may)
     }
 
     fn ahead(cells: &TernCells, input: Tern) -> u32 {
+        history_laws();
         let must = cells.must.ahead(input.must(0));
         let may = cells.may.ahead(input.may(0));
         must.min(may)

@@ -1,7 +1,6 @@
 use Rattle.std.proofs.Common.{◌≤◌, ◌<◌, ◌-◌, ◌∙◌, sym, ap, length, arith}
 use Rattle.std.proofs.lemmas.Bool.{lt-leb}
 use Rattle.history.specs.Rails.{both, rails_at}
-use Rattle.history.proofs.DelayLaws.{single_at, single_before}
 use Rattle.tick_signal.specs.Bits.{bit_rails}
 use Rattle.tick_signal.specs.Lanes.{in_lane}
 use Rattle.channel.proofs.SentLaws.{rails_at-in_lane}
@@ -16,11 +15,11 @@ returns-then-c-sent c =
     ap both c.must.ensures
     ∙ ap (λ v. bit_rails v c.args.lane) c.index-sent-sent.is
     ∙ sym (rails_at-in_lane bit_rails c.args.lane c.args.sent.now (t - c.args.c) _ before)
-    ∙ sym (single_at u c.args.c t past)
+    ∙ sym (c.one_delay_reads_one_tick.ensures.rails u c.args.c t past)
 
 pub returns-else-c-sent : goal.returns-else-c-sent
 returns-else-c-sent c =
     let t = length c.args.sent.now in
     ap both (lt-leb c.args.c t c.if-c-sent.false)
-    ∙ sym (single_before (rails_at
+    ∙ sym (c.one_delay_reads_one_tick.ensures.rails_before (rails_at
     (in_lane bit_rails c.args.lane c.args.sent.now)) c.args.c t c.if-c-sent.false)

@@ -1,6 +1,5 @@
 use Rattle.std.proofs.Common.{◌≡◌, ◌≤◌, ◌<◌, ◌-◌, ◌∙◌, sym, ap, length, arith, ℕ, subst}
 use Rattle.history.specs.Rails.{rails_at}
-use Rattle.history.proofs.DelayLaws.{single_at, single_before}
 use Rattle.tick_signal.specs.Lanes.{in_lane}
 use Rattle.tick_signal.specs.Levels.{level_rails}
 use Rattle.channel.proofs.SentLaws.{rails_at-in_lane}
@@ -17,12 +16,12 @@ returns-then-c-sent c = λ lane inside.
     sym (rails_at-in_lane (λ v _. level_rails v) lane c.args.sent.now
     (t - c.value-c.result) _ before)
     ∙ ap (λ (k : ℕ). u (t - k)) e
-    ∙ sym (single_at u c.args.delay.now t (subst (λ (k : ℕ). k ≤ t) e past))
+    ∙ sym (c.one_delay_reads_one_tick.ensures.rails u c.args.delay.now t (subst (λ (k : ℕ). k ≤ t) e past))
 
 pub returns-else-c-sent : goal.returns-else-c-sent
 returns-else-c-sent c = λ lane inside.
     let t = length c.args.sent.now in
     let e : c.value-c.result ≡ c.args.delay.now = c.value-c.ensures.value in
-    sym (single_before (rails_at (in_lane (λ v _.
+    sym (c.one_delay_reads_one_tick.ensures.rails_before (rails_at (in_lane (λ v _.
     level_rails v) lane c.args.sent.now)) c.args.delay.now t
     (subst (λ (k : ℕ). t < k) e c.if-c-sent.false))

@@ -1,7 +1,6 @@
 use Rattle.std.proofs.Common.{◌≡◌, ◌∙◌, sym, ap, length, ℕ, Bool}
 use Rattle.std.proofs.lemmas.Bool.Decides.{same_from_decides}
 use Rattle.history.specs.Rails.{Ends, rails_at, rails_delayed}
-use Rattle.history.proofs.DelayLaws.{Decides-must, Decides-may, delayed_sound}
 use Rattle.tick_signal.specs.Lanes.{in_lane}
 use Rattle.tick_signal.specs.Spans.{ends_of}
 use Rattle.tick_signal.specs.Terns.{tern_rails}
@@ -18,12 +17,12 @@ returns c = λ lane inside.
     ∙ ap (λ (n : ℕ). ends_of c.args.delay.now.least n) c.greatest-greatest.ensures.greatest in
     let must : c.must_come.result ≡ (rails_delayed u c.args.delay.now t).must =
     same_from_decides c.must_come.result (rails_delayed u ends t).must c.must_come.ensures
-    (Decides-must u ends t) ∙ ap (λ (x : Ends). (rails_delayed u x t).must) e in
+    (c.delays_are_their_facts.ensures.must u (λ _. ends) t) ∙ ap (λ (x : Ends). (rails_delayed u x t).must) e in
     let may : c.may_come.result ≡ (rails_delayed u c.args.delay.now t).may =
     same_from_decides c.may_come.result (rails_delayed u ends t).may c.may_come.ensures
-    (Decides-may u ends t) ∙ ap (λ (x : Ends). (rails_delayed u x t).may) e in
+    (c.delays_are_their_facts.ensures.may u (λ _. ends) t) ∙ ap (λ (x : Ends). (rails_delayed u x t).may) e in
     c.from_rails.ensures (λ on. may
-    ∙ delayed_sound u c.args.delay.now t c.least-least.ensures.in_order.ordered
+    ∙ c.delays_stay_sound.ensures u (λ _. c.args.delay.now) t c.least-least.ensures.in_order.ordered
     (λ r _ yes. sent_sound c.args.sent.now r yes) (sym must ∙ on))
     ∙ ap (λ (b : Bool). record { must = b; may = c.may_come.result }) must
     ∙ ap (λ (b : Bool). record { must = (rails_delayed u c.args.delay.now t).must; may = b }) may

@@ -8,7 +8,7 @@ use Rattle.timers.proofs.lanes.Lanes64Timed.ahead.Goals as goal
 
 pub returns : goal.returns
 returns c = λ pickup dropout inputs stands.
-    rails_steady 64 (numbers_in c.args.cells.now) (numbers_in c.args.cells.now)
+    rails_steady c.history_laws.ensures 64 (numbers_in c.args.cells.now) (numbers_in c.args.cells.now)
     (λ lane. single (slice_index pickup lane)) (λ lane. single (slice_index dropout lane)) inputs
     (bit_rails c.args.input) c.ahead.result
     stands (λ lane inside. (

@@ -21,7 +21,7 @@ pub returns-clause-timed : goal.returns-clause-timed
 returns-clause-timed c = λ pickup dropout lane inputs inside h.
     let after = numbers_in c.tick.new.self lane in
     ap both (c.tick.ensures.answer lane inside)
-    ∙ rails_answer after after (single (slice_index pickup lane))
+    ∙ rails_answer c.history_laws.ensures after after (single (slice_index pickup lane))
     (single (slice_index dropout lane))
     inputs (bit_rails c.args.input lane)
     (returns-clause-stands c pickup dropout lane inputs inside h)

@@ -15,7 +15,7 @@ returns c = λ pickup dropout inputs stands.
     must ∙ ap (steady_of cell.pickup cell.run cell.left) (one_rail c.args.input) in
     let bounded = c.ahead.ensures.bounded in
     let zero_lane : 0 < 1 = omega arith in
-    rails_steady 1 (λ _. cell) (λ _. cell) (λ _. single pickup) (λ _. single dropout) inputs
+    rails_steady c.history_laws.ensures 1 (λ _. cell) (λ _. cell) (λ _. single pickup) (λ _. single dropout) inputs
     (λ _. x) c.ahead.result
     stands (λ lane inside. (bounded, bounded)) c.ahead.ensures.limited
     (λ lane inside. (omega arith, omega arith)) (λ less. (0, zero_lane, inl must))

@@ -17,5 +17,5 @@ pub returns-clause-timed : goal.returns-clause-timed
 returns-clause-timed c = λ pickup dropout lane inputs inside h.
     c.known.ensures lane inside
     ∙ ap both c.tick.ensures.answer
-    ∙ rails_answer c.tick.new.self c.tick.new.self (single pickup) (single dropout) inputs
+    ∙ rails_answer c.history_laws.ensures c.tick.new.self c.tick.new.self (single pickup) (single dropout) inputs
     (level_rails c.args.input) (returns-clause-stands c pickup dropout lane inputs inside h)

@@ -5,7 +5,7 @@ use Rattle.timers.proofs.seal.SealCell.skip.Goals as goal
 
 pub returns : goal.returns
 returns g c = λ lane sets holds inside h.
-    seal_skipped sets holds (g.V.Signal.rails c.args.set lane) (g.V.Signal.rails c.args.hold lane)
+    seal_skipped c.history_laws.ensures sets holds (g.V.Signal.rails c.args.set lane) (g.V.Signal.rails c.args.hold lane)
     (g.V.Signal.rails c.args.self.now lane)
     (g.V.Signal.rails c.next-self-inside.result lane) c.args.count h
     (c.next-self-inside.ensures lane inside ∙ ap

@@ -18,7 +18,7 @@ returns c = λ pickup dropout inputs stands.
     let limited : c.min.result ≤ 4000 = omega
     (arith, c.min.ensures, c.ahead-must.ensures.limited) in
     let zero_lane : 0 < 1 = omega arith in
-    rails_steady 1 (λ _. m) (λ _. n) (λ _. pickup) (λ _. dropout) inputs (λ _. x) c.min.result
+    rails_steady c.history_laws.ensures 1 (λ _. m) (λ _. n) (λ _. pickup) (λ _. dropout) inputs (λ _. x) c.min.result
     stands (λ lane inside. (c.ahead-must.ensures.bounded, c.ahead-may.ensures.bounded)) limited
     (λ lane inside. least_of_two c.min.result c.ahead-must.result c.ahead-may.result a b
     c.min.ensures must may)

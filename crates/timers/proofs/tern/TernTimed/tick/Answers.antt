@@ -24,6 +24,6 @@ returns-clause-timed c = λ pickup dropout lane inputs inside h.
     ap (λ (v : Bool). record { must = v; may = c.tick-may.result }) c.tick-must.ensures.answer
     ∙ ap (λ (v : Bool). record { must = nat_lt 0 m.left; may = v }) c.tick-may.ensures.answer in
     let P : Rails → Type 0 = λ y. IsSound y in
-    c.from_rails.ensures (subst P (sym told) (answer_sound m n pickup dropout inputs x stands))
+    c.from_rails.ensures (subst P (sym told) (answer_sound c.history_laws.ensures m n pickup dropout inputs x stands))
     ∙ told
-    ∙ rails_answer m n pickup dropout inputs x stands
+    ∙ rails_answer c.history_laws.ensures m n pickup dropout inputs x stands
