@@ -44,7 +44,7 @@ pub fn scheme(
 }
 
 // Whether each other terminal permits.
-#[tactic(auto, unfolding(line_model::specs::Unblocking::all_open, line_model::specs::Received::all_others), using(zones::proofs::Gathering::gate_kept))]
+#[tactic(auto, unfolding(line_model::specs::Unblocking::all_open, line_model::specs::Received::all_others), using(zones::specs::Gathering::gate_kept))]
 fn all_open(net: &mut NetBuilder, line: &Line, terminal: u32) -> Result<GateId, Memory>
     requires exists { terminal < terminal_count line.now }
     requires room { length net.old + 67 ≤ 512 }

@@ -21,7 +21,7 @@ use Rattle.std.proofs.Common.{
   arith,
   length-append,
 }
-use Rattle.std.specs.Prelude.{unwrap_or}
+use Rattle.std.specs.Prelude.{unwrap_or, IfSome}
 use Rattle.line_model.specs.declared.line.Line.{Line}
 use Rattle.line_model.specs.declared.line.Scheme.{Scheme}
 use Rattle.line_model.specs.declared.line.Terminal.{Terminal}
@@ -32,11 +32,9 @@ use Rattle.line_model.specs.Settings.{
   line_settings,
   settings_of_terminals,
   settings_of_channels,
-  is_owned_setting,
 }
-use Rattle.line_model.specs.Channels.{channel_number, is_pair}
 use Rattle.line_model.specs.Parameters.{param_number, param_count, terminal_count, channel_count}
-use Rattle.line_model.proofs.Numbers.{position_within, length-line_settings}
+use Rattle.line_model.specs.Laws.{ParametersAreNumbered}
 
 -- a terminal has parameters
 some_settings : (s : Scheme) (k : ℕ) (ts : List Terminal) → 1 ≤ length ts
@@ -44,9 +42,9 @@ some_settings : (s : Scheme) (k : ℕ) (ts : List Terminal) → 1 ≤ length ts
 some_settings s k [] h = absurd (omega arith)
 some_settings s k (t ∷ ts) h = omega arith
 
-some_params : (line : Line) → 1 ≤ param_count line
+some_params : ParametersAreNumbered → (line : Line) → 1 ≤ param_count line
 unfolding line_settings
-some_params line =
+some_params laws line =
     let own : List OwnedSetting =
     settings_of_terminals line.scheme 0 line.terminals.items in
     let rest : List OwnedSetting =
@@ -54,37 +52,26 @@ some_params line =
     let two : 2 ≤ terminal_count line = line.two_or_three.0 in
     let some : 1 ≤ length own =
     some_settings line.scheme 0 line.terminals.items (omega arith) in
-    let all : length (own ++ rest) ≡ param_count line = length-line_settings line in
+    let all : length (own ++ rest) ≡ param_count line = laws.count line in
     omega (arith, length-append own rest)
 
-pub param_there : (line : Line) (o : Owner) (x : Setting)
+pub param_there : ParametersAreNumbered → (line : Line) (o : Owner) (x : Setting)
     → unwrap_or (param_number line o x) 0 < param_count line
-param_there line o x = by (param_number line o x) refl where
+param_there laws line o x = by (param_number line o x) refl where
   by : (n : Option ℕ) → param_number line o x ≡ n → unwrap_or n 0 < param_count line
-  by None e = omega (arith, some_params line)
-  by (Some i) e =
-      let all : List OwnedSetting =
-      line_settings line.scheme line.terminals.items line.channels.items in
-      let within : i < 0 + length all = position_within (is_owned_setting o x) 0 i all e in
-      let same : length all ≡ param_count line = length-line_settings line in
-      omega arith
+  by None e = omega (arith, some_params laws line)
+  by (Some i) e = laws.within line o x i e
 
 some_channels : (n : ℕ) → 2 ≤ n → 1 ≤ n * (n - 1)
 some_channels zero two = absurd (omega arith)
 some_channels (suc zero) two = absurd (omega arith)
 some_channels (suc (suc n)) two = grind arith
 
-pub channel_there : (line : Line) (k j : ℕ)
-    → unwrap_or (channel_number line.channels.items j k) 0 < channel_count line
-channel_there line k j = by (channel_number line.channels.items j k) refl where
-  by : (n : Option ℕ) → channel_number line.channels.items j k ≡ n
-      → unwrap_or n 0 < channel_count line
-  by None e =
-      let two : 2 ≤ terminal_count line = line.two_or_three.0 in
-      let some : 1 ≤ terminal_count line * (terminal_count line - 1) =
-      some_channels (terminal_count line) two in
-      omega (arith, line.pairs_once.count)
-  by (Some i) e =
-      let within : i < 0 + channel_count line =
-      position_within (is_pair j k) 0 i line.channels.items e in
-      omega arith
+pub channel_there : (line : Line) (c : Option ℕ) (P Q : ℕ → Type 0)
+    → IfSome c (λ i. (i < channel_count line) × P i × Q i) → unwrap_or c 0 < channel_count line
+channel_there line None P Q found =
+    let two : 2 ≤ terminal_count line = line.two_or_three.0 in
+    let some : 1 ≤ terminal_count line * (terminal_count line - 1) =
+    some_channels (terminal_count line) two in
+    omega (arith, line.pairs_once.count)
+channel_there line (Some i) P Q found = found.0

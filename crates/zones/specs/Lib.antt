@@ -1,2 +1,3 @@
 pub mod LocalGates
 pub mod Outputs
+pub mod Gathering

@@ -38,7 +38,7 @@ pub fn received(
 }
 
 /// Whether a terminal receives the signal of some other.
-#[tactic(auto, unfolding(line_model::specs::Received::any_received, line_model::specs::Received::all_others), using(crate::proofs::Gathering::gate_kept))]
+#[tactic(auto, unfolding(line_model::specs::Received::any_received, line_model::specs::Received::all_others), using(crate::specs::Gathering::gate_kept))]
 pub fn any_received(net: &mut NetBuilder, line: &Line, terminal: u32) -> Result<GateId, Memory>
     requires exists { terminal < terminal_count line.now }
     requires room { length net.old + 16 ≤ 512 }
@@ -57,7 +57,7 @@ pub fn any_received(net: &mut NetBuilder, line: &Line, terminal: u32) -> Result<
 }
 
 /// Whether a terminal receives the signal of each other.
-#[tactic(auto, unfolding(line_model::specs::Received::all_received, line_model::specs::Received::all_others), using(crate::proofs::Gathering::gate_kept))]
+#[tactic(auto, unfolding(line_model::specs::Received::all_received, line_model::specs::Received::all_others), using(crate::specs::Gathering::gate_kept))]
 pub fn all_received(net: &mut NetBuilder, line: &Line, terminal: u32) -> Result<GateId, Memory>
     requires exists { terminal < terminal_count line.now }
     requires room { length net.old + 16 ≤ 512 }

@@ -8,6 +8,7 @@ ghost use Rattle.line_model.specs.Permissive.{terminal_setting};
 ghost use Rattle.line_model.specs.Received.{channel_to as channel_number_to};
 ghost use Rattle.line_model.specs.Unblocking.{channel_setting};
 
+use line_model::laws::parameters_are_numbered;
 use line_model::{Line, Owner, Setting, Time};
 
 /// A setting of a terminal, as a time.
@@ -34,7 +35,7 @@ pub fn channel_time(line: &Line, terminal: u32, from: u32, setting: Setting) -> 
 }
 
 /// The number of the channel to a terminal from another. It is 0 where there is none.
-#[tactic(auto, unfolding(line_model::specs::Received::channel_to), using(crate::proofs::OwnNames::channel_there))]
+#[tactic(auto, unfolding(line_model::specs::Received::channel_to))]
 pub fn channel_to(line: &Line, terminal: u32, from: u32) -> u32
     ensures is { result ≡ channel_number_to line.now terminal from }
     ensures exists { result < channel_count line.now }
@@ -42,11 +43,12 @@ pub fn channel_to(line: &Line, terminal: u32, from: u32) -> u32
     line.channel_of(from, terminal).unwrap_or(0)
 }
 
-#[tactic(auto, unfolding(line_model::specs::Elements::setting_of), using(crate::proofs::OwnNames::param_there))]
+#[tactic(auto, unfolding(line_model::specs::Elements::setting_of))]
 pub(crate) fn time_of(line: &Line, owner: Owner, setting: Setting) -> Time
     requires exists { IsOwner line.now owner }
     ensures is { result ≡ setting_of line.now owner setting }
     ensures has { HasTime line.now result }
 {
+    parameters_are_numbered();
     Time::Param(line.param_of(owner, setting).unwrap_or(0))
 }

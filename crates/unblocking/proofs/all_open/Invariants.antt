@@ -1,6 +1,6 @@
 use Rattle.line_model.specs.Tree.{And}
 use Rattle.line_model.specs.Unblocking.{open_from}
-use Rattle.zones.proofs.Gathering.{Gathers}
+use Rattle.zones.specs.Gathering.{Gathers}
 use Rattle.unblocking.proofs.all_open.Given as goal
 
 abbrev pub invariant-loop-from : goal.invariant-loop-from

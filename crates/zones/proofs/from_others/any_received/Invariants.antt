@@ -1,6 +1,6 @@
 use Rattle.line_model.specs.Tree.{Or}
 use Rattle.line_model.specs.Received.{received}
-use Rattle.zones.proofs.Gathering.{Gathers}
+use Rattle.zones.specs.Gathering.{Gathers}
 use Rattle.zones.proofs.from_others.any_received.Given as goal
 
 abbrev pub invariant-loop-from : goal.invariant-loop-from

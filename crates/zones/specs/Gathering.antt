@@ -1,6 +1,17 @@
 -- Gates of the other terminals that are joined one after another.
-use Rattle.std.proofs.Common.{◌≡◌, ℕ, ◌*◌, ◌<◌, List, length, Option, Some, None, refl, ap}
-use Rattle.std.specs.Prelude.{option_map}
+use Rattle.std.specs.Prelude.{
+  ◌≡◌,
+  ℕ,
+  ◌*◌,
+  ◌<◌,
+  List,
+  length,
+  Option,
+  Some,
+  None,
+  option_map,
+}
+use Rattle.std.proofs.Common.{refl, ap}
 use Rattle.std.specs.Option.{ForSome}
 use Rattle.line_model.specs.declared.line.Line.{Line}
 use Rattle.line_model.specs.Tree.{Tree}
