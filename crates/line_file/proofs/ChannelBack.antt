@@ -61,10 +61,8 @@ use Rattle.line_model.specs.Places.{channel_place}
 use Rattle.line_model.specs.Settings.{channel_settings, settings_of_terminals}
 use Rattle.line_model.specs.Intervals.{leasts}
 use Rattle.line_model.specs.Intervals.{delay_number_of}
-use Rattle.line_model.proofs.Counts.{setting_count}
-use Rattle.line_model.proofs.Numbers.{length-line_settings}
-use Rattle.line_model.proofs.Positions.{channel_number_of, delay_number_is}
-use Rattle.line_model.proofs.FirstPositions.{is_some-position, position_from-first}
+use Rattle.line_model.specs.Laws.{LineLaws}
+use Rattle.line_model.specs.FirstPositions.{is_some-position, position_from-first}
 use Rattle.line_file.specs.Paths.{joined, item_path}
 use Rattle.line_file.specs.Keys.{all_known, text_at}
 use Rattle.line_file.specs.Times.{time_at, required_times}
@@ -184,7 +182,7 @@ called_back line k lt =
     ∙ ap Some zero_first)
 
 module _
-    (unit : ℕ) (line : Line) (some : 0 < unit) (path : List ℕ) (c : ℕ) (h : Channel)
+    (laws : LineLaws) (unit : ℕ) (line : Line) (some : 0 < unit) (path : List ℕ) (c : ℕ) (h : Channel)
     (lt : c < length line.channels.items) (is : h ≡ get_or line.channels.items c h) where
   from_is : from_of line.channels.items c ≡ h.from
   from_is =
@@ -230,7 +228,7 @@ module _
       ≡ interval_of line (terminal_count line + c * each_count line + i)
   place x i e =
       interval_at line (owner.Channel c) x (terminal_count line + c * each_count line) i
-      (channel_place line.scheme x) (channel_number_of line c x lt) e
+      (channel_place line.scheme x) (laws.parameters.of_channel line c x lt) e
 
   all_within :
       terminal_count line + c * each_count line + each_count line ≤ length line.params.items
@@ -239,8 +237,8 @@ module _
       mul-le-mul_right (each_count line) (omega arith) in
       omega (
         arith,
-        length-line_settings line,
-        setting_count line.scheme line.terminals.items line.channels.items (terminal_count line)
+        laws.parameters.count line,
+        laws.settings.all line.scheme line.terminals.items line.channels.items (terminal_count line)
             (each_count line) refl refl,
       )
 
@@ -263,7 +261,7 @@ module _
   delay_time =
       let n : ℕ = terminal_count line + c * each_count line in
       let number : n ≡ delay_number_of line.scheme line.terminals.items line.channels.items c =
-      delay_number_is line.scheme line.terminals.items line.channels.items c (terminal_count line)
+      laws.settings.delays line.scheme line.terminals.items line.channels.items c (terminal_count line)
       (each_count line) lt refl refl in
       let one : 1 ≤ get_or (leasts line.params.items) n 0 =
       rw number (line.delays_from_one c lt) in
@@ -345,25 +343,25 @@ module _
       rw (held.known, ends, held.delay_is, time, next, besides, ← taken, count)
 
 -- all channels are read back, from number c on
-pub channels_back :
+pub channels_back : LineLaws →
     (unit : ℕ) (line : Line) (m c : ℕ) → 0 < unit → c + m ≡ length line.channels.items
     → channels_at unit c (items_of (channels_data unit line c (drop c line.channels.items)))
     (read_channels line c)
     ≡ Ok (read_channels line (length line.channels.items))
 unfolding channels_at
-channels_back unit line zero c some sum =
+channels_back laws unit line zero c some sum =
     let cs : List Channel = line.channels.items in
     let none : drop c cs ≡ [] = drop_all c cs (omega arith) in
     let last : c ≡ length cs = omega arith in
     rw none (ap (λ i. ok_of (read_channels line i)) last)
-channels_back unit line (suc m) c some sum =
+channels_back laws unit line (suc m) c some sum =
     let cs : List Channel = line.channels.items in
     let d : Channel = record { from = 0; to = 0 } in
     let h : Channel = get_or cs c d in
     let lt : c < length cs = omega arith in
     let is : h ≡ get_or cs c h = get_or_default cs c d h lt in
-    rw (drop_more cs c d lt, channel_back unit line some (item_path (codes "channel") c) c h lt is)
-    (channels_back unit line m (c + 1) some (omega arith))
+    rw (drop_more cs c d lt, channel_back laws unit line some (item_path (codes "channel") c) c h lt is)
+    (channels_back laws unit line m (c + 1) some (omega arith))
 
 -- when all terminals are read
 pub between_back :
@@ -375,16 +373,16 @@ between_back line =
     rw (all, ← count)
 
 -- when all channels are read
-pub whole_back :
+pub whole_back : LineLaws →
     (line : Line)
     → read_channels line (length line.channels.items) ≡ line_values line
-whole_back line =
+whole_back laws line =
     let cs : List Channel = line.channels.items in
     let all : take (length cs) cs ≡ cs = take_all (length cs) cs (omega arith) in
     let count : terminal_count line + length cs * each_count line ≡ length line.params.items =
-    setting_count line.scheme line.terminals.items cs (terminal_count line)
+    laws.settings.all line.scheme line.terminals.items cs (terminal_count line)
     (each_count line) refl refl
-    ∙ length-line_settings line in
+    ∙ laws.parameters.count line in
     let long : length (intervals line) ≤ terminal_count line + length cs * each_count line =
     omega (arith, length-intervals line, count) in
     let times : take (terminal_count line + length cs * each_count line) (intervals line)

@@ -42,7 +42,7 @@ use Rattle.line_model.specs.declared.line.Scheme.TheVariants.{Pott, Putt, Dcb, D
 use Rattle.line_model.specs.Channels.{is_pair}
 use Rattle.line_model.specs.Settings.{channel_settings}
 use Rattle.line_model.specs.Making.{least_ends}
-use Rattle.line_model.proofs.FirstPositions.{position_within}
+use Rattle.line_model.specs.FirstPositions.{position_within}
 use Rattle.line_file.specs.Paths.{item_path}
 use Rattle.line_file.specs.Reading.{◌>>=◌}
 use Rattle.line_file.specs.Keys.{all_known, table_in, text_at}

@@ -25,6 +25,7 @@ use Rattle.line_model.specs.declared.line.Line.{Line}
 use Rattle.line_model.specs.declared.line.Scheme.{Scheme}
 use Rattle.line_model.specs.declared.line.Scheme.TheVariants.{Pott, Putt, Dcb, Dcub, Dtt}
 use Rattle.line_model.specs.declared.line.Terminal.{Terminal}
+use Rattle.line_model.specs.Laws.{LineLaws}
 use Rattle.line_file.specs.Keys.{document_of, all_known, number_at, text_at, array_at}
 use Rattle.line_file.specs.Times.{units_per_tick}
 use Rattle.line_file.specs.Lines.{
@@ -74,7 +75,7 @@ few_back unit line (a ∷ b ∷ []) some few = refl
 few_back unit line (a ∷ b ∷ c ∷ []) some few = refl
 few_back unit line (a ∷ b ∷ c ∷ d ∷ ts) some few = absurd (omega arith)
 
-module _ (version unit : ℕ) (line : Line) where
+module _ (laws : LineLaws) (version unit : ℕ) (line : Line) where
   version_back :
       nat_le 1 version && nat_le version 2 ≡ true
       → number_at [] (codes "version") 1 2 (canonical_in version unit line) ≡ Ok version
@@ -118,13 +119,13 @@ module _ (version unit : ℕ) (line : Line) where
       let terminals : terminals_at unit 0
       (items_of (terminals_data unit line 0 line.terminals.items)) (read_terminals line 0)
       ≡ Ok (read_channels line 0) =
-      terminals_back unit line (length line.terminals.items) 0 some (omega arith)
+      terminals_back laws unit line (length line.terminals.items) 0 some (omega arith)
       ∙ ap (λ (v : LineValues). ok_of v) (between_back line) in
       let channels : channels_at unit 0
       (items_of (channels_data unit line 0 line.channels.items)) (read_channels line 0)
       ≡ Ok (line_values line) =
-      channels_back unit line (length line.channels.items) 0 some (omega arith)
-      ∙ ap (λ (v : LineValues). ok_of v) (whole_back line) in
+      channels_back laws unit line (length line.channels.items) 0 some (omega arith)
+      ∙ ap (λ (v : LineValues). ok_of v) (whole_back laws line) in
       rw (
         version_back range,
         keys_back,
@@ -138,11 +139,11 @@ module _ (version unit : ℕ) (line : Line) where
       )
 
 -- so are bytes that stand for it
-pub file_back :
+pub file_back : LineLaws →
     (version unit : ℕ) (line : Line) (bytes : List ℕ)
     → document_of bytes ≡ Some (canonical_in version unit line)
     → nat_le 1 version && nat_le version 2 ≡ true → units_per_tick version line.tick_us ≡ unit
     → 0 < unit → line_of bytes ≡ Ok (line_values line)
 unfolding line_of
-file_back version unit line bytes document range units some =
-    rw document (line_back version unit line range units some)
+file_back laws version unit line bytes document range units some =
+    rw document (line_back laws version unit line range units some)

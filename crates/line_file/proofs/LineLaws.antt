@@ -66,8 +66,7 @@ use Rattle.line_model.specs.Settings.{
 use Rattle.line_model.specs.declared.line.Owner.TheVariants as owner
 use Rattle.line_model.specs.Intervals.{leasts, greatests, AreIntervals, delay_number_of}
 use Rattle.line_model.specs.Making.{least_ends, greatest_ends, MakesLine, IsMadeOf}
-use Rattle.line_model.proofs.Counts.{setting_count}
-use Rattle.line_model.proofs.Positions.{delay_number_is}
+use Rattle.line_model.specs.Laws.{SettingsAreCounted}
 use Rattle.line_file.specs.Paths.{item_path}
 use Rattle.line_file.specs.Lines.{LineValues, intervals_of, line_values}
 use Rattle.line_file.specs.TerminalTables.{terminal_at, terminals_at}
@@ -312,12 +311,12 @@ are_intervals (b ∷ bs) times zero lt = (times.0.ordered, times.0.within)
 are_intervals (b ∷ bs) times (suc i) lt = are_intervals bs times.1 i (omega arith)
 
 -- what is kept, and each pair joined, makes a line
-pub makes_line :
+pub makes_line : SettingsAreCounted →
     (v : LineValues) (u : Unit {0}) → ChannelsKept v → whole v.terminals v.channels ≡ Ok u
     → (1 ≤ v.tick_us) × (v.tick_us ≤ 1000000) → (1 ≤ v.horizon) × (v.horizon ≤ 4000)
     → (2 ≤ length v.terminals) × (length v.terminals ≤ 3)
     → MakesLine v.tick_us v.horizon v.scheme v.terminals v.channels v.intervals
-makes_line v u kept joined tick horizon few =
+makes_line laws v u kept joined tick horizon few =
     let s : Scheme = v.scheme in
     let n : ℕ = length (settings_of_terminals s 0 v.terminals) in
     let k : ℕ = length (channel_settings s) in
@@ -334,11 +333,11 @@ makes_line v u kept joined tick horizon few =
           whole_are v.terminals v.channels u
           (length v.terminals) refl few.0 few.1 kept.pairs joined;
       bounds_fit = record {
-        one_each = kept.count ∙ setting_count s v.terminals v.channels n k refl refl;
+        one_each = kept.count ∙ laws.all s v.terminals v.channels n k refl refl;
         ends_in_range = are_intervals v.intervals kept.times;
         delays_from_one = λ c lt.
             let at : n + c * k ≡ delay_number_of s v.terminals v.channels c =
-            delay_number_is s v.terminals v.channels c n k lt refl refl in
+            laws.delays s v.terminals v.channels c n k lt refl refl in
             rw (← at) (kept.delays c lt);
       };
     }

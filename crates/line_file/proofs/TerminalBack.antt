@@ -78,9 +78,7 @@ use Rattle.line_model.specs.Settings.{
   settings_of_terminals,
 }
 use Rattle.line_model.specs.Terminals.{names_of, has_flags, has_no_flag}
-use Rattle.line_model.proofs.Counts.{one_terminal_more, setting_count}
-use Rattle.line_model.proofs.Numbers.{length-line_settings}
-use Rattle.line_model.proofs.Positions.{terminal_number}
+use Rattle.line_model.specs.Laws.{LineLaws}
 use Rattle.line_file.specs.Paths.{joined, item_path}
 use Rattle.line_file.specs.Keys.{text_at}
 use Rattle.line_file.specs.Times.{times_in, optional_times, required_times}
@@ -399,13 +397,13 @@ guard_stands unit line o name true = refl
 guard_stands unit line o name false = refl
 
 -- terminal k is read back
-terminal_back :
+terminal_back : LineLaws →
     (unit : ℕ) (line : Line) (path : List ℕ) (k : ℕ) (t : Terminal) → 0 < unit
     → k < length line.terminals.items → t ≡ get_or line.terminals.items k t
     → terminal_at unit path (table (terminal_members unit line k t)) (read_terminals line k)
     ≡ Ok (read_terminals line (k + 1))
 unfolding terminal_at name_at text_at
-terminal_back unit line path k t some lt is =
+terminal_back laws unit line path k t some lt is =
     let ts : List Terminal = line.terminals.items in
     let s : Scheme = line.scheme in
     let o : Owner = owner.Terminal k in
@@ -420,18 +418,18 @@ terminal_back unit line path k t some lt is =
     record {
       at = λ x i j place sum.
           interval_at line o x n i (terminal_place s t.guard t.weak x)
-          (terminal_number line k x t lt is)
+          (laws.parameters.of_terminal line k x t lt is)
           place ∙ ap (λ m. interval_of line m) sum;
     } in
     let count : n + length (terminal_settings s t) ≡ before line (k + 1) =
-    one_terminal_more s ts k n (length (terminal_settings s t)) t lt is refl refl in
+    laws.settings.terminals s ts k n (length (terminal_settings s t)) t lt is refl refl in
     let own = own_settings_count s t in
     let within : before line (k + 1) ≤ length line.params.items =
     omega (
       arith,
       settings_within s 0 (k + 1) ts,
-      length-line_settings line,
-      setting_count s ts line.channels.items (length (settings_of_terminals s 0 ts))
+      laws.parameters.count line,
+      laws.settings.all s ts line.channels.items (length (settings_of_terminals s 0 ts))
           (length (channel_settings s)) refl refl,
     ) in
     let sum : n + 8 + length (guard_settings t.guard) + length (weak_settings t.weak)
@@ -470,18 +468,18 @@ terminal_back unit line path k t some lt is =
     flags_at false ts k t lt is all = rw is (passes has_no_flag ts k t lt all)
 
 -- all terminals are read back, from number k on
-pub terminals_back :
+pub terminals_back : LineLaws →
     (unit : ℕ) (line : Line) (m k : ℕ) → 0 < unit → k + m ≡ length line.terminals.items
     → terminals_at unit k (items_of (terminals_data unit line k (drop k line.terminals.items)))
     (read_terminals line k)
     ≡ Ok (read_terminals line (length line.terminals.items))
 unfolding terminals_at
-terminals_back unit line zero k some sum =
+terminals_back laws unit line zero k some sum =
     let ts : List Terminal = line.terminals.items in
     let none : drop k ts ≡ [] = drop_all k ts (omega arith) in
     let last : k ≡ length ts = omega arith in
     rw none (ap (λ i. ok_of (read_terminals line i)) last)
-terminals_back unit line (suc m) k some sum =
+terminals_back laws unit line (suc m) k some sum =
     let ts : List Terminal = line.terminals.items in
     let d : Terminal = record { name = []; weak = false; guard = false } in
     let t : Terminal = get_or ts k d in
@@ -489,7 +487,7 @@ terminals_back unit line (suc m) k some sum =
     let is : t ≡ get_or ts k t = get_or_default ts k d t lt in
     rw (
       drop_more ts k d lt,
-      terminal_back unit line
+      terminal_back laws unit line
           (item_path (codes "terminal") k) k t some lt is,
     )
-    (terminals_back unit line m (k + 1) some (omega arith))
+    (terminals_back laws unit line m (k + 1) some (omega arith))

@@ -46,8 +46,8 @@ use Rattle.line_model.specs.Channels.{
   AreChannelsBelow,
   AreFoundBelow,
 }
-use Rattle.line_model.proofs.FirstPositions.{is_some-position}
-use Rattle.line_model.proofs.ChannelPairs.{channels_are}
+use Rattle.line_model.specs.FirstPositions.{is_some-position}
+use Rattle.line_model.specs.Channels.{channels_are}
 use Rattle.line_file.specs.LineFiles.{two_pairs, three_pairs, pair_joined, all_joined, whole}
 use Rattle.line_file.proofs.Binds.{bind_ok, taken_ok}
 use Rattle.line_file.proofs.ChannelPairs.{pair_code, pair_code-at, codes_distinct}

@@ -8,6 +8,7 @@ ghost use Rattle.line_file.specs.LineFiles.{line_of};
 ghost use Rattle.line_file.specs.Canonical.{canonical_in, canonical};
 
 use crate::canonical;
+use line_model::laws::line_laws;
 use line_model::{Line, Memory};
 use std::alloc::Global;
 use toml::ser::Error;
@@ -33,6 +34,7 @@ pub fn print_line(alloc: Global, line: &Line) -> Result<Vec<u8>, Memory>
     ensures text { IfOk result (λ v. IsDocumentText false (canonical 1 line.now) v.items) }
     ensures reads_back { IfOk result (λ v. line_of v.items ≡ Ok (line_values line.now)) }
 {
+    line_laws();
     print(alloc, 1, 1, line)
 }
 
@@ -42,5 +44,6 @@ pub fn print_line_us(alloc: Global, line: &Line) -> Result<Vec<u8>, Memory>
     ensures text { IfOk result (λ v. IsDocumentText false (canonical 2 line.now) v.items) }
     ensures reads_back { IfOk result (λ v. line_of v.items ≡ Ok (line_values line.now)) }
 {
+    line_laws();
     print(alloc, 2, line.tick_us, line)
 }

@@ -17,6 +17,7 @@ use crate::path::Path;
 use crate::terminal::terminals;
 use crate::times::units;
 use line_model::Line;
+use line_model::laws::settings_are_counted;
 use std::alloc::Global;
 use toml::Table;
 
@@ -37,6 +38,7 @@ fn read_table(alloc: Global, table: &Table) -> Result<Draft, LineFault>
         (λ d. MakesLine d.tick_us d.horizon d.scheme d.terminals.items d.channels.items
         d.intervals.items) }
 {
+    settings_are_counted();
     let version = number(Path::root(), "version", 1, 2, table)?;
     only(Path::root(), TOP_KEYS, table)?;
     let mut line = head(alloc, table)?;

@@ -121,19 +121,6 @@ exists_between n cs are j k o e = (there o e, λ h. ap is_some (sym e) ∙ are.f
         let apart : from_of cs c ≢ to_of cs c = are.apart c at.0 in
         (λ same. apart (at.1 ∙ same ∙ sym at.2), omega (arith, at.1), omega (arith, at.2))
 
--- each pair has its channel, told in two parts
-pub channels_are :
-    (n : ℕ) (cs : List Channel) → length cs ≡ n * (n - 1) → AreChannelsBelow n cs (length cs) →
-    AreFoundBelow n cs n → AreChannels n cs
-channels_are n cs count pairs found = record {
-  count = count;
-  from = λ c lt. (pairs c lt).from;
-  to = λ c lt. (pairs c lt).to;
-  apart = λ c lt. (pairs c lt).apart;
-  once = λ c lt. (pairs c lt).once;
-  found = found;
-}
-
 pub channels_below :
     (n : ℕ) (cs : List Channel) → AreChannels n cs → AreChannelsBelow n cs (length cs)
 channels_below n cs are c lt = record {

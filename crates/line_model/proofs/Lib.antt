@@ -1,5 +1,4 @@
 pub mod Conjunctions
-pub mod FirstPositions
 pub mod NamePadding
 pub mod TerminalNames
 pub mod ChannelPairs

@@ -48,12 +48,12 @@ use Rattle.line_model.specs.Settings.{
   setting_number,
 }
 use Rattle.line_model.specs.Parameters.{param_number}
-use Rattle.line_model.proofs.FirstPositions.{
+use Rattle.line_model.specs.FirstPositions.{
   is_some-position,
   list_any-append_left,
   list_any-append_right,
 }
-pub use Rattle.line_model.proofs.FirstPositions.{position_within}
+pub use Rattle.line_model.specs.FirstPositions.{position_within}
 
 pub same_owner-refl : (o : Owner) → same_owner o o ≡ true
 same_owner-refl (owner.Terminal k) = eq-eqb k k refl

@@ -56,7 +56,7 @@ use Rattle.line_model.specs.Settings.{
 use Rattle.line_model.specs.Places.{terminal_place, channel_place}
 use Rattle.line_model.specs.Intervals.{delay_number_of}
 use Rattle.line_model.specs.Parameters.{param_number}
-use Rattle.line_model.proofs.FirstPositions.{
+use Rattle.line_model.specs.FirstPositions.{
   list_any-append_false,
   position_from-append_none,
   position_from-none_behind,

@@ -61,3 +61,16 @@ AreChannelsBelow n cs m = (c : ℕ) → c < m → IsChannel n cs c
 abbrev pub AreFoundBelow : ℕ → List Channel → ℕ → Type 0
 AreFoundBelow n cs m =
     (j k : ℕ) → j < m → k < n → j ≢ k → IsTrue (is_some (channel_number cs j k))
+
+-- each pair has its channel, told in two parts
+pub channels_are :
+    (n : ℕ) (cs : List Channel) → length cs ≡ n * (n - 1) → AreChannelsBelow n cs (length cs) →
+    AreFoundBelow n cs n → AreChannels n cs
+channels_are n cs count pairs found = record {
+  count = count;
+  from = λ c lt. (pairs c lt).from;
+  to = λ c lt. (pairs c lt).to;
+  apart = λ c lt. (pairs c lt).apart;
+  once = λ c lt. (pairs c lt).once;
+  found = found;
+}

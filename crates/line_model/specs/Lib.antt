@@ -34,3 +34,4 @@ pub mod HeldOver
 pub mod IntervalLaws
 pub mod Laws
 pub mod ParamNamesApart
+pub mod FirstPositions

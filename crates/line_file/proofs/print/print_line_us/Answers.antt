@@ -8,5 +8,5 @@ returns-clause-reads_back c =
     let range = c.args.line.now.tick_in_range in
     IfOk-weaker c.print.result _ _
     (λ v is.
-    file_back 2 c.args.line.now.tick_us c.args.line.now v.items is refl refl range.0)
+    file_back c.line_laws.ensures 2 c.args.line.now.tick_us c.args.line.now v.items is refl refl range.0)
     c.print.ensures.table

@@ -30,5 +30,5 @@ returns-clause-makes c =
     let nothing = ap length empty.0 in
     let values = c.in_ok-terminal_values.ensures.count in
     (omega arith, omega arith)) in
-    makes_line (values_of line2) c.in_ok-all_joined.field-0 whole (sym joined)
+    makes_line c.settings_are_counted.ensures (values_of line2) c.in_ok-all_joined.field-0 whole (sym joined)
     line2.tick_in_range line2.horizon_in_range few

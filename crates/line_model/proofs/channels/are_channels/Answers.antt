@@ -1,5 +1,6 @@
 use Rattle.std.proofs.Common.{◌≡◌, true}
-use Rattle.line_model.proofs.ChannelPairs.{channels_are, channels_below}
+use Rattle.line_model.specs.Channels.{channels_are}
+use Rattle.line_model.proofs.ChannelPairs.{channels_below}
 use Rattle.line_model.proofs.channels.are_channels.Goals as goal
 
 pub returns-then-not-are_pairs : goal.returns-then-not-are_pairs
