@@ -10,7 +10,7 @@ use Rattle.history.specs.Rails.{Rails, Ends, Covers, rails_delayed, rails_at, mu
 use Rattle.history.specs.Recorded.{first_ticks}
 use Rattle.history.specs.Comes.{Comes, AllCome, SomeComes}
 use Rattle.history.proofs.ElementLaws.{Decides-le, Decides-true, Decides-every, Decides-some}
-use Rattle.history.proofs.RecordedLaws.{length-first_ticks}
+use Rattle.history.specs.FirstTicks.{length-first_ticks}
 use Rattle.history.proofs.RailsBridge.{rails_at-first_ticks}
 
 pub Decides-delayed : (u : ℕ → Bool) (c t : ℕ) → Decides (delayed u c t) (Comes u c t)

@@ -3,34 +3,16 @@ use Rattle.std.proofs.Common.{◌≡◌, ℕ, zero, suc, ◌+◌, ◌<◌, ◌�
 use Rattle.std.proofs.Common.{map, take, get_or-take, refl, sym, ◌∙◌, ap, arith, ⊎_elim}
 use Rattle.std.specs.Prelude.{false}
 use Rattle.std.proofs.Math.ListN.{get_or-map}
-use Rattle.std.proofs.Math.Seq.{get_or-append_seam}
-use Rattle.std.proofs.lemmas.List.{get_or_append_left}
-use Rattle.std.proofs.lemmas.Bool.{cases_lt}
 use Rattle.history.specs.Elements.{timed, sealed}
 use Rattle.history.specs.Recorded.{at, first_ticks}
 use Rattle.history.specs.Rails.{Rails, Ends, Covers, both, must_of, may_of, rails_timed}
 use Rattle.history.specs.Rails.{rails_sealed, rails_at, SameRails}
 use Rattle.history.proofs.ElementLaws.{timed-same, timed-below, sealed-same, sealed-below}
-use Rattle.history.proofs.RecordedLaws.{length-first_ticks}
-
-pub rails_at_push : (l : List Rails) (x : Rails) (r : ℕ) → r < length l →
-    rails_at (l ++ x ∷ []) r ≡ rails_at l r
-rails_at_push l x r h = get_or_append_left l (x ∷ []) (both false) r h
-
-pub rails_at_last : (l : List Rails) (x : Rails) → rails_at (l ++ x ∷ []) (length l) ≡ x
-rails_at_last l x = get_or-append_seam l x [] (both false)
+use Rattle.history.specs.FirstTicks.{length-first_ticks, get_or-first_ticks}
 
 -- reading the first n ticks gives the history back
 pub rails_at-first_ticks : (u : ℕ → Rails) (n r : ℕ) → r < n → rails_at (first_ticks u n) r ≡ u r
-rails_at-first_ticks u zero r h = absurd (omega arith)
-rails_at-first_ticks u (suc n) r h =
-    ⊎_elim
-    (λ lt. let inside : r < length (first_ticks u n) = omega (arith, length-first_ticks u n) in
-    rails_at_push (first_ticks u n) (u n) r inside ∙ rails_at-first_ticks u n r lt)
-    (λ le. let last : r ≡ length (first_ticks u n) = omega (arith, length-first_ticks u n) in
-    ap (rails_at (first_ticks u (suc n))) last ∙ rails_at_last (first_ticks u n) (u n)
-    ∙ ap u (sym (length-first_ticks u n)) ∙ ap u (sym last))
-    (cases_lt r n)
+rails_at-first_ticks u n r lt = get_or-first_ticks u n r (both false) lt
 
 pub rails_timed-same : (u v : ℕ → Rails) (p d : Ends) (t : ℕ) → SameRails u v t →
     rails_timed u p d t ≡ rails_timed v p d t

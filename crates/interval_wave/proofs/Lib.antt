@@ -1,3 +1,2 @@
 pub mod WrittenDown
 pub mod Declared
-pub mod Rules

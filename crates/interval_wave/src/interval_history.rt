@@ -13,6 +13,7 @@ use crate::spans::declared_spans;
 use gate_net::Net;
 use line_model::laws::{
     a_wider_box_covers, each_box_has_one_interval_history, each_line_has_a_choice_inside,
+    trees_name_the_line, values_rest_on_earlier_keys,
 };
 use line_model::{Line, Memory, Script};
 use simulator::run;
@@ -37,6 +38,8 @@ pub fn analyse(alloc: Global, net: &Net, line: &Line, script: &Script) -> Result
     each_line_has_a_choice_inside();
     each_box_has_one_interval_history();
     a_wider_box_covers();
+    trees_name_the_line();
+    values_rest_on_earlier_keys();
     let spans = declared_spans(alloc, line)?;
     let steps: [Step<Within>; 0] = [];
     let waves = run::<Tern>(alloc, net, line, script, &spans, &steps)?;

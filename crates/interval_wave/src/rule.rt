@@ -10,6 +10,7 @@ ghost use Rattle.interval_wave.specs.PairWavesOf.{pair_history};
 ghost use Rattle.interval_wave.specs.Rules.{rule_named, rule_from, counted_ticks, IsDeadlineWithin};
 
 use crate::pair_waves::PairWaves;
+use history::element_laws::tests_are_their_facts;
 use line_model::laws::the_rule_speaks_for_what_is_covered;
 use line_model::{Kind, Script};
 use tick_signal::Signal;
@@ -84,6 +85,7 @@ fn must_trip(waves: &PairWaves, terminal: u32, ticks: u32) -> bool
     requires within { ticks ≤ waves.now.horizon }
     ensures { result ≡ some_below (λ t. ((pair_history waves.now).trip terminal t).must) ticks }
 {
+    tests_are_their_facts();
     for t in 0..ticks {
         if waves.trip(terminal, t).must(0) {
             return true;
@@ -98,6 +100,7 @@ fn may_trip(waves: &PairWaves, terminal: u32, ticks: u32) -> bool
     requires within { ticks ≤ waves.now.horizon }
     ensures { result ≡ some_below (λ t. ((pair_history waves.now).trip terminal t).may) ticks }
 {
+    tests_are_their_facts();
     for t in 0..ticks {
         if waves.trip(terminal, t).may(0) {
             return true;

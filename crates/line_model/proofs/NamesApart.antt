@@ -38,7 +38,7 @@ use Rattle.line_model.specs.ParamNames.{
 }
 use Rattle.line_model.specs.ParamNamesApart.{name_of_param, has_no, ParamNamesApart}
 use Rattle.line_model.specs.Parameters.{param_count}
-use Rattle.line_model.proofs.FirstPositions.{position_from-first, position_from-none}
+use Rattle.line_model.specs.FirstPositions.{position_from-first, position_from-none}
 use Rattle.line_model.proofs.ParamNames.{name_at-get, names_of_line}
 use Rattle.line_model.proofs.SettingTexts.{rank, same_rank, text_has_no_at, rise, all_above, rise-tail, terminal_settings_rise, channel_settings_rise}
 

@@ -31,8 +31,7 @@ use Rattle.std.proofs.lemmas.Bool.{cases_lt, lt-ltb, le-ltb}
 use Rattle.std.proofs.lemmas.List.Quantifiers.{position-Some}
 use Rattle.std.proofs.lemmas.List.Sums.{position_or_len_is, fails_before_first}
 use Rattle.history.specs.Recorded.{first_ticks}
-use Rattle.history.proofs.RecordedLaws.{length-first_ticks}
-use Rattle.interval_wave.proofs.WrittenDown.{get_or-first_ticks}
+use Rattle.history.specs.FirstTicks.{length-first_ticks, get_or-first_ticks}
 use Rattle.timing_report.specs.FirstTick.{first_on}
 
 module _ (u : ℕ → Bool) (n : ℕ) where

@@ -17,40 +17,20 @@ use Rattle.std.proofs.Common.{
   ap,
   arith,
 }
-use Rattle.std.specs.Prelude.{IsTrue, codes}
-use Rattle.std.proofs.lemmas.Bool.{ltb-true, eqb-true}
+use Rattle.std.specs.Prelude.{codes}
 use Rattle.history.specs.Elements.{some_below}
 use Rattle.history.specs.Rails.{Rails, must_of, may_of}
 use Rattle.line_model.specs.declared.line.Line.{Line}
 use Rattle.line_model.specs.declared.script.Kind.{Kind}
 use Rattle.line_model.specs.declared.script.Kind.TheVariants.{Internal, External}
 use Rattle.line_model.specs.declared.script.Script.{Script}
-use Rattle.line_model.specs.Fits.{Fits, deadline_fits}
 use Rattle.line_model.specs.Parameters.{terminal_count}
 use Rattle.line_model.specs.Histories.{PairHistory, IsSamePairHistory}
 use Rattle.line_model.specs.Rule.{Rule, rule_by}
 use Rattle.simulator.specs.PlayRows.{each_below}
-use Rattle.interval_wave.specs.Rules.{counted_ticks, IsDeadlineWithin}
-use Rattle.interval_wave.proofs.Rules.{rule_by_rails}
+use Rattle.interval_wave.specs.Rules.{counted_ticks, rule_by_rails}
 use Rattle.timing_report.specs.ReportText.{fields_text, rule_word, row_text, script_rows}
 use Rattle.timing_report.proofs.FirstTicks.{first_on-same}
-
--- the deadline of a script that fits is below the horizon
-deadline_below : (kind : Kind) (deadline horizon : ℕ) → 1 ≤ horizon
-    → IsTrue (deadline_fits horizon kind deadline) → deadline < horizon
-deadline_below Internal deadline horizon some fits = ltb-true deadline horizon fits
-deadline_below External deadline horizon some fits =
-    let zero_one : deadline ≡ 0 = eqb-true deadline 0 fits in omega arith
-
-pub fitting_deadline : (line : Line) (script : Script) → Fits line script
-    → script.deadline < line.horizon
-fitting_deadline line script fits =
-    deadline_below script.kind script.deadline line.horizon line.horizon_in_range.0 fits.deadline
-
-pub deadline_within : (kind : Kind) (deadline horizon : ℕ) → deadline < horizon
-    → IsDeadlineWithin kind deadline horizon
-deadline_within Internal deadline horizon early = early
-deadline_within External deadline horizon early = tt
 
 some_below-same : (u v : ℕ → Bool) (n : ℕ) → ((t : ℕ) → t < n → u t ≡ v t)
     → some_below u n ≡ some_below v n
@@ -109,11 +89,11 @@ each_below-same (suc n) f g same =
     ap (λ (l : List ℕ). l ++ f n) (each_below-same n f g (λ k lt. same k (omega arith)))
     ∙ ap (λ (l : List ℕ). each_below n g ++ l) (same n (omega arith))
 
-pub script_rows-same : (line : Line) (script : Script) → Fits line script
+pub script_rows-same : (line : Line) (script : Script) → script.deadline < line.horizon
     → (v w : PairHistory) → IsSamePairHistory line v w
     → script_rows line script v ≡ script_rows line script w
-script_rows-same line script fits v w same =
+script_rows-same line script early v w same =
     each_below-same (terminal_count line) (λ k. row_text line script k (v.trip k))
     (λ k. row_text line script k (w.trip k))
-    (λ k kn. row_text-same line script (fitting_deadline line script fits) k (v.trip k) (w.trip k)
+    (λ k kn. row_text-same line script early k (v.trip k) (w.trip k)
     (λ t lt. same.trips k t kn lt))

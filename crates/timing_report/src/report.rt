@@ -15,7 +15,10 @@ ghost use Rattle.timing_report.specs.ReportText.{AreHistories, IsReportText};
 use crate::rows::push_row;
 use gate_net::Net;
 use interval_wave::{PairWaves, analyse};
-use line_model::laws::{each_box_has_one_interval_history, each_line_has_a_choice_inside};
+use line_model::laws::{
+    deadlines_are_below_the_horizon, each_box_has_one_interval_history,
+    each_line_has_a_choice_inside,
+};
 use line_model::{Line, Memory, Script};
 use std::alloc::Global;
 
@@ -66,6 +69,7 @@ pub fn report_rows(
         IsPairHistory line.now script.now (declared_box line.now) w →
         text.items ≡ script_rows line.now script.now w) }
 {
+    deadlines_are_below_the_horizon();
     let waves = analyse(alloc, net, line, script)?;
     let mut text = Vec::new(alloc);
     push_rows(&mut text, line, script, &waves)?;

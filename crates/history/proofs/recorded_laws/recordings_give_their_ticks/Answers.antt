@@ -1,5 +1,6 @@
+use Rattle.history.specs.FirstTicks.{length-first_ticks}
 use Rattle.history.proofs.RailsBridge.{rails_at-first_ticks}
-use Rattle.history.proofs.RecordedLaws.{length-first_ticks, first_ticks-at}
+use Rattle.history.proofs.RecordedLaws.{first_ticks-at}
 use Rattle.history.proofs.recorded_laws.recordings_give_their_ticks.Goals as goal
 
 pub returns : goal.returns

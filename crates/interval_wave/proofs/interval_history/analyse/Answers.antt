@@ -30,7 +30,7 @@ is_history c =
     (c.in_ok-waves.ensures.history 0 (omega arith)).is in
     subst (λ (w : PairWavesOf). IsPairHistory line script (declared_box line) (pair_history w))
     (sym c.new.ensures)
-    (written_history line script (declared_box line)
+    (written_history c.trees_name_the_line.ensures c.values_rest_on_earlier_keys.ensures line script (declared_box line)
     (c.each_line_has_a_choice_inside.ensures.declared line) h (length waves.keys) line.horizon
     (ap length c.in_ok-waves.ensures.waves.keys ∙ c.requires.terminals) refl is_h)
 

@@ -3,8 +3,7 @@ use Rattle.history.specs.Elements.{some_below}
 use Rattle.history.specs.Rails.{Rails}
 use Rattle.line_model.specs.Rule.{rule_by}
 use Rattle.interval_wave.specs.PairWavesOf.{pair_at, pair_history}
-use Rattle.interval_wave.specs.Rules.{rule_named, counted_ticks}
-use Rattle.interval_wave.proofs.Rules.{rule_by_rails}
+use Rattle.interval_wave.specs.Rules.{rule_named, counted_ticks, rule_by_rails}
 use Rattle.interval_wave.proofs.rule.judge.Goals as goal
 
 pub returns-clause-rule : goal.returns-clause-rule

@@ -11,4 +11,6 @@ returns c = λ w is_w.
     let own = pair_history c.in_ok-waves.waves in
     c.in_ok-push_rows.ensures
     ∙ ap (λ (l : List ℕ). l ++ script_rows line script own) c.new-text.ensures.items
-    ∙ script_rows-same line script c.requires.fits own w (c.in_ok-waves.ensures.history.only w is_w)
+    ∙ script_rows-same line script
+    (c.deadlines_are_below_the_horizon.ensures line script c.requires.fits) own w
+    (c.in_ok-waves.ensures.history.only w is_w)
