@@ -11,8 +11,7 @@ use Rattle.line_model.specs.declared.line.Line.{Line}
 use Rattle.line_model.specs.Intervals.{leasts}
 use Rattle.line_model.specs.Parameters.{param_count, delay_param}
 use Rattle.line_model.specs.Choice.{DelaysFromOne}
-use Rattle.line_model.proofs.Counts.{few_params}
-use Rattle.line_model.proofs.DeclaredLaws.{delay_within}
+use Rattle.line_model.specs.Laws.{ParametersAreNumbered}
 use Rattle.timing_box.specs.Timing.{number_at}
 use Rattle.timing_box.specs.Inside.{IsTimingInside}
 use Rattle.timing_box.specs.Choice.{timing_choice}
@@ -24,9 +23,9 @@ use Rattle.certify_core.specs.Candidates.{candidate_in, AreBlockSpans}
 
 -- ---- the numbers of candidates
 
-pub few_candidates : (line : Line) → candidate_count line ≤ 128
-few_candidates line =
-    let few = few_params line in
+pub few_candidates : ParametersAreNumbered → (line : Line) → candidate_count line ≤ 128
+few_candidates numbered line =
+    let few : param_count line ≤ 63 = numbered.few line in
     let free = count_by-le-length is_free line.params.items in
     omega arith
 
@@ -84,8 +83,8 @@ no_step : (i t : ℕ) (o : Option (List ℕ)) → option_map (number_at [] i t) 
 no_step i t None = refl
 no_step i t (Some span) = refl
 
-module _ (line : Line) (first : ℕ) (spans : List (List ℕ)) (are : AreBlockSpans line first spans)
-  where
+module _ (numbered : ParametersAreNumbered) (line : Line) (first : ℕ) (spans : List (List ℕ))
+  (are : AreBlockSpans line first spans) where
     span_at : (lane i : ℕ) → lane < 64 → i < param_count line
         → ends_in lane_ends lane (slice_get spans i)
         ≡ single (get_or (candidate line (candidate_in line first lane)).values i 0)
@@ -106,7 +105,7 @@ module _ (line : Line) (first : ℕ) (spans : List (List ℕ)) (are : AreBlockSp
       delays = λ c t there early.
           ap (ends_in lane_ends lane)
           (no_step (delay_param line c) t (slice_get spans (delay_param line c)))
-          ∙ span_at lane (delay_param line c) inside (delay_within line c there);
+          ∙ span_at lane (delay_param line c) inside (numbered.delays line c there);
     }
 
     pub block_delayed

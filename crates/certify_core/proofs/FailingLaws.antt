@@ -11,7 +11,7 @@ use Rattle.line_model.specs.declared.script.Script.{Script}
 use Rattle.line_model.specs.Parameters.{terminal_count}
 use Rattle.line_model.specs.Histories.{History, MeetsBy, Meets, IsSameHistory}
 use Rattle.line_model.specs.Rule.{is_held}
-use Rattle.line_model.proofs.RuleLaws.{Decides-held}
+use Rattle.line_model.specs.Laws.{TheRuleIsTested}
 use Rattle.certify_core.specs.Candidates.{TellsFailing}
 
 on_off : (b : Bool) → b ≡ true → b ≡ false → ⊥
@@ -37,21 +37,21 @@ denial_tells failing test met is decides = record {
   passes = λ off. decides.0 (not_off test (sym is ∙ off));
 }
 
-pub internal_tells : (deadline horizon : ℕ) (trip : ℕ → Bool) (failing : Bool)
+pub internal_tells : TheRuleIsTested → (deadline horizon : ℕ) (trip : ℕ → Bool) (failing : Bool)
     → failing ≡ not (some_below trip (suc deadline))
     → TellsFailing failing (MeetsBy Internal deadline horizon trip)
-internal_tells deadline horizon trip failing is =
+internal_tells tested deadline horizon trip failing is =
     denial_tells failing (is_held Internal deadline horizon (λ t. both (trip t)))
     (MeetsBy Internal deadline horizon trip) is
-    (Decides-held Internal deadline horizon (λ t. both (trip t)))
+    (tested.held Internal deadline horizon (λ t. both (trip t)))
 
-pub external_tells : (deadline horizon : ℕ) (trip : ℕ → Bool) (failing : Bool)
+pub external_tells : TheRuleIsTested → (deadline horizon : ℕ) (trip : ℕ → Bool) (failing : Bool)
     → failing ≡ some_below trip horizon
     → TellsFailing failing (MeetsBy External deadline horizon trip)
-external_tells deadline horizon trip failing is =
+external_tells tested deadline horizon trip failing is =
     denial_tells failing (is_held External deadline horizon (λ t. both (trip t)))
     (MeetsBy External deadline horizon trip) (is ∙ sym (not_not (some_below trip horizon)))
-    (Decides-held External deadline horizon (λ t. both (trip t)))
+    (tested.held External deadline horizon (λ t. both (trip t)))
 
 -- histories that are the same meet the same obligations
 meets_by : (kind : Kind) (deadline horizon : ℕ) (a b : ℕ → Bool) → deadline < horizon

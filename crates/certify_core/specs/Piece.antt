@@ -1,12 +1,11 @@
 -- A script's part of a certificate, as text.
-use Rattle.std.specs.Prelude.{◌≡◌, ◌++◌, ℕ, List, [], length, map, get_or, codes, decimal}
-use Rattle.std.specs.List.{concat}
+use Rattle.std.specs.Prelude.{◌≡◌, ℕ, List, [], length, map}
 use Rattle.tick_signal.specs.declared.tern.Tern.{Tern}
 use Rattle.line_model.specs.declared.line.Line.{Line}
 use Rattle.line_model.specs.declared.script.Script.{Script}
 use Rattle.line_model.specs.Parameters.{terminal_count, param_count}
-use Rattle.simulator.specs.PlayRows.{each_below, terminal_name}
-use Rattle.wave_runs.specs.Text.{runs_text}
+use Rattle.certificate.specs.Grammar.{Claims, Verdict as Written, yes, no, undecided}
+use Rattle.certificate.specs.Text as certificate
 use Rattle.certify_core.specs.OneEach.{OneEach}
 use Rattle.certify_core.specs.declared.verdict.Verdict.{Verdict}
 use Rattle.certify_core.specs.declared.verdict.Verdict.TheVariants.{Yes, No, Undecided}
@@ -26,50 +25,22 @@ pub record IsPrintable (line : Line) (said : ScriptVerdict) : Type 0 where
   pub verdicts : OneEach (λ k verdict. IsWritten line verdict) (terminal_count line)
       said.verdicts.items
 
--- ---- lines
+-- ---- what is written
 
--- `script NAME`
-abbrev pub script_line : List ℕ → List ℕ
-script_line name = codes "script " ++ (name ++ codes "\n")
+-- a verdict as it is written: a `no` with the values of all parameters in order
+abbrev pub written_as : Verdict → Written
+written_as Yes = yes
+written_as (No timing) = no timing.values
+written_as Undecided = undecided
 
--- `WORD NAME TEXT`
-abbrev pub named_line : List ℕ → List ℕ → List ℕ → List ℕ
-named_line word name text = word ++ (codes " " ++ (name ++ (codes " " ++ (text ++ codes "\n"))))
+-- what keys and verdicts claim of a script
+abbrev pub claims_of : List (List Tern) → List Verdict → Claims
+claims_of keys verdicts = record { keys = keys; verdicts = map written_as verdicts }
 
--- `key NAME RUNS`
-abbrev pub key_line : List ℕ → List Tern → List ℕ
-key_line name wave = named_line (codes "key") name (runs_text wave)
-
--- each number after one space
-abbrev pub spaced : ℕ → List ℕ
-spaced n = codes " " ++ decimal n
-
-abbrev pub values_text : List ℕ → List ℕ
-values_text values = concat (map spaced values)
-
--- `yes`, `undecided`, or `no` and the values of all parameters in order
-abbrev pub verdict_words : Verdict → List ℕ
-verdict_words Yes = codes "yes"
-verdict_words (No timing) = codes "no" ++ values_text timing.values
-verdict_words Undecided = codes "undecided"
-
--- `verdict NAME` and its words
-abbrev pub verdict_line : List ℕ → Verdict → List ℕ
-verdict_line name verdict = named_line (codes "verdict") name (verdict_words verdict)
-
--- the line of terminal k's key, and that of its verdict
-abbrev pub key_of : Line → List (List Tern) → ℕ → List ℕ
-key_of line keys k = key_line (terminal_name line k) (get_or keys k [])
-
-abbrev pub verdict_of : Line → List Verdict → ℕ → List ℕ
-verdict_of line verdicts k = verdict_line (terminal_name line k) (get_or verdicts k Undecided)
-
--- the script's name, the keys of all terminals, and then their verdicts
+-- the part of a script with these keys and verdicts
 abbrev pub part_text : Line → Script → List (List Tern) → List Verdict → List ℕ
 part_text line script keys verdicts =
-    script_line script.name
-    ++ (each_below (terminal_count line) (key_of line keys)
-    ++ each_below (terminal_count line) (verdict_of line verdicts))
+    certificate.part_text line script (claims_of keys verdicts)
 
 -- the part of a script of which this is said
 abbrev pub piece_text : Line → Script → ScriptVerdict → List ℕ

@@ -1,4 +1,4 @@
-// Blocks of 64 candidates, which run side by side.
+//! Blocks of 64 candidates, which run side by side.
 
 ghost use Rattle.std.specs.Prelude.{◌≡◌, ◌<◌, IfOk};
 ghost use Rattle.line_model.specs.Parameters.{param_count};
@@ -9,7 +9,7 @@ ghost use Rattle.certify_core.specs.Candidates.{candidate_in, IsBlockSpan, AreBl
 ghost use Rattle.certify_core.specs.Candidates.{IsBlockRun};
 
 use gate_net::Net;
-use line_model::laws::each_line_has_a_choice_inside;
+use line_model::laws::{each_line_has_a_choice_inside, parameters_are_numbered};
 use line_model::{Line, Memory, Script};
 use simulator::{Waves, run};
 use std::alloc::Global;
@@ -27,6 +27,7 @@ pub fn number_in(line: &Line, first: u32, lane: u32) -> u32
     ensures number { result ≡ candidate_in line.now first lane }
     ensures exists { result < count_of line.now }
 {
+    parameters_are_numbered();
     let count = candidate_count(line);
     if first + lane < count {
         first + lane
@@ -85,6 +86,7 @@ pub fn run_block(
     candidates_are_inside();
     timings_inside_are_choices_inside();
     each_line_has_a_choice_inside();
+    parameters_are_numbered();
     let spans = block_spans(alloc, line, first)?;
     let steps: [Step<Ticks64>; 0] = [];
     let waves = run::<Lanes64>(alloc, net, line, script, &spans, &steps)?;

@@ -1,4 +1,4 @@
-// The verdict of a script.
+//! The verdict of a script.
 
 ghost use Rattle.std.specs.Prelude.{◌≡◌, ◌<◌, ℕ, Some, slice_get, IfOk};
 ghost use Rattle.line_model.specs.Choice.{Choice, IsInside, declared_box};

@@ -1,4 +1,4 @@
-// Which candidates of a block fail an obligation.
+//! Which candidates of a block fail an obligation.
 
 ghost use Rattle.std.specs.Prelude.{◌≡◌, ◌<◌, ◌≤◌, ℕ, length, MatchOption};
 ghost use Rattle.history.specs.Elements.{some_below};
@@ -8,7 +8,9 @@ ghost use Rattle.tick_signal.specs.Bits.{bit_on};
 ghost use Rattle.certify_core.specs.Candidates.{IsBlockRun, trips_in, TellsFailing, TellFailing};
 ghost use Rattle.certify_core.specs.Candidates.{IsLowest, IsNone64};
 
-use line_model::laws::{each_choice_has_one_history, each_line_has_a_choice_inside};
+use line_model::laws::{
+    each_choice_has_one_history, each_line_has_a_choice_inside, the_rule_is_tested,
+};
 use line_model::{Kind, Line, Script};
 use simulator::Waves;
 use tick_signal::{Lanes64, Signal};
@@ -39,6 +41,7 @@ fn failing_trips(line: &Line, script: &Script, waves: &Waves<Lanes64>, terminal:
         (MeetsBy script.now.kind script.now.deadline line.now.horizon
         (trips_in waves.now terminal lane)) }
 {
+    the_rule_is_tested();
     match script.kind {
         Kind::Internal => tripped(waves, terminal, script.deadline + 1).not(),
         Kind::External => tripped(waves, terminal, line.horizon),

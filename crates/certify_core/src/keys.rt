@@ -1,4 +1,4 @@
-// The key waves of an interval history.
+//! The key waves of an interval history.
 
 ghost use Rattle.std.specs.Prelude.{◌≡◌, ◌<◌, IfOk};
 ghost use Rattle.line_model.specs.Parameters.{terminal_count};

@@ -10,6 +10,7 @@ mod piece;
 mod standing;
 mod verdict;
 
+pub use certificate::{CERT_END, CERT_HEAD};
 pub use certification::certify;
-pub use piece::{CERT_END, CERT_HEAD, cert_piece};
+pub use piece::cert_piece;
 pub use verdict::{ScriptVerdict, Verdict};

@@ -1,4 +1,4 @@
-// How the obligations of a script stand.
+//! How the obligations of a script stand.
 
 ghost use Rattle.std.specs.Prelude.{◌≡◌, ◌≢◌, ◌<◌, ◌+◌, ℕ, length, map, slice_get, Some, IfOk};
 ghost use Rattle.std.specs.Prelude.{IsFalse};
@@ -16,6 +16,7 @@ use crate::failing::{failing, first_lane};
 use crate::verdict::Verdict;
 use gate_net::Net;
 use interval_wave::{PairWaves, Rule, judge};
+use line_model::laws::parameters_are_numbered;
 use line_model::{Line, Memory, Script};
 use simulator::Waves;
 use std::alloc::Global;
@@ -80,6 +81,7 @@ pub fn after_candidates(
         AllStand line.now script.now w 0 by_rules.items →
         AllStand line.now script.now w (count_of line.now) standings.items) }
 {
+    parameters_are_numbered();
     let count = candidate_count(line);
     let mut standings = by_rules;
     let mut first = 0;

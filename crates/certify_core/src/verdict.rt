@@ -1,4 +1,4 @@
-// Verdicts.
+//! Verdicts.
 
 use timing_box::Timing;
 use wave_runs::Runs;

@@ -8,7 +8,7 @@ use Rattle.certify_core.proofs.block.run_block.Goals as goal
 pub run-requires-clause-delayed : goal.run-requires-clause-delayed
 run-requires-clause-delayed c =
     let line = c.args.line.now in
-    block_delayed line c.args.first c.deref.result.now
+    block_delayed c.parameters_are_numbered.ensures line c.args.first c.deref.result.now
     (subst (AreBlockSpans line c.args.first) (sym c.deref.ensures.value) c.in_ok-spans.ensures)
     (λ i there.
     c.each_line_has_a_choice_inside.ensures.choices line (timing_choice line (candidate line i))
@@ -28,5 +28,5 @@ returns c =
       exact = λ lane inside.
           c.in_ok-waves.ensures.exact lane
           (timing_choice line (candidate line (candidate_in line c.args.first lane))) inside
-          (block_point line c.args.first c.deref.result.now spans lane inside);
+          (block_point c.parameters_are_numbered.ensures line c.args.first c.deref.result.now spans lane inside);
     }

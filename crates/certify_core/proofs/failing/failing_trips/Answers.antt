@@ -17,7 +17,7 @@ returns-in-Internal c = λ lane inside.
     subst
     (λ (kind : Kind). TellsFailing (bit_on c.not.result lane) (MeetsBy kind deadline horizon trip))
     (sym c.in-Internal.is)
-    (internal_tells deadline horizon trip (bit_on c.not.result lane)
+    (internal_tells c.the_rule_is_tested.ensures deadline horizon trip (bit_on c.not.result lane)
     (ap must_of (c.not.ensures lane inside)
     ∙ ap not (c.tripped.ensures lane inside)
     ∙ ap (λ (n : ℕ). not (some_below trip n)) next))
@@ -31,5 +31,5 @@ returns-in-External c = λ lane inside.
     subst
     (λ (kind : Kind). TellsFailing (bit_on lanes lane) (MeetsBy kind deadline horizon trip))
     (sym c.in-External.is)
-    (external_tells deadline horizon trip (bit_on lanes lane)
+    (external_tells c.the_rule_is_tested.ensures deadline horizon trip (bit_on lanes lane)
     (c.tripped-in-External.ensures lane inside))

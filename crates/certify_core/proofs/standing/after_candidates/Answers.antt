@@ -8,7 +8,7 @@ use Rattle.certify_core.proofs.StandingLaws.{stands_on, stands_at_end}
 use Rattle.certify_core.proofs.standing.after_candidates.Goals as goal
 
 pub overflow_add-first : goal.overflow_add-first
-overflow_add-first c = let few = few_candidates c.args.line.now in omega arith
+overflow_add-first c = let few = few_candidates c.parameters_are_numbered.ensures c.args.line.now in omega arith
 
 pub returns-then-not-some_open : goal.returns-then-not-some_open
 returns-then-not-some_open c = λ w all.

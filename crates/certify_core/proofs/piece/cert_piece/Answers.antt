@@ -1,0 +1,1 @@
+use Rattle.certify_core.proofs.piece.cert_piece.Goals as goal
