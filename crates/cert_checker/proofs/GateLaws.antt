@@ -2,7 +2,7 @@
 use Rattle.std.proofs.Common.{◌≡◌, ℕ, ◌<◌, List, [], Some, refl, sym, ◌∙◌, ap, arith}
 use Rattle.std.specs.Prelude.{slice_get, get_or}
 use Rattle.history.specs.Rails.{Rails, rails_not, rails_and, rails_or}
-use Rattle.history.proofs.RailsBridge.{rails_timed-same, rails_sealed-same}
+use Rattle.history.specs.Laws.{RailsReadThePast}
 use Rattle.tick_signal.specs.declared.tern.Tern.{Tern}
 use Rattle.line_model.specs.PairMean.{PairWorld, PairSignals, pair_mean}
 use Rattle.gate_net.specs.declared.gate.Gate.{Gate}
@@ -19,12 +19,12 @@ use Rattle.gate_net.specs.declared.gate.Gate.TheVariants.{
 }
 use Rattle.gate_net.specs.Formulas.{formula_of}
 use Rattle.gate_net.specs.Laws.{AreGates, HasArguments}
-use Rattle.simulator.specs.GatePairs.{GateSignals, gate_pairs, kind_pair}
-use Rattle.simulator.proofs.GatePairLaws.{gate_pairs-kind}
+use Rattle.simulator.specs.GatePairs.{GateSignals, GatesHaveTheirKind, gate_pairs, kind_pair}
 use Rattle.wave_runs.specs.Waves.{IsWaveOf}
 use Rattle.cert_checker.specs.Claims.{pairs_of}
 
-module _ (w : PairWorld) (keys : PairSignals) (n horizon : ℕ) (u v : GateSignals)
+module _ (past : RailsReadThePast) (w : PairWorld) (keys : PairSignals) (n horizon : ℕ)
+    (u v : GateSignals)
     (same : (i t : ℕ) → i < n → t < horizon → u i t ≡ v i t) where
   -- a kind over gates that are the same at each tick of the run
   kind_pair-same : (g : Gate) (t : ℕ) → HasArguments n g → t < horizon
@@ -41,13 +41,14 @@ module _ (w : PairWorld) (keys : PairSignals) (n horizon : ℕ) (u v : GateSigna
       ap (λ (x : Rails). rails_or x (u b.0 t)) (same a.0 t has.0 early)
       ∙ ap (rails_or (v a.0 t)) (same b.0 t has.1 early)
   kind_pair-same (Timer a p d) t has early =
-      rails_timed-same (u a.0) (v a.0) (w.time p) (w.time d) t
+      past.timed (u a.0) (v a.0) (w.time p) (w.time d) t
       (λ r le. same a.0 r has (omega arith))
   kind_pair-same (Seal a b) t has early =
-      rails_sealed-same (u a.0) (u b.0) (v a.0) (v b.0) t
+      past.sealed (u a.0) (u b.0) (v a.0) (v b.0) t
       (λ r le. same a.0 r has.0 (omega arith)) (λ r le. same b.0 r has.1 (omega arith))
 
-module _ (w : PairWorld) (keys : PairSignals) (gates : List Gate) (laws : AreGates gates)
+module _ (past : RailsReadThePast) (kinds : GatesHaveTheirKind) (w : PairWorld)
+    (keys : PairSignals) (gates : List Gate) (laws : AreGates gates)
     (waves : List (List Tern)) (i horizon : ℕ)
     (before : (j : ℕ) → j < i → IsWaveOf (get_or waves j []) horizon
     (λ t. pair_mean w keys (formula_of gates j) t)) where
@@ -60,7 +61,7 @@ module _ (w : PairWorld) (keys : PairSignals) (gates : List Gate) (laws : AreGat
     long = is.long;
     values = λ t early.
         is.values t early
-        ∙ kind_pair-same w keys i horizon (pairs_of waves) (gate_pairs w keys gates)
+        ∙ kind_pair-same past w keys i horizon (pairs_of waves) (gate_pairs w keys gates)
         (λ j r lt inside. (before j lt).values r inside) g t (laws.earlier i g at) early
-        ∙ sym (gate_pairs-kind w keys gates i g t laws at);
+        ∙ sym (kinds w keys gates i g t laws at);
   }

@@ -8,10 +8,8 @@ use Rattle.line_model.specs.declared.script.Kind.{Kind}
 use Rattle.line_model.specs.declared.script.Kind.TheVariants.{Internal, External}
 use Rattle.line_model.specs.declared.script.Script.{Script}
 use Rattle.line_model.specs.Parameters.{terminal_count}
-use Rattle.line_model.specs.Choice.{DelaysFromOne}
 use Rattle.line_model.specs.Fits.{Fits, deadline_fits}
 use Rattle.line_model.specs.Histories.{History, IsLineHistory, IsSameHistory, MeetsBy}
-use Rattle.line_model.proofs.HistoryLaws.{history_once}
 use Rattle.cert_checker.specs.Refutations.{choice_of, FailsAt, IsMetAt, PassesAt}
 
 -- the deadline of a script that fits is below the horizon
@@ -59,7 +57,8 @@ met_meets External deadline horizon trip t met = met.1
 -- ---- what one history at the numbers shows, all do
 
 module _ (line : Line) (script : Script) (values : List ℕ)
-    (d : DelaysFromOne line (choice_of line values)) (early : script.deadline < line.horizon)
+    (once : (g h : History) → IsLineHistory line script (choice_of line values) g
+    → IsLineHistory line script (choice_of line values) h → IsSameHistory line g h) (early : script.deadline < line.horizon)
     (k : ℕ) (there : k < terminal_count line) (g : History)
     (is_g : IsLineHistory line script (choice_of line values) g) where
   pub told_by_one : (met : Option ℕ)
@@ -68,11 +67,11 @@ module _ (line : Line) (script : Script) (values : List ℕ)
       → MatchOption met (FailsAt line script k values) (λ t. PassesAt line script k values t)
   told_by_one None fails = λ h is_h meets.
       let same : IsSameHistory line h g =
-      history_once line script (choice_of line values) d h g is_h is_g in
+      once h g is_h is_g in
       fails (meets_same script.kind script.deadline line.horizon (h.trip k) (g.trip k) early
       (λ t lt. same.trips k t there lt) meets)
   told_by_one (Some t) met = λ h is_h.
       let same : IsSameHistory line g h =
-      history_once line script (choice_of line values) d g h is_g is_h in
+      once g h is_g is_h in
       met_same script.kind script.deadline line.horizon (g.trip k) (h.trip k) t early
       (λ r lt. same.trips k r there lt) met

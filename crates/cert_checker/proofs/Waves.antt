@@ -9,7 +9,7 @@ use Rattle.history.specs.Rails.{Rails}
 use Rattle.tick_signal.specs.declared.tern.Tern.{Tern}
 use Rattle.tick_signal.specs.Terns.{tern_rails}
 use Rattle.wave_runs.specs.Waves.{IsWaveOf}
-use Rattle.wave_runs.proofs.WaveLaws.{ticks_more, new_length}
+use Rattle.wave_runs.specs.WaveLaws.{WavesGrow}
 
 -- before the first tick
 pub at_first : (wave : List Tern) (value : ℕ → Rails) → wave ≡ [] → IsWaveOf wave 0 value
@@ -19,28 +19,28 @@ at_first wave value none = record {
 }
 
 -- some ticks more, of one value
-pub with_ticks : (wave new : List Tern) (level : Tern) (m n : ℕ) (value : ℕ → Rails)
+pub with_ticks : WavesGrow → (wave new : List Tern) (level : Tern) (m n : ℕ) (value : ℕ → Rails)
     → IsWaveOf wave m value → new ≡ wave ++ replicate n level
     → ((k : ℕ) → m ≤ k → k < m + n → tern_rails level ≡ value k)
     → IsWaveOf new (m + n) value
-with_ticks wave new level m n value is more same =
+with_ticks grow wave new level m n value is more same =
     let long : length wave ≡ m = is.long in
-    let all : length new ≡ m + n = omega (arith, new_length wave new level n more, long) in
+    let all : length new ≡ m + n = omega (arith, grow.long wave new level n more, long) in
     let P : ℕ → Type 0 = λ j. IsWaveOf new j value in
     subst P all
-    (ticks_more wave new level n value
+    (grow.ticks wave new level n value
     (record { long = refl; values = λ t early. is.values t (omega (arith, long, early)) })
     more (λ k low high. same k (omega (arith, long, low)) (omega (arith, long, high))))
 
 -- one value at all ticks
-pub one_level : (wave new : List Tern) (level : Tern) (n : ℕ) (value : ℕ → Rails) → wave ≡ []
+pub one_level : WavesGrow → (wave new : List Tern) (level : Tern) (n : ℕ) (value : ℕ → Rails) → wave ≡ []
     → new ≡ wave ++ replicate n level → ((k : ℕ) → k < n → tern_rails level ≡ value k)
     → IsWaveOf new n value
-one_level wave new level n value none is same =
+one_level grow wave new level n value none is same =
     let all : 0 + n ≡ n = omega arith in
     let P : ℕ → Type 0 = λ j. IsWaveOf new j value in
     subst P all
-    (with_ticks wave new level 0 n value (at_first wave value none) is
+    (with_ticks grow wave new level 0 n value (at_first wave value none) is
     (λ k low high. same k (omega (arith, high))))
 
 -- a list with one more wave

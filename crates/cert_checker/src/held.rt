@@ -1,10 +1,12 @@
 //! Whether an obligation is held by the trip that follows from the claims.
 
 ghost use Rattle.std.specs.Prelude.{◌≡◌, ◌<◌, ◌≤◌, length};
+ghost use Rattle.std.specs.Bool.{Decides};
 ghost use Rattle.history.specs.Elements.{some_below};
-ghost use Rattle.line_model.specs.Rule.{is_held as is_held_by};
+ghost use Rattle.line_model.specs.Rule.{IsHeld};
 ghost use Rattle.wave_runs.specs.Waves.{wave_at};
 
+use history::element_laws::tests_are_their_facts;
 use line_model::{Kind, Script};
 use tick_signal::Signal;
 use wave_runs::Runs;
@@ -13,9 +15,10 @@ use wave_runs::Runs;
 /// External: it may come at none.
 pub fn is_held(script: &Script, trip: &Runs) -> bool
     requires { script.now.deadline < length trip.now }
-    ensures { result
-        ≡ is_held_by script.now.kind script.now.deadline (length trip.now) (wave_at trip.now) }
+    ensures { Decides result
+        (IsHeld script.now.kind script.now.deadline (length trip.now) (wave_at trip.now)) }
 {
+    tests_are_their_facts();
     let ticks = trip.len();
     match script.kind {
         Kind::Internal => must_come(trip, script.deadline + 1),
@@ -28,6 +31,7 @@ fn must_come(trip: &Runs, ticks: u32) -> bool
     requires { ticks ≤ length trip.now }
     ensures { result ≡ some_below (λ t. (wave_at trip.now t).must) ticks }
 {
+    tests_are_their_facts();
     for t in 0..ticks {
         if trip.at(t).must(0) {
             return true;
@@ -41,6 +45,7 @@ fn may_come(trip: &Runs, ticks: u32) -> bool
     requires { ticks ≤ length trip.now }
     ensures { result ≡ some_below (λ t. (wave_at trip.now t).may) ticks }
 {
+    tests_are_their_facts();
     for t in 0..ticks {
         if trip.at(t).may(0) {
             return true;

@@ -16,9 +16,8 @@ pub fn first_outside(line: &Line, values: &[u32]) -> Option<u32>
         ((i : ℕ) → i < param_count line.now → IsNumberIn line.now values.now i)
         (λ i. IsFirstFailing (IsNumberIn line.now values.now) (param_count line.now) i) }
 {
-    for i in 0..line.params.len() {
-        let param = i as u32;
-        if !is_in(line, param, values[i]) {
+    for param in 0..line.param_count() {
+        if !is_in(line, param, values[param as usize]) {
             return Some(param);
         }
     }

@@ -7,7 +7,9 @@ ghost use Rattle.cert_checker.specs.Claims.{AreWaves, AreGateWaves, pairs_of};
 
 use crate::gate::gate_wave;
 use gate_net::{GateId, Net};
+use history::rails_laws::rails_read_the_past;
 use line_model::{Line, Memory, Script};
+use simulator::laws::gates_have_their_kind;
 use std::alloc::Global;
 use wave_runs::Runs;
 
@@ -26,6 +28,8 @@ pub fn gate_waves(
     ensures { IfOk result (λ waves.
         AreGateWaves line.now script.now net.now.gates (pairs_of keys.now) waves.items) }
 {
+    rails_read_the_past();
+    gates_have_their_kind();
     let mut waves = Vec::with_capacity(alloc, net.len() as usize)?;
     for i in 0..net.len() {
         let gate = net.gate(GateId(i));

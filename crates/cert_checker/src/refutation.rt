@@ -12,7 +12,9 @@ ghost use Rattle.cert_checker.specs.Firsts.{IsFirstOn, IsNeverOn};
 ghost use Rattle.cert_checker.specs.Refutations.{steady_timing, FailsAt, PassesAt, IsMetAt};
 
 use gate_net::Net;
+use line_model::laws::each_choice_has_one_history;
 use line_model::{Kind, Line, Memory, Script};
+use simulator::laws::a_timing_is_one_choice;
 use simulator::{Waves, run};
 use std::alloc::Global;
 use tick_signal::{Level, Signal, Tick};
@@ -36,6 +38,8 @@ pub fn met_at(
         (FailsAt line.now script.now terminal values.now)
         (λ t. PassesAt line.now script.now terminal values.now t)) }
 {
+    a_timing_is_one_choice();
+    each_choice_has_one_history();
     let numbers = ticks_of(alloc, line, values)?;
     let steps: [Step<Tick>; 0] = [];
     let waves = run::<Level>(alloc, net, line, script, numbers.as_slice(), &steps)?;

@@ -26,7 +26,8 @@ use crate::refutation::met_at;
 use certificate::{Claim, ScriptClaims};
 use gate_net::Net;
 use line_model::laws::{
-    covered_claims_cover, each_line_has_a_choice_inside, the_rule_speaks_for_what_is_covered,
+    covered_claims_cover, each_line_has_a_choice_inside, the_rule_is_exact,
+    the_rule_speaks_for_what_is_covered,
 };
 use line_model::{Line, Script};
 use std::alloc::Global;
@@ -115,6 +116,7 @@ fn check_claim(
         (λ _. IsSupported line.now script.now terminal pairs (verdict_in claim.now))
         (λ fault. IsFaultOf line.now script.now terminal pairs (verdict_in claim.now) fault) }
 {
+    the_rule_is_exact();
     match claim {
         Claim::Yes => {
             if is_held(script, trip) {

@@ -84,34 +84,34 @@ no_step i t None = refl
 no_step i t (Some span) = refl
 
 module _ (numbered : ParametersAreNumbered) (line : Line) (first : ℕ) (spans : List (List ℕ))
-  (are : AreBlockSpans line first spans) where
-    span_at : (lane i : ℕ) → lane < 64 → i < param_count line
-        → ends_in lane_ends lane (slice_get spans i)
-        ≡ single (get_or (candidate line (candidate_in line first lane)).values i 0)
-    span_at lane i inside there =
-        let (span, at) = exists_at spans i (omega (arith, are.count)) in
-        ap (ends_in lane_ends lane) at
-        ∙ ap single
-        (are.each i span at lane inside
-        ∙ sym (value_at line (candidate_in line first lane) i there))
+    (are : AreBlockSpans line first spans) where
+  span_at : (lane i : ℕ) → lane < 64 → i < param_count line
+      → ends_in lane_ends lane (slice_get spans i)
+      ≡ single (get_or (candidate line (candidate_in line first lane)).values i 0)
+  span_at lane i inside there =
+      let (span, at) = exists_at spans i (omega (arith, are.count)) in
+      ap (ends_in lane_ends lane) at
+      ∙ ap single
+      (are.each i span at lane inside
+      ∙ sym (value_at line (candidate_in line first lane) i there))
 
-    -- it holds the choice of the lane's candidate alone
-    pub block_point : (lane : ℕ) → lane < 64
-        → IsPoint line (lane_box lane_ends line spans [] lane)
-        (timing_choice line (candidate line (candidate_in line first lane)))
-    unfolding lane_box timing_choice
-    block_point lane inside = record {
-      numbers = λ i there. span_at lane i inside there;
-      delays = λ c t there early.
-          ap (ends_in lane_ends lane)
-          (no_step (delay_param line c) t (slice_get spans (delay_param line c)))
-          ∙ span_at lane (delay_param line c) inside (numbered.delays line c there);
-    }
+  -- it holds the choice of the lane's candidate alone
+  pub block_point : (lane : ℕ) → lane < 64
+      → IsPoint line (lane_box lane_ends line spans [] lane)
+      (timing_choice line (candidate line (candidate_in line first lane)))
+  unfolding lane_box timing_choice
+  block_point lane inside = record {
+    numbers = λ i there. span_at lane i inside there;
+    delays = λ c t there early.
+        ap (ends_in lane_ends lane)
+        (no_step (delay_param line c) t (slice_get spans (delay_param line c)))
+        ∙ span_at lane (delay_param line c) inside (numbered.delays line c there);
+  }
 
-    pub block_delayed
-        : ((i : ℕ) → i < candidate_count line
-        → DelaysFromOne line (timing_choice line (candidate line i)))
-        → AreDelayed 64 lane_ends line spans []
-    block_delayed from_one lane inside c t there early =
-        subst (λ (e : Ends). 1 ≤ e.least) (sym ((block_point lane inside).delays c t there early))
-        (from_one (candidate_in line first lane) (candidate_exists line first lane) c t there early)
+  pub block_delayed
+      : ((i : ℕ) → i < candidate_count line
+      → DelaysFromOne line (timing_choice line (candidate line i)))
+      → AreDelayed 64 lane_ends line spans []
+  block_delayed from_one lane inside c t there early =
+      subst (λ (e : Ends). 1 ≤ e.least) (sym ((block_point lane inside).delays c t there early))
+      (from_one (candidate_in line first lane) (candidate_exists line first lane) c t there early)

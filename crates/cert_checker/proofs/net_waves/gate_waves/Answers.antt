@@ -28,7 +28,7 @@ loop-i-preserved c =
     (λ t. kind_pair w keys (pairs_of l) c.gate-gate.result.now t)) c.as_slice.ensures.value
     c.in_ok-wave.ensures in
     let now : IsWaveOf wave line.horizon (value i) =
-    tree_wave w keys gates c.requires.of_line.laws.gates waves i line.horizon
+    tree_wave c.rails_read_the_past.ensures c.gates_have_their_kind.ensures w keys gates c.requires.of_line.laws.gates waves i line.horizon
     c.loop-i.invariant.each c.gate-gate.result.now wave c.gate-gate.ensures.is kind in
     record {
       many = omega (

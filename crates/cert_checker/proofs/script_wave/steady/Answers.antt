@@ -5,6 +5,6 @@ use Rattle.cert_checker.proofs.script_wave.steady.Goals as goal
 
 pub returns : goal.returns
 returns c =
-    one_level c.new-wave.result c.push.new.self c.known.result c.args.horizon
+    one_level c.waves_grow.ensures c.new-wave.result c.push.new.self c.known.result c.args.horizon
     (λ t. both c.args.value) c.new-wave.ensures c.in_ok-push.ensures
     (λ k early. c.known.ensures 0 (omega arith))
