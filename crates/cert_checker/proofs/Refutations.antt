@@ -1,28 +1,14 @@
 -- What a run at known numbers shows of an obligation.
 use Rattle.std.proofs.Common.{◌≡◌, ℕ, suc, ◌<◌, ◌≤◌, Bool, List, Option, Some, None}
 use Rattle.std.proofs.Common.{sym, ◌∙◌, arith}
-use Rattle.std.specs.Prelude.{IsTrue, MatchOption}
-use Rattle.std.proofs.lemmas.Bool.{ltb-true, eqb-true}
+use Rattle.std.specs.Prelude.{MatchOption}
 use Rattle.line_model.specs.declared.line.Line.{Line}
 use Rattle.line_model.specs.declared.script.Kind.{Kind}
 use Rattle.line_model.specs.declared.script.Kind.TheVariants.{Internal, External}
 use Rattle.line_model.specs.declared.script.Script.{Script}
 use Rattle.line_model.specs.Parameters.{terminal_count}
-use Rattle.line_model.specs.Fits.{Fits, deadline_fits}
 use Rattle.line_model.specs.Histories.{History, IsLineHistory, IsSameHistory, MeetsBy}
 use Rattle.cert_checker.specs.Refutations.{choice_of, FailsAt, IsMetAt, PassesAt}
-
--- the deadline of a script that fits is below the horizon
-deadline_below : (kind : Kind) (deadline horizon : ℕ) → 1 ≤ horizon
-    → IsTrue (deadline_fits horizon kind deadline) → deadline < horizon
-deadline_below Internal deadline horizon some fits = ltb-true deadline horizon fits
-deadline_below External deadline horizon some fits =
-    let none : deadline ≡ 0 = eqb-true deadline 0 fits in omega (arith, none, some)
-
-pub fitting_deadline : (line : Line) (script : Script) → Fits line script
-    → script.deadline < line.horizon
-fitting_deadline line script fits =
-    deadline_below script.kind script.deadline line.horizon line.horizon_in_range.0 fits.deadline
 
 -- ---- trips that are the same over the run
 

@@ -12,7 +12,7 @@ ghost use Rattle.cert_checker.specs.Firsts.{IsFirstOn, IsNeverOn};
 ghost use Rattle.cert_checker.specs.Refutations.{steady_timing, FailsAt, PassesAt, IsMetAt};
 
 use gate_net::Net;
-use line_model::laws::each_choice_has_one_history;
+use line_model::laws::{deadlines_are_below_the_horizon, each_choice_has_one_history};
 use line_model::{Kind, Line, Memory, Script};
 use simulator::laws::a_timing_is_one_choice;
 use simulator::{Waves, run};
@@ -40,6 +40,7 @@ pub fn met_at(
 {
     a_timing_is_one_choice();
     each_choice_has_one_history();
+    deadlines_are_below_the_horizon();
     let numbers = ticks_of(alloc, line, values)?;
     let steps: [Step<Tick>; 0] = [];
     let waves = run::<Level>(alloc, net, line, script, numbers.as_slice(), &steps)?;

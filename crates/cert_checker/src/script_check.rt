@@ -26,8 +26,8 @@ use crate::refutation::met_at;
 use certificate::{Claim, ScriptClaims};
 use gate_net::Net;
 use line_model::laws::{
-    covered_claims_cover, each_line_has_a_choice_inside, the_rule_is_exact,
-    the_rule_speaks_for_what_is_covered,
+    covered_claims_cover, deadlines_are_below_the_horizon, each_line_has_a_choice_inside,
+    the_rule_is_exact, the_rule_speaks_for_what_is_covered,
 };
 use line_model::{Line, Script};
 use std::alloc::Global;
@@ -54,6 +54,7 @@ pub fn check_claims(
     each_line_has_a_choice_inside();
     covered_claims_cover();
     the_rule_speaks_for_what_is_covered();
+    deadlines_are_below_the_horizon();
     let keys = said.keys.as_slice();
     let waves = gate_waves(alloc, net, line, script, keys)?;
     if let Some(uncovered) = first_uncovered(line, net, keys, waves.as_slice()) {
@@ -117,6 +118,7 @@ fn check_claim(
         (λ fault. IsFaultOf line.now script.now terminal pairs (verdict_in claim.now) fault) }
 {
     the_rule_is_exact();
+    deadlines_are_below_the_horizon();
     match claim {
         Claim::Yes => {
             if is_held(script, trip) {

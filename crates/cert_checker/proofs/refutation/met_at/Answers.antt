@@ -5,7 +5,7 @@ use Rattle.simulator.specs.LaneBox.{lane_box}
 use Rattle.simulator.specs.Played.{ends_of_tick, played}
 use Rattle.simulator.specs.Runs.{AreDelayed, IsPoint}
 use Rattle.cert_checker.specs.Refutations.{steady_timing, choice_of}
-use Rattle.cert_checker.proofs.Refutations.{fitting_deadline, told_by_one}
+use Rattle.cert_checker.proofs.Refutations.{told_by_one}
 use Rattle.cert_checker.proofs.refutation.met_at.Goals as goal
 
 pub run-requires-clause-delayed : goal.run-requires-clause-delayed
@@ -31,5 +31,5 @@ returns c =
     told_by_one line script values
     (λ g h is_g is_h. c.each_choice_has_one_history.ensures.only line script
     (choice_of line values) g h (law.choice line timing c.requires.inside) is_g is_h)
-    (fitting_deadline line script c.requires.fits) c.args.terminal c.requires.terminal
+    (c.deadlines_are_below_the_horizon.ensures line script c.requires.fits) c.args.terminal c.requires.terminal
     (played c.in_ok-waves.waves) exact.is c.met_tick.result c.met_tick.ensures

@@ -7,7 +7,6 @@ use Rattle.cert_checker.specs.declared.claim.ClaimFault.TheVariants.{NotHeld}
 use Rattle.cert_checker.specs.Verdicts.{IsSupported, IsFaultOf}
 use Rattle.cert_checker.proofs.Firsts.{not_both}
 use Rattle.cert_checker.proofs.HeldRules.{held_same}
-use Rattle.cert_checker.proofs.Refutations.{fitting_deadline}
 use Rattle.cert_checker.proofs.script_check.check_claim.Goals as goal
 
 pub returns-then-is_held : goal.returns-then-is_held
@@ -21,7 +20,7 @@ returns-then-is_held c = λ pairs same.
     (sym c.in-Yes.is)
     ((c.the_rule_is_exact.ensures.held line script pairs).1
     (held_same script.kind script.deadline line.horizon trip pairs
-    (fitting_deadline line script c.requires.fits) same held))
+    (c.deadlines_are_below_the_horizon.ensures line script c.requires.fits) same held))
 
 pub returns-else-is_held : goal.returns-else-is_held
 returns-else-is_held c = λ pairs same.
@@ -35,7 +34,7 @@ returns-else-is_held c = λ pairs same.
       refl,
       λ rule.
           let held : P line.horizon = held_same script.kind script.deadline line.horizon pairs trip
-          (fitting_deadline line script c.requires.fits) (λ t lt. sym (same t lt))
+          (c.deadlines_are_below_the_horizon.ensures line script c.requires.fits) (λ t lt. sym (same t lt))
           ((c.the_rule_is_exact.ensures.held line script pairs).0 rule) in
           not_both c.is_held.result c.if-is_held.false
           (c.is_held.ensures.1 (subst P (sym c.requires.trip) held)),

@@ -10,7 +10,6 @@ use Rattle.certificate.specs.declared.claim.Claim.{Claim}
 use Rattle.certificate.specs.Grammar.{Claims, yes, claims_in, verdict_in}
 use Rattle.cert_checker.specs.Claims.{AreGateWaves, pairs_of}
 use Rattle.cert_checker.specs.Verdicts.{AreSupported, IsVerdictFault, IsFirstUncovered}
-use Rattle.cert_checker.proofs.Refutations.{fitting_deadline}
 use Rattle.cert_checker.proofs.Acceptance.{with_keys, where_good}
 use Rattle.cert_checker.proofs.script_check.check_claims.Goals as goal
 
@@ -79,7 +78,7 @@ returns-clause-yes c =
     let there : k < terminal_count line =
     omega (arith, slice_get_within said.verdicts k yes is, c.requires.written.each.verdicts) in
     c.the_rule_speaks_for_what_is_covered.ensures.held line script w h k
-    (fitting_deadline line script c.requires.fits)
+    (c.deadlines_are_below_the_horizon.ensures line script c.requires.fits)
     (c.covered_claims_cover.ensures line script (declared_box line) choice claims h
     (c.each_line_has_a_choice_inside.ensures.declared line) inside (covered c) is_h)
     there (supported k yes is))
