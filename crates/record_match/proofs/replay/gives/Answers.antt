@@ -1,0 +1,50 @@
+use Rattle.std.proofs.Common.{◌∙◌, ℕ, List, sym, subst, arith}
+use Rattle.line_model.specs.Choice.{Choice}
+use Rattle.line_model.specs.Histories.{IsSameHistory}
+use Rattle.timing_box.specs.declared.step.Step.{Step}
+use Rattle.timing_box.specs.Timing.{TimingValues}
+use Rattle.timing_box.specs.Choice.{timing_choice}
+use Rattle.simulator.specs.LaneBox.{lane_box}
+use Rattle.simulator.specs.Played.{played, ends_of_tick}
+use Rattle.simulator.specs.Runs.{AreDelayed, IsPoint}
+use Rattle.record_match.proofs.replay.gives.Goals as goal
+
+pub run-requires-clause-delayed : goal.run-requires-clause-delayed
+run-requires-clause-delayed c =
+    let line = c.args.line.now in
+    let timing : TimingValues = c.args.timing.now in
+    subst (λ (values : List ℕ). AreDelayed 1 ends_of_tick line values c.steps-steps.result.now)
+    (sym c.values-values.ensures)
+    (subst (λ (steps : List (Step ℕ)). AreDelayed 1 ends_of_tick line timing.values steps)
+    (sym c.steps-steps.ensures.same)
+    (c.a_timing_is_one_choice.ensures.delayed line timing 1 c.requires.inside))
+
+pub returns : goal.returns
+returns c =
+    let line = c.args.line.now in
+    let script = c.args.script.now in
+    let timing : TimingValues = c.args.timing.now in
+    let choice : Choice = timing_choice line timing in
+    let waves = c.in_ok-waves.waves in
+    let law = c.a_timing_is_one_choice.ensures in
+    let point =
+    subst (λ (values : List ℕ).
+    IsPoint line (lane_box ends_of_tick line values c.steps-steps.result.now 0) choice)
+    (sym c.values-values.ensures)
+    (subst (λ (steps : List (Step ℕ)).
+    IsPoint line (lane_box ends_of_tick line timing.values steps 0) choice)
+    (sym c.steps-steps.ensures.same) (law.point line timing 0 c.requires.inside)) in
+    let exact = c.in_ok-waves.ensures.exact 0 choice (omega arith) point in (
+      λ on. record {
+        same = λ h is_h.
+            let once : IsSameHistory line h (played waves) =
+            c.line_laws.ensures.histories.only line script choice h (played waves)
+            (law.choice line timing c.requires.inside) is_h exact.is in
+            let seen = c.is_same.ensures.0 on in
+            record {
+              keys = λ k t kn lt. once.keys k t kn lt ∙ seen.keys k t kn lt;
+              trips = λ k t kn lt. once.trips k t kn lt ∙ seen.trips k t kn lt;
+            };
+      },
+      λ gives. c.is_same.ensures.1 (gives.same (played waves) exact.is),
+    )

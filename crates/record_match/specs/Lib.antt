@@ -1,0 +1,13 @@
+pub mod Seen
+pub mod Signal
+pub mod Clash
+pub mod Match
+pub mod MatchText
+pub mod Gives
+pub mod Heads
+pub mod Row
+pub mod Checks
+pub mod Records
+pub mod Waves
+pub mod Faults
+pub mod Answer

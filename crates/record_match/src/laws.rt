@@ -1,0 +1,34 @@
+// The law of records.
+
+ghost use Rattle.std.specs.Prelude.{◌≡◌, ◌<◌, ℕ, Bool};
+ghost use Rattle.line_model.specs.declared.line.Line.{Line};
+ghost use Rattle.line_model.specs.declared.script.Script.{Script};
+ghost use Rattle.line_model.specs.Parameters.{terminal_count};
+ghost use Rattle.line_model.specs.Choice.{Choice, IsInside};
+ghost use Rattle.line_model.specs.Histories.{History, IsLineHistory, IsSameHistory};
+ghost use Rattle.record_match.specs.declared.seen.Seen.{Seen};
+ghost use Rattle.record_match.specs.Seen.{AreSeen, seen_history};
+ghost use Rattle.record_match.specs.declared.seen.Match.{Match};
+ghost use Rattle.record_match.specs.Clash.{IsAllowed};
+ghost use Rattle.record_match.specs.Match.{IsMatch};
+
+use line_model::laws::line_laws;
+
+/// What a choice of delays inside the declared intervals gives is allowed everywhere. So no choice
+/// gives a record that is not allowed at some place.
+pub fn what_a_choice_gives_is_allowed()
+    ensures { (line : Line) (script : Script) (seen : Seen) (choice : Choice) (h : History) →
+        AreSeen line seen → IsInside line choice → IsLineHistory line script choice h →
+        IsSameHistory line h (seen_history seen) →
+        (trip : Bool) (k t : ℕ) → k < terminal_count line → t < line.horizon →
+        IsAllowed line script seen trip k t }
+{
+    line_laws();
+}
+
+/// What is settled of a record is one thing: the first place where it cannot be, or else the first
+/// candidate that gives it, or else neither.
+pub fn a_record_is_settled_once()
+    ensures { (line : Line) (script : Script) (seen : Seen) (a b : Match) →
+        IsMatch line script seen a → IsMatch line script seen b → a ≡ b }
+{}
