@@ -16,8 +16,7 @@ use Rattle.gate_net.specs.declared.gate.Gate.TheVariants.{
 }
 use Rattle.gate_net.specs.Laws.{AreGates}
 use Rattle.gate_net.specs.Formulas.{formula_of, kind_over}
-use Rattle.gate_net.proofs.Standing.{formula_of-gate}
-use Rattle.simulator.specs.GatePairs.{gate_pairs, kind_pair}
+use Rattle.simulator.specs.GatePairs.{gate_pairs, kind_pair, GatesHaveTheirKind}
 
 module _ (w : PairWorld) (keys : PairSignals) (gates : List Gate) where
   kind_pair-is : (g : Gate) (t : ℕ)
@@ -33,8 +32,12 @@ module _ (w : PairWorld) (keys : PairSignals) (gates : List Gate) where
   kind_pair-is (Timer a p d) t = refl
   kind_pair-is (Seal a b) t = refl
 
-  pub gate_pairs-kind : (i : ℕ) (g : Gate) (t : ℕ) → AreGates gates → slice_get gates i ≡ Some g
-      → gate_pairs w keys gates i t ≡ kind_pair w keys (gate_pairs w keys gates) g t
-  unfolding gate_pairs
-  gate_pairs-kind i g t laws at =
-      ap (λ x. pair_mean w keys x t) (formula_of-gate gates i g laws at) ∙ kind_pair-is g t
+-- each gate stands for its own kind over the trees of its arguments
+abbrev GatesAreTheirKinds : Type 0
+GatesAreTheirKinds = (gates : List Gate) (i : ℕ) (g : Gate) → AreGates gates
+    → slice_get gates i ≡ Some g → formula_of gates i ≡ kind_over gates g
+
+pub gate_pairs-kind : GatesAreTheirKinds → GatesHaveTheirKind
+unfolding gate_pairs
+gate_pairs-kind kinds w keys gates i g t laws at =
+    ap (λ x. pair_mean w keys x t) (kinds gates i g laws at) ∙ kind_pair-is w keys gates g t

@@ -11,15 +11,12 @@ use Rattle.line_model.specs.PairMean.{PairWorld, PairSignals, pair_mean}
 use Rattle.line_model.specs.Choice.{Box, LeastFromOne, world_of, pair_world_of}
 use Rattle.line_model.specs.Logic.{key_tree}
 use Rattle.line_model.specs.Histories.{PairHistory, IsPairHistory}
-use Rattle.line_model.specs.Solution.{IsDelayed, SameBefore, the_keys}
-use Rattle.line_model.proofs.PairLaws.{pair_mean-past, the_keys-solve}
-use Rattle.line_model.proofs.WorldLaws.{pair_world_delayed}
-use Rattle.line_model.proofs.HistoryLaws.{keys_named, pair_history_once}
-use Rattle.line_model.proofs.BoxLaws.{box_covers_choice, box_covers_tree}
+use Rattle.line_model.specs.Solution.{SameBefore, the_keys}
+use Rattle.line_model.specs.Laws.{LineLaws}
 use Rattle.gate_net.specs.declared.gate.GateId.{GateId}
+use Rattle.gate_net.specs.NetLaws.{GatesStandForTheirTrees}
 use Rattle.gate_net.specs.Formulas.{formula_of}
 use Rattle.gate_net.specs.NetOf.{NetOf, IsNet, IsNetOf, AreGatesOf, key_of, trip_of}
-use Rattle.gate_net.proofs.Names.{formula_names}
 use Rattle.simulator.specs.GatePairs.{GateSignals, gate_pairs, line_pairs}
 use Rattle.simulator.specs.Ticks.{ValuesTold}
 use Rattle.simulator.specs.WavesOf.{WavesOf, AreWaves, wave_pair, number_at, waves_history}
@@ -43,19 +40,16 @@ made_waves line net made laws short of count = record {
       ∙ sym (ap (λ (ids : List GateId). length ids) of.keys);
 }
 
-module _ (line : Line) (script : Script) (box : Box) (d : LeastFromOne line box) (net : NetOf)
-    (of_line : IsNetOf line net) where
+module _ (laws : LineLaws) (gates : GatesStandForTheirTrees) (line : Line) (script : Script)
+    (box : Box) (d : LeastFromOne line box) (net : NetOf) (of_line : IsNetOf line net) where
   abbrev world : PairWorld
   world = pair_world_of line script box
 
   abbrev solution : PairSignals
   solution = the_keys world (key_tree line)
 
-  world_delayed : IsDelayed line world
-  world_delayed = pair_world_delayed line script box d
-
   named : (i : ℕ) → Names line (formula_of net.gates i)
-  named i = formula_names line net.gates of_line.named i
+  named i = gates.names line net.gates i of_line.named
 
   -- the pair of a terminal's key gate is its key
   pub key_pair : (k t : ℕ) → k < terminal_count line → t < line.horizon
@@ -63,7 +57,7 @@ module _ (line : Line) (script : Script) (box : Box) (d : LeastFromOne line box)
   unfolding gate_pairs
   key_pair k t kn lt =
       ap (λ (x : Tree). pair_mean world solution x t) (of_line.keys k kn)
-      ∙ sym (the_keys-solve line world world_delayed (key_tree line) (keys_named line) k t kn lt)
+      ∙ sym (laws.values.solution line script box d k t kn lt)
 
   key_there : (k : ℕ) → k < terminal_count line → key_of net k < length net.gates
   key_there k kn =
@@ -105,8 +99,8 @@ module _ (line : Line) (script : Script) (box : Box) (d : LeastFromOne line box)
         λ k r kn lt. sym (own_key k r ∙ tells (key_of net k) r (key_there k kn) (omega arith)
         ∙ key_pair k r kn (omega arith)) in
         tells gate t inside before
-        ∙ pair_mean-past line world world_delayed solution own.key (formula_of net.gates gate) t
-        before (named gate) same
+        ∙ laws.values.pair line script box solution own.key (formula_of net.gates gate) t d before
+        (named gate) same
 
     module _ (have : HavePairs rails lane line script box net waves) where
       pub own_history : IsPairHistory line script box own
@@ -122,18 +116,18 @@ module _ (line : Line) (script : Script) (box : Box) (d : LeastFromOne line box)
       pub run_history : IsTheHistory line script box own
       run_history = record {
         is = own_history;
-        only = λ others also. pair_history_once line script box d own others own_history also;
+        only = λ others also. laws.interval_histories.only line script box own others d own_history also;
       }
 
       pub run_covers : CoverChoices rails lane line script box net waves
       run_covers = record {
         histories = λ choice h within is_h.
-            box_covers_choice line script box d choice within h is_h own own_history;
+            laws.boxes.choices line script box choice own h d within own_history is_h;
         gates = λ choice h within is_h gate t inside before.
             subst
             (λ (x : Rails). Covers x
             (mean (world_of line script choice) h.key (formula_of net.gates gate) t))
             (sym (have gate t inside before))
-            (box_covers_tree line script box d choice within h is_h own own_history
+            (laws.boxes.trees line script box choice own h d within own_history is_h
             (formula_of net.gates gate) t before (named gate));
       }

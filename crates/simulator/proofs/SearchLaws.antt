@@ -34,10 +34,9 @@ use Rattle.std.proofs.Common.{
   ⊎_elim,
 }
 use Rattle.std.specs.Prelude.{slice_get, nat_le, nat_lt, ◌==◌, Decides}
-use Rattle.std.proofs.lemmas.Bool.{cases_lt, ne_eqb, ltb-true}
+use Rattle.std.proofs.lemmas.Bool.{cases_lt, ne_eqb, ltb-true, leb-true, le-leb}
 use Rattle.std.proofs.lemmas.List.{take-append-drop}
 use Rattle.std.proofs.lemmas.Bool.Decides.{Decides-or, Decides-and, Decides-ltb, Decides-eqb}
-use Rattle.history.proofs.ElementLaws.{Decides-le}
 use Rattle.timing_box.specs.declared.step.Step.{Step}
 use Rattle.timing_box.specs.Timing.{ascend, comes_before, number_at}
 use Rattle.simulator.specs.Steps.{is_passed}
@@ -234,7 +233,7 @@ module _ {S : Type 0} (param t : ℕ) where
   passed_is s =
       Decides-or (nat_lt s.param param) (applies s) (Decides-ltb s.param param)
       (Decides-and (s.param == param) (nat_le s.from t) (Decides-eqb s.param param)
-      (Decides-le s.from t))
+      (leb-true s.from t, le-leb s.from t))
 
   -- no step that is passed comes after one that is not
   earlier : (a b : Step S) → IsEarlier a b → HasPassed b → HasPassed a

@@ -13,13 +13,14 @@ use Rattle.std.proofs.Common.{
   ◌∙◌,
   ap,
   ⊎_elim,
+  arith,
+  ◌<◌,
   length-append,
 }
 use Rattle.std.proofs.lemmas.List.{map-append}
 use Rattle.history.specs.Rails.{Rails, Ends, rails_at, rails_delayed}
 use Rattle.history.specs.Recorded.{first_ticks}
-use Rattle.history.proofs.RailsBridge.{rails_at-first_ticks}
-use Rattle.history.proofs.DelayLaws.{rails_delayed-past}
+use Rattle.history.specs.Laws.{HistoryLaws}
 use Rattle.tick_signal.specs.Lanes.{in_lane}
 use Rattle.channel.specs.SentKeys.{SentKeys}
 use Rattle.line_model.specs.PairMean.{PairSignals}
@@ -62,12 +63,12 @@ sent_more rails lane keys t k old new x pushed is h =
     ∙ ap (λ (y : Rails). first_ticks (keys k) t ++ y ∷ []) is
 
 -- what a delay line gives of a history's first ticks
-pub received-is : (l : List Rails) (keys : ℕ → Rails) (t n : ℕ) (c e : Ends)
+pub received-is : (laws : HistoryLaws) (l : List Rails) (keys : ℕ → Rails) (t n : ℕ) (c e : Ends)
     → l ≡ first_ticks keys t → n ≡ t → c ≡ e → 1 ≤ e.least
     → rails_delayed (rails_at l) c n ≡ rails_delayed keys e t
-received-is l keys t n c e is len same some =
+received-is laws l keys t n c e is len same some =
     ap (λ k. rails_delayed (rails_at k) c n) is
     ∙ ap (rails_delayed (rails_at (first_ticks keys t)) c) len
     ∙ ap (λ d. rails_delayed (rails_at (first_ticks keys t)) d t) same
-    ∙ rails_delayed-past (rails_at (first_ticks keys t)) keys e t some
-    (λ r lt. rails_at-first_ticks keys t r lt)
+    ∙ laws.delays_earlier.rails (rails_at (first_ticks keys t)) keys (λ _. e) t
+    (λ r early late. laws.recordings.rails keys t r (omega arith))

@@ -10,7 +10,7 @@ use Rattle.history.specs.Rails.{
   both,
 }
 use Rattle.history.specs.Recorded.{first_ticks}
-use Rattle.history.proofs.RailsBridge.{timed_of_ticks, sealed_of_ticks}
+use Rattle.history.specs.Laws.{RecordedTicksSuffice}
 use Rattle.line_model.specs.declared.script.Place.{Place}
 use Rattle.line_model.specs.declared.formula.Time.{Time}
 use Rattle.line_model.specs.PairMean.{PairWorld, PairSignals}
@@ -67,15 +67,15 @@ module _ {C S V : Type 0} (stands_for : C → S → S → ℕ → List Rails →
         (after (w.time p) (w.time d) (first_ticks (u a.0) t) timer_old) in
         subst (λ (g : Gate). StandsAt (suc t) g new) (sym is) h
 
-    pub timer_pair : (y : Rails) → ((p' d' : Ends) (inputs : List Rails)
+    pub timer_pair : (recorded : RecordedTicksSuffice) (y : Rails) → ((p' d' : Ends) (inputs : List Rails)
         → TimerStands stands_for ends lane p' d' inputs old
         → y ≡ rails_timed (rails_at (inputs ++ input ∷ [])) p' d' (length inputs))
         → y ≡ kind_pair w keys u gate t
-    timer_pair y timed =
+    timer_pair recorded y timed =
         timed (w.time p) (w.time d) (first_ticks (u a.0) t) timer_old
         ∙ ap (λ (l : List Rails). rails_timed (rails_at l) (w.time p) (w.time d)
         (length (first_ticks (u a.0) t))) (ticks_more (u a.0) t input agrees)
-        ∙ timed_of_ticks (u a.0) (w.time p) (w.time d) t
+        ∙ recorded.timed (u a.0) (w.time p) (w.time d) t
         ∙ ap (λ (g : Gate). kind_pair w keys u g t) (sym is)
 
   module _ (a b : GateId) (is : gate ≡ Seal a b) (set hold : Rails) (sets : set ≡ u a.0 t)
@@ -99,15 +99,15 @@ module _ {C S V : Type 0} (stands_for : C → S → S → ℕ → List Rails →
         (ticks_more (u b.0) t hold holds) h in
         subst (λ (g : Gate). StandsAt (suc t) g new) (sym is) k
 
-    pub seal_pair : (z : Rails) → ((x y : List Rails) → OfSeal x y old
+    pub seal_pair : (recorded : RecordedTicksSuffice) (z : Rails) → ((x y : List Rails) → OfSeal x y old
         → z ≡ rails_sealed (rails_at (x ++ set ∷ [])) (rails_at (y ++ hold ∷ [])) (length x))
         → z ≡ kind_pair w keys u gate t
-    seal_pair z sealed =
+    seal_pair recorded z sealed =
         sealed (first_ticks (u a.0) t) (first_ticks (u b.0) t) seal_old
         ∙ ap (λ (l : List Rails). rails_sealed (rails_at l)
         (rails_at (first_ticks (u b.0) t ++ hold ∷ [])) (length (first_ticks (u a.0) t)))
         (ticks_more (u a.0) t set sets)
         ∙ ap (λ (l : List Rails). rails_sealed (rails_at (first_ticks (u a.0) (suc t)))
         (rails_at l) (length (first_ticks (u a.0) t))) (ticks_more (u b.0) t hold holds)
-        ∙ sealed_of_ticks (u a.0) (u b.0) t
+        ∙ recorded.sealed (u a.0) (u b.0) t
         ∙ ap (λ (g : Gate). kind_pair w keys u g t) (sym is)

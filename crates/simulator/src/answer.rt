@@ -19,6 +19,8 @@ use crate::cell::{Cell, seal_answer, timer_answer};
 use crate::spans::delay_span;
 use channel::{Carried, DelayLine};
 use gate_net::{Gate, GateId};
+use history::laws::history_laws;
+use history::recorded_laws::recorded_ticks_suffice;
 use line_model::{Line, Script, loss, seen};
 use tick_signal::Signal;
 use timers::{SealCell, Timed};
@@ -46,6 +48,7 @@ fn raw_answer<V: Carried>(
         ≡ rails_delayed (keys (from_of line.now.channels.items channel))
         (ends_at V.ends lane spans.now steps.now (delay_param line.now channel) t) t }
 {
+    history_laws();
     let from = line.channels[channel as usize].from;
     let delay = delay_span::<V>(line, spans, steps, channel, t);
     sent[from as usize].received(&delay)
@@ -96,6 +99,7 @@ pub fn answer<V: Timed + Carried>(
         ≡ kind_pair (lane_world V.ends line.now script.now spans.now steps.now lane) keys u
         gate.now t }
 {
+    recorded_ticks_suffice();
     match *gate {
         Gate::Const(value) => V::known(value),
         Gate::Seen(place) => V::known(seen(script, place, t)),

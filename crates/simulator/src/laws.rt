@@ -14,7 +14,9 @@ ghost use Rattle.simulator.specs.Played.{ends_of_tick};
 ghost use Rattle.simulator.specs.Runs.{AreDelayed, IsPoint};
 ghost use Rattle.simulator.specs.GatePairs.{GatesHaveTheirKind};
 
-use line_model::laws::each_choice_has_one_history;
+use gate_net::laws::gates_stand_for_their_trees;
+use line_model::laws::line_laws;
+use timing_box::timings_inside_are_choices_inside;
 
 /// A run whose spans and steps are the numbers and the steps of a timing inside the declared
 /// intervals is a run at exactly the choice of delays that the timing stands for, and that choice
@@ -38,10 +40,13 @@ pub fn a_timing_is_one_choice()
         × ((other : History) → IsLineHistory line script (timing_choice line timing) other →
         IsSameHistory line h other) }
 {
-    each_choice_has_one_history();
+    line_laws();
+    timings_inside_are_choices_inside();
 }
 
 /// The pair of a gate is that of its own kind over the pairs of its arguments.
 pub fn gates_have_their_kind()
     ensures { GatesHaveTheirKind }
-{}
+{
+    gates_stand_for_their_trees();
+}

@@ -9,6 +9,7 @@ ghost use Rattle.timing_box.specs.Choice.{timing_choice};
 ghost use Rattle.simulator.specs.PlayRows.{terminal_rows, tick_rows, run_rows};
 ghost use Rattle.simulator.specs.Played.{played};
 
+use crate::laws::a_timing_is_one_choice;
 use crate::rows::{RowNames, push_signal};
 use crate::run_net::run;
 use crate::waves::Waves;
@@ -35,6 +36,7 @@ pub fn play_rows(
         IsLineHistory line.now script.now (timing_choice line.now timing.now.timing) h →
         text.items ≡ run_rows timing.now.name script.now.name line.now h) }
 {
+    a_timing_is_one_choice();
     let values = timing.timing.values();
     let steps = timing.timing.steps();
     let waves = run::<Level>(alloc, net, line, script, values, steps)?;

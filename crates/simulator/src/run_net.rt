@@ -14,6 +14,8 @@ use crate::ticks::run_ticks;
 use crate::waves::Waves;
 use channel::Carried;
 use gate_net::Net;
+use gate_net::laws::gates_stand_for_their_trees;
+use line_model::laws::line_laws;
 use line_model::{Line, Memory, Script};
 use std::alloc::Global;
 use timers::Timed;
@@ -52,6 +54,8 @@ pub fn run<V: Timed + Carried>(
         IsPoint line.now (lane_box V.ends line.now spans.now steps.now lane) choice →
         IsExactAt line.now script.now choice (waves_history V.rails lane waves)) }
 {
+    line_laws();
+    gates_stand_for_their_trees();
     let width = net.len();
     let keys = Vec::from_slice(alloc, net.key_gates())?;
     let trips = Vec::from_slice(alloc, net.trip_gates())?;

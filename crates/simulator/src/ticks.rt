@@ -15,6 +15,8 @@ use crate::walk::walk;
 use crate::within::extend_within;
 use channel::Carried;
 use gate_net::Net;
+use gate_net::laws::gates_stand_for_their_trees;
+use line_model::laws::line_laws;
 use line_model::{Line, Memory, Script, Terminal};
 use std::alloc::Global;
 use timers::Timed;
@@ -41,6 +43,8 @@ pub fn run_ticks<V: Timed + Carried>(
         net.now)
         (length net.now.gates) values.items) }
 {
+    line_laws();
+    gates_stand_for_their_trees();
     let width = net.len() as usize;
     let ends: &[Terminal] = &line.terminals;
     let terminals = ends.len() as u32;

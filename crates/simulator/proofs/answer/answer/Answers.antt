@@ -66,7 +66,7 @@ returns-in-Timer-clause-answers g c = λ lane keys u inside sent agree before.
     c.in-Timer.field-1 c.in-Timer.field-2 c.in-Timer.is
     (g.V.Signal.rails c.argument-in-Timer.result lane)
     (agree c.in-Timer.x.0 c.argument-in-Timer.result c.argument-in-Timer.ensures) before
-    (g.V.Signal.rails c.timer_answer.result lane)
+    c.recorded_ticks_suffice.ensures (g.V.Signal.rails c.timer_answer.result lane)
     (λ p d inputs h. c.timer_answer.ensures.timed lane p d inputs inside h)
 
 pub returns-in-Seal-clause-stands : goal.returns-in-Seal-clause-stands
@@ -93,5 +93,5 @@ returns-in-Seal-clause-answers g c = λ lane keys u inside sent agree before.
     (g.V.Signal.rails c.argument-in-Seal-2.result lane)
     (agree c.in-Seal.x.0 c.argument-in-Seal.result c.argument-in-Seal.ensures)
     (agree c.in-Seal.y.0 c.argument-in-Seal-2.result c.argument-in-Seal-2.ensures) before
-    (g.V.Signal.rails c.seal_answer.result lane)
+    c.recorded_ticks_suffice.ensures (g.V.Signal.rails c.seal_answer.result lane)
     (λ x y h. c.seal_answer.ensures.sealed lane x y inside h)

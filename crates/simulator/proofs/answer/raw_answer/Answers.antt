@@ -71,7 +71,7 @@ returns g c = λ lane keys inside have.
     let ends = ends_at g.V.Signal.ends lane c.args.spans.now c.args.steps.now
     (delay_param line c.args.channel) c.args.t in
     c.received.ensures lane inside
-    ∙ received-is (in_lane g.V.Signal.rails lane s.keys) (keys h.from) c.args.t (length s.keys)
+    ∙ received-is c.history_laws.ensures (in_lane g.V.Signal.rails lane s.keys) (keys h.from) c.args.t (length s.keys)
     (g.V.Signal.ends c.delay_span-delay.result lane) ends
     (have h.from s f) (c.requires.sent.each h.from s f).0 (c.delay_span-delay.ensures lane)
     (c.requires.later lane inside)

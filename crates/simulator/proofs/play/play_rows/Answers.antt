@@ -1,15 +1,15 @@
-use Rattle.std.proofs.Common.{ℕ, List, ◌++◌, length, sym, ◌∙◌, ap, arith, subst}
+use Rattle.std.proofs.Common.{◌≡◌, ℕ, List, ◌++◌, length, sym, ◌∙◌, ap, arith, subst}
 use Rattle.std.specs.Prelude.{IsTrue}
 use Rattle.line_model.specs.Choice.{Choice}
 use Rattle.line_model.specs.Histories.{IsSameHistory}
-use Rattle.line_model.proofs.HistoryLaws.{history_once}
 use Rattle.timing_box.specs.declared.step.Step.{Step}
 use Rattle.timing_box.specs.Timing.{TimingValues, ascend}
 use Rattle.timing_box.specs.Choice.{timing_choice}
+use Rattle.simulator.specs.LaneBox.{lane_box}
 use Rattle.simulator.specs.PlayRows.{run_rows}
-use Rattle.simulator.specs.Played.{played}
+use Rattle.simulator.specs.Played.{played, ends_of_tick}
 use Rattle.simulator.specs.RowLaws.{run_rows-same}
-use Rattle.simulator.proofs.PlayLaws.{inside_delays, lists_point, lists_delayed}
+use Rattle.simulator.specs.Runs.{AreDelayed, IsPoint}
 use Rattle.simulator.proofs.play.play_rows.Goals as goal
 
 pub run-requires-clause-spans : goal.run-requires-clause-spans
@@ -20,10 +20,16 @@ run-requires-clause-ascending c =
     subst (λ (x : List (Step ℕ)). IsTrue (ascend x)) (sym c.steps-steps.ensures.same)
     c.steps-steps.ensures.ascending
 
+-- the lists that are handed on are the timing's
 pub run-requires-clause-delayed : goal.run-requires-clause-delayed
 run-requires-clause-delayed c =
-    lists_delayed c.args.line.now c.args.timing.now.timing c.values-values.result.now
-    c.steps-steps.result.now c.values-values.ensures c.steps-steps.ensures.same c.requires.inside 1
+    let line = c.args.line.now in
+    let timing : TimingValues = c.args.timing.now.timing in
+    subst (λ (x : List ℕ). AreDelayed 1 ends_of_tick line x c.steps-steps.result.now)
+    (sym c.values-values.ensures)
+    (subst (λ (x : List (Step ℕ)). AreDelayed 1 ends_of_tick line timing.values x)
+    (sym c.steps-steps.ensures.same)
+    (c.a_timing_is_one_choice.ensures.delayed line timing 1 c.requires.inside))
 
 pub returns : goal.returns
 returns c = λ h is_h.
@@ -31,14 +37,22 @@ returns c = λ h is_h.
     let script = c.args.script.now in
     let timing : TimingValues = c.args.timing.now.timing in
     let choice : Choice = timing_choice line timing in
+    let values : List ℕ = c.values-values.result.now in
+    let steps : List (Step ℕ) = c.steps-steps.result.now in
     let waves = c.in_ok-waves.waves in
-    let exact = c.in_ok-waves.ensures.exact 0 choice (omega arith)
-    (lists_point line timing c.values-values.result.now c.steps-steps.result.now
-    c.values-values.ensures c.steps-steps.ensures.same c.requires.inside 0) in
-    let same : IsSameHistory line (played waves) h =
-    history_once line script choice (inside_delays line timing c.requires.inside) (played waves) h
-    exact.is is_h in
+    let point : IsPoint line (lane_box ends_of_tick line values steps 0) choice =
+    subst (λ (x : List ℕ). IsPoint line (lane_box ends_of_tick line x steps 0) choice)
+    (sym c.values-values.ensures)
+    (subst (λ (x : List (Step ℕ)). IsPoint line (lane_box ends_of_tick line timing.values x 0) choice)
+    (sym c.steps-steps.ensures.same)
+    (c.a_timing_is_one_choice.ensures.point line timing 0 c.requires.inside)) in
+    let exact = c.in_ok-waves.ensures.exact 0 choice (omega arith) point in
+    let (only, is_only, same) =
+    c.a_timing_is_one_choice.ensures.history line script timing c.requires.inside in
+    let to_played : IsSameHistory line only (played waves) = same (played waves) exact.is in
+    let to_h : IsSameHistory line only h = same h is_h in
     c.in_ok-push_run.ensures
     ∙ ap (λ (l : List ℕ). l ++ run_rows c.args.timing.now.name script.name line (played waves))
     c.new-text.ensures.items
-    ∙ run_rows-same c.args.timing.now.name script.name line (played waves) h same
+    ∙ sym (run_rows-same c.args.timing.now.name script.name line only (played waves) to_played)
+    ∙ run_rows-same c.args.timing.now.name script.name line only h to_h

@@ -105,7 +105,7 @@ loop-t-preserved g c =
           let u : GateSignals = line_pairs line c.args.script.now box net in
           let before = c.loop-t.invariant.lanes lane inside in
           let told : AreTold w keys u t net.gates =
-          λ i gate at. gate_pairs-kind w keys net.gates i gate t c.requires.of_line.laws.gates at in
+          λ i gate at. gate_pairs-kind c.gates_stand_for_their_trees.ensures.kinds w keys net.gates i gate t c.requires.of_line.laws.gates at in
           let sent : KeysSent rails lane keys t c.as_slice.result.now =
           subst (KeysSent rails lane keys t) (sym c.as_slice.ensures.value) before.keys_sent in
           let agree : ValuesAgree rails lane u t column =
@@ -113,7 +113,7 @@ loop-t-preserved g c =
           let agree' : ValuesAgree rails lane u t c.as_slice-in-loop-t.result.now =
           subst (ValuesAgree rails lane u t) (sym c.as_slice-in-loop-t.ensures.value) agree in
           let are_keys : (k : ℕ) → k < length net.keys → u (key_of net k) t ≡ keys k t =
-          λ k kn. key_pair line c.args.script.now box (c.requires.delayed lane inside) net
+          λ k kn. key_pair c.line_laws.ensures c.gates_stand_for_their_trees.ensures line c.args.script.now box (c.requires.delayed lane inside) net
           c.requires.of_line k t (subst (λ (m : ℕ). k < m) c.requires.of_line.terminals kn)
           c.loop-t-test.true in
           subst (λ (m : ℕ). LaneStands g.V.Timed.stands_for g.V.Signal.ends rails lane w keys u m
