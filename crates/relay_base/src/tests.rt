@@ -93,6 +93,24 @@ fn fetches(rt: HostRuntime) -> Result<(), Fail> {
     Ok(())
 }
 
+// One pull takes a piece of 65,536 bytes, and the next one finds none left. With a byte more it is
+// the third that finds none.
+#[test]
+fn fetches_in_pieces(rt: HostRuntime) -> Result<(), Fail> {
+    let alloc = rt.alloc();
+    for (size, want) in [(65536, None), (65537, Some(FetchFault::Failed))] {
+        let bytes = vec![in alloc; b'-'; size]?;
+        let mut store = MemoryStore::new(alloc);
+        store.hold("a", bytes.as_slice())?;
+        store.fail_at(3)?;
+        assert!(rt;
+            fetch(alloc, &mut store, "a", 65537).err() == want,
+            "{size} bytes"
+        );
+    }
+    Ok(())
+}
+
 #[test]
 fn puts(rt: HostRuntime) -> Result<(), Fail> {
     let mut sink = MemorySink::new(rt.alloc(), 4)?;
