@@ -1,16 +1,17 @@
-//! The records of a CSV text.
+//! The records of a CSV text, read and written.
 //!
 //! A file of fault scripts or of timings is read as byte records with no header row and of any
 //! length. What its bytes say is then a function of this list of records.
 #![tactic(auto)]
 
-ghost use Rattle.std.specs.Prelude.{◌≡◌, ◌≤◌, ◌<◌, ◌+◌, IfOk, Some, length, map, true};
+ghost use Rattle.std.specs.Prelude.{◌≡◌, ◌≤◌, ◌<◌, ◌+◌, ◌++◌, IfOk, OnOk, Some, length, map, true};
 ghost use Rattle.csv.specs.Reading.{AreRecords, default_config, strip_bom, stops_reader};
 ghost use Rattle.csv.specs.Records.{fields_of, field_at};
+ghost use Rattle.csv.specs.Writing.{row_text, default_writer};
 ghost use Rattle.csv.specs.declared.parser.State.TheVariants as st;
 ghost use Rattle.csv_records.specs.Records.{records_of};
 
-use csv::{ByteRecord, ErrorKind, ReaderBuilder};
+use csv::{ByteRecord, ErrorKind, ReaderBuilder, WriterBuilder};
 use std::alloc::Global;
 
 /// Memory ran out.
@@ -34,6 +35,27 @@ pub fn field(row: &ByteRecord, i: usize) -> &[u8]
         Some(field) => field,
         None => unreachable!(),
     }
+}
+
+/// Appends a record of these fields, as a CSV writer with the default settings writes it.
+pub fn push_record(alloc: Global, text: &mut Vec<u8>, fields: &[&[u8]]) -> Result<(), Memory>
+    ensures { OnOk result (text.new.items
+        ≡ text.old.items ++ row_text default_writer (map (λ f. f.now) fields.now)) }
+{
+    let record = record_text(alloc, fields)?;
+    text.extend_from_slice(record.as_slice())
+        .map_err(|_| Memory)
+}
+
+// The text of a record. The writer writes to memory, so what it fails for is want of memory.
+fn record_text(alloc: Global, fields: &[&[u8]]) -> Result<Vec<u8>, Memory>
+    ensures { IfOk result (λ v. v.items ≡ row_text default_writer (map (λ f. f.now) fields.now)) }
+{
+    let mut writer = WriterBuilder::new().from_writer(Vec::new(alloc));
+    if writer.write_fields(fields).is_err() {
+        return Err(Memory);
+    }
+    writer.into_inner().map_err(|_| Memory)
 }
 
 // The records, as those that the reader reaches one after another.

@@ -17,7 +17,6 @@ ghost use Rattle.fault_script.specs.Scripts.{scripts_in};
 ghost use Rattle.std.specs.Fmt.{decimal};
 ghost use Rattle.std.specs.Prelude.{IsTrue};
 
-use csv::WriterBuilder;
 use itoa::Buffer;
 use line_model::{Element, Kind, Line, Memory, Script, SeenSpan, What, channel_name};
 use std::alloc::Global;
@@ -148,18 +147,5 @@ fn push_record<'a>(
     ensures { OnOk result (text.new.items ≡ text.old.items ++ row_text default_writer
         (name.now ∷ item.now ∷ place.now ∷ from.now ∷ to.now ∷ [])) }
 {
-    let record = record_text(alloc, &[name, item, place, from, to])?;
-    text.extend_from_slice(record.as_slice())?;
-    Ok(())
-}
-
-// The text of one record.
-fn record_text(alloc: Global, fields: &[&[u8]]) -> Result<Vec<u8>, Memory>
-    ensures { IfOk result (λ v. v.items ≡ row_text default_writer (map (λ f. f.now) fields.now)) }
-{
-    let mut writer = WriterBuilder::new().from_writer(Vec::new(alloc));
-    if writer.write_fields(fields).is_err() {
-        return Err(Memory);
-    }
-    writer.into_inner().map_err(|_| Memory)
+    csv_records::push_record(alloc, text, &[name, item, place, from, to]).map_err(|_| Memory)
 }

@@ -11,6 +11,7 @@ mod fields;
 mod intervals;
 mod laws;
 mod named;
+mod print;
 mod read;
 mod reading;
 mod step;
@@ -23,6 +24,7 @@ pub use laws::{
     candidates_are_inside, each_choice_inside_is_a_timing, same_choices_have_the_same_histories,
     the_latest_step_counts, timings_are_read_back, timings_inside_are_choices_inside,
 };
+pub use print::print_timings;
 pub use read::read_timings;
 pub use step::Step;
 pub use timing::{NamedTiming, Timing};

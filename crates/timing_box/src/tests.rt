@@ -1,6 +1,7 @@
 use super::*;
-use line_model::{Bounds, Channel, Line, Name, Scheme, Terminal, makes_line};
+use line_model::{Bounds, Channel, Line, Name, Scheme, Terminal, is_plain, makes_line};
 use std::alloc::Global;
+use std::process::Abort;
 use std::test::Fail;
 use tick_signal::Tick;
 
@@ -274,4 +275,56 @@ fn printed_names(rt: HostRuntime) -> Result<(), Fail> {
         assert!(rt; format!(in rt.alloc(); "{fault}")?.as_str() == text);
     }
     Ok(())
+}
+
+#[test]
+fn a_printed_timing(rt: HostRuntime) -> Result<(), Fail> {
+    let alloc = rt.alloc();
+    let line = permissive(alloc)?;
+    let mut steps = Vec::new(alloc);
+    steps.push(Step {
+        param: 16,
+        from: 7,
+        value: Tick::new(5),
+    })?;
+    let timing = Timing::with_steps(least_values(alloc)?, steps);
+    let text = printed(&rt, alloc, &line, named(b"T")?, timing)?;
+    let want = b"timing,parameter,value
+T,,
+T,A.z1.pickup,0
+T,A.z1.dropout,0
+T,A.z2.pickup,2
+T,A.z2.dropout,1
+T,A.rv.pickup,0
+T,A.rv.dropout,0
+T,A.uv.pickup,0
+T,A.uv.dropout,0
+T,B.z1.pickup,0
+T,B.z1.dropout,0
+T,B.z2.pickup,2
+T,B.z2.dropout,1
+T,B.rv.pickup,0
+T,B.rv.dropout,0
+T,B.uv.pickup,0
+T,B.uv.dropout,0
+T,A>B.delay,3
+T,B>A.delay,3
+T,A>B.delay@7,5
+";
+    assert!(rt; text.as_slice() == want.as_slice());
+    Ok(())
+}
+
+// The file of one timing.
+fn printed(
+    rt: &impl Abort,
+    alloc: Global,
+    line: &Line,
+    name: Name,
+    timing: Timing,
+) -> Result<Vec<u8>, Fail> {
+    assert!(rt; is_plain(name.bytes()));
+    assert!(rt; inside(line, &timing));
+    let _steps = timing.steps();
+    Ok(print_timings(alloc, line, &[NamedTiming { name, timing }])?)
 }
