@@ -26,7 +26,7 @@ use Rattle.certificate.specs.Grammar.{Verdict as Written}
 use Rattle.certificate.specs.Text.{CanBeWritten}
 use Rattle.certify_core.specs.declared.verdict.Verdict.{Verdict}
 use Rattle.certify_core.specs.declared.verdict.Verdict.TheVariants.{Yes, No, Undecided}
-use Rattle.own_certificate.specs.Written.{claims_of, written_as}
+use Rattle.certify_core.specs.Piece.{claims_of, written_as}
 use Rattle.certify_core.specs.Verdicts.{AreKeys, AreVerdicts, IsVerdict, IsRefuted}
 use Rattle.cert_checker.specs.Claims.{pairs_of}
 use Rattle.cert_checker.specs.Refutations.{IsRefutation}

@@ -14,7 +14,7 @@ use Rattle.certificate.specs.Grammar.{Claims, IsCertificate}
 use Rattle.certificate.specs.Grammar.{Verdict as Written}
 use Rattle.certificate.specs.Text.{CanBeWritten, certificate_text, part_text, parts_text}
 use Rattle.certify_core.specs.declared.verdict.Verdict.{Verdict}
-use Rattle.own_certificate.specs.Written.{claims_of, written_as}
+use Rattle.certify_core.specs.Piece.{claims_of, written_as}
 use Rattle.cert_checker.specs.declared.counts.Counts.{Counts}
 use Rattle.cert_checker.specs.declared.fault.CheckFault.{CheckFault}
 use Rattle.cert_checker.specs.declared.fault.CheckFault.TheVariants as wrong

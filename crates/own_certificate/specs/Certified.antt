@@ -7,7 +7,7 @@ use Rattle.line_model.specs.Choice.{declared_box}
 use Rattle.line_model.specs.Histories.{PairHistory, IsPairHistory}
 use Rattle.certificate.specs.Grammar.{Claims}
 use Rattle.certify_core.specs.declared.verdict.Verdict.{Verdict}
-use Rattle.own_certificate.specs.Written.{written_as}
+use Rattle.certify_core.specs.Piece.{written_as}
 use Rattle.certify_core.specs.Verdicts.{AreKeys, AreVerdicts}
 
 -- the claims are the keys of the interval history over the declared intervals and the verdict of

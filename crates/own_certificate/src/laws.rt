@@ -11,7 +11,7 @@ ghost use Rattle.line_model.specs.Histories.{PairHistory, IsPairHistory};
 ghost use Rattle.certificate.specs.Grammar.{Claims, IsCertificate};
 ghost use Rattle.certificate.specs.Text.{CanBeWritten, certificate_text, part_text, parts_text};
 ghost use Rattle.certify_core.specs.declared.verdict.Verdict.{Verdict};
-ghost use Rattle.own_certificate.specs.Written.{claims_of};
+ghost use Rattle.certify_core.specs.Piece.{claims_of};
 ghost use Rattle.certify_core.specs.Verdicts.{AreKeys, AreVerdicts};
 ghost use Rattle.cert_checker.specs.declared.counts.Counts.{Counts};
 ghost use Rattle.cert_checker.specs.declared.fault.CheckFault.{CheckFault};
