@@ -1,0 +1,6 @@
+pub mod EndsWith
+pub mod WidthLaws
+pub mod LeafLaws
+pub mod PartLaws
+pub mod SearchLaws
+pub mod SoundLaws

@@ -1,0 +1,6 @@
+pub mod Known
+pub mod Trees
+pub mod Widths
+pub mod Search
+pub mod Found
+pub mod Leaves

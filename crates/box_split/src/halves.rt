@@ -1,0 +1,35 @@
+// The two halves of a line.
+
+ghost use Rattle.std.specs.Prelude.{◌+◌, IfOk};
+ghost use Rattle.line_model.specs.Parameters.{declared_ends};
+ghost use Rattle.line_model.specs.WithBounds.{IsWithBounds};
+ghost use Rattle.box_split.specs.Widths.{IsWidest, middle as middle_of};
+
+use crate::known::laws_below;
+use crate::widest::{greatest, least, middle};
+use line_model::{Line, Memory};
+use std::alloc::Global;
+
+/// The line with the lower half of the interval of its widest parameter.
+pub fn lower(alloc: Global, line: &Line, param: u32) -> Result<Line, Memory>
+    requires { IsWidest line.now param }
+    ensures { IfOk result (λ first. IsWithBounds line.now param
+        (declared_ends line.now param).least (middle_of line.now param) first) }
+{
+    laws_below();
+    let from = least(line, param);
+    let mid = middle(line, param);
+    line.with_bounds(alloc, param, from, mid)
+}
+
+/// The line with the upper half.
+pub fn upper(alloc: Global, line: &Line, param: u32) -> Result<Line, Memory>
+    requires { IsWidest line.now param }
+    ensures { IfOk result (λ second. IsWithBounds line.now param
+        (middle_of line.now param + 1) (declared_ends line.now param).greatest second) }
+{
+    laws_below();
+    let to = greatest(line, param);
+    let mid = middle(line, param);
+    line.with_bounds(alloc, param, mid + 1, to)
+}
