@@ -1,7 +1,7 @@
 -- Over keys that cover a history the pair of each tree covers the tree's value.
 use Rattle.std.proofs.Common.{◌<◌, ℕ, subst}
+use Rattle.history.specs.Laws.{HistoryLaws}
 use Rattle.history.specs.Rails.{Rails, Covers, RailsCover}
-use Rattle.history.proofs.WiderLaws.{covers_both, both_covered}
 use Rattle.line_model.specs.declared.line.Line.{Line}
 use Rattle.line_model.specs.declared.script.Script.{Script}
 use Rattle.line_model.specs.Parameters.{terminal_count}
@@ -24,21 +24,22 @@ use Rattle.line_model.proofs.HistoryLaws.{point_mean}
 use Rattle.line_model.proofs.PlainLaws.{lifted}
 use Rattle.line_model.proofs.WorldLaws.{pair_world_delayed}
 
-pub covering_keys : (line : Line) (script : Script) (box : Box) (choice : Choice)
-    (keys : PairSignals) (plain : Signals) (t : ℕ) → LeastFromOne line box
-    → IsWithin line choice box
-    → ((k r : ℕ) → k < terminal_count line → r < t → Covers (keys k r) (plain k r))
-    → (x : Tree) → t < line.horizon → Names line x
-    → Covers (pair_mean (pair_world_of line script box) keys x t)
-    (mean (world_of line script choice) plain x t)
-covering_keys line script box choice keys plain t d within cover x lt named =
-    both_covered (pair_mean (pair_world_of line script box) keys x t)
-    (mean (world_of line script choice) plain x t)
-    (subst
-    (λ (y : Rails). RailsCover (pair_mean (pair_world_of line script box) keys x t) y)
-    (point_mean line script choice plain x t lt named)
-    (pair_mean-wider line (pair_world_of line script box)
-    (pair_world_of line script (point_box choice))
-    (wider_world line script (point_box choice) box (point_within line choice box within))
-    (pair_world_delayed line script box d) keys (lifted plain) x t lt named
-    (λ k r kn before. covers_both (keys k r) (plain k r) (cover k r kn before))))
+module _ (laws : HistoryLaws) where
+  pub covering_keys : (line : Line) (script : Script) (box : Box) (choice : Choice)
+      (keys : PairSignals) (plain : Signals) (t : ℕ) → LeastFromOne line box
+      → IsWithin line choice box
+      → ((k r : ℕ) → k < terminal_count line → r < t → Covers (keys k r) (plain k r))
+      → (x : Tree) → t < line.horizon → Names line x
+      → Covers (pair_mean (pair_world_of line script box) keys x t)
+      (mean (world_of line script choice) plain x t)
+  covering_keys line script box choice keys plain t d within cover x lt named =
+      (laws.covering.exact (pair_mean (pair_world_of line script box) keys x t)
+      (mean (world_of line script choice) plain x t)).0
+      (subst
+      (λ (y : Rails). RailsCover (pair_mean (pair_world_of line script box) keys x t) y)
+      (point_mean laws line script choice plain x t lt named)
+      (pair_mean-wider laws line (pair_world_of line script box)
+      (pair_world_of line script (point_box choice))
+      (wider_world line script (point_box choice) box (point_within line choice box within))
+      (pair_world_delayed line script box d) keys (lifted plain) x t lt named
+      (λ k r kn before. (laws.covering.exact (keys k r) (plain k r)).1 (cover k r kn before))))

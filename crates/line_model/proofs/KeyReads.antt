@@ -19,7 +19,7 @@ use Rattle.std.proofs.Common.{
 use Rattle.std.specs.Prelude.{Vec}
 use Rattle.std.proofs.lemmas.List.{get_or-map, length-map, get_or_default}
 use Rattle.history.specs.Elements.{delayed}
-use Rattle.history.proofs.DelayLaws.{delayed_at}
+use Rattle.history.specs.Laws.{OneDelayReadsOneTick}
 use Rattle.line_model.specs.declared.line.Line.{Line}
 use Rattle.line_model.specs.declared.line.Channel.{Channel}
 use Rattle.line_model.specs.Channels.{from_of}
@@ -55,15 +55,15 @@ module _ {A : Type 0} (keys : List (Vec Bool A)) where
       omega (arith, ap length (history_is k v lt e))
 
   -- what was keyed `ago` ticks before t arrives
-  pub raw_is : (cs : List Channel) (c k t d ago : ℕ) (v : Vec Bool A) (b : Bool)
+  pub raw_is : (one : OneDelayReadsOneTick) (cs : List Channel) (c k t d ago : ℕ) (v : Vec Bool A) (b : Bool)
       → from_of cs c ≡ k → k < length keys → v ≡ get_or keys k v → ago ≡ d → ago ≤ t
       → t - ago < length v.items → b ≡ get_or v.items (t - ago) b
       → b ≡ delayed (key_at (histories keys) (from_of cs c)) d t
-  raw_is cs c k t d ago v b ek lt ev ed le within eb =
+  raw_is one cs c k t d ago v b ek lt ev ed le within eb =
       let bit : get_or v.items (t - ago) false ≡ b =
       get_or_default v.items (t - ago) false b within ∙ sym eb in
       let all : delayed (key_at (histories keys) k) ago t ≡ b =
-      delayed_at (key_at (histories keys) k) ago t le
+      one.value (key_at (histories keys) k) ago t le
       ∙ ap (λ h. get_or h (t - ago) false) (history_is k v lt ev) ∙ bit in
       sym all ∙ ap (λ j. delayed (key_at (histories keys) j) ago t) (sym ek)
       ∙ ap (λ n. delayed (key_at (histories keys) (from_of cs c)) n t) ed

@@ -1,5 +1,6 @@
 -- Histories rest on no declared interval, and interval histories on the intervals of their box.
 use Rattle.std.proofs.Common.{◌≡◌, ◌<◌, ℕ, List, refl, sym, ◌∙◌, ap, subst}
+use Rattle.history.specs.Laws.{HistoryLaws}
 use Rattle.history.specs.Rails.{Ends}
 use Rattle.line_model.specs.declared.line.Line.{Line}
 use Rattle.line_model.specs.declared.line.Channel.{Channel}
@@ -119,13 +120,14 @@ box_world_same line script a b same = record {
   time = time_same line a.ends b.ends same.numbers;
 }
 
-pub same_box : (line : Line) (script : Script) (a b : Box) (w : PairHistory) → IsSameBox line a b
-    → IsPairHistory line script a w → IsPairHistory line script b w
-same_box line script a b w same is = record {
-  keys = λ k t kn lt. is.keys k t kn lt
-      ∙ pair_mean-world line (pair_world_of line script a) (pair_world_of line script b) w.key
-      (key_tree line k) t lt (names_key_tree line k kn) (box_world_same line script a b same);
-  trips = λ k t kn lt. is.trips k t kn lt
-      ∙ pair_mean-world line (pair_world_of line script a) (pair_world_of line script b) w.key
-      (trip_tree line k) t lt (names_trip_tree line k kn) (box_world_same line script a b same);
-}
+module _ (laws : HistoryLaws) where
+  pub same_box : (line : Line) (script : Script) (a b : Box) (w : PairHistory) → IsSameBox line a b
+      → IsPairHistory line script a w → IsPairHistory line script b w
+  same_box line script a b w same is = record {
+    keys = λ k t kn lt. is.keys k t kn lt
+        ∙ pair_mean-world laws line (pair_world_of line script a) (pair_world_of line script b) w.key
+        (key_tree line k) t lt (names_key_tree line k kn) (box_world_same line script a b same);
+    trips = λ k t kn lt. is.trips k t kn lt
+        ∙ pair_mean-world laws line (pair_world_of line script a) (pair_world_of line script b) w.key
+        (trip_tree line k) t lt (names_trip_tree line k kn) (box_world_same line script a b same);
+  }

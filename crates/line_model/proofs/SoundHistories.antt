@@ -2,6 +2,7 @@
 -- history of that choice. So there a rule is broken wherever what it says of the pairs is.
 use Rattle.std.proofs.Common.{◌≡◌, ◌<◌, ◌≤◌, ℕ, Bool, true, false, sym, ◌∙◌, arith}
 use Rattle.std.specs.Prelude.{◌↔◌, IsTrue, IsFalse}
+use Rattle.history.specs.Laws.{HistoryLaws}
 use Rattle.history.specs.Rails.{Rails, Covers, IsSound}
 use Rattle.line_model.specs.declared.line.Line.{Line}
 use Rattle.line_model.specs.declared.script.Kind.{Kind}
@@ -25,38 +26,39 @@ delays_within line box choice d within c t lt early =
     let in_box : (box.delay c t).least ≤ choice.delay c t = (within.delays c t lt early).least in
     omega arith
 
-pub history_sound : (line : Line) (script : Script) (box : Box) (choice : Choice)
-    (w : PairHistory) → LeastFromOne line box → IsWithin line choice box
-    → IsPairHistory line script box w → IsSoundHistory line w
-history_sound line script box choice w d within is_w =
-    let (h, is_h) = history_exists line script choice (delays_within line box choice d within) in
-    let cover : CoversHistory line w h =
-    box_covers_choice line script box d choice within h is_h w is_w in
-    record {
-      keys = λ k t kn lt. covering_sound (w.key k t) (h.key k t) (cover.keys k t kn lt);
-      trips = λ k t kn lt. covering_sound (w.trip k t) (h.trip k t) (cover.trips k t kn lt);
-    }
+module _ (laws : HistoryLaws) where
+  pub history_sound : (line : Line) (script : Script) (box : Box) (choice : Choice)
+      (w : PairHistory) → LeastFromOne line box → IsWithin line choice box
+      → IsPairHistory line script box w → IsSoundHistory line w
+  history_sound line script box choice w d within is_w =
+      let (h, is_h) = history_exists laws line script choice (delays_within line box choice d within) in
+      let cover : CoversHistory line w h =
+      box_covers_choice laws line script box d choice within h is_h w is_w in
+      record {
+        keys = λ k t kn lt. covering_sound (w.key k t) (h.key k t) (cover.keys k t kn lt);
+        trips = λ k t kn lt. covering_sound (w.trip k t) (h.trip k t) (cover.trips k t kn lt);
+      }
 
-on_and_off : (b : Bool) → IsTrue b → IsFalse b → ⊥
-on_and_off b on off = let same : true ≡ false = sym on ∙ off in cc
+  on_and_off : (b : Bool) → IsTrue b → IsFalse b → ⊥
+  on_and_off b on off = let same : true ≡ false = sym on ∙ off in cc
 
--- over pairs of which what must be may be, what is broken is not held
-never_both : (kind : Kind) (deadline horizon : ℕ) (trip : ℕ → Rails) → deadline < horizon
-    → ((t : ℕ) → t < horizon → IsSound (trip t)) → IsBroken kind deadline horizon trip
-    → IsHeld kind deadline horizon trip → ⊥
-never_both Internal deadline horizon trip early sound broken held =
-    let le : held.0 ≤ deadline = held.1 in
-    on_and_off (trip held.0).may (sound held.0 (omega arith) held.2) (broken held.0 held.1)
-never_both External deadline horizon trip early sound broken held =
-    on_and_off (trip broken.0).may (sound broken.0 broken.1 broken.2) (held broken.0 broken.1)
+  -- over pairs of which what must be may be, what is broken is not held
+  never_both : (kind : Kind) (deadline horizon : ℕ) (trip : ℕ → Rails) → deadline < horizon
+      → ((t : ℕ) → t < horizon → IsSound (trip t)) → IsBroken kind deadline horizon trip
+      → IsHeld kind deadline horizon trip → ⊥
+  never_both Internal deadline horizon trip early sound broken held =
+      let le : held.0 ≤ deadline = held.1 in
+      on_and_off (trip held.0).may (sound held.0 (omega arith) held.2) (broken held.0 held.1)
+  never_both External deadline horizon trip early sound broken held =
+      on_and_off (trip broken.0).may (sound broken.0 broken.1 broken.2) (held broken.0 broken.1)
 
-pub sound_broken : (line : Line) (script : Script) (w : PairHistory) (k : ℕ)
-    → script.deadline < line.horizon → IsSoundHistory line w → k < terminal_count line
-    → (rule_of line script (w.trip k) ≡ Broken)
-    ↔ IsBroken script.kind script.deadline line.horizon (w.trip k)
-sound_broken line script w k early sound kn = (
-  λ rule. (rule_broken script.kind script.deadline line.horizon (w.trip k) rule).0,
-  λ broken. broken_rule script.kind script.deadline line.horizon (w.trip k) broken
-      (never_both script.kind script.deadline line.horizon (w.trip k) early
-      (λ t lt. sound.trips k t kn lt) broken),
-)
+  pub sound_broken : (line : Line) (script : Script) (w : PairHistory) (k : ℕ)
+      → script.deadline < line.horizon → IsSoundHistory line w → k < terminal_count line
+      → (rule_of line script (w.trip k) ≡ Broken)
+      ↔ IsBroken script.kind script.deadline line.horizon (w.trip k)
+  sound_broken line script w k early sound kn = (
+    λ rule. (rule_broken laws script.kind script.deadline line.horizon (w.trip k) rule).0,
+    λ broken. broken_rule laws script.kind script.deadline line.horizon (w.trip k) broken
+        (never_both script.kind script.deadline line.horizon (w.trip k) early
+        (λ t lt. sound.trips k t kn lt) broken),
+  )

@@ -1,6 +1,7 @@
 -- The worlds of a line at a choice and over a box: their delays are at least 1 where those are.
 use Rattle.std.proofs.Common.{◌≡◌, ℕ, ◌<◌, ◌≤◌, List, refl, sym}
 use Rattle.std.specs.Prelude.{Bool, get_or}
+use Rattle.history.specs.Laws.{HistoryLaws}
 use Rattle.history.specs.Rails.{single}
 use Rattle.line_model.specs.declared.line.Line.{Line}
 use Rattle.line_model.specs.declared.script.Script.{Script}
@@ -63,13 +64,13 @@ unfolding steady_choice
 steady_delays line values d c t lt early = d c lt
 
 -- a value that can be asked for rests on no key at t or later
-pub value_past : (line : Line) (script : Script) (values : List ℕ) (keys : List (List Bool))
+pub value_past : HistoryLaws → (line : Line) (script : Script) (values : List ℕ) (keys : List (List Bool))
     (other : Signals) (x : Tree) (t : ℕ) → CanAsk line values keys x t
     → AgreeBefore line other (key_at keys) t
     → mean (world_of line script (steady_choice line values)) (key_at keys) x t
     ≡ mean (world_of line script (steady_choice line values)) other x t
-value_past line script values keys other x t ask same =
-    mean-past line (world_of line script (steady_choice line values))
+value_past laws line script values keys other x t ask same =
+    mean-past laws line (world_of line script (steady_choice line values))
     (world_delayed line script (steady_choice line values)
     (steady_delays line values ask.timing.delays))
     (key_at keys) other x t ask.tick ask.names (λ k r kn lt. sym (same k r kn lt))

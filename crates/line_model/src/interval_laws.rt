@@ -19,6 +19,8 @@ ghost use Rattle.line_model.specs.HeldOver.{IsHeldOver};
 ghost use Rattle.line_model.specs.IntervalLaws.{CountsRestOnNoInterval, TreesRestOnNoInterval};
 ghost use Rattle.line_model.specs.IntervalLaws.{HistoriesRestOnNoInterval};
 
+use history::laws::history_laws;
+
 /// How many terminals, channels and parameters a line has does not rest on its intervals.
 pub fn counts_do_not_rest_on_the_intervals()
     ensures { CountsRestOnNoInterval }
@@ -49,7 +51,9 @@ pub fn same_boxes_have_the_same_interval_history()
         IsSameBox line a b → IsPairHistory line script a w → IsPairHistory line script b w }
     ensures choices { (line : Line) (choice : Choice) (a b : Box) →
         IsSameBox line a b → IsWithin line choice b → IsWithin line choice a }
-{}
+{
+    history_laws();
+}
 
 /// Where one interval is replaced, the declared box is the old one with that interval; where it is
 /// no delay's, each delay of the box stays. A choice inside whose number lies in the new interval
@@ -96,7 +100,9 @@ pub fn what_is_held_is_held_over_a_narrower_box()
         IsBoxWithin line inner outer → IsPairHistory line script inner narrow →
         IsPairHistory line script outer wide → k < terminal_count line →
         rule_of line script (wide.trip k) ≡ Held → rule_of line script (narrow.trip k) ≡ Held }
-{}
+{
+    history_laws();
+}
 
 /// What a rule that is held over a box says: it is so for one interval history of the box where it
 /// is for each; it is held over each narrower box, over each box that is the same, and of each
@@ -119,7 +125,9 @@ pub fn the_rule_over_a_box()
         script.deadline < line.horizon → LeastFromOne line box → k < terminal_count line →
         IsHeldOver line script k box → (choice : Choice) (h : History) →
         IsWithin line choice box → IsLineHistory line script choice h → Meets line script k h }
-{}
+{
+    history_laws();
+}
 
 /// Of two lines that differ in their intervals alone, what is held over the declared intervals of
 /// the first is held over those of the second where these are part of them.
@@ -129,4 +137,6 @@ pub fn what_is_held_is_held_of_narrower_lines()
         IsBoxWithin line (declared_box other) (declared_box line) →
         IsHeldOver line script k (declared_box line) →
         IsHeldOver other script k (declared_box other) }
-{}
+{
+    history_laws();
+}

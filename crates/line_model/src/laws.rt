@@ -12,6 +12,8 @@ ghost use Rattle.line_model.specs.Laws.{TheRuleIsExact, ASoundRuleIsBrokenWhereI
 ghost use Rattle.line_model.specs.Laws.{TheRuleSpeaksForWhatIsCovered};
 ghost use Rattle.line_model.specs.Laws.{TheRuleSpeaksForEveryChoice, LineLaws};
 
+use history::laws::history_laws;
+
 /// Parameters are numbered in the order of the settings: as many as settings and at most 63, each
 /// setting that a line has within them.
 pub fn parameters_are_numbered()
@@ -37,7 +39,9 @@ pub fn trees_are_local()
 /// A tree's value at a tick, and its pair, rest on the keys of earlier ticks alone.
 pub fn values_rest_on_earlier_keys()
     ensures { ValuesRestOnEarlierKeys }
-{}
+{
+    history_laws();
+}
 
 /// Every line has a choice of delays inside its declared intervals, that of their least numbers,
 /// and the delays that are declared, and those of each choice inside, are at least 1.
@@ -48,41 +52,55 @@ pub fn each_line_has_a_choice_inside()
 /// For each choice of delays the line has exactly one history.
 pub fn each_choice_has_one_history()
     ensures { EachChoiceHasOneHistory }
-{}
+{
+    history_laws();
+}
 
 /// For each box the line has exactly one interval history.
 pub fn each_box_has_one_interval_history()
     ensures { EachBoxHasOneIntervalHistory }
-{}
+{
+    history_laws();
+}
 
 /// Over the box of one choice both rails of the interval history are the history, and its must rails
 /// are one.
 pub fn a_point_box_gives_the_history()
     ensures { APointBoxGivesTheHistory }
-{}
+{
+    history_laws();
+}
 
 /// The interval history over a box covers that over each narrower box, and the history of each
 /// choice within; the pair of each tree over it covers the tree's value.
 pub fn a_wider_box_covers()
     ensures { AWiderBoxCovers }
-{}
+{
+    history_laws();
+}
 
 /// Over keys that cover those of a history at each tick before t, as its own keys do, the pair of
 /// each tree at t covers the tree's value.
 pub fn covering_keys_give_covering_values()
     ensures { CoveringKeysGiveCoveringValues }
-{}
+{
+    history_laws();
+}
 
 /// What must be may be in the interval history over each box that a choice lies in.
 pub fn interval_histories_are_sound()
     ensures { IntervalHistoriesAreSound }
-{}
+{
+    history_laws();
+}
 
 /// Claims that are covered over a box cover the history of each choice within, and so do the
 /// trips that are derived from them.
 pub fn covered_claims_cover()
     ensures { CoveredClaimsCover }
-{}
+{
+    history_laws();
+}
 
 /// The deadline of a script that fits is below the horizon.
 pub fn deadlines_are_below_the_horizon()
@@ -92,31 +110,41 @@ pub fn deadlines_are_below_the_horizon()
 /// The tests of a rule are what is held and what is broken.
 pub fn the_rule_is_tested()
     ensures { TheRuleIsTested }
-{}
+{
+    history_laws();
+}
 
 /// The rule of an obligation is held exactly where it is held, broken exactly where it is broken
 /// and not held, and unknown exactly where it is neither.
 pub fn the_rule_is_exact()
     ensures { TheRuleIsExact }
-{}
+{
+    history_laws();
+}
 
 /// Where what must be may be, as in an interval history, what is broken is never held: the rule is
 /// broken exactly where it is broken.
 pub fn a_sound_rule_is_broken_where_it_is_broken()
     ensures { ASoundRuleIsBrokenWhereItIsBroken }
-{}
+{
+    history_laws();
+}
 
 /// Where pairs cover a history, a rule that is held says that the obligation is met, and one that
 /// is broken that it is not.
 pub fn the_rule_speaks_for_what_is_covered()
     ensures { TheRuleSpeaksForWhatIsCovered }
-{}
+{
+    history_laws();
+}
 
 /// Over a box a rule that is held says that every choice within meets the obligation, and one that
 /// is broken that every choice within fails it.
 pub fn the_rule_speaks_for_every_choice()
     ensures { TheRuleSpeaksForEveryChoice }
-{}
+{
+    history_laws();
+}
 
 /// Every law of this file, for a proof that rests on several.
 pub fn line_laws()

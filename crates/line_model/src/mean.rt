@@ -14,10 +14,11 @@ ghost use Rattle.line_model.specs.Keys.{value_of};
 use crate::formula::{Formula, Time};
 use crate::line::{Line, Owner, Setting};
 use crate::script::{Script, loss, seen};
+use history::delay_laws::one_delay_reads_one_tick;
+use history::laws::history_laws;
 
 /// The value of a formula at tick `t`, where each parameter has its number of `values`, in ticks,
 /// and terminal `k` keyed `keys[k][r]` at tick `r`.
-#[tactic(auto, using(crate::proofs::WorldLaws::value_past))]
 pub fn mean(
     formula: &Formula,
     line: &Line,
@@ -35,6 +36,7 @@ pub fn mean(
         result ≡ mean_of (world_of line.now script.now (steady_choice line.now values.now))
         other (tree_of formula.now) t }
 {
+    history_laws();
     value(formula, line, script, values, keys, t)
 }
 
@@ -74,6 +76,7 @@ fn raw(line: &Line, values: &[u32], keys: &[Vec<bool>], channel: u32, t: u32) ->
         (key_at (histories keys.now) (from_of line.now.channels.items channel))
         (get_or values.now (delay_param line.now channel) 0) t }
 {
+    one_delay_reads_one_tick();
     let from = line.channels[channel as usize].from;
     let ago = delay(line, values, channel);
     if t < ago {

@@ -3,4 +3,4 @@ use Rattle.line_model.proofs.interval_laws.what_is_held_is_held_of_narrower_line
 
 pub returns : goal.returns
 returns c line other script k early kn same within held =
-    held_narrower_line line other same script k early kn within held
+    held_narrower_line c.history_laws.ensures line other same script k early kn within held

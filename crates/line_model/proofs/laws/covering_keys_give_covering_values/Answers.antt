@@ -3,4 +3,4 @@ use Rattle.line_model.proofs.laws.covering_keys_give_covering_values.Goals as go
 
 pub returns : goal.returns
 returns c line script box choice keys plain t d within cover x lt named =
-    covering_keys line script box choice keys plain t d within cover x lt named
+    covering_keys c.history_laws.ensures line script box choice keys plain t d within cover x lt named

@@ -3,6 +3,6 @@ use Rattle.line_model.proofs.laws.each_choice_has_one_history.Goals as goal
 
 pub returns : goal.returns
 returns c = record {
-  exists = λ line script choice d. history_exists line script choice d;
-  only = λ line script choice g h d is_g is_h. history_once line script choice d g h is_g is_h;
+  exists = λ line script choice d. history_exists c.history_laws.ensures line script choice d;
+  only = λ line script choice g h d is_g is_h. history_once c.history_laws.ensures line script choice d g h is_g is_h;
 }

@@ -11,15 +11,15 @@ use Rattle.line_model.proofs.laws.the_rule_is_exact.Goals as goal
 pub returns : goal.returns
 returns c = record {
   held = λ line script trip. (
-    rule_held script.kind script.deadline line.horizon trip,
-    held_rule script.kind script.deadline line.horizon trip,
+    rule_held c.history_laws.ensures script.kind script.deadline line.horizon trip,
+    held_rule c.history_laws.ensures script.kind script.deadline line.horizon trip,
   );
   broken = λ line script trip. (
-    rule_broken script.kind script.deadline line.horizon trip,
-    λ h. broken_rule script.kind script.deadline line.horizon trip h.0 h.1,
+    rule_broken c.history_laws.ensures script.kind script.deadline line.horizon trip,
+    λ h. broken_rule c.history_laws.ensures script.kind script.deadline line.horizon trip h.0 h.1,
   );
   unknown = λ line script trip. (
-    rule_unknown script.kind script.deadline line.horizon trip,
-    λ h. unknown_rule script.kind script.deadline line.horizon trip h.0 h.1,
+    rule_unknown c.history_laws.ensures script.kind script.deadline line.horizon trip,
+    λ h. unknown_rule c.history_laws.ensures script.kind script.deadline line.horizon trip h.0 h.1,
   );
 }

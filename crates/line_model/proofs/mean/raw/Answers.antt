@@ -1,6 +1,5 @@
 use Rattle.std.proofs.Common.{◌<◌, ◌≤◌, ℕ, length, sym, ap, ◌∙◌, arith}
 use Rattle.history.specs.Elements.{delayed}
-use Rattle.history.proofs.DelayLaws.{delayed_before}
 use Rattle.line_model.specs.Channels.{from_of}
 use Rattle.line_model.specs.Keys.{histories, key_at}
 use Rattle.line_model.proofs.KeyReads.{from_of-is, sender, sent_long, raw_is}
@@ -16,7 +15,7 @@ pub returns-then-t-ago : goal.returns-then-t-ago
 returns-then-t-ago c =
     let keyed : ℕ → _ =
     key_at (histories c.args.keys.now) (from_of c.args.line.now.channels.items c.args.channel) in
-    sym (delayed_before keyed c.delay-ago.result c.args.t c.if-t-ago.true)
+    sym (c.one_delay_reads_one_tick.ensures.value_before keyed c.delay-ago.result c.args.t c.if-t-ago.true)
     ∙ ap (λ n. delayed keyed n c.args.t) c.delay-ago.ensures.value
 
 pub index-requires-2 : goal.index-requires-2
@@ -37,7 +36,7 @@ returns c =
     let long : c.args.t ≤ length c.index-keys-from.result.items =
     sent_long c.args.keys.now c.args.line.now c.args.t c.index.result.now.from
     c.index-keys-from.result c.requires.reach there c.index-keys-from.is in
-    raw_is c.args.keys.now c.args.line.now.channels.items c.args.channel c.index.result.now.from
+    raw_is c.args.keys.now c.one_delay_reads_one_tick.ensures c.args.line.now.channels.items c.args.channel c.index.result.now.from
     c.args.t _ c.delay-ago.result c.index-keys-from.result c.index-2.result.now
     (from_of-is c.args.line.now.channels.items c.args.channel c.index.result.now c.requires.has
     c.index.ensures)
