@@ -1,6 +1,6 @@
 -- From the lists that cells stand for to histories as functions of the tick, and covering.
-use Rattle.std.proofs.Common.{◌≡◌, ℕ, zero, suc, ◌+◌, ◌<◌, ◌≤◌, Bool, List, [], ◌∷◌, ◌++◌, length}
-use Rattle.std.proofs.Common.{map, take, get_or-take, refl, sym, ◌∙◌, ap, arith, ⊎_elim}
+use Rattle.std.proofs.Common.{◌≡◌, ℕ, suc, ◌+◌, ◌<◌, ◌≤◌, Bool, List, [], ◌∷◌, ◌++◌, length}
+use Rattle.std.proofs.Common.{map, take, get_or-take, refl, ◌∙◌, ap, arith}
 use Rattle.std.specs.Prelude.{false}
 use Rattle.std.proofs.Math.ListN.{get_or-map}
 use Rattle.history.specs.Elements.{timed, sealed}

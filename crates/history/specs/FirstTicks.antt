@@ -1,17 +1,5 @@
 -- The first ticks of a history, read back, whatever it is a history of.
-use Rattle.std.specs.Prelude.{
-  ◌≡◌,
-  ◌<◌,
-  ◌++◌,
-  ◌∷◌,
-  ℕ,
-  zero,
-  suc,
-  List,
-  [],
-  length,
-  get_or,
-}
+use Rattle.std.specs.Prelude.{◌≡◌, ◌<◌, ◌++◌, ◌∷◌, ℕ, zero, suc, [], length, get_or}
 use Rattle.std.proofs.Common.{refl, sym, ◌∙◌, ap, arith, ⊎_elim, length-append}
 use Rattle.std.proofs.lemmas.Bool.{cases_lt}
 use Rattle.std.proofs.lemmas.List.{get_or_append_left}
