@@ -20,3 +20,4 @@ pub mod TerminalBack
 pub mod ChannelBack
 pub mod LineBack
 pub mod Dates
+pub mod LeastKeys

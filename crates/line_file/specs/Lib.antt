@@ -9,3 +9,4 @@ pub mod TerminalTables
 pub mod ChannelTables
 pub mod LineFiles
 pub mod Canonical
+pub mod LeastUnknown

@@ -8,6 +8,7 @@ mod draft;
 mod fault;
 mod head;
 mod keys;
+mod laws;
 mod pairs;
 mod path;
 mod print;
@@ -17,6 +18,7 @@ mod terminal;
 mod times;
 
 pub use fault::LineFault;
+pub use laws::the_first_unknown_key_is_the_least;
 pub use path::Path;
 pub use print::{print_line, print_line_us};
 pub use read::read_line;

@@ -10,7 +10,8 @@ ghost use Rattle.line_model.specs.Intervals.{leasts, greatests, AreIntervals, Le
 use crate::name::Name;
 
 /// The pilot schemes: permissive overreaching and underreaching transfer trip, directional
-/// comparison blocking and unblocking, direct transfer trip. IEEE C37.113 has their outlines.
+/// comparison blocking and unblocking, direct transfer trip. IEEE C37.113 has the names of all, and
+/// the outlines of the first three; the other two are after practice alone.
 #[derive(Clone, Copy, PartialEq, Eq, Debug)]
 pub enum Scheme {
     Pott,
