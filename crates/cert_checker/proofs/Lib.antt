@@ -12,3 +12,4 @@ pub mod Told
 pub mod Refused
 pub mod OneFault
 pub mod OneCheckFault
+pub mod StretchLaws

@@ -1,5 +1,5 @@
 -- Claims have one first fault.
-use Rattle.std.proofs.Common.{◌≡◌, ◌≢◌, ◌<◌, ℕ, suc, Bool, true, false, List, Some, get_or, refl}
+use Rattle.std.proofs.Common.{◌≡◌, ◌≢◌, ◌<◌, ℕ, suc, Bool, true, false, List, get_or, refl}
 use Rattle.std.proofs.Common.{sym, ◌∙◌, ap, subst, arith, ⊎_elim}
 use Rattle.std.specs.Prelude.{slice_get}
 use Rattle.std.proofs.lemmas.Bool.{cases_lt}
@@ -27,20 +27,7 @@ use Rattle.cert_checker.specs.declared.claim.ClaimFault.TheVariants.{
 use Rattle.cert_checker.specs.Claims.{pairs_of}
 use Rattle.cert_checker.specs.Firsts.{IsFirstFailing, IsFirstOn}
 use Rattle.cert_checker.specs.Refutations.{IsMetAt, IsNumberIn, IsFirstOutside, IsMetInside}
-use Rattle.cert_checker.specs.Verdicts.{
-  IsSupported,
-  IsYesFault,
-  IsNoFault,
-  IsFaultOf,
-  IsCovered,
-  IsKeyCovered,
-  IsFirstUncovered,
-  IsVerdictFault,
-  IsFirstVerdictFault,
-  IsFirstFault,
-  derived_key,
-  derived_trip,
-}
+use Rattle.cert_checker.specs.Verdicts.{IsYesFault, IsNoFault, IsFaultOf, IsCovered, IsKeyCovered, IsFirstUncovered, IsVerdictFault, IsFirstVerdictFault, IsFirstFault, derived_key, derived_trip}
 use Rattle.cert_checker.proofs.Firsts.{not_both}
 use Rattle.cert_checker.proofs.Refusal.{HaveHistories, verdict_refused}
 

@@ -32,6 +32,13 @@ with_ticks grow wave new level m n value is more same =
     (record { long = refl; values = λ t early. is.values t (omega (arith, long, early)) })
     more (λ k low high. same k (omega (arith, long, low)) (omega (arith, long, high))))
 
+-- before the first tick, by its length
+pub at_none : (wave : List Tern) (value : ℕ → Rails) → wave ≡ []
+    → IsWaveOf wave (length wave) value
+at_none wave value none =
+    let P : ℕ → Type 0 = λ n. IsWaveOf wave n value in
+    subst P (sym (ap length none)) (at_first wave value none)
+
 -- one value at all ticks
 pub one_level : WavesGrow → (wave new : List Tern) (level : Tern) (n : ℕ) (value : ℕ → Rails) → wave ≡ []
     → new ≡ wave ++ replicate n level → ((k : ℕ) → k < n → tern_rails level ≡ value k)

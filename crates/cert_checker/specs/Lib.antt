@@ -4,3 +4,4 @@ pub mod Counts
 pub mod Firsts
 pub mod Refutations
 pub mod Verdicts
+pub mod Stretches

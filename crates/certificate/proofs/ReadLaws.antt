@@ -1,14 +1,10 @@
 -- Lines of a certificate, read one after another.
-use Rattle.std.proofs.Common.{◌≡◌, ℕ, ◌+◌, ◌<◌, List, [], ◌∷◌, ◌++◌, length, map, drop, get_or, sym}
-use Rattle.std.proofs.Common.{◌∙◌, ap, subst, arith, append_assoc}
-use Rattle.std.proofs.Common.{Bool, true, false, refl, ◌≤◌, ◌≢◌}
-use Rattle.std.specs.Prelude.{◌==◌}
-use Rattle.std.proofs.lemmas.Bool.{eqb-true}
+use Rattle.std.proofs.Common.{◌≡◌, ℕ, ◌+◌, ◌<◌, List, ◌∷◌, ◌++◌, length, map, drop, get_or, sym}
+use Rattle.std.proofs.Common.{subst}
+use Rattle.std.proofs.Common.{Bool, false}
 use Rattle.std.specs.Bool.{Decides}
 use Rattle.tick_signal.specs.declared.tern.Tern.{Tern}
-use Rattle.std.proofs.lemmas.List.{drop_more, drop_all, map-append, length-map, append-nil}
-use Rattle.std.proofs.lemmas.List.Concat.{flat_map-append}
-use Rattle.std.specs.List.{flat_map}
+use Rattle.std.proofs.lemmas.List.{length-map}
 use Rattle.line_model.specs.declared.line.Line.{Line}
 use Rattle.certificate.specs.declared.claim.CertificateFault.{CertificateFault}
 use Rattle.certificate.specs.declared.claim.CertificateFault.TheVariants as fault

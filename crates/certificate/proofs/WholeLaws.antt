@@ -1,6 +1,6 @@
 -- What is printed in a line has no line feed.
-use Rattle.std.proofs.Common.{◌≡◌, ◌&&◌, ℕ, ◌<◌, ◌≤◌, ◌^◌, true, not, List, []}
-use Rattle.std.proofs.Common.{◌∷◌, length, refl, ap, arith, decimal}
+use Rattle.std.proofs.Common.{◌≡◌, ◌&&◌, ℕ, ◌<◌, ◌^◌, true, not, List, []}
+use Rattle.std.proofs.Common.{◌∷◌, length, refl, ap, arith}
 use Rattle.std.proofs.Common.{ne_eqb, inl, inr}
 use Rattle.std.specs.Prelude.{nat_le}
 use Rattle.std.specs.List.{All, list_all}

@@ -7,8 +7,8 @@ use Rattle.std.specs.List.{flat_map}
 use Rattle.std.proofs.lemmas.Bool.{eqb-true}
 use Rattle.std.proofs.lemmas.List.{drop_more, drop_all, map-append, append-nil}
 use Rattle.std.proofs.lemmas.List.Concat.{flat_map-append}
-use Rattle.text_lines.specs.Lines.{Goes, LeavesAt}
-use Rattle.text_lines.specs.LineLaws.{goes_then, leaves_later}
+use Rattle.text_lines.specs.Lines.{Goes}
+use Rattle.text_lines.specs.LineLaws.{goes_then}
 
 -- ---- places, one for each of a list
 

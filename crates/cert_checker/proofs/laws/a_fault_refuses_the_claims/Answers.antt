@@ -1,4 +1,3 @@
-use Rattle.timing_box.specs.Choice.{timing_choice}
 use Rattle.cert_checker.specs.Refutations.{steady_timing, choice_of}
 use Rattle.cert_checker.proofs.Refusal.{fault_refuses}
 use Rattle.cert_checker.proofs.laws.a_fault_refuses_the_claims.Goals as goal

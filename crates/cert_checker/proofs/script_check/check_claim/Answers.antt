@@ -1,5 +1,5 @@
-use Rattle.std.proofs.Common.{◌≡◌, ℕ, Bool, List, length, refl, sym, subst, true, false, ◌∙◌}
-use Rattle.line_model.specs.Rule.{IsHeld, Held, rule_of}
+use Rattle.std.proofs.Common.{ℕ, refl, sym, subst}
+use Rattle.line_model.specs.Rule.{IsHeld}
 use Rattle.wave_runs.specs.Waves.{wave_at}
 use Rattle.certificate.specs.declared.claim.Claim.{Claim}
 use Rattle.certificate.specs.Grammar.{verdict_in}

@@ -1,17 +1,50 @@
-use Rattle.std.proofs.Common.{◌≡◌, ℕ, Bool, arith, ap, ◌∙◌}
+use Rattle.std.proofs.Common.{◌≡◌, ◌≤◌, ◌<◌, ◌-◌, ◌+◌, ℕ, Bool, List, length, arith, ap, sym, ◌∙◌, subst}
+use Rattle.std.specs.List.{All}
 use Rattle.history.specs.Rails.{Rails, both}
+use Rattle.tick_signal.specs.declared.tern.Tern.{Tern}
+use Rattle.line_model.specs.declared.script.SeenSpan.{SeenSpan}
 use Rattle.line_model.specs.Seen.{is_lost}
-use Rattle.cert_checker.proofs.Waves.{at_first, with_ticks}
+use Rattle.wave_runs.specs.Waves.{IsWaveOf}
+use Rattle.cert_checker.specs.Stretches.{HoldsAlike}
+use Rattle.cert_checker.proofs.StretchLaws.{lost_alike}
+use Rattle.cert_checker.proofs.Waves.{at_none}
 use Rattle.cert_checker.proofs.script_wave.loss_wave.Goals as goal
 
-pub loop-t-init : goal.loop-t-init
-loop-t-init c = at_first c.new-wave.result _ c.new-wave.ensures
+pub stretches-init : goal.stretches-init
+stretches-init c = record {
+  short = omega (arith, ap length c.new-wave.ensures);
+  values = at_none c.new-wave.result _ c.new-wave.ensures;
+}
 
-pub loop-t-preserved : goal.loop-t-preserved
-loop-t-preserved c =
-    let value : ℕ → Rails = λ t. both (is_lost c.args.script.now.spans.items c.args.channel t) in
-    with_ticks c.waves_grow.ensures c.loop-t.wave c.push.new.self c.known.result c.loop-t.t 1 value
-    c.loop-t.invariant c.in_ok-push.ensures
-    (λ k low high.
-    let now : c.loop-t.t ≡ k = omega arith in
-    c.known.ensures 0 (omega arith) ∙ ap (λ (b : Bool). both b) c.loss.ensures ∙ ap value now)
+pub stretches-preserved : goal.stretches-preserved
+stretches-preserved c =
+    let spans : List SeenSpan = c.args.script.now.spans.items in
+    let value : ℕ → Rails = λ k. both (is_lost spans c.args.channel k) in
+    let wave : List Tern = c.stretches.wave in
+    let t : ℕ = c.len-t.result in
+    let end : ℕ = c.alike_until-end.result in
+    let here : t ≡ length wave = c.len-t.ensures.length in
+    let later : t < end = c.alike_until-end.ensures.later in
+    let inside : end ≤ c.args.horizon = c.alike_until-end.ensures.inside in
+    let Q : List SeenSpan → Type 0 = λ l. All (HoldsAlike t end) l in
+    let alike : Q spans = subst Q c.as_slice.ensures.value c.alike_until-end.ensures.alike in
+    let long : length c.push.new.self ≡ length wave + (end - t) =
+    c.waves_grow.ensures.long wave c.push.new.self c.known.result (end - t)
+    c.in_ok-push.ensures in
+    record {
+      short = omega (arith, long, here, later, inside);
+      values = c.waves_grow.ensures.ticks wave c.push.new.self c.known.result (end - t) value
+          c.stretches.invariant.values c.in_ok-push.ensures
+          (λ k low high. c.known.ensures 0 (omega arith)
+          ∙ ap (λ (b : Bool). both b) (c.loss.ensures
+          ∙ sym (lost_alike spans c.args.channel t end k alike (omega (arith, low, here))
+          (omega (arith, high, here, later)))));
+    }
+
+pub returns : goal.returns
+returns c =
+    let spans : List SeenSpan = c.args.script.now.spans.items in
+    let value : ℕ → Rails = λ k. both (is_lost spans c.args.channel k) in
+    let P : ℕ → Type 0 = λ n. IsWaveOf c.stretches.wave n value in
+    let all : length c.stretches.wave ≡ c.args.horizon = omega (arith, c.stretches.invariant.short) in
+    subst P all c.stretches.invariant.values

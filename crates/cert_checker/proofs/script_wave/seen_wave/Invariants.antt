@@ -1,7 +1,14 @@
+use Rattle.std.proofs.Common.{◌-◌, ◌≤◌, length}
 use Rattle.history.specs.Rails.{both}
 use Rattle.line_model.specs.Seen.{is_seen}
 use Rattle.wave_runs.specs.Waves.{IsWaveOf}
 use Rattle.cert_checker.proofs.script_wave.seen_wave.Given as goal
 
-abbrev pub invariant-loop-t : goal.invariant-loop-t
-invariant-loop-t l = IsWaveOf l.wave l.t (λ t. both (is_seen l.script.spans.items l.place t))
+abbrev pub invariant-stretches : goal.invariant-stretches
+invariant-stretches l = record {
+  short : length l.wave ≤ l.horizon;
+  values : IsWaveOf l.wave (length l.wave) (λ t. both (is_seen l.script.spans.items l.place t));
+}
+
+abbrev pub decreases-stretches : goal.decreases-stretches
+decreases-stretches l = l.horizon - length l.wave

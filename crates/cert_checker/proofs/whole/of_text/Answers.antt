@@ -1,4 +1,4 @@
-use Rattle.std.proofs.Common.{◌≤◌, ◌*◌, ◌+◌, ℕ, length, arith, subst}
+use Rattle.std.proofs.Common.{◌≤◌, ◌*◌, ◌+◌, length, arith, subst}
 use Rattle.certificate.specs.Grammar.{IsCertificateFault}
 use Rattle.cert_checker.proofs.whole.of_text.Goals as goal
 

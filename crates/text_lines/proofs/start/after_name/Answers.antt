@@ -1,4 +1,4 @@
-use Rattle.std.proofs.Common.{◌≡◌, ◌≢◌, List, ℕ, ◌∷◌, ◌++◌, sym, ◌∙◌, ap, refl}
+use Rattle.std.proofs.Common.{◌≡◌, ◌≢◌, List, ℕ, ◌∷◌, ◌++◌, ◌∙◌, ap, refl}
 use Rattle.std.specs.Borrow.{Bor}
 use Rattle.text_lines.specs.AnswerLaws.{map_option}
 use Rattle.text_lines.specs.NamedLaws.{after_word, after_space}

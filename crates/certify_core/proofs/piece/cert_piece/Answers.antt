@@ -1,1 +1,0 @@
-use Rattle.certify_core.proofs.piece.cert_piece.Goals as goal
