@@ -1,0 +1,4 @@
+pub mod TextLaws
+pub mod NameLaws
+pub mod DumpLaws
+pub mod LevelLaws

@@ -1,0 +1,5 @@
+pub mod Roles
+pub mod Variables
+pub mod Codes
+pub mod Dump
+pub mod GateValues

@@ -1,0 +1,15 @@
+//! Pictures of a run: every gate of a net as a value change dump, for a waveform viewer.
+#![tactic(auto)]
+
+mod changes;
+mod gates;
+mod laws;
+mod play;
+mod put;
+mod roles;
+mod variables;
+mod vcd;
+
+pub use laws::codes_are_apart;
+pub use play::play_waves;
+pub use vcd::{value_change_dump, vcd_text};
