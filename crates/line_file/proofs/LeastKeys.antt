@@ -1,25 +1,6 @@
 -- Where the keys of a table ascend, the first unknown one is the least.
-use Rattle.std.proofs.Common.{
-  ◌≡◌,
-  ℕ,
-  Bool,
-  true,
-  false,
-  cond,
-  List,
-  [],
-  ◌∷◌,
-  Option,
-  Some,
-  refl,
-  sym,
-  ◌∙◌,
-  ap,
-  subst,
-  inl,
-  inr,
-}
-use Rattle.std.specs.Prelude.{◌⊎◌, string_bytes, String}
+use Rattle.std.proofs.Common.{◌≡◌, ℕ, Bool, true, false, cond, List, [], ◌∷◌, Some, refl, sym, ◌∙◌, ap, subst, inl, inr}
+use Rattle.std.specs.Prelude.{string_bytes, String}
 use Rattle.std.specs.Ordering.{nat_cmp}
 use Rattle.std.specs.Str.{bytes_eq}
 use Rattle.std.specs.List.{list_any, AllByRecursion}
@@ -57,23 +38,23 @@ unfolding IsStrictlySortedBy
 least_unknown known [] key order found = absurd (cc)
 least_unknown known (e ∷ es) key order found =
     by (least_unknown known es key order.1) (among known (string_bytes e.0)) refl found where
-  by : (first_unknown known (members_view es) ≡ Some key
-      → IsLeastUnknown known (members_view es) key)
-      → (b : Bool) → among known (string_bytes e.0) ≡ b
-      → cond b (first_unknown known (members_view es)) (Some (string_bytes e.0)) ≡ Some key
-      → IsLeastUnknown known (members_view (e ∷ es)) key
-  by later true is next other has unknown = elim has [
-    | inl same ↦
-        let not_known : among known (string_bytes e.0) ≡ false =
-        ap (among known) (sym same) ∙ unknown in
-        absurd (let both : true ≡ false = sym is ∙ not_known in cc)
-    | inr more ↦ later next other more unknown
-  ]
-  by later false is here other has unknown =
-      let own : string_bytes e.0 ≡ key = cc in
-      elim has [
-        | inl same ↦ inl (same ∙ own)
-        | inr more ↦
-            inr (subst (λ (k : List ℕ). slice_cmp nat_cmp k other ≡ Less) own
-            (after e.0 es order.0 other more))
+      by : (first_unknown known (members_view es) ≡ Some key
+          → IsLeastUnknown known (members_view es) key)
+          → (b : Bool) → among known (string_bytes e.0) ≡ b
+          → cond b (first_unknown known (members_view es)) (Some (string_bytes e.0)) ≡ Some key
+          → IsLeastUnknown known (members_view (e ∷ es)) key
+      by later true is next other has unknown = elim has [
+        | inl same ↦
+            let not_known : among known (string_bytes e.0) ≡ false =
+            ap (among known) (sym same) ∙ unknown in
+            absurd (let both : true ≡ false = sym is ∙ not_known in cc)
+        | inr more ↦ later next other more unknown
       ]
+      by later false is here other has unknown =
+          let own : string_bytes e.0 ≡ key = cc in
+          elim has [
+            | inl same ↦ inl (same ∙ own)
+            | inr more ↦
+                inr (subst (λ (k : List ℕ). slice_cmp nat_cmp k other ≡ Less) own
+                (after e.0 es order.0 other more))
+          ]

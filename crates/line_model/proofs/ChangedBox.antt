@@ -1,15 +1,12 @@
 -- The declared box of a line with another interval for one parameter.
-use Rattle.std.proofs.Common.{◌≡◌, ◌<◌, ℕ, List, Some, length, get_or, set, sym, ◌∙◌, ap, arith, inl, inr, eq-eqb, cond}
-use Rattle.std.specs.Prelude.{Bool, unwrap_or}
+use Rattle.std.proofs.Common.{◌≡◌, ◌<◌, ℕ, List, length, get_or, set, sym, ◌∙◌, ap, arith, inl, inr, eq-eqb, cond}
+use Rattle.std.specs.Prelude.{Bool}
 use Rattle.std.proofs.lemmas.Bool.{cases_eq, ne_eqb}
 use Rattle.std.proofs.lemmas.List.{length-map, get_or-set_same, get_or-set_other}
 use Rattle.history.specs.Rails.{Ends}
 use Rattle.line_model.specs.declared.line.Line.{Line}
-use Rattle.line_model.specs.declared.line.Owner.TheVariants as owner
-use Rattle.line_model.specs.declared.line.Setting.TheVariants.{Delay}
 use Rattle.line_model.specs.Intervals.{leasts, greatests}
 use Rattle.line_model.specs.Parameters.{param_count, channel_count, delay_param, declared_ends}
-use Rattle.line_model.specs.Settings.{line_settings, setting_number}
 use Rattle.line_model.specs.SetBounds.{IsDelayAt}
 use Rattle.line_model.specs.Choice.{declared_box}
 use Rattle.line_model.proofs.DeclaredLaws.{delay_at}

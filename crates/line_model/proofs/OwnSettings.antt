@@ -30,7 +30,7 @@ use Rattle.line_model.specs.declared.line.Terminal.{Terminal}
 use Rattle.line_model.specs.declared.line.Owner.{Owner}
 use Rattle.line_model.specs.declared.line.Owner.TheVariants as owner
 use Rattle.line_model.specs.declared.line.Setting.{Setting}
-use Rattle.line_model.specs.Channels.{channel_number, is_pair}
+use Rattle.line_model.specs.Channels.{channel_number}
 use Rattle.line_model.specs.Settings.{
   OwnedSetting,
   line_settings,

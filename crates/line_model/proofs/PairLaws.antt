@@ -1,23 +1,6 @@
 -- A pair at a tick rests on the keys of earlier ticks only, so the equations of a line have exactly
 -- one solution, in each world whose delays are at least 1.
-use Rattle.std.proofs.Common.{
-  ◌≡◌,
-  ◌+◌,
-  ℕ,
-  zero,
-  suc,
-  ◌<◌,
-  ◌≤◌,
-  Bool,
-  refl,
-  sym,
-  ◌∙◌,
-  ap,
-  subst,
-  arith,
-  ⊎_elim,
-  eq-eqb,
-}
+use Rattle.std.proofs.Common.{◌≡◌, ℕ, zero, suc, ◌<◌, ◌≤◌, Bool, refl, sym, ◌∙◌, ap, subst, arith, ⊎_elim, eq-eqb}
 use Rattle.std.specs.Prelude.{cond}
 use Rattle.std.proofs.lemmas.Bool.{cases_lt, ne_eqb}
 use Rattle.history.specs.Laws.{HistoryLaws}

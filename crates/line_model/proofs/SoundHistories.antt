@@ -11,7 +11,7 @@ use Rattle.line_model.specs.declared.script.Script.{Script}
 use Rattle.line_model.specs.Parameters.{terminal_count}
 use Rattle.line_model.specs.Choice.{Choice, Box, IsWithin, DelaysFromOne, LeastFromOne}
 use Rattle.line_model.specs.Histories.{PairHistory, IsPairHistory, CoversHistory, IsSoundHistory}
-use Rattle.line_model.specs.Rule.{Broken, IsHeld, IsBroken, rule_by, rule_of}
+use Rattle.line_model.specs.Rule.{Broken, IsHeld, IsBroken, rule_of}
 use Rattle.line_model.proofs.BoxLaws.{box_covers_choice}
 use Rattle.line_model.proofs.HistoryLaws.{history_exists}
 use Rattle.line_model.proofs.RuleLaws.{rule_broken, broken_rule}
