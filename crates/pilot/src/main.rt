@@ -5,6 +5,7 @@ ghost use Rattle.std.specs.Prelude.{◌≡◌};
 ghost use Rattle.std.specs.Process.{exit_status};
 ghost use Rattle.pilot.specs.Exit.{exit_number};
 
+use engine::NetEngine;
 use pilot_core::{Status, pilot};
 use relay_base::{FileStore, StdSink};
 use std::io::ErrorKind;
@@ -38,9 +39,17 @@ fn main(rt: HostRuntime) -> ExitCode {
             Vec::new(rt.alloc())
         }
     };
+    let mut engine = NetEngine::new();
     let mut store = FileStore::new(&rt);
     let mut out = StdSink::new(rt.stdout());
     let mut err = StdSink::new(rt.stderr());
-    let status = pilot(rt.alloc(), words.as_slice(), &mut store, &mut out, &mut err);
+    let status = pilot(
+        rt.alloc(),
+        words.as_slice(),
+        &mut engine,
+        &mut store,
+        &mut out,
+        &mut err,
+    );
     exit_code(status)
 }

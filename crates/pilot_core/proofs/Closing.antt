@@ -10,56 +10,62 @@ use Rattle.std.proofs.Common.{
   Option,
   None,
   Some,
+  OnOk,
   Result,
   Ok,
   Err,
   refl,
-  sym,
-  ◌∙◌,
+  ap,
   subst,
   inl,
   inr,
   arith,
 }
-use Rattle.std.proofs.lemmas.List.{append-nil}
 use Rattle.std.specs.Io.KnownBytes.{Appends, Keeps}
 use Rattle.relay_base.specs.Counts.{Rose}
 use Rattle.relay_base.specs.Sink.{GrewByPart}
 use Rattle.relay_base.specs.SinkLaws.{part_of_proper}
+use Rattle.engine.specs.Calls.{Calls}
+use Rattle.pilot_core.specs.Call.{Asked, Told}
 use Rattle.pilot_core.specs.Clauses.{
-  Answered,
-  Unwritten,
-  StoreFailed,
-  StoreTold,
-  SinkFailed,
-  SinkTold,
-  MemoryFailed,
-  Complete,
+  Call,
+  Clauses,
   IsLine,
+  OutIsAnswer,
+  OutIsFront,
+  OutIsProperFront,
 }
 use Rattle.pilot_core.specs.Ends.{EndsOf}
-use Rattle.pilot_core.specs.Files.{StoreCause, NoneRose}
+use Rattle.pilot_core.specs.Files.{NamedFile, NoneRose, StoreCause}
 use Rattle.pilot_core.specs.Messages.{message_of}
 use Rattle.pilot_core.specs.Sinks.{SinkView, GrewByAll, Puts}
-use Rattle.pilot_core.specs.Status.{IsDone, status_of, stop_status}
-use Rattle.pilot_core.specs.Words.{Command, Asked}
+use Rattle.pilot_core.specs.Status.{IsAnswer, IsDone, IsEarly, status_of, stop_status}
+use Rattle.pilot_core.specs.Words.{Command, files_named}
 use Rattle.pilot_core.specs.declared.stop.File.{File}
 use Rattle.pilot_core.specs.declared.stop.Status.{Status}
 use Rattle.pilot_core.specs.declared.stop.Status.TheVariants as status
 use Rattle.pilot_core.specs.declared.stop.Stop.{Stop}
 use Rattle.pilot_core.specs.declared.stop.Stop.TheVariants as stop
-
-keeps_appends : (a b : Option (List ℕ)) → Keeps a b → Appends a b []
-keeps_appends None b k = tt
-keeps_appends (Some x) None k = k
-keeps_appends (Some x) (Some y) k = k ∙ sym (append-nil x)
+use Rattle.pilot_core.proofs.Writing.{appends_none}
 
 -- 0 to 3 is none of the other statuses
 not_done : {X : Type 0} (s t : Status) → IsDone s → (IsDone t → ⊥) → s ≡ t → X
 not_done s t done never is = absurd (never (subst IsDone is done))
 
+-- 0 to 3 is not 4 to 6
+pub not_early : (s : Status) → IsDone s → IsEarly s → ⊥
+not_early status.Good done early = early
+not_early status.SomeNo done early = early
+not_early status.SomeUndecided done early = early
+not_early status.Rejected done early = early
+not_early status.Usage done early = done
+not_early status.BadInput done early = done
+not_early status.StoreFault done early = done
+not_early status.SinkFault done early = done
+not_early status.Memory done early = done
+
 -- no name's count rose, so there is no cause
-no_cause : (files : List ℕ → Option (List ℕ)) (c1 c2 : List ℕ → ℕ) (asked : List Asked)
+no_cause : (files : List ℕ → Option (List ℕ)) (c1 c2 : List ℕ → ℕ) (asked : List NamedFile)
     (file : File)
     → NoneRose c1 c2 asked → StoreCause files c1 c2 asked file → ⊥
 no_cause files c1 c2 [] file none cause = cause
@@ -68,47 +74,100 @@ no_cause files c1 c2 (a ∷ rest) file none cause = elim cause [
   | inr later ↦ no_cause files c1 c2 rest file none.1 later.1
 ]
 
-module _ (files : List ℕ → Option (List ℕ)) (c1 c2 : List ℕ → ℕ) (old new : SinkView) where
-  pub answered : (command : Option Command) (r : Result Status Stop)
-      → EndsOf command files c1 c2 old new r → Answered command files old new (status_of r)
-  answered None r e =
-      rw e.0 (λ _ _. (
-        [],
-        message_of stop.Usage,
-        (refl, refl, refl),
-        keeps_appends old.written new.written e.2.0,
-      ))
-  answered (Some x) (Ok s) e = λ _ told. (e.1.1, [], e.1.2 told, e.1.3.taken)
-  answered (Some x) (Err stop.Usage) e = absurd e.1
-  answered (Some x) (Err (stop.Refused why)) e = λ _ told.
-      ([], message_of (stop.Refused why), e.1.0 told, keeps_appends old.written new.written e.1.1.0)
-  answered (Some x) (Err (stop.Store f)) e = λ bad _. absurd bad
-  answered (Some x) (Err stop.Sink) e = λ bad _. absurd bad
-  answered (Some x) (Err stop.Memory) e = λ bad _. absurd bad
+-- where no count rose in a call, none is greater
+not_more : {X : Type 0} (a b : ℕ) → b ≡ a → a < b → X
+not_more a b same more = absurd (omega arith)
 
-  done_writes : (s : Status) → IsDone s → Unwritten old new s
-  done_writes status.Good done = λ bad. absurd bad
-  done_writes status.SomeNo done = λ bad. absurd bad
-  done_writes status.SomeUndecided done = λ bad. absurd bad
-  done_writes status.Rejected done = λ bad. absurd bad
-  done_writes status.Usage done = absurd done
-  done_writes status.BadInput done = absurd done
-  done_writes status.StoreFault done = absurd done
-  done_writes status.SinkFault done = absurd done
-  done_writes status.Memory done = absurd done
+-- a put of a line, whatever came of it
+put_or_part : {X Y : Type 0} (old new : SinkView) (line : List ℕ) (r : Result X Y)
+    → Puts old new line r
+    → GrewByAll old new line
+    ⊎ (Rose old.faults new.faults × GrewByPart old.written new.written line)
+put_or_part old new line (Ok x) puts = inl puts
+put_or_part old new line (Err y) puts =
+    inr (puts.0, part_of_proper old.written new.written line puts.1)
 
+-- 0 to 3 is an answer
+done_answers : (s : Status) → IsDone s → IsAnswer s
+done_answers status.Good done = tt
+done_answers status.SomeNo done = tt
+done_answers status.SomeUndecided done = tt
+done_answers status.Rejected done = tt
+done_answers status.Usage done = tt
+done_answers status.BadInput done = tt
+done_answers status.StoreFault done = done
+done_answers status.SinkFault done = done
+done_answers status.Memory done = done
+
+module _ {K : Type 0} (view : K → SinkView) (old new : K) (files : List ℕ → Option (List ℕ))
+    (c1 c2 : List ℕ → ℕ) where
+  -- out was left as it was by status 4 to 6
   pub unwritten : (command : Option Command) (r : Result Status Stop)
-      → EndsOf command files c1 c2 old new r → Unwritten old new (status_of r)
-  unwritten None r e = λ _. e.2.0
-  unwritten (Some x) (Ok s) e = done_writes s e.1.0
+      → EndsOf view command files c1 c2 old new r → IsEarly (status_of r) → new ≡ old
+  unwritten None r e = λ early. e.2
+  unwritten (Some x) (Ok s) e = λ early. absurd (not_early s e.1.0 early)
   unwritten (Some x) (Err stop.Usage) e = absurd e.1
-  unwritten (Some x) (Err (stop.Refused why)) e = λ _. e.1.1.0
-  unwritten (Some x) (Err (stop.Store f)) e = λ _. e.1.0
-  unwritten (Some x) (Err stop.Sink) e = λ bad. absurd bad
-  unwritten (Some x) (Err stop.Memory) e = λ bad. absurd bad
+  unwritten (Some x) (Err (stop.Refused why)) e = λ early. e.1.1
+  unwritten (Some x) (Err (stop.Store f)) e = λ early. e.1
+  unwritten (Some x) (Err stop.Sink) e = λ early. absurd early
+  unwritten (Some x) (Err stop.Memory) e = λ early. absurd early
 
-  pub store_failed : (command : Option Command) (r : Result Status Stop)
-      → EndsOf command files c1 c2 old new r → StoreFailed command files c1 c2 (status_of r)
+-- a call whose sink out is of a type K, and what is seen of its other parts
+module _ {K : Type 0} (view : K → SinkView) (old new : K) (files : List ℕ → Option (List ℕ))
+    (c1 c2 : List ℕ → ℕ) (e1 e2 : SinkView) (g1 g2 : Calls) where
+  -- what the clauses see of the call of this command
+  abbrev pub seen : Option Command → Call
+  seen command = record {
+    command = command;
+    files = files;
+    faults_old = c1;
+    faults_new = c2;
+    asked_old = g1;
+    asked_new = g2;
+    out_old = view old;
+    out_new = view new;
+    err_old = e1;
+    err_new = e2;
+  }
+
+  -- nothing on out
+  same_out : new ≡ old → Appends (view old).written (view new).written []
+  same_out is = rw is (appends_none (view old).written)
+
+  answered : (command : Option Command) (r : Result Status Stop)
+      → EndsOf view command files c1 c2 old new r → IsAnswer (status_of r)
+      → Told command files → OutIsAnswer (seen command) (status_of r)
+  answered None r e = rw e.0 (λ is told. record {
+    text = [];
+    line = message_of stop.Usage;
+    is = (refl, refl, refl);
+    out = same_out e.2;
+  })
+  answered (Some x) (Ok s) e =
+      λ is told. record { text = e.1.1; line = []; is = e.1.2 told; out = e.1.3.taken }
+  answered (Some x) (Err stop.Usage) e = absurd e.1
+  answered (Some x) (Err (stop.Refused why)) e = λ is told. record {
+    text = [];
+    line = message_of (stop.Refused why);
+    is = e.1.0 told;
+    out = same_out e.1.1;
+  }
+  answered (Some x) (Err (stop.Store f)) e = λ is told. absurd is
+  answered (Some x) (Err stop.Sink) e = λ is told. absurd is
+  answered (Some x) (Err stop.Memory) e = λ is told. absurd is
+
+  asked : (command : Option Command) (r : Result Status Stop)
+      → OnOk r (Asked command files g1 g2) → IsDone (status_of r) → Asked command files g1 g2
+  asked command (Ok s) a = λ done. a
+  asked command (Err stop.Usage) a = λ done. absurd done
+  asked command (Err (stop.Refused why)) a = λ done. absurd done
+  asked command (Err (stop.Store file)) a = λ done. absurd done
+  asked command (Err stop.Sink) a = λ done. absurd done
+  asked command (Err stop.Memory) a = λ done. absurd done
+
+  store_failed : (command : Option Command) (r : Result Status Stop)
+      → EndsOf view command files c1 c2 old new r → status_of r ≡ status.StoreFault
+      → (file : File) × StoreCause files c1 c2 (files_named command) file
   store_failed None r e = rw e.0 (λ is. cc)
   store_failed (Some x) (Ok s) e = λ is. not_done s status.StoreFault e.1.0 (λ bad. bad) is
   store_failed (Some x) (Err stop.Usage) e = absurd e.1
@@ -117,46 +176,56 @@ module _ (files : List ℕ → Option (List ℕ)) (c1 c2 : List ℕ → ℕ) (ol
   store_failed (Some x) (Err stop.Sink) e = λ is. cc
   store_failed (Some x) (Err stop.Memory) e = λ is. cc
 
-  same_counts : {X : Type 0} → ((name : List ℕ) → c2 name ≡ c1 name)
-      → (name : List ℕ) → c1 name < c2 name → X
-  same_counts same name more = let e = same name in absurd (omega arith)
-
-  pub store_told : (command : Option Command) (r : Result Status Stop)
-      → EndsOf command files c1 c2 old new r → StoreTold c1 c2 (status_of r)
-  store_told None r e = same_counts e.1
-  store_told (Some x) (Ok s) e = same_counts e.0
+  store_told : (command : Option Command) (r : Result Status Stop)
+      → EndsOf view command files c1 c2 old new r → (name : List ℕ) → c1 name < c2 name
+      → status_of r ≡ status.StoreFault
+  store_told None r e = λ name more. not_more _ _ (e.1 name) more
+  store_told (Some x) (Ok s) e = λ name more. not_more _ _ (e.0 name) more
   store_told (Some x) (Err stop.Usage) e = absurd e.1
-  store_told (Some x) (Err (stop.Refused why)) e = same_counts e.0
+  store_told (Some x) (Err (stop.Refused why)) e = λ name more. not_more _ _ (e.0 name) more
   store_told (Some x) (Err (stop.Store f)) e = λ name more. refl
-  store_told (Some x) (Err stop.Sink) e = same_counts e.0
-  store_told (Some x) (Err stop.Memory) e = same_counts e.0
+  store_told (Some x) (Err stop.Sink) e = λ name more. not_more _ _ (e.0 name) more
+  store_told (Some x) (Err stop.Memory) e = λ name more. not_more _ _ (e.0 name) more
 
-  pub sink_failed : (command : Option Command) (r : Result Status Stop)
-      → EndsOf command files c1 c2 old new r → SinkFailed command files old new (status_of r)
+  sink_failed : (command : Option Command) (r : Result Status Stop)
+      → EndsOf view command files c1 c2 old new r → status_of r ≡ status.SinkFault
+      → Rose (view old).faults (view new).faults
+      × (Told command files → OutIsProperFront (seen command))
   sink_failed None r e = rw e.0 (λ is. cc)
   sink_failed (Some x) (Ok s) e = λ is. not_done s status.SinkFault e.1.0 (λ bad. bad) is
   sink_failed (Some x) (Err stop.Usage) e = absurd e.1
   sink_failed (Some x) (Err (stop.Refused why)) e = λ is. cc
   sink_failed (Some x) (Err (stop.Store f)) e = λ is. cc
-  sink_failed (Some x) (Err stop.Sink) e =
-      λ is. (e.1.0, λ told. (e.1.1, e.1.2, e.1.3, e.1.4 told, e.1.5))
+  sink_failed (Some x) (Err stop.Sink) e = λ is. (
+    e.1.0,
+    λ told. record {
+      status = e.1.1;
+      text = e.1.2;
+      line = e.1.3;
+      is = e.1.4 told;
+      out = e.1.5;
+    },
+  )
   sink_failed (Some x) (Err stop.Memory) e = λ is. cc
 
-  same_faults : {X : Type 0} → new.faults ≡ old.faults → old.faults < new.faults → X
-  same_faults same more = absurd (omega arith)
+  same_faults : {X : Type 0} → new ≡ old → (view old).faults < (view new).faults → X
+  same_faults is more = not_more _ _ (ap (λ k. (view k).faults) is) more
 
-  pub sink_told : (command : Option Command) (r : Result Status Stop)
-      → EndsOf command files c1 c2 old new r → SinkTold old new (status_of r)
-  sink_told None r e = same_faults e.2.1
-  sink_told (Some x) (Ok s) e = same_faults e.1.3.same
+  sink_told : (command : Option Command) (r : Result Status Stop)
+      → EndsOf view command files c1 c2 old new r → (view old).faults < (view new).faults
+      → status_of r ≡ status.SinkFault
+  sink_told None r e = λ more. same_faults e.2 more
+  sink_told (Some x) (Ok s) e = λ more. not_more _ _ e.1.3.same more
   sink_told (Some x) (Err stop.Usage) e = absurd e.1
-  sink_told (Some x) (Err (stop.Refused why)) e = same_faults e.1.1.1
-  sink_told (Some x) (Err (stop.Store f)) e = same_faults e.1.1
+  sink_told (Some x) (Err (stop.Refused why)) e = λ more. same_faults e.1.1 more
+  sink_told (Some x) (Err (stop.Store f)) e = λ more. same_faults e.1 more
   sink_told (Some x) (Err stop.Sink) e = λ more. refl
-  sink_told (Some x) (Err stop.Memory) e = same_faults e.1.0
+  sink_told (Some x) (Err stop.Memory) e = λ more. not_more _ _ e.1.0 more
 
-  pub memory : (command : Option Command) (r : Result Status Stop)
-      → EndsOf command files c1 c2 old new r → MemoryFailed command files old new (status_of r)
+  memory : (command : Option Command) (r : Result Status Stop)
+      → EndsOf view command files c1 c2 old new r → status_of r ≡ status.Memory
+      → Told command files
+      → Keeps (view old).written (view new).written ⊎ OutIsFront (seen command)
   memory None r e = rw e.0 (λ is. cc)
   memory (Some x) (Ok s) e = λ is. not_done s status.Memory e.1.0 (λ bad. bad) is
   memory (Some x) (Err stop.Usage) e = absurd e.1
@@ -165,35 +234,35 @@ module _ (files : List ℕ → Option (List ℕ)) (c1 c2 : List ℕ → ℕ) (ol
   memory (Some x) (Err stop.Sink) e = λ is. cc
   memory (Some x) (Err stop.Memory) e = λ is told. elim e.1.1 [
     | inl kept ↦ inl kept
-    | inr grew ↦ inr (grew.0, grew.1, grew.2, grew.3 told, grew.4)
+    | inr grew ↦ inr (record {
+      status = grew.0;
+      text = grew.1;
+      line = grew.2;
+      is = grew.3 told;
+      out = grew.4;
+    })
   ]
 
-  pub complete : (command : Option Command) (r : Result Status Stop)
-      → EndsOf command files c1 c2 old new r → Complete command files c1 c2 old new (status_of r)
-  complete None r e =
-      rw e.0 (λ told _ _. inr (
-        [],
-        message_of stop.Usage,
-        (refl, refl, refl),
-        keeps_appends old.written new.written e.2.0,
-      ))
-  complete (Some x) (Ok s) e = λ told _ _. inr (e.1.1, [], e.1.2 told, e.1.3.taken)
+  complete : (command : Option Command) (r : Result Status Stop)
+      → EndsOf view command files c1 c2 old new r → Told command files
+      → NoneRose c1 c2 (files_named command)
+      → (Rose (view old).faults (view new).faults → ⊥)
+      → (status_of r ≡ status.Memory) ⊎ OutIsAnswer (seen command) (status_of r)
+  complete None r e = λ told none still. inr (answered None r e (rw e.0 tt) told)
+  complete (Some x) (Ok s) e =
+      λ told none still. inr (answered (Some x) (Ok s) e (done_answers s e.1.0) told)
   complete (Some x) (Err stop.Usage) e = absurd e.1
-  complete (Some x) (Err (stop.Refused why)) e = λ told _ _. inr (
-    [],
-    message_of (stop.Refused why),
-    e.1.0 told,
-    keeps_appends old.written new.written e.1.1.0,
-  )
+  complete (Some x) (Err (stop.Refused why)) e =
+      λ told none still. inr (answered (Some x) (Err (stop.Refused why)) e tt told)
   complete (Some x) (Err (stop.Store f)) e =
-      λ told none _. absurd (no_cause files c1 c2 _ f none e.0)
-  complete (Some x) (Err stop.Sink) e = λ told _ still. absurd (still e.1.0)
-  complete (Some x) (Err stop.Memory) e = λ told _ _. inl refl
+      λ told none still. absurd (no_cause files c1 c2 _ f none e.0)
+  complete (Some x) (Err stop.Sink) e = λ told none still. absurd (still e.1.0)
+  complete (Some x) (Err stop.Memory) e = λ told none still. inl refl
 
   -- a stop is told by its line
-  pub is_line : (command : Option Command) (why : Stop)
-      → EndsOf command files c1 c2 old new (Err why)
-      → IsLine command files c1 c2 (stop_status why) (message_of why)
+  is_line : (command : Option Command) (why : Stop)
+      → EndsOf view command files c1 c2 old new (Err why)
+      → IsLine (seen command) (stop_status why) (message_of why)
   is_line None stop.Usage e = refl
   is_line None (stop.Refused why) e = cc
   is_line None (stop.Store f) e = cc
@@ -206,8 +275,8 @@ module _ (files : List ℕ → Option (List ℕ)) (c1 c2 : List ℕ → ℕ) (ol
   is_line (Some x) stop.Memory e = refl
 
   -- 0 to 3 tells nothing
-  pub done_line : (command : Option Command) (s : Status)
-      → EndsOf command files c1 c2 old new (Ok s) → IsLine command files c1 c2 s []
+  done_line : (command : Option Command) (s : Status)
+      → EndsOf view command files c1 c2 old new (Ok s) → IsLine (seen command) s []
   done_line None s e = cc
   done_line (Some x) status.Good e = refl
   done_line (Some x) status.SomeNo e = refl
@@ -219,11 +288,37 @@ module _ (files : List ℕ → Option (List ℕ)) (c1 c2 : List ℕ → ℕ) (ol
   done_line (Some x) status.SinkFault e = absurd e.1.0
   done_line (Some x) status.Memory e = absurd e.1.0
 
--- a put of a line, whatever came of it
-pub put_or_part : {X Y : Type 0} (old new : SinkView) (line : List ℕ) (r : Result X Y)
-    → Puts old new line r
-    → GrewByAll old new line
-    ⊎ (Rose old.faults new.faults × GrewByPart old.written new.written line)
-put_or_part old new line (Ok x) puts = inl puts
-put_or_part old new line (Err y) puts =
-    inr (puts.0, part_of_proper old.written new.written line puts.1)
+  -- the clauses, once the line to err is known
+  closed : (command : Option Command) (r : Result Status Stop) (line : List ℕ)
+      → EndsOf view command files c1 c2 old new r → OnOk r (Asked command files g1 g2)
+      → IsLine (seen command) (status_of r) line
+      → GrewByAll e1 e2 line ⊎ (Rose e1.faults e2.faults × GrewByPart e1.written e2.written line)
+      → Clauses (seen command) (status_of r)
+  closed command r line e a is told = record {
+    answered = answered command r e;
+    asked = asked command r a;
+    store_failed = store_failed command r e;
+    store_told = store_told command r e;
+    sink_failed = sink_failed command r e;
+    sink_told = sink_told command r e;
+    memory = memory command r e;
+    complete = complete command r e;
+    line = line;
+    is_line = is;
+    reported = told;
+  }
+
+  -- the command is done, and err was left as it was
+  pub closed_done : (command : Option Command) (s : Status)
+      → EndsOf view command files c1 c2 old new (Ok s) → Asked command files g1 g2
+      → GrewByAll e1 e2 [] → Clauses (seen command) s
+  closed_done command s e a quiet =
+      closed command (Ok s) [] e a (done_line command s e) (inl quiet)
+
+  -- the call stopped, and its line was put
+  pub closed_stopped : {X Y : Type 0} (command : Option Command) (why : Stop) (put : Result X Y)
+      → EndsOf view command files c1 c2 old new (Err why) → Puts e1 e2 (message_of why) put
+      → Clauses (seen command) (stop_status why)
+  closed_stopped command why put e puts =
+      closed command (Err why) (message_of why) e tt (is_line command why e)
+      (put_or_part e1 e2 (message_of why) put puts)

@@ -19,7 +19,7 @@ use Rattle.std.proofs.Common.{
   subst,
 }
 use Rattle.std.proofs.lemmas.List.{append_assoc, append-nil, drop_all, drop_more}
-use Rattle.pilot_core.specs.PlayText.{Pieces}
+use Rattle.pilot_core.specs.Play.{Pieces}
 use Rattle.pilot_core.specs.Sinks.{SinkView, GrewByAll, WriteStops}
 use Rattle.pilot_core.specs.declared.stop.Stop.{Stop}
 use Rattle.pilot_core.proofs.Writing.{grew_both, grew_none, stops_more, stops_then}

@@ -12,7 +12,7 @@ use Rattle.timing_box.specs.Choice.{timing_choice}
 use Rattle.timing_box.specs.Inside.{IsTimingInside}
 use Rattle.timing_box.specs.SoFar.{NamedValues}
 use Rattle.timing_box.specs.Timing.{TimingValues}
-use Rattle.pilot_core.specs.PlayText.{
+use Rattle.pilot_core.specs.Play.{
   IsPlayText,
   IsRunText,
   IsTimingText,

@@ -1,87 +1,218 @@
 -- What is answered once a file is read, or refused.
-use Rattle.std.proofs.Common.{◌≡◌, List, Result, Ok, Err, map, refl, inl}
+use Rattle.std.proofs.Common.{◌≡◌, ℕ, List, Result, Ok, Err, refl, sym, subst, inl}
 use Rattle.std.specs.List.{All}
 use Rattle.line_model.specs.declared.line.Line.{Line}
 use Rattle.line_model.specs.declared.script.Script.{Script}
-use Rattle.line_model.specs.Fits.{Fits}
+use Rattle.line_file.specs.LineFiles.{line_of}
 use Rattle.line_file.specs.Lines.{LineValues, line_values}
+use Rattle.line_file.specs.Reading as line_reading
 use Rattle.line_file.specs.declared.fault.LineFault.{LineFault}
+use Rattle.line_file.specs.declared.fault.LineFault.TheVariants as line_fault
 use Rattle.fault_script.specs.Gives as script_reading
-use Rattle.fault_script.specs.Values.{ScriptValues, values_of}
+use Rattle.fault_script.specs.Scripts.{scripts_of}
+use Rattle.fault_script.specs.Values.{ScriptValues}
 use Rattle.fault_script.specs.declared.fault.ScriptFault.{ScriptFault}
 use Rattle.fault_script.specs.declared.fault.ScriptFault.TheVariants as script_fault
 use Rattle.timing_box.specs.Gives as timing_reading
+use Rattle.engine.specs.Calls.{Calls}
 use Rattle.timing_box.specs.Inside.{IsTimingInside}
 use Rattle.timing_box.specs.SoFar.{NamedValues}
 use Rattle.timing_box.specs.declared.fault.TimingFault.{TimingFault}
 use Rattle.timing_box.specs.declared.fault.TimingFault.TheVariants as timing_fault
-use Rattle.pilot_core.specs.Answer.{Answers, after_line, after_scripts, after_timings}
+use Rattle.pilot_core.specs.Answers.{Answers, refuses}
+use Rattle.pilot_core.specs.Commands.{asks}
 use Rattle.pilot_core.specs.Ends.{Works}
-use Rattle.pilot_core.specs.Sinks.{SinkView, Stays}
-use Rattle.pilot_core.specs.Stops.{script_stop, timing_stop}
+use Rattle.pilot_core.specs.Reading.{of_line, of_scripts, of_study, of_timings, work_of_one}
+use Rattle.pilot_core.specs.Sinks.{SinkView}
+use Rattle.pilot_core.specs.Stops.{line_stop, script_stop, timing_stop}
+use Rattle.pilot_core.specs.Study.{IsSaid, IsStudy, ReadsStudy}
+use Rattle.pilot_core.specs.declared.refusal.Refusal.{Refusal}
 use Rattle.pilot_core.specs.declared.stop.Status.{Status}
+use Rattle.pilot_core.specs.declared.stop.Stop.{Stop}
 use Rattle.pilot_core.specs.declared.stop.Stop.TheVariants as stop
+use Rattle.pilot_core.specs.declared.study.Study.{Study}
+use Rattle.pilot_core.specs.declared.words.OneFile.{OneFile}
+use Rattle.pilot_core.specs.declared.words.OneFile.TheVariants as one
 use Rattle.pilot_core.proofs.Fetching.{works_wider}
 use Rattle.pilot_core.proofs.Writing.{keeps_same}
 
-stays_same : (s : SinkView) → Stays s s
-stays_same s = (keeps_same s.written, refl)
+-- ---- what holds of what was read
 
--- want of memory before anything is written
-pub no_memory : (allowed : Answers) (s : SinkView) → Works allowed s s (Err stop.Memory)
-no_memory allowed s = (refl, inl (keeps_same s.written))
+-- a line that was read
+pub line_read : (said : Result LineValues LineFault) (l : Line) (refused : Refusal → Type 0)
+    (holds : Line → Type 0)
+    → said ≡ Ok (line_values l) → holds l → of_line said refused holds
+line_read said l refused holds is h = rw is (l, refl, h)
 
-module _ (said : Result LineValues LineFault) (next : Line → Answers) where
+-- a command over a line alone asks nothing
+pub asks_of_one : (work : OneFile) (l : Line) (calls : Calls) → asks (work_of_one work l) calls calls
+asks_of_one one.Net l calls = tt
+asks_of_one one.Line l calls = tt
+asks_of_one one.Migrate l calls = tt
+
+-- a line and scripts that were read
+pub study_read : (line_bytes scripts_bytes : List ℕ) (study : Study)
+    (refused : Refusal → Type 0) (holds : Line → List Script → Type 0)
+    → IsStudy study → IsSaid line_bytes scripts_bytes study
+    → holds study.line study.scripts.items → of_study line_bytes scripts_bytes refused holds
+study_read line_bytes scripts_bytes study refused holds is said h =
+    rw said.line_is (study.line, refl, rw said.scripts_are (study.scripts.items, refl, is.fit, h))
+
+-- timings that were read
+pub timings_read : (l : Line) (said : Result (List NamedValues) TimingFault)
+    (timings : List NamedValues) (refused : Refusal → Type 0)
+    (holds : List NamedValues → Type 0)
+    → said ≡ Ok timings → All (λ timing. IsTimingInside l timing.timing) timings
+    → holds timings → of_timings l said refused holds
+timings_read l said timings refused holds is inside h = rw is (inside, h)
+
+-- ---- refusals
+
+line_wider : (said : Result LineValues LineFault) (R S : Refusal → Type 0) (H P : Line → Type 0)
+    → ((why : Refusal) → R why → S why) → ((l : Line) → H l → P l)
+    → of_line said R H → of_line said S P
+line_wider (Ok values) R S H P refused holds h = (h.0, h.1, holds h.0 h.2)
+line_wider (Err e) R S H P refused holds h = refused _ h
+
+scripts_wider : (l : Line) (said : Result (List ScriptValues) ScriptFault)
+    (R S : Refusal → Type 0) (H P : List Script → Type 0)
+    → ((why : Refusal) → R why → S why) → ((scripts : List Script) → H scripts → P scripts)
+    → of_scripts l said R H → of_scripts l said S P
+scripts_wider l (Ok values) R S H P refused holds h = (h.0, h.1, h.2, holds h.0 h.3)
+scripts_wider l (Err e) R S H P refused holds h = refused _ h
+
+-- what the first refusal makes of a reading
+study_refused : (line_bytes scripts_bytes : List ℕ) (why : Refusal) (refused : Refusal → Type 0)
+    (holds : Line → List Script → Type 0)
+    → of_study line_bytes scripts_bytes (λ first. first ≡ why) (λ line scripts. ⊥)
+    → refused why → of_study line_bytes scripts_bytes refused holds
+study_refused line_bytes scripts_bytes why refused holds first r =
+    let here = λ (w : Refusal) (is : w ≡ why). subst refused (sym is) r in
+    line_wider (line_of line_bytes) (λ f. f ≡ why) refused
+    (λ l. of_scripts l (scripts_of l scripts_bytes) (λ f. f ≡ why) (λ scripts. ⊥))
+    (λ l. of_scripts l (scripts_of l scripts_bytes) refused (holds l))
+    here
+    (λ l h. scripts_wider l (scripts_of l scripts_bytes) (λ f. f ≡ why) refused
+    (λ scripts. ⊥) (holds l) here (λ scripts bad. absurd bad) h)
+    first
+
+-- a line file that is refused, before scripts
+pub line_refused : (line_bytes scripts_bytes : List ℕ) (e : LineFault)
+    → line_reading.Fails e (line_of line_bytes)
+    → ReadsStudy line_bytes scripts_bytes (Err (line_stop e))
+line_refused line_bytes scripts_bytes line_fault.NotToml f = rw f refl
+line_refused line_bytes scripts_bytes (line_fault.Unknown p) f = rw f refl
+line_refused line_bytes scripts_bytes (line_fault.Missing p) f = rw f refl
+line_refused line_bytes scripts_bytes (line_fault.WrongKind p) f = rw f refl
+line_refused line_bytes scripts_bytes (line_fault.Range p) f = rw f refl
+line_refused line_bytes scripts_bytes (line_fault.BadName p) f = rw f refl
+line_refused line_bytes scripts_bytes (line_fault.Twice p) f = rw f refl
+line_refused line_bytes scripts_bytes (line_fault.Channels a b) f = rw f refl
+line_refused line_bytes scripts_bytes line_fault.Memory f = tt
+
+-- a scripts file that is refused
+pub scripts_refused : (line_bytes scripts_bytes : List ℕ) (l : Line) (e : ScriptFault)
+    → line_of line_bytes ≡ Ok (line_values l)
+    → script_reading.Fails e (scripts_of l scripts_bytes)
+    → ReadsStudy line_bytes scripts_bytes (Err (script_stop e))
+scripts_refused lb sb l script_fault.Header is f = rw is (l, refl, rw f refl)
+scripts_refused lb sb l (script_fault.Fields n) is f = rw is (l, refl, rw f refl)
+scripts_refused lb sb l (script_fault.Item n) is f = rw is (l, refl, rw f refl)
+scripts_refused lb sb l (script_fault.BadPlace n) is f = rw is (l, refl, rw f refl)
+scripts_refused lb sb l (script_fault.Ticks n) is f = rw is (l, refl, rw f refl)
+scripts_refused lb sb l (script_fault.Order n) is f = rw is (l, refl, rw f refl)
+scripts_refused lb sb l (script_fault.BadName n) is f = rw is (l, refl, rw f refl)
+scripts_refused lb sb l script_fault.TooMany is f = rw is (l, refl, rw f refl)
+scripts_refused lb sb l script_fault.Empty is f = rw is (l, refl, rw f refl)
+scripts_refused lb sb l script_fault.Memory is f = tt
+
+module _ {K : Type 0} (view : K → SinkView) where
+  -- want of memory before anything is written
+  pub no_memory : (allowed : Answers) (s : K) → Works view allowed s s (Err stop.Memory)
+  no_memory allowed s = (refl, inl (keeps_same (view s).written))
+
+  -- a line file that is refused, by a command over it alone
+  pub line_stops : (said : Result LineValues LineFault) (next : Line → Answers) (s : K)
+      (e : LineFault) → line_reading.Fails e said
+      → Works view (λ t text message. of_line said (λ why. refuses why t text message)
+      (λ l. next l t text message)) s s (Err (line_stop e))
+  line_stops said next s line_fault.NotToml f = rw f ((refl, refl, refl), refl)
+  line_stops said next s (line_fault.Unknown p) f = rw f ((refl, refl, refl), refl)
+  line_stops said next s (line_fault.Missing p) f = rw f ((refl, refl, refl), refl)
+  line_stops said next s (line_fault.WrongKind p) f = rw f ((refl, refl, refl), refl)
+  line_stops said next s (line_fault.Range p) f = rw f ((refl, refl, refl), refl)
+  line_stops said next s (line_fault.BadName p) f = rw f ((refl, refl, refl), refl)
+  line_stops said next s (line_fault.Twice p) f = rw f ((refl, refl, refl), refl)
+  line_stops said next s (line_fault.Channels a b) f = rw f ((refl, refl, refl), refl)
+  line_stops said next s line_fault.Memory f = no_memory _ s
+
   -- a work over the line that was read
-  pub line_read : (l : Line) (old new : SinkView) (r : Result Status _)
-      → said ≡ Ok (line_values l) → Works (next l) old new r
-      → Works (after_line said next) old new r
-  line_read l old new r is w =
-      rw is (works_wider (next l) (after_line (Ok (line_values l)) next) old new r
-      (λ s text message a. (l, refl, a)) w)
+  pub works_of_line : (said : Result LineValues LineFault) (next : Line → Answers) (l : Line)
+      (old new : K) (r : Result Status Stop) → said ≡ Ok (line_values l)
+      → Works view (next l) old new r
+      → Works view (λ t text message. of_line said (λ why. refuses why t text message)
+      (λ l. next l t text message)) old new r
+  works_of_line said next l old new r is w =
+      works_wider view (next l) (λ t text message. of_line said
+      (λ why. refuses why t text message) (λ l. next l t text message)) old new r
+      (λ t text message a. line_read said l (λ why. refuses why t text message)
+      (λ l. next l t text message) is a) w
 
-module _ (l : Line) (said : Result (List ScriptValues) ScriptFault) (next : List Script → Answers)
-  where
-    pub scripts_refused : (s : SinkView) (e : ScriptFault) → script_reading.Fails e said
-        → Works (after_scripts l said next) s s (Err (script_stop e))
-    scripts_refused s script_fault.Header f = rw f ((refl, refl, refl), stays_same s)
-    scripts_refused s (script_fault.Fields n) f = rw f ((refl, refl, refl), stays_same s)
-    scripts_refused s (script_fault.Item n) f = rw f ((refl, refl, refl), stays_same s)
-    scripts_refused s (script_fault.BadPlace n) f = rw f ((refl, refl, refl), stays_same s)
-    scripts_refused s (script_fault.Ticks n) f = rw f ((refl, refl, refl), stays_same s)
-    scripts_refused s (script_fault.Order n) f = rw f ((refl, refl, refl), stays_same s)
-    scripts_refused s (script_fault.BadName n) f = rw f ((refl, refl, refl), stays_same s)
-    scripts_refused s script_fault.TooMany f = rw f ((refl, refl, refl), stays_same s)
-    scripts_refused s script_fault.Empty f = rw f ((refl, refl, refl), stays_same s)
-    scripts_refused s script_fault.Memory f = no_memory (after_scripts l said next) s
+  module _ (line_bytes scripts_bytes : List ℕ) (next : Line → List Script → Answers) where
+    -- the answers over a line file and a scripts file
+    abbrev over : Answers
+    over t text message = of_study line_bytes scripts_bytes (λ why. refuses why t text message)
+        (λ l scripts. next l scripts t text message)
 
-    -- a work over the scripts that were read
-    pub scripts_read : (scripts : List Script) (old new : SinkView) (r : Result Status _)
-        → said ≡ Ok (map values_of scripts) → All (Fits l) scripts → Works (next scripts) old new r
-        → Works (after_scripts l said next) old new r
-    scripts_read scripts old new r is fits w =
-        rw is (works_wider (next scripts) (after_scripts l (Ok (map values_of scripts)) next)
-        old new r (λ s text message a. (scripts, refl, fits, a)) w)
+    -- the line or the scripts are refused, or memory ran out
+    pub study_stops : (s : K) (why : Stop) → ReadsStudy line_bytes scripts_bytes (Err why)
+        → Works view over s s (Err why)
+    study_stops s stop.Usage read = absurd read
+    study_stops s (stop.Refused why) read = (
+      study_refused line_bytes scripts_bytes why _ _ read (refl, refl, refl),
+      refl,
+    )
+    study_stops s (stop.Store file) read = absurd read
+    study_stops s stop.Sink read = absurd read
+    study_stops s stop.Memory read = no_memory over s
 
-module _ (l : Line) (said : Result (List NamedValues) TimingFault)
-    (next : List NamedValues → Answers) where
-  pub timings_refused : (s : SinkView) (e : TimingFault) → timing_reading.Fails e said
-      → Works (after_timings l said next) s s (Err (timing_stop e))
-  timings_refused s timing_fault.Header f = rw f ((refl, refl, refl), stays_same s)
-  timings_refused s (timing_fault.Fields n) f = rw f ((refl, refl, refl), stays_same s)
-  timings_refused s (timing_fault.Parameter n) f = rw f ((refl, refl, refl), stays_same s)
-  timings_refused s (timing_fault.Value n) f = rw f ((refl, refl, refl), stays_same s)
-  timings_refused s (timing_fault.Twice n) f = rw f ((refl, refl, refl), stays_same s)
-  timings_refused s (timing_fault.Order n) f = rw f ((refl, refl, refl), stays_same s)
-  timings_refused s timing_fault.TooMany f = rw f ((refl, refl, refl), stays_same s)
-  timings_refused s timing_fault.Empty f = rw f ((refl, refl, refl), stays_same s)
-  timings_refused s (timing_fault.BadName n) f = rw f ((refl, refl, refl), stays_same s)
-  timings_refused s timing_fault.Memory f = no_memory (after_timings l said next) s
+    -- a work over the line and the scripts that were read
+    pub works_of_study : (study : Study) (old new : K) (r : Result Status Stop) → IsStudy study
+        → IsSaid line_bytes scripts_bytes study
+        → Works view (next study.line study.scripts.items) old new r
+        → Works view over old new r
+    works_of_study study old new r is said w =
+        works_wider view (next study.line study.scripts.items) over old new r
+        (λ t text message a. study_read line_bytes scripts_bytes study
+        (λ why. refuses why t text message) (λ l scripts. next l scripts t text message)
+        is said a) w
+
+  -- a timings file that is refused
+  pub timings_stop : (l : Line) (said : Result (List NamedValues) TimingFault)
+      (next : List NamedValues → Answers) (s : K) (e : TimingFault) → timing_reading.Fails e said
+      → Works view (λ t text message. of_timings l said (λ why. refuses why t text message)
+      (λ timings. next timings t text message)) s s (Err (timing_stop e))
+  timings_stop l said next s timing_fault.Header f = rw f ((refl, refl, refl), refl)
+  timings_stop l said next s (timing_fault.Fields n) f = rw f ((refl, refl, refl), refl)
+  timings_stop l said next s (timing_fault.Parameter n) f = rw f ((refl, refl, refl), refl)
+  timings_stop l said next s (timing_fault.Value n) f = rw f ((refl, refl, refl), refl)
+  timings_stop l said next s (timing_fault.Twice n) f = rw f ((refl, refl, refl), refl)
+  timings_stop l said next s (timing_fault.Order n) f = rw f ((refl, refl, refl), refl)
+  timings_stop l said next s timing_fault.TooMany f = rw f ((refl, refl, refl), refl)
+  timings_stop l said next s timing_fault.Empty f = rw f ((refl, refl, refl), refl)
+  timings_stop l said next s (timing_fault.BadName n) f = rw f ((refl, refl, refl), refl)
+  timings_stop l said next s timing_fault.Memory f = no_memory _ s
 
   -- a work over the timings that were read
-  pub timings_read : (timings : List NamedValues) (old new : SinkView) (r : Result Status _)
-      → said ≡ Ok timings → All (λ timing. IsTimingInside l timing.timing) timings
-      → Works (next timings) old new r → Works (after_timings l said next) old new r
-  timings_read timings old new r is inside w =
-      rw is (works_wider (next timings) (after_timings l (Ok timings) next)
-      old new r (λ s text message a. (inside, a)) w)
+  pub works_of_timings : (l : Line) (said : Result (List NamedValues) TimingFault)
+      (next : List NamedValues → Answers) (timings : List NamedValues) (old new : K)
+      (r : Result Status Stop) → said ≡ Ok timings
+      → All (λ timing. IsTimingInside l timing.timing) timings
+      → Works view (next timings) old new r
+      → Works view (λ t text message. of_timings l said (λ why. refuses why t text message)
+      (λ timings. next timings t text message)) old new r
+  works_of_timings l said next timings old new r is inside w =
+      works_wider view (next timings) (λ t text message. of_timings l said
+      (λ why. refuses why t text message) (λ timings. next timings t text message)) old new r
+      (λ t text message a. timings_read l said timings (λ why. refuses why t text message)
+      (λ all. next all t text message) is inside a) w

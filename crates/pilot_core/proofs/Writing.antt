@@ -1,5 +1,6 @@
 -- Writers one after another: a writer that stops names the whole text.
 use Rattle.std.proofs.Common.{
+  ◌≡◌,
   ℕ,
   ◌+◌,
   List,
@@ -8,6 +9,7 @@ use Rattle.std.proofs.Common.{
   Option,
   None,
   Some,
+  IfOk,
   Result,
   Ok,
   Err,
@@ -25,8 +27,10 @@ use Rattle.std.proofs.lemmas.List.{append-nil, take-append-le}
 use Rattle.std.specs.Io.KnownBytes.{Appends, Keeps}
 use Rattle.relay_base.specs.Sink.{GrewByPart}
 use Rattle.relay_base.specs.SinkLaws.{appends_both, proper_later, proper_more, take_past}
+use Rattle.pilot_core.specs.Answers.{Answers, Says}
 use Rattle.pilot_core.specs.Ends.{Works}
 use Rattle.pilot_core.specs.Sinks.{SinkView, GrewByAll, WriteStops, Writes}
+use Rattle.pilot_core.specs.declared.said.Said.{Said}
 use Rattle.pilot_core.specs.declared.stop.Status.{Status}
 use Rattle.pilot_core.specs.declared.stop.Stop.{Stop}
 use Rattle.pilot_core.specs.declared.stop.Stop.TheVariants as stop
@@ -102,14 +106,23 @@ pub writes_then : {X : Type 0} (old mid new : SinkView) (a b : List ℕ) (r : Re
 writes_then old mid new a b (Ok x) g w = grew_both g w
 writes_then old mid new a b (Err e) g w = stops_then g w
 
--- a writer of an allowed text that stops
-pub works_of_stop : (allowed : Status → List ℕ → List ℕ → Type 0) (old new : SinkView) (s : Status)
-    (text line : List ℕ) (why : Stop)
-    → allowed s text line → WriteStops old new text why → Works allowed old new (Err why)
-works_of_stop allowed old new s text line stop.Usage may w = w.cause
-works_of_stop allowed old new s text line (stop.Refused why) may w = absurd w.cause
-works_of_stop allowed old new s text line (stop.Store file) may w = w.cause
-works_of_stop allowed old new s text line stop.Sink may w =
-    let p = w.sink refl in (p.0, s, text, line, may, p.1)
-works_of_stop allowed old new s text line stop.Memory may w =
-    let p = w.memory refl in (p.0, inr (s, text, line, may, p.1))
+module _ {K : Type 0} (view : K → SinkView) (allowed : Answers) (old new : K) where
+  -- a writer of an allowed text that stops
+  pub works_of_stop : (s : Status) (text line : List ℕ) (why : Stop)
+      → allowed s text line → WriteStops (view old) (view new) text why
+      → Works view allowed old new (Err why)
+  works_of_stop s text line stop.Usage may w = w.cause
+  works_of_stop s text line (stop.Refused why) may w = absurd w.cause
+  works_of_stop s text line (stop.Store file) may w = w.cause
+  works_of_stop s text line stop.Sink may w =
+      let p = w.sink refl in (p.0, s, text, line, may, p.1)
+  works_of_stop s text line stop.Memory may w =
+      let p = w.memory refl in (p.0, inr (s, text, line, may, p.1))
+
+  -- what is said and then put
+  pub works_of_said : (said : Said) (r : Result Status Stop) → Says allowed said
+      → IfOk r (λ s. s ≡ said.status) → Writes (view old) (view new) said.text.items r
+      → Works view allowed old new r
+  works_of_said said (Ok s) says is w = rw is (says.0, said.text.items, says.1, w)
+  works_of_said said (Err why) says is w =
+      works_of_stop said.status said.text.items [] why says.1 w

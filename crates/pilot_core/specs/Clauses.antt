@@ -3,90 +3,111 @@ use Rattle.std.specs.Prelude.{◌≡◌, ◌⊎◌, ◌<◌, ℕ, List, [], Opti
 use Rattle.std.specs.Io.KnownBytes.{Appends, Keeps}
 use Rattle.relay_base.specs.Counts.{Rose}
 use Rattle.relay_base.specs.Sink.{GrewByProper, GrewByPart}
-use Rattle.pilot_core.specs.Answer.{Told, answers}
+use Rattle.engine.specs.Calls.{Calls}
+use Rattle.pilot_core.specs.Call.{Asked, Told, answers}
 use Rattle.pilot_core.specs.Files.{StoreCause, NoneRose}
 use Rattle.pilot_core.specs.Messages.{message_of}
 use Rattle.pilot_core.specs.Sinks.{SinkView, GrewByAll}
-use Rattle.pilot_core.specs.Status.{IsAnswer, IsEarly}
-use Rattle.pilot_core.specs.Words.{Command, asked_of}
+use Rattle.pilot_core.specs.Status.{IsAnswer, IsDone}
+use Rattle.pilot_core.specs.Words.{Command, files_named}
 use Rattle.pilot_core.specs.declared.refusal.Refusal.{Refusal}
 use Rattle.pilot_core.specs.declared.stop.File.{File}
 use Rattle.pilot_core.specs.declared.stop.Status.{Status}
 use Rattle.pilot_core.specs.declared.stop.Status.TheVariants as status
 use Rattle.pilot_core.specs.declared.stop.Stop.TheVariants as stop
 
--- status 0 to 5: the answer holds with that status, and out grew by exactly its text
-abbrev pub Answered : Option Command → (List ℕ → Option (List ℕ)) → SinkView → SinkView → Status
-    → Type 0
-Answered command files old new s = IsAnswer s → Told command files
-    → (text : List ℕ) × (line : List ℕ) × answers command files s text line
-    × Appends old.written new.written text
+-- what a clause sees of a call: the command that its words are, the bytes that the store tells under
+-- each name, and before and after the call the store's count of faults of each name, what the engine
+-- was asked, and the two sinks
+pub record Call : Type 0 where
+  pub command : Option Command
+  pub files : List ℕ → Option (List ℕ)
+  pub faults_old : List ℕ → ℕ
+  pub faults_new : List ℕ → ℕ
+  pub asked_old : Calls
+  pub asked_new : Calls
+  pub out_old : SinkView
+  pub out_new : SinkView
+  pub err_old : SinkView
+  pub err_new : SinkView
 
--- status 4 to 6: nothing was written to out
-abbrev pub Unwritten : SinkView → SinkView → Status → Type 0
-Unwritten old new s = IsEarly s → Keeps old.written new.written
+-- the store tells each file of the command
+abbrev pub IsTold : Call → Type 0
+IsTold call = Told call.command call.files
 
--- status 6: the count of the name of a file of the command rose, and no told file before it in word
--- order is longer than its limit
-abbrev pub StoreFailed : Option Command → (List ℕ → Option (List ℕ)) → (List ℕ → ℕ) → (List ℕ → ℕ)
-    → Status → Type 0
-StoreFailed command files counts_old counts_new s = s ≡ status.StoreFault
-    → (file : File) × StoreCause files counts_old counts_new (asked_of command) file
+-- this may be answered
+abbrev pub MayAnswer : Call → Status → List ℕ → List ℕ → Type 0
+MayAnswer call = answers call.command call.files
 
--- where a count of the store rose, the status is 6
-abbrev pub StoreTold : (List ℕ → ℕ) → (List ℕ → ℕ) → Status → Type 0
-StoreTold counts_old counts_new s =
-    (name : List ℕ) → counts_old name < counts_new name → s ≡ status.StoreFault
+-- out grew by exactly a text that is the answer with this status
+pub record OutIsAnswer (call : Call) (s : Status) : Type 0 where
+  pub text : List ℕ
+  pub line : List ℕ
+  pub is : MayAnswer call s text line
+  pub out : Appends call.out_old.written call.out_new.written text
 
--- status 7: the count of out rose, and out grew by a proper front of a text that is allowed
-abbrev pub SinkFailed : Option Command → (List ℕ → Option (List ℕ)) → SinkView → SinkView → Status
-    → Type 0
-SinkFailed command files old new s = s ≡ status.SinkFault
-    → Rose old.faults new.faults
-    × (Told command files
-    → (t : Status) × (text : List ℕ) × (line : List ℕ) × answers command files t text line
-    × GrewByProper old.written new.written text)
+-- out grew by a proper front of a text that may be answered
+pub record OutIsProperFront (call : Call) : Type 0 where
+  pub status : Status
+  pub text : List ℕ
+  pub line : List ℕ
+  pub is : MayAnswer call status text line
+  pub out : GrewByProper call.out_old.written call.out_new.written text
 
--- where the count of out rose, the status is 7
-abbrev pub SinkTold : SinkView → SinkView → Status → Type 0
-SinkTold old new s = old.faults < new.faults → s ≡ status.SinkFault
+-- out grew by a front of a text that may be answered
+pub record OutIsFront (call : Call) : Type 0 where
+  pub status : Status
+  pub text : List ℕ
+  pub line : List ℕ
+  pub is : MayAnswer call status text line
+  pub out : GrewByPart call.out_old.written call.out_new.written text
 
--- status 8: out is unchanged, or grew by a front of a text that is allowed
-abbrev pub MemoryFailed : Option Command → (List ℕ → Option (List ℕ)) → SinkView → SinkView
-    → Status → Type 0
-MemoryFailed command files old new s = s ≡ status.Memory → Told command files
-    → Keeps old.written new.written
-    ⊎ ((t : Status) × (text : List ℕ) × (line : List ℕ) × answers command files t text line
-    × GrewByPart old.written new.written text)
+-- a file of the command is the cause of a store fault: the count of its name rose, and no told file
+-- before it in word order is longer than its limit
+abbrev pub IsStoreCause : Call → File → Type 0
+IsStoreCause call =
+    StoreCause call.files call.faults_old call.faults_new (files_named call.command)
 
--- where the store tells every file, and neither the count of one of their names nor that of out
--- rose, the call ends with the answer's status and its whole text, or memory ran out
-abbrev pub Complete : Option Command → (List ℕ → Option (List ℕ)) → (List ℕ → ℕ) → (List ℕ → ℕ)
-    → SinkView → SinkView → Status → Type 0
-Complete command files counts_old counts_new old new s = Told command files
-    → NoneRose counts_old counts_new (asked_of command) → (Rose old.faults new.faults → ⊥)
-    → (s ≡ status.Memory)
-    ⊎ ((text : List ℕ) × (line : List ℕ) × answers command files s text line
-    × Appends old.written new.written text)
-
--- the line to err
-abbrev pub IsLine : Option Command → (List ℕ → Option (List ℕ)) → (List ℕ → ℕ) → (List ℕ → ℕ)
-    → Status → List ℕ → Type 0
-IsLine command files counts_old counts_new status.Usage line = line ≡ message_of stop.Usage
-IsLine command files counts_old counts_new status.BadInput line =
+-- the line to err: none for status 0 to 3, and that of the status for 4 to 8
+abbrev pub IsLine : Call → Status → List ℕ → Type 0
+IsLine call status.Usage line = line ≡ message_of stop.Usage
+IsLine call status.BadInput line =
     ((why : Refusal) × (line ≡ message_of (stop.Refused why)))
-    × (Told command files → answers command files status.BadInput [] line)
-IsLine command files counts_old counts_new status.StoreFault line =
-    (file : File) × (line ≡ message_of (stop.Store file))
-    × StoreCause files counts_old counts_new (asked_of command) file
-IsLine command files counts_old counts_new status.SinkFault line = line ≡ message_of stop.Sink
-IsLine command files counts_old counts_new status.Memory line = line ≡ message_of stop.Memory
-IsLine command files counts_old counts_new s line = line ≡ []
+    × (IsTold call → MayAnswer call status.BadInput [] line)
+IsLine call status.StoreFault line =
+    (file : File) × (line ≡ message_of (stop.Store file)) × IsStoreCause call file
+IsLine call status.SinkFault line = line ≡ message_of stop.Sink
+IsLine call status.Memory line = line ≡ message_of stop.Memory
+IsLine call s line = line ≡ []
 
--- err grew by exactly its line, or its count rose and it grew by a front of the line
-abbrev pub Reported : Option Command → (List ℕ → Option (List ℕ)) → (List ℕ → ℕ) → (List ℕ → ℕ)
-    → SinkView → SinkView → Status → Type 0
-Reported command files counts_old counts_new old new s = (line : List ℕ)
-    × IsLine command files counts_old counts_new s line
-    × (GrewByAll old new line
-    ⊎ (Rose old.faults new.faults × GrewByPart old.written new.written line))
+-- what is promised of a call that ends with status s
+pub record Clauses (call : Call) (s : Status) : Type 0 where
+  -- Status 0 to 5: the answer holds with that status, and out grew by exactly its text.
+  pub answered : IsAnswer s → IsTold call → OutIsAnswer call s
+  -- Status 0 to 3: the engine was asked for the command's work.
+  pub asked : IsDone s → Asked call.command call.files call.asked_old call.asked_new
+  -- Status 6 comes only where the count of a file of the command rose, and always where a count of
+  -- the store is greater than before.
+  pub store_failed : s ≡ status.StoreFault → (file : File) × IsStoreCause call file
+  pub store_told : (name : List ℕ) → call.faults_old name < call.faults_new name
+      → s ≡ status.StoreFault
+  -- Status 7 comes only where the count of out rose, with a proper front of a text that may be
+  -- answered on out, and always where the count is greater than before.
+  pub sink_failed : s ≡ status.SinkFault
+      → Rose call.out_old.faults call.out_new.faults × (IsTold call → OutIsProperFront call)
+  pub sink_told : call.out_old.faults < call.out_new.faults → s ≡ status.SinkFault
+  -- Status 8: out is as it was, or grew by a front of a text that may be answered.
+  pub memory : s ≡ status.Memory → IsTold call
+      → Keeps call.out_old.written call.out_new.written ⊎ OutIsFront call
+  -- Where the store tells every file, and neither the count of one of their names nor that of out
+  -- rose, the call ends with the answer's status and its whole text, or memory ran out.
+  pub complete : IsTold call
+      → NoneRose call.faults_old call.faults_new (files_named call.command)
+      → (Rose call.out_old.faults call.out_new.faults → ⊥)
+      → (s ≡ status.Memory) ⊎ OutIsAnswer call s
+  -- err grew by exactly its line, or its count rose and it grew by a front of the line.
+  pub line : List ℕ
+  pub is_line : IsLine call s line
+  pub reported : GrewByAll call.err_old call.err_new line
+      ⊎ (Rose call.err_old.faults call.err_new.faults
+      × GrewByPart call.err_old.written call.err_new.written line)

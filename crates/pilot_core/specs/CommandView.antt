@@ -4,10 +4,8 @@ use Rattle.pilot_core.specs.declared.words.Command.{Command}
 use Rattle.pilot_core.specs.declared.words.Command.TheVariants as command
 
 abbrev pub command_view : Command → words.Command
-command_view (command.Play names) =
-    words.play names.line.now names.scripts.now names.timings.now
-command_view (command.Certify names) = words.certify names.line.now names.scripts.now
-command_view (command.Report names) = words.report names.line.now names.scripts.now
-command_view (command.Net name) = words.net name.now
-command_view (command.Line name) = words.line name.now
-command_view (command.Migrate name) = words.migrate name.now
+command_view (command.Bench size) = words.bench size.scripts
+command_view (command.OneFile work line) = words.one_file work line.now
+command_view (command.TwoFiles work line scripts) = words.two_files work line.now scripts.now
+command_view (command.ThreeFiles work line scripts third) =
+    words.three_files work line.now scripts.now third.now

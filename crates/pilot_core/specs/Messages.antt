@@ -14,6 +14,7 @@ abbrev pub file_word : File → List ℕ
 file_word file.Line = codes "line"
 file_word file.Scripts = codes "scripts"
 file_word file.Timings = codes "timings"
+file_word file.Cert = codes "cert"
 
 -- what is told behind a fault's name, with the space before it
 abbrev pub detail_pieces : Detail → List (List ℕ)

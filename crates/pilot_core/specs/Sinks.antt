@@ -1,6 +1,6 @@
 -- What a sink took of a text.
 use Rattle.std.specs.Prelude.{◌≡◌, ⊤, MatchResult, ℕ, List, Option, Result, Ok, Err}
-use Rattle.std.specs.Io.KnownBytes.{Appends, Keeps}
+use Rattle.std.specs.Io.KnownBytes.{Appends}
 use Rattle.relay_base.specs.Counts.{Rose}
 use Rattle.relay_base.specs.Sink.{GrewByProper, GrewByPart}
 use Rattle.pilot_core.specs.declared.stop.Stop.{Stop}
@@ -19,10 +19,6 @@ sink_view written faults k = record { written = written k; faults = faults k }
 pub record GrewByAll (old new : SinkView) (text : List ℕ) : Type 0 where
   pub taken : Appends old.written new.written text
   pub same : new.faults ≡ old.faults
-
--- the sink is as it was
-abbrev pub Stays : SinkView → SinkView → Type 0
-Stays old new = Keeps old.written new.written × (new.faults ≡ old.faults)
 
 -- a put of a text: all of it, or a proper front and a counted fault
 abbrev pub Puts : {X Y : Type 0} → SinkView → SinkView → List ℕ → Result X Y → Type 0

@@ -1,75 +1,98 @@
 -- The words that are a command, and the files that it reads.
-use Rattle.std.specs.Prelude.{◌∷◌, ℕ, List, [], Option, None, Some, codes, if◌then◌else◌}
+use Rattle.std.specs.Prelude.{
+  ◌∷◌,
+  ◌&&◌,
+  ℕ,
+  List,
+  [],
+  Option,
+  None,
+  Some,
+  codes,
+  nat_le,
+  option_map,
+  if◌then◌else◌,
+}
 use Rattle.std.specs.Str.{bytes_eq}
+use Rattle.relay_base.specs.Number.{number_of}
+use Rattle.pilot_core.specs.Files.{NamedFile}
 use Rattle.pilot_core.specs.declared.stop.File.{File}
 use Rattle.pilot_core.specs.declared.stop.File.TheVariants as file
+use Rattle.pilot_core.specs.declared.words.OneFile.{OneFile}
+use Rattle.pilot_core.specs.declared.words.OneFile.TheVariants as one
+use Rattle.pilot_core.specs.declared.words.TwoFiles.{TwoFiles}
+use Rattle.pilot_core.specs.declared.words.TwoFiles.TheVariants as two
+use Rattle.pilot_core.specs.declared.words.ThreeFiles.{ThreeFiles}
+use Rattle.pilot_core.specs.declared.words.ThreeFiles.TheVariants as three
 
+-- a command, by the files that it reads, with their names
 pub data Command : Type 0 where
-  -- the names of a line file, a scripts file and a timings file
-  play : List ℕ → List ℕ → List ℕ → Command
-  -- the names of a line file and a scripts file
-  certify : List ℕ → List ℕ → Command
-  report : List ℕ → List ℕ → Command
-  -- the name of a line file
-  net : List ℕ → Command
-  line : List ℕ → Command
-  migrate : List ℕ → Command
+  -- a line file
+  one_file : OneFile → List ℕ → Command
+  -- a line file and a scripts file
+  two_files : TwoFiles → List ℕ → List ℕ → Command
+  -- a line file, a scripts file, and a file of the command's own
+  three_files : ThreeFiles → List ℕ → List ℕ → List ℕ → Command
+  -- no file, and a number of scripts
+  bench : ℕ → Command
 
--- the command of a word and one name
-abbrev pub command_of_one : List ℕ → List ℕ → Option Command
-command_of_one word name =
-    if bytes_eq word (codes "net") then Some (net name)
-    else if bytes_eq word (codes "line") then Some (line name)
-    else if bytes_eq word (codes "migrate") then Some (migrate name)
+-- a number from 1 to 64
+abbrev pub bench_size : Option ℕ → Option ℕ
+bench_size None = None
+bench_size (Some n) = if nat_le 1 n && nat_le n 64 then Some n else None
+
+-- the command of two words
+abbrev pub command_of_two : List ℕ → List ℕ → Option Command
+command_of_two word name =
+    if bytes_eq word (codes "net") then Some (one_file one.Net name)
+    else if bytes_eq word (codes "line") then Some (one_file one.Line name)
+    else if bytes_eq word (codes "migrate") then Some (one_file one.Migrate name)
+    else if bytes_eq word (codes "bench") then option_map bench (bench_size (number_of name))
     else None
 
--- the command of a word and two names
-abbrev pub command_of_two : List ℕ → List ℕ → List ℕ → Option Command
-command_of_two word first second =
-    if bytes_eq word (codes "certify") then Some (certify first second)
-    else if bytes_eq word (codes "report") then Some (report first second)
+-- the command of three words
+abbrev pub command_of_three : List ℕ → List ℕ → List ℕ → Option Command
+command_of_three word first second =
+    if bytes_eq word (codes "certify") then Some (two_files two.Certify first second)
+    else if bytes_eq word (codes "report") then Some (two_files two.Report first second)
     else None
 
--- the command of a word and three names
-abbrev pub command_of_three : List ℕ → List ℕ → List ℕ → List ℕ → Option Command
-command_of_three word first second third =
-    if bytes_eq word (codes "play") then Some (play first second third) else None
+-- the command of four words
+abbrev pub command_of_four : List ℕ → List ℕ → List ℕ → List ℕ → Option Command
+command_of_four word first second third =
+    if bytes_eq word (codes "play") then Some (three_files three.Play first second third)
+    else if bytes_eq word (codes "check") then Some (three_files three.Check first second third)
+    else None
 
 -- the command that these words are
 abbrev pub command_of : List (List ℕ) → Option Command
 command_of [] = None
 command_of (word ∷ []) = None
-command_of (word ∷ name ∷ []) = command_of_one word name
-command_of (word ∷ first ∷ second ∷ []) = command_of_two word first second
-command_of (word ∷ first ∷ second ∷ third ∷ []) = command_of_three word first second third
+command_of (word ∷ first ∷ []) = command_of_two word first
+command_of (word ∷ first ∷ second ∷ []) = command_of_three word first second
+command_of (word ∷ first ∷ second ∷ third ∷ []) = command_of_four word first second third
 command_of (word ∷ first ∷ second ∷ third ∷ more ∷ rest) = None
 
--- a file that a command reads: which one it is, its name, and how many bytes it may have
-pub record Asked : Type 0 where
-  pub file : File
-  pub name : List ℕ
-  pub limit : ℕ
+-- ---- the files
 
-abbrev pub line_file : List ℕ → Asked
-line_file name = record { file = file.Line; name = name; limit = 1048576 }
+-- the file of a command's own
+abbrev pub own_file : ThreeFiles → File
+own_file three.Play = file.Timings
+own_file three.Check = file.Cert
 
-abbrev pub scripts_file : List ℕ → Asked
-scripts_file name = record { file = file.Scripts; name = name; limit = 1048576 }
-
-abbrev pub timings_file : List ℕ → Asked
-timings_file name = record { file = file.Timings; name = name; limit = 4194304 }
+abbrev pub named : File → List ℕ → NamedFile
+named f name = record { file = f; name = name }
 
 -- the files of a command in word order
-abbrev pub asked_by : Command → List Asked
-asked_by (play lines scripts timings) =
-    line_file lines ∷ scripts_file scripts ∷ timings_file timings ∷ []
-asked_by (certify lines scripts) = line_file lines ∷ scripts_file scripts ∷ []
-asked_by (report lines scripts) = line_file lines ∷ scripts_file scripts ∷ []
-asked_by (net name) = line_file name ∷ []
-asked_by (line name) = line_file name ∷ []
-asked_by (migrate name) = line_file name ∷ []
+abbrev pub files_of : Command → List NamedFile
+files_of (bench n) = []
+files_of (one_file command line) = named file.Line line ∷ []
+files_of (two_files command line scripts) =
+    named file.Line line ∷ named file.Scripts scripts ∷ []
+files_of (three_files command line scripts third) =
+    named file.Line line ∷ named file.Scripts scripts ∷ named (own_file command) third ∷ []
 
 -- the files of the command that the words are, if they are one
-abbrev pub asked_of : Option Command → List Asked
-asked_of None = []
-asked_of (Some command) = asked_by command
+abbrev pub files_named : Option Command → List NamedFile
+files_named None = []
+files_named (Some command) = files_of command

@@ -2,6 +2,7 @@
 //! another.
 #![tactic(auto)]
 
+mod bench_size;
 mod commands;
 mod files;
 mod laws;
@@ -9,11 +10,14 @@ mod messages;
 mod put;
 mod refusal;
 mod run;
+mod said;
 mod stop;
+mod study;
+mod text;
 mod top;
 mod words;
 
-pub use laws::each_play_has_one_text;
+pub use laws::{each_certificate_has_one_text, each_play_has_one_text};
 pub use stop::Status;
 pub use top::pilot;
 

@@ -27,6 +27,7 @@ fn word_of_file(file: File) -> &'static [u8]
         File::Line => b"line",
         File::Scripts => b"scripts",
         File::Timings => b"timings",
+        File::Cert => b"cert",
     }
 }
 

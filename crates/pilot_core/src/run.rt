@@ -1,127 +1,153 @@
 //! The command that the words are, over a store.
-ghost use Rattle.std.specs.Prelude.{◌≡◌, None, map, string_bytes};
-ghost use Rattle.pilot_core.specs.Answer.{after_files};
-ghost use Rattle.pilot_core.specs.Ends.{Ends, EndsOf};
-ghost use Rattle.pilot_core.specs.Sinks.{sink_view};
+ghost use Rattle.std.specs.Prelude.{◌≡◌, OnOk, map, string_bytes};
+ghost use Rattle.engine.specs.Calls.{Calls};
+ghost use Rattle.pilot_core.specs.Call.{Asked};
 ghost use Rattle.pilot_core.specs.CommandView.{command_view};
-ghost use Rattle.pilot_core.specs.Words.{asked_by, command_of};
-ghost use Rattle.pilot_core.specs.declared.words.Command.TheVariants as command;
+ghost use Rattle.pilot_core.specs.Ends.{EndsOf};
+ghost use Rattle.pilot_core.specs.Sinks.{sink_view};
+ghost use Rattle.pilot_core.specs.Words.{command_of, own_file as file_of_work};
+ghost use Rattle.pilot_core.specs.Words.{one_file as one_file_command};
+ghost use Rattle.pilot_core.specs.Words.{three_files as three_files_command};
+ghost use Rattle.pilot_core.specs.Words.{two_files as two_files_command};
 
-use crate::commands::certify::certify_files;
-use crate::commands::net::net_of_file;
-use crate::commands::play::play_files;
-use crate::commands::print::{migrate_file, print_file};
-use crate::commands::report::report_files;
-use crate::files::{fetch_line, fetch_scripts, fetch_timings};
-use crate::stop::{Status, Stop};
-use crate::words::{Command, LineAndScripts, Play, command_of_words};
+use crate::commands::{no_file, one_file, three_files, two_files};
+use crate::files::fetch_file;
+use crate::stop::{File, Status, Stop};
+use crate::words::{Command, OneFile, ThreeFiles, TwoFiles, command_of_words};
+use engine::Engine;
 use relay_base::{Sink, Store};
 use std::alloc::Global;
 
 /// All of the call but the line to err.
-pub fn answer<S: Store, O: Sink>(
+pub fn answer<G: Engine, S: Store, O: Sink>(
     alloc: Global,
     words: &[String],
+    engine: &mut G,
     store: &mut S,
     out: &mut O,
 ) -> Result<Status, Stop>
-    ensures ends { EndsOf (command_of (map string_bytes words.now)) (S.held store.old)
-        (S.faults store.old) (S.faults store.new)
-        (sink_view O.written O.faults out.old) (sink_view O.written O.faults out.new) result }
+    ensures ends { EndsOf (sink_view O.written O.faults) (command_of (map string_bytes words.now))
+        (S.held store.old) (S.faults store.old) (S.faults store.new) out.old out.new result }
+    ensures asked { OnOk result (Asked (command_of (map string_bytes words.now))
+        (S.held store.old) (G.calls engine.old) (G.calls engine.new)) }
     ensures untouched { command_of (map string_bytes words.now) ≡ None → store.new ≡ store.old }
 {
     match command_of_words(words) {
         None => Err(Stop::Usage),
-        Some(command) => run(alloc, command, store, out),
+        Some(command) => run(alloc, command, engine, store, out),
     }
 }
 
 // Fetches the files of the command in the order of its words, and does its work.
-fn run<S: Store, O: Sink>(
+fn run<G: Engine, S: Store, O: Sink>(
     alloc: Global,
     command: Command<'_>,
+    engine: &mut G,
     store: &mut S,
     out: &mut O,
 ) -> Result<Status, Stop>
-    ensures { Ends (after_files (command_view command.entry)) (S.held store.old)
-        (asked_by (command_view command.entry)) (S.faults store.old) (S.faults store.new)
-        (sink_view O.written O.faults out.old) (sink_view O.written O.faults out.new) result }
+    ensures asked { OnOk result (Asked (Some (command_view command.entry)) (S.held store.old)
+        (G.calls engine.old) (G.calls engine.new)) }
+    ensures ends { EndsOf (sink_view O.written O.faults) (Some (command_view command.entry))
+        (S.held store.old) (S.faults store.old) (S.faults store.new) out.old out.new result }
 {
     match command {
-        Command::Play(names) => play(alloc, names, store, out),
-        Command::Certify(names) => certify(alloc, names, store, out),
-        Command::Report(names) => report(alloc, names, store, out),
-        Command::Net(name) => {
-            let line = fetch_line(alloc, store, name)?;
-            net_of_file(alloc, line.as_slice(), out)
-        }
-        Command::Line(name) => {
-            let line = fetch_line(alloc, store, name)?;
-            print_file(alloc, line.as_slice(), out)
-        }
-        Command::Migrate(name) => {
-            let line = fetch_line(alloc, store, name)?;
-            migrate_file(alloc, line.as_slice(), out)
-        }
+        Command::Bench(size) => no_file(alloc, size, engine, out),
+        Command::OneFile { work, line } => run_one(alloc, work, line, store, out),
+        Command::TwoFiles {
+            work,
+            line,
+            scripts,
+        } => run_two(alloc, work, line, scripts, engine, store, out),
+        Command::ThreeFiles {
+            work,
+            line,
+            scripts,
+            third,
+        } => run_three(alloc, work, line, scripts, third, engine, store, out),
     }
 }
 
-// `play` over the files of these names.
-fn play<S: Store, O: Sink>(
+fn run_one<S: Store, O: Sink>(
     alloc: Global,
-    names: Play<'_>,
+    work: OneFile,
+    line: &str,
     store: &mut S,
     out: &mut O,
 ) -> Result<Status, Stop>
-    ensures { Ends (after_files (command_view (command.Play names.entry))) (S.held store.old)
-        (asked_by (command_view (command.Play names.entry)))
-        (S.faults store.old) (S.faults store.new)
-        (sink_view O.written O.faults out.old) (sink_view O.written O.faults out.new) result }
+    ensures asked { OnOk result ((calls : Calls) →
+        Asked (Some (one_file_command work line.now)) (S.held store.old) calls calls) }
+    ensures ends { EndsOf (sink_view O.written O.faults) (Some (one_file_command work line.now))
+        (S.held store.old) (S.faults store.old) (S.faults store.new) out.old out.new result }
 {
-    let line = fetch_line(alloc, store, names.line)?;
-    let scripts = fetch_scripts(alloc, store, names.scripts)?;
-    let timings = fetch_timings(alloc, store, names.timings)?;
-    play_files(
+    let line = fetch_file(alloc, store, File::Line, line)?;
+    one_file(alloc, work, line.as_slice(), out)
+}
+
+fn run_two<G: Engine, S: Store, O: Sink>(
+    alloc: Global,
+    work: TwoFiles,
+    line: &str,
+    scripts: &str,
+    engine: &mut G,
+    store: &mut S,
+    out: &mut O,
+) -> Result<Status, Stop>
+    ensures asked { OnOk result (Asked (Some (two_files_command work line.now scripts.now))
+        (S.held store.old) (G.calls engine.old) (G.calls engine.new)) }
+    ensures ends { EndsOf (sink_view O.written O.faults)
+        (Some (two_files_command work line.now scripts.now))
+        (S.held store.old) (S.faults store.old) (S.faults store.new) out.old out.new result }
+{
+    let line = fetch_file(alloc, store, File::Line, line)?;
+    let scripts = fetch_file(alloc, store, File::Scripts, scripts)?;
+    two_files(
         alloc,
+        work,
         line.as_slice(),
         scripts.as_slice(),
-        timings.as_slice(),
+        engine,
         out,
     )
 }
 
-// `certify` over the files of these names.
-fn certify<S: Store, O: Sink>(
+fn run_three<G: Engine, S: Store, O: Sink>(
     alloc: Global,
-    names: LineAndScripts<'_>,
+    work: ThreeFiles,
+    line: &str,
+    scripts: &str,
+    third: &str,
+    engine: &mut G,
     store: &mut S,
     out: &mut O,
 ) -> Result<Status, Stop>
-    ensures { Ends (after_files (command_view (command.Certify names.entry))) (S.held store.old)
-        (asked_by (command_view (command.Certify names.entry)))
-        (S.faults store.old) (S.faults store.new)
-        (sink_view O.written O.faults out.old) (sink_view O.written O.faults out.new) result }
+    ensures asked { OnOk result (Asked
+        (Some (three_files_command work line.now scripts.now third.now))
+        (S.held store.old) (G.calls engine.old) (G.calls engine.new)) }
+    ensures ends { EndsOf (sink_view O.written O.faults)
+        (Some (three_files_command work line.now scripts.now third.now))
+        (S.held store.old) (S.faults store.old) (S.faults store.new) out.old out.new result }
 {
-    let LineAndScripts { line, scripts } = names;
-    let line = fetch_line(alloc, store, line)?;
-    let scripts = fetch_scripts(alloc, store, scripts)?;
-    certify_files(alloc, line.as_slice(), scripts.as_slice(), out)
+    let line = fetch_file(alloc, store, File::Line, line)?;
+    let scripts = fetch_file(alloc, store, File::Scripts, scripts)?;
+    let third = fetch_file(alloc, store, own_file(work), third)?;
+    three_files(
+        alloc,
+        work,
+        line.as_slice(),
+        scripts.as_slice(),
+        third.as_slice(),
+        engine,
+        out,
+    )
 }
 
-// `report` over the files of these names.
-fn report<S: Store, O: Sink>(
-    alloc: Global,
-    names: LineAndScripts<'_>,
-    store: &mut S,
-    out: &mut O,
-) -> Result<Status, Stop>
-    ensures { Ends (after_files (command_view (command.Report names.entry))) (S.held store.old)
-        (asked_by (command_view (command.Report names.entry)))
-        (S.faults store.old) (S.faults store.new)
-        (sink_view O.written O.faults out.old) (sink_view O.written O.faults out.new) result }
+// The file of a command's own.
+fn own_file(work: ThreeFiles) -> File
+    ensures { result ≡ file_of_work work }
 {
-    let LineAndScripts { line, scripts } = names;
-    let line = fetch_line(alloc, store, line)?;
-    let scripts = fetch_scripts(alloc, store, scripts)?;
-    report_files(alloc, line.as_slice(), scripts.as_slice(), out)
+    match work {
+        ThreeFiles::Play => File::Timings,
+        ThreeFiles::Check => File::Cert,
+    }
 }

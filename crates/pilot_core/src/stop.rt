@@ -38,6 +38,7 @@ pub enum File {
     Line,
     Scripts,
     Timings,
+    Cert,
 }
 
 /// Why a call stopped, as its line to standard error says it.

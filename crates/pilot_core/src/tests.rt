@@ -1,21 +1,24 @@
 //! Calls over a store and sinks in memory.
 
 use super::*;
+use engine::NetEngine;
 use relay_base::{Memory, MemorySink, MemoryStore};
 use std::alloc::Global;
 use std::process::Abort;
 use std::test::Fail;
 
-mod certificates;
-mod claims;
-mod nets;
+mod benches;
+mod certify;
+mod check;
+mod derived_waves;
+mod line_and_migrate;
+mod net;
+mod play;
 mod play_pieces;
-mod plays;
-mod printed_lines;
 mod refusal_order;
 mod refused_lines;
 mod refused_records;
-mod reports;
+mod report;
 mod scarce_memory;
 mod store_and_sink_faults;
 mod usage;
@@ -24,25 +27,66 @@ mod worked_files;
 // The words of `play` over the files that the store holds.
 const PLAY: &[&str] = &["play", "l", "s", "t"];
 
-// The bytes of the files `l`, `s` and `t`.
+// The bytes of the files `l`, `s` and `t`: a line, scripts and a third file.
 #[derive(Clone, Copy)]
 struct Files<'a> {
     line: &'a [u8],
     scripts: &'a [u8],
-    timings: &'a [u8],
+    third: &'a [u8],
 }
 
-fn texts<'a>(line: &'a str, scripts: &'a str, timings: &'a str) -> Files<'a> {
+fn texts<'a>(line: &'a str, scripts: &'a str, third: &'a str) -> Files<'a> {
     Files {
         line: line.as_bytes(),
         scripts: scripts.as_bytes(),
-        timings: timings.as_bytes(),
+        third: third.as_bytes(),
     }
 }
 
 // The files of a call that needs no scripts and no timings.
 fn line_alone(line: &str) -> Files<'_> {
     texts(line, "", "")
+}
+
+// A call over a line, scripts and a third file, one piece of text in them and what stands in its
+// place, and what the call ends with.
+#[derive(Clone, Copy)]
+struct Row<'a> {
+    what: &'a str,
+    words: &'a [&'a str],
+    line: &'a str,
+    scripts: &'a str,
+    third: &'a str,
+    edit: (&'a str, &'a str),
+    status: Status,
+    out: &'a str,
+    err: &'a str,
+}
+
+// What a row does not say: empty files, nothing changed, and a call that ends well.
+const ROW: Row<'static> = Row {
+    what: "",
+    words: &[],
+    line: "",
+    scripts: "",
+    third: "",
+    edit: ("a text that stands in no file", ""),
+    status: Status::Good,
+    out: "",
+    err: "",
+};
+
+fn run_rows(rt: &impl Abort, alloc: Global, rows: &[Row<'_>]) -> Result<(), Fail> {
+    for row in rows {
+        let (old, new) = row.edit;
+        let line = row.line.replace(alloc, old, new)?;
+        let scripts = row.scripts.replace(alloc, old, new)?;
+        let third = row.third.replace(alloc, old, new)?;
+        let files = texts(line.as_str(), scripts.as_str(), third.as_str());
+        let got = call(alloc, row.words, files)?;
+        assert_ended(rt, row.what, &got, row.status, row.out, row.err);
+    }
+    Ok(())
 }
 
 // How a sink fails: the push that fails, the push that takes nothing, and the most bytes of a push.
@@ -89,7 +133,7 @@ fn store_of(alloc: Global, files: Files<'_>, faults: Faults) -> Result<MemorySto
     let mut store = MemoryStore::new(alloc);
     store.hold("l", files.line)?;
     store.hold("s", files.scripts)?;
-    store.hold("t", files.timings)?;
+    store.hold("t", files.third)?;
     store.fail_at(faults.pull)?;
     if faults.most > 0 {
         store.give_at_most(faults.most);
@@ -124,7 +168,15 @@ fn call_with(
     for word in words {
         list.push(String::from_str(alloc, word)?)?;
     }
-    let status = pilot(alloc, list.as_slice(), &mut store, &mut out, &mut err);
+    let mut engine = NetEngine::new();
+    let status = pilot(
+        alloc,
+        list.as_slice(),
+        &mut engine,
+        &mut store,
+        &mut out,
+        &mut err,
+    );
     Ok(Ended {
         status,
         out: text_of(alloc, &out)?,

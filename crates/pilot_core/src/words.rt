@@ -1,38 +1,57 @@
 //! The words of a command.
 ghost use Rattle.std.specs.Prelude.{◌≡◌, map, option_map, string_bytes};
-ghost use Rattle.pilot_core.specs.Words.{command_of};
+ghost use Rattle.relay_base.specs.Number.{number_of};
+ghost use Rattle.pilot_core.specs.Words.{bench_size as size_of, bench, command_of};
+ghost use Rattle.pilot_core.specs.Words.{command_of_four as of_four};
+ghost use Rattle.pilot_core.specs.Words.{command_of_three as of_three, command_of_two as of_two};
 ghost use Rattle.pilot_core.specs.CommandView.{command_view};
 
-/// The names of the three files of `play`.
+use crate::bench_size::BenchSize;
+use relay_base::number;
+
+/// A command over a line file.
 #[derive(Clone, Copy)]
-pub struct Play<'a> {
-    pub line: &'a str,
-    pub scripts: &'a str,
-    pub timings: &'a str,
+pub enum OneFile {
+    Net,
+    Line,
+    Migrate,
 }
 
-/// The names of a line file and a scripts file.
+/// A command over a line file and a scripts file.
 #[derive(Clone, Copy)]
-pub struct LineAndScripts<'a> {
-    pub line: &'a str,
-    pub scripts: &'a str,
+pub enum TwoFiles {
+    Certify,
+    Report,
+}
+
+/// A command over a line file, a scripts file and a file of its own.
+#[derive(Clone, Copy)]
+pub enum ThreeFiles {
+    /// Its own file has timings.
+    Play,
+    /// Its own file is a certificate.
+    Check,
 }
 
 /// A command with the names of its files.
 #[derive(Clone, Copy)]
 pub enum Command<'a> {
-    /// `play LINE SCRIPTS TIMINGS`
-    Play(Play<'a>),
-    /// `certify LINE SCRIPTS`
-    Certify(LineAndScripts<'a>),
-    /// `report LINE SCRIPTS`
-    Report(LineAndScripts<'a>),
-    /// `net LINE`
-    Net(&'a str),
-    /// `line LINE`
-    Line(&'a str),
-    /// `migrate LINE`
-    Migrate(&'a str),
+    Bench(BenchSize),
+    OneFile {
+        work: OneFile,
+        line: &'a str,
+    },
+    TwoFiles {
+        work: TwoFiles,
+        line: &'a str,
+        scripts: &'a str,
+    },
+    ThreeFiles {
+        work: ThreeFiles,
+        line: &'a str,
+        scripts: &'a str,
+        third: &'a str,
+    },
 }
 
 /// The command that the words are, if they are one.
@@ -40,26 +59,96 @@ pub fn command_of_words(words: &[String]) -> Option<Command<'_>>
     ensures { option_map command_view result ≡ command_of (map string_bytes words.now) }
 {
     match words {
-        [word, line] if word.as_str() == "net" => Some(Command::Net(line.as_str())),
-        [word, line] if word.as_str() == "line" => Some(Command::Line(line.as_str())),
-        [word, line] if word.as_str() == "migrate" => Some(Command::Migrate(line.as_str())),
-        [word, line, scripts] if word.as_str() == "certify" => {
-            Some(Command::Certify(LineAndScripts {
-                line: line.as_str(),
-                scripts: scripts.as_str(),
-            }))
+        [word, first] => command_of_two(word.as_str(), first.as_str()),
+        [word, first, second] => {
+            command_of_three(word.as_str(), first.as_str(), second.as_str())
         }
-        [word, line, scripts] if word.as_str() == "report" => {
-            Some(Command::Report(LineAndScripts {
-                line: line.as_str(),
-                scripts: scripts.as_str(),
-            }))
-        }
-        [word, line, scripts, timings] if word.as_str() == "play" => Some(Command::Play(Play {
-            line: line.as_str(),
-            scripts: scripts.as_str(),
-            timings: timings.as_str(),
-        })),
+        [word, first, second, third] => command_of_four(
+            word.as_str(),
+            first.as_str(),
+            second.as_str(),
+            third.as_str(),
+        ),
         _ => None,
     }
+}
+
+// The number of scripts of a bench, 1 to 64.
+fn bench_size(word: &str) -> Option<BenchSize>
+    ensures { option_map (λ size. size.scripts) result ≡ size_of (number_of word.now) }
+{
+    match number(word.as_bytes()) {
+        Some(scripts) if scripts >= 1 && scripts <= 64 => Some(BenchSize { scripts }),
+        _ => None,
+    }
+}
+
+// `bench N`.
+fn bench_command<'a>(word: &str) -> Option<Command<'a>>
+    ensures { option_map command_view result ≡ option_map bench (size_of (number_of word.now)) }
+{
+    match bench_size(word) {
+        Some(size) => Some(Command::Bench(size)),
+        None => None,
+    }
+}
+
+// `net LINE`, `line LINE`, `migrate LINE` and `bench N`.
+fn command_of_two<'a>(word: &str, line: &'a str) -> Option<Command<'a>>
+    ensures { option_map command_view result ≡ of_two word.now line.now }
+{
+    let work = if word == "net" {
+        OneFile::Net
+    } else if word == "line" {
+        OneFile::Line
+    } else if word == "migrate" {
+        OneFile::Migrate
+    } else if word == "bench" {
+        return bench_command(line);
+    } else {
+        return None;
+    };
+    Some(Command::OneFile { work, line })
+}
+
+// `certify LINE SCRIPTS` and `report LINE SCRIPTS`.
+fn command_of_three<'a>(word: &str, line: &'a str, scripts: &'a str) -> Option<Command<'a>>
+    ensures { option_map command_view result ≡ of_three word.now line.now scripts.now }
+{
+    let work = if word == "certify" {
+        TwoFiles::Certify
+    } else if word == "report" {
+        TwoFiles::Report
+    } else {
+        return None;
+    };
+    Some(Command::TwoFiles {
+        work,
+        line,
+        scripts,
+    })
+}
+
+// `play LINE SCRIPTS TIMINGS` and `check LINE SCRIPTS CERT`.
+fn command_of_four<'a>(
+    word: &str,
+    line: &'a str,
+    scripts: &'a str,
+    third: &'a str,
+) -> Option<Command<'a>>
+    ensures { option_map command_view result ≡ of_four word.now line.now scripts.now third.now }
+{
+    let work = if word == "play" {
+        ThreeFiles::Play
+    } else if word == "check" {
+        ThreeFiles::Check
+    } else {
+        return None;
+    };
+    Some(Command::ThreeFiles {
+        work,
+        line,
+        scripts,
+        third,
+    })
 }

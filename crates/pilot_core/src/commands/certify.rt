@@ -1,111 +1,142 @@
 //! The command `certify`: the verdict of each obligation, for every choice of delays.
-ghost use Rattle.std.specs.Prelude.{◌≡◌, ◌∷◌, ◌||◌, [], IfOk, OnOk};
+ghost use Rattle.std.specs.Prelude.{◌≡◌, ◌||◌, OnOk, length};
 ghost use Rattle.std.specs.List.{All, list_any};
 ghost use Rattle.line_model.specs.Fits.{Fits};
 ghost use Rattle.gate_net.specs.NetOf.{IsNetOf};
-ghost use Rattle.pilot_core.specs.Answer.{works};
-ghost use Rattle.pilot_core.specs.Certificate.{IsCertificate};
-ghost use Rattle.pilot_core.specs.Certificate.{is_no as no_verdict};
-ghost use Rattle.pilot_core.specs.Certificate.{is_undecided as undecided_verdict};
-ghost use Rattle.pilot_core.specs.Certificate.{status_by};
-ghost use Rattle.pilot_core.specs.Drafts.{HasPart, draft_view};
+ghost use Rattle.engine.specs.Calls.{AskedCertify, AskedVerdicts, NoneFell};
+ghost use Rattle.pilot_core.specs.Certify.{certify_answer, certify_asks};
+ghost use Rattle.pilot_core.specs.Certify.{is_no as no_verdict};
+ghost use Rattle.pilot_core.specs.Certify.{is_undecided as undecided_verdict};
+ghost use Rattle.pilot_core.specs.Certify.{status_by};
 ghost use Rattle.pilot_core.specs.Ends.{Works};
+ghost use Rattle.pilot_core.specs.PartWrites.{WritesPart, WritesParts};
 ghost use Rattle.pilot_core.specs.Sinks.{sink_view};
-ghost use Rattle.pilot_core.specs.Words.{certify as certify_command};
+ghost use Rattle.pilot_core.specs.Study.{IsStudy};
 
+use crate::laws::each_certificate_has_one_text;
 use crate::put::put_text;
 use crate::stop::{Status, Stop};
-use certify_core::{CERT_END, CERT_HEAD, Verdict, cert_piece, certify};
-use fault_script::read_scripts;
+use crate::study::Study;
+use certify_core::{CERT_END, CERT_HEAD, Verdict, cert_piece};
+use engine::Engine;
 use gate_net::Net;
-use line_file::read_line;
 use line_model::laws::{each_box_has_one_interval_history, each_line_has_a_choice_inside};
-use line_model::{Line, Memory, Script};
-use net_compile::compile;
+use line_model::{Line, Script};
 use relay_base::Sink;
 use std::alloc::Global;
 
-/// Reads the two files and writes the certificate, once every obligation is decided.
-pub fn certify_files<O: Sink>(
+/// Writes the certificate: its head, the part of each script once it is decided, and its end.
+pub fn certify<G: Engine, O: Sink>(
     alloc: Global,
-    line: &[u8],
-    scripts: &[u8],
+    study: &Study,
+    engine: &mut G,
     out: &mut O,
 ) -> Result<Status, Stop>
-    ensures { Works (works (certify_command [] []) (line.now ∷ scripts.now ∷ []))
-        (sink_view O.written O.faults out.old) (sink_view O.written O.faults out.new) result }
+    requires { IsStudy study.now }
+    ensures asked { OnOk result (certify_asks study.now.line study.now.scripts.items
+        (G.calls engine.old) (G.calls engine.new)) }
+    ensures kept { NoneFell (G.calls engine.old) (G.calls engine.new) }
+    ensures works { Works (sink_view O.written O.faults)
+        (certify_answer study.now.line study.now.scripts.items) out.old out.new result }
 {
-    let line = read_line(alloc, line)?;
-    let scripts = read_scripts(alloc, &line, scripts)?;
-    let net = compile(alloc, &line)?;
-    let said = certificate_of(alloc, &line, &net, scripts.as_slice())?;
-    put_text(out, said.text.as_slice())?;
-    Ok(said.status)
+    each_certificate_has_one_text();
+    put_text(out, CERT_HEAD)?;
+    let scripts = study.scripts.as_slice();
+    let found = write_parts(alloc, &study.line, &study.net, scripts, engine, out)?;
+    put_text(out, CERT_END)?;
+    Ok(found.status())
 }
 
-// A certificate, and the status that its verdicts give.
-#[derive(Drop)]
-struct Certificate {
-    status: Status,
-    text: Vec<u8>,
-}
-
-// The certificate of these scripts.
-fn certificate_of(
-    alloc: Global,
-    line: &Line,
-    net: &Net,
-    scripts: &[Script],
-) -> Result<Certificate, Memory>
-    requires of_line { IsNetOf line.now net.now }
-    requires fit { All (Fits line.now) scripts.now }
-    ensures { IfOk result (λ said. IsCertificate line.now scripts.now said.status said.text.items) }
-{
-    let mut draft = Draft {
-        text: Vec::from_slice(alloc, CERT_HEAD)?,
-        some_no: false,
-        some_undecided: false,
-    };
-    for script in scripts {
-        add_part(alloc, line, net, script, &mut draft)?;
-    }
-    draft.text.extend_from_slice(CERT_END)?;
-    Ok(Certificate {
-        status: status_of(draft.some_no, draft.some_undecided),
-        text: draft.text,
-    })
-}
-
-// The certificate so far, and whether some verdict is no, or undecided.
-#[derive(Drop)]
-struct Draft {
-    text: Vec<u8>,
+// Whether some verdict is no, or undecided.
+#[derive(Clone, Copy)]
+struct Found {
     some_no: bool,
     some_undecided: bool,
 }
 
-// Adds the part of a script.
-fn add_part(
+impl Found {
+    // 1 where some verdict is no; else 2 where some is undecided; else 0.
+    fn status(self) -> Status
+        ensures { result ≡ status_by self.some_no self.some_undecided }
+    {
+        if self.some_no {
+            Status::SomeNo
+        } else if self.some_undecided {
+            Status::SomeUndecided
+        } else {
+            Status::Good
+        }
+    }
+
+    fn and(self, other: Found) -> Found
+        ensures no { result.some_no ≡ self.some_no || other.some_no }
+        ensures undecided { result.some_undecided
+            ≡ self.some_undecided || other.some_undecided }
+    {
+        Found {
+            some_no: self.some_no || other.some_no,
+            some_undecided: self.some_undecided || other.some_undecided,
+        }
+    }
+}
+
+// Writes the part of each script in order.
+fn write_parts<G: Engine, O: Sink>(
+    alloc: Global,
+    line: &Line,
+    net: &Net,
+    scripts: &[Script],
+    engine: &mut G,
+    out: &mut O,
+) -> Result<Found, Stop>
+    requires of_line { IsNetOf line.now net.now }
+    requires fit { All (Fits line.now) scripts.now }
+    ensures asked { OnOk result (AskedVerdicts line.now (length scripts.now)
+        (G.calls engine.old) (G.calls engine.new)) }
+    ensures kept { NoneFell (G.calls engine.old) (G.calls engine.new) }
+    ensures writes { WritesParts line.now scripts.now
+        (sink_view O.written O.faults out.old) (sink_view O.written O.faults out.new) result }
+{
+    each_certificate_has_one_text();
+    let mut found = Found {
+        some_no: false,
+        some_undecided: false,
+    };
+    for script in scripts {
+        let more = write_part(alloc, line, net, script, engine, out)?;
+        found = found.and(more);
+    }
+    Ok(found)
+}
+
+// Decides the obligations of a script and writes its part.
+fn write_part<G: Engine, O: Sink>(
     alloc: Global,
     line: &Line,
     net: &Net,
     script: &Script,
-    draft: &mut Draft,
-) -> Result<(), Memory>
+    engine: &mut G,
+    out: &mut O,
+) -> Result<Found, Stop>
     requires of_line { IsNetOf line.now net.now }
     requires fits { Fits line.now script.now }
-    ensures { OnOk result
-        (HasPart line.now script.now (draft_view draft.old) (draft_view draft.new)) }
+    ensures asked { OnOk result (AskedCertify line.now
+        (G.calls engine.old) (G.calls engine.new)) }
+    ensures kept { NoneFell (G.calls engine.old) (G.calls engine.new) }
+    ensures writes { WritesPart line.now script.now
+        (sink_view O.written O.faults out.old) (sink_view O.written O.faults out.new) result }
 {
+    each_certificate_has_one_text();
     each_box_has_one_interval_history();
     each_line_has_a_choice_inside();
-    let said = certify(alloc, line, net, script)?;
+    let said = engine.certify(alloc, line, net, script)?;
     let piece = cert_piece(alloc, line, script, &said)?;
-    draft.text.extend_from_slice(&piece)?;
+    put_text(out, piece.as_slice())?;
     let verdicts = said.verdicts.as_slice();
-    draft.some_no = either(draft.some_no, some_no(verdicts));
-    draft.some_undecided = either(draft.some_undecided, some_undecided(verdicts));
-    Ok(())
+    Ok(Found {
+        some_no: some_no(verdicts),
+        some_undecided: some_undecided(verdicts),
+    })
 }
 
 fn some_no(verdicts: &[Verdict]) -> bool
@@ -118,12 +149,6 @@ fn some_undecided(verdicts: &[Verdict]) -> bool
     ensures { result ≡ list_any undecided_verdict verdicts.now }
 {
     verdicts.iter().any(|verdict| is_undecided(verdict))
-}
-
-fn either(one: bool, other: bool) -> bool
-    ensures { result ≡ one || other }
-{
-    one || other
 }
 
 fn is_no(verdict: &Verdict) -> bool
@@ -141,17 +166,5 @@ fn is_undecided(verdict: &Verdict) -> bool
     match verdict {
         Verdict::Undecided => true,
         Verdict::Yes | Verdict::No(_) => false,
-    }
-}
-
-fn status_of(some_no: bool, some_undecided: bool) -> Status
-    ensures { result ≡ status_by some_no some_undecided }
-{
-    if some_no {
-        Status::SomeNo
-    } else if some_undecided {
-        Status::SomeUndecided
-    } else {
-        Status::Good
     }
 }

@@ -1,142 +1,170 @@
 //! The command `play`: the play text of a line, scripts and timings.
-ghost use Rattle.std.specs.Prelude.{◌∷◌, ◌≤◌, ℕ, List, [], length, map};
+ghost use Rattle.std.specs.Prelude.{◌*◌, ◌≤◌, ℕ, List, OnOk, length, map};
 ghost use Rattle.std.specs.List.{All};
 ghost use Rattle.gate_net.specs.NetOf.{IsNetOf};
 ghost use Rattle.timing_box.specs.Inside.{IsTimingInside};
 ghost use Rattle.timing_box.specs.SoFar.{values_of};
-ghost use Rattle.pilot_core.specs.Answer.{prints, works};
+ghost use Rattle.engine.specs.Calls.{AskedPlay, AskedPlays};
+ghost use Rattle.pilot_core.specs.Call.{answer_by, asks_by};
 ghost use Rattle.pilot_core.specs.Ends.{Works};
-ghost use Rattle.pilot_core.specs.PlayText.{IsPlayText, IsRunText, IsTimingText, Pieces};
+ghost use Rattle.pilot_core.specs.Play.{IsPlayText, IsRunText, IsTimingText, Pieces};
+ghost use Rattle.pilot_core.specs.Play.{play_answer};
+ghost use Rattle.pilot_core.specs.Reading.{third_file};
 ghost use Rattle.pilot_core.specs.Sinks.{Writes, sink_view};
-ghost use Rattle.pilot_core.specs.Words.{play};
+ghost use Rattle.pilot_core.specs.Study.{IsStudy};
+ghost use Rattle.pilot_core.specs.declared.words.ThreeFiles.TheVariants as three;
 
 use crate::laws::each_play_has_one_text;
 use crate::put::put_text;
 use crate::stop::{Status, Stop};
-use fault_script::read_scripts;
+use crate::study::Study;
+use engine::Engine;
 use gate_net::Net;
-use line_file::read_line;
-use line_model::laws::{each_choice_has_one_history, each_line_has_a_choice_inside};
 use line_model::{Line, Script};
-use net_compile::compile;
 use relay_base::Sink;
-use simulator::play_rows;
 use std::alloc::Global;
 use timing_box::{NamedTiming, read_timings};
 
-/// Reads the three files and writes the play text.
-pub fn play_files<O: Sink>(
+/// Reads the timings and writes the play text.
+pub fn play<G: Engine, O: Sink>(
     alloc: Global,
-    line: &[u8],
-    scripts: &[u8],
+    study: &Study,
     timings: &[u8],
+    engine: &mut G,
     out: &mut O,
 ) -> Result<Status, Stop>
-    requires { length timings.now ≤ 4194304 }
-    ensures { Works (works (play [] [] []) (line.now ∷ scripts.now ∷ timings.now ∷ []))
-        (sink_view O.written O.faults out.old) (sink_view O.written O.faults out.new) result }
+    requires study { IsStudy study.now }
+    requires short { length timings.now ≤ 4194304 }
+    ensures asked { OnOk result (asks_by
+        (third_file three.Play timings.now study.now.line study.now.scripts.items)
+        (G.calls engine.old) (G.calls engine.new)) }
+    ensures works { Works (sink_view O.written O.faults)
+        (answer_by (third_file three.Play timings.now study.now.line study.now.scripts.items))
+        out.old out.new result }
 {
-    let line = read_line(alloc, line)?;
-    let scripts = read_scripts(alloc, &line, scripts)?;
-    let timings = read_timings(alloc, &line, timings)?;
-    play_all(alloc, &line, scripts.as_slice(), timings.as_slice(), out)
+    let timings = read_timings(alloc, &study.line, timings)?;
+    play_all(alloc, study, timings.as_slice(), engine, out)
 }
 
 // Plays each timing over each script.
-fn play_all<O: Sink>(
+fn play_all<G: Engine, O: Sink>(
     alloc: Global,
-    line: &Line,
-    scripts: &[Script],
+    study: &Study,
     timings: &[NamedTiming],
+    engine: &mut G,
     out: &mut O,
 ) -> Result<Status, Stop>
-    requires { All (λ timing. IsTimingInside line.now timing.timing) timings.now }
-    ensures { Works (prints (IsPlayText line.now scripts.now (map values_of timings.now)))
-        (sink_view O.written O.faults out.old) (sink_view O.written O.faults out.new) result }
+    requires study { IsStudy study.now }
+    requires inside { All (λ timing. IsTimingInside study.now.line timing.timing) timings.now }
+    ensures asked { OnOk result (AskedPlays study.now.line
+        (length timings.now * length study.now.scripts.items)
+        (G.calls engine.old) (G.calls engine.new)) }
+    ensures works { Works (sink_view O.written O.faults)
+        (play_answer study.now.line study.now.scripts.items (map values_of timings.now))
+        out.old out.new result }
 {
     each_play_has_one_text();
-    let net = compile(alloc, line)?;
-    write_play(alloc, line, &net, scripts, timings, out)?;
+    let scripts = study.scripts.as_slice();
+    write_play(
+        alloc,
+        &study.line,
+        &study.net,
+        scripts,
+        timings,
+        engine,
+        out,
+    )?;
     Ok(Status::Good)
 }
 
 // Writes the header, and then each timing in order.
-fn write_play<O: Sink>(
+fn write_play<G: Engine, O: Sink>(
     alloc: Global,
     line: &Line,
     net: &Net,
     scripts: &[Script],
     timings: &[NamedTiming],
+    engine: &mut G,
     out: &mut O,
 ) -> Result<(), Stop>
     requires of_line { IsNetOf line.now net.now }
     requires inside { All (λ timing. IsTimingInside line.now timing.timing) timings.now }
-    ensures { (text : List ℕ) → IsPlayText line.now scripts.now (map values_of timings.now) text →
+    ensures asked { OnOk result (AskedPlays line.now (length timings.now * length scripts.now)
+        (G.calls engine.old) (G.calls engine.new)) }
+    ensures writes { (text : List ℕ) → IsPlayText line.now scripts.now (map values_of timings.now) text →
         Writes (sink_view O.written O.faults out.old) (sink_view O.written O.faults out.new)
         text result }
 {
     put_text(out, b"timing,script,tick,terminal,signal,level\n")?;
-    write_timings(alloc, line, net, scripts, timings, out)
+    write_timings(alloc, line, net, scripts, timings, engine, out)
 }
 
 // Writes the rows of each timing in order.
-fn write_timings<O: Sink>(
+fn write_timings<G: Engine, O: Sink>(
     alloc: Global,
     line: &Line,
     net: &Net,
     scripts: &[Script],
     timings: &[NamedTiming],
+    engine: &mut G,
     out: &mut O,
 ) -> Result<(), Stop>
     requires of_line { IsNetOf line.now net.now }
     requires inside { All (λ timing. IsTimingInside line.now timing.timing) timings.now }
-    ensures { (text : List ℕ) →
+    ensures asked { OnOk result (AskedPlays line.now (length timings.now * length scripts.now)
+        (G.calls engine.old) (G.calls engine.new)) }
+    ensures writes { (text : List ℕ) →
         Pieces (IsTimingText line.now scripts.now) (map values_of timings.now) text →
         Writes (sink_view O.written O.faults out.old) (sink_view O.written O.faults out.new)
         text result }
 {
     for timing in timings {
-        write_timing(alloc, line, net, scripts, timing, out)?;
+        write_timing(alloc, line, net, scripts, timing, engine, out)?;
     }
     Ok(())
 }
 
 // Writes the rows of one timing, each script in order.
-fn write_timing<O: Sink>(
+fn write_timing<G: Engine, O: Sink>(
     alloc: Global,
     line: &Line,
     net: &Net,
     scripts: &[Script],
     timing: &NamedTiming,
+    engine: &mut G,
     out: &mut O,
 ) -> Result<(), Stop>
     requires of_line { IsNetOf line.now net.now }
     requires inside { IsTimingInside line.now timing.now.timing }
-    ensures { (text : List ℕ) → IsTimingText line.now scripts.now (values_of timing.now) text →
+    ensures asked { OnOk result (AskedPlays line.now (length scripts.now)
+        (G.calls engine.old) (G.calls engine.new)) }
+    ensures writes { (text : List ℕ) → IsTimingText line.now scripts.now (values_of timing.now) text →
         Writes (sink_view O.written O.faults out.old) (sink_view O.written O.faults out.new)
         text result }
 {
     for script in scripts {
-        write_run(alloc, line, net, script, timing, out)?;
+        write_run(alloc, line, net, script, timing, engine, out)?;
     }
     Ok(())
 }
 
 // Writes the rows of one timing and one script.
-fn write_run<O: Sink>(
+fn write_run<G: Engine, O: Sink>(
     alloc: Global,
     line: &Line,
     net: &Net,
     script: &Script,
     timing: &NamedTiming,
+    engine: &mut G,
     out: &mut O,
 ) -> Result<(), Stop>
     requires of_line { IsNetOf line.now net.now }
     requires inside { IsTimingInside line.now timing.now.timing }
-    ensures { (text : List ℕ) → IsRunText line.now (values_of timing.now) script.now text →
+    ensures asked { OnOk result (AskedPlay line.now (G.calls engine.old) (G.calls engine.new)) }
+    ensures writes { (text : List ℕ) → IsRunText line.now (values_of timing.now) script.now text →
         Writes (sink_view O.written O.faults out.old) (sink_view O.written O.faults out.new)
         text result }
 {
-    let rows = play_rows(alloc, line, net, script, timing)?;
+    let rows = engine.play(alloc, line, net, script, timing)?;
     put_text(out, rows.as_slice())
 }

@@ -1,33 +1,20 @@
 //! The command `report`: when each terminal may and must trip, and its margin.
-ghost use Rattle.std.specs.Prelude.{◌∷◌, []};
-ghost use Rattle.pilot_core.specs.Answer.{works};
-ghost use Rattle.pilot_core.specs.Ends.{Works};
-ghost use Rattle.pilot_core.specs.Sinks.{sink_view};
-ghost use Rattle.pilot_core.specs.Words.{report};
+ghost use Rattle.std.specs.Prelude.{IfOk};
+ghost use Rattle.pilot_core.specs.Answers.{Says};
+ghost use Rattle.pilot_core.specs.Report.{report_answer};
+ghost use Rattle.pilot_core.specs.Study.{IsStudy};
 
-use crate::put::put_text;
-use crate::stop::{Status, Stop};
-use fault_script::read_scripts;
-use line_file::read_line;
-use net_compile::compile;
-use relay_base::Sink;
+use crate::said::Said;
+use crate::study::Study;
+use line_model::Memory;
 use std::alloc::Global;
 use timing_report::report_text;
 
-/// Reads the two files and writes the report text.
-pub fn report_files<O: Sink>(
-    alloc: Global,
-    line: &[u8],
-    scripts: &[u8],
-    out: &mut O,
-) -> Result<Status, Stop>
-    ensures { Works (works (report [] []) (line.now ∷ scripts.now ∷ []))
-        (sink_view O.written O.faults out.old) (sink_view O.written O.faults out.new) result }
+/// A row for each script and terminal.
+pub fn report(alloc: Global, study: &Study) -> Result<Said, Memory>
+    requires { IsStudy study.now }
+    ensures { IfOk result (Says (report_answer study.now.line study.now.scripts.items)) }
 {
-    let line = read_line(alloc, line)?;
-    let scripts = read_scripts(alloc, &line, scripts)?;
-    let net = compile(alloc, &line)?;
-    let text = report_text(alloc, &line, &net, scripts.as_slice())?;
-    put_text(out, text.as_slice())?;
-    Ok(Status::Good)
+    let text = report_text(alloc, &study.line, &study.net, study.scripts.as_slice())?;
+    Ok(Said::good(text))
 }

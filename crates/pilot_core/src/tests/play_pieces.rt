@@ -34,10 +34,10 @@ fn play_is_header_and_rows(rt: HostRuntime) -> Result<(), Fail> {
 fn header_and_rows(alloc: Global, files: Files<'_>) -> Result<Vec<u8>, Fail> {
     let line = read_line(alloc, files.line)?;
     let scripts = read_scripts(alloc, &line, files.scripts)?;
-    if files.timings.len() > 4_194_304 {
+    if files.third.len() > 4_194_304 {
         return Err("long timings")?;
     }
-    let timings = read_timings(alloc, &line, files.timings)?;
+    let timings = read_timings(alloc, &line, files.third)?;
     let net = compile(alloc, &line)?;
     let mut text = Vec::from_slice(alloc, HEADER.as_bytes())?;
     push_rows(alloc, &mut text, &line, &net, &scripts, &timings)?;

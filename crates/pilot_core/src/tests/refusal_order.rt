@@ -61,7 +61,7 @@ fn play_flawed(alloc: Global, flaws: &[Flaw; 3], long: &[u8]) -> Result<Ended, M
     let files = Files {
         line: bytes_of(line, POTT, long),
         scripts: bytes_of(scripts, FAULT, long),
-        timings: bytes_of(timings, LEAST, long),
+        third: bytes_of(timings, LEAST, long),
     };
     let words = [
         "play",

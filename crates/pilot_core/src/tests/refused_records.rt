@@ -72,14 +72,14 @@ fn long_timings(rt: HostRuntime) -> Result<(), Fail> {
     let alloc = rt.alloc();
     let timings = filled_up(alloc, LEAST, b'\n', 4_194_304)?;
     let longest = Files {
-        timings: &timings,
+        third: &timings,
         ..texts(POTT, FAULT, "")
     };
     let got = call(alloc, PLAY, longest)?;
     assert_ended(&rt, "longest file", &got, Status::Good, PLAYED, "");
     let timings = filled_up(alloc, LEAST, b'\n', 4_194_305)?;
     let longer = Files {
-        timings: &timings,
+        third: &timings,
         ..texts(POTT, FAULT, "")
     };
     let got = call(alloc, PLAY, longer)?;

@@ -1,45 +1,24 @@
-use Rattle.pilot_core.specs.Answer.{after_files}
+use Rattle.pilot_core.specs.Call.{answer_by}
+use Rattle.pilot_core.specs.Reading.{over_files}
 use Rattle.pilot_core.specs.Sinks.{sink_view}
-use Rattle.pilot_core.specs.Words.{line, line_file, migrate, net}
-use Rattle.pilot_core.proofs.Fetching.{ends_of_one}
+use Rattle.pilot_core.specs.Words.{bench}
+use Rattle.pilot_core.proofs.Fetching.{ends_of_works}
+use Rattle.pilot_core.proofs.Results.{on_ok}
 use Rattle.pilot_core.proofs.run.run.Goals as goal
+use Rattle.std.proofs.Common.{refl}
 
-pub returns-in-Play : goal.returns-in-Play
-returns-in-Play g c = rw c.in-Play.is c.play.ensures
+pub returns-in-OneFile-clause-asked : goal.returns-in-OneFile-clause-asked
+returns-in-OneFile-clause-asked g c = rw c.in-OneFile.is (on_ok c.run_one.result
+    (λ a. a (g.G.Engine.calls c.args.engine.now)) c.run_one.ensures.asked)
 
-pub returns-in-Certify : goal.returns-in-Certify
-returns-in-Certify g c = rw c.in-Certify.is c.certify.ensures
+pub returns-in-Bench-clause-asked : goal.returns-in-Bench-clause-asked
+returns-in-Bench-clause-asked g c = rw c.in-Bench.is (on_ok c.no_file.result
+    (λ asked told. asked) c.no_file.ensures.asked)
 
-pub returns-in-Report : goal.returns-in-Report
-returns-in-Report g c = rw c.in-Report.is c.report.ensures
-
-pub returns-in_ok-line-in-Net : goal.returns-in_ok-line-in-Net
-returns-in_ok-line-in-Net g c =
-    let fetched = c.in_ok-line-in-Net.ensures.file in
-    rw c.in-Net.is (ends_of_one (after_files (net c.in-Net.name.now))
-    (g.S.Store.held c.args.store.now)
-    (sink_view g.O.Sink.written g.O.Sink.faults c.args.out.now)
-    (sink_view g.O.Sink.written g.O.Sink.faults c.net_of_file.new.out)
-    (line_file c.in-Net.name.now) c.in_ok-line-in-Net.line.items fetched.1 fetched.2 _ _
-    c.net_of_file.result fetched.0 (rw c.as_slice.ensures.value at c.net_of_file.ensures))
-
-pub returns-in_ok-line-in-Line : goal.returns-in_ok-line-in-Line
-returns-in_ok-line-in-Line g c =
-    let fetched = c.in_ok-line-in-Line.ensures.file in
-    rw c.in-Line.is (ends_of_one (after_files (line c.in-Line.name.now))
-    (g.S.Store.held c.args.store.now)
-    (sink_view g.O.Sink.written g.O.Sink.faults c.args.out.now)
-    (sink_view g.O.Sink.written g.O.Sink.faults c.print_file.new.out)
-    (line_file c.in-Line.name.now) c.in_ok-line-in-Line.line.items fetched.1 fetched.2 _ _
-    c.print_file.result fetched.0 (rw c.as_slice-in-Line.ensures.value at c.print_file.ensures))
-
-pub returns-in_ok-line-in-Migrate : goal.returns-in_ok-line-in-Migrate
-returns-in_ok-line-in-Migrate g c =
-    let fetched = c.in_ok-line-in-Migrate.ensures.file in
-    rw c.in-Migrate.is (ends_of_one (after_files (migrate c.in-Migrate.name.now))
-    (g.S.Store.held c.args.store.now)
-    (sink_view g.O.Sink.written g.O.Sink.faults c.args.out.now)
-    (sink_view g.O.Sink.written g.O.Sink.faults c.migrate_file.new.out)
-    (line_file c.in-Migrate.name.now) c.in_ok-line-in-Migrate.line.items fetched.1 fetched.2 _ _
-    c.migrate_file.result fetched.0
-    (rw c.as_slice-in-Migrate.ensures.value at c.migrate_file.ensures))
+pub returns-in-Bench-clause-ends : goal.returns-in-Bench-clause-ends
+returns-in-Bench-clause-ends g c = rw c.in-Bench.is (ends_of_works
+    (sink_view g.O.Sink.written g.O.Sink.faults)
+    (λ bytes. answer_by (over_files (bench c.in-Bench.size.scripts) bytes))
+    (g.S.Store.held c.args.store.now) c.args.out.now c.no_file.new.out
+    (g.S.Store.faults c.args.store.now) (g.S.Store.faults c.args.store.now) c.no_file.result
+    (λ name. refl) c.no_file.ensures.works)

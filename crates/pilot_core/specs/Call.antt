@@ -1,0 +1,38 @@
+-- What a call answers when nothing fails, and what it has then asked of the engine.
+use Rattle.std.specs.Prelude.{◌≡◌, ⊤, ℕ, List, [], Option, None, Some}
+use Rattle.engine.specs.Calls.{Calls}
+use Rattle.pilot_core.specs.Answers.{Answers, refuses}
+use Rattle.pilot_core.specs.Asked.{Asks}
+use Rattle.pilot_core.specs.Commands.{answer, asks}
+use Rattle.pilot_core.specs.Files.{AllTold, contents}
+use Rattle.pilot_core.specs.Messages.{message_of}
+use Rattle.pilot_core.specs.Reading.{Reading, over_files}
+use Rattle.pilot_core.specs.Words.{Command, files_of, files_named}
+use Rattle.pilot_core.specs.declared.stop.Status.TheVariants as status
+use Rattle.pilot_core.specs.declared.stop.Stop.TheVariants as stop
+
+-- the answer of a command over what its files say, or the refusal of one
+abbrev pub answer_by : Reading → Answers
+answer_by read s text message =
+    read (λ why. refuses why s text message) (λ w. answer w s text message)
+
+-- what a command asks over what its files say
+abbrev pub asks_by : Reading → Asks
+asks_by read old new = read (λ why. ⊤) (λ w. asks w old new)
+
+-- the answer to the command that the words are, over files that are all told
+abbrev pub answers : Option Command → (List ℕ → Option (List ℕ)) → Answers
+answers None files s text message =
+    (s ≡ status.Usage) × (text ≡ []) × (message ≡ message_of stop.Usage)
+answers (Some command) files s text message =
+    answer_by (over_files command (contents files (files_of command))) s text message
+
+-- the store tells the bytes of each file that the words name
+abbrev pub Told : Option Command → (List ℕ → Option (List ℕ)) → Type 0
+Told command files = AllTold files (files_named command)
+
+-- what has been asked once the command is done, over files that are all told
+abbrev pub Asked : Option Command → (List ℕ → Option (List ℕ)) → Calls → Calls → Type 0
+Asked None files old new = ⊤
+Asked (Some command) files old new = AllTold files (files_of command)
+    → asks_by (over_files command (contents files (files_of command))) old new

@@ -1,0 +1,30 @@
+-- The commands: what each answers, and what it asks of the engine.
+use Rattle.pilot_core.specs.Answers.{Answers}
+use Rattle.pilot_core.specs.Asked.{Asks, asks_nothing}
+use Rattle.pilot_core.specs.Bench.{bench_answer, bench_asks}
+use Rattle.pilot_core.specs.Certify.{certify_answer, certify_asks}
+use Rattle.pilot_core.specs.Check.{check_answer, check_asks}
+use Rattle.pilot_core.specs.Line.{line_answer}
+use Rattle.pilot_core.specs.Migrate.{migrate_answer}
+use Rattle.pilot_core.specs.Net.{net_answer}
+use Rattle.pilot_core.specs.Play.{play_answer, play_asks}
+use Rattle.pilot_core.specs.Report.{report_answer}
+use Rattle.pilot_core.specs.Work as work
+use Rattle.pilot_core.specs.Work.{Work}
+
+abbrev pub answer : Work → Answers
+answer (work.net line) = net_answer line
+answer (work.line line) = line_answer line
+answer (work.migrate line) = migrate_answer line
+answer (work.certify line scripts) = certify_answer line scripts
+answer (work.report line scripts) = report_answer line scripts
+answer (work.play line scripts timings) = play_answer line scripts timings
+answer (work.check line scripts cert) = check_answer line scripts cert
+answer (work.bench n) = bench_answer n
+
+abbrev pub asks : Work → Asks
+asks (work.certify line scripts) = certify_asks line scripts
+asks (work.play line scripts timings) = play_asks line scripts timings
+asks (work.check line scripts cert) = check_asks line
+asks (work.bench n) = bench_asks n
+asks w = asks_nothing

@@ -1,0 +1,111 @@
+-- What the files of a command say: the command over that, or the refusal of the first file that is
+-- too long or that a reader refuses.
+use Rattle.std.specs.Prelude.{◌≡◌, ◌∷◌, ℕ, List, [], Result, Ok, Err, map}
+use Rattle.std.specs.List.{All}
+use Rattle.line_model.specs.declared.line.Line.{Line}
+use Rattle.line_model.specs.declared.script.Script.{Script}
+use Rattle.line_model.specs.Fits.{Fits}
+use Rattle.line_file.specs.LineFiles.{line_of}
+use Rattle.line_file.specs.Lines.{LineValues, line_values}
+use Rattle.line_file.specs.declared.fault.LineFault.{LineFault}
+use Rattle.fault_script.specs.Scripts.{scripts_of}
+use Rattle.fault_script.specs.Values.{ScriptValues, values_of}
+use Rattle.fault_script.specs.declared.fault.ScriptFault.{ScriptFault}
+use Rattle.timing_box.specs.Inside.{IsTimingInside}
+use Rattle.timing_box.specs.SoFar.{NamedValues}
+use Rattle.timing_box.specs.Timings.{timings_of}
+use Rattle.timing_box.specs.declared.fault.TimingFault.{TimingFault}
+use Rattle.pilot_core.specs.Words as words
+use Rattle.pilot_core.specs.Words.{Command}
+use Rattle.pilot_core.specs.Work as work
+use Rattle.pilot_core.specs.Work.{Work}
+use Rattle.pilot_core.specs.declared.refusal.Refusal.{Refusal}
+use Rattle.pilot_core.specs.declared.refusal.Refusal.TheVariants as refusal
+use Rattle.pilot_core.specs.declared.stop.File.{File}
+use Rattle.pilot_core.specs.declared.words.OneFile.{OneFile}
+use Rattle.pilot_core.specs.declared.words.OneFile.TheVariants as one
+use Rattle.pilot_core.specs.declared.words.TwoFiles.{TwoFiles}
+use Rattle.pilot_core.specs.declared.words.TwoFiles.TheVariants as two
+use Rattle.pilot_core.specs.declared.words.ThreeFiles.{ThreeFiles}
+use Rattle.pilot_core.specs.declared.words.ThreeFiles.TheVariants as three
+
+-- ---- one file after another
+
+-- what holds of the line that a line file gives, or of the refusal of its first fault
+abbrev pub of_line : Result LineValues LineFault → (Refusal → Type 0) → (Line → Type 0) → Type 0
+of_line (Ok values) refused holds = (line : Line) × (line_values line ≡ values) × holds line
+of_line (Err why) refused holds = refused (refusal.Line why)
+
+-- what holds of the scripts that a scripts file gives, which fit the line, or of its refusal
+abbrev pub of_scripts : Line → Result (List ScriptValues) ScriptFault → (Refusal → Type 0)
+    → (List Script → Type 0) → Type 0
+of_scripts line (Ok values) refused holds =
+    (scripts : List Script) × (map values_of scripts ≡ values) × All (Fits line) scripts
+    × holds scripts
+of_scripts line (Err why) refused holds = refused (refusal.Scripts why)
+
+-- what holds of the timings that a timings file gives, all of them inside the line's declared
+-- intervals, or of its refusal
+abbrev pub of_timings : Line → Result (List NamedValues) TimingFault → (Refusal → Type 0)
+    → (List NamedValues → Type 0) → Type 0
+of_timings line (Ok timings) refused holds =
+    All (λ timing. IsTimingInside line timing.timing) timings × holds timings
+of_timings line (Err why) refused holds = refused (refusal.Timings why)
+
+-- what holds of the line and the scripts, refused in this order
+abbrev pub of_study : List ℕ → List ℕ → (Refusal → Type 0) → (Line → List Script → Type 0)
+    → Type 0
+of_study line_bytes scripts_bytes refused holds =
+    of_line (line_of line_bytes) refused
+    (λ line. of_scripts line (scripts_of line scripts_bytes) refused (holds line))
+
+-- ---- the commands by their files
+
+-- what holds of a command over what its files say, or of the refusal of the first fault
+abbrev pub Reading : Type 1
+Reading = (Refusal → Type 0) → (Work → Type 0) → Type 0
+
+abbrev pub work_of_one : OneFile → Line → Work
+work_of_one one.Net line = work.net line
+work_of_one one.Line line = work.line line
+work_of_one one.Migrate line = work.migrate line
+
+abbrev pub work_of_two : TwoFiles → Line → List Script → Work
+work_of_two two.Certify line scripts = work.certify line scripts
+work_of_two two.Report line scripts = work.report line scripts
+
+-- a third file, over the line and the scripts
+abbrev pub third_file : ThreeFiles → List ℕ → Line → List Script → Reading
+third_file three.Play bytes line scripts refused holds =
+    of_timings line (timings_of line bytes) refused
+    (λ timings. holds (work.play line scripts timings))
+third_file three.Check bytes line scripts refused holds = holds (work.check line scripts bytes)
+
+abbrev pub one_file : OneFile → List ℕ → Reading
+one_file command line_bytes refused holds =
+    of_line (line_of line_bytes) refused (λ line. holds (work_of_one command line))
+
+abbrev pub two_files : TwoFiles → List ℕ → List ℕ → Reading
+two_files command line_bytes scripts_bytes refused holds =
+    of_study line_bytes scripts_bytes refused
+    (λ line scripts. holds (work_of_two command line scripts))
+
+abbrev pub three_files : ThreeFiles → List ℕ → List ℕ → List ℕ → Reading
+three_files command line_bytes scripts_bytes third_bytes refused holds =
+    of_study line_bytes scripts_bytes refused
+    (λ line scripts. third_file command third_bytes line scripts refused holds)
+
+-- over the bytes of the command's files in word order
+abbrev pub over_bytes : Command → List (List ℕ) → Reading
+over_bytes (words.one_file command _) (line_bytes ∷ []) = one_file command line_bytes
+over_bytes (words.two_files command _ _) (line_bytes ∷ scripts_bytes ∷ []) =
+    two_files command line_bytes scripts_bytes
+over_bytes (words.three_files command _ _ _) (line_bytes ∷ scripts_bytes ∷ third_bytes ∷ []) =
+    three_files command line_bytes scripts_bytes third_bytes
+over_bytes (words.bench n) [] = λ refused holds. holds (work.bench n)
+over_bytes command bytes = λ refused holds. ⊥
+
+-- once the files are there, or one is too long
+abbrev pub over_files : Command → Result (List (List ℕ)) File → Reading
+over_files command (Ok bytes) refused holds = over_bytes command bytes refused holds
+over_files command (Err file) refused holds = refused (refusal.TooLong file)

@@ -1,0 +1,35 @@
+-- What is read of a line file and a scripts file.
+use Rattle.std.specs.Prelude.{◌≡◌, ◌≤◌, ⊤, ℕ, List, Result, Ok, Err, length, map}
+use Rattle.std.specs.List.{All}
+use Rattle.line_model.specs.Fits.{Fits}
+use Rattle.gate_net.specs.NetOf.{IsNetOf}
+use Rattle.line_file.specs.LineFiles.{line_of}
+use Rattle.line_file.specs.Lines.{line_values}
+use Rattle.fault_script.specs.Scripts.{scripts_of}
+use Rattle.fault_script.specs.Values.{values_of}
+use Rattle.pilot_core.specs.Reading.{of_study}
+use Rattle.pilot_core.specs.declared.stop.Stop.{Stop}
+use Rattle.pilot_core.specs.declared.stop.Stop.TheVariants as stop
+use Rattle.pilot_core.specs.declared.study.Study.{Study}
+
+-- the net is that of the line, and the scripts fit it, at most 64 of them
+pub record IsStudy (study : Study) : Type 0 where
+  pub of_line : IsNetOf study.line study.net
+  pub fit : All (Fits study.line) study.scripts.items
+  pub few : length study.scripts.items ≤ 64
+
+-- a line file and a scripts file say it
+pub record IsSaid (line_bytes scripts_bytes : List ℕ) (study : Study) : Type 0 where
+  pub line_is : line_of line_bytes ≡ Ok (line_values study.line)
+  pub scripts_are : scripts_of study.line scripts_bytes ≡ Ok (map values_of study.scripts.items)
+
+-- the two files give it, or the first refusal
+abbrev pub ReadsStudy : List ℕ → List ℕ → Result Study Stop → Type 0
+ReadsStudy line_bytes scripts_bytes (Ok study) =
+    IsStudy study × IsSaid line_bytes scripts_bytes study
+ReadsStudy line_bytes scripts_bytes (Err stop.Usage) = ⊥
+ReadsStudy line_bytes scripts_bytes (Err (stop.Refused why)) =
+    of_study line_bytes scripts_bytes (λ first. first ≡ why) (λ line scripts. ⊥)
+ReadsStudy line_bytes scripts_bytes (Err (stop.Store file)) = ⊥
+ReadsStudy line_bytes scripts_bytes (Err stop.Sink) = ⊥
+ReadsStudy line_bytes scripts_bytes (Err stop.Memory) = ⊤

@@ -1,0 +1,16 @@
+-- A command, over what its files say.
+use Rattle.std.specs.Prelude.{ℕ, List}
+use Rattle.line_model.specs.declared.line.Line.{Line}
+use Rattle.line_model.specs.declared.script.Script.{Script}
+use Rattle.timing_box.specs.SoFar.{NamedValues}
+
+pub data Work : Type 0 where
+  net : Line → Work
+  line : Line → Work
+  migrate : Line → Work
+  certify : Line → List Script → Work
+  report : Line → List Script → Work
+  play : Line → List Script → List NamedValues → Work
+  -- with the bytes of a certificate
+  check : Line → List Script → List ℕ → Work
+  bench : ℕ → Work

@@ -1,0 +1,379 @@
+//! The command `certify`: the worked certificates, from the files to the text, with the status of
+//! their verdicts.
+
+use super::worked_files::*;
+use super::*;
+
+const CERTIFY: &[&str] = &["certify", "l", "s"];
+
+#[test]
+fn worked_certificates(rt: HostRuntime) -> Result<(), Fail> {
+    run_rows(&rt, rt.alloc(), CERTIFICATES)
+}
+
+const CERTIFICATES: &[Row<'static>] = &[
+    Row {
+        what: "no tick to spare",
+        words: CERTIFY,
+        line: POTT,
+        scripts: FAULT,
+        out: "pilot-cert 1
+script F1
+key A 0:12 ?:2 1:87 ?:2 0:17
+key B 0:12 ?:2 1:87 ?:2 0:17
+verdict A yes
+verdict B yes
+end
+",
+        ..ROW
+    },
+    Row {
+        what: "a deadline that the slowest choice misses",
+        words: CERTIFY,
+        line: POTT,
+        scripts: FAULT,
+        edit: (",19,", ",18,"),
+        status: Status::SomeNo,
+        out: "pilot-cert 1
+script F1
+key A 0:12 ?:2 1:87 ?:2 0:17
+key B 0:12 ?:2 1:87 ?:2 0:17
+verdict A no 0 0 4 3 0 0 0 0 0 0 4 3 0 0 0 0 5 5
+verdict B no 0 0 4 3 0 0 0 0 0 0 4 3 0 0 0 0 5 5
+end
+",
+        ..ROW
+    },
+    Row {
+        what: "a deadline that every choice misses",
+        words: CERTIFY,
+        line: POTT,
+        scripts: FAULT_TOO_EARLY,
+        status: Status::SomeNo,
+        out: "pilot-cert 1
+script F1
+key A 0:12 ?:2 1:87 ?:2 0:17
+key B 0:12 ?:2 1:87 ?:2 0:17
+verdict A no 0 0 2 1 0 0 0 0 0 0 2 1 0 0 0 0 3 3
+verdict B no 0 0 2 1 0 0 0 0 0 0 2 1 0 0 0 0 3 3
+end
+",
+        ..ROW
+    },
+    Row {
+        what: "an external fault",
+        words: CERTIFY,
+        line: POTT,
+        scripts: BEHIND_B,
+        out: "pilot-cert 1
+script X1
+key A 0:12 ?:2 1:87 ?:2 0:17
+key B 0:120
+verdict A yes
+verdict B yes
+end
+",
+        ..ROW
+    },
+    Row {
+        what: "a channel that is lost for the whole run",
+        words: CERTIFY,
+        line: POTT,
+        scripts: FAULT_UNHEARD,
+        status: Status::SomeNo,
+        out: "pilot-cert 1
+script F1
+key A 0:12 ?:2 1:87 ?:2 0:17
+key B 0:12 ?:2 1:87 ?:2 0:17
+verdict A no 0 0 2 1 0 0 0 0 0 0 2 1 0 0 0 0 3 3
+verdict B yes
+end
+",
+        ..ROW
+    },
+    Row {
+        what: "blocking, coordinated",
+        words: CERTIFY,
+        line: DCB,
+        scripts: BEHIND_B,
+        out: "pilot-cert 1
+script X1
+key A 0:120
+key B 0:11 ?:1 1:89 ?:2 0:17
+verdict A yes
+verdict B yes
+end
+",
+        ..ROW
+    },
+    Row {
+        what: "a coordination delay too short by one tick",
+        words: CERTIFY,
+        line: DCB,
+        scripts: BEHIND_B,
+        edit: ("coord = 5", "coord = 4"),
+        status: Status::SomeNo,
+        out: "pilot-cert 1
+script X1
+key A 0:120
+key B 0:11 ?:1 1:89 ?:2 0:17
+verdict A no 0 0 2 3 2 3 0 0 0 4 0 0 4 3 2 3 0 0 0 4 5 5
+verdict B yes
+end
+",
+        ..ROW
+    },
+    Row {
+        what: "a blocking signal that is lost",
+        words: CERTIFY,
+        line: DCB,
+        scripts: BEHIND_B_UNHEARD,
+        status: Status::SomeNo,
+        out: "pilot-cert 1
+script X1
+key A 0:120
+key B 0:11 ?:1 1:89 ?:2 0:17
+verdict A no 0 0 2 1 1 1 0 0 0 5 0 0 2 1 1 1 0 0 0 5 3 3
+verdict B yes
+end
+",
+        ..ROW
+    },
+    Row {
+        what: "a weak end whose echo is short",
+        words: CERTIFY,
+        line: WEAK_END,
+        scripts: WEAK_FAULT,
+        status: Status::SomeUndecided,
+        out: "pilot-cert 1
+script W1
+key A 0:12 1:89 0:19
+key B 0:15 ?:8 0:97
+verdict A undecided
+verdict B yes
+end
+",
+        ..ROW
+    },
+    Row {
+        what: "a weak end whose echo is long enough",
+        words: CERTIFY,
+        line: WEAK_END,
+        scripts: WEAK_FAULT,
+        edit: ("pulse = 3", "pulse = 8"),
+        out: "pilot-cert 1
+script W1
+key A 0:12 1:89 0:19
+key B 0:15 ?:5 1:3 ?:5 0:92
+verdict A yes
+verdict B yes
+end
+",
+        ..ROW
+    },
+    Row {
+        what: "a current reversal",
+        words: CERTIFY,
+        line: GUARDED,
+        scripts: REVERSAL,
+        out: "pilot-cert 1
+script C1
+key A 0:12 ?:2 1:27 ?:2 0:77
+key B 0:48 ?:2 1:31 ?:2 0:37
+verdict A yes
+verdict B yes
+end
+",
+        ..ROW
+    },
+    Row {
+        what: "three terminals, one of them unheard",
+        words: CERTIFY,
+        line: THREE_TERMINALS,
+        scripts: THREE_ENDS,
+        status: Status::SomeNo,
+        out: "pilot-cert 1
+script M1
+key A 0:12 1:89 0:19
+key B 0:12 1:89 0:19
+key C 0:12 1:89 0:19
+verdict A no 2 1 2 1 0 0 0 0 2 1 2 1 0 0 0 0 2 1 2 1 0 0 0 0 3 3 3 3 3 3
+verdict B no 2 1 2 1 0 0 0 0 2 1 2 1 0 0 0 0 2 1 2 1 0 0 0 0 3 3 3 3 3 3
+verdict C yes
+end
+",
+        ..ROW
+    },
+    Row {
+        what: "the same, underreaching",
+        words: CERTIFY,
+        line: THREE_TERMINALS,
+        scripts: THREE_ENDS,
+        edit: ("pott", "putt"),
+        out: "pilot-cert 1
+script M1
+key A 0:12 1:89 0:19
+key B 0:12 1:89 0:19
+key C 0:120
+verdict A yes
+verdict B yes
+verdict C yes
+end
+",
+        ..ROW
+    },
+    Row {
+        what: "quarters of a millisecond",
+        words: CERTIFY,
+        line: REALISTIC,
+        scripts: REALISTIC_FAULT,
+        out: "pilot-cert 1
+script P1
+key A 0:80 ?:60 1:520 ?:60 0:80
+key B 0:80 ?:60 1:520 ?:60 0:80
+verdict A yes
+verdict B yes
+end
+",
+        ..ROW
+    },
+    Row {
+        what: "a transferred trip",
+        words: CERTIFY,
+        line: DTT,
+        scripts: TRANSFERRED,
+        out: "pilot-cert 1
+script D1
+key A 0:11 1:39 0:70
+key B 0:120
+verdict A yes
+verdict B yes
+end
+",
+        ..ROW
+    },
+    Row {
+        what: "one tick",
+        words: CERTIFY,
+        line: ONE_TICK,
+        scripts: AT_ONCE,
+        status: Status::SomeNo,
+        out: "pilot-cert 1
+script S1
+key A 1:1
+key B 0:1
+verdict A no 0 0 0 0 0 0 0 0 0 0 0 0 0 0 0 0 3 3
+verdict B no 0 0 0 0 0 0 0 0 0 0 0 0 0 0 0 0 3 3
+end
+",
+        ..ROW
+    },
+    Row {
+        what: "two scripts, where a no of one is the status of both",
+        words: CERTIFY,
+        line: POTT,
+        scripts: "script,item,place,from,to
+N1,external,,,
+N2,internal,,10,
+",
+        status: Status::SomeNo,
+        out: "pilot-cert 1
+script N1
+key A 0:120
+key B 0:120
+verdict A yes
+verdict B yes
+script N2
+key A 0:120
+key B 0:120
+verdict A no 0 0 2 1 0 0 0 0 0 0 2 1 0 0 0 0 3 3
+verdict B no 0 0 2 1 0 0 0 0 0 0 2 1 0 0 0 0 3 3
+end
+",
+        ..ROW
+    },
+    Row {
+        what: "echoes that ring to the horizon",
+        words: CERTIFY,
+        line: BOTH_WEAK,
+        scripts: FLICKER,
+        out: "pilot-cert 1
+script R1
+key A 0:10 1:2 0:4 1:2 0:4 1:2 0:4 1:2
+key B 0:13 1:2 0:4 1:2 0:4 1:2 0:3
+verdict A yes
+verdict B yes
+end
+",
+        ..ROW
+    },
+    Row {
+        what: "a current reversal, with a guard that ends a tick too early",
+        words: CERTIFY,
+        line: GUARDED,
+        scripts: REVERSAL,
+        edit: (
+            "reversal = { pickup = 2, dropout = 7 }",
+            "reversal = { pickup = 2, dropout = 6 }",
+        ),
+        status: Status::SomeNo,
+        out: "pilot-cert 1
+script C1
+key A 0:12 ?:2 1:27 ?:2 0:77
+key B 0:47 ?:2 1:32 ?:2 0:37
+verdict A yes
+verdict B no 0 0 4 3 2 3 0 0 2 6 0 0 4 3 2 1 0 0 2 6 5 5
+end
+",
+        ..ROW
+    },
+    Row {
+        what: "nothing seen to the longest horizon",
+        words: CERTIFY,
+        line: POTT,
+        scripts: "script,item,place,from,to
+Q1,external,,,
+",
+        edit: ("horizon = 120", "horizon = 4000"),
+        out: "pilot-cert 1
+script Q1
+key A 0:4000
+key B 0:4000
+verdict A yes
+verdict B yes
+end
+",
+        ..ROW
+    },
+    Row {
+        what: "times in microseconds",
+        words: CERTIFY,
+        line: MICROSECONDS,
+        scripts: FAULT,
+        out: "pilot-cert 1
+script F1
+key A 0:12 ?:2 1:87 ?:2 0:17
+key B 0:12 ?:2 1:87 ?:2 0:17
+verdict A yes
+verdict B yes
+end
+",
+        ..ROW
+    },
+    Row {
+        what: "a line that is refused",
+        words: CERTIFY,
+        line: "horizon =",
+        status: Status::BadInput,
+        err: "refused line NotToml\n",
+        ..ROW
+    },
+    Row {
+        what: "scripts that are refused",
+        words: CERTIFY,
+        line: POTT,
+        status: Status::BadInput,
+        err: "refused scripts Header\n",
+        ..ROW
+    },
+];

@@ -1,0 +1,381 @@
+//! The command `play`: the worked plays of every scheme, from the files to the text.
+
+use super::worked_files::*;
+use super::*;
+
+#[test]
+fn worked_plays(rt: HostRuntime) -> Result<(), Fail> {
+    run_rows(&rt, rt.alloc(), PLAYS)
+}
+
+const PLAYS: &[Row<'static>] = &[
+    Row {
+        what: "POTT at the least numbers",
+        words: PLAY,
+        line: POTT,
+        scripts: FAULT,
+        third: LEAST,
+        out: PLAYED,
+        ..ROW
+    },
+    Row {
+        what: "POTT at the greatest",
+        words: PLAY,
+        line: POTT,
+        scripts: FAULT,
+        third: GREATEST,
+        out: AT_THE_GREATEST,
+        ..ROW
+    },
+    Row {
+        what: "current for 10 ticks more",
+        words: PLAY,
+        line: POTT,
+        scripts: FAULT_LONG_CURRENT,
+        third: LEAST,
+        out: WITH_LONG_CURRENT,
+        ..ROW
+    },
+    Row {
+        what: "no current",
+        words: PLAY,
+        line: POTT,
+        scripts: FAULT_NO_CURRENT,
+        third: LEAST,
+        out: PLAYED,
+        ..ROW
+    },
+    Row {
+        what: "two timings",
+        words: PLAY,
+        line: POTT,
+        scripts: FAULT,
+        third: LEAST_AND_GREATEST,
+        out: AT_BOTH_TIMINGS,
+        ..ROW
+    },
+    Row {
+        what: "an external fault",
+        words: PLAY,
+        line: POTT,
+        scripts: BEHIND_B,
+        third: LEAST,
+        out: OF_AN_EXTERNAL_FAULT,
+        ..ROW
+    },
+    Row {
+        what: "a lost permission",
+        words: PLAY,
+        line: POTT,
+        scripts: FAULT_UNHEARD,
+        third: LEAST,
+        out: WITH_A_LOST_PERMISSION,
+        ..ROW
+    },
+    Row {
+        what: "a script without rows",
+        words: PLAY,
+        line: POTT,
+        scripts: NOTHING_SEEN,
+        third: LEAST,
+        out: HEADER,
+        ..ROW
+    },
+    Row {
+        what: "a delay that moves once",
+        words: PLAY,
+        line: POTT,
+        scripts: FAULT,
+        third: ONE_STEP,
+        out: WITH_ONE_STEP,
+        ..ROW
+    },
+    Row {
+        what: "a delay that moves back",
+        words: PLAY,
+        line: POTT,
+        scripts: FAULT,
+        third: TWO_STEPS,
+        out: WITH_TWO_STEPS,
+        ..ROW
+    },
+    Row {
+        what: "PUTT with a zone 1 trip",
+        words: PLAY,
+        line: PUTT,
+        scripts: NEAR_A,
+        third: LEAST,
+        out: OF_PUTT,
+        ..ROW
+    },
+    Row {
+        what: "DCB",
+        words: PLAY,
+        line: DCB,
+        scripts: BEHIND_B,
+        third: LEAST,
+        out: OF_DCB,
+        ..ROW
+    },
+    Row {
+        what: "DCB with a lost channel",
+        words: PLAY,
+        line: DCB,
+        scripts: BEHIND_B_UNHEARD,
+        third: LEAST,
+        out: OF_DCB_UNHEARD,
+        ..ROW
+    },
+    Row {
+        what: "DCUB twice",
+        words: PLAY,
+        line: DCUB,
+        scripts: LOST_TWICE,
+        third: LEAST,
+        out: OF_DCUB,
+        ..ROW
+    },
+    Row {
+        what: "DTT",
+        words: PLAY,
+        line: DTT,
+        scripts: TRANSFERRED,
+        third: LEAST,
+        out: OF_DTT,
+        ..ROW
+    },
+    Row {
+        what: "a weak end",
+        words: PLAY,
+        line: WEAK_END,
+        scripts: WEAK_FAULT,
+        third: LEAST,
+        out: OF_A_WEAK_END,
+        ..ROW
+    },
+    Row {
+        what: "echoes that ring",
+        words: PLAY,
+        line: BOTH_WEAK,
+        scripts: FLICKER,
+        third: LEAST,
+        out: OF_RINGING_ECHOES,
+        ..ROW
+    },
+    Row {
+        what: "echoes that die out",
+        words: PLAY,
+        line: SLOW_ECHO,
+        scripts: FLICKER,
+        third: LEAST,
+        out: OF_DYING_ECHOES,
+        ..ROW
+    },
+    Row {
+        what: "three terminals",
+        words: PLAY,
+        line: THREE_TERMINALS,
+        scripts: THREE_ENDS,
+        third: LEAST,
+        out: OF_THREE_TERMINALS,
+        ..ROW
+    },
+    Row {
+        what: "a current reversal",
+        words: PLAY,
+        line: GUARDED,
+        scripts: REVERSAL,
+        third: LEAST,
+        out: OF_A_REVERSAL,
+        ..ROW
+    },
+    Row {
+        what: "a horizon of one tick",
+        words: PLAY,
+        line: ONE_TICK,
+        scripts: AT_ONCE,
+        third: LEAST,
+        out: OF_ONE_TICK,
+        ..ROW
+    },
+];
+
+const AT_THE_GREATEST: &str = "timing,script,tick,terminal,signal,level
+T2,F1,14,A,key,1
+T2,F1,14,B,key,1
+T2,F1,19,A,trip,1
+T2,F1,19,B,trip,1
+T2,F1,103,A,key,0
+T2,F1,103,A,trip,0
+T2,F1,103,B,key,0
+T2,F1,103,B,trip,0
+";
+
+const WITH_LONG_CURRENT: &str = "timing,script,tick,terminal,signal,level
+T1,F1,12,A,key,1
+T1,F1,12,B,key,1
+T1,F1,15,A,trip,1
+T1,F1,15,B,trip,1
+T1,F1,101,A,key,0
+T1,F1,101,B,key,0
+T1,F1,110,A,trip,0
+T1,F1,110,B,trip,0
+";
+
+const AT_BOTH_TIMINGS: &str = "timing,script,tick,terminal,signal,level
+T1,F1,12,A,key,1
+T1,F1,12,B,key,1
+T1,F1,15,A,trip,1
+T1,F1,15,B,trip,1
+T1,F1,101,A,key,0
+T1,F1,101,A,trip,0
+T1,F1,101,B,key,0
+T1,F1,101,B,trip,0
+T2,F1,14,A,key,1
+T2,F1,14,B,key,1
+T2,F1,19,A,trip,1
+T2,F1,19,B,trip,1
+T2,F1,103,A,key,0
+T2,F1,103,A,trip,0
+T2,F1,103,B,key,0
+T2,F1,103,B,trip,0
+";
+
+const OF_AN_EXTERNAL_FAULT: &str = "timing,script,tick,terminal,signal,level
+T1,X1,12,A,key,1
+T1,X1,101,A,key,0
+";
+
+const WITH_A_LOST_PERMISSION: &str = "timing,script,tick,terminal,signal,level
+T1,F1,12,A,key,1
+T1,F1,12,B,key,1
+T1,F1,15,B,trip,1
+T1,F1,101,A,key,0
+T1,F1,101,B,key,0
+T1,F1,101,B,trip,0
+";
+
+const WITH_ONE_STEP: &str = "timing,script,tick,terminal,signal,level
+T3,F1,12,A,key,1
+T3,F1,12,B,key,1
+T3,F1,15,A,trip,1
+T3,F1,17,B,trip,1
+T3,F1,101,A,key,0
+T3,F1,101,A,trip,0
+T3,F1,101,B,key,0
+T3,F1,101,B,trip,0
+";
+
+const WITH_TWO_STEPS: &str = "timing,script,tick,terminal,signal,level
+T3,F1,12,A,key,1
+T3,F1,12,B,key,1
+T3,F1,15,A,trip,1
+T3,F1,16,B,trip,1
+T3,F1,101,A,key,0
+T3,F1,101,A,trip,0
+T3,F1,101,B,key,0
+T3,F1,101,B,trip,0
+";
+
+const OF_PUTT: &str = "timing,script,tick,terminal,signal,level
+T1,F2,11,A,key,1
+T1,F2,11,A,trip,1
+T1,F2,14,B,trip,1
+T1,F2,100,A,key,0
+T1,F2,100,A,trip,0
+T1,F2,101,B,trip,0
+";
+
+const OF_DCB: &str = "timing,script,tick,terminal,signal,level
+T1,X1,11,B,key,1
+T1,X1,101,B,key,0
+";
+
+const OF_DCB_UNHEARD: &str = "timing,script,tick,terminal,signal,level
+T1,X1,11,B,key,1
+T1,X1,17,A,trip,1
+T1,X1,101,A,trip,0
+T1,X1,101,B,key,0
+";
+
+const OF_DCUB: &str = "timing,script,tick,terminal,signal,level
+T1,U1,12,A,key,1
+T1,U1,12,A,trip,1
+T1,U1,12,B,key,1
+T1,U1,15,B,trip,1
+T1,U1,60,A,trip,0
+T1,U1,61,A,key,0
+T1,U1,61,B,key,0
+T1,U1,61,B,trip,0
+T1,U2,47,A,key,1
+T1,U2,47,B,key,1
+T1,U2,50,B,trip,1
+T1,U2,96,A,key,0
+T1,U2,96,B,key,0
+T1,U2,96,B,trip,0
+";
+
+const OF_DTT: &str = "timing,script,tick,terminal,signal,level
+T1,D1,11,A,key,1
+T1,D1,11,A,trip,1
+T1,D1,16,B,trip,1
+T1,D1,50,A,key,0
+T1,D1,100,A,trip,0
+T1,D1,100,B,trip,0
+";
+
+const OF_A_WEAK_END: &str = "timing,script,tick,terminal,signal,level
+T1,W1,12,A,key,1
+T1,W1,15,B,key,1
+T1,W1,15,B,trip,1
+T1,W1,18,A,trip,1
+T1,W1,18,B,key,0
+T1,W1,100,A,trip,0
+T1,W1,100,B,trip,0
+T1,W1,101,A,key,0
+";
+
+const OF_RINGING_ECHOES: &str = "timing,script,tick,terminal,signal,level
+T1,R1,10,A,key,1
+T1,R1,12,A,key,0
+T1,R1,13,B,key,1
+T1,R1,15,B,key,0
+T1,R1,16,A,key,1
+T1,R1,18,A,key,0
+T1,R1,19,B,key,1
+T1,R1,21,B,key,0
+T1,R1,22,A,key,1
+T1,R1,24,A,key,0
+T1,R1,25,B,key,1
+T1,R1,27,B,key,0
+T1,R1,28,A,key,1
+";
+
+const OF_DYING_ECHOES: &str = "timing,script,tick,terminal,signal,level
+T1,R1,10,A,key,1
+T1,R1,12,A,key,0
+T1,R1,14,B,key,1
+T1,R1,15,B,key,0
+";
+
+const OF_THREE_TERMINALS: &str = "timing,script,tick,terminal,signal,level
+T1,M1,12,A,key,1
+T1,M1,12,B,key,1
+T1,M1,12,C,key,1
+T1,M1,15,C,trip,1
+T1,M1,101,A,key,0
+T1,M1,101,B,key,0
+T1,M1,101,C,key,0
+T1,M1,101,C,trip,0
+";
+
+const OF_A_REVERSAL: &str = "timing,script,tick,terminal,signal,level
+T1,C1,12,A,key,1
+T1,C1,41,A,key,0
+T1,C1,48,B,key,1
+T1,C1,81,B,key,0
+";
+
+const OF_ONE_TICK: &str = "timing,script,tick,terminal,signal,level
+T1,S1,0,A,key,1
+";
