@@ -1,5 +1,6 @@
 -- What is answered once a file is read, or refused.
 use Rattle.std.proofs.Common.{◌≡◌, ℕ, List, Result, Ok, Err, refl, sym, subst, inl}
+use Rattle.std.specs.Prelude.{⊤}
 use Rattle.std.specs.List.{All}
 use Rattle.line_model.specs.declared.line.Line.{Line}
 use Rattle.line_model.specs.declared.script.Script.{Script}
@@ -19,12 +20,23 @@ use Rattle.timing_box.specs.Inside.{IsTimingInside}
 use Rattle.timing_box.specs.SoFar.{NamedValues}
 use Rattle.timing_box.specs.declared.fault.TimingFault.{TimingFault}
 use Rattle.timing_box.specs.declared.fault.TimingFault.TheVariants as timing_fault
+use Rattle.record_match.specs.Gives as record_reading
+use Rattle.record_match.specs.Waves.{SeenValues}
+use Rattle.record_match.specs.declared.fault.SeenFault.{SeenFault}
+use Rattle.record_match.specs.declared.fault.SeenFault.TheVariants as seen_fault
 use Rattle.pilot_core.specs.Answers.{Answers, refuses}
 use Rattle.pilot_core.specs.Commands.{asks}
 use Rattle.pilot_core.specs.Ends.{Works}
-use Rattle.pilot_core.specs.Reading.{of_line, of_scripts, of_study, of_timings, work_of_one}
+use Rattle.pilot_core.specs.Reading.{
+  of_line,
+  of_record,
+  of_scripts,
+  of_study,
+  of_timings,
+  work_of_one,
+}
 use Rattle.pilot_core.specs.Sinks.{SinkView}
-use Rattle.pilot_core.specs.Stops.{line_stop, script_stop, timing_stop}
+use Rattle.pilot_core.specs.Stops.{line_stop, record_stop, script_stop, timing_stop}
 use Rattle.pilot_core.specs.Study.{IsSaid, IsStudy, ReadsStudy}
 use Rattle.pilot_core.specs.declared.refusal.Refusal.{Refusal}
 use Rattle.pilot_core.specs.declared.stop.Status.{Status}
@@ -65,6 +77,18 @@ pub timings_read : (l : Line) (said : Result (List NamedValues) TimingFault)
     → said ≡ Ok timings → All (λ timing. IsTimingInside l timing.timing) timings
     → holds timings → of_timings l said refused holds
 timings_read l said timings refused holds is inside h = rw is (inside, h)
+
+-- records of the field that were read
+pub record_read : (said : Result (List SeenValues) SeenFault) (records : List SeenValues)
+    (refused : Refusal → Type 0) (holds : List SeenValues → Type 0)
+    → said ≡ Ok records → holds records → of_record said refused holds
+record_read said records refused holds is h = rw is h
+
+-- a command over records asks nothing
+pub asks_of_record : (said : Result (List SeenValues) SeenFault)
+    → of_record said (λ why. ⊤) (λ records. ⊤)
+asks_of_record (Ok records) = tt
+asks_of_record (Err why) = tt
 
 -- ---- refusals
 
@@ -216,3 +240,31 @@ module _ {K : Type 0} (view : K → SinkView) where
       (λ why. refuses why t text message) (λ timings. next timings t text message)) old new r
       (λ t text message a. timings_read l said timings (λ why. refuses why t text message)
       (λ all. next all t text message) is inside a) w
+
+  -- a record file that is refused
+  pub record_stops : (said : Result (List SeenValues) SeenFault)
+      (next : List SeenValues → Answers) (s : K) (e : SeenFault) → record_reading.Fails e said
+      → Works view (λ t text message. of_record said (λ why. refuses why t text message)
+      (λ records. next records t text message)) s s (Err (record_stop e))
+  record_stops said next s seen_fault.Header f = rw f ((refl, refl, refl), refl)
+  record_stops said next s (seen_fault.Fields n) f = rw f ((refl, refl, refl), refl)
+  record_stops said next s (seen_fault.BadPlace n) f = rw f ((refl, refl, refl), refl)
+  record_stops said next s (seen_fault.Ticks n) f = rw f ((refl, refl, refl), refl)
+  record_stops said next s (seen_fault.Order n) f = rw f ((refl, refl, refl), refl)
+  record_stops said next s (seen_fault.BadName n) f = rw f ((refl, refl, refl), refl)
+  record_stops said next s (seen_fault.Later n) f = rw f ((refl, refl, refl), refl)
+  record_stops said next s (seen_fault.Level n) f = rw f ((refl, refl, refl), refl)
+  record_stops said next s seen_fault.Empty f = rw f ((refl, refl, refl), refl)
+  record_stops said next s seen_fault.Memory f = no_memory _ s
+
+  -- a work over the records that were read
+  pub works_of_record : (said : Result (List SeenValues) SeenFault)
+      (next : List SeenValues → Answers) (records : List SeenValues) (old new : K)
+      (r : Result Status Stop) → said ≡ Ok records → Works view (next records) old new r
+      → Works view (λ t text message. of_record said (λ why. refuses why t text message)
+      (λ records. next records t text message)) old new r
+  works_of_record said next records old new r is w =
+      works_wider view (next records) (λ t text message. of_record said
+      (λ why. refuses why t text message) (λ records. next records t text message)) old new r
+      (λ t text message a. record_read said records (λ why. refuses why t text message)
+      (λ all. next all t text message) is a) w

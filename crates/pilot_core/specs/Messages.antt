@@ -15,6 +15,7 @@ file_word file.Line = codes "line"
 file_word file.Scripts = codes "scripts"
 file_word file.Timings = codes "timings"
 file_word file.Cert = codes "cert"
+file_word file.Record = codes "record"
 
 -- what is told behind a fault's name, with the space before it
 abbrev pub detail_pieces : Detail → List (List ℕ)

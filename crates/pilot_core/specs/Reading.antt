@@ -15,6 +15,8 @@ use Rattle.timing_box.specs.Inside.{IsTimingInside}
 use Rattle.timing_box.specs.SoFar.{NamedValues}
 use Rattle.timing_box.specs.Timings.{timings_of}
 use Rattle.timing_box.specs.declared.fault.TimingFault.{TimingFault}
+use Rattle.record_match.specs.Waves.{SeenValues, records_said}
+use Rattle.record_match.specs.declared.fault.SeenFault.{SeenFault}
 use Rattle.pilot_core.specs.Words as words
 use Rattle.pilot_core.specs.Words.{Command}
 use Rattle.pilot_core.specs.Work as work
@@ -52,6 +54,12 @@ of_timings line (Ok timings) refused holds =
     All (λ timing. IsTimingInside line timing.timing) timings × holds timings
 of_timings line (Err why) refused holds = refused (refusal.Timings why)
 
+-- what holds of the records of the field that a record file gives, or of its refusal
+abbrev pub of_record : Result (List SeenValues) SeenFault → (Refusal → Type 0)
+    → (List SeenValues → Type 0) → Type 0
+of_record (Ok records) refused holds = holds records
+of_record (Err why) refused holds = refused (refusal.Record why)
+
 -- what holds of the line and the scripts, refused in this order
 abbrev pub of_study : List ℕ → List ℕ → (Refusal → Type 0) → (Line → List Script → Type 0)
     → Type 0
@@ -80,6 +88,9 @@ third_file three.Play bytes line scripts refused holds =
     of_timings line (timings_of line bytes) refused
     (λ timings. holds (work.play line scripts timings))
 third_file three.Check bytes line scripts refused holds = holds (work.check line scripts bytes)
+third_file three.Match bytes line scripts refused holds =
+    of_record (records_said line scripts bytes) refused
+    (λ records. holds (work.matching line scripts records))
 
 abbrev pub one_file : OneFile → List ℕ → Reading
 one_file command line_bytes refused holds =

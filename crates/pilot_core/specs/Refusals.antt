@@ -5,6 +5,7 @@ use Rattle.line_file.specs.declared.fault.LineFault.{LineFault}
 use Rattle.line_file.specs.declared.fault.LineFault.TheVariants as fault
 use Rattle.fault_script.specs.Faults as script_faults
 use Rattle.timing_box.specs.Faults as timing_faults
+use Rattle.record_match.specs.Faults as seen_faults
 use Rattle.pilot_core.specs.declared.refusal.Detail.{Detail}
 use Rattle.pilot_core.specs.declared.refusal.Detail.TheVariants as detail
 use Rattle.pilot_core.specs.declared.refusal.Refusal.{Refusal}
@@ -17,12 +18,14 @@ file_of (refusal.TooLong f) = f
 file_of (refusal.Line why) = file.Line
 file_of (refusal.Scripts why) = file.Scripts
 file_of (refusal.Timings why) = file.Timings
+file_of (refusal.Record why) = file.Record
 
 abbrev pub name_of : Refusal → List ℕ
 name_of (refusal.TooLong f) = codes "TooLong"
 name_of (refusal.Line why) = line_faults.fault_name why
 name_of (refusal.Scripts why) = script_faults.fault_name why
 name_of (refusal.Timings why) = timing_faults.fault_name why
+name_of (refusal.Record why) = seen_faults.fault_name why
 
 -- the place of a fault of a line file
 abbrev pub line_detail : LineFault → Detail
@@ -36,7 +39,7 @@ line_detail (fault.Twice path) = detail.Path path
 line_detail (fault.Channels from to) = detail.Channel from to
 line_detail fault.Memory = detail.Nothing
 
--- the record of a fault of a scripts or timings file
+-- the record of a fault of a scripts, timings or record file
 abbrev pub record_detail : Option ℕ → Detail
 record_detail None = detail.Nothing
 record_detail (Some n) = detail.Record n
@@ -46,3 +49,4 @@ detail_of (refusal.TooLong f) = detail.Nothing
 detail_of (refusal.Line why) = line_detail why
 detail_of (refusal.Scripts why) = record_detail (script_faults.fault_record why)
 detail_of (refusal.Timings why) = record_detail (timing_faults.fault_record why)
+detail_of (refusal.Record why) = record_detail (seen_faults.fault_record why)

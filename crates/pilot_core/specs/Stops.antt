@@ -5,6 +5,8 @@ use Rattle.fault_script.specs.declared.fault.ScriptFault.{ScriptFault}
 use Rattle.fault_script.specs.declared.fault.ScriptFault.TheVariants as script_fault
 use Rattle.timing_box.specs.declared.fault.TimingFault.{TimingFault}
 use Rattle.timing_box.specs.declared.fault.TimingFault.TheVariants as timing_fault
+use Rattle.record_match.specs.declared.fault.SeenFault.{SeenFault}
+use Rattle.record_match.specs.declared.fault.SeenFault.TheVariants as seen_fault
 use Rattle.pilot_core.specs.declared.refusal.Refusal.TheVariants as refusal
 use Rattle.pilot_core.specs.declared.stop.Stop.{Stop}
 use Rattle.pilot_core.specs.declared.stop.Stop.TheVariants as stop
@@ -20,3 +22,7 @@ script_stop why = stop.Refused (refusal.Scripts why)
 abbrev pub timing_stop : TimingFault → Stop
 timing_stop timing_fault.Memory = stop.Memory
 timing_stop why = stop.Refused (refusal.Timings why)
+
+abbrev pub record_stop : SeenFault → Stop
+record_stop seen_fault.Memory = stop.Memory
+record_stop why = stop.Refused (refusal.Record why)

@@ -62,6 +62,7 @@ abbrev pub command_of_four : List ℕ → List ℕ → List ℕ → List ℕ →
 command_of_four word first second third =
     if bytes_eq word (codes "play") then Some (three_files three.Play first second third)
     else if bytes_eq word (codes "check") then Some (three_files three.Check first second third)
+    else if bytes_eq word (codes "match") then Some (three_files three.Match first second third)
     else None
 
 -- the command that these words are
@@ -79,6 +80,7 @@ command_of (word ∷ first ∷ second ∷ third ∷ more ∷ rest) = None
 abbrev pub own_file : ThreeFiles → File
 own_file three.Play = file.Timings
 own_file three.Check = file.Cert
+own_file three.Match = file.Record
 
 abbrev pub named : File → List ℕ → NamedFile
 named f name = record { file = f; name = name }

@@ -3,6 +3,7 @@ use Rattle.std.specs.Prelude.{ℕ, List}
 use Rattle.line_model.specs.declared.line.Line.{Line}
 use Rattle.line_model.specs.declared.script.Script.{Script}
 use Rattle.timing_box.specs.SoFar.{NamedValues}
+use Rattle.record_match.specs.Waves.{SeenValues}
 
 pub data Work : Type 0 where
   net : Line → Work
@@ -13,4 +14,6 @@ pub data Work : Type 0 where
   play : Line → List Script → List NamedValues → Work
   -- with the bytes of a certificate
   check : Line → List Script → List ℕ → Work
+  -- with records of the field
+  matching : Line → List Script → List SeenValues → Work
   bench : ℕ → Work

@@ -6,13 +6,16 @@ ghost use Rattle.pilot_core.specs.Bench.{bench_answer, bench_asks};
 ghost use Rattle.pilot_core.specs.Call.{answer_by, asks_by};
 ghost use Rattle.pilot_core.specs.Commands.{answer};
 ghost use Rattle.pilot_core.specs.Ends.{Works};
+ghost use Rattle.pilot_core.specs.Files.{limit_of};
 ghost use Rattle.pilot_core.specs.Reading.{one_file as of_one_file, three_files as of_three_files};
 ghost use Rattle.pilot_core.specs.Reading.{two_files as of_two_files, work_of_one};
 ghost use Rattle.pilot_core.specs.Sinks.{sink_view};
+ghost use Rattle.pilot_core.specs.Words.{own_file};
 
 mod certify;
 mod check;
 mod line;
+mod match_records;
 mod migrate;
 mod net;
 mod play;
@@ -107,7 +110,7 @@ pub fn three_files<G: Engine, O: Sink>(
     engine: &mut G,
     out: &mut O,
 ) -> Result<Status, Stop>
-    requires { length third.now ≤ 4194304 }
+    requires { length third.now ≤ limit_of (own_file work) }
     ensures asked { OnOk result (asks_by (of_three_files work line.now scripts.now third.now)
         (G.calls engine.old) (G.calls engine.new)) }
     ensures works { Works (sink_view O.written O.faults)
@@ -120,5 +123,6 @@ pub fn three_files<G: Engine, O: Sink>(
             let said = check::check(alloc, &study, third, engine)?;
             put_said(out, &said)
         }
+        ThreeFiles::Match => match_records::match_records(alloc, &study, third, out),
     }
 }

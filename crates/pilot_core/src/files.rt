@@ -14,7 +14,7 @@ fn limit_of(file: File) -> u32
     ensures most { result ≤ 4194304 }
 {
     match file {
-        File::Line | File::Scripts => 1_048_576,
+        File::Line | File::Scripts | File::Record => 1_048_576,
         File::Timings | File::Cert => 4_194_304,
     }
 }

@@ -28,6 +28,7 @@ fn word_of_file(file: File) -> &'static [u8]
         File::Scripts => b"scripts",
         File::Timings => b"timings",
         File::Cert => b"cert",
+        File::Record => b"record",
     }
 }
 

@@ -7,6 +7,7 @@ use crate::stop::File;
 use fault_script::ScriptFault;
 use line_file::{LineFault, Path};
 use line_model::Name;
+use record_match::SeenFault;
 use timing_box::TimingFault;
 
 /// Why a file is refused.
@@ -17,6 +18,7 @@ pub enum Refusal {
     Line(LineFault),
     Scripts(ScriptFault),
     Timings(TimingFault),
+    Record(SeenFault),
 }
 
 /// What is told behind the name of a fault.
@@ -25,7 +27,7 @@ pub enum Detail {
     Nothing,
     /// A place in a line file.
     Path(Path),
-    /// The number of a record of a scripts or timings file.
+    /// The number of a record of a scripts, timings or record file.
     Record(u32),
     /// The sender and the receiver of a channel that is not there.
     Channel(Name, Name),
@@ -40,6 +42,7 @@ impl Refusal {
             Refusal::Line(_) => File::Line,
             Refusal::Scripts(_) => File::Scripts,
             Refusal::Timings(_) => File::Timings,
+            Refusal::Record(_) => File::Record,
         }
     }
 
@@ -52,6 +55,7 @@ impl Refusal {
             Refusal::Line(fault) => fault.name(),
             Refusal::Scripts(fault) => fault.name(),
             Refusal::Timings(fault) => fault.name(),
+            Refusal::Record(fault) => fault.name(),
         }
     }
 
@@ -63,6 +67,7 @@ impl Refusal {
             Refusal::Line(fault) => detail_of_line(fault),
             Refusal::Scripts(fault) => detail_of_record(fault.record()),
             Refusal::Timings(fault) => detail_of_record(fault.record()),
+            Refusal::Record(fault) => detail_of_record(fault.record()),
         }
     }
 }

@@ -149,5 +149,6 @@ fn own_file(work: ThreeFiles) -> File
     match work {
         ThreeFiles::Play => File::Timings,
         ThreeFiles::Check => File::Cert,
+        ThreeFiles::Match => File::Record,
     }
 }

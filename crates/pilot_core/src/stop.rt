@@ -5,6 +5,7 @@ ghost use Rattle.pilot_core.specs.declared.stop.Stop.TheVariants.{Memory, Sink};
 use crate::refusal::Refusal;
 use fault_script::ScriptFault;
 use line_file::LineFault;
+use record_match::SeenFault;
 use relay_base::PutFailed;
 use std::alloc::{AllocError, AllocFailed};
 use timing_box::TimingFault;
@@ -14,9 +15,10 @@ use timing_box::TimingFault;
 pub enum Status {
     /// All text is written.
     Good,
-    /// Some obligation fails at a choice of delays.
+    /// Some obligation fails at a choice of delays, or some record of the field is impossible.
     SomeNo,
-    /// No obligation is known to fail, and some is undecided.
+    /// No obligation is known to fail, and some is undecided; or no record of the field is
+    /// impossible, and some is open.
     SomeUndecided,
     /// A certificate is rejected.
     Rejected,
@@ -39,6 +41,7 @@ pub enum File {
     Scripts,
     Timings,
     Cert,
+    Record,
 }
 
 /// Why a call stopped, as its line to standard error says it.
@@ -140,6 +143,19 @@ impl From<TimingFault> for Stop {
         match fault {
             TimingFault::Memory => Stop::Memory,
             fault => Stop::Refused(Refusal::Timings(fault)),
+        }
+    }
+}
+
+impl From<SeenFault> for Stop {
+    ghost use Rattle.pilot_core.specs.Stops.{record_stop};
+
+    ghost from_gives = { λ fault stop. stop ≡ record_stop fault };
+
+    fn from(fault: SeenFault) -> Self {
+        match fault {
+            SeenFault::Memory => Stop::Memory,
+            fault => Stop::Refused(Refusal::Record(fault)),
         }
     }
 }

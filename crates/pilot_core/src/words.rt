@@ -31,6 +31,8 @@ pub enum ThreeFiles {
     Play,
     /// Its own file is a certificate.
     Check,
+    /// Its own file has records of the field.
+    Match,
 }
 
 /// A command with the names of its files.
@@ -129,7 +131,7 @@ fn command_of_three<'a>(word: &str, line: &'a str, scripts: &'a str) -> Option<C
     })
 }
 
-// `play LINE SCRIPTS TIMINGS` and `check LINE SCRIPTS CERT`.
+// `play LINE SCRIPTS TIMINGS`, `check LINE SCRIPTS CERT` and `match LINE SCRIPTS RECORD`.
 fn command_of_four<'a>(
     word: &str,
     line: &'a str,
@@ -142,6 +144,8 @@ fn command_of_four<'a>(
         ThreeFiles::Play
     } else if word == "check" {
         ThreeFiles::Check
+    } else if word == "match" {
+        ThreeFiles::Match
     } else {
         return None;
     };

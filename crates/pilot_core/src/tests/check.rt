@@ -112,20 +112,6 @@ verdict B yes
 end
 ";
 
-// The first fault, and then an external one.
-const BOTH: &str = "script,item,place,from,to
-F1,internal,,19,
-F1,z2,A,10,100
-F1,cur,A,10,100
-F1,z2,B,10,100
-F1,cur,B,10,100
-X1,external,,,
-X1,z2,A,10,100
-X1,cur,A,10,100
-X1,rv,B,10,100
-X1,cur,B,10,100
-";
-
 // What is certified of both.
 const TWO: &str = "pilot-cert 1
 script F1
@@ -498,7 +484,7 @@ const CHECKS: &[Row<'static>] = &[
         what: "two scripts",
         words: CHECK,
         line: POTT,
-        scripts: BOTH,
+        scripts: FAULT_AND_EXTERNAL,
         third: TWO,
         out: "accepted 4 0 0\n",
         ..ROW
@@ -507,7 +493,7 @@ const CHECKS: &[Row<'static>] = &[
         what: "a key of the second",
         words: CHECK,
         line: POTT,
-        scripts: BOTH,
+        scripts: FAULT_AND_EXTERNAL,
         third: TWO,
         edit: (
             "script X1\nkey A 0:12 ?:2 1:87",
@@ -521,7 +507,7 @@ const CHECKS: &[Row<'static>] = &[
         what: "a no of the second",
         words: CHECK,
         line: POTT,
-        scripts: BOTH,
+        scripts: FAULT_AND_EXTERNAL,
         third: TWO,
         edit: ("yes\nend", "no 0 0 4 3 0 0 0 0 0 0 4 3 0 0 0 0 5 5\nend"),
         status: Status::Rejected,
@@ -532,7 +518,7 @@ const CHECKS: &[Row<'static>] = &[
         what: "a number of the second",
         words: CHECK,
         line: POTT,
-        scripts: BOTH,
+        scripts: FAULT_AND_EXTERNAL,
         third: TWO,
         edit: ("yes\nend", "no 0 0 4 3 0 0 0 0 0 0 4 3 0 0 0 0 5 6\nend"),
         status: Status::Rejected,
@@ -543,7 +529,7 @@ const CHECKS: &[Row<'static>] = &[
         what: "the last line, before any claim",
         words: CHECK,
         line: POTT,
-        scripts: BOTH,
+        scripts: FAULT_AND_EXTERNAL,
         third: TWO,
         edit: ("end", "END"),
         status: Status::Rejected,

@@ -59,6 +59,7 @@ const OTHER_WORDS: &[&[&str]] = &[
     &["play", "l"],
     &["play", "l", "s"],
     &["check", "l", "s"],
+    &["match", "l", "s"],
     &["certify"],
     &["certify", "l"],
     &["report"],
@@ -69,6 +70,7 @@ const OTHER_WORDS: &[&[&str]] = &[
     // A command with too many.
     &["play", "l", "s", "t", "t"],
     &["check", "l", "s", "t", "t"],
+    &["match", "l", "s", "t", "t"],
     &["certify", "l", "s", "t"],
     &["report", "l", "s", "t"],
     &["net", "l", "l"],
@@ -96,7 +98,6 @@ const OTHER_WORDS: &[&[&str]] = &[
     &["split", "l", "s", "1"],
     &["recheck", "l", "s", "t"],
     &["margin", "l", "s", "A>B.delay"],
-    &["match", "l", "s", "t"],
 ];
 
 const NOT_HELD: &[(&[&str], &str)] = &[
@@ -106,6 +107,7 @@ const NOT_HELD: &[(&[&str], &str)] = &[
     (&["play", "l", "s", ""], "store fault timings\n"),
     (&["play", "none", "none", "none"], "store fault line\n"),
     (&["check", "l", "s", "none"], "store fault cert\n"),
+    (&["match", "l", "s", "none"], "store fault record\n"),
     (&["certify", "none", "s"], "store fault line\n"),
     (&["certify", "l", "none"], "store fault scripts\n"),
     (&["report", "none", "s"], "store fault line\n"),

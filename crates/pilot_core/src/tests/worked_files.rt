@@ -429,6 +429,20 @@ X1,rv,B,10,100
 X1,cur,B,10,100
 ";
 
+/// The first fault, and then an external one.
+pub const FAULT_AND_EXTERNAL: &str = "script,item,place,from,to
+F1,internal,,19,
+F1,z2,A,10,100
+F1,cur,A,10,100
+F1,z2,B,10,100
+F1,cur,B,10,100
+X1,external,,,
+X1,z2,A,10,100
+X1,cur,A,10,100
+X1,rv,B,10,100
+X1,cur,B,10,100
+";
+
 /// The same while A hears nothing of B.
 pub const BEHIND_B_UNHEARD: &str = "script,item,place,from,to
 X1,external,,,
