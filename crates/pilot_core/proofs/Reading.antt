@@ -1,5 +1,5 @@
 -- What is answered once a file is read, or refused.
-use Rattle.std.proofs.Common.{◌≡◌, ℕ, List, Result, Ok, Err, refl, sym, subst, inl}
+use Rattle.std.proofs.Common.{◌≡◌, ℕ, List, Option, None, Some, Result, Ok, Err, refl, sym, subst, inl}
 use Rattle.std.specs.Prelude.{⊤}
 use Rattle.std.specs.List.{All}
 use Rattle.line_model.specs.declared.line.Line.{Line}
@@ -29,6 +29,7 @@ use Rattle.pilot_core.specs.Commands.{asks}
 use Rattle.pilot_core.specs.Ends.{Works}
 use Rattle.pilot_core.specs.Reading.{
   of_line,
+  of_parameter,
   of_record,
   of_scripts,
   of_study,
@@ -39,6 +40,7 @@ use Rattle.pilot_core.specs.Sinks.{SinkView}
 use Rattle.pilot_core.specs.Stops.{line_stop, record_stop, script_stop, timing_stop}
 use Rattle.pilot_core.specs.Study.{IsSaid, IsStudy, ReadsStudy}
 use Rattle.pilot_core.specs.declared.refusal.Refusal.{Refusal}
+use Rattle.pilot_core.specs.declared.refusal.Refusal.TheVariants as refusal
 use Rattle.pilot_core.specs.declared.stop.Status.{Status}
 use Rattle.pilot_core.specs.declared.stop.Stop.{Stop}
 use Rattle.pilot_core.specs.declared.stop.Stop.TheVariants as stop
@@ -89,6 +91,11 @@ pub asks_of_record : (said : Result (List SeenValues) SeenFault)
     → of_record said (λ why. ⊤) (λ records. ⊤)
 asks_of_record (Ok records) = tt
 asks_of_record (Err why) = tt
+
+-- a parameter that was found
+pub parameter_found : (said : Option ℕ) (param : ℕ) (refused : Refusal → Type 0)
+    (holds : ℕ → Type 0) → said ≡ Some param → holds param → of_parameter said refused holds
+parameter_found said param refused holds is h = rw is h
 
 -- ---- refusals
 
@@ -268,3 +275,20 @@ module _ {K : Type 0} (view : K → SinkView) where
       (λ why. refuses why t text message) (λ records. next records t text message)) old new r
       (λ t text message a. record_read said records (λ why. refuses why t text message)
       (λ all. next all t text message) is a) w
+
+  -- a name that is no parameter's
+  pub parameter_stops : (said : Option ℕ) (next : ℕ → Answers) (s : K) → said ≡ None
+      → Works view (λ t text message. of_parameter said (λ why. refuses why t text message)
+      (λ param. next param t text message)) s s (Err (stop.Refused refusal.UnknownParameter))
+  parameter_stops said next s is = rw is ((refl, refl, refl), refl)
+
+  -- a work over the parameter that was found
+  pub works_of_parameter : (said : Option ℕ) (next : ℕ → Answers) (param : ℕ) (old new : K)
+      (r : Result Status Stop) → said ≡ Some param → Works view (next param) old new r
+      → Works view (λ t text message. of_parameter said (λ why. refuses why t text message)
+      (λ param. next param t text message)) old new r
+  works_of_parameter said next param old new r is w =
+      works_wider view (next param) (λ t text message. of_parameter said
+      (λ why. refuses why t text message) (λ param. next param t text message)) old new r
+      (λ t text message a. parameter_found said param (λ why. refuses why t text message)
+      (λ param. next param t text message) is a) w

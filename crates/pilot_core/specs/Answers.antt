@@ -11,7 +11,7 @@ use Rattle.pilot_core.specs.declared.stop.Stop.TheVariants as stop
 abbrev pub Answers : Type 1
 Answers = Status → List ℕ → List ℕ → Type 0
 
--- a file is refused: nothing on out
+-- a file, or the parameter, is refused: nothing on out
 abbrev pub refuses : Refusal → Answers
 refuses why s text message =
     (s ≡ status.BadInput) × (text ≡ []) × (message ≡ message_of (stop.Refused why))

@@ -9,3 +9,5 @@ command_view (command.OneFile work line) = words.one_file work line.now
 command_view (command.TwoFiles work line scripts) = words.two_files work line.now scripts.now
 command_view (command.ThreeFiles work line scripts third) =
     words.three_files work line.now scripts.now third.now
+command_view (command.Margin line scripts parameter) =
+    words.margin line.now scripts.now parameter.now

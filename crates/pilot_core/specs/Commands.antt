@@ -5,6 +5,7 @@ use Rattle.pilot_core.specs.Bench.{bench_answer, bench_asks}
 use Rattle.pilot_core.specs.Certify.{certify_answer, certify_asks}
 use Rattle.pilot_core.specs.Check.{check_answer, check_asks}
 use Rattle.pilot_core.specs.Line.{line_answer}
+use Rattle.pilot_core.specs.Margin.{margin_answer}
 use Rattle.pilot_core.specs.Match.{match_answer}
 use Rattle.pilot_core.specs.Migrate.{migrate_answer}
 use Rattle.pilot_core.specs.Net.{net_answer}
@@ -22,6 +23,7 @@ answer (work.report line scripts) = report_answer line scripts
 answer (work.play line scripts timings) = play_answer line scripts timings
 answer (work.check line scripts cert) = check_answer line scripts cert
 answer (work.matching line scripts records) = match_answer line scripts records
+answer (work.margin line scripts param) = margin_answer line scripts param
 answer (work.bench n) = bench_answer n
 
 abbrev pub asks : Work → Asks

@@ -20,7 +20,7 @@ use Rattle.pilot_core.specs.declared.stop.Stop.{Stop}
 use Rattle.pilot_core.specs.declared.stop.Stop.TheVariants as stop
 
 -- a work that asks no store: its answers are those that are allowed. A sink is as it was, in all
--- that it has, where a file is refused.
+-- that it has, where a file or the parameter is refused.
 abbrev pub Works : {K : Type 0} → (K → SinkView) → Answers → K → K → Result Status Stop → Type 0
 Works view allowed old new (Ok s) =
     IsDone s × (text : List ℕ) × allowed s text [] × GrewByAll (view old) (view new) text

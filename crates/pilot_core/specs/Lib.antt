@@ -10,6 +10,7 @@ pub mod Commands
 pub mod Ends
 pub mod Files
 pub mod Line
+pub mod Margin
 pub mod Match
 pub mod Messages
 pub mod Migrate

@@ -1,6 +1,6 @@
 -- What the files of a command say: the command over that, or the refusal of the first file that is
 -- too long or that a reader refuses.
-use Rattle.std.specs.Prelude.{◌≡◌, ◌∷◌, ℕ, List, [], Result, Ok, Err, map}
+use Rattle.std.specs.Prelude.{◌≡◌, ◌∷◌, ℕ, List, [], Option, None, Some, Result, Ok, Err, map}
 use Rattle.std.specs.List.{All}
 use Rattle.line_model.specs.declared.line.Line.{Line}
 use Rattle.line_model.specs.declared.script.Script.{Script}
@@ -11,6 +11,7 @@ use Rattle.line_file.specs.declared.fault.LineFault.{LineFault}
 use Rattle.fault_script.specs.Scripts.{scripts_of}
 use Rattle.fault_script.specs.Values.{ScriptValues, values_of}
 use Rattle.fault_script.specs.declared.fault.ScriptFault.{ScriptFault}
+use Rattle.timing_box.specs.Checks.{param_named}
 use Rattle.timing_box.specs.Inside.{IsTimingInside}
 use Rattle.timing_box.specs.SoFar.{NamedValues}
 use Rattle.timing_box.specs.Timings.{timings_of}
@@ -60,6 +61,11 @@ abbrev pub of_record : Result (List SeenValues) SeenFault → (Refusal → Type 
 of_record (Ok records) refused holds = holds records
 of_record (Err why) refused holds = refused (refusal.Record why)
 
+-- what holds of the parameter that a name is, or of the refusal of a name that is none
+abbrev pub of_parameter : Option ℕ → (Refusal → Type 0) → (ℕ → Type 0) → Type 0
+of_parameter (Some param) refused holds = holds param
+of_parameter None refused holds = refused refusal.UnknownParameter
+
 -- what holds of the line and the scripts, refused in this order
 abbrev pub of_study : List ℕ → List ℕ → (Refusal → Type 0) → (Line → List Script → Type 0)
     → Type 0
@@ -106,6 +112,13 @@ three_files command line_bytes scripts_bytes third_bytes refused holds =
     of_study line_bytes scripts_bytes refused
     (λ line scripts. third_file command third_bytes line scripts refused holds)
 
+-- the parameter of that name, over the line and the scripts
+abbrev pub margin : List ℕ → List ℕ → List ℕ → Reading
+margin parameter line_bytes scripts_bytes refused holds =
+    of_study line_bytes scripts_bytes refused
+    (λ line scripts. of_parameter (param_named line parameter) refused
+    (λ param. holds (work.margin line scripts param)))
+
 -- over the bytes of the command's files in word order
 abbrev pub over_bytes : Command → List (List ℕ) → Reading
 over_bytes (words.one_file command _) (line_bytes ∷ []) = one_file command line_bytes
@@ -113,6 +126,8 @@ over_bytes (words.two_files command _ _) (line_bytes ∷ scripts_bytes ∷ []) =
     two_files command line_bytes scripts_bytes
 over_bytes (words.three_files command _ _ _) (line_bytes ∷ scripts_bytes ∷ third_bytes ∷ []) =
     three_files command line_bytes scripts_bytes third_bytes
+over_bytes (words.margin _ _ parameter) (line_bytes ∷ scripts_bytes ∷ []) =
+    margin parameter line_bytes scripts_bytes
 over_bytes (words.bench n) [] = λ refused holds. holds (work.bench n)
 over_bytes command bytes = λ refused holds. ⊥
 

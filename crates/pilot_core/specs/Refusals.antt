@@ -1,4 +1,5 @@
--- What is told of a file that is refused: the file, the fault's printed name, and where it is.
+-- What is told of what is refused: a file or the parameter, the fault's printed name, and where it
+-- is.
 use Rattle.std.specs.Prelude.{ℕ, List, Option, None, Some, codes}
 use Rattle.line_file.specs.Faults as line_faults
 use Rattle.line_file.specs.declared.fault.LineFault.{LineFault}
@@ -10,15 +11,17 @@ use Rattle.pilot_core.specs.declared.refusal.Detail.{Detail}
 use Rattle.pilot_core.specs.declared.refusal.Detail.TheVariants as detail
 use Rattle.pilot_core.specs.declared.refusal.Refusal.{Refusal}
 use Rattle.pilot_core.specs.declared.refusal.Refusal.TheVariants as refusal
-use Rattle.pilot_core.specs.declared.stop.File.{File}
+use Rattle.pilot_core.specs.declared.refusal.Subject.{Subject}
+use Rattle.pilot_core.specs.declared.refusal.Subject.TheVariants as subject
 use Rattle.pilot_core.specs.declared.stop.File.TheVariants as file
 
-abbrev pub file_of : Refusal → File
-file_of (refusal.TooLong f) = f
-file_of (refusal.Line why) = file.Line
-file_of (refusal.Scripts why) = file.Scripts
-file_of (refusal.Timings why) = file.Timings
-file_of (refusal.Record why) = file.Record
+abbrev pub subject_of : Refusal → Subject
+subject_of (refusal.TooLong f) = subject.File f
+subject_of (refusal.Line why) = subject.File file.Line
+subject_of (refusal.Scripts why) = subject.File file.Scripts
+subject_of (refusal.Timings why) = subject.File file.Timings
+subject_of (refusal.Record why) = subject.File file.Record
+subject_of refusal.UnknownParameter = subject.Parameter
 
 abbrev pub name_of : Refusal → List ℕ
 name_of (refusal.TooLong f) = codes "TooLong"
@@ -26,6 +29,7 @@ name_of (refusal.Line why) = line_faults.fault_name why
 name_of (refusal.Scripts why) = script_faults.fault_name why
 name_of (refusal.Timings why) = timing_faults.fault_name why
 name_of (refusal.Record why) = seen_faults.fault_name why
+name_of refusal.UnknownParameter = codes "Unknown"
 
 -- the place of a fault of a line file
 abbrev pub line_detail : LineFault → Detail
@@ -50,3 +54,4 @@ detail_of (refusal.Line why) = line_detail why
 detail_of (refusal.Scripts why) = record_detail (script_faults.fault_record why)
 detail_of (refusal.Timings why) = record_detail (timing_faults.fault_record why)
 detail_of (refusal.Record why) = record_detail (seen_faults.fault_record why)
+detail_of refusal.UnknownParameter = detail.Nothing

@@ -33,6 +33,8 @@ pub data Command : Type 0 where
   two_files : TwoFiles → List ℕ → List ℕ → Command
   -- a line file, a scripts file, and a file of the command's own
   three_files : ThreeFiles → List ℕ → List ℕ → List ℕ → Command
+  -- a line file, a scripts file, and the name of a parameter
+  margin : List ℕ → List ℕ → List ℕ → Command
   -- no file, and a number of scripts
   bench : ℕ → Command
 
@@ -63,6 +65,7 @@ command_of_four word first second third =
     if bytes_eq word (codes "play") then Some (three_files three.Play first second third)
     else if bytes_eq word (codes "check") then Some (three_files three.Check first second third)
     else if bytes_eq word (codes "match") then Some (three_files three.Match first second third)
+    else if bytes_eq word (codes "margin") then Some (margin first second third)
     else None
 
 -- the command that these words are
@@ -93,6 +96,7 @@ files_of (two_files command line scripts) =
     named file.Line line ∷ named file.Scripts scripts ∷ []
 files_of (three_files command line scripts third) =
     named file.Line line ∷ named file.Scripts scripts ∷ named (own_file command) third ∷ []
+files_of (margin line scripts parameter) = named file.Line line ∷ named file.Scripts scripts ∷ []
 
 -- the files of the command that the words are, if they are one
 abbrev pub files_named : Option Command → List NamedFile

@@ -16,4 +16,6 @@ pub data Work : Type 0 where
   check : Line → List Script → List ℕ → Work
   -- with records of the field
   matching : Line → List Script → List SeenValues → Work
+  -- with the number of a parameter
+  margin : Line → List Script → ℕ → Work
   bench : ℕ → Work

@@ -7,6 +7,7 @@ ghost use Rattle.pilot_core.specs.Call.{answer_by, asks_by};
 ghost use Rattle.pilot_core.specs.Commands.{answer};
 ghost use Rattle.pilot_core.specs.Ends.{Works};
 ghost use Rattle.pilot_core.specs.Files.{limit_of};
+ghost use Rattle.pilot_core.specs.Reading.{margin as of_margin};
 ghost use Rattle.pilot_core.specs.Reading.{one_file as of_one_file, three_files as of_three_files};
 ghost use Rattle.pilot_core.specs.Reading.{two_files as of_two_files, work_of_one};
 ghost use Rattle.pilot_core.specs.Sinks.{sink_view};
@@ -15,6 +16,7 @@ ghost use Rattle.pilot_core.specs.Words.{own_file};
 mod certify;
 mod check;
 mod line;
+mod margin;
 mod match_records;
 mod migrate;
 mod net;
@@ -23,6 +25,7 @@ mod report;
 mod run_bench;
 
 use crate::bench_size::BenchSize;
+use crate::refusal::Refusal;
 use crate::said::{Said, put_said};
 use crate::stop::{Status, Stop};
 use crate::study::read_study;
@@ -124,5 +127,28 @@ pub fn three_files<G: Engine, O: Sink>(
             put_said(out, &said)
         }
         ThreeFiles::Match => match_records::match_records(alloc, &study, third, out),
+    }
+}
+
+/// `margin` over the bytes of a line file and a scripts file, of the parameter of that name.
+pub fn margin_of<O: Sink>(
+    alloc: Global,
+    parameter: &str,
+    line: &[u8],
+    scripts: &[u8],
+    out: &mut O,
+) -> Result<Status, Stop>
+    ensures asked { OnOk result ((calls : Calls) →
+        asks_by (of_margin parameter.now line.now scripts.now) calls calls) }
+    ensures works { Works (sink_view O.written O.faults)
+        (answer_by (of_margin parameter.now line.now scripts.now)) out.old out.new result }
+{
+    let study = read_study(alloc, line, scripts)?;
+    match margin::param_named(&study.line, parameter.as_bytes()) {
+        None => Err(Stop::Refused(Refusal::UnknownParameter)),
+        Some(param) => {
+            let said = margin::margin(alloc, &study, param)?;
+            put_said(out, &said)
+        }
     }
 }

@@ -2,9 +2,10 @@
 ghost use Rattle.std.specs.Prelude.{◌≡◌, map};
 ghost use Rattle.std.specs.List.{concat};
 ghost use Rattle.pilot_core.specs.Messages.{file_word, message_of, refusal_pieces};
+ghost use Rattle.pilot_core.specs.Messages.{subject_word};
 ghost use Rattle.pilot_core.specs.Sinks.{Puts, sink_view};
 
-use crate::refusal::Detail;
+use crate::refusal::{Detail, Subject};
 use crate::stop::{File, Stop};
 use itoa::Buffer;
 use relay_base::{PutFailed, Sink, put_all};
@@ -32,35 +33,44 @@ fn word_of_file(file: File) -> &'static [u8]
     }
 }
 
-// Pushes the line of a refusal, from the word for the file on.
+fn word_of_subject(subject: Subject) -> &'static [u8]
+    ensures { result.now ≡ subject_word subject }
+{
+    match subject {
+        Subject::File(file) => word_of_file(file),
+        Subject::Parameter => b"parameter",
+    }
+}
+
+// Pushes the line of a refusal, from the word for what is refused on.
 fn put_refusal<'a, K: Sink>(
     sink: &mut K,
-    file: &'a [u8],
+    what: &'a [u8],
     name: &'a [u8],
     detail: &'a Detail,
 ) -> Result<(), PutFailed>
     ensures { Puts (sink_view K.written K.faults sink.old) (sink_view K.written K.faults sink.new)
-        (concat (refusal_pieces file.now name.now detail.now)) result }
+        (concat (refusal_pieces what.now name.now detail.now)) result }
 {
     let refused: &'a [u8] = b"refused ";
     match detail {
-        Detail::Nothing => put_pieces(sink, &[refused, file, b" ", name, b"\n"]),
+        Detail::Nothing => put_pieces(sink, &[refused, what, b" ", name, b"\n"]),
         Detail::Path(path) => {
             put_pieces(
                 sink,
-                &[refused, file, b" ", name, b" ", path.bytes(), b"\n"],
+                &[refused, what, b" ", name, b" ", path.bytes(), b"\n"],
             )
         }
         Detail::Record(number) => {
             let mut digits = Buffer::new();
             let number = digits.format(*number).as_bytes();
-            put_pieces(sink, &[refused, file, b" ", name, b" ", number, b"\n"])
+            put_pieces(sink, &[refused, what, b" ", name, b" ", number, b"\n"])
         }
         Detail::Channel(from, to) => {
             let (from, to) = (from.bytes(), to.bytes());
             put_pieces(
                 sink,
-                &[refused, file, b" ", name, b" ", from, b">", to, b"\n"],
+                &[refused, what, b" ", name, b" ", from, b">", to, b"\n"],
             )
         }
     }
@@ -75,7 +85,7 @@ pub fn put_message<K: Sink>(sink: &mut K, stop: &Stop) -> Result<(), PutFailed>
         Stop::Usage => put_pieces(sink, &[b"usage: pilot COMMAND FILES\n"]),
         Stop::Refused(why) => put_refusal(
             sink,
-            word_of_file(why.file()),
+            word_of_subject(why.subject()),
             why.name().as_bytes(),
             &why.detail(),
         ),

@@ -1,6 +1,6 @@
-//! Why a file is refused, and what its line to standard error tells of it.
+//! Why a file or the parameter is refused, and what the line to standard error tells of it.
 ghost use Rattle.std.specs.Prelude.{◌≡◌};
-ghost use Rattle.pilot_core.specs.Refusals.{detail_of, file_of, name_of};
+ghost use Rattle.pilot_core.specs.Refusals.{detail_of, name_of, subject_of};
 ghost use Rattle.pilot_core.specs.Refusals.{line_detail, record_detail};
 
 use crate::stop::File;
@@ -10,7 +10,7 @@ use line_model::Name;
 use record_match::SeenFault;
 use timing_box::TimingFault;
 
-/// Why a file is refused.
+/// Why a file, or the parameter that the words name, is refused.
 #[derive(Clone, Copy, Debug, PartialEq, Eq)]
 pub enum Refusal {
     /// It is longer than its limit.
@@ -19,6 +19,15 @@ pub enum Refusal {
     Scripts(ScriptFault),
     Timings(TimingFault),
     Record(SeenFault),
+    /// No parameter of the line has the name.
+    UnknownParameter,
+}
+
+/// What is refused.
+#[derive(Clone, Copy, Debug, PartialEq, Eq)]
+pub enum Subject {
+    File(File),
+    Parameter,
 }
 
 /// What is told behind the name of a fault.
@@ -34,15 +43,16 @@ pub enum Detail {
 }
 
 impl Refusal {
-    pub fn file(&self) -> File
-        ensures { result ≡ file_of self.now }
+    pub fn subject(&self) -> Subject
+        ensures { result ≡ subject_of self.now }
     {
         match self {
-            Refusal::TooLong(file) => *file,
-            Refusal::Line(_) => File::Line,
-            Refusal::Scripts(_) => File::Scripts,
-            Refusal::Timings(_) => File::Timings,
-            Refusal::Record(_) => File::Record,
+            Refusal::TooLong(file) => Subject::File(*file),
+            Refusal::Line(_) => Subject::File(File::Line),
+            Refusal::Scripts(_) => Subject::File(File::Scripts),
+            Refusal::Timings(_) => Subject::File(File::Timings),
+            Refusal::Record(_) => Subject::File(File::Record),
+            Refusal::UnknownParameter => Subject::Parameter,
         }
     }
 
@@ -56,6 +66,7 @@ impl Refusal {
             Refusal::Scripts(fault) => fault.name(),
             Refusal::Timings(fault) => fault.name(),
             Refusal::Record(fault) => fault.name(),
+            Refusal::UnknownParameter => "Unknown",
         }
     }
 
@@ -68,6 +79,7 @@ impl Refusal {
             Refusal::Scripts(fault) => detail_of_record(fault.record()),
             Refusal::Timings(fault) => detail_of_record(fault.record()),
             Refusal::Record(fault) => detail_of_record(fault.record()),
+            Refusal::UnknownParameter => Detail::Nothing,
         }
     }
 }

@@ -6,11 +6,12 @@ ghost use Rattle.pilot_core.specs.CommandView.{command_view};
 ghost use Rattle.pilot_core.specs.Ends.{EndsOf};
 ghost use Rattle.pilot_core.specs.Sinks.{sink_view};
 ghost use Rattle.pilot_core.specs.Words.{command_of, own_file as file_of_work};
+ghost use Rattle.pilot_core.specs.Words.{margin as margin_command};
 ghost use Rattle.pilot_core.specs.Words.{one_file as one_file_command};
 ghost use Rattle.pilot_core.specs.Words.{three_files as three_files_command};
 ghost use Rattle.pilot_core.specs.Words.{two_files as two_files_command};
 
-use crate::commands::{no_file, one_file, three_files, two_files};
+use crate::commands::{margin_of, no_file, one_file, three_files, two_files};
 use crate::files::fetch_file;
 use crate::stop::{File, Status, Stop};
 use crate::words::{Command, OneFile, ThreeFiles, TwoFiles, command_of_words};
@@ -65,6 +66,11 @@ fn run<G: Engine, S: Store, O: Sink>(
             scripts,
             third,
         } => run_three(alloc, work, line, scripts, third, engine, store, out),
+        Command::Margin {
+            line,
+            scripts,
+            parameter,
+        } => run_margin(alloc, line, scripts, parameter, store, out),
     }
 }
 
@@ -140,6 +146,26 @@ fn run_three<G: Engine, S: Store, O: Sink>(
         engine,
         out,
     )
+}
+
+fn run_margin<S: Store, O: Sink>(
+    alloc: Global,
+    line: &str,
+    scripts: &str,
+    parameter: &str,
+    store: &mut S,
+    out: &mut O,
+) -> Result<Status, Stop>
+    ensures asked { OnOk result ((calls : Calls) →
+        Asked (Some (margin_command line.now scripts.now parameter.now)) (S.held store.old)
+        calls calls) }
+    ensures ends { EndsOf (sink_view O.written O.faults)
+        (Some (margin_command line.now scripts.now parameter.now))
+        (S.held store.old) (S.faults store.old) (S.faults store.new) out.old out.new result }
+{
+    let line = fetch_file(alloc, store, File::Line, line)?;
+    let scripts = fetch_file(alloc, store, File::Scripts, scripts)?;
+    margin_of(alloc, parameter, line.as_slice(), scripts.as_slice(), out)
 }
 
 // The file of a command's own.

@@ -17,14 +17,14 @@ pub enum Status {
     Good,
     /// Some obligation fails at a choice of delays, or some record of the field is impossible.
     SomeNo,
-    /// No obligation is known to fail, and some is undecided; or no record of the field is
-    /// impossible, and some is open.
+    /// No obligation is known to fail, and some is undecided; no record of the field is impossible,
+    /// and some is open; or a parameter has no margin.
     SomeUndecided,
     /// A certificate is rejected.
     Rejected,
     /// The words are no command.
     Usage,
-    /// A file is too long or refused.
+    /// A file is too long or refused, or the line has no such parameter.
     BadInput,
     /// A file could not be read.
     StoreFault,
@@ -49,7 +49,7 @@ pub enum File {
 pub enum Stop {
     /// The words are no command.
     Usage,
-    /// A file is refused.
+    /// A file, or the parameter, is refused.
     Refused(Refusal),
     /// The file could not be read.
     Store(File),

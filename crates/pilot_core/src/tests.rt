@@ -12,6 +12,7 @@ mod certify;
 mod check;
 mod derived_waves;
 mod line_and_migrate;
+mod margin;
 mod match_records;
 mod net;
 mod play;

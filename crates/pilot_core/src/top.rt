@@ -16,9 +16,10 @@ use std::alloc::Global;
 /// where it stops with status 4 to 8, one line on `err`.
 ///
 /// The commands are `play LINE SCRIPTS TIMINGS`, `certify LINE SCRIPTS`, `report LINE SCRIPTS`,
-/// `check LINE SCRIPTS CERT`, `match LINE SCRIPTS RECORD`, `net LINE`, `line LINE` and
-/// `migrate LINE`, with the names of files. The files are fetched in the order of the words, and
-/// then the line, the scripts, and the timings or the record are read. Any other words are a usage
+/// `check LINE SCRIPTS CERT`, `match LINE SCRIPTS RECORD`, `margin LINE SCRIPTS PARAMETER`,
+/// `net LINE`, `line LINE` and `migrate LINE`, with the names of files and of a parameter of the
+/// line, and `bench N`. The files are fetched in the order of the words, and then the line, the
+/// scripts, and the timings, the record or the parameter are read. Any other words are a usage
 /// fault.
 pub fn pilot<G: Engine, S: Store, O: Sink, E: Sink>(
     alloc: Global,

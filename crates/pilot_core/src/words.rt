@@ -54,6 +54,11 @@ pub enum Command<'a> {
         scripts: &'a str,
         third: &'a str,
     },
+    Margin {
+        line: &'a str,
+        scripts: &'a str,
+        parameter: &'a str,
+    },
 }
 
 /// The command that the words are, if they are one.
@@ -131,7 +136,8 @@ fn command_of_three<'a>(word: &str, line: &'a str, scripts: &'a str) -> Option<C
     })
 }
 
-// `play LINE SCRIPTS TIMINGS`, `check LINE SCRIPTS CERT` and `match LINE SCRIPTS RECORD`.
+// `play LINE SCRIPTS TIMINGS`, `check LINE SCRIPTS CERT`, `match LINE SCRIPTS RECORD` and
+// `margin LINE SCRIPTS PARAMETER`.
 fn command_of_four<'a>(
     word: &str,
     line: &'a str,
@@ -146,6 +152,12 @@ fn command_of_four<'a>(
         ThreeFiles::Check
     } else if word == "match" {
         ThreeFiles::Match
+    } else if word == "margin" {
+        return Some(Command::Margin {
+            line,
+            scripts,
+            parameter: third,
+        });
     } else {
         return None;
     };

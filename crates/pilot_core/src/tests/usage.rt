@@ -60,6 +60,7 @@ const OTHER_WORDS: &[&[&str]] = &[
     &["play", "l", "s"],
     &["check", "l", "s"],
     &["match", "l", "s"],
+    &["margin", "l", "s"],
     &["certify"],
     &["certify", "l"],
     &["report"],
@@ -71,6 +72,7 @@ const OTHER_WORDS: &[&[&str]] = &[
     &["play", "l", "s", "t", "t"],
     &["check", "l", "s", "t", "t"],
     &["match", "l", "s", "t", "t"],
+    &["margin", "l", "s", "A>B.delay", "5"],
     &["certify", "l", "s", "t"],
     &["report", "l", "s", "t"],
     &["net", "l", "l"],
@@ -97,7 +99,6 @@ const OTHER_WORDS: &[&[&str]] = &[
     // Words that are no command.
     &["split", "l", "s", "1"],
     &["recheck", "l", "s", "t"],
-    &["margin", "l", "s", "A>B.delay"],
 ];
 
 const NOT_HELD: &[(&[&str], &str)] = &[
@@ -112,6 +113,8 @@ const NOT_HELD: &[(&[&str], &str)] = &[
     (&["certify", "l", "none"], "store fault scripts\n"),
     (&["report", "none", "s"], "store fault line\n"),
     (&["report", "l", "none"], "store fault scripts\n"),
+    (&["margin", "none", "s", ""], "store fault line\n"),
+    (&["margin", "l", "none", ""], "store fault scripts\n"),
     (&["net", "none"], "store fault line\n"),
     (&["line", "none"], "store fault line\n"),
     (&["migrate", "none"], "store fault line\n"),

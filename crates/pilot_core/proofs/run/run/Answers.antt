@@ -11,6 +11,10 @@ pub returns-in-OneFile-clause-asked : goal.returns-in-OneFile-clause-asked
 returns-in-OneFile-clause-asked g c = rw c.in-OneFile.is (on_ok c.run_one.result
     (λ a. a (g.G.Engine.calls c.args.engine.now)) c.run_one.ensures.asked)
 
+pub returns-in-Margin-clause-asked : goal.returns-in-Margin-clause-asked
+returns-in-Margin-clause-asked g c = rw c.in-Margin.is (on_ok c.run_margin.result
+    (λ a. a (g.G.Engine.calls c.args.engine.now)) c.run_margin.ensures.asked)
+
 pub returns-in-Bench-clause-asked : goal.returns-in-Bench-clause-asked
 returns-in-Bench-clause-asked g c = rw c.in-Bench.is (on_ok c.no_file.result
     (λ asked told. asked) c.no_file.ensures.asked)

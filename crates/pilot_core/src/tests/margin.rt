@@ -1,0 +1,158 @@
+//! The command `margin`: how far the upper end of one parameter can be raised.
+
+use super::worked_files::*;
+use super::*;
+
+const DELAY: &[&str] = &["margin", "l", "s", "A>B.delay"];
+
+const PICKUP: &[&str] = &["margin", "l", "s", "A.z1.pickup"];
+
+const UNKNOWN: &[&str] = &["margin", "l", "s", "A.z3.pickup"];
+
+#[test]
+fn worked_margins(rt: HostRuntime) -> Result<(), Fail> {
+    run_rows(&rt, rt.alloc(), MARGINS)
+}
+
+#[test]
+fn refused_parameters(rt: HostRuntime) -> Result<(), Fail> {
+    run_rows(&rt, rt.alloc(), REFUSALS)
+}
+
+// A fault with 11 ticks to spare, and the same with two.
+const LATE_AND_EARLY: &str = "script,item,place,from,to
+F1,internal,,30,
+F1,z2,A,10,100
+F1,cur,A,10,100
+F1,z2,B,10,100
+F1,cur,B,10,100
+F2,internal,,21,
+F2,z2,A,10,100
+F2,cur,A,10,100
+F2,z2,B,10,100
+F2,cur,B,10,100
+";
+
+const MARGINS: &[Row<'static>] = &[
+    Row {
+        what: "a delay that can be no greater than declared",
+        words: DELAY,
+        line: POTT,
+        scripts: FAULT,
+        out: "margin A>B.delay 5 declared 5 lost F1 B\n",
+        ..ROW
+    },
+    Row {
+        what: "the other delay, at the other end",
+        words: &["margin", "l", "s", "B>A.delay"],
+        line: POTT,
+        scripts: FAULT,
+        out: "margin B>A.delay 5 declared 5 lost F1 A\n",
+        ..ROW
+    },
+    Row {
+        what: "a delay with 92 ticks to spare",
+        words: DELAY,
+        line: REALISTIC,
+        scripts: REALISTIC_FAULT,
+        out: "margin A>B.delay 140 declared 48 lost P1 B\n",
+        ..ROW
+    },
+    Row {
+        what: "a pickup that matters to no obligation",
+        words: PICKUP,
+        line: POTT,
+        scripts: FAULT,
+        out: "margin A.z1.pickup 4000 declared 0 all\n",
+        ..ROW
+    },
+    Row {
+        what: "none, since the deadline is missed without it",
+        words: PICKUP,
+        line: POTT,
+        scripts: FAULT,
+        edit: (",19,", ",18,"),
+        status: Status::SomeUndecided,
+        out: "margin A.z1.pickup none declared 0 lost F1 A\n",
+        ..ROW
+    },
+    Row {
+        what: "a delay at its least, lower than declared",
+        words: DELAY,
+        line: POTT,
+        scripts: FAULT,
+        edit: ("to = \"B\"\ndelay = [3, 5]", "to = \"B\"\ndelay = [5, 9]"),
+        out: "margin A>B.delay 5 declared 9 lost F1 B\n",
+        ..ROW
+    },
+    Row {
+        what: "a pickup whose own end still trips in time",
+        words: &["margin", "l", "s", "A.z2.pickup"],
+        line: POTT,
+        scripts: FAULT,
+        out: "margin A.z2.pickup 4 declared 4 lost F1 B\n",
+        ..ROW
+    },
+    Row {
+        what: "a delay that no end waits for in an external fault",
+        words: DELAY,
+        line: POTT,
+        scripts: BEHIND_B,
+        out: "margin A>B.delay 4000 declared 5 all\n",
+        ..ROW
+    },
+    Row {
+        what: "the second fault, which is lost before the first",
+        words: DELAY,
+        line: POTT,
+        scripts: LATE_AND_EARLY,
+        out: "margin A>B.delay 7 declared 5 lost F2 B\n",
+        ..ROW
+    },
+];
+
+const REFUSALS: &[Row<'static>] = &[
+    Row {
+        what: "an element that no terminal has",
+        words: UNKNOWN,
+        line: POTT,
+        scripts: FAULT,
+        status: Status::BadInput,
+        err: "refused parameter Unknown\n",
+        ..ROW
+    },
+    Row {
+        what: "the empty name",
+        words: &["margin", "l", "s", ""],
+        line: POTT,
+        scripts: FAULT,
+        status: Status::BadInput,
+        err: "refused parameter Unknown\n",
+        ..ROW
+    },
+    Row {
+        what: "a step of a delay",
+        words: &["margin", "l", "s", "A>B.delay@15"],
+        line: POTT,
+        scripts: FAULT,
+        status: Status::BadInput,
+        err: "refused parameter Unknown\n",
+        ..ROW
+    },
+    Row {
+        what: "an unknown name and a line that is refused",
+        words: UNKNOWN,
+        line: "horizon =",
+        status: Status::BadInput,
+        err: "refused line NotToml\n",
+        ..ROW
+    },
+    Row {
+        what: "an unknown name and scripts that are refused",
+        words: UNKNOWN,
+        line: POTT,
+        status: Status::BadInput,
+        err: "refused scripts Header\n",
+        ..ROW
+    },
+];
