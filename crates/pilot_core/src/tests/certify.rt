@@ -7,11 +7,21 @@ use super::*;
 const CERTIFY: &[&str] = &["certify", "l", "s"];
 
 #[test]
-fn worked_certificates(rt: HostRuntime) -> Result<(), Fail> {
-    run_rows(&rt, rt.alloc(), CERTIFICATES)
+fn permissive_certificates(rt: HostRuntime) -> Result<(), Fail> {
+    run_rows(&rt, rt.alloc(), PERMISSIVE)
 }
 
-const CERTIFICATES: &[Row<'static>] = &[
+#[test]
+fn certificates_scheme_by_scheme(rt: HostRuntime) -> Result<(), Fail> {
+    run_rows(&rt, rt.alloc(), SCHEME_BY_SCHEME)
+}
+
+#[test]
+fn certificates_at_the_edges(rt: HostRuntime) -> Result<(), Fail> {
+    run_rows(&rt, rt.alloc(), AT_THE_EDGES)
+}
+
+const PERMISSIVE: &[Row<'static>] = &[
     Row {
         what: "no tick to spare",
         words: CERTIFY,
@@ -91,6 +101,9 @@ end
 ",
         ..ROW
     },
+];
+
+const SCHEME_BY_SCHEME: &[Row<'static>] = &[
     Row {
         what: "blocking, coordinated",
         words: CERTIFY,
@@ -223,21 +236,6 @@ end
         ..ROW
     },
     Row {
-        what: "quarters of a millisecond",
-        words: CERTIFY,
-        line: REALISTIC,
-        scripts: REALISTIC_FAULT,
-        out: "pilot-cert 1
-script P1
-key A 0:80 ?:60 1:520 ?:60 0:80
-key B 0:80 ?:60 1:520 ?:60 0:80
-verdict A yes
-verdict B yes
-end
-",
-        ..ROW
-    },
-    Row {
         what: "a transferred trip",
         words: CERTIFY,
         line: DTT,
@@ -246,6 +244,44 @@ end
 script D1
 key A 0:11 1:39 0:70
 key B 0:120
+verdict A yes
+verdict B yes
+end
+",
+        ..ROW
+    },
+    Row {
+        what: "a current reversal, with a guard that ends a tick too early",
+        words: CERTIFY,
+        line: GUARDED,
+        scripts: REVERSAL,
+        edit: (
+            "reversal = { pickup = 2, dropout = 7 }",
+            "reversal = { pickup = 2, dropout = 6 }",
+        ),
+        status: Status::SomeNo,
+        out: "pilot-cert 1
+script C1
+key A 0:12 ?:2 1:27 ?:2 0:77
+key B 0:47 ?:2 1:32 ?:2 0:37
+verdict A yes
+verdict B no 0 0 4 3 2 3 0 0 2 6 0 0 4 3 2 1 0 0 2 6 5 5
+end
+",
+        ..ROW
+    },
+];
+
+const AT_THE_EDGES: &[Row<'static>] = &[
+    Row {
+        what: "quarters of a millisecond",
+        words: CERTIFY,
+        line: REALISTIC,
+        scripts: REALISTIC_FAULT,
+        out: "pilot-cert 1
+script P1
+key A 0:80 ?:60 1:520 ?:60 0:80
+key B 0:80 ?:60 1:520 ?:60 0:80
 verdict A yes
 verdict B yes
 end
@@ -303,26 +339,6 @@ key A 0:10 1:2 0:4 1:2 0:4 1:2 0:4 1:2
 key B 0:13 1:2 0:4 1:2 0:4 1:2 0:3
 verdict A yes
 verdict B yes
-end
-",
-        ..ROW
-    },
-    Row {
-        what: "a current reversal, with a guard that ends a tick too early",
-        words: CERTIFY,
-        line: GUARDED,
-        scripts: REVERSAL,
-        edit: (
-            "reversal = { pickup = 2, dropout = 7 }",
-            "reversal = { pickup = 2, dropout = 6 }",
-        ),
-        status: Status::SomeNo,
-        out: "pilot-cert 1
-script C1
-key A 0:12 ?:2 1:27 ?:2 0:77
-key B 0:47 ?:2 1:32 ?:2 0:37
-verdict A yes
-verdict B no 0 0 4 3 2 3 0 0 2 6 0 0 4 3 2 1 0 0 2 6 5 5
 end
 ",
         ..ROW

@@ -6,8 +6,28 @@ use super::*;
 const CHECK: &[&str] = &["check", "l", "s", "t"];
 
 #[test]
-fn certificates_that_stand_or_lie(rt: HostRuntime) -> Result<(), Fail> {
-    run_rows(&rt, rt.alloc(), CHECKS)
+fn keys_that_stand_or_lie(rt: HostRuntime) -> Result<(), Fail> {
+    run_rows(&rt, rt.alloc(), KEYS)
+}
+
+#[test]
+fn verdicts_that_stand_or_lie(rt: HostRuntime) -> Result<(), Fail> {
+    run_rows(&rt, rt.alloc(), VERDICTS)
+}
+
+#[test]
+fn lines_that_are_none(rt: HostRuntime) -> Result<(), Fail> {
+    run_rows(&rt, rt.alloc(), LINES)
+}
+
+#[test]
+fn more_lines_that_are_none(rt: HostRuntime) -> Result<(), Fail> {
+    run_rows(&rt, rt.alloc(), MORE_LINES)
+}
+
+#[test]
+fn two_scripts(rt: HostRuntime) -> Result<(), Fail> {
+    run_rows(&rt, rt.alloc(), TWO_SCRIPTS)
 }
 
 // A certificate of the greatest length is read, and a longer one is refused.
@@ -127,7 +147,8 @@ verdict B yes
 end
 ";
 
-const CHECKS: &[Row<'static>] = &[
+// What the claimed keys have to cover.
+const KEYS: &[Row<'static>] = &[
     Row {
         what: "what is certified",
         words: CHECK,
@@ -205,6 +226,10 @@ const CHECKS: &[Row<'static>] = &[
         out: "rejected NotHeld F1 A\n",
         ..ROW
     },
+];
+
+// What each verdict has to show.
+const VERDICTS: &[Row<'static>] = &[
     Row {
         what: "the slowest choice, which misses the deadline",
         words: CHECK,
@@ -296,6 +321,10 @@ const CHECKS: &[Row<'static>] = &[
         out: "rejected NotCovered R1 B 13 claimed 0 derived 1\n",
         ..ROW
     },
+];
+
+// Texts that leave the grammar at their first lines, or at a key.
+const LINES: &[Row<'static>] = &[
     Row {
         what: "an empty file",
         words: CHECK,
@@ -389,6 +418,10 @@ const CHECKS: &[Row<'static>] = &[
         out: "rejected Line 3\n",
         ..ROW
     },
+];
+
+// Texts that leave the grammar at a key, at a verdict or at their end.
+const MORE_LINES: &[Row<'static>] = &[
     Row {
         what: "a space at the end",
         words: CHECK,
@@ -480,6 +513,10 @@ const CHECKS: &[Row<'static>] = &[
         out: "rejected Line 8\n",
         ..ROW
     },
+];
+
+// A fault of the second script, and a last line that is told before any claim.
+const TWO_SCRIPTS: &[Row<'static>] = &[
     Row {
         what: "two scripts",
         words: CHECK,

@@ -4,11 +4,21 @@ use super::worked_files::*;
 use super::*;
 
 #[test]
-fn worked_plays(rt: HostRuntime) -> Result<(), Fail> {
-    run_rows(&rt, rt.alloc(), PLAYS)
+fn plays_of_a_permissive_line(rt: HostRuntime) -> Result<(), Fail> {
+    run_rows(&rt, rt.alloc(), PERMISSIVE)
 }
 
-const PLAYS: &[Row<'static>] = &[
+#[test]
+fn plays_scheme_by_scheme(rt: HostRuntime) -> Result<(), Fail> {
+    run_rows(&rt, rt.alloc(), SCHEME_BY_SCHEME)
+}
+
+#[test]
+fn plays_of_weak_ends_and_at_the_edges(rt: HostRuntime) -> Result<(), Fail> {
+    run_rows(&rt, rt.alloc(), WEAK_ENDS_AND_EDGES)
+}
+
+const PERMISSIVE: &[Row<'static>] = &[
     Row {
         what: "POTT at the least numbers",
         words: PLAY,
@@ -99,6 +109,9 @@ const PLAYS: &[Row<'static>] = &[
         out: WITH_TWO_STEPS,
         ..ROW
     },
+];
+
+const SCHEME_BY_SCHEME: &[Row<'static>] = &[
     Row {
         what: "PUTT with a zone 1 trip",
         words: PLAY,
@@ -144,6 +157,9 @@ const PLAYS: &[Row<'static>] = &[
         out: OF_DTT,
         ..ROW
     },
+];
+
+const WEAK_ENDS_AND_EDGES: &[Row<'static>] = &[
     Row {
         what: "a weak end",
         words: PLAY,
