@@ -4,3 +4,5 @@ pub mod LeafLaws
 pub mod PartLaws
 pub mod SearchLaws
 pub mod SoundLaws
+pub mod HalfLaws
+pub mod HeightLaws

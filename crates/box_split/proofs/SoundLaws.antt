@@ -224,7 +224,7 @@ module _ (known : Known) (script : Script) (k : ℕ) where
 
 -- ---- what a sound tree says
 
-sound_splits : (line : Line) (script : Script) (k : ℕ) (tree : SplitTree) (box : Box)
+pub sound_splits : (line : Line) (script : Script) (k : ℕ) (tree : SplitTree) (box : Box)
     → AreSound line script k box tree → Splits line box tree
 sound_splits line script k Yes box held = tt
 sound_splits line script k Undecided box held = tt

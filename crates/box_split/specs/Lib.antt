@@ -4,3 +4,4 @@ pub mod Widths
 pub mod Search
 pub mod Found
 pub mod Leaves
+pub mod Parts

@@ -11,7 +11,7 @@ use Rattle.line_model.specs.declared.script.Kind.TheVariants.{Internal, External
 use Rattle.line_model.specs.Rule.{IsHeld}
 use Rattle.cert_checker.proofs.Firsts.{not_both}
 
-off_by : (b : Bool) → (b ≡ true → ⊥) → b ≡ false
+pub off_by : (b : Bool) → (b ≡ true → ⊥) → b ≡ false
 off_by true never = absurd (never refl)
 off_by false never = refl
 

@@ -146,7 +146,7 @@ module _ (line : Line) (script : Script) (have : HaveHistories line script) (k :
       met_once script.kind script.deadline line.horizon (h.0.trip k) t r (a.passes h.0 h.1)
       (b.passes h.0 h.1)
 
-  no_once : (values : List ℕ) (f g : ClaimFault) → f ≢ Memory → g ≢ Memory
+  pub no_once : (values : List ℕ) (f g : ClaimFault) → f ≢ Memory → g ≢ Memory
       → IsNoFault line script k values f → IsNoFault line script k values g → f ≡ g
   no_once values (NotCovered u) g some other a b = absurd a
   no_once values (NotHeld j) g some other a b = absurd a

@@ -50,7 +50,7 @@ module _ (line : Line) (script : Script) (have : HaveHistories line script) (k :
   yes_refused trip (Passes j t) h held = h
   yes_refused trip Memory h held = h
 
-  no_refused : (values : List ℕ) (fault : ClaimFault) → fault ≢ Memory
+  pub no_refused : (values : List ℕ) (fault : ClaimFault) → fault ≢ Memory
       → IsNoFault line script k values fault → IsRefutation line script k values → ⊥
   no_refused values (NotCovered u) some h refuted = h
   no_refused values (NotHeld j) some h refuted = h

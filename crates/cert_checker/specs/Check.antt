@@ -19,9 +19,10 @@ use Rattle.cert_checker.specs.Counts.{AreCounts, all_verdicts}
 use Rattle.cert_checker.specs.Verdicts.{AreAccepted, AreSound, IsFirstFault}
 
 -- this holds of what is said of each of the first scripts, so many
-abbrev pub EachBelow : (Script → Claims → Type 0) → List Script → List Claims → ℕ → Type 0
-EachBelow holds scripts claims n =
-    (i : ℕ) (script : Script) (said : Claims) → i < n → slice_get scripts i ≡ Some script
+abbrev pub EachBelow : {Said : Type 0} → (Script → Said → Type 0) → List Script → List Said → ℕ
+    → Type 0
+EachBelow {Said} holds scripts claims n =
+    (i : ℕ) (script : Script) (said : Said) → i < n → slice_get scripts i ≡ Some script
     → slice_get claims i ≡ Some said → holds script said
 
 -- The bytes are a certificate; what is said of each script is accepted; and these are the counts

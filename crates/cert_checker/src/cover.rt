@@ -55,10 +55,16 @@ fn first_tick(wide: &Runs, narrow: &Runs) -> Option<u32>
         (λ t. IsFirstFailing (λ r. RailsCover (wave_at wide.now r) (wave_at narrow.now r))
         (length wide.now) t) }
 {
-    for t in 0..wide.len() {
-        if !covers(wide.at(t), narrow.at(t)) {
+    let mut wides = wide.cursor();
+    let mut narrows = narrow.cursor();
+    let mut t = 0;
+    'stretches: while t < wide.len() {
+        let first = wides.stretch(t);
+        let second = narrows.stretch(t);
+        if !covers(first.level, second.level) {
             return Some(t);
         }
+        t = first.end.min(second.end);
     }
     None
 }

@@ -32,10 +32,14 @@ fn must_come(trip: &Runs, ticks: u32) -> bool
     ensures { result ≡ some_below (λ t. (wave_at trip.now t).must) ticks }
 {
     tests_are_their_facts();
-    for t in 0..ticks {
-        if trip.at(t).must(0) {
+    let mut values = trip.cursor();
+    let mut t = 0;
+    'stretches: while t < ticks {
+        let value = values.stretch(t);
+        if value.level.must(0) {
             return true;
         }
+        t = value.end;
     }
     false
 }
@@ -46,10 +50,14 @@ fn may_come(trip: &Runs, ticks: u32) -> bool
     ensures { result ≡ some_below (λ t. (wave_at trip.now t).may) ticks }
 {
     tests_are_their_facts();
-    for t in 0..ticks {
-        if trip.at(t).may(0) {
+    let mut values = trip.cursor();
+    let mut t = 0;
+    'stretches: while t < ticks {
+        let value = values.stretch(t);
+        if value.level.may(0) {
             return true;
         }
+        t = value.end;
     }
     false
 }

@@ -8,7 +8,8 @@ ghost use Rattle.cert_checker.specs.declared.claim.ClaimFault.{ClaimFault};
 ghost use Rattle.cert_checker.specs.declared.counts.Counts.{Counts};
 ghost use Rattle.cert_checker.specs.declared.fault.CheckFault.{CheckFault};
 ghost use Rattle.cert_checker.specs.Check.{IsAccepted, IsCheckFault};
-ghost use Rattle.cert_checker.specs.Verdicts.{AreAccepted, IsFirstFault};
+ghost use Rattle.cert_checker.specs.Refutations.{IsRefutation};
+ghost use Rattle.cert_checker.specs.Verdicts.{AreAccepted, IsFirstFault, IsNoFault};
 
 use certificate::{a_text_has_one_meaning, a_text_leaves_at_one_line};
 use line_model::laws::{each_choice_has_one_history, each_line_has_a_choice_inside};
@@ -32,6 +33,21 @@ pub fn claims_have_one_first_fault()
         fault ≢ ClaimFault.Memory → other ≢ ClaimFault.Memory →
         IsFirstFault line script said fault → IsFirstFault line script said other →
         fault ≡ other }
+{
+    each_choice_has_one_history();
+    each_line_has_a_choice_inside();
+    timings_inside_are_choices_inside();
+}
+
+/// The numbers of a `no` have one fault at most, and where they have one they refute nothing.
+pub fn a_no_has_one_fault()
+    ensures one { (line : Line) (script : Script) (k : ℕ) (values : List ℕ)
+        (fault other : ClaimFault) → fault ≢ ClaimFault.Memory → other ≢ ClaimFault.Memory →
+        IsNoFault line script k values fault → IsNoFault line script k values other →
+        fault ≡ other }
+    ensures refused { (line : Line) (script : Script) (k : ℕ) (values : List ℕ)
+        (fault : ClaimFault) → fault ≢ ClaimFault.Memory →
+        IsNoFault line script k values fault → ¬ (IsRefutation line script k values) }
 {
     each_choice_has_one_history();
     each_line_has_a_choice_inside();

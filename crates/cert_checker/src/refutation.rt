@@ -7,15 +7,16 @@ ghost use Rattle.line_model.specs.Histories.{MeetsBy};
 ghost use Rattle.line_model.specs.Fits.{Fits};
 ghost use Rattle.gate_net.specs.NetOf.{IsNetOf};
 ghost use Rattle.timing_box.specs.Inside.{IsTimingInside};
-ghost use Rattle.simulator.specs.Played.{played};
+ghost use Rattle.simulator.specs.PlayedTracks.{is_on};
 ghost use Rattle.cert_checker.specs.Firsts.{IsFirstOn, IsNeverOn};
 ghost use Rattle.cert_checker.specs.Refutations.{steady_timing, FailsAt, PassesAt, IsMetAt};
 
+use channel::Track;
 use gate_net::Net;
 use line_model::laws::{deadlines_are_below_the_horizon, each_choice_has_one_history};
 use line_model::{Kind, Line, Memory, Script};
 use simulator::laws::a_timing_is_one_choice;
-use simulator::{Waves, run};
+use simulator::run_tracks;
 use std::alloc::Global;
 use tick_signal::{Level, Signal, Tick};
 use timing_box::Step;
@@ -43,8 +44,9 @@ pub fn met_at(
     deadlines_are_below_the_horizon();
     let numbers = ticks_of(alloc, line, values)?;
     let steps: [Step<Tick>; 0] = [];
-    let waves = run::<Level>(alloc, net, line, script, numbers.as_slice(), &steps)?;
-    Ok(met_tick(&waves, script, line.horizon, terminal))
+    let tracks = run_tracks::<Level>(alloc, net, line, script, numbers.as_slice(), &steps)?;
+    let trip = &tracks.trips[terminal as usize];
+    Ok(met_tick(trip, script, line.horizon))
 }
 
 // The numbers as ticks.
@@ -60,36 +62,35 @@ fn ticks_of(alloc: Global, line: &Line, values: &[u32]) -> Result<Vec<Tick>, Mem
 }
 
 // The tick that shows that the obligation is met, if it is.
-fn met_tick(waves: &Waves<Level>, script: &Script, horizon: u32, terminal: u32) -> Option<u32>
-    requires horizon { waves.now.horizon ≡ horizon }
+fn met_tick(trip: &Track<Level>, script: &Script, horizon: u32) -> Option<u32>
+    requires horizon { length trip.now.keys ≡ horizon }
     requires deadline { script.now.deadline < horizon }
-    requires terminal { terminal < length waves.now.trips }
     ensures { MatchOption result
-        (¬ (MeetsBy script.now.kind script.now.deadline horizon ((played waves.now).trip terminal)))
-        (λ t. IsMetAt script.now.kind script.now.deadline horizon
-        ((played waves.now).trip terminal) t) }
+        (¬ (MeetsBy script.now.kind script.now.deadline horizon (is_on trip.now)))
+        (λ t. IsMetAt script.now.kind script.now.deadline horizon (is_on trip.now) t) }
 {
     match script.kind {
-        Kind::Internal => first_trip(waves, terminal, script.deadline + 1),
-        Kind::External => match first_trip(waves, terminal, horizon) {
+        Kind::Internal => first_trip(trip, script.deadline + 1),
+        Kind::External => match first_trip(trip, horizon) {
             Some(_) => None,
             None => Some(horizon),
         },
     }
 }
 
-// The first of so many ticks at which the terminal trips.
-fn first_trip(waves: &Waves<Level>, terminal: u32, ticks: u32) -> Option<u32>
-    requires terminal { terminal < length waves.now.trips }
-    requires ticks { ticks ≤ waves.now.horizon }
+// The first of so many ticks at which the trip is on.
+fn first_trip(trip: &Track<Level>, ticks: u32) -> Option<u32>
+    requires { ticks ≤ length trip.now.keys }
     ensures { MatchOption result
-        (IsNeverOn ((played waves.now).trip terminal) ticks)
-        (λ t. IsFirstOn ((played waves.now).trip terminal) ticks t) }
+        (IsNeverOn (is_on trip.now) ticks)
+        (λ t. IsFirstOn (is_on trip.now) ticks t) }
 {
-    for t in 0..ticks {
-        if waves.trip(terminal, t).must(0) {
+    let mut t = 0;
+    'stretches: while t < ticks {
+        if trip.at(t).must(0) {
             return Some(t);
         }
+        t = trip.stays_until(t);
     }
     None
 }

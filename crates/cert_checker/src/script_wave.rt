@@ -1,13 +1,13 @@
 //! The waves that a script tells whatever the delays.
 
-ghost use Rattle.std.specs.Prelude.{◌≤◌, ◌<◌, IfOk};
+ghost use Rattle.std.specs.Prelude.{◌≡◌, ◌≤◌, ◌<◌, IfOk};
 ghost use Rattle.std.specs.List.{All};
 ghost use Rattle.history.specs.Rails.{both};
 ghost use Rattle.line_model.specs.Seen.{is_seen, is_lost};
 ghost use Rattle.wave_runs.specs.Waves.{IsWaveOf};
-ghost use Rattle.cert_checker.specs.Stretches.{HoldsAlike};
+ghost use Rattle.cert_checker.specs.Stretches.{ShowsAlike, is_of};
 
-use line_model::{Memory, Place, Script, SeenSpan, loss, seen};
+use line_model::{Memory, Place, Script, SeenSpan, What, loss, seen};
 use std::alloc::Global;
 use tick_signal::{Signal, Tern};
 use wave_runs::{Runs, waves_grow};
@@ -34,7 +34,7 @@ pub fn seen_wave(alloc: Global, script: &Script, place: Place, horizon: u32) -> 
     let mut wave = Runs::new(alloc);
     'stretches: while wave.len() < horizon {
         let t = wave.len();
-        let end = alike_until(script.spans.as_slice(), t, horizon);
+        let end = alike_until(script.spans.as_slice(), What::Element(place), t, horizon);
         wave.push(Tern::known(seen(script, place, t)), end - t)?;
     }
     Ok(wave)
@@ -50,38 +50,52 @@ pub fn loss_wave(alloc: Global, script: &Script, channel: u32, horizon: u32) -> 
     let mut wave = Runs::new(alloc);
     'stretches: while wave.len() < horizon {
         let t = wave.len();
-        let end = alike_until(script.spans.as_slice(), t, horizon);
+        let end = alike_until(script.spans.as_slice(), What::Loss(channel), t, horizon);
         wave.push(Tern::known(loss(script, channel, t)), end - t)?;
     }
     Ok(wave)
 }
 
-// Until when no span begins or ends after that tick.
-fn alike_until(spans: &[SeenSpan], t: u32, horizon: u32) -> u32
+// Until when no span of this begins or ends after that tick.
+fn alike_until(spans: &[SeenSpan], what: What, t: u32, horizon: u32) -> u32
     requires { t < horizon }
     ensures later { t < result }
     ensures inside { result ≤ horizon }
-    ensures alike { All (HoldsAlike t result) spans.now }
+    ensures alike { All (ShowsAlike what t result) spans.now }
 {
     let mut end = horizon;
     for i in 0..spans.len() {
-        end = sooner(spans[i], t, end);
+        end = sooner(spans[i], what, t, end);
     }
     end
 }
 
-// Until when a span neither begins nor ends after that tick, and at most until that end.
-fn sooner(span: SeenSpan, t: u32, end: u32) -> u32
+// Until when a span, if it is of this, neither begins nor ends after that tick, and at most until
+// that end.
+fn sooner(span: SeenSpan, what: What, t: u32, end: u32) -> u32
     requires { t < end }
     ensures later { t < result }
     ensures inside { result ≤ end }
-    ensures alike { HoldsAlike t result span }
+    ensures alike { ShowsAlike what t result span }
 {
-    if t < span.from {
+    if !is_of(span.what, what) {
+        end
+    } else if t < span.from {
         span.from.min(end)
     } else if t < span.to {
         span.to.min(end)
     } else {
         end
+    }
+}
+
+// Whether a span that is of the one is of the other.
+fn is_of(one: What, other: What) -> bool
+    ensures { result ≡ is_of other one }
+{
+    match (one, other) {
+        (What::Element(seen), What::Element(place)) => seen == place,
+        (What::Loss(lost), What::Loss(channel)) => lost == channel,
+        _ => false,
     }
 }

@@ -1,14 +1,18 @@
 -- Candidates in blocks of 64, one in each lane.
 use Rattle.std.specs.Prelude.{◌≡◌, ◌+◌, ◌-◌, ◌<◌, ℕ, Bool, List, IsTrue, IsFalse}
-use Rattle.std.specs.Prelude.{slice_index, length, nat_lt, if◌then◌else◌}
+use Rattle.std.specs.Prelude.{slice_index, nat_lt, if◌then◌else◌}
+use Rattle.history.specs.Rails.{rails_at}
 use Rattle.tick_signal.specs.Bits.{bit_rails, bit_on}
+use Rattle.tick_signal.specs.Lanes.{in_lane}
+use Rattle.channel.specs.SentKeys.{SentKeys}
 use Rattle.line_model.specs.declared.line.Line.{Line}
 use Rattle.line_model.specs.declared.script.Script.{Script}
 use Rattle.line_model.specs.Parameters.{param_count, terminal_count}
 use Rattle.timing_box.specs.Choice.{timing_choice}
 use Rattle.timing_box.specs.Candidates.{candidate, candidate_count, candidate_value}
-use Rattle.simulator.specs.WavesOf.{WavesOf, waves_history}
 use Rattle.simulator.specs.Runs.{IsExactAt}
+use Rattle.simulator.specs.Ticks.{AreSent}
+use Rattle.simulator.specs.Tracks.{tracks_history}
 use Rattle.certify_core.specs.OneEach.{OneEach}
 use Rattle.certify_core.specs.Verdicts.{PassesAt, FailsAt}
 
@@ -28,18 +32,17 @@ abbrev pub AreBlockSpans : Line → ℕ → List (List ℕ) → Type 0
 AreBlockSpans line first spans =
     OneEach (λ param span. IsBlockSpan line first param span) (param_count line) spans
 
--- in each lane the waves are the history at the lane's candidate
-pub record IsBlockRun (line : Line) (script : Script) (first : ℕ) (waves : WavesOf ℕ)
+-- in each lane the keys and the trips are the history at the lane's candidate
+pub record IsBlockRun (line : Line) (script : Script) (first : ℕ) (keys trips : List (SentKeys ℕ))
     : Type 0 where
-  pub horizon : waves.horizon ≡ line.horizon
-  pub terminals : length waves.trips ≡ terminal_count line
+  pub sent : AreSent (terminal_count line) line.horizon line.horizon trips
   pub exact : (lane : ℕ) → lane < 64
       → IsExactAt line script (timing_choice line (candidate line (candidate_in line first lane)))
-      (waves_history (λ x l. bit_rails x l) lane waves)
+      (tracks_history (λ x l. bit_rails x l) lane keys trips)
 
--- whether the trip of terminal k is on in a lane at a tick
-abbrev pub trips_in : WavesOf ℕ → ℕ → ℕ → ℕ → Bool
-trips_in waves k lane t = ((waves_history (λ x l. bit_rails x l) lane waves).trip k t).must
+-- whether a trip is on in a lane at a tick
+abbrev pub trips_in : SentKeys ℕ → ℕ → ℕ → Bool
+trips_in trip lane t = (rails_at (in_lane (λ x l. bit_rails x l) lane trip.keys) t).must
 
 -- it is told whether a fact fails
 pub record TellsFailing (failing : Bool) (met : Type 0) : Type 0 where

@@ -11,7 +11,7 @@ ghost use Rattle.certify_core.specs.Candidates.{IsBlockRun};
 use gate_net::Net;
 use line_model::laws::{each_line_has_a_choice_inside, parameters_are_numbered};
 use line_model::{Line, Memory, Script};
-use simulator::{Waves, run};
+use simulator::{Tracks, run_tracks};
 use std::alloc::Global;
 use tick_signal::{Lanes64, Tick, Ticks64};
 use timing_box::{
@@ -78,10 +78,11 @@ pub fn run_block(
     net: &Net,
     script: &Script,
     first: u32,
-) -> Result<Waves<Lanes64>, Memory>
+) -> Result<Tracks<Lanes64>, Memory>
     requires of_line { IsNetOf line.now net.now }
     requires first { first < count_of line.now }
-    ensures { IfOk result (λ waves. IsBlockRun line.now script.now first waves) }
+    ensures { IfOk result (λ tracks.
+        IsBlockRun line.now script.now first tracks.keys.items tracks.trips.items) }
 {
     candidates_are_inside();
     timings_inside_are_choices_inside();
@@ -89,8 +90,8 @@ pub fn run_block(
     parameters_are_numbered();
     let spans = block_spans(alloc, line, first)?;
     let steps: [Step<Ticks64>; 0] = [];
-    let waves = run::<Lanes64>(alloc, net, line, script, &spans, &steps)?;
-    Ok(waves)
+    let tracks = run_tracks::<Lanes64>(alloc, net, line, script, &spans, &steps)?;
+    Ok(tracks)
 }
 
 /// A candidate.

@@ -1,8 +1,7 @@
 //! The key waves of an interval history.
 
-ghost use Rattle.std.specs.Prelude.{◌≡◌, ◌<◌, IfOk};
+ghost use Rattle.std.specs.Prelude.{◌≡◌, IfOk};
 ghost use Rattle.line_model.specs.Parameters.{terminal_count};
-ghost use Rattle.wave_runs.specs.Waves.{IsWaveOf};
 ghost use Rattle.interval_wave.specs.PairWavesOf.{pair_history};
 ghost use Rattle.certify_core.specs.Verdicts.{AreKeys};
 
@@ -19,22 +18,8 @@ pub fn key_waves(alloc: Global, line: &Line, waves: &PairWaves) -> Result<Vec<Ru
 {
     let mut keys = Vec::new(alloc);
     for k in 0..line.terminals.len() {
-        let wave = key_wave(alloc, line, waves, k as u32)?;
+        let wave = waves.key_runs(k as u32).copy(alloc)?;
         keys.push(wave)?;
     }
     Ok(keys)
-}
-
-// The key wave of a terminal.
-fn key_wave(alloc: Global, line: &Line, waves: &PairWaves, terminal: u32) -> Result<Runs, Memory>
-    requires terminal { terminal < waves.now.terminals }
-    requires horizon { waves.now.horizon ≡ line.now.horizon }
-    ensures { IfOk result (λ wave.
-        IsWaveOf wave line.now.horizon ((pair_history waves.now).key terminal)) }
-{
-    let mut wave = Runs::new(alloc);
-    for t in 0..line.horizon {
-        wave.push(waves.key(terminal, t), 1)?;
-    }
-    Ok(wave)
 }

@@ -18,7 +18,7 @@ use gate_net::Net;
 use interval_wave::{PairWaves, Rule, judge};
 use line_model::laws::parameters_are_numbered;
 use line_model::{Line, Memory, Script};
-use simulator::Waves;
+use simulator::Tracks;
 use std::alloc::Global;
 use tick_signal::Lanes64;
 use timing_box::candidate_count;
@@ -89,8 +89,8 @@ pub fn after_candidates(
         if !some_open(&standings) {
             return Ok(standings);
         }
-        let waves = run_block(alloc, line, net, script, first)?;
-        let after = after_block(alloc, line, script, &waves, first, &standings)?;
+        let tracks = run_block(alloc, line, net, script, first)?;
+        let after = after_block(alloc, line, script, &tracks, first, &standings)?;
         standings = after;
         first += 64;
     }
@@ -123,14 +123,15 @@ fn after_block(
     alloc: Global,
     line: &Line,
     script: &Script,
-    waves: &Waves<Lanes64>,
+    tracks: &Tracks<Lanes64>,
     first: u32,
     standings: &[Standing],
 ) -> Result<Vec<Standing>, Memory>
     requires deadline { script.now.deadline < line.now.horizon }
     requires terminals { length standings.now ≡ terminal_count line.now }
     requires first { first < count_of line.now }
-    requires waves { IsBlockRun line.now script.now first waves.now }
+    requires run { IsBlockRun line.now script.now first
+        tracks.now.keys.items tracks.now.trips.items }
     ensures count { IfOk result (λ after. length after.items ≡ terminal_count line.now) }
     ensures stand { IfOk result (λ after. (w : PairHistory) →
         AllStand line.now script.now w first standings.now →
@@ -139,7 +140,7 @@ fn after_block(
     let mut after = Vec::new(alloc);
     for k in 0..standings.len() {
         let before = of_terminal(standings, k);
-        after.push(settled(line, script, waves, first, k as u32, before))?;
+        after.push(settled(line, script, tracks, first, k as u32, before))?;
     }
     Ok(after)
 }
@@ -155,7 +156,7 @@ fn of_terminal(standings: &[Standing], k: usize) -> Standing
 fn settled(
     line: &Line,
     script: &Script,
-    waves: &Waves<Lanes64>,
+    tracks: &Tracks<Lanes64>,
     first: u32,
     terminal: u32,
     standing: Standing,
@@ -163,14 +164,15 @@ fn settled(
     requires terminal { terminal < terminal_count line.now }
     requires deadline { script.now.deadline < line.now.horizon }
     requires first { first < count_of line.now }
-    requires waves { IsBlockRun line.now script.now first waves.now }
+    requires run { IsBlockRun line.now script.now first
+        tracks.now.keys.items tracks.now.trips.items }
     ensures { (w : PairHistory) → IsStanding line.now script.now terminal w first standing →
         IsStanding line.now script.now terminal w (first + 64) result }
 {
     match standing {
         Standing::Held => Standing::Held,
         Standing::Failing(number) => Standing::Failing(number),
-        Standing::Open => match first_lane(failing(line, script, waves, terminal)) {
+        Standing::Open => match first_lane(failing(line, script, tracks, terminal)) {
             Some(lane) => Standing::Failing(number_in(line, first, lane)),
             None => Standing::Open,
         },

@@ -1,2 +1,3 @@
 pub mod SentKeys
 pub mod Sent
+pub mod Tracks

@@ -11,14 +11,15 @@ ghost use Rattle.tick_signal.specs.Lanes.{in_lane};
 
 use tick_signal::Signal;
 
-mod delay_line;
 mod lanes;
 mod level;
 mod memory;
+mod same;
 mod tern;
+mod track;
 
-pub use delay_line::DelayLine;
 pub use memory::Memory;
+pub use track::Track;
 
 /// Signals that a channel carries.
 pub trait Carried: Signal {

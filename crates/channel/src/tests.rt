@@ -1,4 +1,4 @@
-//! Delay lines of each signal, through the traits.
+//! Tracks of each signal, through the traits.
 
 ghost use Rattle.std.specs.Prelude.{ℕ, ◌<◌, ◌≤◌, length, slice_index};
 
@@ -17,13 +17,13 @@ fn receives<V: Carried>(
     requires lane { 0 < V.LANES }
     requires room { length keys.now < 4000 }
 {
-    let mut line = DelayLine::<V>::new(alloc, keys.len() as u32)?;
+    let mut line = Track::<V>::new(alloc, keys.len() as u32)?;
     for tick in 0..keys.len() {
         let received = line.received(delay);
         if tick >= want.len() || !same(received, want[tick]) {
             return Ok(false);
         }
-        line.send(keys[tick]);
+        line.push(keys[tick], 1);
     }
     Ok(true)
 }

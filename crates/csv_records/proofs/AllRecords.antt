@@ -1,32 +1,5 @@
--- Records that are reached one after another are all that the text has.
-use Rattle.std.proofs.Common.{
-  ◌≡◌,
-  ℕ,
-  zero,
-  suc,
-  ◌+◌,
-  ◌<◌,
-  ◌≤◌,
-  ◌==◌,
-  ◌&&◌,
-  Bool,
-  true,
-  false,
-  cond,
-  List,
-  [],
-  ◌∷◌,
-  ◌++◌,
-  length,
-  Option,
-  None,
-  Some,
-  refl,
-  sym,
-  ap,
-  subst,
-  arith,
-}
+-- The records of a text: each read leaves fewer bytes, and a state between two records.
+use Rattle.std.proofs.Common.{◌≡◌, ℕ, zero, suc, ◌+◌, ◌<◌, ◌≤◌, ◌==◌, ◌&&◌, Bool, true, false, cond, List, [], ◌∷◌, ◌++◌, length, Option, None, Some, refl, ap, subst, arith}
 use Rattle.csv.specs.Machine.{
   Read,
   next_record,
@@ -42,15 +15,8 @@ use Rattle.csv.specs.Machine.{
   fields_after,
   field_after,
 }
-use Rattle.csv.specs.Reading.{
-  Reached,
-  AreRecords,
-  records_from,
-  records,
-  records_next,
-  strip_bom,
-  is_bom,
-}
+use Rattle.csv.specs.Reading.{records_from, records, records_next, default_config, strip_bom, is_bom}
+use Rattle.csv_records.specs.Records.{records_of}
 use Rattle.csv.specs.declared.parser.Config.{Config}
 use Rattle.csv.specs.declared.parser.Terminator.{Terminator}
 use Rattle.csv.specs.declared.parser.Terminator.TheVariants as term
@@ -119,38 +85,39 @@ step_ends cfg st.AfterCr c = plain_or (c == 10) st.StartRecord act.Skip (start_r
     (start_record_ends cfg c)
 
 -- a record that was read leaves a state between two records, and fewer bytes where it began in one
-record Left (s : State) (xs : List ℕ) (p : Read) : Type 0 where
-  between : ends_at_end p.1 ≡ false
-  no_more : length p.2 ≤ length xs
-  fewer : ends_at_end s ≡ false → length p.2 < length xs
+pub record After (s : State) (xs : List ℕ) (p : Read) : Type 0 where
+  pub between : ends_at_end p.1 ≡ false
+  pub no_more : length p.2 ≤ length xs
+  pub fewer : ends_at_end s ≡ false → length p.2 < length xs
 
 same_Some : {X : Type 0} (x y : X) → Some x ≡ Some y → x ≡ y
 same_Some x y e = cc
 
 left_at_end : (s : State) (b : Bool) (fields : List (List ℕ)) (p : Read) → ends_at_end s ≡ b
-    → cond b (Some (fields, st.StartRecord, [])) None ≡ Some p → Left s [] p
+    → cond b (Some (fields, st.StartRecord, [])) None ≡ Some p → After s [] p
 left_at_end s true fields p is e =
     let q : (fields, st.StartRecord, []) ≡ p = same_Some _ _ e in
-    subst (λ (p : Read). Left s [] p) q (record
+    subst (λ (p : Read). After s [] p) q (record
     { between = refl; no_more = omega arith; fewer = λ none. cc })
 left_at_end s false fields p is e = cc
 
 left_later : (s : State) (b : Bool) (c : ℕ) (rest : List ℕ) (here : Read) (more : Option Read)
     (p : Read)
-    → (b ≡ true → Left s (c ∷ rest) here) → ((q : Read) → more ≡ Some q → length q.2 ≤ length rest
+    → (b ≡ true → After s (c ∷ rest) here) → ((q : Read) → more ≡ Some q → length q.2 ≤ length rest
     × (ends_at_end q.1 ≡ false))
-    → cond b (Some here) more ≡ Some p → Left s (c ∷ rest) p
-left_later s true c rest here more p now later e = subst (λ (p : Read). Left s (c ∷ rest) p)
+    → cond b (Some here) more ≡ Some p → After s (c ∷ rest) p
+left_later s true c rest here more p now later e = subst (λ (p : Read). After s (c ∷ rest) p)
     (same_Some here p e) (now refl)
 left_later s false c rest here more p now later e =
     let l = later p e in
     record { between = l.1; no_more = omega arith; fewer = λ none. omega arith }
 
-left_of : (cfg : Config) (s : State) (fields : List (List ℕ)) (field xs : List ℕ) (p : Read)
-    → next_record cfg s fields field xs ≡ Some p → Left s xs p
+-- what a read of a record leaves
+pub after_read : (cfg : Config) (s : State) (fields : List (List ℕ)) (field xs : List ℕ) (p : Read)
+    → next_record cfg s fields field xs ≡ Some p → After s xs p
 unfolding next_record
-left_of cfg s fields field [] p e = left_at_end s (ends_at_end s) (fields ++ (field ∷ [])) p refl e
-left_of cfg s fields field (c ∷ rest) p e =
+after_read cfg s fields field [] p e = left_at_end s (ends_at_end s) (fields ++ (field ∷ [])) p refl e
+after_read cfg s fields field (c ∷ rest) p e =
     left_later s (is_end (step cfg s c).1) c rest
     (fields_after (step cfg s c).1 fields field, (step cfg s c).0, rest)
     (next_record cfg (step cfg s c).0 (fields_after (step cfg s c).1 fields field)
@@ -161,32 +128,43 @@ left_of cfg s fields field (c ∷ rest) p e =
       fewer = λ none.
           omega arith;
     })
-    (λ q h. let l = left_of cfg (step cfg s c).0 (fields_after (step cfg s c).1 fields field)
+    (λ q h. let l = after_read cfg (step cfg s c).0 (fields_after (step cfg s c).1 fields field)
     (field_after (step cfg s c).1 c field) rest q h in (l.no_more, l.between)) e
 
--- as many records as there are bytes and one more are all
-all_from : (cfg : Config) (n : ℕ) (rows : List (List (List ℕ))) (s s2 : State) (xs ys : List ℕ)
-    → ends_at_end s ≡ false → length xs < n
-    → Reached cfg s xs rows s2 ys → next_record cfg s2 [] [] ys ≡ None → records_from cfg n s xs
-    ≡ rows
-unfolding records_from Reached
-all_from cfg zero rows s s2 xs ys between room reached none = absurd (omega arith)
-all_from cfg (suc n) [] s s2 xs ys between room reached none =
-    let e : next_record cfg s [] [] xs ≡ None = rw (reached.0, reached.1) none in
-    rw e refl
-all_from cfg (suc n) (r ∷ rows) s s2 xs ys between room reached none =
-    let p = reached.0 in
-    let left = left_of cfg s [] [] xs p reached.1 in
-    let fewer = left.fewer between in
-    let fits : length p.2 < n = omega arith in
-    let rest = all_from cfg n rows p.1 s2 p.2 ys left.between fits reached.3 none in
-    rw (reached.1, reached.2) (ap (λ z. p.0 ∷ z) rest)
+same_next : (f g : State → List ℕ → List (List (List ℕ))) (o : Option Read)
+    → ((p : Read) → o ≡ Some p → f p.1 p.2 ≡ g p.1 p.2) → records_next f o ≡ records_next g o
+same_next f g None same = refl
+same_next f g (Some p) same = ap (λ z. p.0 ∷ z) (same p refl)
 
--- the relation and the function agree
-pub records_are : (cfg : Config) (xs : List ℕ) (rows : List (List (List ℕ)))
-    → AreRecords cfg st.StartRecord xs rows → rows ≡ records cfg xs
-records_are cfg xs rows are = sym (all_from cfg
-    (length xs + 1) rows st.StartRecord are.0 xs are.1 refl (omega arith) are.2 are.3)
+-- more turns than bytes find the same records
+pub same_records : (cfg : Config) (n m : ℕ) (s : State) (xs : List ℕ) → ends_at_end s ≡ false
+    → length xs < n → length xs < m → records_from cfg n s xs ≡ records_from cfg m s xs
+unfolding records_from
+same_records cfg zero m s xs between a b = absurd (omega arith)
+same_records cfg (suc n) zero s xs between a b = absurd (omega arith)
+same_records cfg (suc n) (suc m) s xs between a b =
+    same_next (records_from cfg n) (records_from cfg m) (next_record cfg s [] [] xs)
+    (λ p is. let left = after_read cfg s [] [] xs p is in let fewer = left.fewer between in
+    same_records cfg n m p.1 p.2 left.between (omega arith) (omega arith))
+
+-- the first record, and then those that are left
+pub first_record : (cfg : Config) (n : ℕ) (s : State) (xs : List ℕ) (p : Read)
+    → ends_at_end s ≡ false → length xs < n → next_record cfg s [] [] xs ≡ Some p
+    → records_from cfg n s xs ≡ p.0 ∷ records_from cfg (length p.2 + 1) p.1 p.2
+unfolding records_from
+first_record cfg zero s xs p between room is = absurd (omega arith)
+first_record cfg (suc n) s xs p between room is =
+    let left = after_read cfg s [] [] xs p is in
+    let fewer = left.fewer between in
+    rw is (ap (λ z. p.0 ∷ z) (same_records cfg n (length p.2 + 1) p.1 p.2 left.between (omega arith)
+    (omega arith)))
+
+-- no record is left
+pub no_record : (cfg : Config) (n : ℕ) (s : State) (xs : List ℕ)
+    → next_record cfg s [] [] xs ≡ None → records_from cfg n s xs ≡ []
+unfolding records_from
+no_record cfg zero s xs none = refl
+no_record cfg (suc n) s xs none = rw none refl
 
 length_next : (more : State → List ℕ → List (List (List ℕ))) (o : Option Read) (n : ℕ)
     → ((s : State) (xs : List ℕ) → length (more s xs) ≤ n) → length (records_next more o) ≤ suc n
@@ -194,7 +172,7 @@ length_next more None n h = omega arith
 length_next more (Some p) n h = let l = h p.1 p.2 in omega arith
 
 -- no more records than turns
-pub length-records_from : (cfg : Config) (n : ℕ) (s : State) (xs : List ℕ)
+length-records_from : (cfg : Config) (n : ℕ) (s : State) (xs : List ℕ)
     → length (records_from cfg n s xs) ≤ n
 unfolding records_from
 length-records_from cfg zero s xs = omega arith
@@ -202,7 +180,7 @@ length-records_from cfg (suc n) s xs = length_next (records_from cfg n)
     (next_record cfg s [] [] xs) n (length-records_from cfg n)
 
 -- a text has at most one record more than bytes
-pub length-records : (cfg : Config) (xs : List ℕ) → length (records cfg xs) ≤ length xs + 1
+length-records : (cfg : Config) (xs : List ℕ) → length (records cfg xs) ≤ length xs + 1
 length-records cfg xs = length-records_from cfg (length xs + 1) st.StartRecord xs
 
 choice_le : (b : Bool) (xs ys : List ℕ) → length xs ≤ length ys → length (cond b xs ys) ≤ length ys
@@ -210,10 +188,18 @@ choice_le true xs ys le = le
 choice_le false xs ys le = omega arith
 
 -- taking a byte order mark off leaves no more bytes
-pub length-strip_bom : (xs : List ℕ) → length (strip_bom xs) ≤ length xs
+length-strip_bom : (xs : List ℕ) → length (strip_bom xs) ≤ length xs
 unfolding strip_bom
 length-strip_bom [] = omega arith
 length-strip_bom (a ∷ []) = omega arith
 length-strip_bom (a ∷ b ∷ []) = omega arith
 length-strip_bom (a ∷ b ∷ c ∷ rest) =
     choice_le (is_bom a b c) rest (a ∷ b ∷ c ∷ rest) (omega arith)
+
+-- so do these bytes
+pub few_records : (bytes : List ℕ) → length (records_of bytes) ≤ length bytes + 1
+unfolding records_of
+few_records bytes =
+    let records = length-records default_config (strip_bom bytes) in
+    let stripped = length-strip_bom bytes in
+    omega arith

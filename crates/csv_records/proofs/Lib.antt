@@ -1,1 +1,4 @@
 pub mod AllRecords
+pub mod FieldLists
+pub mod Folds
+pub mod LeftRecords

@@ -41,7 +41,7 @@ use Rattle.line_model.specs.Fits.{exists_in, span_fits, deadline_fits}
 use Rattle.line_model.specs.PlainNames.{is_plain_name}
 use Rattle.fault_script.specs.declared.item.Item.{Item}
 use Rattle.fault_script.specs.declared.item.Item.TheVariants.{Head, Seen, Lost}
-use Rattle.fault_script.specs.Values.{ScriptValues}
+use Rattle.csv_records.specs.CheckLaws.{tested}
 use Rattle.fault_script.specs.Places.{terminal_named, channel_named, has_name}
 use Rattle.fault_script.specs.Checks.{
   is_empty,
@@ -50,19 +50,6 @@ use Rattle.fault_script.specs.Checks.{
   span_between,
   what_at,
 }
-
--- a script with these values fits the line
-pub record ValuesFit (line : Line) (v : ScriptValues) : Type 0 where
-  pub plain_name : IsTrue (is_plain_name v.name)
-  pub few_spans : length v.spans ≤ 200
-  pub deadline : IsTrue (deadline_fits line.horizon v.kind v.deadline)
-  pub spans : IsTrue (list_all (span_fits line) v.spans)
-
--- a value that a test let through
-tested : {A : Type 0} (b : Bool) (o : Option A) (x : A) → cond b o None ≡ Some x
-    → (b ≡ true) × (o ≡ Some x)
-tested true o x e = (refl, e)
-tested false o x e = absurd (cc)
 
 below_fits : (horizon : ℕ) (o : Option ℕ) (d : ℕ) → below_horizon horizon o ≡ Some d
     → nat_lt d horizon ≡ true

@@ -1,9 +1,6 @@
 pub mod Fitting
-pub mod FiveFields
-pub mod Lists
 pub mod Naming
 pub mod Once
-pub mod Rows
 pub mod SoFar
 pub mod Standing
 pub mod Steps

@@ -27,10 +27,8 @@ use Rattle.std.proofs.lemmas.Bool.{cases_lt}
 use Rattle.std.proofs.lemmas.List.{get_or_append_left}
 use Rattle.std.proofs.Math.Seq.{get_or-append_seam}
 use Rattle.std.proofs.lemmas.List.Folds.{list_any_at}
+use Rattle.fault_script.specs.SoFar.{AreOnce}
 use Rattle.fault_script.proofs.Naming.{bytes_same}
-
-abbrev pub AreOnce : List (List ℕ) → Type 0
-AreOnce names = (j k : ℕ) → j < k → k < length names → get_or names j [] ≢ get_or names k []
 
 pub once_none : AreOnce []
 once_none = λ j k less below same. absurd (omega arith)

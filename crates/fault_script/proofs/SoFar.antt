@@ -41,7 +41,6 @@ use Rattle.line_model.specs.declared.script.Script.{Script}
 use Rattle.line_model.specs.Fits.{Fits}
 use Rattle.line_model.specs.PlainNames.{is_plain_name}
 use Rattle.fault_script.specs.declared.fault.ScriptFault.{ScriptFault}
-use Rattle.fault_script.specs.declared.fault.ScriptFault.TheVariants as fault
 use Rattle.fault_script.specs.Gives.{Gives}
 use Rattle.fault_script.specs.declared.item.Item.{Item}
 use Rattle.fault_script.specs.declared.item.Item.TheVariants.{Head, Seen, Lost}
@@ -56,46 +55,24 @@ use Rattle.fault_script.specs.Values.{
   with_head,
   with_row,
 }
-use Rattle.fault_script.specs.Checks.{is_header, is_head, is_taken}
-use Rattle.fault_script.specs.Scripts.{
-  after_item,
-  after_record,
-  after_records,
-  after_header,
-  scripts_in,
-}
-use Rattle.fault_script.proofs.Lists.{All-front, All-last, list_any-map}
-use Rattle.fault_script.proofs.Once.{AreOnce, once_none, once_more}
+use Rattle.fault_script.specs.Checks.{is_head, is_taken}
+use Rattle.fault_script.specs.Scripts.{after_item, after_record}
+use Rattle.csv_records.specs.ListLaws.{All-front, All-last, list_any-map}
+use Rattle.fault_script.proofs.Once.{once_none, once_more}
+use Rattle.fault_script.specs.SoFar.{AreOnce, IsSoFar, ValuesFit, names_in, records_in}
 use Rattle.fault_script.proofs.Fitting.{
-  ValuesFit,
   head_deadline_fits,
   row_span_fits,
   one_span_more,
 }
+use Rattle.csv_records.specs.CheckLaws.{same_ok}
 use Rattle.fault_script.proofs.Steps.{
-  passed,
-  choice_passed,
-  same_ok,
   HeadPassed,
   head_passed,
   RowPassed,
   row_passed,
   record_passed,
 }
-
--- the records of a script: its head and its rows
-abbrev pub records_in : ScriptValues → ℕ
-records_in v = 1 + length v.spans
-
-abbrev pub names_in : List ScriptValues → List (List ℕ)
-names_in vs = map (λ v. v.name) vs
-
--- before record n: at most 64 scripts, each of which fits, and each record counted
-pub record IsSoFar (line : Line) (n : ℕ) (s : ScriptsSoFar) : Type 0 where
-  pub heads : length (all_scripts s) ≤ 64
-  pub fit : All (ValuesFit line) (all_scripts s)
-  pub number : n ≡ 2 + sum_by records_in (all_scripts s)
-  pub once : AreOnce (names_in (all_scripts s))
 
 pub none_so_far : (line : Line) → IsSoFar line 2 no_scripts
 none_so_far line =
@@ -209,22 +186,6 @@ record_so_far line s n fields t so_far e =
     let p = record_passed line s n fields t e in
     item_so_far line s n p.row t so_far p.plain p.item p.new p.after
 
-records_so_far : (line : Line) (rows : List (List (List ℕ))) (s : ScriptsSoFar) (n : ℕ)
-    (t : ScriptsSoFar) → IsSoFar line n s → after_records line s n rows ≡ Ok t
-    → IsSoFar line (n + length rows) t
-unfolding after_records
-records_so_far line [] s n t so_far e =
-    let same : n ≡ n + 0 = omega arith in
-    subst (λ (x : ScriptsSoFar). IsSoFar line (n + 0) x) (same_ok s t e)
-    (subst (λ (m : ℕ). IsSoFar line m s) same so_far)
-records_so_far line (fields ∷ rest) s n t so_far e =
-    let p = passed (after_record line s n fields)
-    (λ next. after_records line next (n + 1) rest) t e in
-    let number : n + 1 + length rest ≡ n + length (fields ∷ rest) = omega arith in
-    subst (λ (m : ℕ). IsSoFar line m t) number
-    (records_so_far line rest p.value (n + 1) t
-    (record_so_far line s n fields p.value so_far p.was) p.rest)
-
 -- the scripts that a file says: each fits the line, and they are of one file
 pub record AreGood (line : Line) (vs : List ScriptValues) : Type 0 where
   pub fit : All (ValuesFit line) vs
@@ -245,25 +206,6 @@ good line n s some so_far = record {
   };
 }
 
-header_good : (line : Line) (rows : List (List (List ℕ))) (vs : List ScriptValues)
-    → after_header line rows ≡ Ok vs → AreGood line vs
-header_good line [] vs e = absurd (cc)
-header_good line (fields ∷ rest) vs e =
-    let p = passed (after_records line no_scripts 2 (fields ∷ rest))
-    (λ s. Ok (all_scripts s)) vs e in
-    subst (λ (x : List ScriptValues). AreGood line x)
-    (same_ok (all_scripts p.value) vs p.rest)
-    (good line (2 + length (fields ∷ rest)) p.value (omega arith)
-    (records_so_far line (fields ∷ rest) no_scripts 2 p.value (none_so_far line) p.was))
-
-scripts_good : (line : Line) (rows : List (List (List ℕ))) (vs : List ScriptValues)
-    → scripts_in line rows ≡ Ok vs → AreGood line vs
-unfolding scripts_in
-scripts_good line [] vs e = absurd (cc)
-scripts_good line (header ∷ rest) vs e =
-    header_good line rest vs
-    (choice_passed (is_header header) (after_header line rest) fault.Header vs e)
-
 pub values_fit : (line : Line) (scripts : List Script)
     → All (ValuesFit line) (map values_of scripts)
     → All (Fits line) scripts
@@ -280,20 +222,13 @@ values_fit line (s ∷ scripts) fit =
     (values_fit line scripts
     (All-tail (ValuesFit line) (values_of s) (map values_of scripts) fit))
 
--- so does every script that a reader gives
-pub read_scripts_fit : (line : Line) (rows : List (List (List ℕ)))
-    (r : Result (Vec Script Global) ScriptFault)
-    → Gives (λ v. map values_of v.items) r (scripts_in line rows)
-    → IfOk r (λ v. All (Fits line) v.items)
-read_scripts_fit line rows (Ok v) gives =
-    values_fit line v.items (scripts_good line rows (map values_of v.items) gives).fit
-read_scripts_fit line rows (Err e) gives = tt
-
--- and they are of one file
-pub read_scripts_one_file : (line : Line) (rows : List (List (List ℕ)))
-    (r : Result (Vec Script Global) ScriptFault)
-    → Gives (λ v. map values_of v.items) r (scripts_in line rows)
-    → IfOk r (λ v. AreOfOneFile (map values_of v.items))
-read_scripts_one_file line rows (Ok v) gives =
-    (scripts_good line rows (map values_of v.items) gives).one_file
-read_scripts_one_file line rows (Err e) gives = tt
+-- so are the scripts that a reader gives
+pub given_good : (line : Line) (n : ℕ) (s : ScriptsSoFar) (r : Result (Vec Script Global) ScriptFault)
+    → 2 < n → IsSoFar line n s → Gives (λ v. map values_of v.items) r (Ok (all_scripts s))
+    → IfOk r (λ v. All (Fits line) v.items × AreOfOneFile (map values_of v.items))
+given_good line n s (Ok v) some so_far gives =
+    let all = subst (λ (vs : List ScriptValues). AreGood line vs)
+    (same_ok {F = ScriptFault} (all_scripts s) (map values_of v.items) gives)
+    (good line n s some so_far) in
+    (values_fit line v.items all.fit, all.one_file)
+given_good line n s (Err e) some so_far gives = tt

@@ -72,7 +72,8 @@ use Rattle.line_model.specs.declared.script.Script.{Script}
 use Rattle.line_model.specs.Fits.{Fits, exists_in, span_fits, deadline_fits}
 use Rattle.fault_script.specs.declared.item.Item.{Item}
 use Rattle.fault_script.specs.declared.item.Item.TheVariants.{Head, Seen, Lost}
-use Rattle.fault_script.specs.Gives.{◌>>=◌}
+use Rattle.csv_records.specs.Gives.{◌>>=◌}
+use Rattle.csv_records.specs.RecordFile.{after_header, after_records, said_in}
 use Rattle.fault_script.specs.Row.{Row}
 use Rattle.fault_script.specs.Values.{
   ScriptValues,
@@ -97,8 +98,7 @@ use Rattle.fault_script.specs.Scripts.{
   after_row,
   after_item,
   after_record,
-  after_records,
-  after_header,
+  script_file,
   scripts_in,
 }
 use Rattle.fault_script.specs.Printed.{
@@ -113,7 +113,7 @@ use Rattle.fault_script.specs.Printed.{
   file_records,
 }
 use Rattle.relay_base.specs.DecimalLaws.{number_of-decimal}
-use Rattle.fault_script.proofs.Fitting.{ValuesFit}
+use Rattle.fault_script.specs.SoFar.{ValuesFit}
 use Rattle.fault_script.proofs.Naming.{
   bytes_same,
   bytes_are,
@@ -216,26 +216,26 @@ row_stands line done v n x plain room fits =
 rows_stand : (line : Line) (done : List ScriptValues) (v : ScriptValues) (n : ℕ)
     (spans : List SeenSpan) (rest : List (List (List ℕ))) → is_plain_name v.name ≡ true
     → length v.spans + length spans ≤ 200 → list_all (span_fits line) spans ≡ true
-    → after_records line (at_script done v) n (map (row_record line v.name) spans ++ rest)
-    ≡ after_records line (at_script done (record v { spans = v.spans ++ spans })) (n + length spans)
+    → after_records (script_file line) (at_script done v) n (map (row_record line v.name) spans ++ rest)
+    ≡ after_records (script_file line) (at_script done (record v { spans = v.spans ++ spans })) (n + length spans)
     rest
 unfolding after_records
 rows_stand line done v n [] rest plain room fit =
     let same : n ≡ n + 0 = omega arith in
-    ap (λ spans. after_records line (at_script done (record v { spans = spans })) n rest)
+    ap (λ spans. after_records (script_file line) (at_script done (record v { spans = spans })) n rest)
     (sym (append-nil v.spans))
-    ∙ ap (λ m. after_records line (at_script done (record v { spans = v.spans ++ [] })) m rest) same
+    ∙ ap (λ m. after_records (script_file line) (at_script done (record v { spans = v.spans ++ [] })) m rest) same
 rows_stand line done v n (x ∷ spans) rest plain room fit =
     let p = both (span_fits line x) (list_all (span_fits line) spans) fit in
     let count = length-append v.spans (x ∷ []) in
     let first = row_stands line done v n x plain (omega arith) p.0 in
     let behind : List (List (List ℕ)) = map (row_record line v.name) spans ++ rest in
     let number : n + 1 + length spans ≡ n + length (x ∷ spans) = omega arith in
-    ap (λ r. r >>= λ next. after_records line next (n + 1) behind) first
+    ap (λ r. r >>= λ next. after_records (script_file line) next (n + 1) behind) first
     ∙ rows_stand line done (one_row_more v x) (n + 1) spans rest plain (omega arith) p.1
-    ∙ ap (λ list. after_records line (at_script done (record v { spans = list }))
+    ∙ ap (λ list. after_records (script_file line) (at_script done (record v { spans = list }))
     (n + 1 + length spans) rest) (append_assoc v.spans (x ∷ []) spans)
-    ∙ ap (λ m. after_records line
+    ∙ ap (λ m. after_records (script_file line)
     (at_script done (record v { spans = v.spans ++ x ∷ spans })) m rest)
     number
 
@@ -268,13 +268,13 @@ head_stands line s n v fit new few =
 script_stands : (line : Line) (s : ScriptsSoFar) (n : ℕ) (v : ScriptValues)
     (rest : List (List (List ℕ))) → ValuesFit line v → is_taken s v.name ≡ false
     → length (all_scripts s) < 64
-    → after_records line s n (script_records line v ++ rest)
-    ≡ after_records line (at_script (all_scripts s) v) (n + 1 + length v.spans) rest
+    → after_records (script_file line) s n (script_records line v ++ rest)
+    ≡ after_records (script_file line) (at_script (all_scripts s) v) (n + 1 + length v.spans) rest
 unfolding after_records
 script_stands line s n v rest fit new few =
     let behind : List (List (List ℕ)) = map (row_record line v.name) v.spans ++ rest in
     let bare : ScriptValues = record v { spans = [] } in
-    ap (λ r. r >>= λ next. after_records line next (n + 1) behind)
+    ap (λ r. r >>= λ next. after_records (script_file line) next (n + 1) behind)
     (head_stands line s n v fit new few)
     ∙ rows_stand line (all_scripts s) bare (n + 1) v.spans rest
     fit.plain_name (omega arith) fit.spans
@@ -314,7 +314,7 @@ new_behind s v vs new = record {
 
 scripts_stand : (line : Line) (s : ScriptsSoFar) (n : ℕ) (vs : List ScriptValues)
     → All (ValuesFit line) vs → AreNew s vs → length (all_scripts s) + length vs ≤ 64
-    → (after_records line s n (flat_map (script_records line) vs) >>= λ t. Ok (all_scripts t))
+    → (after_records (script_file line) s n (flat_map (script_records line) vs) >>= λ t. Ok (all_scripts t))
     ≡ Ok (all_scripts s ++ vs)
 unfolding after_records
 scripts_stand line s n [] fit new few = ap (λ list. Ok list) (sym (append-nil (all_scripts s)))
@@ -324,7 +324,7 @@ scripts_stand line s n (v ∷ vs) fit new few =
     let next : ScriptsSoFar = at_script (all_scripts s) v in
     let count = length-append (all_scripts s) (v ∷ []) in
     let taken = All-head (λ u. is_taken s u.name ≡ false) v vs new.names in
-    ap (λ rows. after_records line s n rows >>= λ t. Ok (all_scripts t))
+    ap (λ rows. after_records (script_file line) s n rows >>= λ t. Ok (all_scripts t))
     (flat_map-cons (script_records line) v vs)
     ∙ ap (λ r. r >>= λ t. Ok (all_scripts t))
     (script_stands line s n v rest here taken (omega arith))
@@ -343,8 +343,9 @@ printed_stand line (v ∷ vs) fit one_file =
           All-from_get_or (λ u. is_taken no_scripts u.name ≡ false) (v ∷ vs) v (λ i below. refl);
       once = one_file.once;
     } in
-    ap (after_header line) (flat_map-cons (script_records line) v vs)
-    ∙ ap (λ rows. after_records line no_scripts 2 rows >>= λ s. Ok (all_scripts s))
+    ap (λ rows. after_header (script_file line) rows >>= λ s. Ok (all_scripts s))
+    (flat_map-cons (script_records line) v vs)
+    ∙ ap (λ rows. after_records (script_file line) no_scripts 2 rows >>= λ s. Ok (all_scripts s))
     (sym (flat_map-cons (script_records line) v vs))
     ∙ scripts_stand line no_scripts 2 (v ∷ vs) fit new
     (let few = one_file.few in omega arith)

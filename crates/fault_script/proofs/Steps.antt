@@ -31,7 +31,8 @@ use Rattle.line_model.specs.declared.script.SeenSpan.{SeenSpan}
 use Rattle.fault_script.specs.declared.fault.ScriptFault.{ScriptFault}
 use Rattle.fault_script.specs.declared.fault.ScriptFault.TheVariants as fault
 use Rattle.fault_script.specs.declared.item.Item.{Item}
-use Rattle.fault_script.specs.Gives.{◌>>=◌}
+use Rattle.csv_records.specs.Gives.{◌>>=◌}
+use Rattle.csv_records.specs.CheckLaws.{passed, same_ok, test_passed}
 use Rattle.fault_script.specs.Row.{Row, row_in}
 use Rattle.fault_script.specs.Values.{ScriptValues, ScriptsSoFar, all_scripts, with_head, with_row}
 use Rattle.fault_script.specs.Checks.{
@@ -53,31 +54,6 @@ use Rattle.fault_script.specs.Checks.{
   check_span,
 }
 use Rattle.fault_script.specs.Scripts.{after_head, after_row, after_item, after_record}
-
--- a check that passed, and then the rest
-pub record Passed {A B : Type 0} (r : Result A ScriptFault) (f : A → Result B ScriptFault) (y : B)
-    : Type 0 where
-  pub value : A
-  pub was : r ≡ Ok value
-  pub rest : f value ≡ Ok y
-
-pub passed : {A B : Type 0} (r : Result A ScriptFault) (f : A → Result B ScriptFault) (y : B)
-    → (r >>= f) ≡ Ok y → Passed r f y
-passed (Ok x) f y e = record { value = x; was = refl; rest = e }
-passed (Err d) f y e = absurd (cc)
-
-pub test_passed : {A : Type 0} (b : Bool) (x : A) (d : ScriptFault) (y : A)
-    → cond b (Ok x) (Err d) ≡ Ok y → (b ≡ true) × (x ≡ y)
-test_passed true x d y e = (refl, cc)
-test_passed false x d y e = absurd (cc)
-
-pub choice_passed : {A : Type 0} (b : Bool) (r : Result A ScriptFault) (d : ScriptFault) (y : A)
-    → cond b r (Err d) ≡ Ok y → r ≡ Ok y
-choice_passed true r d y e = e
-choice_passed false r d y e = absurd (cc)
-
-pub same_ok : {A : Type 0} (x y : A) → (let r : Result A ScriptFault = Ok x in r ≡ Ok y) → x ≡ y
-same_ok x y e = cc
 
 -- a head that passed
 pub record HeadPassed (line : Line) (s : ScriptsSoFar) (row : Row) (kind : Kind)

@@ -7,7 +7,7 @@ use Rattle.std.proofs.lemmas.List.Folds.{list_any-append}
 use Rattle.fault_script.specs.declared.reading.Reading.{Reading}
 use Rattle.fault_script.specs.Values.{ScriptValues, values_of, one_or_none, so_far_of}
 use Rattle.fault_script.specs.Checks.{is_taken}
-use Rattle.fault_script.proofs.Lists.{list_any-map}
+use Rattle.csv_records.specs.ListLaws.{list_any-map}
 
 -- a name is taken by a finished script or by the latest
 pub taken_split : (r : Reading) (name : List ℕ) → is_taken (so_far_of r) name

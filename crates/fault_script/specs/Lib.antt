@@ -1,5 +1,6 @@
 pub mod Gives
 pub mod Values
+pub mod SoFar
 pub mod Row
 pub mod Places
 pub mod Checks

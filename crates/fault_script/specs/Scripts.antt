@@ -1,24 +1,15 @@
 -- What a file of scripts says: its scripts, or its first fault.
-use Rattle.std.specs.Prelude.{
-  ◌+◌,
-  ℕ,
-  List,
-  [],
-  ◌∷◌,
-  Result,
-  Ok,
-  Err,
-  if◌then◌else◌,
-}
+use Rattle.std.specs.Prelude.{ℕ, List, Result, Ok}
 use Rattle.line_model.specs.declared.line.Line.{Line}
 use Rattle.line_model.specs.declared.script.Kind.{Kind}
+use Rattle.csv_records.specs.Gives.{◌>>=◌}
+use Rattle.csv_records.specs.RecordFile.{RecordFile, said_in}
 use Rattle.csv_records.specs.Records.{records_of}
 use Rattle.relay_base.specs.Number.{number_of}
 use Rattle.fault_script.specs.declared.fault.ScriptFault.{ScriptFault}
 use Rattle.fault_script.specs.declared.fault.ScriptFault.TheVariants as fault
 use Rattle.fault_script.specs.declared.item.Item.{Item}
 use Rattle.fault_script.specs.declared.item.Item.TheVariants.{Head, Seen, Lost}
-use Rattle.fault_script.specs.Gives.{◌>>=◌}
 use Rattle.fault_script.specs.Values.{
   ScriptValues,
   ScriptsSoFar,
@@ -76,23 +67,19 @@ after_record line s n fields = do
   item ← check_item n (item_of row.item)
   after_item line s n row item
 
--- the records from number n on, in order, up to the first fault
-unfoldable pub after_records : Line → ScriptsSoFar → ℕ → List (List (List ℕ))
-    → Result ScriptsSoFar ScriptFault
-after_records line s n [] = Ok s
-after_records line s n (fields ∷ rest) =
-    after_record line s n fields >>= λ next. after_records line next (n + 1) rest
+-- a file of scripts
+abbrev pub script_file : Line → RecordFile ScriptsSoFar ScriptFault
+script_file line = record {
+  is_header = is_header;
+  start = no_scripts;
+  after = after_record line;
+  no_header = fault.Header;
+  no_record = fault.Empty;
+}
 
--- the header, at least one record, and then each record
-abbrev pub after_header : Line → List (List (List ℕ)) → Result (List ScriptValues) ScriptFault
-after_header line [] = Err fault.Empty
-after_header line (fields ∷ rest) =
-    after_records line no_scripts 2 (fields ∷ rest) >>= λ s. Ok (all_scripts s)
-
+-- what these records say
 unfoldable pub scripts_in : Line → List (List (List ℕ)) → Result (List ScriptValues) ScriptFault
-scripts_in line [] = Err fault.Header
-scripts_in line (header ∷ rest) =
-    if is_header header then after_header line rest else Err fault.Header
+scripts_in line rows = said_in (script_file line) rows >>= λ s. Ok (all_scripts s)
 
 -- what these bytes say
 abbrev pub scripts_of : Line → List ℕ → Result (List ScriptValues) ScriptFault

@@ -2,40 +2,31 @@
 
 use csv_records::Memory;
 use std::alloc::{AllocError, AllocFailed};
-use thiserror::Error;
+use std::error::Error;
+use std::fmt;
 
 /// Why a file of scripts is refused. The number is that of the record; the header is record 1.
-#[derive(Clone, Copy, Debug, Drop, PartialEq, Eq, Error)]
+#[derive(Clone, Copy, Debug, Drop, PartialEq, Eq)]
 pub enum ScriptFault {
     /// The first record isn't `script,item,place,from,to`.
-    #[error("Header")]
     Header,
     /// The record has not five fields.
-    #[error("Fields {0}")]
     Fields(u32),
     /// The item is none of the eight.
-    #[error("Item {0}")]
     Item(u32),
     /// A head has a place, or the place is no terminal, or for a loss no channel.
-    #[error("Place {0}")]
     BadPlace(u32),
     /// A deadline or a span is not within the horizon.
-    #[error("Ticks {0}")]
     Ticks(u32),
     /// A row has no head before it, or another name than the latest head.
-    #[error("Order {0}")]
     Order(u32),
     /// The name isn't plain, or a head before this one has it.
-    #[error("Name {0}")]
     BadName(u32),
     /// A 65th head, or a 201st row after one head.
-    #[error("TooMany")]
     TooMany,
     /// No record follows the header.
-    #[error("Empty")]
     Empty,
     /// Memory ran out.
-    #[error("Memory")]
     Memory,
 }
 
@@ -77,6 +68,18 @@ impl ScriptFault {
         }
     }
 }
+
+impl fmt::Display for ScriptFault {
+    fn fmt<W: fmt::Write>(&self, f: &mut fmt::Formatter<W>) -> fmt::Result {
+        f.write_str(self.name())?;
+        match self.record() {
+            Some(n) => write!(f, " {n}"),
+            None => Ok(()),
+        }
+    }
+}
+
+impl Error for ScriptFault {}
 
 impl From<AllocError> for ScriptFault {
     ghost use Rattle.std.specs.Prelude.{◌≡◌};

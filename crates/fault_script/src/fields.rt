@@ -9,7 +9,7 @@ ghost use Rattle.fault_script.specs.Checks.{is_header};
 use crate::fault::ScriptFault;
 use crate::item::is;
 use csv::ByteRecord;
-use csv_records::field;
+use csv_records::five_fields;
 
 /// The five fields of a record that has five.
 #[derive(Clone, Copy)]
@@ -26,7 +26,13 @@ pub fn fields_in(row: &ByteRecord, n: u32) -> Result<Fields<'_>, ScriptFault>
     ensures { Gives row_of result (row_in n (fields_of row.now)) }
 {
     match five_fields(row) {
-        Some(fields) => Ok(fields),
+        Some((name, item, place, from, to)) => Ok(Fields {
+            name,
+            item,
+            place,
+            from,
+            to,
+        }),
         None => Err(ScriptFault::Fields(n)),
     }
 }
@@ -36,31 +42,13 @@ pub fn heads_file(row: &ByteRecord) -> bool
     ensures { result ≡ is_header (fields_of row.now) }
 {
     match five_fields(row) {
-        Some(fields) => {
-            is(fields.name, b"script")
-                && is(fields.item, b"item")
-                && is(fields.place, b"place")
-                && is(fields.from, b"from")
-                && is(fields.to, b"to")
+        Some((name, item, place, from, to)) => {
+            is(name, b"script")
+                && is(item, b"item")
+                && is(place, b"place")
+                && is(from, b"from")
+                && is(to, b"to")
         }
         None => false,
     }
-}
-
-ghost use Rattle.std.specs.Prelude.{◌≢◌, [], ◌∷◌, length, MatchOption};
-
-fn five_fields(row: &ByteRecord) -> Option<Fields<'_>>
-    ensures { MatchOption result (length (fields_of row.now) ≢ 5) (λ f. fields_of row.now
-        ≡ f.name.now ∷ f.item.now ∷ f.place.now ∷ f.from.now ∷ f.to.now ∷ []) }
-{
-    if row.len() != 5 {
-        return None;
-    }
-    Some(Fields {
-        name: field(row, 0),
-        item: field(row, 1),
-        place: field(row, 2),
-        from: field(row, 3),
-        to: field(row, 4),
-    })
 }

@@ -5,13 +5,13 @@ ghost use Rattle.std.specs.List.{All};
 ghost use Rattle.csv.specs.Records.{fields_of};
 ghost use Rattle.line_model.specs.Fits.{Fits};
 ghost use Rattle.line_model.specs.PlainNames.{is_plain_name};
-ghost use Rattle.fault_script.specs.Gives.{Gives};
+ghost use Rattle.fault_script.specs.Gives.{Gives, is_memory};
 ghost use Rattle.fault_script.specs.Row.{row_of};
-ghost use Rattle.fault_script.specs.Values.{values_of, so_far_of, no_scripts, AreOfOneFile};
+ghost use Rattle.fault_script.specs.Values.{ScriptsSoFar, values_of, so_far_of, AreOfOneFile};
+ghost use Rattle.fault_script.specs.SoFar.{IsSoFar};
 ghost use Rattle.fault_script.specs.Scripts.{
   scripts_of,
-  scripts_in,
-  after_records,
+  script_file,
   after_record,
   after_head,
   after_row,
@@ -23,13 +23,65 @@ use crate::fields::{Fields, fields_in, heads_file};
 use crate::item::{Item, is, item_named};
 use crate::reading::{Reading, finished, nothing_read};
 use csv::ByteRecord;
-use csv_records::read_records;
+use csv_records::{RecordReader, read_file};
 use line_model::{Kind, Line, Name, Script};
 use std::alloc::Global;
 
-/// What record n makes of the scripts before it.
+/// Reads the scripts of a line.
+#[derive(Clone, Copy)]
+struct ScriptReader<'a> {
+    line: &'a Line,
+}
+
+impl<'a> RecordReader for ScriptReader<'a> {
+    type Reading = Reading;
+
+    type Fault = ScriptFault;
+
+    ghost Said = { ScriptsSoFar };
+
+    ghost said = { so_far_of };
+
+    ghost file = { λ reader. script_file reader.line.now };
+
+    ghost is_memory = { is_memory };
+
+    ghost Before = { λ reader n s. IsSoFar reader.line.now n s };
+
+    fn is_header(&self, row: &ByteRecord) -> bool {
+        heads_file(row)
+    }
+
+    fn start(&self, alloc: Global) -> Reading {
+        nothing_read(alloc)
+    }
+
+    fn after(
+        &self,
+        alloc: Global,
+        reading: Reading,
+        n: u32,
+        row: &ByteRecord,
+    ) -> Result<Reading, ScriptFault> {
+        after(alloc, self.line, reading, n, row)
+    }
+
+    fn no_header(&self) -> ScriptFault {
+        ScriptFault::Header
+    }
+
+    fn no_record(&self) -> ScriptFault {
+        ScriptFault::Empty
+    }
+
+    fn no_memory(&self) -> ScriptFault {
+        ScriptFault::Memory
+    }
+}
+
+// What record n makes of the scripts before it.
 #[tactic(auto, unfolding(crate::specs::Scripts::after_record))]
-pub fn after(
+fn after(
     alloc: Global,
     line: &Line,
     reading: Reading,
@@ -128,46 +180,11 @@ fn with_row(
     })
 }
 
-/// What the records behind the header say, of which the first is record 2.
-fn read_rows(alloc: Global, line: &Line, rows: &[ByteRecord]) -> Result<Reading, ScriptFault>
-    ensures { Gives so_far_of result
-        (after_records line.now no_scripts 2 (map fields_of rows.now)) }
-{
-    let mut reading = nothing_read(alloc);
-    let mut n = 2;
-    for row in rows {
-        reading = after(alloc, line, reading, n, row)?;
-        n += 1;
-    }
-    Ok(reading)
-}
-
-// What all records say.
-#[tactic(auto, unfolding(crate::specs::Scripts::scripts_in))]
-fn read_all(alloc: Global, line: &Line, rows: &[ByteRecord]) -> Result<Vec<Script>, ScriptFault>
-    ensures { Gives (λ v. map values_of v.items) result
-        (scripts_in line.now (map fields_of rows.now)) }
-{
-    match rows {
-        [] => Err(ScriptFault::Header),
-        [header, rest @ ..] => {
-            if !heads_file(header) {
-                return Err(ScriptFault::Header);
-            }
-            if rest.is_empty() {
-                return Err(ScriptFault::Empty);
-            }
-            finished(read_rows(alloc, line, rest)?)
-        }
-    }
-}
-
 /// The scripts of a file, in file order, or its first fault.
 pub fn read_scripts(alloc: Global, line: &Line, bytes: &[u8]) -> Result<Vec<Script>, ScriptFault>
     ensures said { Gives (λ v. map values_of v.items) result (scripts_of line.now bytes.now) }
     ensures fits { IfOk result (λ v. All (Fits line.now) v.items) }
     ensures one_file { IfOk result (λ v. AreOfOneFile (map values_of v.items)) }
 {
-    let rows = read_records(alloc, bytes)?;
-    read_all(alloc, line, rows.as_slice())
+    finished(read_file(alloc, &ScriptReader { line }, bytes)?)
 }

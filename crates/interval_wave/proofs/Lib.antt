@@ -1,2 +1,4 @@
-pub mod WrittenDown
+pub mod ToldHistory
 pub mod Declared
+pub mod TrackLaws
+pub mod FirstWithin

@@ -10,13 +10,14 @@ ghost use Rattle.interval_wave.specs.PairWavesOf.{pair_history};
 
 use crate::pair_waves::PairWaves;
 use crate::spans::declared_spans;
+use crate::track_waves::track_waves;
 use gate_net::Net;
 use line_model::laws::{
     a_wider_box_covers, each_box_has_one_interval_history, each_line_has_a_choice_inside,
     trees_name_the_line, values_rest_on_earlier_keys,
 };
 use line_model::{Line, Memory, Script};
-use simulator::run;
+use simulator::run_tracks;
 use std::alloc::Global;
 use tick_signal::{Tern, Within};
 use timing_box::Step;
@@ -42,6 +43,8 @@ pub fn analyse(alloc: Global, net: &Net, line: &Line, script: &Script) -> Result
     values_rest_on_earlier_keys();
     let spans = declared_spans(alloc, line)?;
     let steps: [Step<Within>; 0] = [];
-    let waves = run::<Tern>(alloc, net, line, script, &spans, &steps)?;
-    Ok(PairWaves::new(line.horizon, waves))
+    let tracks = run_tracks::<Tern>(alloc, net, line, script, &spans, &steps)?;
+    let keys = track_waves(alloc, &tracks.keys, line.horizon)?;
+    let trips = track_waves(alloc, &tracks.trips, line.horizon)?;
+    Ok(PairWaves::new(line.horizon, keys, trips))
 }

@@ -6,6 +6,7 @@ mod interval_history;
 mod pair_waves;
 mod rule;
 mod spans;
+mod track_waves;
 
 pub use interval_history::analyse;
 pub use pair_waves::PairWaves;

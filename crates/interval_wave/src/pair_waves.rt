@@ -1,46 +1,47 @@
 // The pairs of keys and trips.
 
-ghost use Rattle.std.specs.Prelude.{◌≡◌, ◌<◌, length};
+ghost use Rattle.std.specs.Prelude.{◌≡◌, ◌<◌, IfSome, length};
 ghost use Rattle.tick_signal.specs.Terns.{tern_rails};
-ghost use Rattle.simulator.specs.WavesOf.{waves_history};
-ghost use Rattle.interval_wave.specs.PairWavesOf.{written_down, pair_history};
+ghost use Rattle.wave_runs.specs.FirstTick.{first_on};
+ghost use Rattle.wave_runs.specs.Waves.{IsWaveOf};
+ghost use Rattle.interval_wave.specs.PairWavesOf.{AreWaves, told_by, pair_history};
 
-use simulator::Waves;
 use std::marker::Model;
 use tick_signal::Tern;
+use wave_runs::Runs;
 
 /// What each terminal keys, and whether it trips, at each tick of a run: off or on whatever the
-/// delays, or unknown. Contracts see the interval history,
-/// written down.
+/// delays, or unknown. Contracts see the interval history, tick by tick.
 #[derive(Drop)]
 pub struct PairWaves {
     horizon: u32,
-    waves: Waves<Tern>,
+    keys: Vec<Runs>,
+    trips: Vec<Runs>,
 }
 
 impl Model for PairWaves {
-    ghost use Rattle.std.specs.Prelude.{◌≡◌, length};
-    ghost use Rattle.tick_signal.specs.Terns.{tern_rails};
-    ghost use Rattle.simulator.specs.WavesOf.{waves_history};
-    ghost use Rattle.interval_wave.specs.PairWavesOf.{PairWavesOf, written_down};
+    ghost use Rattle.std.specs.Prelude.{length};
+    ghost use Rattle.interval_wave.specs.PairWavesOf.{PairWavesOf, AreWaves, told_by};
 
     ghost Value = { PairWavesOf };
 
-    ghost view = { λ w. written_down (length w.waves.keys) w.horizon
-        (waves_history (λ x _. tern_rails x) 0 w.waves) };
+    ghost view = { λ w. told_by w.horizon w.keys.items w.trips.items };
 
-    ghost invariant = { λ w.
-        (w.horizon ≡ w.waves.horizon) × (length w.waves.trips ≡ length w.waves.keys) };
+    ghost invariant = { λ w. AreWaves (length w.keys.items) w.horizon w.keys.items
+        × AreWaves (length w.keys.items) w.horizon w.trips.items };
 }
 
 impl PairWaves {
-    pub(crate) fn new(horizon: u32, waves: Waves<Tern>) -> PairWaves
-        requires horizon { horizon ≡ waves.horizon }
-        requires trips { length waves.trips ≡ length waves.keys }
-        ensures { result ≡ written_down (length waves.keys) horizon
-            (waves_history (λ x _. tern_rails x) 0 waves) }
+    pub(crate) fn new(horizon: u32, keys: Vec<Runs>, trips: Vec<Runs>) -> PairWaves
+        requires keys { AreWaves (length keys.items) horizon keys.items }
+        requires trips { AreWaves (length keys.items) horizon trips.items }
+        ensures { result ≡ told_by horizon keys.items trips.items }
     {
-        PairWaves { horizon, waves }
+        PairWaves {
+            horizon,
+            keys,
+            trips,
+        }
     }
 
     /// How many ticks there are.
@@ -56,7 +57,7 @@ impl PairWaves {
         requires tick { t < self.now.horizon }
         ensures { tern_rails result ≡ (pair_history self.now).key terminal t }
     {
-        self.waves.key(terminal, t)
+        self.key_runs(terminal).at(t)
     }
 
     /// Whether a terminal trips at a tick.
@@ -65,6 +66,42 @@ impl PairWaves {
         requires tick { t < self.now.horizon }
         ensures { tern_rails result ≡ (pair_history self.now).trip terminal t }
     {
-        self.waves.trip(terminal, t)
+        self.trip_runs(terminal).at(t)
+    }
+
+    /// What a terminal keys.
+    pub fn key_runs(&self, terminal: u32) -> &Runs
+        requires { terminal < self.now.terminals }
+        ensures { IsWaveOf result.now self.now.horizon ((pair_history self.now).key terminal) }
+    {
+        &self.keys[terminal as usize]
+    }
+
+    /// Whether a terminal trips.
+    pub fn trip_runs(&self, terminal: u32) -> &Runs
+        requires { terminal < self.now.terminals }
+        ensures { IsWaveOf result.now self.now.horizon ((pair_history self.now).trip terminal) }
+    {
+        &self.trips[terminal as usize]
+    }
+
+    /// The first tick at which a terminal must trip.
+    pub fn first_must(&self, terminal: u32) -> Option<u32>
+        requires { terminal < self.now.terminals }
+        ensures first { result
+            ≡ first_on (λ t. ((pair_history self.now).trip terminal t).must) self.now.horizon }
+        ensures within { IfSome result (λ t. t < self.now.horizon) }
+    {
+        wave_runs::first_must(self.trip_runs(terminal))
+    }
+
+    /// The first tick at which a terminal may trip.
+    pub fn first_may(&self, terminal: u32) -> Option<u32>
+        requires { terminal < self.now.terminals }
+        ensures first { result
+            ≡ first_on (λ t. ((pair_history self.now).trip terminal t).may) self.now.horizon }
+        ensures within { IfSome result (λ t. t < self.now.horizon) }
+    {
+        wave_runs::first_may(self.trip_runs(terminal))
     }
 }

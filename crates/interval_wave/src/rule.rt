@@ -1,11 +1,12 @@
 // The rule of an obligation.
 
-ghost use Rattle.std.specs.Prelude.{◌≡◌, ◌<◌, ◌≤◌};
+ghost use Rattle.std.specs.Prelude.{◌≡◌, ◌<◌, ◌≤◌, ℕ, Bool};
 ghost use Rattle.history.specs.Elements.{some_below};
 ghost use Rattle.line_model.specs.declared.line.Line.{Line};
 ghost use Rattle.line_model.specs.Parameters.{terminal_count};
 ghost use Rattle.line_model.specs.Histories.{History, CoversHistory, Meets};
 ghost use Rattle.line_model.specs.Rule.{rule_by};
+ghost use Rattle.wave_runs.specs.FirstTick.{first_on};
 ghost use Rattle.interval_wave.specs.PairWavesOf.{pair_history};
 ghost use Rattle.interval_wave.specs.Rules.{rule_named, rule_from, counted_ticks, IsDeadlineWithin};
 
@@ -13,7 +14,7 @@ use crate::pair_waves::PairWaves;
 use history::element_laws::tests_are_their_facts;
 use line_model::laws::the_rule_speaks_for_what_is_covered;
 use line_model::{Kind, Script};
-use tick_signal::Signal;
+use wave_runs::the_first_tick_is_the_least;
 
 /// What the interval rules say of an obligation, which is a script at a terminal: every choice of
 /// delays meets it, every choice fails it, or neither is known.
@@ -45,8 +46,8 @@ pub fn judge(waves: &PairWaves, script: &Script, terminal: u32) -> Rule
 {
     the_rule_speaks_for_what_is_covered();
     let ticks = ticks_of(script, waves.horizon());
-    let must = must_trip(waves, terminal, ticks);
-    let may = may_trip(waves, terminal, ticks);
+    let must = comes_within(waves.first_must(terminal), ticks);
+    let may = comes_within(waves.first_may(terminal), ticks);
     rule_of_rails(script.kind, must, may)
 }
 
@@ -79,32 +80,15 @@ fn rule_of_rails(kind: Kind, must: bool, may: bool) -> Rule
     }
 }
 
-// Whether the must rail of a terminal's trip is true at some of the first ticks.
-fn must_trip(waves: &PairWaves, terminal: u32, ticks: u32) -> bool
-    requires terminal { terminal < waves.now.terminals }
-    requires within { ticks ≤ waves.now.horizon }
-    ensures { result ≡ some_below (λ t. ((pair_history waves.now).trip terminal t).must) ticks }
+// Whether there is a first tick, and it is one of the first so many.
+fn comes_within(first: Option<u32>, ticks: u32) -> bool
+    ensures { (u : ℕ → Bool) (n : ℕ) → ticks ≤ n → first ≡ first_on u n →
+        result ≡ some_below u ticks }
 {
     tests_are_their_facts();
-    for t in 0..ticks {
-        if waves.trip(terminal, t).must(0) {
-            return true;
-        }
+    the_first_tick_is_the_least();
+    match first {
+        Some(t) => t < ticks,
+        None => false,
     }
-    false
-}
-
-// Whether the may rail of a terminal's trip is true at some of the first ticks.
-fn may_trip(waves: &PairWaves, terminal: u32, ticks: u32) -> bool
-    requires terminal { terminal < waves.now.terminals }
-    requires within { ticks ≤ waves.now.horizon }
-    ensures { result ≡ some_below (λ t. ((pair_history waves.now).trip terminal t).may) ticks }
-{
-    tests_are_their_facts();
-    for t in 0..ticks {
-        if waves.trip(terminal, t).may(0) {
-            return true;
-        }
-    }
-    false
 }

@@ -38,7 +38,7 @@ use Rattle.pilot_core.specs.Clauses.{
 use Rattle.pilot_core.specs.Ends.{EndsOf}
 use Rattle.pilot_core.specs.Files.{NamedFile, NoneRose, StoreCause}
 use Rattle.pilot_core.specs.Messages.{message_of}
-use Rattle.pilot_core.specs.Sinks.{SinkView, GrewByAll, Puts}
+use Rattle.commands.specs.Sinks.{SinkView, GrewByAll, Puts}
 use Rattle.pilot_core.specs.Status.{IsAnswer, IsDone, IsEarly, status_of, stop_status}
 use Rattle.pilot_core.specs.Words.{Command, files_named}
 use Rattle.pilot_core.specs.declared.stop.File.{File}
@@ -46,7 +46,7 @@ use Rattle.pilot_core.specs.declared.stop.Status.{Status}
 use Rattle.pilot_core.specs.declared.stop.Status.TheVariants as status
 use Rattle.pilot_core.specs.declared.stop.Stop.{Stop}
 use Rattle.pilot_core.specs.declared.stop.Stop.TheVariants as stop
-use Rattle.pilot_core.proofs.Writing.{appends_none}
+use Rattle.commands.specs.SinkLaws.{appends_none}
 
 -- 0 to 3 is none of the other statuses
 not_done : {X : Type 0} (s t : Status) → IsDone s → (IsDone t → ⊥) → s ≡ t → X

@@ -28,17 +28,17 @@ use Rattle.std.proofs.Common.{
   arith,
 }
 use Rattle.relay_base.specs.Store.{SameCounts}
-use Rattle.pilot_core.specs.Answers.{Answers}
+use Rattle.commands.specs.Sinks.{SinkView}
+use Rattle.pilot_core.specs.CallAnswers.{CallAnswers}
 use Rattle.pilot_core.specs.Ends.{Works, Ends}
 use Rattle.pilot_core.specs.Files.{contents, in_front, limit_of, AllTold, NamedFile, StoreCause}
-use Rattle.pilot_core.specs.Sinks.{SinkView}
 use Rattle.pilot_core.specs.declared.stop.File.{File}
 use Rattle.pilot_core.specs.declared.stop.Status.{Status}
 use Rattle.pilot_core.specs.declared.stop.Stop.{Stop}
 use Rattle.pilot_core.specs.declared.stop.Stop.TheVariants as stop
 
 -- a work may answer what a wider relation allows
-pub works_wider : {K : Type 0} (view : K → SinkView) (A B : Answers) (old new : K)
+pub works_wider : {K : Type 0} (view : K → SinkView) (A B : CallAnswers) (old new : K)
     (r : Result Status Stop)
     → ((s : Status) (text line : List ℕ) → A s text line → B s text line)
     → Works view A old new r → Works view B old new r
@@ -87,10 +87,10 @@ cause_from files c1 c2 c3 (a ∷ rest) file same cause = elim cause [
   | inr later ↦ inr (later.0, cause_from files c1 c2 c3 rest file same later.1)
 ]
 
-module _ {K : Type 0} (view : K → SinkView) (next : Result (List (List ℕ)) File → Answers)
+module _ {K : Type 0} (view : K → SinkView) (next : Result (List (List ℕ)) File → CallAnswers)
     (files : List ℕ → Option (List ℕ)) (old new : K) where
   -- what a call over these files may answer
-  abbrev allowed : List NamedFile → Answers
+  abbrev allowed : List NamedFile → CallAnswers
   allowed asked s text line = AllTold files asked → next (contents files asked) s text line
 
   at_end : (r : Result Status Stop) → Works view (next (Ok [])) old new r
@@ -109,14 +109,14 @@ module _ {K : Type 0} (view : K → SinkView) (next : Result (List (List ℕ)) F
   ends_of_works c1 c2 (Err stop.Sink) same w = (same, at_end (Err stop.Sink) w)
   ends_of_works c1 c2 (Err stop.Memory) same w = (same, at_end (Err stop.Memory) w)
 
-module _ {K : Type 0} (view : K → SinkView) (next : Result (List (List ℕ)) File → Answers)
+module _ {K : Type 0} (view : K → SinkView) (next : Result (List (List ℕ)) File → CallAnswers)
     (files : List ℕ → Option (List ℕ)) (old new : K) (a : NamedFile) (rest : List NamedFile)
     (v : List ℕ) (short : length v ≤ limit_of a.file)
     (is : IfSome (files a.name) (λ b. b ≡ v)) where
-  abbrev before : Answers
+  abbrev before : CallAnswers
   before s text line = AllTold files rest → next (in_front v (contents files rest)) s text line
 
-  abbrev after : Answers
+  abbrev after : CallAnswers
   after s text line = AllTold files (a ∷ rest) → next (contents files (a ∷ rest)) s text line
 
   go_on : (r : Result Status Stop) → Works view before old new r → Works view after old new r
@@ -157,7 +157,7 @@ pub record IsFetched (files : List ℕ → Option (List ℕ)) (a : NamedFile) (v
 
 module _ {K : Type 0} (view : K → SinkView) (files : List ℕ → Option (List ℕ)) (old new : K) where
   -- a command of one file, which was fetched
-  pub ends_of_one : (next : Result (List (List ℕ)) File → Answers) (a : NamedFile) (v : List ℕ)
+  pub ends_of_one : (next : Result (List (List ℕ)) File → CallAnswers) (a : NamedFile) (v : List ℕ)
       → IsFetched files a v → (c1 c2 : List ℕ → ℕ) (r : Result Status Stop) → SameCounts c1 c2
       → Works view (next (Ok (v ∷ []))) old new r
       → Ends view next files (a ∷ []) c1 c2 old new r
@@ -166,7 +166,7 @@ module _ {K : Type 0} (view : K → SinkView) (files : List ℕ → Option (List
       (ends_of_works view (λ x. next (in_front v x)) files old new c2 c2 r (λ name. refl) w)
 
   -- a command of two files
-  pub ends_of_two : (next : Result (List (List ℕ)) File → Answers) (a b : NamedFile)
+  pub ends_of_two : (next : Result (List (List ℕ)) File → CallAnswers) (a b : NamedFile)
       (v w : List ℕ) → IsFetched files a v → IsFetched files b w
       → (c1 c2 c3 : List ℕ → ℕ) (r : Result Status Stop) → SameCounts c1 c2 → SameCounts c2 c3
       → Works view (next (Ok (v ∷ w ∷ []))) old new r
@@ -176,7 +176,7 @@ module _ {K : Type 0} (view : K → SinkView) (files : List ℕ → Option (List
       (ends_of_one (λ x. next (in_front v x)) b w g c2 c3 r same_b work)
 
   -- a command of three files
-  pub ends_of_three : (next : Result (List (List ℕ)) File → Answers) (a b d : NamedFile)
+  pub ends_of_three : (next : Result (List (List ℕ)) File → CallAnswers) (a b d : NamedFile)
       (v w u : List ℕ) → IsFetched files a v → IsFetched files b w → IsFetched files d u
       → (c1 c2 c3 c4 : List ℕ → ℕ) (r : Result Status Stop) → SameCounts c1 c2
       → SameCounts c2 c3 → SameCounts c3 c4

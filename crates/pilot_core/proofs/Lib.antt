@@ -1,11 +1,5 @@
-pub mod Benched
 pub mod Closing
 pub mod Fetching
-pub mod Counts
-pub mod Parts
-pub mod Pieces
-pub mod PlayTexts
-pub mod Puts
 pub mod Reading
 pub mod Results
-pub mod Writing
+pub mod Written

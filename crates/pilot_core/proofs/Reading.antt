@@ -24,7 +24,7 @@ use Rattle.record_match.specs.Gives as record_reading
 use Rattle.record_match.specs.Waves.{SeenValues}
 use Rattle.record_match.specs.declared.fault.SeenFault.{SeenFault}
 use Rattle.record_match.specs.declared.fault.SeenFault.TheVariants as seen_fault
-use Rattle.pilot_core.specs.Answers.{Answers, refuses}
+use Rattle.pilot_core.specs.CallAnswers.{CallAnswers, refuses}
 use Rattle.pilot_core.specs.Commands.{asks}
 use Rattle.pilot_core.specs.Ends.{Works}
 use Rattle.pilot_core.specs.Reading.{
@@ -36,19 +36,20 @@ use Rattle.pilot_core.specs.Reading.{
   of_timings,
   work_of_one,
 }
-use Rattle.pilot_core.specs.Sinks.{SinkView}
+use Rattle.commands.specs.Sinks.{SinkView}
 use Rattle.pilot_core.specs.Stops.{line_stop, record_stop, script_stop, timing_stop}
-use Rattle.pilot_core.specs.Study.{IsSaid, IsStudy, ReadsStudy}
+use Rattle.commands.specs.Study.{IsStudy}
+use Rattle.pilot_core.specs.Study.{IsSaid, ReadsStudy}
 use Rattle.pilot_core.specs.declared.refusal.Refusal.{Refusal}
 use Rattle.pilot_core.specs.declared.refusal.Refusal.TheVariants as refusal
 use Rattle.pilot_core.specs.declared.stop.Status.{Status}
 use Rattle.pilot_core.specs.declared.stop.Stop.{Stop}
 use Rattle.pilot_core.specs.declared.stop.Stop.TheVariants as stop
-use Rattle.pilot_core.specs.declared.study.Study.{Study}
+use Rattle.commands.specs.declared.study.Study.{Study}
 use Rattle.pilot_core.specs.declared.words.OneFile.{OneFile}
 use Rattle.pilot_core.specs.declared.words.OneFile.TheVariants as one
 use Rattle.pilot_core.proofs.Fetching.{works_wider}
-use Rattle.pilot_core.proofs.Writing.{keeps_same}
+use Rattle.commands.specs.SinkLaws.{keeps_same}
 
 -- ---- what holds of what was read
 
@@ -159,11 +160,11 @@ scripts_refused lb sb l script_fault.Memory is f = tt
 
 module _ {K : Type 0} (view : K → SinkView) where
   -- want of memory before anything is written
-  pub no_memory : (allowed : Answers) (s : K) → Works view allowed s s (Err stop.Memory)
+  pub no_memory : (allowed : CallAnswers) (s : K) → Works view allowed s s (Err stop.Memory)
   no_memory allowed s = (refl, inl (keeps_same (view s).written))
 
   -- a line file that is refused, by a command over it alone
-  pub line_stops : (said : Result LineValues LineFault) (next : Line → Answers) (s : K)
+  pub line_stops : (said : Result LineValues LineFault) (next : Line → CallAnswers) (s : K)
       (e : LineFault) → line_reading.Fails e said
       → Works view (λ t text message. of_line said (λ why. refuses why t text message)
       (λ l. next l t text message)) s s (Err (line_stop e))
@@ -178,7 +179,7 @@ module _ {K : Type 0} (view : K → SinkView) where
   line_stops said next s line_fault.Memory f = no_memory _ s
 
   -- a work over the line that was read
-  pub works_of_line : (said : Result LineValues LineFault) (next : Line → Answers) (l : Line)
+  pub works_of_line : (said : Result LineValues LineFault) (next : Line → CallAnswers) (l : Line)
       (old new : K) (r : Result Status Stop) → said ≡ Ok (line_values l)
       → Works view (next l) old new r
       → Works view (λ t text message. of_line said (λ why. refuses why t text message)
@@ -189,9 +190,9 @@ module _ {K : Type 0} (view : K → SinkView) where
       (λ t text message a. line_read said l (λ why. refuses why t text message)
       (λ l. next l t text message) is a) w
 
-  module _ (line_bytes scripts_bytes : List ℕ) (next : Line → List Script → Answers) where
+  module _ (line_bytes scripts_bytes : List ℕ) (next : Line → List Script → CallAnswers) where
     -- the answers over a line file and a scripts file
-    abbrev over : Answers
+    abbrev over : CallAnswers
     over t text message = of_study line_bytes scripts_bytes (λ why. refuses why t text message)
         (λ l scripts. next l scripts t text message)
 
@@ -220,7 +221,7 @@ module _ {K : Type 0} (view : K → SinkView) where
 
   -- a timings file that is refused
   pub timings_stop : (l : Line) (said : Result (List NamedValues) TimingFault)
-      (next : List NamedValues → Answers) (s : K) (e : TimingFault) → timing_reading.Fails e said
+      (next : List NamedValues → CallAnswers) (s : K) (e : TimingFault) → timing_reading.Fails e said
       → Works view (λ t text message. of_timings l said (λ why. refuses why t text message)
       (λ timings. next timings t text message)) s s (Err (timing_stop e))
   timings_stop l said next s timing_fault.Header f = rw f ((refl, refl, refl), refl)
@@ -236,7 +237,7 @@ module _ {K : Type 0} (view : K → SinkView) where
 
   -- a work over the timings that were read
   pub works_of_timings : (l : Line) (said : Result (List NamedValues) TimingFault)
-      (next : List NamedValues → Answers) (timings : List NamedValues) (old new : K)
+      (next : List NamedValues → CallAnswers) (timings : List NamedValues) (old new : K)
       (r : Result Status Stop) → said ≡ Ok timings
       → All (λ timing. IsTimingInside l timing.timing) timings
       → Works view (next timings) old new r
@@ -250,7 +251,7 @@ module _ {K : Type 0} (view : K → SinkView) where
 
   -- a record file that is refused
   pub record_stops : (said : Result (List SeenValues) SeenFault)
-      (next : List SeenValues → Answers) (s : K) (e : SeenFault) → record_reading.Fails e said
+      (next : List SeenValues → CallAnswers) (s : K) (e : SeenFault) → record_reading.Fails e said
       → Works view (λ t text message. of_record said (λ why. refuses why t text message)
       (λ records. next records t text message)) s s (Err (record_stop e))
   record_stops said next s seen_fault.Header f = rw f ((refl, refl, refl), refl)
@@ -266,7 +267,7 @@ module _ {K : Type 0} (view : K → SinkView) where
 
   -- a work over the records that were read
   pub works_of_record : (said : Result (List SeenValues) SeenFault)
-      (next : List SeenValues → Answers) (records : List SeenValues) (old new : K)
+      (next : List SeenValues → CallAnswers) (records : List SeenValues) (old new : K)
       (r : Result Status Stop) → said ≡ Ok records → Works view (next records) old new r
       → Works view (λ t text message. of_record said (λ why. refuses why t text message)
       (λ records. next records t text message)) old new r
@@ -277,13 +278,13 @@ module _ {K : Type 0} (view : K → SinkView) where
       (λ all. next all t text message) is a) w
 
   -- a name that is no parameter's
-  pub parameter_stops : (said : Option ℕ) (next : ℕ → Answers) (s : K) → said ≡ None
+  pub parameter_stops : (said : Option ℕ) (next : ℕ → CallAnswers) (s : K) → said ≡ None
       → Works view (λ t text message. of_parameter said (λ why. refuses why t text message)
       (λ param. next param t text message)) s s (Err (stop.Refused refusal.UnknownParameter))
   parameter_stops said next s is = rw is ((refl, refl, refl), refl)
 
   -- a work over the parameter that was found
-  pub works_of_parameter : (said : Option ℕ) (next : ℕ → Answers) (param : ℕ) (old new : K)
+  pub works_of_parameter : (said : Option ℕ) (next : ℕ → CallAnswers) (param : ℕ) (old new : K)
       (r : Result Status Stop) → said ≡ Some param → Works view (next param) old new r
       → Works view (λ t text message. of_parameter said (λ why. refuses why t text message)
       (λ param. next param t text message)) old new r

@@ -1,5 +1,8 @@
 -- Results, by cases.
 use Rattle.std.proofs.Common.{OnOk, Result, Ok, Err}
+use Rattle.commands.specs.declared.done.Done.{Done}
+use Rattle.commands.specs.declared.put.WriteStop.{WriteStop}
+use Rattle.pilot_core.specs.Status.{ended}
 
 -- what follows, where there is a value
 pub on_ok : {X Fault P Q : Type 0} (r : Result X Fault) → (P → Q) → OnOk r P → OnOk r Q
@@ -10,3 +13,8 @@ on_ok (Err e) then p = tt
 pub if_ok : {X Fault P : Type 0} (r : Result X Fault) → P → OnOk r P
 if_ok (Ok x) p = p
 if_ok (Err e) p = tt
+
+-- what follows, where a command is done
+pub on_done : {P Q : Type 0} (r : Result Done WriteStop) → (P → Q) → OnOk r P → OnOk (ended r) Q
+on_done (Ok d) then p = then p
+on_done (Err why) then p = tt

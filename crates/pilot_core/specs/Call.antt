@@ -1,8 +1,8 @@
 -- What a call answers when nothing fails, and what it has then asked of the engine.
 use Rattle.std.specs.Prelude.{◌≡◌, ⊤, ℕ, List, [], Option, None, Some}
 use Rattle.engine.specs.Calls.{Calls}
-use Rattle.pilot_core.specs.Answers.{Answers, refuses}
-use Rattle.pilot_core.specs.Asked.{Asks}
+use Rattle.commands.specs.Asked.{Asks}
+use Rattle.pilot_core.specs.CallAnswers.{CallAnswers, done_with, refuses}
 use Rattle.pilot_core.specs.Commands.{answer, asks}
 use Rattle.pilot_core.specs.Files.{AllTold, contents}
 use Rattle.pilot_core.specs.Messages.{message_of}
@@ -12,16 +12,16 @@ use Rattle.pilot_core.specs.declared.stop.Status.TheVariants as status
 use Rattle.pilot_core.specs.declared.stop.Stop.TheVariants as stop
 
 -- the answer of a command over what its files say, or the refusal of one
-abbrev pub answer_by : Reading → Answers
+abbrev pub answer_by : Reading → CallAnswers
 answer_by read s text message =
-    read (λ why. refuses why s text message) (λ w. answer w s text message)
+    read (λ why. refuses why s text message) (λ w. done_with (answer w) s text message)
 
 -- what a command asks over what its files say
 abbrev pub asks_by : Reading → Asks
 asks_by read old new = read (λ why. ⊤) (λ w. asks w old new)
 
 -- the answer to the command that the words are, over files that are all told
-abbrev pub answers : Option Command → (List ℕ → Option (List ℕ)) → Answers
+abbrev pub answers : Option Command → (List ℕ → Option (List ℕ)) → CallAnswers
 answers None files s text message =
     (s ≡ status.Usage) × (text ≡ []) × (message ≡ message_of stop.Usage)
 answers (Some command) files s text message =

@@ -7,7 +7,7 @@ use Rattle.engine.specs.Calls.{Calls}
 use Rattle.pilot_core.specs.Call.{Asked, Told, answers}
 use Rattle.pilot_core.specs.Files.{StoreCause, NoneRose}
 use Rattle.pilot_core.specs.Messages.{message_of}
-use Rattle.pilot_core.specs.Sinks.{SinkView, GrewByAll}
+use Rattle.commands.specs.Sinks.{SinkView, GrewByAll}
 use Rattle.pilot_core.specs.Status.{IsAnswer, IsDone}
 use Rattle.pilot_core.specs.Words.{Command, files_named}
 use Rattle.pilot_core.specs.declared.refusal.Refusal.{Refusal}

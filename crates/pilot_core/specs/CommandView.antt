@@ -11,3 +11,5 @@ command_view (command.ThreeFiles work line scripts third) =
     words.three_files work line.now scripts.now third.now
 command_view (command.Margin line scripts parameter) =
     words.margin line.now scripts.now parameter.now
+command_view (command.Split line scripts depth) =
+    words.split line.now scripts.now depth.splits

@@ -1,16 +1,18 @@
 -- The commands: what each answers, and what it asks of the engine.
-use Rattle.pilot_core.specs.Answers.{Answers}
-use Rattle.pilot_core.specs.Asked.{Asks, asks_nothing}
-use Rattle.pilot_core.specs.Bench.{bench_answer, bench_asks}
-use Rattle.pilot_core.specs.Certify.{certify_answer, certify_asks}
-use Rattle.pilot_core.specs.Check.{check_answer, check_asks}
-use Rattle.pilot_core.specs.Line.{line_answer}
-use Rattle.pilot_core.specs.Margin.{margin_answer}
-use Rattle.pilot_core.specs.Match.{match_answer}
-use Rattle.pilot_core.specs.Migrate.{migrate_answer}
-use Rattle.pilot_core.specs.Net.{net_answer}
-use Rattle.pilot_core.specs.Play.{play_answer, play_asks}
-use Rattle.pilot_core.specs.Report.{report_answer}
+use Rattle.commands.specs.Answers.{Answers}
+use Rattle.commands.specs.Asked.{Asks, asks_nothing}
+use Rattle.commands.specs.Bench.{bench_answer, bench_asks}
+use Rattle.commands.specs.Certify.{certify_answer, certify_asks}
+use Rattle.commands.specs.Check.{check_answer, check_asks}
+use Rattle.commands.specs.Line.{line_answer}
+use Rattle.commands.specs.Margin.{margin_answer}
+use Rattle.commands.specs.Match.{match_answer}
+use Rattle.commands.specs.Migrate.{migrate_answer}
+use Rattle.commands.specs.Net.{net_answer}
+use Rattle.commands.specs.Play.{play_answer, play_asks}
+use Rattle.commands.specs.Recheck.{recheck_answer}
+use Rattle.commands.specs.Report.{report_answer}
+use Rattle.commands.specs.Split.{split_answer}
 use Rattle.pilot_core.specs.Work as work
 use Rattle.pilot_core.specs.Work.{Work}
 
@@ -23,7 +25,9 @@ answer (work.report line scripts) = report_answer line scripts
 answer (work.play line scripts timings) = play_answer line scripts timings
 answer (work.check line scripts cert) = check_answer line scripts cert
 answer (work.matching line scripts records) = match_answer line scripts records
+answer (work.recheck line scripts trees) = recheck_answer line scripts trees
 answer (work.margin line scripts param) = margin_answer line scripts param
+answer (work.split line scripts n) = split_answer line scripts n
 answer (work.bench n) = bench_answer n
 
 abbrev pub asks : Work → Asks

@@ -5,12 +5,12 @@ use Rattle.std.specs.Io.KnownBytes.{Keeps}
 use Rattle.relay_base.specs.Counts.{Rose}
 use Rattle.relay_base.specs.Sink.{GrewByProper, GrewByPart}
 use Rattle.relay_base.specs.Store.{SameCounts}
-use Rattle.pilot_core.specs.Answers.{Answers}
+use Rattle.commands.specs.Sinks.{SinkView, GrewByAll}
 use Rattle.pilot_core.specs.Call.{answer_by}
+use Rattle.pilot_core.specs.CallAnswers.{CallAnswers}
 use Rattle.pilot_core.specs.Files.{AllTold, NamedFile, StoreCause, contents}
 use Rattle.pilot_core.specs.Messages.{message_of}
 use Rattle.pilot_core.specs.Reading.{over_files}
-use Rattle.pilot_core.specs.Sinks.{SinkView, GrewByAll}
 use Rattle.pilot_core.specs.Status.{IsDone}
 use Rattle.pilot_core.specs.Words.{Command, files_of}
 use Rattle.pilot_core.specs.declared.stop.File.{File}
@@ -21,7 +21,7 @@ use Rattle.pilot_core.specs.declared.stop.Stop.TheVariants as stop
 
 -- a work that asks no store: its answers are those that are allowed. A sink is as it was, in all
 -- that it has, where a file or the parameter is refused.
-abbrev pub Works : {K : Type 0} → (K → SinkView) → Answers → K → K → Result Status Stop → Type 0
+abbrev pub Works : {K : Type 0} → (K → SinkView) → CallAnswers → K → K → Result Status Stop → Type 0
 Works view allowed old new (Ok s) =
     IsDone s × (text : List ℕ) × allowed s text [] × GrewByAll (view old) (view new) text
 Works view allowed old new (Err stop.Usage) = ⊥
@@ -40,7 +40,7 @@ Works view allowed old new (Err stop.Memory) =
 
 -- a work that first fetches these files: what it may answer depends on their bytes in word order,
 -- or on the first that is too long, and is said only where the store tells them all
-abbrev pub Ends : {K : Type 0} → (K → SinkView) → (Result (List (List ℕ)) File → Answers)
+abbrev pub Ends : {K : Type 0} → (K → SinkView) → (Result (List (List ℕ)) File → CallAnswers)
     → (List ℕ → Option (List ℕ)) → List NamedFile → (List ℕ → ℕ) → (List ℕ → ℕ)
     → K → K → Result Status Stop → Type 0
 Ends view next files asked counts_old counts_new old new (Err (stop.Store file)) =

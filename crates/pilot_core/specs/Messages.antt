@@ -18,6 +18,7 @@ file_word file.Scripts = codes "scripts"
 file_word file.Timings = codes "timings"
 file_word file.Cert = codes "cert"
 file_word file.Record = codes "record"
+file_word file.Trees = codes "trees"
 
 -- the word for what is refused
 abbrev pub subject_word : Subject → List ℕ

@@ -94,6 +94,8 @@ third_file three.Play bytes line scripts refused holds =
     of_timings line (timings_of line bytes) refused
     (λ timings. holds (work.play line scripts timings))
 third_file three.Check bytes line scripts refused holds = holds (work.check line scripts bytes)
+third_file three.Recheck bytes line scripts refused holds =
+    holds (work.recheck line scripts bytes)
 third_file three.Match bytes line scripts refused holds =
     of_record (records_said line scripts bytes) refused
     (λ records. holds (work.matching line scripts records))
@@ -119,6 +121,16 @@ margin parameter line_bytes scripts_bytes refused holds =
     (λ line scripts. of_parameter (param_named line parameter) refused
     (λ param. holds (work.margin line scripts param)))
 
+-- to a number of splits, over the line and the scripts
+abbrev pub split : ℕ → List ℕ → List ℕ → Reading
+split n line_bytes scripts_bytes refused holds =
+    of_study line_bytes scripts_bytes refused
+    (λ line scripts. holds (work.split line scripts n))
+
+-- no file
+abbrev pub bench : ℕ → Reading
+bench n refused holds = holds (work.bench n)
+
 -- over the bytes of the command's files in word order
 abbrev pub over_bytes : Command → List (List ℕ) → Reading
 over_bytes (words.one_file command _) (line_bytes ∷ []) = one_file command line_bytes
@@ -128,7 +140,9 @@ over_bytes (words.three_files command _ _ _) (line_bytes ∷ scripts_bytes ∷ t
     three_files command line_bytes scripts_bytes third_bytes
 over_bytes (words.margin _ _ parameter) (line_bytes ∷ scripts_bytes ∷ []) =
     margin parameter line_bytes scripts_bytes
-over_bytes (words.bench n) [] = λ refused holds. holds (work.bench n)
+over_bytes (words.split _ _ n) (line_bytes ∷ scripts_bytes ∷ []) =
+    split n line_bytes scripts_bytes
+over_bytes (words.bench n) [] = bench n
 over_bytes command bytes = λ refused holds. ⊥
 
 -- once the files are there, or one is too long

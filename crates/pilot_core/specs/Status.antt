@@ -1,9 +1,30 @@
 -- The exit status of each end of a call.
 use Rattle.std.specs.Prelude.{Result, Ok, Err, ⊤}
+use Rattle.commands.specs.declared.done.Done.{Done}
+use Rattle.commands.specs.declared.done.Done.TheVariants as done
+use Rattle.commands.specs.declared.put.WriteStop.{WriteStop}
+use Rattle.commands.specs.declared.put.WriteStop.TheVariants as write_stop
 use Rattle.pilot_core.specs.declared.stop.Status.{Status}
 use Rattle.pilot_core.specs.declared.stop.Status.TheVariants as status
 use Rattle.pilot_core.specs.declared.stop.Stop.{Stop}
 use Rattle.pilot_core.specs.declared.stop.Stop.TheVariants as stop
+
+-- a command is done
+abbrev pub status_of_done : Done → Status
+status_of_done done.Good = status.Good
+status_of_done done.SomeNo = status.SomeNo
+status_of_done done.SomeUndecided = status.SomeUndecided
+status_of_done done.Rejected = status.Rejected
+
+-- the writing of a command's text stopped
+abbrev pub stop_of_write : WriteStop → Stop
+stop_of_write write_stop.Sink = stop.Sink
+stop_of_write write_stop.Memory = stop.Memory
+
+-- a command ended, with its text written or not
+abbrev pub ended : Result Done WriteStop → Result Status Stop
+ended (Ok d) = Ok (status_of_done d)
+ended (Err why) = Err (stop_of_write why)
 
 abbrev pub stop_status : Stop → Status
 stop_status stop.Usage = status.Usage

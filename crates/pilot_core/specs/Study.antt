@@ -1,8 +1,7 @@
 -- What is read of a line file and a scripts file.
-use Rattle.std.specs.Prelude.{◌≡◌, ◌≤◌, ⊤, ℕ, List, Result, Ok, Err, length, map}
-use Rattle.std.specs.List.{All}
-use Rattle.line_model.specs.Fits.{Fits}
-use Rattle.gate_net.specs.NetOf.{IsNetOf}
+use Rattle.std.specs.Prelude.{◌≡◌, ⊤, ℕ, List, Result, Ok, Err, map}
+use Rattle.commands.specs.Study.{IsStudy}
+use Rattle.commands.specs.declared.study.Study.{Study}
 use Rattle.line_file.specs.LineFiles.{line_of}
 use Rattle.line_file.specs.Lines.{line_values}
 use Rattle.fault_script.specs.Scripts.{scripts_of}
@@ -10,13 +9,6 @@ use Rattle.fault_script.specs.Values.{values_of}
 use Rattle.pilot_core.specs.Reading.{of_study}
 use Rattle.pilot_core.specs.declared.stop.Stop.{Stop}
 use Rattle.pilot_core.specs.declared.stop.Stop.TheVariants as stop
-use Rattle.pilot_core.specs.declared.study.Study.{Study}
-
--- the net is that of the line, and the scripts fit it, at most 64 of them
-pub record IsStudy (study : Study) : Type 0 where
-  pub of_line : IsNetOf study.line study.net
-  pub fit : All (Fits study.line) study.scripts.items
-  pub few : length study.scripts.items ≤ 64
 
 -- a line file and a scripts file say it
 pub record IsSaid (line_bytes scripts_bytes : List ℕ) (study : Study) : Type 0 where

@@ -35,6 +35,8 @@ pub data Command : Type 0 where
   three_files : ThreeFiles → List ℕ → List ℕ → List ℕ → Command
   -- a line file, a scripts file, and the name of a parameter
   margin : List ℕ → List ℕ → List ℕ → Command
+  -- a line file, a scripts file, and a number of splits
+  split : List ℕ → List ℕ → ℕ → Command
   -- no file, and a number of scripts
   bench : ℕ → Command
 
@@ -42,6 +44,11 @@ pub data Command : Type 0 where
 abbrev pub bench_size : Option ℕ → Option ℕ
 bench_size None = None
 bench_size (Some n) = if nat_le 1 n && nat_le n 64 then Some n else None
+
+-- a number from 0 to 8
+abbrev pub split_depth : Option ℕ → Option ℕ
+split_depth None = None
+split_depth (Some n) = if nat_le n 8 then Some n else None
 
 -- the command of two words
 abbrev pub command_of_two : List ℕ → List ℕ → Option Command
@@ -65,7 +72,10 @@ command_of_four word first second third =
     if bytes_eq word (codes "play") then Some (three_files three.Play first second third)
     else if bytes_eq word (codes "check") then Some (three_files three.Check first second third)
     else if bytes_eq word (codes "match") then Some (three_files three.Match first second third)
+    else if bytes_eq word (codes "recheck") then Some (three_files three.Recheck first second third)
     else if bytes_eq word (codes "margin") then Some (margin first second third)
+    else if bytes_eq word (codes "split")
+    then option_map (split first second) (split_depth (number_of third))
     else None
 
 -- the command that these words are
@@ -84,6 +94,7 @@ abbrev pub own_file : ThreeFiles → File
 own_file three.Play = file.Timings
 own_file three.Check = file.Cert
 own_file three.Match = file.Record
+own_file three.Recheck = file.Trees
 
 abbrev pub named : File → List ℕ → NamedFile
 named f name = record { file = f; name = name }
@@ -97,6 +108,7 @@ files_of (two_files command line scripts) =
 files_of (three_files command line scripts third) =
     named file.Line line ∷ named file.Scripts scripts ∷ named (own_file command) third ∷ []
 files_of (margin line scripts parameter) = named file.Line line ∷ named file.Scripts scripts ∷ []
+files_of (split line scripts depth) = named file.Line line ∷ named file.Scripts scripts ∷ []
 
 -- the files of the command that the words are, if they are one
 abbrev pub files_named : Option Command → List NamedFile

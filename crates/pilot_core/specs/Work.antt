@@ -14,8 +14,12 @@ pub data Work : Type 0 where
   play : Line → List Script → List NamedValues → Work
   -- with the bytes of a certificate
   check : Line → List Script → List ℕ → Work
+  -- with the bytes of split trees
+  recheck : Line → List Script → List ℕ → Work
   -- with records of the field
   matching : Line → List Script → List SeenValues → Work
   -- with the number of a parameter
   margin : Line → List Script → ℕ → Work
+  -- with a number of splits
+  split : Line → List Script → ℕ → Work
   bench : ℕ → Work

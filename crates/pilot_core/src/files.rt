@@ -15,7 +15,7 @@ fn limit_of(file: File) -> u32
 {
     match file {
         File::Line | File::Scripts | File::Record => 1_048_576,
-        File::Timings | File::Cert => 4_194_304,
+        File::Timings | File::Cert | File::Trees => 4_194_304,
     }
 }
 

@@ -3,22 +3,23 @@
 #![tactic(auto)]
 
 mod bench_size;
-mod commands;
+mod dispatch;
 mod files;
-mod laws;
 mod messages;
-mod put;
 mod refusal;
 mod run;
-mod said;
+mod split_depth;
 mod stop;
 mod study;
-mod text;
 mod top;
 mod words;
 
-pub use laws::{each_certificate_has_one_text, each_play_has_one_text};
-pub use stop::Status;
+pub use commands::Study;
+pub use files::fetch_file;
+pub use messages::put_message;
+pub use refusal::Refusal;
+pub use stop::{File, Status, Stop};
+pub use study::read_study;
 pub use top::pilot;
 
 #[cfg(test)]

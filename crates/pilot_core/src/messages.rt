@@ -1,25 +1,15 @@
 //! The lines to standard error, piece by piece, with no memory taken.
-ghost use Rattle.std.specs.Prelude.{◌≡◌, map};
+ghost use Rattle.std.specs.Prelude.{◌≡◌};
 ghost use Rattle.std.specs.List.{concat};
 ghost use Rattle.pilot_core.specs.Messages.{file_word, message_of, refusal_pieces};
 ghost use Rattle.pilot_core.specs.Messages.{subject_word};
-ghost use Rattle.pilot_core.specs.Sinks.{Puts, sink_view};
+ghost use Rattle.commands.specs.Sinks.{Puts, sink_view};
 
 use crate::refusal::{Detail, Subject};
 use crate::stop::{File, Stop};
+use commands::put_pieces;
 use itoa::Buffer;
-use relay_base::{PutFailed, Sink, put_all};
-
-// Pushes the pieces one after another.
-fn put_pieces<K: Sink>(sink: &mut K, pieces: &[&[u8]]) -> Result<(), PutFailed>
-    ensures { Puts (sink_view K.written K.faults sink.old) (sink_view K.written K.faults sink.new)
-        (concat (map (λ piece. piece.now) pieces.now)) result }
-{
-    for piece in pieces {
-        put_all(sink, piece)?;
-    }
-    Ok(())
-}
+use relay_base::{PutFailed, Sink};
 
 fn word_of_file(file: File) -> &'static [u8]
     ensures { result.now ≡ file_word file }
@@ -30,6 +20,7 @@ fn word_of_file(file: File) -> &'static [u8]
         File::Timings => b"timings",
         File::Cert => b"cert",
         File::Record => b"record",
+        File::Trees => b"trees",
     }
 }
 

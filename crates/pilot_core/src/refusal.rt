@@ -24,7 +24,7 @@ pub enum Refusal {
 }
 
 /// What is refused.
-#[derive(Clone, Copy, Debug, PartialEq, Eq)]
+#[derive(Clone, Copy)]
 pub enum Subject {
     File(File),
     Parameter,

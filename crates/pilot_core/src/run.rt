@@ -4,15 +4,16 @@ ghost use Rattle.engine.specs.Calls.{Calls};
 ghost use Rattle.pilot_core.specs.Call.{Asked};
 ghost use Rattle.pilot_core.specs.CommandView.{command_view};
 ghost use Rattle.pilot_core.specs.Ends.{EndsOf};
-ghost use Rattle.pilot_core.specs.Sinks.{sink_view};
+ghost use Rattle.commands.specs.Sinks.{sink_view};
 ghost use Rattle.pilot_core.specs.Words.{command_of, own_file as file_of_work};
 ghost use Rattle.pilot_core.specs.Words.{margin as margin_command};
-ghost use Rattle.pilot_core.specs.Words.{one_file as one_file_command};
+ghost use Rattle.pilot_core.specs.Words.{one_file as one_file_command, split as split_command};
 ghost use Rattle.pilot_core.specs.Words.{three_files as three_files_command};
 ghost use Rattle.pilot_core.specs.Words.{two_files as two_files_command};
 
-use crate::commands::{margin_of, no_file, one_file, three_files, two_files};
+use crate::dispatch::{margin_of, no_file, one_file, split_to, three_files, two_files};
 use crate::files::fetch_file;
+use crate::split_depth::SplitDepth;
 use crate::stop::{File, Status, Stop};
 use crate::words::{Command, OneFile, ThreeFiles, TwoFiles, command_of_words};
 use engine::Engine;
@@ -71,6 +72,11 @@ fn run<G: Engine, S: Store, O: Sink>(
             scripts,
             parameter,
         } => run_margin(alloc, line, scripts, parameter, store, out),
+        Command::Split {
+            line,
+            scripts,
+            depth,
+        } => run_split(alloc, line, scripts, depth, store, out),
     }
 }
 
@@ -168,6 +174,26 @@ fn run_margin<S: Store, O: Sink>(
     margin_of(alloc, parameter, line.as_slice(), scripts.as_slice(), out)
 }
 
+fn run_split<S: Store, O: Sink>(
+    alloc: Global,
+    line: &str,
+    scripts: &str,
+    depth: SplitDepth,
+    store: &mut S,
+    out: &mut O,
+) -> Result<Status, Stop>
+    ensures asked { OnOk result ((calls : Calls) →
+        Asked (Some (split_command line.now scripts.now depth.splits)) (S.held store.old)
+        calls calls) }
+    ensures ends { EndsOf (sink_view O.written O.faults)
+        (Some (split_command line.now scripts.now depth.splits))
+        (S.held store.old) (S.faults store.old) (S.faults store.new) out.old out.new result }
+{
+    let line = fetch_file(alloc, store, File::Line, line)?;
+    let scripts = fetch_file(alloc, store, File::Scripts, scripts)?;
+    split_to(alloc, depth, line.as_slice(), scripts.as_slice(), out)
+}
+
 // The file of a command's own.
 fn own_file(work: ThreeFiles) -> File
     ensures { result ≡ file_of_work work }
@@ -176,5 +202,6 @@ fn own_file(work: ThreeFiles) -> File
         ThreeFiles::Play => File::Timings,
         ThreeFiles::Check => File::Cert,
         ThreeFiles::Match => File::Record,
+        ThreeFiles::Recheck => File::Trees,
     }
 }

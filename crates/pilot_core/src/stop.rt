@@ -1,13 +1,13 @@
 //! How a call ends: its exit status, and why it stopped.
 ghost use Rattle.std.specs.Prelude.{◌≡◌};
-ghost use Rattle.pilot_core.specs.declared.stop.Stop.TheVariants.{Memory, Sink};
+ghost use Rattle.pilot_core.specs.Status.{ended as end_of};
+ghost use Rattle.pilot_core.specs.declared.stop.Stop.TheVariants.{Memory};
 
 use crate::refusal::Refusal;
+use commands::{Done, WriteStop};
 use fault_script::ScriptFault;
 use line_file::LineFault;
 use record_match::SeenFault;
-use relay_base::PutFailed;
-use std::alloc::{AllocError, AllocFailed};
 use timing_box::TimingFault;
 
 /// The exit statuses, 0 to 8 in this order.
@@ -20,7 +20,7 @@ pub enum Status {
     /// No obligation is known to fail, and some is undecided; no record of the field is impossible,
     /// and some is open; or a parameter has no margin.
     SomeUndecided,
-    /// A certificate is rejected.
+    /// A certificate is rejected, or split trees are.
     Rejected,
     /// The words are no command.
     Usage,
@@ -42,6 +42,7 @@ pub enum File {
     Timings,
     Cert,
     Record,
+    Trees,
 }
 
 /// Why a call stopped, as its line to standard error says it.
@@ -57,6 +58,20 @@ pub enum Stop {
     Sink,
     /// Memory ran out.
     Memory,
+}
+
+/// What a call ends with, once its command ended.
+pub fn ended(written: Result<Done, WriteStop>) -> Result<Status, Stop>
+    ensures { result ≡ end_of written }
+{
+    match written {
+        Ok(Done::Good) => Ok(Status::Good),
+        Ok(Done::SomeNo) => Ok(Status::SomeNo),
+        Ok(Done::SomeUndecided) => Ok(Status::SomeUndecided),
+        Ok(Done::Rejected) => Ok(Status::Rejected),
+        Err(WriteStop::Sink) => Err(Stop::Sink),
+        Err(WriteStop::Memory) => Err(Stop::Memory),
+    }
 }
 
 impl Stop {
@@ -76,35 +91,11 @@ impl Stop {
     }
 }
 
-impl From<AllocError> for Stop {
-    ghost from_gives = { λ _ stop. stop ≡ Memory };
-
-    fn from(_: AllocError) -> Self {
-        Stop::Memory
-    }
-}
-
-impl<T: Drop> From<AllocFailed<T>> for Stop {
-    ghost from_gives = { λ _ stop. stop ≡ Memory };
-
-    fn from(_: AllocFailed<T>) -> Self {
-        Stop::Memory
-    }
-}
-
 impl From<line_model::Memory> for Stop {
     ghost from_gives = { λ _ stop. stop ≡ Memory };
 
     fn from(_: line_model::Memory) -> Self {
         Stop::Memory
-    }
-}
-
-impl From<PutFailed> for Stop {
-    ghost from_gives = { λ _ stop. stop ≡ Sink };
-
-    fn from(_: PutFailed) -> Self {
-        Stop::Sink
     }
 }
 

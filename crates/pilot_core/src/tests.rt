@@ -22,7 +22,9 @@ mod refused_lines;
 mod refused_records;
 mod report;
 mod scarce_memory;
+mod split;
 mod store_and_sink_faults;
+mod stretches;
 mod usage;
 mod worked_files;
 

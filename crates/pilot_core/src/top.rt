@@ -1,7 +1,7 @@
 //! The top call.
 ghost use Rattle.std.specs.Prelude.{◌≡◌, ◌↔◌, map, string_bytes};
 ghost use Rattle.pilot_core.specs.Clauses.{Clauses};
-ghost use Rattle.pilot_core.specs.Sinks.{sink_view};
+ghost use Rattle.commands.specs.Sinks.{sink_view};
 ghost use Rattle.pilot_core.specs.Status.{IsDone, IsEarly};
 ghost use Rattle.pilot_core.specs.Words.{command_of};
 
@@ -17,10 +17,10 @@ use std::alloc::Global;
 ///
 /// The commands are `play LINE SCRIPTS TIMINGS`, `certify LINE SCRIPTS`, `report LINE SCRIPTS`,
 /// `check LINE SCRIPTS CERT`, `match LINE SCRIPTS RECORD`, `margin LINE SCRIPTS PARAMETER`,
-/// `net LINE`, `line LINE` and `migrate LINE`, with the names of files and of a parameter of the
-/// line, and `bench N`. The files are fetched in the order of the words, and then the line, the
-/// scripts, and the timings, the record or the parameter are read. Any other words are a usage
-/// fault.
+/// `split LINE SCRIPTS DEPTH`, `recheck LINE SCRIPTS TREES`, `net LINE`, `line LINE` and
+/// `migrate LINE`, with the names of files and of a parameter of the line and a number from 0 to 8,
+/// and `bench N`. The files are fetched in the order of the words, and then the line, the scripts,
+/// and the timings, the record or the parameter are read. Any other words are a usage fault.
 pub fn pilot<G: Engine, S: Store, O: Sink, E: Sink>(
     alloc: Global,
     words: &[String],

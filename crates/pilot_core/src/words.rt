@@ -2,11 +2,13 @@
 ghost use Rattle.std.specs.Prelude.{◌≡◌, map, option_map, string_bytes};
 ghost use Rattle.relay_base.specs.Number.{number_of};
 ghost use Rattle.pilot_core.specs.Words.{bench_size as size_of, bench, command_of};
+ghost use Rattle.pilot_core.specs.Words.{split_depth as depth_of, split};
 ghost use Rattle.pilot_core.specs.Words.{command_of_four as of_four};
 ghost use Rattle.pilot_core.specs.Words.{command_of_three as of_three, command_of_two as of_two};
 ghost use Rattle.pilot_core.specs.CommandView.{command_view};
 
 use crate::bench_size::BenchSize;
+use crate::split_depth::SplitDepth;
 use relay_base::number;
 
 /// A command over a line file.
@@ -33,6 +35,8 @@ pub enum ThreeFiles {
     Check,
     /// Its own file has records of the field.
     Match,
+    /// Its own file has split trees.
+    Recheck,
 }
 
 /// A command with the names of its files.
@@ -58,6 +62,11 @@ pub enum Command<'a> {
         line: &'a str,
         scripts: &'a str,
         parameter: &'a str,
+    },
+    Split {
+        line: &'a str,
+        scripts: &'a str,
+        depth: SplitDepth,
     },
 }
 
@@ -100,6 +109,31 @@ fn bench_command<'a>(word: &str) -> Option<Command<'a>>
     }
 }
 
+// The depth of a split, 0 to 8.
+fn split_depth(word: &str) -> Option<SplitDepth>
+    ensures { option_map (λ depth. depth.splits) result ≡ depth_of (number_of word.now) }
+{
+    match number(word.as_bytes()) {
+        Some(splits) if splits <= 8 => Some(SplitDepth { splits }),
+        _ => None,
+    }
+}
+
+// `split LINE SCRIPTS DEPTH`.
+fn split_command<'a>(line: &'a str, scripts: &'a str, word: &str) -> Option<Command<'a>>
+    ensures { option_map command_view result
+        ≡ option_map (split line.now scripts.now) (depth_of (number_of word.now)) }
+{
+    match split_depth(word) {
+        Some(depth) => Some(Command::Split {
+            line,
+            scripts,
+            depth,
+        }),
+        None => None,
+    }
+}
+
 // `net LINE`, `line LINE`, `migrate LINE` and `bench N`.
 fn command_of_two<'a>(word: &str, line: &'a str) -> Option<Command<'a>>
     ensures { option_map command_view result ≡ of_two word.now line.now }
@@ -136,8 +170,8 @@ fn command_of_three<'a>(word: &str, line: &'a str, scripts: &'a str) -> Option<C
     })
 }
 
-// `play LINE SCRIPTS TIMINGS`, `check LINE SCRIPTS CERT`, `match LINE SCRIPTS RECORD` and
-// `margin LINE SCRIPTS PARAMETER`.
+// `play LINE SCRIPTS TIMINGS`, `check LINE SCRIPTS CERT`, `match LINE SCRIPTS RECORD`,
+// `recheck LINE SCRIPTS TREES`, `margin LINE SCRIPTS PARAMETER` and `split LINE SCRIPTS DEPTH`.
 fn command_of_four<'a>(
     word: &str,
     line: &'a str,
@@ -152,12 +186,16 @@ fn command_of_four<'a>(
         ThreeFiles::Check
     } else if word == "match" {
         ThreeFiles::Match
+    } else if word == "recheck" {
+        ThreeFiles::Recheck
     } else if word == "margin" {
         return Some(Command::Margin {
             line,
             scripts,
             parameter: third,
         });
+    } else if word == "split" {
+        return split_command(line, scripts, third);
     } else {
         return None;
     };

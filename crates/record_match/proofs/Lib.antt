@@ -1,9 +1,7 @@
 pub mod AllowedLaws
 pub mod ClashLaws
 pub mod CandidateLaws
-pub mod FiveFields
 pub mod Taken
-pub mod Rows
 pub mod WaveLaws
 pub mod NamedLaws
 pub mod LevelLaws

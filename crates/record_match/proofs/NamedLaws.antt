@@ -15,38 +15,21 @@ use Rattle.line_model.specs.declared.script.Script.{Script}
 use Rattle.record_match.specs.declared.change.Place.{Place}
 use Rattle.record_match.specs.declared.fault.SeenFault.{SeenFault}
 use Rattle.record_match.specs.declared.fault.SeenFault.TheVariants as fault
+use Rattle.record_match.specs.declared.heads.Head.{Head}
 use Rattle.record_match.specs.declared.seen.Seen.{Seen}
-use Rattle.record_match.specs.Gives.{◌>>=◌, Gives}
+use Rattle.csv_records.specs.ListLaws.{All-front, All-last}
+use Rattle.csv_records.specs.CheckLaws.{choice_passed, passed, same_ok}
+use Rattle.csv_records.specs.Gives.{◌>>=◌}
+use Rattle.record_match.specs.Gives.{Gives}
 use Rattle.record_match.specs.Row.{Row, row_in}
-use Rattle.record_match.specs.Heads.{HeadValues, HeadsSoFar, all_heads, no_heads, with_head}
-use Rattle.record_match.specs.Heads.{with_change}
+use Rattle.record_match.specs.Heads.{HeadValues, HeadsSoFar, all_heads, values_of, with_head}
+use Rattle.record_match.specs.Heads.{AllNamed, IsNamed, with_change}
 use Rattle.record_match.specs.Waves.{SeenValues, seen_values, seen_of}
-use Rattle.record_match.specs.Checks.{is_header, is_head, is_taken, script_named, name_for}
+use Rattle.record_match.specs.Checks.{is_head, is_taken, script_named, name_for}
 use Rattle.record_match.specs.Checks.{check_name, check_order, place_at, check_place, below}
 use Rattle.record_match.specs.Checks.{check_tick, comes_later, check_later, level_of}
 use Rattle.record_match.specs.Checks.{level_before, other_level, check_level, change_of}
-use Rattle.record_match.specs.Records.{after_row, after_name, after_record, after_records}
-use Rattle.record_match.specs.Records.{after_header, heads_in}
-
--- a check that passed, and then the rest
-record Passed {A B : Type 0} (r : Result A SeenFault) (f : A → Result B SeenFault) (y : B)
-    : Type 0 where
-  value : A
-  was : r ≡ Ok value
-  rest : f value ≡ Ok y
-
-passed : {A B : Type 0} (r : Result A SeenFault) (f : A → Result B SeenFault) (y : B)
-    → (r >>= f) ≡ Ok y → Passed r f y
-passed (Ok x) f y e = record { value = x; was = refl; rest = e }
-passed (Err d) f y e = absurd (cc)
-
-choice_passed : {A : Type 0} (b : Bool) (r : Result A SeenFault) (d : SeenFault) (y : A)
-    → cond b r (Err d) ≡ Ok y → r ≡ Ok y
-choice_passed true r d y e = e
-choice_passed false r d y e = absurd (cc)
-
-same_ok : {A : Type 0} (x y : A) → (let r : Result A SeenFault = Ok x in r ≡ Ok y) → x ≡ y
-same_ok x y e = cc
+use Rattle.record_match.specs.Records.{after_row, after_name, after_record}
 
 -- a first place is within the list
 first_within : (b : Bool) (n i m : ℕ) → (b ≡ true → n < m) → cond b (Some n) None ≡ Some i → i < m
@@ -62,20 +45,6 @@ position_within test xs i e =
     let place : ℕ = position_or_len test xs in
     first_within (nat_lt place (length xs)) place i (length xs) (ltb-true place (length xs))
     (position_from-zero test xs ∙ e)
-
--- the head is of one of so many scripts
-abbrev IsNamed : ℕ → HeadValues → Type 0
-IsNamed count h = h.script < count
-
-All-front : {X : Type 0} (P : X → Type 0) (xs ys : List X) → All P (xs ++ ys) → All P xs
-All-front P [] ys all = All-nil P
-All-front P (x ∷ xs) ys all =
-    All-cons P x xs (All-head P x (xs ++ ys) all)
-    (All-front P xs ys (All-tail P x (xs ++ ys) all))
-
-All-last : {X : Type 0} (P : X → Type 0) (xs : List X) (x : X) → All P (xs ++ x ∷ []) → P x
-All-last P [] x all = All-head P x [] all
-All-last P (y ∷ xs) x all = All-last P xs x (All-tail P y (xs ++ x ∷ []) all)
 
 found_head : (n script : ℕ) (o : Option HeadValues) (h : HeadValues)
     → check_order n script o ≡ Ok h → o ≡ Some h
@@ -100,11 +69,8 @@ named s head None script e = e
 named s head (Some x) script e = ap Some (named_taken (head && is_taken s x) x script e)
 
 module _ (line : Line) (scripts : List Script) where
-  abbrev AllNamed : HeadsSoFar → Type 0
-  AllNamed s = All (IsNamed (length scripts)) (all_heads s)
-
   latest_named : (done : List HeadValues) (latest : Option HeadValues) (h : HeadValues)
-      → latest ≡ Some h → AllNamed (record { done = done; latest = latest })
+      → latest ≡ Some h → AllNamed (length scripts) (record { done = done; latest = latest })
       → All (IsNamed (length scripts)) (done ++ h ∷ [])
   latest_named done None h e all = none_is_not h e
   latest_named done (Some g) h e all =
@@ -112,7 +78,7 @@ module _ (line : Line) (scripts : List Script) where
       subst (λ (x : HeadValues). All (IsNamed (length scripts)) (done ++ x ∷ [])) same all
 
   changed : (s : HeadsSoFar) (h : HeadValues) (p : Place) (t : ℕ) (level : Bool)
-      → s.latest ≡ Some h → AllNamed s → AllNamed (with_change s h (change_of p t level))
+      → s.latest ≡ Some h → AllNamed (length scripts) s → AllNamed (length scripts) (with_change s h (change_of p t level))
   changed s h p t level e all =
       let both = latest_named s.done s.latest h e all in
       All-push (IsNamed (length scripts)) s.done
@@ -125,7 +91,7 @@ module _ (line : Line) (scripts : List Script) where
       (All-last (IsNamed (length scripts)) s.done h both)
 
   row_named : (s : HeadsSoFar) (n : ℕ) (row : Row) (script : ℕ) (t : HeadsSoFar)
-      → after_row line s n row script ≡ Ok t → AllNamed s → AllNamed t
+      → after_row line s n row script ≡ Ok t → AllNamed (length scripts) s → AllNamed (length scripts) t
   unfolding after_row
   row_named s n row script t e all =
       let last : HeadValues → Place → ℕ → Bool → Result HeadsSoFar SeenFault =
@@ -148,12 +114,12 @@ module _ (line : Line) (scripts : List Script) where
       (λ l. level a.value b.value >>= last a.value b.value c.value) t c.rest in
       let f = passed (level a.value b.value) (last a.value b.value c.value) t d.rest in
       let same = same_ok (with_change s a.value (change_of b.value c.value f.value)) t f.rest in
-      subst (λ (x : HeadsSoFar). AllNamed x) same
+      subst (λ (x : HeadsSoFar). AllNamed (length scripts) x) same
       (changed s a.value b.value c.value f.value
       (found_head n script s.latest a.value a.was) all)
 
-  opened : (s : HeadsSoFar) (script : ℕ) → script < length scripts → AllNamed s
-      → AllNamed (with_head s script)
+  opened : (s : HeadsSoFar) (script : ℕ) → script < length scripts → AllNamed (length scripts) s
+      → AllNamed (length scripts) (with_head s script)
   opened s script less all =
       All-push (IsNamed (length scripts)) (all_heads s)
       (record { script = script; changes = []; latest = None }) all less
@@ -161,14 +127,15 @@ module _ (line : Line) (scripts : List Script) where
   name_named : (b : Bool) (s : HeadsSoFar) (n : ℕ) (row : Row) (script : ℕ) (t : HeadsSoFar)
       → script < length scripts
       → cond b (Ok (with_head s script)) (after_row line s n row script) ≡ Ok t
-      → AllNamed s → AllNamed t
+      → AllNamed (length scripts) s → AllNamed (length scripts) t
   name_named true s n row script t less e all =
-      subst (λ (x : HeadsSoFar). AllNamed x) (same_ok (with_head s script) t e)
+      subst (λ (x : HeadsSoFar). AllNamed (length scripts) x) (same_ok (with_head s script) t e)
       (opened s script less all)
   name_named false s n row script t less e all = row_named s n row script t e all
 
-  record_named : (s : HeadsSoFar) (n : ℕ) (fields : List (List ℕ)) (t : HeadsSoFar)
-      → after_record line scripts s n fields ≡ Ok t → AllNamed s → AllNamed t
+  -- one record more
+  pub record_named : (s : HeadsSoFar) (n : ℕ) (fields : List (List ℕ)) (t : HeadsSoFar)
+      → after_record line scripts s n fields ≡ Ok t → AllNamed (length scripts) s → AllNamed (length scripts) t
   unfolding after_record
   record_named s n fields t e all =
       let name : Row → Result ℕ SeenFault =
@@ -180,35 +147,6 @@ module _ (line : Line) (scripts : List Script) where
       b.was) in
       let within = position_within (λ x. bytes_eq x.name a.value.name) scripts b.value found in
       name_named (is_head a.value) s n a.value b.value t (omega arith) b.rest all
-
-  records_named : (rows : List (List (List ℕ))) (s : HeadsSoFar) (n : ℕ) (t : HeadsSoFar)
-      → after_records line scripts s n rows ≡ Ok t → AllNamed s → AllNamed t
-  unfolding after_records
-  records_named [] s n t e all = subst (λ (x : HeadsSoFar). AllNamed x) (same_ok s t e) all
-  records_named (fields ∷ rest) s n t e all =
-      let a = passed (after_record line scripts s n fields)
-      (λ next. after_records line scripts next (n + 1) rest) t e in
-      records_named rest a.value (n + 1) t a.rest (record_named s n fields a.value a.was all)
-
-  header_named : (rows : List (List (List ℕ))) (hs : List HeadValues)
-      → after_header line scripts rows ≡ Ok hs → All (IsNamed (length scripts)) hs
-  header_named [] hs e = absurd (cc)
-  header_named (fields ∷ rest) hs e =
-      let a = passed (after_records line scripts no_heads 2 (fields ∷ rest))
-      (λ s. Ok (all_heads s)) hs e in
-      subst (λ (x : List HeadValues). All (IsNamed (length scripts)) x)
-      (same_ok (all_heads a.value) hs a.rest)
-      (records_named (fields ∷ rest) no_heads 2 a.value a.was
-      (All-nil (IsNamed (length scripts))))
-
-  -- the heads that records say
-  pub heads_named : (rows : List (List (List ℕ))) (hs : List HeadValues)
-      → heads_in line scripts rows ≡ Ok hs → All (IsNamed (length scripts)) hs
-  unfolding heads_in
-  heads_named [] hs e = absurd (cc)
-  heads_named (header ∷ rest) hs e =
-      header_named rest hs
-      (choice_passed (is_header header) (after_header line scripts rest) fault.Header hs e)
 
   -- and what was seen under them
   pub seen_named : (all : List Seen) (heads : List HeadValues)
@@ -224,12 +162,21 @@ module _ (line : Line) (scripts : List Script) where
       (subst (λ (k : ℕ). k < length scripts) (sym (ap (λ (v : SeenValues). v.script) one)) here)
       (seen_named all heads rest (All-tail (IsNamed (length scripts)) h heads named))
 
-  pub read_seen_named : (rows : List (List (List ℕ))) (hs : List HeadValues)
-      (r : Result (Vec Seen Global) SeenFault) → heads_in line scripts rows ≡ Ok hs
+  pub read_seen_named : (hs : List HeadValues) (r : Result (Vec Seen Global) SeenFault)
+      → All (IsNamed (length scripts)) hs
       → Gives (λ v. map seen_values v.items) r (Ok (map (seen_of line) hs))
       → IfOk r (λ v. All (λ s. s.script < length scripts) v.items)
-  read_seen_named rows hs (Ok v) said gives =
+  read_seen_named hs (Ok v) named gives =
       let same : map seen_values v.items ≡ map (seen_of line) hs =
-      sym (same_ok (map (seen_of line) hs) (map seen_values v.items) gives) in
-      seen_named v.items hs same (heads_named rows hs said)
-  read_seen_named rows hs (Err e) said gives = tt
+      sym (same_ok {F = SeenFault} (map (seen_of line) hs) (map seen_values v.items) gives) in
+      seen_named v.items hs same named
+  read_seen_named hs (Err e) named gives = tt
+
+-- the heads that a reader gives are named as those so far
+pub given_named : (scripts : List Script) (s : HeadsSoFar) (r : Result (Vec Head Global) SeenFault)
+    → AllNamed (length scripts) s → Gives (λ v. map values_of v.items) r (Ok (all_heads s))
+    → IfOk r (λ v. All (IsNamed (length scripts)) (map values_of v.items))
+given_named scripts s (Ok v) named gives =
+    subst (λ (hs : List HeadValues). All (IsNamed (length scripts)) hs)
+    (same_ok {F = SeenFault} (all_heads s) (map values_of v.items) gives) named
+given_named scripts s (Err e) named gives = tt

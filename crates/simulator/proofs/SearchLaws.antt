@@ -39,7 +39,7 @@ use Rattle.std.proofs.lemmas.List.{take-append-drop}
 use Rattle.std.proofs.lemmas.Bool.Decides.{Decides-or, Decides-and, Decides-ltb, Decides-eqb}
 use Rattle.timing_box.specs.declared.step.Step.{Step}
 use Rattle.timing_box.specs.Timing.{ascend, comes_before, number_at}
-use Rattle.simulator.specs.Steps.{is_passed}
+use Rattle.simulator.specs.Steps.{is_passed, IsParted}
 
 -- a step comes before another one: it is of an earlier parameter, or of the same one and from an
 -- earlier tick
@@ -300,3 +300,31 @@ module _ {S : Type 0} (param t : ℕ) where
     below = h.below;
     above = λ i b more there. passed_after xs up middle i s b more at there off;
   }
+
+  -- the first step that is not passed comes no later than any of the parameter that is to come
+  pub next_comes : (xs : List (Step S)) (count i : ℕ) (next s : Step S) → AreAscending xs
+      → IsParted param t xs count → slice_get xs count ≡ Some next → slice_get xs i ≡ Some s
+      → s.param ≡ param → t < s.from → (next.param ≡ param) × (next.from ≤ s.from)
+  next_comes xs count i next s up parted at_next at_s of to_come =
+      ⊎_elim
+      (λ before. let on : is_passed param t s ≡ true = parted.below i s before at_s in
+      absurd (⊎_elim (λ p. let q : s.param < param = p in omega (arith, of))
+      (λ p. let q : s.from ≤ t = p.1 in omega arith) ((passed_is s).0 on)))
+      (λ le. ⊎_elim
+      (λ lt. ⊎_elim
+      (λ p. absurd (let less : next.param < s.param = p in
+      let on : is_passed param t next ≡ true = (passed_is next).1 (inl (omega (arith, less, of))) in
+      let off : is_passed param t next ≡ false = parted.above count next (omega arith) at_next in
+      cc))
+      (λ p. let same : next.param ≡ s.param = p.0 in
+      let less : next.from < s.from = p.1 in (same ∙ of, omega arith))
+      (up count i next s lt at_next at_s))
+      (λ ge. let e : i ≡ count = omega arith in
+      let there : slice_get xs count ≡ Some s =
+      subst (λ (k : ℕ). slice_get xs k ≡ Some s) e at_s in
+      let same : next ≡ s = cc in (
+        ap (λ (x : Step S). x.param) same ∙ of,
+        let f : next.from ≡ s.from = ap (λ (x : Step S). x.from) same in omega arith,
+      ))
+      (cases_lt count i))
+      (cases_lt i count)

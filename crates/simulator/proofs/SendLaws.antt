@@ -17,7 +17,15 @@ use Rattle.std.proofs.Common.{
   ◌<◌,
   length-append,
 }
-use Rattle.std.proofs.lemmas.List.{map-append}
+use Rattle.std.proofs.Common.{Some, subst, replicate, zero, sym, refl}
+use Rattle.std.specs.Prelude.{slice_get, option_map, map, get_or}
+use Rattle.std.proofs.lemmas.Option.{slice_get-get_or, slice_get-map, get_or_from_slice_get}
+use Rattle.std.proofs.lemmas.List.{map-append, length-replicate, replicate_more}
+use Rattle.timers.specs.Stretches.{ElementsInAStretch}
+use Rattle.gate_net.specs.declared.gate.GateId.{GateId}
+use Rattle.simulator.specs.WavesOf.{number_at}
+use Rattle.simulator.specs.Ticks.{HasKeys, ValuesAgree}
+use Rattle.simulator.specs.GatePairs.{GateSignals}
 use Rattle.history.specs.Rails.{Rails, Ends, rails_at, rails_delayed}
 use Rattle.history.specs.Recorded.{first_ticks}
 use Rattle.history.specs.Laws.{HistoryLaws}
@@ -52,16 +60,6 @@ pub none_sent : {V : Type 0} (rails : V → ℕ → Rails) (lane n horizon : ℕ
 none_sent {V = V} rails lane n horizon keys lines fresh k s at =
     ap (λ (l : SentKeys V). in_lane rails lane l.keys) (fresh.empty k s at)
 
--- one more key
-pub sent_more : {V : Type 0} (rails : V → ℕ → Rails) (lane : ℕ) (keys : PairSignals) (t k : ℕ)
-    (old new : SentKeys V) (x : V) → new.keys ≡ old.keys ++ x ∷ [] → rails x lane ≡ keys k t
-    → HasSent rails lane keys t k old → HasSent rails lane keys (suc t) k new
-sent_more rails lane keys t k old new x pushed is h =
-    ap (in_lane rails lane) pushed
-    ∙ map-append (λ v. rails v lane) old.keys (x ∷ [])
-    ∙ ap (λ (l : List Rails). l ++ rails x lane ∷ []) h
-    ∙ ap (λ (y : Rails). first_ticks (keys k) t ++ y ∷ []) is
-
 -- what a delay line gives of a history's first ticks
 pub received-is : (laws : HistoryLaws) (l : List Rails) (keys : ℕ → Rails) (t n : ℕ) (c e : Ends)
     → l ≡ first_ticks keys t → n ≡ t → c ≡ e → 1 ≤ e.least
@@ -72,3 +70,59 @@ received-is laws l keys t n c e is len same some =
     ∙ ap (λ d. rails_delayed (rails_at (first_ticks keys t)) d t) same
     ∙ laws.delays_earlier.rails (rails_at (first_ticks keys t)) keys (λ _. e) t
     (λ r early late. laws.recordings.rails keys t r (omega arith))
+
+pub map_replicate : {A B : Type 0} (f : A → B) (n : ℕ) (x : A)
+    → map f (replicate n x) ≡ replicate n (f x)
+map_replicate f zero x = refl
+map_replicate f (suc n) x =
+    let e : suc n ≡ n + 1 = omega arith in
+    ap (λ (k : ℕ). map f (replicate k x)) e
+    ∙ ap (map f) (sym (replicate_more n x))
+    ∙ map-append f (replicate n x) (x ∷ [])
+    ∙ ap (λ (l : List _). l ++ f x ∷ []) (map_replicate f n x)
+    ∙ replicate_more n (f x)
+    ∙ ap (λ (k : ℕ). replicate k (f x)) (sym e)
+
+-- the number of a gate in a list
+pub number_read : (gates : List GateId) (k : ℕ) (d : GateId) → k < length gates
+    → number_at gates k ≡ (get_or gates k d).0
+number_read gates k d lt =
+    get_or_from_slice_get _ k (get_or gates k d).0 0
+    (slice_get-map (λ (id : GateId). id.0) gates k
+    ∙ ap (option_map (λ (id : GateId). id.0)) (slice_get-get_or gates k d lt))
+
+-- so many more keys, all of one value
+pub sent_for : {V : Type 0} → ElementsInAStretch → (rails : V → ℕ → Rails) (lane : ℕ) (keys : PairSignals) (t n k : ℕ)
+    (old new : SentKeys V) (x : V) → new.keys ≡ old.keys ++ replicate n x
+    → ((r : ℕ) → t ≤ r → r < t + n → keys k r ≡ rails x lane)
+    → HasSent rails lane keys t k old → HasSent rails lane keys (t + n) k new
+sent_for stretch rails lane keys t n k old new x pushed stays h =
+    ap (in_lane rails lane) pushed
+    ∙ map-append (λ v. rails v lane) old.keys (replicate n x)
+    ∙ ap (λ (l : List Rails). l ++ in_lane rails lane (replicate n x)) h
+    ∙ ap (λ (l : List Rails). first_ticks (keys k) t ++ l) (map_replicate (λ v. rails v lane) n x)
+    ∙ stretch.recorded (keys k) (rails x lane) t n stays
+
+pub keys_for : {V : Type 0} (horizon t n k : ℕ) (old new : SentKeys V) (x : V)
+    → new.keys ≡ old.keys ++ replicate n x → new.horizon ≡ old.horizon
+    → HasKeys horizon t k old → HasKeys horizon (t + n) k new
+keys_for horizon t n k old new x pushed same h = (
+  ap length pushed ∙ length-append old.keys (replicate n x)
+      ∙ ap (λ (m : ℕ). m + length (replicate n x)) h.0
+      ∙ ap (λ (m : ℕ). t + m) (length-replicate n x),
+  same ∙ h.1,
+)
+
+-- the values of some gates at a tick are those of the keys, as a stretch of this tick alone asks
+pub one_tick_sent : {V : Type 0} (rails : V → ℕ → Rails) (lane : ℕ) (keys : PairSignals)
+    (u : GateSignals) (t end : ℕ) (gates ids : List GateId) (column : List V) → end ≡ t + 1
+    → ids ≡ gates → ValuesAgree rails lane u t column
+    → ((k : ℕ) → k < length gates → u (number_at gates k) t ≡ keys k t)
+    → (k : ℕ) (x : V) → k < length ids → slice_get column (number_at ids k) ≡ Some x
+    → (r : ℕ) → t ≤ r → r < end → keys k r ≡ rails x lane
+one_tick_sent rails lane keys u t end gates ids column is same agree are k x kn at r low high =
+    let now : r ≡ t = omega (arith, is, low, high) in
+    let there : k < length gates = subst (λ (l : List GateId). k < length l) same kn in
+    let here : slice_get column (number_at gates k) ≡ Some x =
+    subst (λ (l : List GateId). slice_get column (number_at l k) ≡ Some x) same at in
+    ap (keys k) now ∙ sym (are k there) ∙ sym (agree (number_at gates k) x here)

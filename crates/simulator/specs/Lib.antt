@@ -9,3 +9,7 @@ pub mod PlayRows
 pub mod Played
 pub mod ListLaws
 pub mod RowLaws
+pub mod Quiet
+pub mod Inputs
+pub mod Tracks
+pub mod PlayedTracks

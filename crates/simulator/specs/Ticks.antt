@@ -13,26 +13,35 @@ use Rattle.simulator.specs.GatePairs.{GateSignals, kind_pair}
 -- ---- cells
 
 -- a cell of its kind for each gate
-pub record HaveCells {C V : Type 0} (gates : List Gate) (cells : List (Cell C V)) : Type 0 where
+pub record HaveCells {C V S : Type 0} (gates : List Gate) (cells : List (Cell C V S)) : Type 0 where
   pub count : length cells ≡ length gates
-  pub each : (i : ℕ) (g : Gate) (cell : Cell C V) → slice_get gates i ≡ Some g
+  pub each : (i : ℕ) (g : Gate) (cell : Cell C V S) → slice_get gates i ≡ Some g
       → slice_get cells i ≡ Some cell → HasCell g cell
 
 -- each cell stands for the ticks before t
 abbrev pub AllStand : {C S V : Type 0} → (C → S → S → ℕ → List Rails → Type 0) → (S → ℕ → Ends)
-    → (V → ℕ → Rails) → ℕ → PairWorld → GateSignals → ℕ → List Gate → List (Cell C V) → Type 0
+    → (V → ℕ → Rails) → ℕ → PairWorld → GateSignals → ℕ → List Gate → List (Cell C V S) → Type 0
 AllStand stands_for ends rails lane w u t gates cells =
-    (i : ℕ) (g : Gate) (cell : Cell _ _) → slice_get gates i ≡ Some g
+    (i : ℕ) (g : Gate) (cell : Cell _ _ _) → slice_get gates i ≡ Some g
     → slice_get cells i ≡ Some cell → CellStands stands_for ends rails lane w u t g cell
 
 -- within tick t: the first n cells stand for the ticks up to t, the others for those before it
 pub record CellsWalked {C S V : Type 0} (stands_for : C → S → S → ℕ → List Rails → Type 0)
     (ends : S → ℕ → Ends) (rails : V → ℕ → Rails) (lane : ℕ) (w : PairWorld) (u : GateSignals)
-    (t n : ℕ) (gates : List Gate) (cells : List (Cell C V)) : Type 0 where
-  pub done : (i : ℕ) (g : Gate) (cell : Cell C V) → i < n → slice_get gates i ≡ Some g
+    (t n : ℕ) (gates : List Gate) (cells : List (Cell C V S)) : Type 0 where
+  pub done : (i : ℕ) (g : Gate) (cell : Cell C V S) → i < n → slice_get gates i ≡ Some g
       → slice_get cells i ≡ Some cell → CellStands stands_for ends rails lane w u (suc t) g cell
-  pub left : (i : ℕ) (g : Gate) (cell : Cell C V) → n ≤ i → slice_get gates i ≡ Some g
+  pub left : (i : ℕ) (g : Gate) (cell : Cell C V S) → n ≤ i → slice_get gates i ≡ Some g
       → slice_get cells i ≡ Some cell → CellStands stands_for ends rails lane w u t g cell
+
+-- the first n cells stand for the ticks before `to`, the others for those before `from`
+pub record CellsBetween {C S V : Type 0} (stands_for : C → S → S → ℕ → List Rails → Type 0)
+    (ends : S → ℕ → Ends) (rails : V → ℕ → Rails) (lane : ℕ) (w : PairWorld) (u : GateSignals)
+    (from to n : ℕ) (gates : List Gate) (cells : List (Cell C V S)) : Type 0 where
+  pub done : (i : ℕ) (g : Gate) (cell : Cell C V S) → i < n → slice_get gates i ≡ Some g
+      → slice_get cells i ≡ Some cell → CellStands stands_for ends rails lane w u to g cell
+  pub left : (i : ℕ) (g : Gate) (cell : Cell C V S) → n ≤ i → slice_get gates i ≡ Some g
+      → slice_get cells i ≡ Some cell → CellStands stands_for ends rails lane w u from g cell
 
 -- ---- values
 
@@ -52,32 +61,42 @@ abbrev pub ValuesTold : {V : Type 0} → (V → ℕ → Rails) → ℕ → GateS
 ValuesTold rails lane u n values =
     (p : ℕ) (x : _) → slice_get values p ≡ Some x → rails x lane ≡ u (p % n) (p / n)
 
--- ---- keys that were sent
+-- ---- tracks: keys that were sent, and trips
 
--- a delay line has a key for each tick before t
+-- a track has a value for each tick before t
 abbrev pub HasKeys : {V : Type 0} → ℕ → ℕ → ℕ → SentKeys V → Type 0
 HasKeys horizon t k s = (length s.keys ≡ t) × (s.horizon ≡ horizon)
 
--- one delay line for each of n terminals, with a key for each tick before t
+-- a track for each of n signals, with a value for each tick before t
 pub record AreSent {V : Type 0} (n horizon t : ℕ) (sent : List (SentKeys V)) : Type 0 where
   pub count : length sent ≡ n
   pub each : (k : ℕ) (s : SentKeys V) → slice_get sent k ≡ Some s → HasKeys horizon t k s
 
--- a delay line with no keys for each of n terminals
+-- a track with no values for each of n signals
 pub record AreFresh {V : Type 0} (n horizon : ℕ) (lines : List (SentKeys V)) : Type 0 where
   pub count : length lines ≡ n
   pub empty : (k : ℕ) (s : SentKeys V) → slice_get lines k ≡ Some s
       → s ≡ record { keys = []; horizon = horizon }
 
--- what was sent over line k has the pairs of terminal k's keys at the ticks before t
+-- track k has the pairs of signal k at the ticks before t
 abbrev pub HasSent : {V : Type 0} → (V → ℕ → Rails) → ℕ → PairSignals → ℕ → ℕ → SentKeys V → Type 0
 HasSent rails lane keys t k s = in_lane rails lane s.keys ≡ first_ticks (keys k) t
 
--- so it is of each line
+-- so it is of each track
 abbrev pub KeysSent : {V : Type 0} → (V → ℕ → Rails) → ℕ → PairSignals → ℕ → List (SentKeys V)
     → Type 0
 KeysSent rails lane keys t sent =
     (k : ℕ) (s : SentKeys _) → slice_get sent k ≡ Some s → HasSent rails lane keys t k s
+
+-- in a lane, before tick t: the pairs u of the gates are told at t, the keys were sent, and the
+-- cells stand
+pub record IsReady {C S V : Type 0} (stands_for : C → S → S → ℕ → List Rails → Type 0)
+    (ends : S → ℕ → Ends) (rails : V → ℕ → Rails) (lane : ℕ) (w : PairWorld) (keys : PairSignals)
+    (u : GateSignals) (t : ℕ) (gates : List Gate) (tracks : List (SentKeys V))
+    (cells : List (Cell C V S)) : Type 0 where
+  pub told : AreTold w keys u t gates
+  pub sent : KeysSent rails lane keys t tracks
+  pub stand : AllStand stands_for ends rails lane w u t gates cells
 
 -- ---- both
 
@@ -91,7 +110,7 @@ pub record PartDone {X : Type 0} (isdone isleft : ℕ → X → Type 0) (n : ℕ
 pub record LaneStands {C S V : Type 0} (stands_for : C → S → S → ℕ → List Rails → Type 0)
     (ends : S → ℕ → Ends) (rails : V → ℕ → Rails) (lane : ℕ) (w : PairWorld) (keys : PairSignals)
     (u : GateSignals) (t : ℕ) (gates : List Gate) (sent : List (SentKeys V))
-    (cells : List (Cell C V)) (values : List V) : Type 0 where
+    (cells : List (Cell C V S)) (values : List V) : Type 0 where
   pub keys_sent : KeysSent rails lane keys t sent
   pub cells_stand : AllStand stands_for ends rails lane w u t gates cells
   pub told : ValuesTold rails lane u (length gates) values

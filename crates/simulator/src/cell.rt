@@ -1,6 +1,7 @@
-// The cells of timed gates.
+//! The cells of timed gates.
 
-ghost use Rattle.std.specs.Prelude.{◌≡◌, ℕ, ◌<◌, List, [], ◌∷◌, ◌++◌, length};
+ghost use Rattle.std.specs.Prelude.{◌≡◌, ℕ, ◌<◌, ◌≤◌, List, [], ◌∷◌, ◌++◌, length, replicate};
+ghost use Rattle.timers.specs.Ahead.{next_rails};
 ghost use Rattle.history.specs.Rails.{Rails, Ends, rails_timed, rails_sealed, rails_at};
 ghost use Rattle.simulator.specs.CellStands.{HasTimer, HasSeal, TimerStands, SealStands};
 
@@ -8,14 +9,15 @@ use timers::{SealCell, Timed};
 
 /// What a gate keeps from one tick to the next.
 #[derive(Drop)]
-pub enum Cell<T, S> {
+pub enum Cell<T, S, P> {
     Nothing,
-    Timer(T),
+    /// With the spans of its pickup and dropout.
+    Timer(T, P, P),
     Seal(S),
 }
 
 /// A timer's answer at the next tick.
-pub fn timer_answer<V: Timed>(cell: &mut Cell<V::Cells, SealCell<V>>, input: V) -> V
+pub fn timer_answer<V: Timed>(cell: &mut Cell<V::Cells, SealCell<V>, V::Span>, input: V) -> V
     requires { HasTimer cell.old }
     ensures shape { HasTimer cell.new }
     ensures stands { (lane : ℕ) (p d : Ends) (inputs : List Rails) → lane < V.LANES →
@@ -27,13 +29,13 @@ pub fn timer_answer<V: Timed>(cell: &mut Cell<V::Cells, SealCell<V>>, input: V) 
         ≡ rails_timed (rails_at (inputs ++ V.rails input lane ∷ [])) p d (length inputs) }
 {
     match cell {
-        Cell::Timer(cells) => V::tick(cells, input),
+        Cell::Timer(cells, _, _) => V::tick(cells, input),
         _ => unreachable!(),
     }
 }
 
 /// A seal's answer at the next tick.
-pub fn seal_answer<V: Timed>(cell: &mut Cell<V::Cells, SealCell<V>>, set: V, hold: V) -> V
+pub fn seal_answer<V: Timed>(cell: &mut Cell<V::Cells, SealCell<V>, V::Span>, set: V, hold: V) -> V
     requires { HasSeal cell.old }
     ensures shape { HasSeal cell.new }
     ensures stands { (lane : ℕ) (sets holds : List Rails) → lane < V.LANES →
@@ -48,6 +50,62 @@ pub fn seal_answer<V: Timed>(cell: &mut Cell<V::Cells, SealCell<V>>, set: V, hol
 {
     match cell {
         Cell::Seal(seal) => seal.tick(set, hold),
+        _ => unreachable!(),
+    }
+}
+
+/// For how many ticks a timer answers the same, if its input stays as it is.
+pub fn timer_stays<V: Timed>(cell: &Cell<V::Cells, SealCell<V>, V::Span>, input: V) -> u32
+    requires { HasTimer cell.now }
+    ensures some { 1 ≤ result }
+    ensures steady { (p d : ℕ → Ends) (inputs : ℕ → List Rails) →
+        ((lane : ℕ) → lane < V.LANES →
+        TimerStands V.stands_for V.ends lane (p lane) (d lane) (inputs lane) cell.now) →
+        (lane j : ℕ) → lane < V.LANES → j < result →
+        next_rails (p lane) (d lane) (inputs lane) (V.rails input lane) j
+        ≡ next_rails (p lane) (d lane) (inputs lane) (V.rails input lane) 0 }
+{
+    match cell {
+        Cell::Timer(cells, _, _) => V::ahead(cells, input).max(1),
+        _ => unreachable!(),
+    }
+}
+
+/// A timer takes so many ticks with this input.
+pub fn hold_timer<V: Timed>(cell: &mut Cell<V::Cells, SealCell<V>, V::Span>, input: V, count: u32)
+    requires timer { HasTimer cell.old }
+    requires some { 1 ≤ count }
+    requires limited { count ≤ 4000 }
+    ensures shape { HasTimer cell.new }
+    ensures stands { (lane : ℕ) (p d : Ends) (inputs : List Rails) → lane < V.LANES →
+        TimerStands V.stands_for V.ends lane p d inputs cell.old →
+        TimerStands V.stands_for V.ends lane p d
+        (inputs ++ replicate count (V.rails input lane)) cell.new }
+{
+    match cell {
+        Cell::Timer(cells, _, _) => V::skip(cells, input, count),
+        _ => unreachable!(),
+    }
+}
+
+/// A seal takes so many ticks with this set and this hold.
+pub fn hold_seal<V: Timed>(
+    cell: &mut Cell<V::Cells, SealCell<V>, V::Span>,
+    set: V,
+    hold: V,
+    count: u32,
+)
+    requires seal { HasSeal cell.old }
+    requires some { 1 ≤ count }
+    requires limited { count ≤ 4000 }
+    ensures shape { HasSeal cell.new }
+    ensures stands { (lane : ℕ) (sets holds : List Rails) → lane < V.LANES →
+        SealStands V.rails lane sets holds cell.old →
+        SealStands V.rails lane (sets ++ replicate count (V.rails set lane))
+        (holds ++ replicate count (V.rails hold lane)) cell.new }
+{
+    match cell {
+        Cell::Seal(seal) => seal.skip(set, hold, count),
         _ => unreachable!(),
     }
 }

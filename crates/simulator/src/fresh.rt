@@ -1,4 +1,4 @@
-// Cells and delay lines before the first tick.
+//! Cells and tracks before the first tick.
 
 ghost use Rattle.std.specs.Prelude.{◌≡◌, ℕ, [], ◌<◌, ◌≤◌, length, IfOk};
 ghost use Rattle.line_model.specs.declared.formula.Time.{Time};
@@ -8,18 +8,24 @@ ghost use Rattle.gate_net.specs.Named.{GateNames, NamedFrom};
 ghost use Rattle.simulator.specs.LaneBox.{time_ends};
 ghost use Rattle.simulator.specs.GatePairs.{GateSignals};
 ghost use Rattle.simulator.specs.CellStands.{HasCell, CellStands};
+ghost use Rattle.simulator.specs.CellStands.{HasTimer, TimerStands};
 ghost use Rattle.simulator.specs.Ticks.{HaveCells, AllStand, AreFresh};
 
 use crate::cell::Cell;
 use crate::spans::time_span;
-use channel::{Carried, DelayLine};
+use channel::Track;
 use gate_net::{Gate, GateId, Net};
 use line_model::{Line, Memory};
 use std::alloc::Global;
+use tick_signal::Signal;
 use timers::{SealCell, Timed};
 
 // A gate's cell.
-fn fresh_cell<V: Timed>(gate: &Gate, line: &Line, spans: &[V::Span]) -> Cell<V::Cells, SealCell<V>>
+fn fresh_cell<V: Timed>(
+    gate: &Gate,
+    line: &Line,
+    spans: &[V::Span],
+) -> Cell<V::Cells, SealCell<V>, V::Span>
     requires names { GateNames line.now gate.now }
     requires spans { length spans.now ≡ param_count line.now }
     ensures shape { HasCell gate.now result }
@@ -28,10 +34,10 @@ fn fresh_cell<V: Timed>(gate: &Gate, line: &Line, spans: &[V::Span]) -> Cell<V::
         CellStands V.stands_for V.ends V.rails lane w u 0 gate.now result }
 {
     match *gate {
-        Gate::Timer(_, pickup, dropout) => Cell::Timer(V::fresh(
+        Gate::Timer(_, pickup, dropout) => fresh_timer::<V>(
             time_span::<V>(line, spans, pickup),
             time_span::<V>(line, spans, dropout),
-        )),
+        ),
         Gate::Seal(_, _) => Cell::Seal(SealCell::new()),
         _ => Cell::Nothing,
     }
@@ -43,7 +49,7 @@ pub fn fresh_cells<V: Timed>(
     net: &Net,
     line: &Line,
     spans: &[V::Span],
-) -> Result<Vec<Cell<V::Cells, SealCell<V>>>, Memory>
+) -> Result<Vec<Cell<V::Cells, SealCell<V>, V::Span>>, Memory>
     requires names { NamedFrom line.now 0 net.now.gates }
     requires spans { length spans.now ≡ param_count line.now }
     ensures shape { IfOk result (λ cells. HaveCells net.now.gates cells.items) }
@@ -59,29 +65,38 @@ pub fn fresh_cells<V: Timed>(
     Ok(cells)
 }
 
-// A delay line with no keys and room up to the horizon.
-fn fresh_line<V: Carried>(alloc: Global, horizon: u32) -> Result<DelayLine<V>, Memory>
+// A track with no values and room up to the horizon.
+fn fresh_track<V: Signal>(alloc: Global, horizon: u32) -> Result<Track<V>, Memory>
     requires { horizon ≤ 4000 }
-    ensures { IfOk result (λ line. line ≡ record { keys = []; horizon = horizon }) }
+    ensures { IfOk result (λ track. track ≡ record { keys = []; horizon = horizon }) }
 {
-    match DelayLine::new(alloc, horizon) {
-        Ok(line) => Ok(line),
+    match Track::new(alloc, horizon) {
+        Ok(track) => Ok(track),
         Err(_) => Err(Memory),
     }
 }
 
-/// A delay line for each terminal.
-pub fn fresh_lines<V: Carried>(
+/// A track with no values and room up to the horizon for each of so many signals.
+pub fn fresh_tracks<V: Signal>(
     alloc: Global,
-    terminals: u32,
+    count: u32,
     horizon: u32,
-) -> Result<Vec<DelayLine<V>>, Memory>
+) -> Result<Vec<Track<V>>, Memory>
     requires { horizon ≤ 4000 }
-    ensures { IfOk result (λ lines. AreFresh terminals horizon lines.items) }
+    ensures { IfOk result (λ tracks. AreFresh count horizon tracks.items) }
 {
-    let mut lines = Vec::new(alloc);
-    for _ in 0..terminals {
-        lines.push(fresh_line::<V>(alloc, horizon)?)?;
+    let mut tracks = Vec::new(alloc);
+    for _ in 0..count {
+        tracks.push(fresh_track::<V>(alloc, horizon)?)?;
     }
-    Ok(lines)
+    Ok(tracks)
+}
+
+// A timer's cell.
+fn fresh_timer<V: Timed>(pickup: V::Span, dropout: V::Span) -> Cell<V::Cells, SealCell<V>, V::Span>
+    ensures shape { HasTimer result }
+    ensures stands { (lane : ℕ) → lane < V.LANES →
+        TimerStands V.stands_for V.ends lane (V.ends pickup lane) (V.ends dropout lane) [] result }
+{
+    Cell::Timer(V::fresh(pickup, dropout), pickup, dropout)
 }

@@ -1,7 +1,9 @@
-//! The laws of runs: what a run over a timing stands for, and what a gate's pair is.
+//! The laws of runs: what a run over a timing stands for, what a gate's pair is, and for how long it
+//! stays.
 #![tactic(auto)]
 
-ghost use Rattle.std.specs.Prelude.{ℕ};
+ghost use Rattle.std.specs.Prelude.{ℕ, ◌≤◌, ◌<◌, ◌+◌, List, length};
+ghost use Rattle.history.specs.Rails.{Rails, Ends};
 ghost use Rattle.line_model.specs.declared.line.Line.{Line};
 ghost use Rattle.line_model.specs.declared.script.Script.{Script};
 ghost use Rattle.line_model.specs.Choice.{DelaysFromOne};
@@ -12,10 +14,18 @@ ghost use Rattle.timing_box.specs.Choice.{timing_choice};
 ghost use Rattle.simulator.specs.LaneBox.{lane_box};
 ghost use Rattle.simulator.specs.Played.{ends_of_tick};
 ghost use Rattle.simulator.specs.Runs.{AreDelayed, IsPoint};
-ghost use Rattle.simulator.specs.GatePairs.{GatesHaveTheirKind};
+ghost use Rattle.simulator.specs.GatePairs.{GatesHaveTheirKind, GateSignals};
+ghost use Rattle.simulator.specs.Quiet.{Keeps, SourcesKeep, AreGatePairs, EndKeeps, ArrivalKeeps};
+ghost use Rattle.line_model.specs.Parameters.{channel_count};
+ghost use Rattle.line_model.specs.PairMean.{PairWorld, PairSignals};
+ghost use Rattle.gate_net.specs.declared.gate.Gate.{Gate};
+ghost use Rattle.gate_net.specs.Laws.{AreGates};
+ghost use Rattle.gate_net.specs.Named.{NamedFrom};
 
 use gate_net::laws::gates_stand_for_their_trees;
+use history::laws::history_laws;
 use line_model::laws::line_laws;
+use timers::elements_stay_in_a_stretch;
 use timing_box::timings_inside_are_choices_inside;
 
 /// A run whose spans and steps are the numbers and the steps of a timing inside the declared
@@ -49,4 +59,25 @@ pub fn gates_have_their_kind()
     ensures { GatesHaveTheirKind }
 {
     gates_stand_for_their_trees();
+}
+
+/// If what is seen and lost, the delays, what arrives while the keys are held on, and the answers
+/// of the timers while their inputs stay, all stay the same for a stretch of ticks, then so does
+/// every gate.
+pub fn quiet_sources_keep_every_gate()
+    ensures { (line : Line) (w : PairWorld) (keys : PairSignals) (u : GateSignals) (t n : ℕ)
+        (gates : List Gate) → AreGates gates → NamedFrom line 0 gates →
+        AreGatePairs w keys u (channel_count line) line.horizon gates →
+        SourcesKeep w keys u (channel_count line) gates t n → t + n ≤ line.horizon →
+        (i : ℕ) → i < length gates → Keeps (u i) t n }
+{
+    elements_stay_in_a_stretch();
+}
+
+/// Where what was sent at both ends of a delay stays the same, so does what arrives.
+pub fn arrivals_keep_between_changes()
+    ensures { (key : ℕ → Rails) (ends : Ends) (t n : ℕ) → EndKeeps key ends.least t n →
+        EndKeeps key ends.greatest t n → ArrivalKeeps key ends t n }
+{
+    history_laws();
 }

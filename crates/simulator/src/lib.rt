@@ -1,27 +1,36 @@
-//! Runs of a line's net over a script: tick by tick, each gate in the order of the net.
+//! Runs of a line's net over a script, each gate in the order of the net: tick by tick with every
+//! gate kept (`run`), or from one tick at which some gate may change to the next with keys and trips
+//! kept (`run_tracks`).
 //!
 //! One walk serves every signal. At `Level` it is the history of one timing, at `Tern` the interval
 //! history over a box of timings, at `Lanes64` the histories of 64 timings at once.
 #![tactic(auto)]
 
 mod answer;
+mod arrivals;
 mod cell;
 mod fresh;
+mod hold;
+mod inputs;
 pub mod laws;
+mod lesser;
 mod play;
+mod present;
 mod rows;
 mod run_net;
 mod send;
 mod spans;
 mod steps;
+mod stretch;
 mod ticks;
+mod tracks;
 mod walk;
 mod waves;
 mod within;
 
 pub use play::play_rows;
 pub use run_net::run;
-pub use steps::value_at;
+pub use tracks::{Tracks, run_tracks};
 pub use waves::Waves;
 
 #[cfg(test)]

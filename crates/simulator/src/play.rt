@@ -1,18 +1,21 @@
-// The rows of a played timing.
+//! The rows of a played timing.
 
-ghost use Rattle.std.specs.Prelude.{◌≡◌, ◌<◌, ◌++◌, length, OnOk, IfOk};
+ghost use Rattle.std.specs.Prelude.{◌≡◌, ℕ, ◌<◌, ◌≤◌, ◌++◌, length, slice_get, codes, OnOk, IfOk};
+ghost use Rattle.tick_signal.specs.declared.level.Level.{Level};
+ghost use Rattle.channel.specs.SentKeys.{SentKeys};
 ghost use Rattle.line_model.specs.Parameters.{terminal_count};
 ghost use Rattle.line_model.specs.Histories.{History, IsLineHistory};
 ghost use Rattle.gate_net.specs.NetOf.{IsNetOf};
 ghost use Rattle.timing_box.specs.Inside.{IsTimingInside};
 ghost use Rattle.timing_box.specs.Choice.{timing_choice};
-ghost use Rattle.simulator.specs.PlayRows.{terminal_rows, tick_rows, run_rows};
-ghost use Rattle.simulator.specs.Played.{played};
+ghost use Rattle.simulator.specs.PlayRows.{terminal_name, signal_row, tick_rows, run_rows};
+ghost use Rattle.simulator.specs.Ticks.{AreSent};
+ghost use Rattle.simulator.specs.PlayedTracks.{is_on, played, StaysOn};
 
 use crate::laws::a_timing_is_one_choice;
 use crate::rows::{RowNames, push_signal};
-use crate::run_net::run;
-use crate::waves::Waves;
+use crate::tracks::{Tracks, run_tracks};
+use channel::Track;
 use gate_net::Net;
 use line_model::{Line, Memory, Script};
 use std::alloc::Global;
@@ -22,7 +25,7 @@ use timing_box::NamedTiming;
 /// The rows of one timing and script: one for each change of a terminal's key or trip, by tick,
 /// then terminal in line order, then `key` before `trip`. A row is
 /// `timing,script,tick,terminal,signal,level` and a line feed. That the timing has a history under
-/// the script, and one alone, is the law `laws::a_timing_is_one_choice`.
+/// the script, and one alone, is the law `a_timing_is_one_choice`.
 pub fn play_rows(
     alloc: Global,
     line: &Line,
@@ -39,34 +42,56 @@ pub fn play_rows(
     a_timing_is_one_choice();
     let values = timing.timing.values();
     let steps = timing.timing.steps();
-    let waves = run::<Level>(alloc, net, line, script, values, steps)?;
+    let tracks = run_tracks::<Level>(alloc, net, line, script, values, steps)?;
     let names = RowNames {
         timing: timing.name,
         script: script.name,
     };
     let mut text = Vec::new(alloc);
-    push_run(&mut text, &names, line, &waves)?;
+    push_run(&mut text, &names, line, &tracks)?;
     Ok(text)
 }
 
-// Appends the rows of all ticks.
+// Appends the rows of all ticks, which are those of the ticks at which some key or trip changes.
 fn push_run(
     text: &mut Vec<u8>,
     names: &RowNames,
     line: &Line,
-    waves: &Waves<Level>,
+    tracks: &Tracks<Level>,
 ) -> Result<(), Memory>
-    requires horizon { waves.now.horizon ≡ line.now.horizon }
-    requires keys { length waves.now.keys ≡ terminal_count line.now }
-    requires trips { length waves.now.trips ≡ terminal_count line.now }
+    requires keys { AreSent (terminal_count line.now) line.now.horizon line.now.horizon
+        tracks.now.keys.items }
+    requires trips { AreSent (terminal_count line.now) line.now.horizon line.now.horizon
+        tracks.now.trips.items }
     ensures { OnOk result (text.new.items
         ≡ text.old.items
-        ++ run_rows names.now.timing names.now.script line.now (played waves.now)) }
+        ++ run_rows names.now.timing names.now.script line.now
+        (played tracks.now.keys.items tracks.now.trips.items)) }
 {
-    for t in 0..line.horizon {
-        push_tick(text, names, line, waves, t)?;
+    let mut t = 0;
+    'changes: while t < line.horizon {
+        push_tick(text, names, line, tracks, t)?;
+        let keys = stay_until(&tracks.keys, t, line.horizon);
+        t = stay_until(&tracks.trips, t, keys);
     }
     Ok(())
+}
+
+// Until when all these signals are as at this tick, up to a bound.
+fn stay_until(tracks: &[Track<Level>], t: u32, bound: u32) -> u32
+    requires tick { t < bound }
+    requires long { (k : ℕ) (track : SentKeys Level) → slice_get tracks.now k ≡ Some track →
+        t < length track.keys }
+    ensures later { t < result }
+    ensures limited { result ≤ bound }
+    ensures stay { (k : ℕ) (track : SentKeys Level) → slice_get tracks.now k ≡ Some track →
+        StaysOn track t result }
+{
+    let mut end = bound;
+    for track in tracks {
+        end = track.stays_until(t).min(end);
+    }
+    end
 }
 
 // Appends the rows of one tick, terminals in line order.
@@ -74,18 +99,21 @@ fn push_tick(
     text: &mut Vec<u8>,
     names: &RowNames,
     line: &Line,
-    waves: &Waves<Level>,
+    tracks: &Tracks<Level>,
     t: u32,
 ) -> Result<(), Memory>
-    requires tick { t < waves.now.horizon }
-    requires keys { length waves.now.keys ≡ terminal_count line.now }
-    requires trips { length waves.now.trips ≡ terminal_count line.now }
+    requires tick { t < line.now.horizon }
+    requires keys { AreSent (terminal_count line.now) line.now.horizon line.now.horizon
+        tracks.now.keys.items }
+    requires trips { AreSent (terminal_count line.now) line.now.horizon line.now.horizon
+        tracks.now.trips.items }
     ensures { OnOk result (text.new.items
         ≡ text.old.items
-        ++ tick_rows names.now.timing names.now.script line.now (played waves.now) t) }
+        ++ tick_rows names.now.timing names.now.script line.now
+        (played tracks.now.keys.items tracks.now.trips.items) t) }
 {
     for k in 0..line.terminals.len() {
-        push_terminal(text, names, line, waves, t, k)?;
+        push_terminal(text, names, line, &tracks.keys[k], &tracks.trips[k], t, k)?;
     }
     Ok(())
 }
@@ -95,22 +123,23 @@ fn push_terminal(
     text: &mut Vec<u8>,
     names: &RowNames,
     line: &Line,
-    waves: &Waves<Level>,
+    key: &Track<Level>,
+    trip: &Track<Level>,
     t: u32,
     k: usize,
 ) -> Result<(), Memory>
-    requires tick { t < waves.now.horizon }
     requires terminal { k < terminal_count line.now }
-    requires keys { length waves.now.keys ≡ terminal_count line.now }
-    requires trips { length waves.now.trips ≡ terminal_count line.now }
+    requires key { t < length key.now.keys }
+    requires trip { t < length trip.now.keys }
     ensures { OnOk result (text.new.items
         ≡ text.old.items
-        ++ terminal_rows names.now.timing names.now.script line.now (played waves.now) t k) }
+        ++ (signal_row names.now.timing names.now.script t (terminal_name line.now k) (codes "key")
+        (is_on key.now)
+        ++ signal_row names.now.timing names.now.script t (terminal_name line.now k) (codes "trip")
+        (is_on trip.now))) }
 {
     let name = line.terminals[k].name;
-    let key = waves.key_gate(k as u32);
-    let trip = waves.trip_gate(k as u32);
-    push_signal(text, names, waves, key, t, name, b"key")?;
-    push_signal(text, names, waves, trip, t, name, b"trip")?;
+    push_signal(text, names, key, t, name, b"key")?;
+    push_signal(text, names, trip, t, name, b"trip")?;
     Ok(())
 }

@@ -1,13 +1,12 @@
-// The rows of changes, as text.
+//! The rows of changes, as text.
 
-ghost use Rattle.std.specs.Prelude.{◌≡◌, ◌++◌, ◌<◌, map, OnOk};
+ghost use Rattle.std.specs.Prelude.{◌≡◌, ◌++◌, ◌<◌, map, length, OnOk};
 ghost use Rattle.std.specs.List.{concat};
 ghost use Rattle.simulator.specs.PlayRows.{level_word, row_fields, row_text, change_row};
 ghost use Rattle.simulator.specs.PlayRows.{value_before, signal_row};
-ghost use Rattle.simulator.specs.Played.{is_on};
+ghost use Rattle.simulator.specs.PlayedTracks.{is_on};
 
-use crate::waves::Waves;
-use gate_net::GateId;
+use channel::Track;
 use itoa::Buffer;
 use line_model::{Memory, Name};
 use tick_signal::{Level, Signal};
@@ -105,46 +104,38 @@ fn push_change(
     push_row(text, names, t, terminal, signal, level)
 }
 
-// Whether a gate is on at a tick.
-fn on_at(waves: &Waves<Level>, gate: GateId, t: u32) -> bool
-    requires gate { gate.0 < waves.now.width }
-    requires tick { t < waves.now.horizon }
-    ensures { result ≡ is_on waves.now gate.0 t }
+// Whether a signal is on at a tick.
+fn on_at(track: &Track<Level>, t: u32) -> bool
+    requires { t < length track.now.keys }
+    ensures { result ≡ is_on track.now t }
 {
-    waves.at(gate, t).must(0)
+    track.at(t).must(0)
 }
 
 // Whether it was on at the tick before; off before tick 0.
-fn on_before(waves: &Waves<Level>, gate: GateId, t: u32) -> bool
-    requires gate { gate.0 < waves.now.width }
-    requires tick { t < waves.now.horizon }
-    ensures { result ≡ value_before (is_on waves.now gate.0) t }
+fn on_before(track: &Track<Level>, t: u32) -> bool
+    requires { t < length track.now.keys }
+    ensures { result ≡ value_before (is_on track.now) t }
 {
-    if t == 0 {
-        false
-    } else {
-        on_at(waves, gate, t - 1)
-    }
+    if t == 0 { false } else { on_at(track, t - 1) }
 }
 
-/// Appends the row of a gate at a tick, if it changes there.
+/// Appends the row of a signal at a tick, if it changes there.
 pub fn push_signal(
     text: &mut Vec<u8>,
     names: &RowNames,
-    waves: &Waves<Level>,
-    gate: GateId,
+    track: &Track<Level>,
     t: u32,
     terminal: Name,
     signal: &[u8],
 ) -> Result<(), Memory>
-    requires gate { gate.0 < waves.now.width }
-    requires tick { t < waves.now.horizon }
+    requires { t < length track.now.keys }
     ensures { OnOk result (text.new.items
         ≡ text.old.items
         ++ signal_row names.now.timing names.now.script t terminal signal.now
-        (is_on waves.now gate.0)) }
+        (is_on track.now)) }
 {
-    let before = on_before(waves, gate, t);
-    let level = on_at(waves, gate, t);
+    let before = on_before(track, t);
+    let level = on_at(track, t);
     push_change(text, names, t, terminal, signal, before, level)
 }

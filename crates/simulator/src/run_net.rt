@@ -1,4 +1,4 @@
-// A run.
+//! A run.
 
 ghost use Rattle.std.specs.Prelude.{◌≡◌, ℕ, ◌<◌, length, IfOk, IsTrue};
 ghost use Rattle.line_model.specs.Parameters.{param_count};

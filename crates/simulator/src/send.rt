@@ -1,36 +1,40 @@
-// The keys of a tick are sent.
+//! The values of some gates are kept.
 
-ghost use Rattle.std.specs.Prelude.{◌≡◌, ℕ, suc, ◌<◌, length};
+ghost use Rattle.std.specs.Prelude.{◌≡◌, ℕ, ◌<◌, ◌≤◌, ◌+◌, ◌++◌, length, replicate, slice_get, Some};
 ghost use Rattle.line_model.specs.PairMean.{PairSignals};
-ghost use Rattle.gate_net.specs.NetOf.{key_of};
-ghost use Rattle.simulator.specs.GatePairs.{GateSignals};
-ghost use Rattle.simulator.specs.Ticks.{ValuesAgree, KeysSent, AreSent};
+ghost use Rattle.gate_net.specs.NetOf.{AreGatesOf};
+ghost use Rattle.simulator.specs.WavesOf.{number_at};
+ghost use Rattle.simulator.specs.Ticks.{KeysSent, AreSent};
 
-use channel::{Carried, DelayLine};
-use gate_net::Net;
+use channel::Track;
+use gate_net::GateId;
+use tick_signal::Signal;
+use timers::elements_stay_in_a_stretch;
 
-/// Sends the value of each terminal's key gate.
-pub fn send_all<V: Carried>(
-    net: &Net,
+/// Appends to the track of each of these gates its value, for so many ticks.
+pub fn send_all<V: Signal>(
+    gates: &[GateId],
     column: &[V],
-    sent: &mut Vec<DelayLine<V>>,
-    terminals: u32,
+    tracks: &mut Vec<Track<V>>,
     horizon: u32,
     t: u32,
+    count: u32,
 )
-    requires column { length column.now ≡ length net.now.gates }
-    requires terminals { terminals ≡ length net.now.keys }
-    requires room { t < horizon }
-    requires sent { AreSent (length net.now.keys) horizon t sent.old.items }
-    ensures count { AreSent (length net.now.keys) horizon (suc t) sent.new.items }
-    ensures keys { (lane : ℕ) (keys : PairSignals) (u : GateSignals) → lane < V.LANES →
-        ValuesAgree V.rails lane u t column.now →
-        ((k : ℕ) → k < length net.now.keys → u (key_of net.now k) t ≡ keys k t) →
-        KeysSent V.rails lane keys t sent.old.items →
-        KeysSent V.rails lane keys (suc t) sent.new.items }
+    requires some { 1 ≤ count }
+    requires gates { AreGatesOf gates.now (length column.now) }
+    requires room { t + count ≤ horizon }
+    requires sent { AreSent (length gates.now) horizon t tracks.old.items }
+    ensures count { AreSent (length gates.now) horizon (t + count) tracks.new.items }
+    ensures keys { (lane : ℕ) (keys : PairSignals) → lane < V.LANES →
+        ((k : ℕ) (x : V) → k < length gates.now →
+        slice_get column.now (number_at gates.now k) ≡ Some x →
+        (r : ℕ) → t ≤ r → r < t + count → keys k r ≡ V.rails x lane) →
+        KeysSent V.rails lane keys t tracks.old.items →
+        KeysSent V.rails lane keys (t + count) tracks.new.items }
 {
-    for k in 0..terminals {
-        let key = column[net.key_gate(k).0 as usize];
-        sent[k as usize].send(key);
+    elements_stay_in_a_stretch();
+    for k in 0..gates.len() {
+        let value = column[gates[k].0 as usize];
+        tracks[k].push(value, count);
     }
 }

@@ -1,8 +1,9 @@
-// Delays that change at ticks.
+//! Delays that change at ticks.
 
-ghost use Rattle.std.specs.Prelude.{◌≡◌, IsTrue};
+ghost use Rattle.std.specs.Prelude.{◌≡◌, ◌≤◌, IsTrue};
 ghost use Rattle.timing_box.specs.Timing.{ascend, number_at};
-ghost use Rattle.simulator.specs.Steps.{is_passed};
+ghost use Rattle.simulator.specs.Steps.{is_passed, IsParted};
+ghost use Rattle.simulator.specs.Quiet.{NoStepIn};
 
 use timing_box::Step;
 
@@ -11,6 +12,37 @@ use timing_box::Step;
 pub fn value_at<P: Copy>(steps: &[Step<P>], own: P, param: u32, t: u32) -> P
     requires { IsTrue (ascend steps.now) }
     ensures { result ≡ number_at steps.now param t own }
+{
+    let passed = passed_steps(steps, param, t);
+    if passed == 0 {
+        return own;
+    }
+    let last = steps[passed - 1];
+    if last.param == param { last.value } else { own }
+}
+
+/// For how many ticks from this one on no step of the parameter comes.
+pub fn steps_stay<P: Copy>(steps: &[Step<P>], param: u32, t: u32) -> u32
+    requires ascending { IsTrue (ascend steps.now) }
+    ensures some { 1 ≤ result }
+    ensures keeps { NoStepIn steps.now param t result }
+{
+    let passed = passed_steps(steps, param, t);
+    if passed == steps.len() {
+        return 4000;
+    }
+    let next = steps[passed];
+    if next.param == param {
+        next.from - t
+    } else {
+        4000
+    }
+}
+
+// How many steps are passed: of earlier parameters, or of this one and come.
+fn passed_steps<P: Copy>(steps: &[Step<P>], param: u32, t: u32) -> usize
+    requires { IsTrue (ascend steps.now) }
+    ensures { IsParted param t steps.now result }
 {
     let mut low = 0;
     let mut high = steps.len();
@@ -22,11 +54,7 @@ pub fn value_at<P: Copy>(steps: &[Step<P>], own: P, param: u32, t: u32) -> P
             high = middle;
         }
     }
-    if low == 0 {
-        return own;
-    }
-    let last = steps[low - 1];
-    if last.param == param { last.value } else { own }
+    low
 }
 
 // Whether a step is of an earlier parameter, or of this one and has come.

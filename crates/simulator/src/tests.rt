@@ -1,6 +1,6 @@
 //! The value that a step gives.
 
-use crate::value_at;
+use crate::steps::value_at;
 use timing_box::Step;
 
 #[test]

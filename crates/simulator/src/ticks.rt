@@ -1,4 +1,4 @@
-// All ticks of a run.
+//! All ticks of a run.
 
 ghost use Rattle.std.specs.Prelude.{◌≡◌, ℕ, ◌<◌, ◌*◌, length, IfOk, IsTrue};
 ghost use Rattle.line_model.specs.Parameters.{param_count};
@@ -9,7 +9,8 @@ ghost use Rattle.simulator.specs.GatePairs.{line_pairs};
 ghost use Rattle.simulator.specs.Ticks.{ValuesTold};
 ghost use Rattle.simulator.specs.Runs.{AreDelayed};
 
-use crate::fresh::{fresh_cells, fresh_lines};
+use crate::fresh::{fresh_cells, fresh_tracks};
+use crate::inputs::{fresh_inputs, turn};
 use crate::send::send_all;
 use crate::walk::walk;
 use crate::within::extend_within;
@@ -17,7 +18,7 @@ use channel::Carried;
 use gate_net::Net;
 use gate_net::laws::gates_stand_for_their_trees;
 use line_model::laws::line_laws;
-use line_model::{Line, Memory, Script, Terminal};
+use line_model::{Line, Memory, Script};
 use std::alloc::Global;
 use timers::Timed;
 use timing_box::Step;
@@ -46,31 +47,31 @@ pub fn run_ticks<V: Timed + Carried>(
     line_laws();
     gates_stand_for_their_trees();
     let width = net.len() as usize;
-    let ends: &[Terminal] = &line.terminals;
-    let terminals = ends.len() as u32;
     let mut cells = fresh_cells::<V>(alloc, net, line, spans)?;
-    let mut sent = fresh_lines::<V>(alloc, terminals, line.horizon)?;
+    let mut inputs = fresh_inputs::<V>(alloc, line, script, spans)?;
+    let mut sent = fresh_tracks::<V>(alloc, net.key_gates().len() as u32, line.horizon)?;
     let mut column: Vec<V> = Vec::with_capacity(alloc, width)?;
     let mut values: Vec<V> = Vec::with_capacity(alloc, line.horizon as usize * width)?;
     for t in 0..line.horizon {
+        turn::<V>(line, script, spans, steps, &mut inputs, t);
         walk::<V>(
             net,
             &mut cells,
             &mut column,
             line,
-            script,
-            spans,
-            steps,
+            &inputs.present,
+            &inputs.delays,
             sent.as_slice(),
             t,
+            1,
         );
-        send_all::<V>(
-            net,
+        send_all(
+            net.key_gates(),
             column.as_slice(),
             &mut sent,
-            terminals,
             line.horizon,
             t,
+            1,
         );
         extend_within(&mut values, column.as_slice());
     }

@@ -1,80 +1,81 @@
-// One tick of all gates of a net.
+//! One tick of all gates of a net.
 
-ghost use Rattle.std.specs.Prelude.{◌≡◌, ℕ, suc, ◌<◌, ◌≤◌, length, vec_capacity, IsTrue};
-ghost use Rattle.line_model.specs.Parameters.{terminal_count, param_count};
-ghost use Rattle.line_model.specs.PairMean.{PairSignals};
+ghost use Rattle.std.specs.Prelude.{◌≡◌, ℕ, suc, ◌<◌, ◌≤◌, length, vec_capacity, slice_get, Some};
+ghost use Rattle.line_model.specs.Parameters.{terminal_count};
+ghost use Rattle.line_model.specs.PairMean.{PairWorld, PairSignals};
+ghost use Rattle.gate_net.specs.declared.gate.Gate.{Gate};
 ghost use Rattle.gate_net.specs.Named.{NamedFrom};
-ghost use Rattle.timing_box.specs.Timing.{ascend};
-ghost use Rattle.simulator.specs.LaneBox.{lane_world};
 ghost use Rattle.simulator.specs.GatePairs.{GateSignals};
-ghost use Rattle.simulator.specs.Ticks.{HaveCells, AreTold, AllStand, ValuesAgree, KeysSent};
-ghost use Rattle.simulator.specs.Ticks.{AreSent};
-ghost use Rattle.simulator.specs.Runs.{AreDelayed};
+ghost use Rattle.simulator.specs.Inputs.{CanReceive, IsWorldAt};
+ghost use Rattle.simulator.specs.Quiet.{TimerKeeps};
+ghost use Rattle.simulator.specs.Ticks.{HaveCells, AllStand, ValuesAgree, AreSent, IsReady};
 
-use crate::answer::answer;
+use crate::answer::take_tick;
 use crate::cell::Cell;
+use crate::inputs::Delay;
 use crate::within::push_within;
-use channel::{Carried, DelayLine};
+use channel::{Carried, Track};
 use gate_net::{GateId, Net};
-use line_model::{Line, Script};
+use line_model::{Line, SeenSpan};
 use timers::{SealCell, Timed};
-use timing_box::Step;
 
-/// Takes one tick: the column, which has room for it, gets the value of each gate.
+/// Takes one tick: the column, which has room for it, gets the value of each gate. Answers for how
+/// many ticks, up to a limit, every timer answers the same if its input stays as it is.
 pub fn walk<V: Timed + Carried>(
     net: &Net,
-    cells: &mut Vec<Cell<V::Cells, SealCell<V>>>,
+    cells: &mut Vec<Cell<V::Cells, SealCell<V>, V::Span>>,
     column: &mut Vec<V>,
     line: &Line,
-    script: &Script,
-    spans: &[V::Span],
-    steps: &[Step<V::Span>],
-    sent: &[DelayLine<V>],
+    present: &[SeenSpan],
+    delays: &[Delay<V::Span>],
+    sent: &[Track<V>],
     t: u32,
-)
+    limit: u32,
+) -> u32
     requires room { length net.now.gates ≤ vec_capacity column.old }
     requires names { NamedFrom line.now 0 net.now.gates }
     requires cells { HaveCells net.now.gates cells.old.items }
-    requires spans { length spans.now ≡ param_count line.now }
-    requires ascending { IsTrue (ascend steps.now) }
     requires tick { t < line.now.horizon }
-    requires delayed { AreDelayed V.LANES V.ends line.now spans.now steps.now }
+    requires delays { CanReceive V.LANES V.ends line.now delays.now }
     requires sent { AreSent (terminal_count line.now) line.now.horizon t sent.now }
+    requires limit { 1 ≤ limit }
     ensures room { length net.now.gates ≤ vec_capacity column.new }
     ensures count { length column.new.items ≡ length net.now.gates }
     ensures cells { HaveCells net.now.gates cells.new.items }
-    ensures stands { (lane : ℕ) (keys : PairSignals) (u : GateSignals) → lane < V.LANES →
-        AreTold (lane_world V.ends line.now script.now spans.now steps.now lane) keys u t
-        net.now.gates →
-        KeysSent V.rails lane keys t sent.now →
-        AllStand V.stands_for V.ends V.rails lane
-        (lane_world V.ends line.now script.now spans.now steps.now lane) u t net.now.gates
-        cells.old.items →
-        AllStand V.stands_for V.ends V.rails lane
-        (lane_world V.ends line.now script.now spans.now steps.now lane) u (suc t) net.now.gates
-        cells.new.items }
-    ensures answers { (lane : ℕ) (keys : PairSignals) (u : GateSignals) → lane < V.LANES →
-        AreTold (lane_world V.ends line.now script.now spans.now steps.now lane) keys u t
-        net.now.gates →
-        KeysSent V.rails lane keys t sent.now →
-        AllStand V.stands_for V.ends V.rails lane
-        (lane_world V.ends line.now script.now spans.now steps.now lane) u t net.now.gates
-        cells.old.items →
+    ensures stands { (lane : ℕ) (w : PairWorld) (keys : PairSignals) (u : GateSignals) →
+        lane < V.LANES → IsWorldAt V.ends lane present.now delays.now w t →
+        IsReady V.stands_for V.ends V.rails lane w keys u t net.now.gates sent.now cells.old.items →
+        AllStand V.stands_for V.ends V.rails lane w u (suc t) net.now.gates cells.new.items }
+    ensures answers { (lane : ℕ) (w : PairWorld) (keys : PairSignals) (u : GateSignals) →
+        lane < V.LANES → IsWorldAt V.ends lane present.now delays.now w t →
+        IsReady V.stands_for V.ends V.rails lane w keys u t net.now.gates sent.now cells.old.items →
         ValuesAgree V.rails lane u t column.new.items }
+    ensures some { 1 ≤ result }
+    ensures limited { result ≤ limit }
+    ensures timers { (w : ℕ → PairWorld) (keys : ℕ → PairSignals) (u : ℕ → GateSignals) →
+        ((lane : ℕ) → lane < V.LANES →
+        IsWorldAt V.ends lane present.now delays.now (w lane) t
+        × IsReady V.stands_for V.ends V.rails lane (w lane) (keys lane) (u lane) t net.now.gates
+        sent.now cells.old.items) →
+        (lane i : ℕ) (g : Gate) → lane < V.LANES → slice_get net.now.gates i ≡ Some g →
+        TimerKeeps (w lane) (u lane) t result g }
 {
     column.clear();
+    let mut stays = limit;
     for i in 0..net.len() {
-        let value = answer::<V>(
+        let taken = take_tick::<V>(
             net.gate(GateId(i)),
             &mut cells[i as usize],
             column.as_slice(),
             line,
-            script,
-            spans,
-            steps,
+            present,
+            delays,
             sent,
             t,
+            stays,
         );
-        push_within(column, value);
+        stays = taken.stays;
+        push_within(column, taken.value);
     }
+    stays
 }

@@ -1,4 +1,4 @@
-// The values of a run.
+//! The values of a run.
 
 ghost use Rattle.std.specs.Prelude.{◌≡◌, ◌<◌, Some, length};
 ghost use Rattle.simulator.specs.WavesOf.{WavesOf, AreWaves, wave_value, number_at};

@@ -1,4 +1,4 @@
-// Lists that grow within the room that they have, so that no memory is taken.
+//! Lists that grow within the room that they have, so that no memory is taken.
 
 ghost use Rattle.std.specs.Prelude.{◌≡◌, ◌<◌, ◌≤◌, ◌+◌, [], ◌∷◌, ◌++◌, length, vec_capacity};
 

@@ -3,3 +3,4 @@ pub mod AheadLaws
 pub mod RailsLaws
 pub mod SealLaws
 pub mod VectorLaws
+pub mod StretchLaws

@@ -3,3 +3,4 @@ pub mod Cells
 pub mod Ahead
 pub mod Seals
 pub mod Vectors
+pub mod Stretches

@@ -8,8 +8,7 @@ ghost use Rattle.timers.specs.Vectors.{CellVectors, AreBoundedInEachLane};
 ghost use Rattle.timers.specs.Vectors.{vectors_of, numbers_in, steady_in};
 
 use crate::Timed;
-use crate::rail::steady_ticks;
-use crate::vectors::{lasting, left_over, runs_after, splat, ticks_of};
+use crate::vectors::{lasting, least_of, left_over, runs_after, splat, steady_for, ticks_of};
 use history::laws::history_laws;
 use std::marker::Model;
 use std::simd::prelude::*;
@@ -81,27 +80,7 @@ impl LaneCells {
         ensures limited { result ≤ 4000 }
         ensures bounded { AreBoundedInEachLane self.now }
     {
-        let mut steady: u32 = 4000;
-        for lane in 0..64 {
-            steady = steady.min(self.lane_ahead(lane, input));
-        }
-        steady
-    }
-
-    // For how many ticks with this input the answers of one lane stay the same.
-    fn lane_ahead(&self, lane: u32, input: Lanes64) -> u32
-        requires { lane < 64 }
-        ensures steady { result ≡ steady_in self.now lane (bit_on input lane) }
-        ensures limited { result ≤ 4000 }
-        ensures bounded { AreBoundedInEachLane self.now }
-    {
-        let i = lane as usize;
-        steady_ticks(
-            self.pickup.as_array()[i] as u32,
-            self.run.as_array()[i] as u32,
-            self.left.as_array()[i] as u32,
-            input.must(lane),
-        )
+        least_of(steady_for(self.pickup, self.run, self.left, input))
     }
 }
 

@@ -16,7 +16,7 @@ mod seal;
 mod tern;
 mod vectors;
 
-pub use laws::a_seal_is_its_last_answer;
+pub use laws::{a_seal_is_its_last_answer, elements_stay_in_a_stretch};
 pub use seal::SealCell;
 
 /// Signals with a timed element.

@@ -4,7 +4,7 @@
 ghost use Rattle.std.specs.Prelude.{◌≡◌, ℕ, ◌+◌, ◌-◌, ◌^◌, ◌<◌, ◌≤◌, min, if◌then◌else◌, nat_lt};
 ghost use Rattle.std.specs.Prelude.{slice_index};
 ghost use Rattle.tick_signal.specs.Bits.{bit_on};
-ghost use Rattle.timers.specs.Counts.{run_after, left_after};
+ghost use Rattle.timers.specs.Counts.{run_after, left_after, steady_of};
 ghost use Rattle.timers.specs.Vectors.{HasLanes};
 
 use std::simd::prelude::*;
@@ -36,6 +36,32 @@ pub fn left_over(pickup: u16x64, dropout: u16x64, run: u16x64, left: u16x64, cou
         plus(dropout, splat(1)),
         minus(left, splat(count)),
     )
+}
+
+/// For how many ticks with this input the answer of each lane stays the same, up to 4,000.
+pub fn steady_for(pickup: u16x64, run: u16x64, left: u16x64, input: Lanes64) -> u16x64
+    ensures { HasLanes result
+        (λ i. steady_of (slice_index pickup i) (slice_index run i) (slice_index left i)
+        (bit_on input i)) }
+{
+    let one = splat(1);
+    let all = splat(4000);
+    let wait = choose(splat(0), spread(input), minus(pickup, run), all);
+    let rest = choose(one, left, minus(left, one), wait);
+    choose(wait, left, all, choose(wait, one, all, rest))
+}
+
+/// The least of the numbers, or 4,000 where none is less.
+pub fn least_of(numbers: u16x64) -> u32
+    ensures under { (i : ℕ) → i < 64 → result ≤ slice_index numbers i }
+    ensures met { result < 4000 → (i : ℕ) × (i < 64) × (result ≡ slice_index numbers i) }
+    ensures limited { result ≤ 4000 }
+{
+    let mut least: u32 = 4000;
+    for lane in 0..64 {
+        least = least.min(numbers.as_array()[lane] as u32);
+    }
+    least
 }
 
 /// The lanes in which something is left.

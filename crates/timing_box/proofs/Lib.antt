@@ -5,10 +5,8 @@ pub mod DelayLaws
 pub mod DelayOrder
 pub mod Earlier
 pub mod LatestStep
-pub mod Passing
-pub mod Rows
 pub mod SameHistories
 pub mod SoFarInside
-pub mod StepOrder
-pub mod ThreeFields
 pub mod Standing
+pub mod StepOrder
+pub mod StepParts

@@ -53,8 +53,11 @@ use Rattle.timing_box.specs.declared.named.Named.{Named}
 use Rattle.timing_box.specs.declared.named.Named.TheVariants as named
 use Rattle.timing_box.specs.declared.timing.NamedTiming.{NamedTiming}
 use Rattle.timing_box.specs.Delays.{is_delay}
+use Rattle.timing_box.specs.SoFarInside.{IsInside, IsSoFar}
 use Rattle.timing_box.specs.Inside.{IsStepInside, IsTimingInside}
-use Rattle.timing_box.specs.Gives.{◌>>=◌, Gives}
+use Rattle.csv_records.specs.CheckLaws.{choice_passed, passed, refusal_passed, same_ok, tested}
+use Rattle.csv_records.specs.Gives.{◌>>=◌}
+use Rattle.timing_box.specs.Gives.{Gives}
 use Rattle.timing_box.specs.Row.{Row, row_in}
 use Rattle.timing_box.specs.SoFar.{
   NamedValues,
@@ -70,7 +73,6 @@ use Rattle.timing_box.specs.SoFar.{
 }
 use Rattle.timing_box.specs.Checks.{
   Opening,
-  is_header,
   is_earlier,
   check_name,
   check_timing,
@@ -86,29 +88,8 @@ use Rattle.timing_box.specs.Checks.{
   check_value,
   check_once,
 }
-use Rattle.timing_box.specs.Timings.{
-  after_row,
-  after_record,
-  after_records,
-  after_header,
-  timings_in,
-}
-use Rattle.timing_box.proofs.Passing.{
-  passed,
-  choice_passed,
-  refusal_passed,
-  same_ok,
-  tested,
-}
+use Rattle.timing_box.specs.Timings.{after_row, after_record}
 use Rattle.timing_box.proofs.StepOrder.{All-with_step}
-
-abbrev pub IsInside : Line → NamedValues → Type 0
-IsInside line v = IsTimingInside line v.timing
-
--- each timing so far is inside
-pub record IsSoFar (line : Line) (s : TimingsSoFar) : Type 0 where
-  pub done : All (IsInside line) s.done
-  pub latest : IfSome s.latest (λ t. IsTimingInside line t.timing)
 
 pub none_so_far : (line : Line) → IsSoFar line no_timings
 none_so_far line = record { done = All-nil (IsInside line); latest = tt }
@@ -322,38 +303,6 @@ all_inside line s so_far =
     last_inside line (Some t) here =
         All-cons (IsInside line) (closed t) [] here (All-nil (IsInside line))
 
-records_inside : (line : Line) (rows : List (List (List ℕ))) (s : TimingsSoFar) (n : ℕ)
-    (t : TimingsSoFar) → IsSoFar line s → after_records line s n rows ≡ Ok t
-    → All (IsInside line) (all_timings t)
-unfolding after_records
-records_inside line [] s n t so_far e =
-    subst (λ (x : TimingsSoFar). All (IsInside line) (all_timings x)) (same_ok s t e)
-    (all_inside line s so_far)
-records_inside line (fields ∷ rest) s n t so_far e =
-    let p = passed (after_record line s n fields)
-    (λ next. after_records line next (n + 1) rest) t e in
-    records_inside line rest p.value (n + 1) t
-    (record_so_far line s n fields p.value so_far p.was) p.rest
-
-header_inside : (line : Line) (rows : List (List (List ℕ))) (vs : List NamedValues)
-    → after_header line rows ≡ Ok vs → All (IsInside line) vs
-header_inside line [] vs e = absurd (cc)
-header_inside line (fields ∷ rest) vs e =
-    let p = passed (after_records line no_timings 2 (fields ∷ rest))
-    (λ s. Ok (all_timings s)) vs e in
-    subst (λ (x : List NamedValues). All (IsInside line) x)
-    (same_ok (all_timings p.value) vs p.rest)
-    (records_inside line (fields ∷ rest) no_timings 2 p.value (none_so_far line) p.was)
-
--- every timing that a file says is inside
-timings_inside : (line : Line) (rows : List (List (List ℕ))) (vs : List NamedValues)
-    → timings_in line rows ≡ Ok vs → All (IsInside line) vs
-unfolding timings_in
-timings_inside line [] vs e = absurd (cc)
-timings_inside line (header ∷ rest) vs e =
-    header_inside line rest vs
-    (choice_passed (is_header header) (after_header line rest) fault.Header vs e)
-
 values_inside : (line : Line) (ts : List NamedTiming) → All (IsInside line) (map values_of ts)
     → All (λ t. IsTimingInside line t.timing) ts
 values_inside line [] all = All-nil (λ t. IsTimingInside line t.timing)
@@ -363,10 +312,11 @@ values_inside line (t ∷ ts) all =
     (values_inside line ts (All-tail (IsInside line) (values_of t) (map values_of ts) all))
 
 -- so is every timing that a reader gives
-pub read_timings_inside : (line : Line) (rows : List (List (List ℕ)))
-    (r : Result (Vec NamedTiming Global) TimingFault)
-    → Gives (λ v. map values_of v.items) r (timings_in line rows)
+pub given_inside : (line : Line) (s : TimingsSoFar) (r : Result (Vec NamedTiming Global) TimingFault)
+    → IsSoFar line s → Gives (λ v. map values_of v.items) r (Ok (all_timings s))
     → IfOk r (λ v. All (λ t. IsTimingInside line t.timing) v.items)
-read_timings_inside line rows (Ok v) gives =
-    values_inside line v.items (timings_inside line rows (map values_of v.items) gives)
-read_timings_inside line rows (Err e) gives = tt
+given_inside line s (Ok v) so_far gives =
+    values_inside line v.items (subst (λ (vs : List NamedValues). All (IsInside line) vs)
+    (same_ok {F = TimingFault} (all_timings s) (map values_of v.items) gives)
+    (all_inside line s so_far))
+given_inside line s (Err e) so_far gives = tt

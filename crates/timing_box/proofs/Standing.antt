@@ -39,7 +39,8 @@ use Rattle.timing_box.specs.declared.named.Named.TheVariants as named
 use Rattle.timing_box.specs.Delays.{is_delay}
 use Rattle.timing_box.specs.Inside.{IsStepInside, IsTimingInside}
 use Rattle.timing_box.specs.Timing.{comes_before, ascend, with_step}
-use Rattle.timing_box.specs.Gives.{◌>>=◌}
+use Rattle.csv_records.specs.Gives.{◌>>=◌}
+use Rattle.csv_records.specs.RecordFile.{after_header, after_records}
 use Rattle.timing_box.specs.SoFar.{
   NamedValues,
   OpenTiming,
@@ -64,13 +65,7 @@ use Rattle.timing_box.specs.Checks.{
   number_or_step,
   value_for,
 }
-use Rattle.timing_box.specs.Timings.{
-  after_row,
-  after_record,
-  after_records,
-  after_header,
-  timings_in,
-}
+use Rattle.timing_box.specs.Timings.{after_row, after_record, timing_file, timings_in}
 use Rattle.timing_box.specs.Printed.{name_record, number_records, step_record, timing_records, file_records, MayStand, AreOfOneFile}
 use Rattle.timing_box.proofs.LatestStep.{all_after, ascend-tail}
 use Rattle.timing_box.proofs.StepOrder.{same_place}
@@ -212,15 +207,15 @@ module _ (line : Line) (apart : ParamNamesApart line) where
       → length old ≡ length values → i + length values ≤ param_count line
       → All (λ k. k < i) given
       → ((j : ℕ) → j < length values → IsIn (get_or values j 0) (declared_ends line (i + j)))
-      → after_records line (at_timing done (opening_by name given (front ++ old) [])) n
+      → after_records (timing_file line) (at_timing done (opening_by name given (front ++ old) [])) n
       (number_records line name i values ++ rest)
-      ≡ after_records line
+      ≡ after_records (timing_file line)
       (at_timing done (opening_by name (given_after given i values) (front ++ values) []))
       (n + length values) rest
   unfolding after_records
   numbers_stand done name given front [] [] n i rest plain place long inside below stand =
       let e : n ≡ n + 0 = omega arith in
-      ap (λ m. after_records line (at_timing done (opening_by name given (front ++ []) [])) m rest) e
+      ap (λ m. after_records (timing_file line) (at_timing done (opening_by name given (front ++ []) [])) m rest) e
   numbers_stand done name given front [] (o ∷ old) n i rest plain place long inside below stand =
       absurd (omega arith)
   numbers_stand done name given front (v ∷ values) [] n i rest plain place long inside below stand =
@@ -240,8 +235,8 @@ module _ (line : Line) (apart : ParamNamesApart line) where
       sym (append_assoc front (v ∷ []) old) in
       let behind : List (List (List ℕ)) = number_records line name (i + 1) values ++ rest in
       let counted : n + 1 + length values ≡ n + length (v ∷ values) = omega arith in
-      ap (λ r. r >>= λ next. after_records line next (n + 1) behind) first
-      ∙ ap (λ list. after_records line
+      ap (λ r. r >>= λ next. after_records (timing_file line) next (n + 1) behind) first
+      ∙ ap (λ list. after_records (timing_file line)
       (at_timing done (opening_by name (given ++ i ∷ []) list [])) (n + 1) behind)
       (written ∙ moved)
       ∙ numbers_stand done name (given ++ i ∷ []) (front ++ v ∷ []) values old (n + 1) (i + 1) rest
@@ -250,10 +245,10 @@ module _ (line : Line) (apart : ParamNamesApart line) where
       (λ j lt. let next : i + 1 + j ≡ i + suc j = omega arith in
       subst (λ (k : ℕ). IsIn (get_or values j 0) (declared_ends line k)) (sym next)
       (stand (suc j) (omega arith)))
-      ∙ ap (λ list. after_records line
+      ∙ ap (λ list. after_records (timing_file line)
       (at_timing done (opening_by name (given_after (given ++ i ∷ []) (i + 1) values) list []))
       (n + 1 + length values) rest) (append_assoc front (v ∷ []) values)
-      ∙ ap (λ m. after_records line
+      ∙ ap (λ m. after_records (timing_file line)
       (at_timing done (opening_by name (given_after (given ++ i ∷ []) (i + 1) values)
       (front ++ v ∷ values) [])) m rest) counted
 
@@ -304,15 +299,15 @@ module _ (line : Line) (apart : ParamNamesApart line) where
       → is_plain_name name ≡ true → All (IsStepInside line) steps
       → All (λ s. s.param < param_count line) steps → AllBefore front steps
       → ascend steps ≡ true
-      → after_records line (at_timing done (opening_by name given values front)) n
+      → after_records (timing_file line) (at_timing done (opening_by name given values front)) n
       (map (step_record line name) steps ++ rest)
-      ≡ after_records line (at_timing done (opening_by name given values (front ++ steps)))
+      ≡ after_records (timing_file line) (at_timing done (opening_by name given values (front ++ steps)))
       (n + length steps) rest
   unfolding after_records
   steps_stand done name given values front [] n rest plain stand there before up =
       let e : n ≡ n + 0 = omega arith in
-      ap (λ m. after_records line (at_timing done (opening_by name given values front)) m rest) e
-      ∙ ap (λ list. after_records line (at_timing done (opening_by name given values list)) (n + 0)
+      ap (λ m. after_records (timing_file line) (at_timing done (opening_by name given values front)) m rest) e
+      ∙ ap (λ list. after_records (timing_file line) (at_timing done (opening_by name given values list)) (n + 0)
       rest) (sym (append-nil front))
   steps_stand done name given values front (s ∷ steps) n rest plain stand there before up =
       let here : IsStepInside line s = All-head (IsStepInside line) s steps stand in
@@ -327,8 +322,8 @@ module _ (line : Line) (apart : ParamNamesApart line) where
       (new_step s front fore) in
       let behind : List (List (List ℕ)) = map (step_record line name) steps ++ rest in
       let counted : n + 1 + length steps ≡ n + length (s ∷ steps) = omega arith in
-      ap (λ r. r >>= λ next. after_records line next (n + 1) behind) first
-      ∙ ap (λ list. after_records line (at_timing done (opening_by name given values list)) (n + 1)
+      ap (λ r. r >>= λ next. after_records (timing_file line) next (n + 1) behind) first
+      ∙ ap (λ list. after_records (timing_file line) (at_timing done (opening_by name given values list)) (n + 1)
       behind) (last_step s front fore)
       ∙ steps_stand done name given values (front ++ s ∷ []) steps (n + 1) rest plain
       (All-tail (IsStepInside line) s steps stand)
@@ -337,9 +332,9 @@ module _ (line : Line) (apart : ParamNamesApart line) where
       (All-tail (λ z. All (λ x. comes_before x z ≡ true) front) s steps before)
       (all_after s steps up))
       (ascend-tail s steps up)
-      ∙ ap (λ list. after_records line (at_timing done (opening_by name given values list))
+      ∙ ap (λ list. after_records (timing_file line) (at_timing done (opening_by name given values list))
       (n + 1 + length steps) rest) (append_assoc front (s ∷ []) steps)
-      ∙ ap (λ m. after_records line
+      ∙ ap (λ m. after_records (timing_file line)
       (at_timing done (opening_by name given values (front ++ s ∷ steps))) m rest) counted
 
   -- ---- a timing opens
@@ -391,8 +386,8 @@ module _ (line : Line) (apart : ParamNamesApart line) where
 
   timing_stands : (s : TimingsSoFar) (n : ℕ) (v : NamedValues) (rest : List (List (List ℕ)))
       → MayStand line v → is_earlier (all_timings s) v.name ≡ false → length (all_timings s) < 16
-      → after_records line s n (timing_records line v ++ rest)
-      ≡ after_records line (at_timing (all_timings s) (read_timing v))
+      → after_records (timing_file line) s n (timing_records line v ++ rest)
+      ≡ after_records (timing_file line) (at_timing (all_timings s) (read_timing v))
       (n + 1 + length v.timing.values + length v.timing.steps) rest
   unfolding after_records
   timing_stands s n v rest may new few =
@@ -404,9 +399,9 @@ module _ (line : Line) (apart : ParamNamesApart line) where
       let count : length values ≡ param_count line = inside.count in
       let long : length (leasts line.params.items) ≡ length values =
       length-map line.params.items (λ (p : Param). p.least) ∙ sym count in
-      ap (λ r. r >>= λ next. after_records line next (n + 1) ((numbers ++ moves) ++ rest))
+      ap (λ r. r >>= λ next. after_records (timing_file line) next (n + 1) ((numbers ++ moves) ++ rest))
       (name_stands s n v.name may.plain_name new few)
-      ∙ ap (after_records line (at_timing (all_timings s) (opened line v.name)) (n + 1))
+      ∙ ap (after_records (timing_file line) (at_timing (all_timings s) (opened line v.name)) (n + 1))
       (append_assoc numbers moves rest)
       ∙ numbers_stand (all_timings s) v.name [] [] values (leasts line.params.items) (n + 1) 0
       (moves ++ rest) may.plain_name refl long (omega arith) (All-nil (λ k. k < 0))
@@ -444,7 +439,7 @@ module _ (line : Line) (apart : ParamNamesApart line) where
 
   timings_stand : (s : TimingsSoFar) (n : ℕ) (vs : List NamedValues) → All (MayStand line) vs
       → AreNew s vs → length (all_timings s) + length vs ≤ 16
-      → (after_records line s n (flat_map (timing_records line) vs) >>= λ t. Ok (all_timings t))
+      → (after_records (timing_file line) s n (flat_map (timing_records line) vs) >>= λ t. Ok (all_timings t))
       ≡ Ok (all_timings s ++ vs)
   unfolding after_records
   timings_stand s n [] may new few = ap (λ list. Ok list) (sym (append-nil (all_timings s)))
@@ -452,7 +447,7 @@ module _ (line : Line) (apart : ParamNamesApart line) where
       let rest : List (List (List ℕ)) = flat_map (timing_records line) vs in
       let next : TimingsSoFar = at_timing (all_timings s) (read_timing v) in
       let count = length-append (all_timings s) (v ∷ []) in
-      ap (λ rows. after_records line s n rows >>= λ t. Ok (all_timings t))
+      ap (λ rows. after_records (timing_file line) s n rows >>= λ t. Ok (all_timings t))
       (flat_map-cons (timing_records line) v vs)
       ∙ ap (λ r. r >>= λ t. Ok (all_timings t))
       (timing_stands s n v rest (All-head (MayStand line) v vs may)
@@ -472,7 +467,8 @@ module _ (line : Line) (apart : ParamNamesApart line) where
             (λ i below. refl);
         once = one_file.once;
       } in
-      ap (after_header line) (flat_map-cons (timing_records line) v vs)
-      ∙ ap (λ rows. after_records line no_timings 2 rows >>= λ s. Ok (all_timings s))
+      ap (λ rows. after_header (timing_file line) rows >>= λ s. Ok (all_timings s))
+      (flat_map-cons (timing_records line) v vs)
+      ∙ ap (λ rows. after_records (timing_file line) no_timings 2 rows >>= λ s. Ok (all_timings s))
       (sym (flat_map-cons (timing_records line) v vs))
       ∙ timings_stand no_timings 2 (v ∷ vs) may new (let few = one_file.few in omega arith)

@@ -11,3 +11,4 @@ pub mod Opened
 pub mod Timings
 pub mod Faults
 pub mod Printed
+pub mod SoFarInside

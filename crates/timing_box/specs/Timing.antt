@@ -28,6 +28,10 @@ pub record TimingValues : Type 0 where
 abbrev pub comes_before : {A : Type 0} → Step A → Step A → Bool
 comes_before a b = nat_lt a.param b.param || ((a.param == b.param) && nat_lt a.from b.from)
 
+-- the step is of an earlier parameter, or of this one and not after tick t
+abbrev pub is_passed : {A : Type 0} → ℕ → ℕ → Step A → Bool
+is_passed param t step = nat_lt step.param param || ((step.param == param) && nat_le step.from t)
+
 -- the steps ascend strictly
 abbrev pub ascend : {A : Type 0} → List (Step A) → Bool
 ascend [] = true

@@ -1,21 +1,11 @@
 -- What a file of timings says: its timings, or its first fault.
-use Rattle.std.specs.Prelude.{
-  ◌+◌,
-  ℕ,
-  List,
-  [],
-  ◌∷◌,
-  Some,
-  Result,
-  Ok,
-  Err,
-  if◌then◌else◌,
-}
+use Rattle.std.specs.Prelude.{ℕ, List, Some, Result, Ok}
 use Rattle.line_model.specs.declared.line.Line.{Line}
+use Rattle.csv_records.specs.Gives.{◌>>=◌}
+use Rattle.csv_records.specs.RecordFile.{RecordFile, said_in}
 use Rattle.csv_records.specs.Records.{records_of}
 use Rattle.timing_box.specs.declared.fault.TimingFault.{TimingFault}
 use Rattle.timing_box.specs.declared.fault.TimingFault.TheVariants as fault
-use Rattle.timing_box.specs.Gives.{◌>>=◌}
 use Rattle.timing_box.specs.Row.{Row, row_in}
 use Rattle.timing_box.specs.SoFar.{
   NamedValues,
@@ -54,23 +44,19 @@ after_record line s n fields = do
   timing ← after_row line opening.timing n row
   Ok (record { done = opening.done; latest = Some timing })
 
--- the records from number n on, in order, up to the first fault
-unfoldable pub after_records : Line → TimingsSoFar → ℕ → List (List (List ℕ))
-    → Result TimingsSoFar TimingFault
-after_records line s n [] = Ok s
-after_records line s n (fields ∷ rest) =
-    after_record line s n fields >>= λ next. after_records line next (n + 1) rest
+-- a file of timings
+abbrev pub timing_file : Line → RecordFile TimingsSoFar TimingFault
+timing_file line = record {
+  is_header = is_header;
+  start = no_timings;
+  after = after_record line;
+  no_header = fault.Header;
+  no_record = fault.Empty;
+}
 
--- the header, at least one record, and then each record
-abbrev pub after_header : Line → List (List (List ℕ)) → Result (List NamedValues) TimingFault
-after_header line [] = Err fault.Empty
-after_header line (fields ∷ rest) =
-    after_records line no_timings 2 (fields ∷ rest) >>= λ s. Ok (all_timings s)
-
+-- what these records say
 unfoldable pub timings_in : Line → List (List (List ℕ)) → Result (List NamedValues) TimingFault
-timings_in line [] = Err fault.Header
-timings_in line (header ∷ rest) =
-    if is_header header then after_header line rest else Err fault.Header
+timings_in line rows = said_in (timing_file line) rows >>= λ s. Ok (all_timings s)
 
 -- what these bytes say
 abbrev pub timings_of : Line → List ℕ → Result (List NamedValues) TimingFault

@@ -21,13 +21,12 @@ use crate::delays::is_delay;
 use crate::fields::is;
 use crate::intervals::is_in;
 use crate::named::Named;
+use crate::places::has_step;
 use crate::reading::Open;
-use crate::step::Step;
 use crate::timing::NamedTiming;
 use line_model::Line;
 use line_model::laws::parameters_are_numbered;
 use relay_base::number;
-use tick_signal::Tick;
 
 /// Whether one of the timings has the name.
 pub fn is_any(timings: &[NamedTiming], name: &[u8]) -> bool
@@ -140,12 +139,6 @@ fn has(given: &[u32], i: u32) -> bool
     ensures { result ≡ list_any (λ k. k == i) given.now }
 {
     given.iter().any(|k| *k == i)
-}
-
-fn has_step(steps: &[Step<Tick>], i: u32, from: u32) -> bool
-    ensures { result ≡ list_any (λ s. (s.param == i) && (s.from == from)) steps.now }
-{
-    steps.iter().any(|s| s.param == i && s.from == from)
 }
 
 fn is_nothing(field: &[u8]) -> bool

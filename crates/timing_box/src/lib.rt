@@ -11,6 +11,7 @@ mod fields;
 mod intervals;
 mod laws;
 mod named;
+mod places;
 mod print;
 mod read;
 mod reading;

@@ -2,9 +2,7 @@
 
 ghost use Rattle.std.specs.Prelude.{
   ◌≤◌,
-  ◌<◌,
   ◌+◌,
-  ◌^◌,
   IfOk,
   IfSome,
   IsFalse,
@@ -14,22 +12,22 @@ ghost use Rattle.std.specs.Prelude.{
 ghost use Rattle.std.specs.List.{All};
 ghost use Rattle.csv.specs.Records.{fields_of};
 ghost use Rattle.timing_box.specs.Inside.{IsTimingInside};
-ghost use Rattle.timing_box.specs.Gives.{Gives};
+ghost use Rattle.timing_box.specs.Gives.{Gives, is_memory};
 ghost use Rattle.timing_box.specs.Row.{row_of};
 ghost use Rattle.timing_box.specs.SoFar.{
   values_of,
   open_of,
   so_far_of,
-  no_timings,
+  TimingsSoFar,
   with_row as with_row_of,
   IsFull,
   IsNamedIn,
 };
+ghost use Rattle.timing_box.specs.SoFarInside.{IsSoFar};
 ghost use Rattle.timing_box.specs.Checks.{is_given as is_given_in};
 ghost use Rattle.timing_box.specs.Timings.{
   timings_of,
-  timings_in,
-  after_records,
+  timing_file,
   after_record,
   after_row,
 };
@@ -42,7 +40,7 @@ use crate::reading::{Open, Opened, Reading, finished, nothing_read, opened_by};
 use crate::step::Step;
 use crate::timing::NamedTiming;
 use csv::ByteRecord;
-use csv_records::read_records;
+use csv_records::{RecordReader, read_file};
 use line_model::{Line, is_plain};
 use std::alloc::Global;
 use tick_signal::Tick;
@@ -57,48 +55,59 @@ pub fn read_timings(
     ensures said { Gives (λ v. map values_of v.items) result (timings_of line.now bytes.now) }
     ensures inside { IfOk result (λ v. All (λ t. IsTimingInside line.now t.timing) v.items) }
 {
-    let rows = read_records(alloc, bytes)?;
-    read_all(alloc, line, rows.as_slice())
+    finished(read_file(alloc, &TimingReader { line }, bytes)?)
 }
 
-// What all records say.
-#[tactic(auto, unfolding(crate::specs::Timings::timings_in))]
-fn read_all(
-    alloc: Global,
-    line: &Line,
-    rows: &[ByteRecord],
-) -> Result<Vec<NamedTiming>, TimingFault>
-    requires { length rows.now < 2 ^ 31 }
-    ensures { Gives (λ v. map values_of v.items) result
-        (timings_in line.now (map fields_of rows.now)) }
-{
-    match rows {
-        [] => Err(TimingFault::Header),
-        [header, rest @ ..] => {
-            if !heads_file(header) {
-                return Err(TimingFault::Header);
-            }
-            if rest.is_empty() {
-                return Err(TimingFault::Empty);
-            }
-            finished(read_rows(alloc, line, rest)?)
-        }
-    }
+// Reads the timings of a line.
+#[derive(Clone, Copy)]
+struct TimingReader<'a> {
+    line: &'a Line,
 }
 
-// What the records behind the header say, of which the first is record 2.
-fn read_rows(alloc: Global, line: &Line, rows: &[ByteRecord]) -> Result<Reading, TimingFault>
-    requires { length rows.now < 2 ^ 31 }
-    ensures { Gives so_far_of result
-        (after_records line.now no_timings 2 (map fields_of rows.now)) }
-{
-    let mut reading = nothing_read(alloc);
-    let mut n = 2;
-    for row in rows {
-        reading = after(alloc, line, reading, n, row)?;
-        n += 1;
+impl<'a> RecordReader for TimingReader<'a> {
+    type Reading = Reading;
+
+    type Fault = TimingFault;
+
+    ghost Said = { TimingsSoFar };
+
+    ghost said = { so_far_of };
+
+    ghost file = { λ reader. timing_file reader.line.now };
+
+    ghost is_memory = { is_memory };
+
+    ghost Before = { λ reader n s. IsSoFar reader.line.now s };
+
+    fn is_header(&self, row: &ByteRecord) -> bool {
+        heads_file(row)
     }
-    Ok(reading)
+
+    fn start(&self, alloc: Global) -> Reading {
+        nothing_read(alloc)
+    }
+
+    fn after(
+        &self,
+        alloc: Global,
+        reading: Reading,
+        n: u32,
+        row: &ByteRecord,
+    ) -> Result<Reading, TimingFault> {
+        after(alloc, self.line, reading, n, row)
+    }
+
+    fn no_header(&self) -> TimingFault {
+        TimingFault::Header
+    }
+
+    fn no_record(&self) -> TimingFault {
+        TimingFault::Empty
+    }
+
+    fn no_memory(&self) -> TimingFault {
+        TimingFault::Memory
+    }
 }
 
 // What record n makes of the timings before it.

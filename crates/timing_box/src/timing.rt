@@ -14,10 +14,10 @@ ghost use Rattle.std.specs.Prelude.{
   OnOk,
   IfErr,
 };
-ghost use Rattle.std.specs.List.{list_any, position_or_len};
-ghost use Rattle.timing_box.specs.Timing.{comes_before};
+ghost use Rattle.std.specs.List.{list_any};
 
 use crate::fault::TimingFault;
+use crate::places::place_after;
 use crate::step::Step;
 use line_model::Name;
 use std::marker::Model;
@@ -103,27 +103,8 @@ impl Timing {
         }) }
         ensures only { IfErr result (λ e. e ≡ TimingFault.Memory) }
     {
-        let at = place_of(&step, self.steps.as_slice());
+        let at = place_after(self.steps.as_slice(), step.param, step.from);
         self.steps.insert(at, step)?;
         Ok(())
     }
-}
-
-// The place of the first step that this one stands before, or the length where there is none.
-fn place_of(step: &Step<Tick>, steps: &[Step<Tick>]) -> usize
-    ensures place { result ≡ position_or_len (comes_before step.now) steps.now }
-    ensures within { result ≤ length steps.now }
-{
-    for (i, other) in steps.iter().enumerate() {
-        if is_before(step, other) {
-            return i;
-        }
-    }
-    steps.len()
-}
-
-fn is_before(a: &Step<Tick>, b: &Step<Tick>) -> bool
-    ensures { result ≡ comes_before a.now b.now }
-{
-    a.param < b.param || (a.param == b.param && a.from < b.from)
 }

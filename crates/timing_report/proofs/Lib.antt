@@ -1,3 +1,2 @@
-pub mod FirstTicks
 pub mod SameRows
 pub mod Texts

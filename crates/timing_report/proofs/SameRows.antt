@@ -30,7 +30,7 @@ use Rattle.line_model.specs.Rule.{Rule, rule_by}
 use Rattle.simulator.specs.PlayRows.{each_below}
 use Rattle.interval_wave.specs.Rules.{counted_ticks, rule_by_rails}
 use Rattle.timing_report.specs.ReportText.{fields_text, rule_word, row_text, script_rows}
-use Rattle.timing_report.proofs.FirstTicks.{first_on-same}
+use Rattle.wave_runs.specs.FirstTick.{first_on-same}
 
 some_below-same : (u v : ℕ → Bool) (n : ℕ) → ((t : ℕ) → t < n → u t ≡ v t)
     → some_below u n ≡ some_below v n

@@ -1,3 +1,2 @@
-pub mod FirstTick
 pub mod Margin
 pub mod ReportText

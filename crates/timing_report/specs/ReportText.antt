@@ -24,7 +24,7 @@ use Rattle.line_model.specs.Choice.{declared_box}
 use Rattle.line_model.specs.Histories.{PairHistory, IsPairHistory}
 use Rattle.line_model.specs.Rule.{Rule, Held, Broken, Unknown, rule_of}
 use Rattle.simulator.specs.PlayRows.{each_below, terminal_name}
-use Rattle.timing_report.specs.FirstTick.{first_on}
+use Rattle.wave_runs.specs.FirstTick.{first_on}
 use Rattle.timing_report.specs.Margin.{deadline_of, margin_of, margin_us_of}
 
 abbrev pub report_header : List ℕ

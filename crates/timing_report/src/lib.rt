@@ -2,11 +2,9 @@
 //! come, over all choices of delays in the declared intervals, beside the deadline and the rule.
 #![tactic(auto)]
 
-mod first;
-mod laws;
-mod margin;
+mod margins;
 mod report;
 mod rows;
 
-pub use laws::the_first_tick_is_the_least;
+pub use margins::{deadline, margin, margin_us};
 pub use report::{REPORT_HEADER, report_rows, report_text};

@@ -9,8 +9,7 @@ ghost use Rattle.timing_report.specs.ReportText.{rule_word as word_of_rule};
 ghost use Rattle.timing_report.specs.ReportText.{field, tick_text, margin_text};
 ghost use Rattle.timing_report.specs.ReportText.{fields_text, row_text};
 
-use crate::first::{first_may, first_must};
-use crate::margin::{deadline, margin, margin_us};
+use crate::margins::{deadline, margin, margin_us};
 use interval_wave::{PairWaves, Rule, judge};
 use itoa::Buffer;
 use line_model::{Kind, Line, Memory, Script};
@@ -78,8 +77,8 @@ pub fn push_row(
     ensures { OnOk result (text.new.items
         ≡ text.old.items ++ row_text line.now script.now k ((pair_history waves.now).trip k)) }
 {
-    let may = first_may(waves, k as u32);
-    let must = first_must(waves, k as u32);
+    let may = waves.first_may(k as u32);
+    let must = waves.first_must(k as u32);
     let rule = judge(waves, script, k as u32);
     push_fields(text, line, script, k, may, must)?;
     text.extend_from_slice(rule_word(rule))?;

@@ -1,7 +1,7 @@
 -- What comes of a wave through a delay of which the two ends are known.
 use Rattle.std.proofs.Common.{◌≡◌, ℕ, zero, suc, ◌+◌, ◌-◌, ◌≤◌, Bool, List, [], ◌∷◌}
-use Rattle.std.proofs.Common.{◌<◌, ◌∙◌, ap, arith, sym, ⊎_elim}
-use Rattle.std.specs.Prelude.{IsTrue, Decides}
+use Rattle.std.proofs.Common.{◌<◌, ◌∙◌, ap, arith, sym, refl, true, false, ⊎_elim}
+use Rattle.std.specs.Prelude.{IsTrue}
 use Rattle.std.proofs.lemmas.Bool.{cases_lt}
 use Rattle.std.proofs.lemmas.Bool.Decides.{same_from_decides, Decides-like}
 use Rattle.history.specs.Comes.{AllCome, SomeComes}
@@ -9,13 +9,26 @@ use Rattle.history.specs.Laws.{DelaysAreTheirFacts}
 use Rattle.history.specs.Rails.{Rails, Ends, IsSound, rails_delayed, must_of, may_of}
 use Rattle.tick_signal.specs.Spans.{ends_of}
 use Rattle.tick_signal.specs.declared.tern.Tern.{Tern}
-use Rattle.tick_signal.specs.Terns.{tern_sound}
+use Rattle.tick_signal.specs.declared.tern.Tern.TheVariants.{Zero, One, Unknown}
+use Rattle.tick_signal.specs.Terns.{tern_rails, tern_sound}
 use Rattle.wave_runs.specs.Waves.{wave_at, ArrivesAlike}
 
 pub wave_sound : (wave : List Tern) (r : ℕ) → IsSound (wave_at wave r)
 wave_sound [] r on = on
 wave_sound (level ∷ wave) zero on = tern_sound level on
 wave_sound (level ∷ wave) (suc r) on = wave_sound wave r on
+
+-- a value is told by its rails
+pub tern_once : (a b : Tern) → tern_rails a ≡ tern_rails b → a ≡ b
+tern_once Zero Zero e = refl
+tern_once Zero One e = absurd (let m : false ≡ true = ap must_of e in cc)
+tern_once Zero Unknown e = absurd (let m : false ≡ true = ap may_of e in cc)
+tern_once One Zero e = absurd (let m : true ≡ false = ap must_of e in cc)
+tern_once One One e = refl
+tern_once One Unknown e = absurd (let m : true ≡ false = ap must_of e in cc)
+tern_once Unknown Zero e = absurd (let m : true ≡ false = ap may_of e in cc)
+tern_once Unknown One e = absurd (let m : false ≡ true = ap must_of e in cc)
+tern_once Unknown Unknown e = refl
 
 -- the tick that a delay reaches back to
 pub came : (u : ℕ → Bool) (least greatest t k : ℕ) → AllCome u (ends_of least greatest) t

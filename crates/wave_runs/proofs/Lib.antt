@@ -5,3 +5,4 @@ pub mod ElementLaws
 pub mod LongestRuns
 pub mod TextLaws
 pub mod OneLine
+pub mod FirstTicks

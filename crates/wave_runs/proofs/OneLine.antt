@@ -1,5 +1,5 @@
 -- The text of a wave has no line feed.
-use Rattle.std.proofs.Common.{◌≡◌, ℕ, ◌+◌, ◌<◌, ◌≤◌, ◌^◌, true, List, [], ◌∷◌, ◌++◌, length, refl}
+use Rattle.std.proofs.Common.{◌≡◌, ◌+◌, ◌<◌, ◌≤◌, ◌^◌, true, List, [], ◌∷◌, length, refl}
 use Rattle.std.proofs.Common.{ap, arith, decimal, length-append}
 use Rattle.std.proofs.lemmas.List.{length-replicate}
 use Rattle.tick_signal.specs.declared.tern.Tern.{Tern}

@@ -5,7 +5,7 @@ use Rattle.std.proofs.Common.{append_assoc, length-append, set, subst, ⊎_elim}
 use Rattle.std.proofs.Common.{leb, leb-true, true, false}
 use Rattle.std.proofs.lemmas.Bool.{cases_lt, leb-false}
 use Rattle.std.specs.Prelude.{slice_get, Some}
-use Rattle.std.proofs.lemmas.List.{take-append-drop, drop_more, length-replicate}
+use Rattle.std.proofs.lemmas.List.{take-append-drop, drop_more, length-replicate, get_or_default}
 use Rattle.std.proofs.lemmas.List.{append-nil, replicate-append-replicate, take_more}
 use Rattle.std.proofs.lemmas.List.{drop_all, set_at, length-take-le}
 use Rattle.std.proofs.lemmas.List.Concat.{flat_map-append}
@@ -16,7 +16,7 @@ use Rattle.tick_signal.specs.declared.tern.Tern.TheVariants.{Zero}
 use Rattle.wave_runs.specs.declared.runs.Run.{Run}
 use Rattle.wave_runs.specs.declared.runs.Stretch.{Stretch}
 use Rattle.wave_runs.specs.Waves.{run_of, ticks_of, levels_of, runs_from, AreApart}
-use Rattle.wave_runs.specs.Waves.{AreRunsOf, HasThroughout}
+use Rattle.wave_runs.specs.Waves.{HasThroughout, IsRunAt}
 
 pub levels_round : (front : List Run) (run : Run) (rest : List Run)
     → levels_of (front ++ run ∷ rest) ≡ levels_of front ++ (ticks_of run ++ levels_of rest)
@@ -208,24 +208,17 @@ parted stretches t apart =
     IsPartitionedBy-leb (λ (s : Stretch). s.end) stretches t
     (λ i j d order inside. ends_rise 0 stretches apart i j d order inside)
 
--- the first that ends after tick t, which a search by halves finds, in the wave of its values
-pub record IsFound (stretches : List Stretch) (wave : List Tern) (t i : ℕ) : Type 0 where
-  pub there : i < length stretches
-  pub later : (d : Stretch) → t < (get_or stretches i d).end
-  pub inside : (d : Stretch) → (get_or stretches i d).end ≤ length wave
-  pub level : (d : Stretch)
-      → HasThroughout wave (get_or stretches i d).level t (get_or stretches i d).end
-
 -- all that end by tick t stand before place i
 abbrev pub PartsAt : List Stretch → ℕ → ℕ → Type 0
 PartsAt stretches t i =
     IsPartitionPoint (λ (s : Stretch). leb s.end t ≡ true) (λ (s : Stretch). leb s.end t ≡ false)
     stretches i
 
-found : (stretches : List Stretch) (t i : ℕ) → AreApart (runs_from 0 stretches)
+-- what a search by halves finds is the run at the tick
+pub run_by_halves : (stretches : List Stretch) (t i : ℕ) → AreApart (runs_from 0 stretches)
     → t < length (levels_of (runs_from 0 stretches)) → i ≤ length stretches
-    → PartsAt stretches t i → IsFound stretches (levels_of (runs_from 0 stretches)) t i
-found stretches t i apart goes_on few point =
+    → PartsAt stretches t i → IsRunAt stretches t i
+run_by_halves stretches t i apart goes_on few point =
     let before : (d : Stretch) (j : ℕ) → j < i → (get_or stretches j d).end ≤ t =
     λ d j lt. leb-true _ _ (point.0 j d (omega arith) lt) in
     let none : Stretch = record { level = Zero; end = 0 } in
@@ -234,25 +227,36 @@ found stretches t i apart goes_on few point =
     record {
       there = there;
       later = λ d. leb-false _ _ (point.1 i d (omega arith) there);
-      inside = λ d. ends_inside stretches i d apart there;
-      level = λ d. reached stretches i t d apart there (before d);
+      past = before;
     }
 
--- the same of the list that is handed on, which is the wave's
-module _ (stretches items : List Stretch) (wave : List Tern) (len t : ℕ)
-    (same : stretches ≡ items) (are : AreRunsOf (runs_from 0 items) len)
-    (view : levels_of (runs_from 0 items) ≡ wave) where
-  pub apart_in : AreApart (runs_from 0 stretches)
-  apart_in =
-      subst (λ (s : List Stretch). AreApart (runs_from 0 s)) (sym same) are.apart
+-- a run is the one at a tick before it ends where the run before it does not end after the tick
+pub run_next : (stretches : List Stretch) (t i : ℕ) (d : Stretch) → AreApart (runs_from 0 stretches)
+    → i < length stretches → 1 ≤ i → t < (get_or stretches i d).end
+    → (get_or stretches (i - 1) d).end ≤ t → IsRunAt stretches t i
+run_next stretches t i d apart there some later past = record {
+  there = there;
+  later = λ e. rw (get_or_default stretches i e d there) later;
+  past = λ e j lt.
+      let rise = ends_rise 0 stretches apart j (i - 1) d (omega arith) (omega arith) in
+      rw (get_or_default stretches j e d (omega arith)) (omega arith);
+}
 
-  pub found_in : (i : ℕ) → t < length wave → i ≤ length stretches → PartsAt stretches t i
-      → IsFound stretches wave t i
-  found_in i goes_on few point =
-      let whole : levels_of (runs_from 0 stretches) ≡ wave =
-      ap (λ (s : List Stretch). levels_of (runs_from 0 s)) same ∙ view in
-      subst (λ (w : List Tern). IsFound stretches w t i) whole
-      (found stretches t i apart_in (omega (arith, ap length whole)) few point)
+-- the run at a tick, in the wave of these runs
+module _ (stretches : List Stretch) (wave : List Tern)
+    (apart : AreApart (runs_from 0 stretches))
+    (view : levels_of (runs_from 0 stretches) ≡ wave) where
+  pub run_inside : (t i : ℕ) (d : Stretch) → IsRunAt stretches t i
+      → (get_or stretches i d).end ≤ length wave
+  run_inside t i d run =
+      omega (arith, ap length view, ends_inside stretches i d apart run.there)
+
+  pub run_level : (t i : ℕ) (d : Stretch) → IsRunAt stretches t i
+      → HasThroughout wave (get_or stretches i d).level t (get_or stretches i d).end
+  run_level t i d run =
+      subst (λ (w : List Tern). HasThroughout w (get_or stretches i d).level t
+      (get_or stretches i d).end) view
+      (reached stretches i t d apart run.there (run.past d))
 
 -- ---- one run more
 

@@ -72,3 +72,9 @@ longer wave new level n m more room = omega (arith, new_length wave new level n 
 pub rails_in : (wave : List Tern) (level : Tern) (from end k : ℕ)
     → HasThroughout wave level from end → from ≤ k → k < end → wave_at wave k ≡ tern_rails level
 rails_in wave level from end k has low high = wave_at-level wave level k (has k low high)
+
+-- the same of a cursor that goes along the wave
+pub rails_along : (wave along : List Tern) (level : Tern) (from end k : ℕ) → along ≡ wave
+    → HasThroughout along level from end → from ≤ k → k < end → wave_at wave k ≡ tern_rails level
+rails_along wave along level from end k same has low high =
+    ap (λ (w : List Tern). wave_at w k) (sym same) ∙ rails_in along level from end k has low high

@@ -1,3 +1,4 @@
 pub mod Waves
 pub mod Text
 pub mod WaveLaws
+pub mod FirstTick

@@ -1,6 +1,6 @@
 -- Waves tick by tick, and as runs.
 use Rattle.std.specs.Prelude.{◌≡◌, ◌≢◌, ℕ, ◌+◌, ◌-◌, ◌<◌, ◌≤◌, List, [], ◌∷◌, length, replicate}
-use Rattle.std.specs.Prelude.{map, slice_get, Some}
+use Rattle.std.specs.Prelude.{map, slice_get, get_or, Some}
 use Rattle.std.specs.List.{flat_map}
 use Rattle.history.specs.Rails.{Rails, rails_at}
 use Rattle.tick_signal.specs.declared.tern.Tern.{Tern}
@@ -41,6 +41,12 @@ pub record AreRunsOf (runs : List Run) (len : ℕ) : Type 0 where
 -- the wave has this value from tick `from` on until tick `end`
 abbrev pub HasThroughout : List Tern → Tern → ℕ → ℕ → Type 0
 HasThroughout wave level from end = (k : ℕ) → from ≤ k → k < end → slice_get wave k ≡ Some level
+
+-- the run at place i is the one at tick t: it ends after the tick, and no run before it does
+pub record IsRunAt (stretches : List Stretch) (t i : ℕ) : Type 0 where
+  pub there : i < length stretches
+  pub later : (d : Stretch) → t < (get_or stretches i d).end
+  pub past : (d : Stretch) (j : ℕ) → j < i → (get_or stretches j d).end ≤ t
 
 -- ---- the rails of a wave
 

@@ -20,10 +20,11 @@ pub fn timer(alloc: Global, a: &Runs, pickup: Within, dropout: Within) -> Result
 {
     history_laws();
     let mut wave = Runs::new(alloc);
+    let mut inputs = a.cursor();
     let mut cells = Tern::fresh(pickup, dropout);
     'stretches: while wave.len() < a.len() {
         let t = wave.len();
-        let input = a.stretch(t);
+        let input = inputs.stretch(t);
         let steady = Tern::ahead(&cells, input.level);
         let count = steady.min(input.end - t);
         let answer = first_answer::<Tern>(&mut cells, input.level, count);
@@ -62,11 +63,13 @@ pub fn seal(alloc: Global, set: &Runs, hold: &Runs) -> Result<Runs, Memory>
     history_laws();
     a_seal_is_its_last_answer();
     let mut wave = Runs::new(alloc);
+    let mut sets = set.cursor();
+    let mut holds = hold.cursor();
     let mut cell = SealCell::<Tern>::new();
     'stretches: while wave.len() < set.len() {
         let t = wave.len();
-        let first = set.stretch(t);
-        let second = hold.stretch(t);
+        let first = sets.stretch(t);
+        let second = holds.stretch(t);
         // Until one of the two changes, the seal stays as it is.
         let answer = cell.tick(first.level, second.level);
         wave.push(answer, first.end.min(second.end) - t)?;

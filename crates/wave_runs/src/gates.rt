@@ -16,9 +16,10 @@ pub fn not(alloc: Global, a: &Runs) -> Result<Runs, Memory>
         IsWaveOf wave (length a.now) (λ t. rails_not (wave_at a.now t))) }
 {
     let mut wave = Runs::new(alloc);
+    let mut inputs = a.cursor();
     'stretches: while wave.len() < a.len() {
         let t = wave.len();
-        let input = a.stretch(t);
+        let input = inputs.stretch(t);
         wave.push(input.level.not(), input.end - t)?;
     }
     Ok(wave)
@@ -31,10 +32,12 @@ pub fn and(alloc: Global, a: &Runs, b: &Runs) -> Result<Runs, Memory>
         IsWaveOf wave (length a.now) (λ t. rails_and (wave_at a.now t) (wave_at b.now t))) }
 {
     let mut wave = Runs::new(alloc);
+    let mut firsts = a.cursor();
+    let mut seconds = b.cursor();
     'stretches: while wave.len() < a.len() {
         let t = wave.len();
-        let first = a.stretch(t);
-        let second = b.stretch(t);
+        let first = firsts.stretch(t);
+        let second = seconds.stretch(t);
         wave.push(first.level.and(second.level), first.end.min(second.end) - t)?;
     }
     Ok(wave)
@@ -47,10 +50,12 @@ pub fn or(alloc: Global, a: &Runs, b: &Runs) -> Result<Runs, Memory>
         IsWaveOf wave (length a.now) (λ t. rails_or (wave_at a.now t) (wave_at b.now t))) }
 {
     let mut wave = Runs::new(alloc);
+    let mut firsts = a.cursor();
+    let mut seconds = b.cursor();
     'stretches: while wave.len() < a.len() {
         let t = wave.len();
-        let first = a.stretch(t);
-        let second = b.stretch(t);
+        let first = firsts.stretch(t);
+        let second = seconds.stretch(t);
         wave.push(first.level.or(second.level), first.end.min(second.end) - t)?;
     }
     Ok(wave)

@@ -1,8 +1,9 @@
-//! Waves and their texts.
+//! Laws of waves, of their texts, and of first ticks.
 #![tactic(auto)]
 
-ghost use Rattle.std.specs.Prelude.{◌≡◌, ◌≤◌, List, length};
+ghost use Rattle.std.specs.Prelude.{◌≡◌, ◌<◌, ◌≤◌, ◌↔◌, ℕ, Bool, List, IsTrue, IsFalse, length};
 ghost use Rattle.tick_signal.specs.declared.tern.Tern.{Tern};
+ghost use Rattle.wave_runs.specs.FirstTick.{first_on};
 ghost use Rattle.wave_runs.specs.Text.{runs_text};
 ghost use Rattle.wave_runs.specs.WaveLaws.{WavesGrow};
 
@@ -15,4 +16,14 @@ pub fn texts_tell_waves()
 /// A wave grows by stretches of one value.
 pub fn waves_grow()
     ensures { WavesGrow }
+{}
+
+/// The first tick at which a signal is on is the least one, and there is none exactly where it is
+/// on at no tick.
+pub fn the_first_tick_is_the_least()
+    ensures some { (u : ℕ → Bool) (n t : ℕ) →
+        (first_on u n ≡ Some t)
+        ↔ ((t < n) × IsTrue (u t) × ((r : ℕ) → r < t → IsFalse (u r))) }
+    ensures none { (u : ℕ → Bool) (n : ℕ) →
+        (first_on u n ≡ None) ↔ ((t : ℕ) → t < n → IsFalse (u t)) }
 {}

@@ -9,6 +9,7 @@ ghost use Rattle.tick_signal.specs.Spans.{ends_of};
 ghost use Rattle.tick_signal.specs.Terns.{tern_rails};
 ghost use Rattle.wave_runs.specs.Waves.{wave_at, IsWaveOf, IsSameUntil, ArrivesAlike};
 
+use crate::cursor::Cursor;
 use crate::runs::Runs;
 use history::delay_laws::{delays_are_their_facts, delays_read_earlier_ticks, delays_stay_sound};
 use line_model::Memory;
@@ -23,10 +24,13 @@ pub fn raw(alloc: Global, key: &Runs, delay: Within) -> Result<Runs, Memory>
         IsWaveOf wave (length key.now) (λ t. rails_delayed (wave_at key.now) delay t)) }
 {
     let mut wave = Runs::new(alloc);
+    let mut newest = key.cursor();
+    let mut oldest = key.cursor();
     'stretches: while wave.len() < key.len() {
         let t = wave.len();
-        let end = raw_until(key, delay, t).min(key.len());
-        wave.push(raw_at(key, delay, t), end - t)?;
+        let end = steady_until(&mut newest, &mut oldest, delay, t).min(key.len());
+        let level = received(&oldest, delay, t);
+        wave.push(level, end - t)?;
     }
     Ok(wave)
 }
@@ -42,7 +46,7 @@ pub fn raw_at(key: &Runs, delay: Within, t: u32) -> Tern
         rails_delayed (wave_at (key.now ++ more)) delay t ≡ tern_rails result }
 {
     delays_read_earlier_ticks();
-    received(key, delay, t)
+    received(&key.cursor(), delay, t)
 }
 
 /// Until when the same is received as at that tick: the first tick after it at which that differs,
@@ -60,35 +64,42 @@ pub fn raw_until(key: &Runs, delay: Within, t: u32) -> u32
 {
     delays_read_earlier_ticks();
     let last = key.len() + delay.least();
-    let first = received(key, delay, t);
-    let mut end = steady_until(key, delay, t);
-    'stretches: while end < last && received(key, delay, end) == first {
-        end = steady_until(key, delay, end);
+    let mut newest = key.cursor();
+    let mut oldest = key.cursor();
+    let first = received(&oldest, delay, t);
+    let mut end = steady_until(&mut newest, &mut oldest, delay, t);
+    'stretches: while end < last && received(&oldest, delay, end) == first {
+        end = steady_until(&mut newest, &mut oldest, delay, end);
     }
     end
 }
 
 // A tick until which the same is received as at that tick. No run of the key begins or ends to
-// arrive before it.
-fn steady_until(key: &Runs, delay: Within, t: u32) -> u32
+// arrive before it. One cursor goes along with the newest that arrives, one with the oldest.
+fn steady_until(newest: &mut Cursor<'_>, oldest: &mut Cursor<'_>, delay: Within, t: u32) -> u32
+    requires one { oldest.old ≡ newest.old }
     requires later { 1 ≤ delay.least }
-    requires known { t < length key.now + delay.least }
+    requires known { t < length newest.old + delay.least }
+    ensures newest { newest.new ≡ newest.old }
+    ensures oldest { oldest.new ≡ oldest.old }
     ensures later { t < result }
-    ensures inside { result ≤ length key.now + delay.least }
+    ensures inside { result ≤ length newest.old + delay.least }
     ensures same { (k : ℕ) → t ≤ k → k < result →
-        rails_delayed (wave_at key.now) delay k ≡ rails_delayed (wave_at key.now) delay t }
+        rails_delayed (wave_at newest.old) delay k ≡ rails_delayed (wave_at newest.old) delay t }
 {
     delays_are_their_facts();
-    arrives_until(key, delay.least(), t).min(arrives_until(key, delay.greatest(), t))
+    let first = arrives_until(newest, delay.least(), t);
+    first.min(arrives_until(oldest, delay.greatest(), t))
 }
 
 // Until when the same arrives after exactly that delay as at that tick, or nothing still does.
-fn arrives_until(key: &Runs, delay: u32, t: u32) -> u32
-    requires known { t < length key.now + delay }
+fn arrives_until(key: &mut Cursor<'_>, delay: u32, t: u32) -> u32
+    requires known { t < length key.old + delay }
     requires limited { delay ≤ 4000 }
+    ensures key { key.new ≡ key.old }
     ensures later { t < result }
-    ensures inside { result ≤ length key.now + delay }
-    ensures alike { ArrivesAlike (wave_at key.now) delay t result }
+    ensures inside { result ≤ length key.old + delay }
+    ensures alike { ArrivesAlike (wave_at key.old) delay t result }
 {
     if t < delay {
         delay
@@ -97,8 +108,9 @@ fn arrives_until(key: &Runs, delay: u32, t: u32) -> u32
     }
 }
 
-// What is received at a tick at which every key that may arrive is known.
-fn received(key: &Runs, delay: Within, t: u32) -> Tern
+// What is received at a tick at which every key that may arrive is known. The cursor is best at the
+// oldest that arrives.
+fn received(key: &Cursor<'_>, delay: Within, t: u32) -> Tern
     requires later { 1 ≤ delay.least }
     requires known { t < length key.now + delay.least }
     ensures { tern_rails result ≡ rails_delayed (wave_at key.now) delay t }
@@ -114,7 +126,7 @@ fn received(key: &Runs, delay: Within, t: u32) -> Tern
 }
 
 // Whether the key must have been on at every delay.
-fn must_come(key: &Runs, least: u32, greatest: u32, t: u32) -> bool
+fn must_come(key: &Cursor<'_>, least: u32, greatest: u32, t: u32) -> bool
     requires ordered { least ≤ greatest }
     requires known { t < length key.now + least }
     ensures { IsTrue result
@@ -123,9 +135,10 @@ fn must_come(key: &Runs, least: u32, greatest: u32, t: u32) -> bool
     if t < greatest {
         return false;
     }
+    let mut keys = key.copy();
     let mut k = t - greatest;
     'stretches: while k <= t - least {
-        let input = key.stretch(k);
+        let input = keys.stretch(k);
         if !input.level.must(0) {
             return false;
         }
@@ -135,7 +148,7 @@ fn must_come(key: &Runs, least: u32, greatest: u32, t: u32) -> bool
 }
 
 // Whether the key may have been on at some delay.
-fn may_come(key: &Runs, least: u32, greatest: u32, t: u32) -> bool
+fn may_come(key: &Cursor<'_>, least: u32, greatest: u32, t: u32) -> bool
     requires ordered { least ≤ greatest }
     requires known { t < length key.now + least }
     ensures { IsTrue result
@@ -144,9 +157,10 @@ fn may_come(key: &Runs, least: u32, greatest: u32, t: u32) -> bool
     if t < least {
         return false;
     }
+    let mut keys = key.copy();
     let mut k = t.saturating_sub(greatest);
     'stretches: while k <= t - least {
-        let input = key.stretch(k);
+        let input = keys.stretch(k);
         if input.level.may(0) {
             return true;
         }

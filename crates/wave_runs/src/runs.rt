@@ -4,9 +4,10 @@
 ghost use Rattle.std.specs.Prelude.{◌≡◌, ◌+◌, ◌-◌, ◌<◌, ◌≤◌, [], ◌++◌, length, replicate, slice_get};
 ghost use Rattle.std.specs.Prelude.{Some, IfOk, MatchResult};
 ghost use Rattle.tick_signal.specs.Terns.{tern_rails};
-ghost use Rattle.wave_runs.specs.Waves.{wave_at, AreApart, AreRunsOf, levels_of, HasThroughout};
+ghost use Rattle.wave_runs.specs.Waves.{wave_at, AreApart, AreRunsOf, levels_of};
 ghost use Rattle.wave_runs.specs.Waves.{runs_from};
 
+use crate::cursor::Cursor;
 use line_model::Memory;
 use std::alloc::Global;
 use std::marker::Model;
@@ -21,7 +22,7 @@ pub(crate) struct Run {
 
 /// A run by its end, the first tick after it. It begins where the one before it ends.
 #[derive(Clone, Copy)]
-pub(crate) struct Stretch {
+pub struct Stretch {
     pub level: Tern,
     pub end: u32,
 }
@@ -85,20 +86,15 @@ impl Runs {
         ensures value { slice_get self.now t ≡ Some result }
         ensures rails { wave_at self.now t ≡ tern_rails result }
     {
-        self.stretch(t).level
+        let mut cursor = self.cursor();
+        cursor.stretch(t).level
     }
 
-    /// The run at a tick: its value, which the wave has from the tick on until the run's end.
-    pub(crate) fn stretch(&self, t: u32) -> Stretch
-        requires { t < length self.now }
-        ensures later { t < result.end }
-        ensures inside { result.end ≤ length self.now }
-        ensures limited { length self.now ≤ 4000 }
-        ensures level { HasThroughout self.now result.level t result.end }
+    /// The wave, to be asked tick after tick.
+    pub fn cursor(&self) -> Cursor<'_>
+        ensures { result ≡ self.now }
     {
-        let stretches = self.stretches.as_slice();
-        let i = stretches.partition_point(|stretch| stretch.end <= t);
-        stretches[i]
+        Cursor::new(self.stretches.as_slice())
     }
 
     /// The runs by their ends.

@@ -21,6 +21,11 @@ fn certificates_at_the_edges(rt: HostRuntime) -> Result<(), Fail> {
     run_rows(&rt, rt.alloc(), AT_THE_EDGES)
 }
 
+#[test]
+fn the_second_block_of_candidates(rt: HostRuntime) -> Result<(), Fail> {
+    run_rows(&rt, rt.alloc(), SECOND_BLOCK)
+}
+
 const PERMISSIVE: &[Row<'static>] = &[
     Row {
         what: "no tick to spare",
@@ -393,3 +398,96 @@ end
         ..ROW
     },
 ];
+
+// Three ends with 42 settings, none of which has one number alone, so 86 candidates. C sees the
+// fault of A and B ten ticks after they did, and no end hears C. Their permission is there until
+// tick 19, and as long as their dropout and delay after it; C's zone 2 picks up at tick 30 and its
+// pickup. So C trips exactly where both sums are at least 11 and its pickup: at no candidate but
+// all greatest with that pickup least. It is the 29th setting, so this is number 72.
+const LATE_PERMISSION: &str = r#"version = 1
+tick_us = 1000
+horizon = 60
+scheme = "pott"
+
+[[terminal]]
+name = "A"
+z1 = { pickup = [0, 1], dropout = [0, 1] }
+z2 = { pickup = [0, 1], dropout = [1, 7] }
+rv = { pickup = [0, 1], dropout = [0, 1] }
+uv = { pickup = [0, 1], dropout = [0, 1] }
+reversal = { pickup = [0, 1], dropout = [0, 1] }
+echo = { block = [0, 1], pickup = [0, 1], pulse = [0, 1] }
+
+[[terminal]]
+name = "B"
+z1 = { pickup = [0, 1], dropout = [0, 1] }
+z2 = { pickup = [0, 1], dropout = [1, 7] }
+rv = { pickup = [0, 1], dropout = [0, 1] }
+uv = { pickup = [0, 1], dropout = [0, 1] }
+reversal = { pickup = [0, 1], dropout = [0, 1] }
+echo = { block = [0, 1], pickup = [0, 1], pulse = [0, 1] }
+
+[[terminal]]
+name = "C"
+z1 = { pickup = [0, 1], dropout = [0, 1] }
+z2 = { pickup = [0, 8], dropout = [0, 1] }
+rv = { pickup = [0, 1], dropout = [0, 1] }
+uv = { pickup = [0, 1], dropout = [0, 1] }
+reversal = { pickup = [0, 1], dropout = [0, 1] }
+
+[[channel]]
+from = "A"
+to = "B"
+delay = [1, 2]
+
+[[channel]]
+from = "A"
+to = "C"
+delay = [1, 7]
+
+[[channel]]
+from = "B"
+to = "A"
+delay = [1, 2]
+
+[[channel]]
+from = "B"
+to = "C"
+delay = [1, 7]
+
+[[channel]]
+from = "C"
+to = "A"
+delay = [1, 2]
+
+[[channel]]
+from = "C"
+to = "B"
+delay = [1, 2]
+"#;
+
+const SECOND_BLOCK: &[Row<'static>] = &[Row {
+    what: "a candidate of the second block",
+    words: CERTIFY,
+    line: LATE_PERMISSION,
+    scripts: "script,item,place,from,to
+L1,external,,,
+L1,z2,A,10,20
+L1,z2,B,10,20
+L1,z2,C,30,40
+L1,loss,C>A,0,60
+L1,loss,C>B,0,60
+",
+    status: Status::SomeNo,
+    out: "pilot-cert 1
+script L1
+key A 0:10 ?:1 1:10 ?:6 0:33
+key B 0:10 ?:1 1:10 ?:6 0:33
+key C 0:30 ?:8 1:2 ?:1 0:19
+verdict A yes
+verdict B yes
+verdict C no 1 1 1 7 1 1 1 1 1 1 1 1 1 1 1 1 7 1 1 1 1 1 1 1 1 1 1 1 0 1 1 1 1 1 1 1 2 7 2 7 2 2
+end
+",
+    ..ROW
+}];

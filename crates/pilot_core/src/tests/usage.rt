@@ -5,13 +5,21 @@ use super::*;
 
 #[test]
 fn other_words(rt: HostRuntime) -> Result<(), Fail> {
-    let alloc = rt.alloc();
-    for words in OTHER_WORDS {
+    no_commands(&rt, rt.alloc(), OTHER_WORDS)
+}
+
+#[test]
+fn other_numbers(rt: HostRuntime) -> Result<(), Fail> {
+    no_commands(&rt, rt.alloc(), OTHER_NUMBERS)
+}
+
+fn no_commands(rt: &impl Abort, alloc: Global, table: &[&[&str]]) -> Result<(), Fail> {
+    for words in table {
         let what = words.join(alloc, " ")?;
         let files = texts(POTT, FAULT, LEAST);
         let got = call(alloc, words, files)?;
         let usage = "usage: pilot COMMAND FILES\n";
-        assert_ended(&rt, what.as_str(), &got, Status::Usage, "", usage);
+        assert_ended(rt, what.as_str(), &got, Status::Usage, "", usage);
     }
     Ok(())
 }
@@ -61,6 +69,8 @@ const OTHER_WORDS: &[&[&str]] = &[
     &["check", "l", "s"],
     &["match", "l", "s"],
     &["margin", "l", "s"],
+    &["split", "l", "s"],
+    &["recheck", "l", "s"],
     &["certify"],
     &["certify", "l"],
     &["report"],
@@ -73,20 +83,13 @@ const OTHER_WORDS: &[&[&str]] = &[
     &["check", "l", "s", "t", "t"],
     &["match", "l", "s", "t", "t"],
     &["margin", "l", "s", "A>B.delay", "5"],
+    &["split", "l", "s", "1", "1"],
+    &["recheck", "l", "s", "t", "t"],
     &["certify", "l", "s", "t"],
     &["report", "l", "s", "t"],
     &["net", "l", "l"],
     &["line", "l", "s"],
     &["migrate", "l", "s", "t"],
-    // A bench of no number from 1 to 64, and of one that is written otherwise.
-    &["bench"],
-    &["bench", "0"],
-    &["bench", "65"],
-    &["bench", "08"],
-    &["bench", "+8"],
-    &["bench", ""],
-    &["bench", "4294967297"],
-    &["bench", "8", "8"],
     // Another case, and another spelling.
     &["Play", "l", "s", "t"],
     &["PLAY", "l", "s", "t"],
@@ -96,9 +99,23 @@ const OTHER_WORDS: &[&[&str]] = &[
     &["Migrate", "l"],
     &["lines", "l"],
     &["l", "line"],
-    // Words that are no command.
-    &["split", "l", "s", "1"],
-    &["recheck", "l", "s", "t"],
+];
+
+const OTHER_NUMBERS: &[&[&str]] = &[
+    // A bench of no number from 1 to 64, and of one that is written otherwise.
+    &["bench"],
+    &["bench", "0"],
+    &["bench", "65"],
+    &["bench", "08"],
+    &["bench", "+8"],
+    &["bench", ""],
+    &["bench", "4294967297"],
+    &["bench", "8", "8"],
+    // Splits to no number from 0 to 8, and to one that is written otherwise.
+    &["split", "l", "s", "9"],
+    &["split", "l", "s", "01"],
+    &["split", "l", "s", "-1"],
+    &["split", "l", "s", ""],
 ];
 
 const NOT_HELD: &[(&[&str], &str)] = &[

@@ -1,30 +1,59 @@
-use Rattle.std.proofs.Common.{sym, arith}
+use Rattle.std.proofs.Common.{ℕ, length, ap, sym, ◌∙◌, arith}
 use Rattle.history.specs.Rails.{RailsCover}
 use Rattle.tick_signal.specs.Terns.{tern_rails}
 use Rattle.wave_runs.specs.Waves.{wave_at}
-use Rattle.cert_checker.proofs.Firsts.{each_more, not_both, cover_same}
+use Rattle.cert_checker.proofs.Firsts.{along, stretch_more, not_both, cover_same}
 use Rattle.cert_checker.proofs.cover.first_tick.Goals as goal
+
+pub stretch-first-requires : goal.stretch-first-requires
+stretch-first-requires c =
+    omega (arith, ap length c.stretches.invariant.wides, c.len.ensures.length)
+
+pub stretch-second-requires : goal.stretch-second-requires
+stretch-second-requires c =
+    omega (
+      arith,
+      ap length c.stretches.invariant.narrows,
+      c.len.ensures.length,
+      c.requires,
+    )
 
 pub returns-then-not-covers : goal.returns-then-not-covers
 returns-then-not-covers c =
-    let x = c.at.result in
-    let y = c.at-in-loop-t.result in
+    let t : ℕ = c.stretches.t in
+    let x = c.stretch-first.result.level in
+    let y = c.stretch-second.result.level in
+    let wide = c.args.wide.now in
+    let narrow = c.args.narrow.now in
     record {
-      inside = omega (arith, c.loop-t-test.true, c.len-t-end.ensures.length);
+      inside = omega (arith, c.stretches-test.true, c.len.ensures.length);
       fails = λ cover. not_both c.covers.result c.if-not-covers.true
           (c.covers.ensures.covers.1
-          (cover_same (tern_rails x) (tern_rails y) (wave_at c.args.wide.now c.loop-t.t)
-          (wave_at c.args.narrow.now c.loop-t.t) (sym c.at.ensures.rails)
-          (sym c.at-in-loop-t.ensures.rails) cover));
-      before = c.loop-t.invariant;
+          (cover_same (tern_rails x) (tern_rails y) (wave_at wide t) (wave_at narrow t)
+          (sym (along wide c.stretches.wides t (tern_rails x) c.stretches.invariant.wides
+          (c.stretch-first.ensures.rails t (omega arith) c.stretch-first.ensures.later)))
+          (sym (along narrow c.stretches.narrows t (tern_rails y) c.stretches.invariant.narrows
+          (c.stretch-second.ensures.rails t (omega arith) c.stretch-second.ensures.later)))
+          cover));
+      before = c.stretches.invariant.covered;
     }
 
-pub loop-t-preserved : goal.loop-t-preserved
-loop-t-preserved c =
-    let x = c.at.result in
-    let y = c.at-in-loop-t.result in
-    each_more (λ t. RailsCover (wave_at c.args.wide.now t) (wave_at c.args.narrow.now t))
-    c.loop-t.t c.loop-t.invariant
-    (cover_same (wave_at c.args.wide.now c.loop-t.t) (wave_at c.args.narrow.now c.loop-t.t)
-    (tern_rails x) (tern_rails y) c.at.ensures.rails c.at-in-loop-t.ensures.rails
-    (c.covers.ensures.covers.0 c.if-not-covers.false))
+pub stretches-preserved : goal.stretches-preserved
+stretches-preserved c =
+    let x = c.stretch-first.result.level in
+    let y = c.stretch-second.result.level in
+    let wide = c.args.wide.now in
+    let narrow = c.args.narrow.now in
+    record {
+      wides = c.stretch-first.ensures.same ∙ c.stretches.invariant.wides;
+      narrows = c.stretch-second.ensures.same ∙ c.stretches.invariant.narrows;
+      covered = stretch_more (λ t. RailsCover (wave_at wide t) (wave_at narrow t))
+          c.stretches.t c.min-t.result c.stretches.invariant.covered
+          (λ i low high. cover_same (wave_at wide i) (wave_at narrow i)
+          (tern_rails x) (tern_rails y)
+          (along wide c.stretches.wides i (tern_rails x) c.stretches.invariant.wides
+          (c.stretch-first.ensures.rails i low (omega (arith, c.min-t.ensures))))
+          (along narrow c.stretches.narrows i (tern_rails y) c.stretches.invariant.narrows
+          (c.stretch-second.ensures.rails i low (omega (arith, c.min-t.ensures))))
+          (c.covers.ensures.covers.0 c.if-not-covers.false));
+    }

@@ -1,8 +1,15 @@
-use Rattle.std.proofs.Common.{ℕ, ◌<◌}
+use Rattle.std.proofs.Common.{◌≡◌, ◌-◌, ℕ, ◌<◌, length}
 use Rattle.history.specs.Rails.{RailsCover}
 use Rattle.wave_runs.specs.Waves.{wave_at}
 use Rattle.cert_checker.proofs.cover.first_tick.Given as goal
 
-abbrev pub invariant-loop-t : goal.invariant-loop-t
-invariant-loop-t l =
-    (t : ℕ) → t < l.t → RailsCover (wave_at l.wide t) (wave_at l.narrow t)
+-- covered at every tick so far
+abbrev pub invariant-stretches : goal.invariant-stretches
+invariant-stretches l = record {
+  wides : l.wides ≡ l.wide;
+  narrows : l.narrows ≡ l.narrow;
+  covered : (t : ℕ) → t < l.t → RailsCover (wave_at l.wide t) (wave_at l.narrow t);
+}
+
+abbrev pub decreases-stretches : goal.decreases-stretches
+decreases-stretches l = length l.wide - l.t

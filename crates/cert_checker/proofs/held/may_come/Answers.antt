@@ -1,12 +1,41 @@
-use Rattle.std.proofs.Common.{sym, ◌∙◌, ap}
+use Rattle.std.proofs.Common.{◌<◌, ℕ, Bool, length, sym, ◌∙◌, ap, arith, ⊎_elim}
+use Rattle.std.proofs.lemmas.Bool.{cases_lt}
 use Rattle.history.specs.Rails.{may_of}
 use Rattle.wave_runs.specs.Waves.{wave_at}
+use Rattle.cert_checker.proofs.Firsts.{not_both, along}
+use Rattle.cert_checker.proofs.HeldRules.{off_by}
 use Rattle.cert_checker.proofs.held.may_come.Goals as goal
+
+pub stretch-value-requires : goal.stretch-value-requires
+stretch-value-requires c =
+    omega (arith, ap length c.stretches.invariant.values, c.requires, c.stretches-test.true)
 
 pub returns-then-may : goal.returns-then-may
 returns-then-may c =
     sym ((c.tests_are_their_facts.ensures.some (λ t. may_of (wave_at c.args.trip.now t)) c.args.ticks).1 (
-      c.loop-t.t,
-      c.loop-t-test.true,
-      ap may_of c.at.ensures.rails ∙ sym c.may.ensures ∙ c.if-may.true,
+      c.stretches.t,
+      c.stretches-test.true,
+      ap may_of (along c.args.trip.now c.stretches.values c.stretches.t _ c.stretches.invariant.values
+          (c.stretch-value.ensures.rails c.stretches.t (omega arith) c.stretch-value.ensures.later))
+          ∙ sym c.may.ensures ∙ c.if-may.true,
     ))
+
+pub stretches-preserved : goal.stretches-preserved
+stretches-preserved c = record {
+  values = c.stretch-value.ensures.same ∙ c.stretches.invariant.values;
+  off = λ n early. ⊎_elim
+      (λ before. c.stretches.invariant.off n before)
+      (λ after. ap may_of (along c.args.trip.now c.stretches.values n _ c.stretches.invariant.values
+      (c.stretch-value.ensures.rails n after early))
+      ∙ sym c.may.ensures ∙ c.if-may.false)
+      (cases_lt n c.stretches.t);
+}
+
+pub returns : goal.returns
+returns c =
+    let u : ℕ → Bool = λ t. may_of (wave_at c.args.trip.now t) in
+    sym (off_by _ (λ on.
+    let found = (c.tests_are_their_facts.ensures.some u c.args.ticks).0 on in
+    let below : found.0 < c.args.ticks = found.1 in
+    not_both (u found.0)
+    (c.stretches.invariant.off found.0 (omega (arith, below, c.stretches-test.false))) found.2))

@@ -1,6 +1,14 @@
-use Rattle.simulator.specs.Played.{played}
+use Rattle.std.proofs.Common.{◌≤◌, ◌-◌, length}
+use Rattle.simulator.specs.PlayedTracks.{is_on}
 use Rattle.cert_checker.specs.Firsts.{IsNeverOn}
 use Rattle.cert_checker.proofs.refutation.first_trip.Given as goal
 
-abbrev pub invariant-loop-t : goal.invariant-loop-t
-invariant-loop-t l = IsNeverOn ((played l.waves).trip l.terminal) l.t
+-- off at every tick so far
+abbrev pub invariant-stretches : goal.invariant-stretches
+invariant-stretches l = record {
+  inside : l.t ≤ length l.trip.keys;
+  off : IsNeverOn (is_on l.trip) l.t;
+}
+
+abbrev pub decreases-stretches : goal.decreases-stretches
+decreases-stretches l = length l.trip.keys - l.t

@@ -3,7 +3,7 @@ use Rattle.std.specs.List.{All}
 use Rattle.std.proofs.lemmas.List.{take_all}
 use Rattle.std.proofs.lemmas.List.Elements.{All-nil}
 use Rattle.line_model.specs.declared.script.SeenSpan.{SeenSpan}
-use Rattle.cert_checker.specs.Stretches.{HoldsAlike}
+use Rattle.cert_checker.specs.Stretches.{ShowsAlike}
 use Rattle.cert_checker.proofs.StretchLaws.{one_span_more}
 use Rattle.cert_checker.proofs.script_wave.alike_until.Goals as goal
 
@@ -11,7 +11,7 @@ pub loop-i-init : goal.loop-i-init
 loop-i-init c = record {
   later = omega arith;
   inside = omega arith;
-  alike = All-nil (HoldsAlike c.args.t c.args.horizon);
+  alike = All-nil (ShowsAlike c.args.what c.args.t c.args.horizon);
 }
 
 pub loop-i-preserved : goal.loop-i-preserved
@@ -20,13 +20,13 @@ loop-i-preserved c =
     record {
       later = c.sooner-end.ensures.later;
       inside = omega (arith, c.sooner-end.ensures.inside, c.loop-i.invariant.inside);
-      alike = one_span_more c.args.spans.now c.loop-i.i c.args.t c.loop-i.end c.sooner-end.result
-          _ inside c.sooner-end.ensures.inside
+      alike = one_span_more c.args.what c.args.spans.now c.loop-i.i c.args.t c.loop-i.end
+          c.sooner-end.result _ inside c.sooner-end.ensures.inside
           c.loop-i.invariant.alike c.sooner-end.ensures.alike;
     }
 
 pub returns-clause-alike : goal.returns-clause-alike
 returns-clause-alike c =
-    let P : List SeenSpan → Type 0 = λ l. All (HoldsAlike c.args.t c.loop-i.end) l in
+    let P : List SeenSpan → Type 0 = λ l. All (ShowsAlike c.args.what c.args.t c.loop-i.end) l in
     subst P (take_all c.loop-i.i c.args.spans.now (omega (arith, c.loop-i-test.false)))
     c.loop-i.invariant.alike

@@ -1,11 +1,11 @@
 use Rattle.std.proofs.Common.{◌<◌, ◌≤◌, take}
 use Rattle.std.specs.List.{All}
-use Rattle.cert_checker.specs.Stretches.{HoldsAlike}
+use Rattle.cert_checker.specs.Stretches.{ShowsAlike}
 use Rattle.cert_checker.proofs.script_wave.alike_until.Given as goal
 
 abbrev pub invariant-loop-i : goal.invariant-loop-i
 invariant-loop-i l = record {
   later : l.t < l.end;
   inside : l.end ≤ l.horizon;
-  alike : All (HoldsAlike l.t l.end) (take l.i l.spans);
+  alike : All (ShowsAlike l.what l.t l.end) (take l.i l.spans);
 }

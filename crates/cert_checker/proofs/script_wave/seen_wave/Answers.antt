@@ -3,9 +3,10 @@ use Rattle.std.specs.List.{All}
 use Rattle.history.specs.Rails.{Rails, both}
 use Rattle.tick_signal.specs.declared.tern.Tern.{Tern}
 use Rattle.line_model.specs.declared.script.SeenSpan.{SeenSpan}
+use Rattle.line_model.specs.declared.script.What.TheVariants.{Element}
 use Rattle.line_model.specs.Seen.{is_seen}
 use Rattle.wave_runs.specs.Waves.{IsWaveOf}
-use Rattle.cert_checker.specs.Stretches.{HoldsAlike}
+use Rattle.cert_checker.specs.Stretches.{ShowsAlike}
 use Rattle.cert_checker.proofs.StretchLaws.{seen_alike}
 use Rattle.cert_checker.proofs.Waves.{at_none}
 use Rattle.cert_checker.proofs.script_wave.seen_wave.Goals as goal
@@ -26,7 +27,7 @@ stretches-preserved c =
     let here : t ≡ length wave = c.len-t.ensures.length in
     let later : t < end = c.alike_until-end.ensures.later in
     let inside : end ≤ c.args.horizon = c.alike_until-end.ensures.inside in
-    let Q : List SeenSpan → Type 0 = λ l. All (HoldsAlike t end) l in
+    let Q : List SeenSpan → Type 0 = λ l. All (ShowsAlike (Element c.args.place) t end) l in
     let alike : Q spans = subst Q c.as_slice.ensures.value c.alike_until-end.ensures.alike in
     let long : length c.push.new.self ≡ length wave + (end - t) =
     c.waves_grow.ensures.long wave c.push.new.self c.known.result (end - t)

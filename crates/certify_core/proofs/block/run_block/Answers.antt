@@ -1,12 +1,13 @@
-use Rattle.std.proofs.Common.{length, sym, ◌∙◌, ap, subst}
+use Rattle.std.proofs.Common.{ℕ, sym, ◌∙◌, subst}
 use Rattle.timing_box.specs.Choice.{timing_choice}
 use Rattle.timing_box.specs.Candidates.{candidate}
+use Rattle.simulator.specs.Ticks.{AreSent}
 use Rattle.certify_core.specs.Candidates.{candidate_in, AreBlockSpans}
 use Rattle.certify_core.proofs.BlockLaws.{block_point, block_delayed}
 use Rattle.certify_core.proofs.block.run_block.Goals as goal
 
-pub run-requires-clause-delayed : goal.run-requires-clause-delayed
-run-requires-clause-delayed c =
+pub run_tracks-requires-clause-delayed : goal.run_tracks-requires-clause-delayed
+run_tracks-requires-clause-delayed c =
     let line = c.args.line.now in
     block_delayed c.parameters_are_numbered.ensures line c.args.first c.deref.result.now
     (subst (AreBlockSpans line c.args.first) (sym c.deref.ensures.value) c.in_ok-spans.ensures)
@@ -21,12 +22,11 @@ returns c =
     let spans : AreBlockSpans line c.args.first c.deref.result.now =
     subst (AreBlockSpans line c.args.first) (sym c.deref.ensures.value) c.in_ok-spans.ensures in
     record {
-      horizon = c.in_ok-waves.ensures.waves.horizon;
-      terminals = ap length c.in_ok-waves.ensures.waves.trips
-          ∙ c.requires.of_line.laws.same
-          ∙ c.requires.of_line.terminals;
+      sent = subst (λ (n : ℕ). AreSent n line.horizon line.horizon c.in_ok-tracks.tracks.trips.items)
+          (c.requires.of_line.laws.same ∙ c.requires.of_line.terminals)
+          c.in_ok-tracks.ensures.trips;
       exact = λ lane inside.
-          c.in_ok-waves.ensures.exact lane
+          c.in_ok-tracks.ensures.exact lane
           (timing_choice line (candidate line (candidate_in line c.args.first lane))) inside
           (block_point c.parameters_are_numbered.ensures line c.args.first c.deref.result.now spans lane inside);
     }

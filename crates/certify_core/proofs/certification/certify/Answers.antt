@@ -38,7 +38,7 @@ verdicts-requires c = λ k s at.
     (ap (λ (xs : List Standing). slice_get xs k) (sym c.deref.ensures.value) ∙ at))
 
 -- the verdicts over the waves that were analysed
-said : (c : goal.After-drop-waves-inside-4)
+said : (c : goal.After-drop-waves-inside-3)
     → AreVerdicts c.args.line.now c.args.script.now (pair_history c.in_ok-waves.waves)
     c.in_ok-verdicts.verdicts.items
 said c =
@@ -49,7 +49,7 @@ said c =
     ∙ ap (λ (xs : List Standing). map (verdict_as c.args.line.now) xs) c.deref.ensures.value)
     (c.in_ok-standings.ensures v c.in_ok-rules.ensures)
 
-there : (c : goal.After-drop-waves-inside-4) (k : ℕ) (verdict : Verdict)
+there : (c : goal.After-drop-waves-inside-3) (k : ℕ) (verdict : Verdict)
     → slice_get c.in_ok-verdicts.verdicts.items k ≡ Some verdict
     → k < terminal_count c.args.line.now
 there c k verdict at =
@@ -57,14 +57,14 @@ there c k verdict at =
     let count = (said c).count in
     omega arith
 
-inside_choice : (c : goal.After-drop-waves-inside-4) (number : ℕ)
+inside_choice : (c : goal.After-drop-waves-inside-3) (number : ℕ)
     → number < candidate_count c.args.line.now
     → IsInside c.args.line.now (timing_choice c.args.line.now (candidate c.args.line.now number))
 inside_choice c number below =
     c.timings_inside_are_choices_inside.ensures c.args.line.now (candidate c.args.line.now number)
     (c.candidates_are_inside.ensures c.args.line.now number below)
 
-from_one : (c : goal.After-drop-waves-inside-4) (number : ℕ)
+from_one : (c : goal.After-drop-waves-inside-3) (number : ℕ)
     → number < candidate_count c.args.line.now
     → DelaysFromOne c.args.line.now
     (timing_choice c.args.line.now (candidate c.args.line.now number))
@@ -74,7 +74,7 @@ from_one c number below =
     (inside_choice c number below)
 
 -- where the rule is broken, candidate 0 fails
-never : (c : goal.After-drop-waves-inside-4) (k : ℕ) (w : PairHistory)
+never : (c : goal.After-drop-waves-inside-3) (k : ℕ) (w : PairHistory)
     → k < terminal_count c.args.line.now
     → IsPairHistory c.args.line.now c.args.script.now (declared_box c.args.line.now) w
     → rule_of c.args.line.now c.args.script.now (w.trip k) ≡ Broken

@@ -12,7 +12,7 @@ pub returns-in-Internal : goal.returns-in-Internal
 returns-in-Internal c = λ lane inside.
     let deadline = c.args.script.now.deadline in
     let horizon = c.args.line.now.horizon in
-    let trip : ℕ → Bool = trips_in c.args.waves.now c.args.terminal lane in
+    let trip : ℕ → Bool = trips_in c.args.trip.now lane in
     let next : deadline + 1 ≡ suc deadline = omega arith in
     subst
     (λ (kind : Kind). TellsFailing (bit_on c.not.result lane) (MeetsBy kind deadline horizon trip))
@@ -26,7 +26,7 @@ pub returns-in-External : goal.returns-in-External
 returns-in-External c = λ lane inside.
     let deadline = c.args.script.now.deadline in
     let horizon = c.args.line.now.horizon in
-    let trip = trips_in c.args.waves.now c.args.terminal lane in
+    let trip = trips_in c.args.trip.now lane in
     let lanes = c.tripped-in-External.result in
     subst
     (λ (kind : Kind). TellsFailing (bit_on lanes lane) (MeetsBy kind deadline horizon trip))

@@ -1,3 +1,6 @@
+use Rattle.std.proofs.Common.{ℕ, List, sym, subst}
+use Rattle.history.specs.Rails.{Rails}
+use Rattle.tick_signal.specs.declared.tern.Tern.{Tern}
 use Rattle.wave_runs.specs.Waves.{IsWaveOf}
 use Rattle.interval_wave.specs.PairWavesOf.{pair_history}
 use Rattle.certify_core.proofs.ListLaws.{one_more}
@@ -5,7 +8,9 @@ use Rattle.certify_core.proofs.keys.key_waves.Goals as goal
 
 pub loop-k-preserved : goal.loop-k-preserved
 loop-k-preserved c =
-    one_more
-    (λ k wave. IsWaveOf wave c.args.line.now.horizon ((pair_history c.args.waves.now).key k))
-    c.loop-k.k c.loop-k.keys.items c.push.new.self.items c.in_ok-wave.wave
-    c.in_ok-push.ensures.items c.in_ok-wave.ensures c.loop-k.invariant
+    let key : ℕ → ℕ → Rails = (pair_history c.args.waves.now).key in
+    one_more (λ k wave. IsWaveOf wave c.args.line.now.horizon (key k)) c.loop-k.k
+    c.loop-k.keys.items c.push.new.self.items c.in_ok-wave.wave c.in_ok-push.ensures.items
+    (subst (λ (n : ℕ). IsWaveOf c.in_ok-wave.wave n (key c.loop-k.k)) c.requires.horizon
+    (subst (λ (wave : List Tern). IsWaveOf wave c.args.waves.now.horizon (key c.loop-k.k))
+    (sym c.in_ok-wave.ensures) c.key_runs.ensures)) c.loop-k.invariant

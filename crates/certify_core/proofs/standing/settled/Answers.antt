@@ -12,7 +12,7 @@ returns-in-Some c = λ w is.
     let first = c.args.first in
     subst (λ (n : ℕ). StandsFailing line script k w n) (sym c.number_in.ensures.number)
     (stands_failing line script k w first c.failing.result
-    (c.failing.ensures first c.requires.waves)
+    (c.failing.ensures first c.requires.run)
     (subst (λ (s : Standing). IsStanding line script k w first s) c.in-Open.is is) c.in-Some.lane
     c.in-Some.ensures)
 
@@ -22,5 +22,5 @@ returns-in-None c = λ w is.
     let script = c.args.script.now in
     let k = c.args.terminal in
     let first = c.args.first in
-    stands_open line script k w first c.failing.result (c.failing.ensures first c.requires.waves)
+    stands_open line script k w first c.failing.result (c.failing.ensures first c.requires.run)
     (subst (λ (s : Standing). IsStanding line script k w first s) c.in-Open.is is) c.in-None.ensures

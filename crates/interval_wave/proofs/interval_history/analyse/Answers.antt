@@ -1,18 +1,77 @@
-use Rattle.std.proofs.Common.{◌≡◌, length, refl, sym, ◌∙◌, ap, subst, arith}
+use Rattle.std.proofs.Common.{◌≡◌, ℕ, List, length, sym, ◌∙◌, ap, subst, arith}
+use Rattle.std.specs.Prelude.{slice_get}
+use Rattle.tick_signal.specs.declared.tern.Tern.{Tern}
 use Rattle.tick_signal.specs.Terns.{tern_rails}
+use Rattle.channel.specs.SentKeys.{SentKeys}
+use Rattle.line_model.specs.Parameters.{terminal_count}
 use Rattle.line_model.specs.Choice.{Box, declared_box}
 use Rattle.line_model.specs.Histories.{PairHistory, IsPairHistory}
-use Rattle.simulator.specs.WavesOf.{waves_history}
-use Rattle.interval_wave.specs.PairWavesOf.{PairWavesOf, pair_history}
+use Rattle.simulator.specs.Ticks.{AreSent}
+use Rattle.simulator.specs.Tracks.{tracks_history}
+use Rattle.interval_wave.specs.PairWavesOf.{PairWavesOf, AreWavesOf, track_pairs, pair_history}
 use Rattle.interval_wave.specs.Spans.{declared_spans}
-use Rattle.interval_wave.proofs.WrittenDown.{written_history}
+use Rattle.interval_wave.proofs.ToldHistory.{told_history, are_long}
 use Rattle.interval_wave.proofs.Declared.{box_declared, spans_delayed}
 use Rattle.interval_wave.proofs.interval_history.analyse.Goals as goal
 
-pub run-requires-clause-delayed : goal.run-requires-clause-delayed
-run-requires-clause-delayed c =
+pub run_tracks-requires-clause-delayed : goal.run_tracks-requires-clause-delayed
+run_tracks-requires-clause-delayed c =
     spans_delayed c.args.line.now c.deref.result.now (c.deref.ensures.value ∙ c.in_ok-spans.ensures)
     (c.each_line_has_a_choice_inside.ensures.declared c.args.line.now)
+
+-- each track reaches to the horizon
+pub track_waves-requires-clause-long : goal.track_waves-requires-clause-long
+track_waves-requires-clause-long c = λ k track at.
+    (c.in_ok-tracks.ensures.keys.each k track
+    (ap (λ (l : List (SentKeys Tern)). slice_get l k) (sym c.deref-2.ensures.value) ∙ at)).0
+
+pub track_waves-requires-2-clause-long : goal.track_waves-requires-2-clause-long
+track_waves-requires-2-clause-long c = λ k track at.
+    (c.in_ok-tracks.ensures.trips.each k track
+    (ap (λ (l : List (SentKeys Tern)). slice_get l k) (sym c.deref-3.ensures.value) ∙ at)).0
+
+-- the waves of the tracks are those of the line's terminals
+of_terminals : (m terminals horizon : ℕ) (all tracks : List (SentKeys Tern))
+    (waves : List (List Tern)) → tracks ≡ all → AreSent m horizon horizon all → m ≡ terminals
+    → AreWavesOf (length tracks) horizon (track_pairs tracks) waves
+    → AreWavesOf terminals horizon (track_pairs all) waves
+of_terminals m terminals horizon all tracks waves same sent count are =
+    subst (λ (j : ℕ). AreWavesOf j horizon (track_pairs all) waves) (sent.count ∙ count)
+    (subst (λ (l : List (SentKeys Tern)). AreWavesOf (length l) horizon (track_pairs l) waves) same
+    are)
+
+pub new-requires : goal.new-requires
+new-requires c =
+    let n = terminal_count c.args.line.now in
+    let horizon = c.args.line.now.horizon in
+    let are_keys = of_terminals _ n horizon _ c.deref-2.result.now c.in_ok-keys.keys.items
+    c.deref-2.ensures.value c.in_ok-tracks.ensures.keys c.requires.terminals c.in_ok-keys.ensures in
+    let are_trips = of_terminals _ n horizon _ c.deref-3.result.now c.in_ok-trips.trips.items
+    c.deref-3.ensures.value c.in_ok-tracks.ensures.trips
+    (c.requires.laws.same ∙ c.requires.terminals) c.in_ok-trips.ensures in
+    let terminals = c.in_ok-keys.keys.items in
+    record {
+      keys = are_long (length terminals) n horizon _ c.in_ok-keys.keys.items (sym are_keys.count)
+          are_keys;
+      trips = are_long (length terminals) n horizon _ c.in_ok-trips.trips.items
+          (sym are_keys.count) are_trips;
+    }
+
+keys_are : (c : goal.After-drop-spans-2)
+    → AreWavesOf (terminal_count c.args.line.now) c.args.line.now.horizon
+    (track_pairs c.in_ok-tracks.tracks.keys.items) c.in_ok-keys.keys.items
+keys_are c =
+    of_terminals _ (terminal_count c.args.line.now) c.args.line.now.horizon _ c.deref-2.result.now
+    c.in_ok-keys.keys.items c.deref-2.ensures.value c.in_ok-tracks.ensures.keys
+    c.requires.terminals c.in_ok-keys.ensures
+
+trips_are : (c : goal.After-drop-spans-2)
+    → AreWavesOf (terminal_count c.args.line.now) c.args.line.now.horizon
+    (track_pairs c.in_ok-tracks.tracks.trips.items) c.in_ok-trips.trips.items
+trips_are c =
+    of_terminals _ (terminal_count c.args.line.now) c.args.line.now.horizon _ c.deref-3.result.now
+    c.in_ok-trips.trips.items c.deref-3.ensures.value c.in_ok-tracks.ensures.trips
+    (c.requires.laws.same ∙ c.requires.terminals) c.in_ok-trips.ensures
 
 is_history : (c : goal.After-drop-spans-2)
     → IsPairHistory c.args.line.now c.args.script.now (declared_box c.args.line.now)
@@ -20,19 +79,24 @@ is_history : (c : goal.After-drop-spans-2)
 is_history c =
     let line = c.args.line.now in
     let script = c.args.script.now in
-    let waves = c.in_ok-waves.waves in
-    let h : PairHistory = waves_history (λ x _. tern_rails x) 0 waves in
+    let n : ℕ = terminal_count line in
+    let h : PairHistory = tracks_history (λ x _. tern_rails x) 0
+    c.in_ok-tracks.tracks.keys.items c.in_ok-tracks.tracks.trips.items in
     let spans : c.deref.result.now ≡ declared_spans line =
     c.deref.ensures.value ∙ c.in_ok-spans.ensures in
     let is_h : IsPairHistory line script (declared_box line) h =
     subst (λ (box : Box). IsPairHistory line script box h)
     (box_declared line c.deref.result.now spans 0)
-    (c.in_ok-waves.ensures.history 0 (omega arith)).is in
+    (c.in_ok-tracks.ensures.history 0 (omega arith)).is in
     subst (λ (w : PairWavesOf). IsPairHistory line script (declared_box line) (pair_history w))
     (sym c.new.ensures)
-    (written_history c.trees_name_the_line.ensures c.values_rest_on_earlier_keys.ensures line script (declared_box line)
-    (c.each_line_has_a_choice_inside.ensures.declared line) h (length waves.keys) line.horizon
-    (ap length c.in_ok-waves.ensures.waves.keys ∙ c.requires.terminals) refl is_h)
+    (told_history c.trees_name_the_line.ensures c.values_rest_on_earlier_keys.ensures line script
+    (declared_box line) (c.each_line_has_a_choice_inside.ensures.declared line) h
+    c.in_ok-keys.keys.items c.in_ok-trips.trips.items (keys_are c) (trips_are c) is_h)
+
+pub returns-clause-terminals : goal.returns-clause-terminals
+returns-clause-terminals c =
+    ap (λ (w : PairWavesOf). w.terminals) c.new.ensures ∙ (keys_are c).count
 
 pub returns-clause-history : goal.returns-clause-history
 returns-clause-history c = record {

@@ -1,4 +1,4 @@
-use Rattle.std.proofs.Common.{◌≡◌, ℕ, sym, ◌∙◌, ap}
+use Rattle.std.proofs.Common.{◌≡◌, ◌≤◌, ℕ, sym, ◌∙◌, ap, arith}
 use Rattle.history.specs.Elements.{some_below}
 use Rattle.history.specs.Rails.{Rails}
 use Rattle.line_model.specs.Rule.{rule_by}
@@ -13,11 +13,17 @@ returns-clause-rule c =
     ≡ counted_ticks c.args.script.now.kind c.args.script.now.deadline c.args.waves.now.horizon =
     c.ticks_of-ticks.ensures.count
     ∙ ap (counted_ticks c.args.script.now.kind c.args.script.now.deadline) c.horizon.ensures in
+    let within : c.ticks_of-ticks.result ≤ c.args.waves.now.horizon =
+    omega (arith, c.ticks_of-ticks.ensures.within, c.horizon.ensures) in
     c.rule_of_rails.ensures
     ∙ rule_by_rails c.args.script.now.kind c.args.script.now.deadline c.args.waves.now.horizon trip
-    c.must_trip-must.result c.may_trip-may.result
-    (c.must_trip-must.ensures ∙ ap (some_below (λ t. (trip t).must)) ticks)
-    (c.may_trip-may.ensures ∙ ap (some_below (λ t. (trip t).may)) ticks)
+    c.comes_within-must.result c.comes_within-may.result
+    (c.comes_within-must.ensures (λ t. (trip t).must) c.args.waves.now.horizon within
+    c.first_must.ensures.first
+    ∙ ap (some_below (λ t. (trip t).must)) ticks)
+    (c.comes_within-may.ensures (λ t. (trip t).may) c.args.waves.now.horizon within
+    c.first_may.ensures.first
+    ∙ ap (some_below (λ t. (trip t).may)) ticks)
 
 -- the rule that is answered, over the horizon of a line
 rule_over : (c : goal.After-rule_of_rails) (horizon : ℕ) → horizon ≡ c.args.waves.now.horizon

@@ -1,6 +1,6 @@
 use Rattle.pilot_core.specs.Call.{answer_by}
 use Rattle.pilot_core.specs.Reading.{over_files}
-use Rattle.pilot_core.specs.Sinks.{sink_view}
+use Rattle.commands.specs.Sinks.{sink_view}
 use Rattle.pilot_core.specs.Words.{bench}
 use Rattle.pilot_core.proofs.Fetching.{ends_of_works}
 use Rattle.pilot_core.proofs.Results.{on_ok}
@@ -26,3 +26,7 @@ returns-in-Bench-clause-ends g c = rw c.in-Bench.is (ends_of_works
     (g.S.Store.held c.args.store.now) c.args.out.now c.no_file.new.out
     (g.S.Store.faults c.args.store.now) (g.S.Store.faults c.args.store.now) c.no_file.result
     (λ name. refl) c.no_file.ensures.works)
+
+pub returns-in-Split-clause-asked : goal.returns-in-Split-clause-asked
+returns-in-Split-clause-asked g c = rw c.in-Split.is (on_ok c.run_split.result
+    (λ a. a (g.G.Engine.calls c.args.engine.now)) c.run_split.ensures.asked)

@@ -1,7 +1,7 @@
 use Rattle.engine.specs.Calls.{Calls}
 use Rattle.pilot_core.specs.Call.{answer_by, asks_by}
 use Rattle.pilot_core.specs.Reading.{over_files}
-use Rattle.pilot_core.specs.Sinks.{sink_view}
+use Rattle.commands.specs.Sinks.{sink_view}
 use Rattle.pilot_core.specs.Words.{margin, named}
 use Rattle.pilot_core.specs.declared.stop.File.TheVariants as file
 use Rattle.pilot_core.proofs.Fetching.{ends_of_two, told_two}

@@ -1,6 +1,6 @@
 use Rattle.pilot_core.specs.Call.{answer_by, asks_by}
 use Rattle.pilot_core.specs.Reading.{over_files}
-use Rattle.pilot_core.specs.Sinks.{sink_view}
+use Rattle.commands.specs.Sinks.{sink_view}
 use Rattle.pilot_core.specs.Words.{named, own_file, three_files}
 use Rattle.pilot_core.specs.declared.stop.File.TheVariants as file
 use Rattle.pilot_core.proofs.Fetching.{ends_of_three, told_three}

@@ -1,8 +1,5 @@
-use Rattle.std.proofs.Common.{◌≡◌, subst, false}
+use Rattle.std.proofs.Common.{◌≡◌, ◌∙◌, subst, false}
 use Rattle.history.specs.Rails.{both}
-use Rattle.gate_net.specs.Named.{GateNames}
-use Rattle.line_model.specs.Choice.{pair_world_of}
-use Rattle.simulator.specs.LaneBox.{lane_box, lane_world}
 use Rattle.simulator.proofs.TickLaws.{
   seen_pair,
   loss_pair,
@@ -14,42 +11,25 @@ use Rattle.simulator.proofs.TickLaws.{
 }
 use Rattle.simulator.proofs.answer.answer.Goals as goal
 
-pub raw_answer-requires-clause-later : goal.raw_answer-requires-clause-later
-unfolding lane_box
-raw_answer-requires-clause-later g c = λ lane inside.
-    c.requires.delayed lane inside c.in-Raw.channel c.args.t
-    (subst (λ k. GateNames c.args.line.now k) c.in-Raw.is c.requires.names) c.requires.tick
-
 pub returns-in-Seen-clause-answers : goal.returns-in-Seen-clause-answers
-unfolding pair_world_of
-returns-in-Seen-clause-answers g c = λ lane keys u inside sent agree before.
-    let w = lane_world g.V.Signal.ends c.args.line.now c.args.script.now c.args.spans.now
-    c.args.steps.now lane in
+returns-in-Seen-clause-answers g c = λ lane w keys u inside world sent agree before.
     seen_pair w keys u c.args.t c.args.gate.now _ c.in-Seen.place c.in-Seen.is
-    (subst (λ b. g.V.Signal.rails c.known-in-Seen.result lane ≡ both b) c.seen.ensures
+    (subst (λ b. g.V.Signal.rails c.known-in-Seen.result lane ≡ both b) (c.shown_in.ensures ∙ world.seen c.in-Seen.place)
     (c.known-in-Seen.ensures lane inside))
 
 pub returns-in-Loss-clause-answers : goal.returns-in-Loss-clause-answers
-unfolding pair_world_of
-returns-in-Loss-clause-answers g c = λ lane keys u inside sent agree before.
-    let w = lane_world g.V.Signal.ends c.args.line.now c.args.script.now c.args.spans.now
-    c.args.steps.now lane in
+returns-in-Loss-clause-answers g c = λ lane w keys u inside world sent agree before.
     loss_pair w keys u c.args.t c.args.gate.now _ c.in-Loss.channel c.in-Loss.is
-    (subst (λ b. g.V.Signal.rails c.known-in-Loss.result lane ≡ both b) c.loss.ensures
+    (subst (λ b. g.V.Signal.rails c.known-in-Loss.result lane ≡ both b) (c.lost_in.ensures ∙ world.lost c.in-Loss.channel)
     (c.known-in-Loss.ensures lane inside))
 
 pub returns-in-Raw-clause-answers : goal.returns-in-Raw-clause-answers
-unfolding pair_world_of lane_box
-returns-in-Raw-clause-answers g c = λ lane keys u inside sent agree before.
-    let w = lane_world g.V.Signal.ends c.args.line.now c.args.script.now c.args.spans.now
-    c.args.steps.now lane in
+returns-in-Raw-clause-answers g c = λ lane w keys u inside world sent agree before.
     raw_pair w keys u c.args.t c.args.gate.now _ c.in-Raw.channel c.in-Raw.is
-    (c.raw_answer.ensures lane keys inside sent)
+    (c.raw_answer.ensures lane w keys inside world.channels sent)
 
 pub returns-in-Timer-clause-stands : goal.returns-in-Timer-clause-stands
-returns-in-Timer-clause-stands g c = λ lane u inside agree before.
-    let w = lane_world g.V.Signal.ends c.args.line.now c.args.script.now c.args.spans.now
-    c.args.steps.now lane in
+returns-in-Timer-clause-stands g c = λ lane w u inside agree before.
     timer_stands g.V.Timed.stands_for g.V.Signal.ends g.V.Signal.rails lane w (λ _ _. both false) u
     c.args.t c.args.gate.now c.args.cell.now c.timer_answer.new.cell c.in-Timer.x
     c.in-Timer.field-1 c.in-Timer.field-2 c.in-Timer.is
@@ -58,9 +38,7 @@ returns-in-Timer-clause-stands g c = λ lane u inside agree before.
     (λ p d inputs h. c.timer_answer.ensures.stands lane p d inputs inside h)
 
 pub returns-in-Timer-clause-answers : goal.returns-in-Timer-clause-answers
-returns-in-Timer-clause-answers g c = λ lane keys u inside sent agree before.
-    let w = lane_world g.V.Signal.ends c.args.line.now c.args.script.now c.args.spans.now
-    c.args.steps.now lane in
+returns-in-Timer-clause-answers g c = λ lane w keys u inside world sent agree before.
     timer_pair g.V.Timed.stands_for g.V.Signal.ends g.V.Signal.rails lane w keys u
     c.args.t c.args.gate.now c.args.cell.now c.timer_answer.new.cell c.in-Timer.x
     c.in-Timer.field-1 c.in-Timer.field-2 c.in-Timer.is
@@ -70,9 +48,7 @@ returns-in-Timer-clause-answers g c = λ lane keys u inside sent agree before.
     (λ p d inputs h. c.timer_answer.ensures.timed lane p d inputs inside h)
 
 pub returns-in-Seal-clause-stands : goal.returns-in-Seal-clause-stands
-returns-in-Seal-clause-stands g c = λ lane u inside agree before.
-    let w = lane_world g.V.Signal.ends c.args.line.now c.args.script.now c.args.spans.now
-    c.args.steps.now lane in
+returns-in-Seal-clause-stands g c = λ lane w u inside agree before.
     seal_stands g.V.Timed.stands_for g.V.Signal.ends g.V.Signal.rails lane w (λ _ _. both false) u
     c.args.t c.args.gate.now c.args.cell.now c.seal_answer.new.cell c.in-Seal.x c.in-Seal.y
     c.in-Seal.is
@@ -83,9 +59,7 @@ returns-in-Seal-clause-stands g c = λ lane u inside agree before.
     (λ x y h. c.seal_answer.ensures.stands lane x y inside h)
 
 pub returns-in-Seal-clause-answers : goal.returns-in-Seal-clause-answers
-returns-in-Seal-clause-answers g c = λ lane keys u inside sent agree before.
-    let w = lane_world g.V.Signal.ends c.args.line.now c.args.script.now c.args.spans.now
-    c.args.steps.now lane in
+returns-in-Seal-clause-answers g c = λ lane w keys u inside world sent agree before.
     seal_pair g.V.Timed.stands_for g.V.Signal.ends g.V.Signal.rails lane w keys u
     c.args.t c.args.gate.now c.args.cell.now c.seal_answer.new.cell c.in-Seal.x c.in-Seal.y
     c.in-Seal.is

@@ -1,28 +1,30 @@
 use Rattle.std.proofs.Common.{◌≡◌, ℕ, List, ◌++◌, length, sym, ◌∙◌, ap, arith, subst}
 use Rattle.std.specs.Prelude.{IsTrue}
 use Rattle.line_model.specs.Choice.{Choice}
-use Rattle.line_model.specs.Histories.{IsSameHistory}
+use Rattle.line_model.specs.Histories.{History, IsSameHistory}
 use Rattle.timing_box.specs.declared.step.Step.{Step}
 use Rattle.timing_box.specs.Timing.{TimingValues, ascend}
 use Rattle.timing_box.specs.Choice.{timing_choice}
 use Rattle.simulator.specs.LaneBox.{lane_box}
 use Rattle.simulator.specs.PlayRows.{run_rows}
-use Rattle.simulator.specs.Played.{played, ends_of_tick}
+use Rattle.simulator.specs.Played.{ends_of_tick}
+use Rattle.simulator.specs.Ticks.{AreSent}
+use Rattle.simulator.specs.PlayedTracks.{played}
 use Rattle.simulator.specs.RowLaws.{run_rows-same}
 use Rattle.simulator.specs.Runs.{AreDelayed, IsPoint}
 use Rattle.simulator.proofs.play.play_rows.Goals as goal
 
-pub run-requires-clause-spans : goal.run-requires-clause-spans
-run-requires-clause-spans c = ap length c.values-values.ensures ∙ c.requires.inside.count
+pub run_tracks-requires-clause-spans : goal.run_tracks-requires-clause-spans
+run_tracks-requires-clause-spans c = ap length c.values-values.ensures ∙ c.requires.inside.count
 
-pub run-requires-clause-ascending : goal.run-requires-clause-ascending
-run-requires-clause-ascending c =
+pub run_tracks-requires-clause-ascending : goal.run_tracks-requires-clause-ascending
+run_tracks-requires-clause-ascending c =
     subst (λ (x : List (Step ℕ)). IsTrue (ascend x)) (sym c.steps-steps.ensures.same)
     c.steps-steps.ensures.ascending
 
 -- the lists that are handed on are the timing's
-pub run-requires-clause-delayed : goal.run-requires-clause-delayed
-run-requires-clause-delayed c =
+pub run_tracks-requires-clause-delayed : goal.run_tracks-requires-clause-delayed
+run_tracks-requires-clause-delayed c =
     let line = c.args.line.now in
     let timing : TimingValues = c.args.timing.now.timing in
     subst (λ (x : List ℕ). AreDelayed 1 ends_of_tick line x c.steps-steps.result.now)
@@ -30,6 +32,18 @@ run-requires-clause-delayed c =
     (subst (λ (x : List (Step ℕ)). AreDelayed 1 ends_of_tick line timing.values x)
     (sym c.steps-steps.ensures.same)
     (c.a_timing_is_one_choice.ensures.delayed line timing 1 c.requires.inside))
+
+pub push_run-requires-clause-keys : goal.push_run-requires-clause-keys
+push_run-requires-clause-keys c =
+    subst
+    (λ (n : ℕ). AreSent n c.args.line.now.horizon c.args.line.now.horizon c.in_ok-tracks.tracks.keys.items)
+    c.requires.of_line.terminals c.in_ok-tracks.ensures.keys
+
+pub push_run-requires-clause-trips : goal.push_run-requires-clause-trips
+push_run-requires-clause-trips c =
+    subst
+    (λ (n : ℕ). AreSent n c.args.line.now.horizon c.args.line.now.horizon c.in_ok-tracks.tracks.trips.items)
+    (c.requires.of_line.laws.same ∙ c.requires.of_line.terminals) c.in_ok-tracks.ensures.trips
 
 pub returns : goal.returns
 returns c = λ h is_h.
@@ -39,20 +53,20 @@ returns c = λ h is_h.
     let choice : Choice = timing_choice line timing in
     let values : List ℕ = c.values-values.result.now in
     let steps : List (Step ℕ) = c.steps-steps.result.now in
-    let waves = c.in_ok-waves.waves in
+    let own : History = played c.in_ok-tracks.tracks.keys.items c.in_ok-tracks.tracks.trips.items in
     let point : IsPoint line (lane_box ends_of_tick line values steps 0) choice =
     subst (λ (x : List ℕ). IsPoint line (lane_box ends_of_tick line x steps 0) choice)
     (sym c.values-values.ensures)
     (subst (λ (x : List (Step ℕ)). IsPoint line (lane_box ends_of_tick line timing.values x 0) choice)
     (sym c.steps-steps.ensures.same)
     (c.a_timing_is_one_choice.ensures.point line timing 0 c.requires.inside)) in
-    let exact = c.in_ok-waves.ensures.exact 0 choice (omega arith) point in
+    let exact = c.in_ok-tracks.ensures.exact 0 choice (omega arith) point in
     let (only, is_only, same) =
     c.a_timing_is_one_choice.ensures.history line script timing c.requires.inside in
-    let to_played : IsSameHistory line only (played waves) = same (played waves) exact.is in
+    let to_own : IsSameHistory line only own = same own exact.is in
     let to_h : IsSameHistory line only h = same h is_h in
     c.in_ok-push_run.ensures
-    ∙ ap (λ (l : List ℕ). l ++ run_rows c.args.timing.now.name script.name line (played waves))
+    ∙ ap (λ (l : List ℕ). l ++ run_rows c.args.timing.now.name script.name line own)
     c.new-text.ensures.items
-    ∙ sym (run_rows-same c.args.timing.now.name script.name line only (played waves) to_played)
+    ∙ sym (run_rows-same c.args.timing.now.name script.name line only own to_own)
     ∙ run_rows-same c.args.timing.now.name script.name line only h to_h

@@ -3,14 +3,13 @@ use Rattle.std.specs.Prelude.{slice_get, option_map, codes}
 use Rattle.std.proofs.lemmas.Option.{slice_get_read, slice_get-map, get_or_from_slice_get}
 use Rattle.line_model.specs.declared.line.Terminal.{Terminal}
 use Rattle.simulator.specs.PlayRows.{signal_row, terminal_name}
-use Rattle.simulator.specs.Played.{is_on}
 use Rattle.simulator.specs.RowLaws.{two_texts_more}
+use Rattle.simulator.specs.PlayedTracks.{is_on}
 use Rattle.simulator.proofs.play.push_terminal.Goals as goal
 
 pub returns : goal.returns
 returns c =
     let line = c.args.line.now in
-    let waves = c.args.waves.now in
     let t = c.args.t in
     let timing = c.args.names.now.timing in
     let script = c.args.names.now.script in
@@ -22,16 +21,12 @@ returns c =
     get_or_from_slice_get _ c.args.k terminal.name []
     (slice_get-map (λ (x : Terminal). x.name) line.terminals.items c.args.k
     ∙ ap (option_map (λ (x : Terminal). x.name)) at) in
-    let key = c.key_gate-key.result.0 in
-    let trip = c.trip_gate-trip.result.0 in
     two_texts_more c.args.text.now.items c.push_signal.new.text.items
     c.push_signal-2.new.text.items
-    (signal_row timing script t terminal.name (codes "key") (is_on waves key))
-    (signal_row timing script t terminal.name (codes "trip") (is_on waves trip)) _ _
+    (signal_row timing script t terminal.name (codes "key") (is_on c.args.key.now))
+    (signal_row timing script t terminal.name (codes "trip") (is_on c.args.trip.now)) _ _
     c.in_ok-push_signal.ensures c.in_ok-push_signal-2.ensures
-    (ap (λ (n : List ℕ). signal_row timing script t n (codes "key") (is_on waves key)) (sym name)
-    ∙ ap (λ (g : ℕ). signal_row timing script t (terminal_name line c.args.k) (codes "key")
-    (is_on waves g)) c.key_gate-key.ensures.is)
-    (ap (λ (n : List ℕ). signal_row timing script t n (codes "trip") (is_on waves trip)) (sym name)
-    ∙ ap (λ (g : ℕ). signal_row timing script t (terminal_name line c.args.k) (codes "trip")
-    (is_on waves g)) c.trip_gate-trip.ensures.is)
+    (ap (λ (n : List ℕ). signal_row timing script t n (codes "key") (is_on c.args.key.now))
+    (sym name))
+    (ap (λ (n : List ℕ). signal_row timing script t n (codes "trip") (is_on c.args.trip.now))
+    (sym name))

@@ -22,12 +22,14 @@ use Rattle.line_model.specs.PairMean.{PairWorld, PairSignals}
 use Rattle.line_model.specs.Choice.{Box, pair_world_of}
 use Rattle.line_model.specs.Logic.{key_tree}
 use Rattle.line_model.specs.Solution.{the_keys}
-use Rattle.gate_net.specs.NetOf.{key_of}
+use Rattle.gate_net.specs.NetOf.{key_of, AreGatesOf}
 use Rattle.simulator.specs.LaneBox.{lane_box, lane_world}
 use Rattle.simulator.specs.GatePairs.{GateSignals, line_pairs}
-use Rattle.simulator.specs.Ticks.{AreTold, AreSent, KeysSent, ValuesAgree, ValuesTold, LaneStands}
+use Rattle.simulator.specs.Ticks.{IsReady, AreTold, AreSent, KeysSent, ValuesAgree, ValuesTold, LaneStands}
+use Rattle.simulator.specs.Inputs.{AreGiven, CanReceive, IsWorldAt}
+use Rattle.simulator.proofs.GivenLaws.{given_none, given_later, can_receive, world_at}
 use Rattle.simulator.proofs.GatePairLaws.{gate_pairs-kind}
-use Rattle.simulator.proofs.SendLaws.{none_sent, fresh_sent}
+use Rattle.simulator.proofs.SendLaws.{none_sent, fresh_sent, one_tick_sent}
 use Rattle.simulator.proofs.ValueLaws.{tick_fits, values_none, values_more}
 use Rattle.simulator.proofs.RunLaws.{key_pair}
 use Rattle.simulator.proofs.ticks.run_ticks.Goals as goal
@@ -38,8 +40,9 @@ loop-t-init g c =
     let line = c.args.line.now in
     let net = c.args.net.now in
     let n = length net.gates in
-    let count = length c.deref-ends.result.now in
-    let all : count ≡ terminal_count line = ap length c.deref-ends.ensures.value in
+    let count = length c.key_gates.result.now in
+    let all : count ≡ terminal_count line =
+    ap length c.key_gates.ensures ∙ c.requires.of_line.terminals in
     let width : c.len-width.result ≡ n = c.len-width.ensures.len in
     let column : vec_capacity c.in_ok-column.column ≡ c.len-width.result =
     c.in_ok-column.ensures.exact in
@@ -51,6 +54,13 @@ loop-t-init g c =
       count = omega (arith, ap length c.in_ok-values.ensures.items);
       column_room = omega (arith, column, width);
       values_room = omega (arith, whole);
+      shown_room = c.in_ok-inputs.ensures.room;
+      delays = c.in_ok-inputs.ensures.delays;
+      given = subst (λ (m : ℕ). AreGiven g.V.Signal.ends line c.args.script.now c.args.spans.now
+          c.args.steps.now c.in_ok-inputs.inputs.present.items
+          c.in_ok-inputs.inputs.delays.items 0 m) (sym c.in_ok-inputs.ensures.over)
+          (given_none g.V.Signal.ends line c.args.script.now c.args.spans.now c.args.steps.now
+          c.in_ok-inputs.inputs.present.items c.in_ok-inputs.inputs.delays.items);
       cells = c.in_ok-cells.ensures.shape;
       sent = subst (λ (m : ℕ). AreSent m line.horizon 0 c.in_ok-sent.sent.items) all
           (fresh_sent count line.horizon c.in_ok-sent.sent.items c.in_ok-sent.ensures);
@@ -69,11 +79,35 @@ loop-t-init g c =
           };
     }
 
+pub walk-requires-clause-delays : goal.walk-requires-clause-delays
+walk-requires-clause-delays g c =
+    let line = c.args.line.now in
+    let inputs = c.turn.new.inputs in
+    subst (CanReceive g.V.Signal.LANES g.V.Signal.ends line) (sym c.deref-in-loop-t.ensures.value)
+    (can_receive g.V.Signal.ends line c.args.script.now c.args.spans.now c.args.steps.now
+    g.V.Signal.LANES inputs.present.items inputs.delays.items c.loop-t.t inputs.until
+    c.turn.ensures.delays c.turn.ensures.given c.turn.ensures.later c.loop-t-test.true
+    c.requires.delayed)
+
+pub send_all-requires-clause-gates : goal.send_all-requires-clause-gates
+send_all-requires-clause-gates g c =
+    let net = c.args.net.now in
+    let wide : length c.as_slice-in-loop-t.result.now ≡ length net.gates =
+    ap length c.as_slice-in-loop-t.ensures.value ∙ c.walk.ensures.count in
+    subst (λ ids. AreGatesOf ids (length c.as_slice-in-loop-t.result.now))
+    (sym c.key_gates-in-loop-t.ensures)
+    (subst (λ (n : ℕ). AreGatesOf net.keys n) (sym wide) c.requires.of_line.laws.keys)
+
 pub loop-t-preserved : goal.loop-t-preserved
 loop-t-preserved g c =
     let t = c.loop-t.t in
     let net = c.args.net.now in
     let line = c.args.line.now in
+    let script = c.args.script.now in
+    let spans = c.args.spans.now in
+    let steps = c.args.steps.now in
+    let inputs = c.turn.new.inputs in
+    let ends = g.V.Signal.ends in
     let rails = g.V.Signal.rails in
     let n = length net.gates in
     let next : suc t ≡ t + 1 = omega arith in
@@ -91,37 +125,55 @@ loop-t-preserved g c =
       count = ap length pushed ∙ length-append values column ∙ longer;
       column_room = c.walk.ensures.room;
       values_room = omega (arith, room, more);
+      shown_room = c.turn.ensures.room;
+      delays = c.turn.ensures.delays;
+      given = given_later ends line script spans steps inputs.present.items inputs.delays.items t
+          (t + 1) inputs.until (omega arith) c.turn.ensures.given;
       cells = c.walk.ensures.cells;
       sent =
-          subst (λ (m : ℕ). AreSent (terminal_count line) line.horizon m c.send_all.new.sent.items)
-          next
-          (subst (λ (m : ℕ). AreSent m line.horizon (suc t) c.send_all.new.sent.items)
-          c.requires.of_line.terminals c.send_all.ensures.count);
+          subst (λ (m : ℕ). AreSent m line.horizon (t + 1) c.send_all.new.tracks.items)
+          (ap length c.key_gates-in-loop-t.ensures ∙ c.requires.of_line.terminals)
+          c.send_all.ensures.count;
       lanes = λ lane inside.
-          let w : PairWorld = lane_world g.V.Signal.ends line c.args.script.now c.args.spans.now
-          c.args.steps.now lane in
-          let box : Box = lane_box g.V.Signal.ends line c.args.spans.now c.args.steps.now lane in
+          let w : PairWorld = lane_world ends line script spans steps lane in
+          let box : Box = lane_box ends line spans steps lane in
           let keys : PairSignals = the_keys w (key_tree line) in
-          let u : GateSignals = line_pairs line c.args.script.now box net in
+          let u : GateSignals = line_pairs line script box net in
           let before = c.loop-t.invariant.lanes lane inside in
           let told : AreTold w keys u t net.gates =
-          λ i gate at. gate_pairs-kind c.gates_stand_for_their_trees.ensures.kinds w keys net.gates i gate t c.requires.of_line.laws.gates at in
+          λ i gate at. gate_pairs-kind c.gates_stand_for_their_trees.ensures.kinds w keys net.gates
+          i gate t c.requires.of_line.laws.gates at in
           let sent : KeysSent rails lane keys t c.as_slice.result.now =
           subst (KeysSent rails lane keys t) (sym c.as_slice.ensures.value) before.keys_sent in
+          let ready : IsReady g.V.Timed.stands_for ends rails lane w keys u t net.gates
+          c.as_slice.result.now c.loop-t.cells.items =
+          record { told = told; sent = sent; stand = before.cells_stand } in
+          let world : IsWorldAt ends lane c.deref.result.now c.deref-in-loop-t.result.now w t =
+          subst (λ l. IsWorldAt ends lane l c.deref-in-loop-t.result.now w t)
+          (sym c.deref.ensures.value)
+          (subst (λ l. IsWorldAt ends lane inputs.present.items l w t)
+          (sym c.deref-in-loop-t.ensures.value)
+          (world_at ends line script spans steps lane inputs.present.items inputs.delays.items t
+          inputs.until c.turn.ensures.delays c.turn.ensures.given c.turn.ensures.later)) in
           let agree : ValuesAgree rails lane u t column =
-          c.walk.ensures.answers lane keys u inside told sent before.cells_stand in
+          c.walk.ensures.answers lane w keys u inside world ready in
           let agree' : ValuesAgree rails lane u t c.as_slice-in-loop-t.result.now =
           subst (ValuesAgree rails lane u t) (sym c.as_slice-in-loop-t.ensures.value) agree in
           let are_keys : (k : ℕ) → k < length net.keys → u (key_of net k) t ≡ keys k t =
-          λ k kn. key_pair c.line_laws.ensures c.gates_stand_for_their_trees.ensures line c.args.script.now box (c.requires.delayed lane inside) net
-          c.requires.of_line k t (subst (λ (m : ℕ). k < m) c.requires.of_line.terminals kn)
-          c.loop-t-test.true in
-          subst (λ (m : ℕ). LaneStands g.V.Timed.stands_for g.V.Signal.ends rails lane w keys u m
-          net.gates c.send_all.new.sent.items c.walk.new.cells.items
+          λ k kn. key_pair c.line_laws.ensures c.gates_stand_for_their_trees.ensures line script
+          box (c.requires.delayed lane inside) net c.requires.of_line k t
+          (subst (λ (m : ℕ). k < m) c.requires.of_line.terminals kn) c.loop-t-test.true in
+          subst (λ (m : ℕ). LaneStands g.V.Timed.stands_for ends rails lane w keys u m
+          net.gates c.send_all.new.tracks.items c.walk.new.cells.items
           c.extend_within.new.list.items) next
           (record {
-            keys_sent = c.send_all.ensures.keys lane keys u inside agree' are_keys before.keys_sent;
-            cells_stand = c.walk.ensures.stands lane keys u inside told sent before.cells_stand;
+            keys_sent =
+                subst (λ (m : ℕ). KeysSent rails lane keys m c.send_all.new.tracks.items) (sym next)
+                (c.send_all.ensures.keys lane keys inside
+                (one_tick_sent rails lane keys u t (t + 1) net.keys c.key_gates-in-loop-t.result.now
+                c.as_slice-in-loop-t.result.now refl c.key_gates-in-loop-t.ensures agree' are_keys)
+                before.keys_sent);
+            cells_stand = c.walk.ensures.stands lane w keys u inside world ready;
             told = subst (ValuesTold rails lane u n) (sym pushed)
                 (values_more rails lane u t n values column long wide agree before.told);
           });

@@ -3,6 +3,7 @@ use Rattle.std.specs.Prelude.{vec_capacity}
 use Rattle.line_model.specs.Parameters.{terminal_count}
 use Rattle.line_model.specs.Logic.{key_tree}
 use Rattle.line_model.specs.Solution.{the_keys}
+use Rattle.simulator.specs.Inputs.{AreDelays, AreGiven}
 use Rattle.simulator.specs.LaneBox.{lane_box, lane_world}
 use Rattle.simulator.specs.GatePairs.{line_pairs}
 use Rattle.simulator.specs.Ticks.{HaveCells, AreSent, LaneStands}
@@ -17,6 +18,10 @@ invariant-loop-t g l =
       count : length l.values.items ≡ l.t * length gates;
       column_room : length gates ≤ vec_capacity l.column;
       values_room : l.line.horizon * length gates ≤ vec_capacity l.values;
+      shown_room : length l.script.spans.items ≤ vec_capacity l.inputs.present;
+      delays : AreDelays l.line l.inputs.delays.items;
+      given : AreGiven g.V.Signal.ends l.line l.script l.spans l.steps l.inputs.present.items
+          l.inputs.delays.items l.t l.inputs.until;
       cells : HaveCells gates l.cells.items;
       sent : AreSent (terminal_count l.line) l.line.horizon l.t l.sent.items;
       lanes : (lane : ℕ) → lane < g.V.Signal.LANES →

@@ -21,7 +21,7 @@ use Rattle.std.specs.Str.{bytes_eq}
 use Rattle.timing_box.specs.declared.timing.NamedTiming.{NamedTiming}
 use Rattle.timing_box.specs.SoFar.{values_of, open_of, closed, opened}
 use Rattle.timing_box.specs.Checks.{Opening}
-use Rattle.timing_box.proofs.Passing.{same_ok}
+use Rattle.csv_records.specs.CheckLaws.{same_ok}
 use Rattle.timing_box.proofs.Earlier.{out_of_order, too_many, opens, opening_same}
 use Rattle.timing_box.proofs.reading.opened_by.Goals as goal
 

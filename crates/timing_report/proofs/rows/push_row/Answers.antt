@@ -4,7 +4,7 @@ use Rattle.history.specs.Rails.{Rails}
 use Rattle.line_model.specs.Rule.{rule_by}
 use Rattle.interval_wave.specs.PairWavesOf.{pair_at}
 use Rattle.interval_wave.specs.Rules.{rule_named}
-use Rattle.timing_report.specs.FirstTick.{first_on}
+use Rattle.wave_runs.specs.FirstTick.{first_on}
 use Rattle.timing_report.specs.ReportText.{rule_word}
 use Rattle.timing_report.proofs.SameRows.{row_with-same}
 use Rattle.timing_report.proofs.Texts.{grown}

@@ -5,10 +5,18 @@ use Rattle.tick_signal.specs.declared.tern.Tern.{Tern}
 use Rattle.tick_signal.specs.Terns.{tern_rails}
 use Rattle.timers.specs.Seals.{last_seal}
 use Rattle.wave_runs.specs.Waves.{wave_at}
-use Rattle.wave_runs.proofs.WaveLaws.{ticks_more, longer, rails_in, new_length}
+use Rattle.wave_runs.proofs.WaveLaws.{ticks_more, longer, rails_along, new_length}
 use Rattle.wave_runs.proofs.ElementLaws.{StaysAt, seal_stands, seal_answer, sealed_in}
 use Rattle.wave_runs.proofs.ElementLaws.{kept_to_the_end}
 use Rattle.wave_runs.proofs.elements.seal.Goals as goal
+
+pub stretch-first-requires : goal.stretch-first-requires
+stretch-first-requires c =
+    omega (arith, ap length c.stretches.invariant.sets, c.len-t.ensures.length)
+
+pub stretch-second-requires : goal.stretch-second-requires
+stretch-second-requires c =
+    omega (arith, ap length c.stretches.invariant.holds, c.len-t.ensures.length, c.requires)
 
 pub stretches-preserved : goal.stretches-preserved
 stretches-preserved c =
@@ -23,13 +31,15 @@ stretches-preserved c =
     let x : Rails = tern_rails c.stretch-first.result.level in
     let y : Rails = tern_rails c.stretch-second.result.level in
     let some : 1 ≤ m = omega (arith, c.min.ensures) in
+    let sets : c.stretches.sets ≡ c.args.set.now = c.stretches.invariant.sets in
+    let holds : c.stretches.holds ≡ c.args.hold.now = c.stretches.invariant.holds in
     let stays : StaysAt u x n m =
-    λ k low high. rails_in c.args.set.now c.stretch-first.result.level c.len-t.result
-    c.stretch-first.result.end k c.stretch-first.ensures.level (omega arith)
+    λ k low high. rails_along c.args.set.now c.stretches.sets c.stretch-first.result.level
+    c.len-t.result c.stretch-first.result.end k sets c.stretch-first.ensures.level (omega arith)
     (omega (arith, c.min.ensures)) in
     let keeps : StaysAt v y n m =
-    λ k low high. rails_in c.args.hold.now c.stretch-second.result.level c.len-t.result
-    c.stretch-second.result.end k c.stretch-second.ensures.level (omega arith)
+    λ k low high. rails_along c.args.hold.now c.stretches.holds c.stretch-second.result.level
+    c.len-t.result c.stretch-second.result.end k holds c.stretch-second.ensures.level (omega arith)
     (omega (arith, c.min.ensures)) in
     let set_now = stays n (omega arith) (omega arith) in
     let hold_now = keeps n (omega arith) (omega arith) in
@@ -42,8 +52,10 @@ stretches-preserved c =
     (c.a_seal_is_its_last_answer.ensures (first_ticks u n) (first_ticks v n) x y (tern_rails c.tick-answer.new.self)
     (c.tick-answer.ensures.stands 0 (first_ticks u n) (first_ticks v n) (omega arith) stands)) in
     record {
+      sets = c.stretch-first.ensures.same ∙ sets;
+      holds = c.stretch-second.ensures.same ∙ holds;
       short = longer wave new answer m (length c.args.set.now) c.in_ok-push.ensures
-          (omega (arith, c.min.ensures));
+          (omega (arith, c.min.ensures, ap length sets));
       values = ticks_more wave new answer m (rails_sealed u v) c.stretches.invariant.values
           c.in_ok-push.ensures
           (λ k low high. now ∙ sym (sealed_in c.history_laws.ensures u v x y n m k stays keeps low high));

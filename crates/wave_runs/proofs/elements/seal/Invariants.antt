@@ -7,6 +7,8 @@ use Rattle.wave_runs.proofs.elements.seal.Given as goal
 
 abbrev pub invariant-stretches : goal.invariant-stretches
 invariant-stretches l = record {
+  sets : l.sets ≡ l.set;
+  holds : l.holds ≡ l.hold;
   short : length l.wave ≤ length l.set;
   values : IsWaveOf l.wave (length l.wave) (λ t. rails_sealed (wave_at l.set) (wave_at l.hold) t);
   last : tern_rails l.cell ≡ last_seal (wave_at l.set) (wave_at l.hold) (length l.wave);

@@ -5,9 +5,13 @@ use Rattle.tick_signal.specs.declared.tern.Tern.{Tern}
 use Rattle.tick_signal.specs.Terns.{tern_rails}
 use Rattle.timers.specs.Cells.{RailsStandFor}
 use Rattle.wave_runs.specs.Waves.{wave_at}
-use Rattle.wave_runs.proofs.WaveLaws.{ticks_more, longer, rails_in, new_length}
+use Rattle.wave_runs.proofs.WaveLaws.{ticks_more, longer, rails_along, new_length}
 use Rattle.wave_runs.proofs.ElementLaws.{StaysAt, ticks_throughout, timed_in}
 use Rattle.wave_runs.proofs.elements.timer.Goals as goal
+
+pub stretch-input-requires : goal.stretch-input-requires
+stretch-input-requires c =
+    omega (arith, ap length c.stretches.invariant.inputs, c.len-t.ensures.length)
 
 pub first_answer-answer-requires-clause-some : goal.first_answer-answer-requires-clause-some
 first_answer-answer-requires-clause-some c =
@@ -49,9 +53,10 @@ stretches-preserved c =
     let m : ℕ = c.min-count.result in
     let here : c.len-t.result ≡ length wave = c.len-t.ensures.length in
     let x : Rails = tern_rails c.stretch-input.result.level in
+    let inputs : c.stretches.inputs ≡ c.args.a.now = c.stretches.invariant.inputs in
     let stays : StaysAt u x n m =
-    λ k low high. rails_in c.args.a.now c.stretch-input.result.level c.len-t.result
-    c.stretch-input.result.end k c.stretch-input.ensures.level (omega arith)
+    λ k low high. rails_along c.args.a.now c.stretches.inputs c.stretch-input.result.level
+    c.len-t.result c.stretch-input.result.end k inputs c.stretch-input.ensures.level (omega arith)
     (omega (arith, c.min-count.ensures)) in
     let steady = c.ahead-steady.ensures p d (λ _. first_ticks u n)
     (λ _ _. c.stretches.invariant.stand) in
@@ -61,8 +66,9 @@ stretches-preserved c =
     λ l. RailsStandFor c.first_answer-answer.new.cells.must c.first_answer-answer.new.cells.may
     p d l in
     record {
+      inputs = c.stretch-input.ensures.same ∙ inputs;
       short = longer wave new answer m (length c.args.a.now) c.in_ok-push.ensures
-          (omega (arith, c.min-count.ensures));
+          (omega (arith, c.min-count.ensures, ap length inputs));
       values = ticks_more wave new answer m (rails_timed u p d) c.stretches.invariant.values
           c.in_ok-push.ensures
           (timed_in c.history_laws.ensures u p d x (tern_rails answer) n m stays

@@ -1,4 +1,4 @@
-use Rattle.std.proofs.Common.{◌-◌, ◌≤◌, length}
+use Rattle.std.proofs.Common.{◌≡◌, ◌-◌, ◌≤◌, length}
 use Rattle.history.specs.Rails.{rails_timed}
 use Rattle.history.specs.Recorded.{first_ticks}
 use Rattle.timers.specs.Cells.{RailsStandFor}
@@ -7,6 +7,7 @@ use Rattle.wave_runs.proofs.elements.timer.Given as goal
 
 abbrev pub invariant-stretches : goal.invariant-stretches
 invariant-stretches l = record {
+  inputs : l.inputs ≡ l.a;
   short : length l.wave ≤ length l.a;
   values : IsWaveOf l.wave (length l.wave)
       (λ t. rails_timed (wave_at l.a) l.fn.pickup l.fn.dropout t);

@@ -1,10 +1,12 @@
-use Rattle.std.proofs.Common.{◌-◌, ◌≤◌, length}
+use Rattle.std.proofs.Common.{◌≡◌, ◌-◌, ◌≤◌, length}
 use Rattle.history.specs.Rails.{rails_and}
 use Rattle.wave_runs.specs.Waves.{wave_at, IsWaveOf}
 use Rattle.wave_runs.proofs.gates.and.Given as goal
 
 abbrev pub invariant-stretches : goal.invariant-stretches
 invariant-stretches l = record {
+  firsts : l.firsts ≡ l.a;
+  seconds : l.seconds ≡ l.b;
   short : length l.wave ≤ length l.a;
   values : IsWaveOf l.wave (length l.wave) (λ t. rails_and (wave_at l.a t) (wave_at l.b t));
 }

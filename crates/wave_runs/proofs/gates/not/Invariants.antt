@@ -1,10 +1,11 @@
-use Rattle.std.proofs.Common.{◌-◌, ◌≤◌, length}
+use Rattle.std.proofs.Common.{◌≡◌, ◌-◌, ◌≤◌, length}
 use Rattle.history.specs.Rails.{rails_not}
 use Rattle.wave_runs.specs.Waves.{wave_at, IsWaveOf}
 use Rattle.wave_runs.proofs.gates.not.Given as goal
 
 abbrev pub invariant-stretches : goal.invariant-stretches
 invariant-stretches l = record {
+  inputs : l.inputs ≡ l.a;
   short : length l.wave ≤ length l.a;
   values : IsWaveOf l.wave (length l.wave) (λ t. rails_not (wave_at l.a t));
 }

@@ -5,6 +5,7 @@ use Rattle.wave_runs.proofs.received.may_come.Given as goal
 -- off at every tick so far
 abbrev pub invariant-stretches : goal.invariant-stretches
 invariant-stretches l = record {
+  keys : l.keys ≡ l.key;
   from : l.t ≤ l.k + l.greatest;
   off : (n : ℕ) → l.t ≤ n + l.greatest → n < l.k → (wave_at l.key n).may ≡ false;
 }

@@ -1,10 +1,12 @@
-use Rattle.std.proofs.Common.{◌-◌, ◌≤◌, length}
+use Rattle.std.proofs.Common.{◌≡◌, ◌-◌, ◌≤◌, length}
 use Rattle.history.specs.Rails.{rails_delayed}
 use Rattle.wave_runs.specs.Waves.{wave_at, IsWaveOf}
 use Rattle.wave_runs.proofs.received.raw.Given as goal
 
 abbrev pub invariant-stretches : goal.invariant-stretches
 invariant-stretches l = record {
+  newest : l.newest ≡ l.key;
+  oldest : l.oldest ≡ l.key;
   short : length l.wave ≤ length l.key;
   values : IsWaveOf l.wave (length l.wave) (λ t. rails_delayed (wave_at l.key) l.delay t);
 }

@@ -1,4 +1,6 @@
-use Rattle.std.proofs.Common.{◌++◌, sym, ◌∙◌, arith}
+use Rattle.std.proofs.Common.{◌++◌, List, sym, ◌∙◌, ap, arith}
+use Rattle.history.specs.Rails.{rails_delayed}
+use Rattle.tick_signal.specs.declared.tern.Tern.{Tern}
 use Rattle.wave_runs.specs.Waves.{wave_at}
 use Rattle.wave_runs.proofs.WaveLaws.{wave_at-front}
 use Rattle.wave_runs.proofs.received.raw_at.Goals as goal
@@ -9,4 +11,5 @@ returns-clause-longer c = λ more.
     c.delays_read_earlier_ticks.ensures.rails (wave_at (key ++ more)) (wave_at key)
     (λ _. c.args.delay) c.args.t
     (λ r early _. wave_at-front key more r (omega (arith, c.requires.later, c.requires.known)))
+    ∙ ap (λ (w : List Tern). rails_delayed (wave_at w) c.args.delay c.args.t) (sym c.cursor.ensures)
     ∙ sym c.received.ensures

@@ -6,6 +6,8 @@ use Rattle.wave_runs.proofs.received.raw_until.Given as goal
 -- the same at every tick so far
 abbrev pub invariant-stretches : goal.invariant-stretches
 invariant-stretches l = record {
+  newest : l.newest ≡ l.key;
+  oldest : l.oldest ≡ l.key;
   later : l.fn.t < l.end;
   limited : l.end ≤ l.last;
   same : (k : ℕ) → l.fn.t ≤ k → k < l.end

@@ -1,23 +1,20 @@
-use Rattle.std.proofs.Common.{◌≤◌, arith, below_more}
+use Rattle.std.proofs.Common.{◌≤◌, ◌∙◌, ap, subst}
 use Rattle.tick_signal.specs.Bits.{bit_on}
-use Rattle.timers.specs.Vectors.{steady_in}
-use Rattle.timers.proofs.VectorLaws.{met_more}
+use Rattle.timers.specs.Vectors.{CellVectors, steady_in}
 use Rattle.timers.proofs.lanes.LaneCells.ahead.Goals as goal
 
-pub loop-lane-preserved : goal.loop-lane-preserved
-loop-lane-preserved c =
-    record {
-      under = below_more (λ k. c.min-steady.result ≤ steady_in c.args.self.now k
-          (bit_on c.args.input k)) c.loop-lane.lane
-          (λ k lt. let low : c.loop-lane.steady ≤ steady_in c.args.self.now k
-          (bit_on c.args.input k) = c.loop-lane.invariant.under k lt in
-          omega (arith, c.min-steady.ensures))
-          (omega (arith, c.min-steady.ensures, c.lane_ahead.ensures.steady));
-      met = met_more (λ k. steady_in c.args.self.now k
-          (bit_on c.args.input k)) c.loop-lane.lane c.loop-lane.steady
-          c.lane_ahead.result c.min-steady.result c.min-steady.ensures c.lane_ahead.ensures.steady
-          c.loop-lane.invariant.met;
-      limited = (let before : c.loop-lane.steady ≤ 4000 = c.loop-lane.invariant.limited in
-          omega (arith, c.min-steady.ensures));
-      bounded = λ _. c.lane_ahead.ensures.bounded;
-    }
+pub returns-clause-under : goal.returns-clause-under
+returns-clause-under c = λ lane inside.
+    subst (λ (v : CellVectors). c.least_of.result ≤ steady_in v lane (bit_on c.args.input lane))
+    c.self.view_is
+    (subst (λ n. c.least_of.result ≤ n) (c.steady_for.ensures lane inside)
+    (c.least_of.ensures.under lane inside))
+
+pub returns-clause-met : goal.returns-clause-met
+returns-clause-met c = λ less.
+    let (lane, inside, is) = c.least_of.ensures.met less in (
+      lane,
+      inside,
+      is ∙ c.steady_for.ensures lane inside
+          ∙ ap (λ (v : CellVectors). steady_in v lane (bit_on c.args.input lane)) c.self.view_is,
+    )

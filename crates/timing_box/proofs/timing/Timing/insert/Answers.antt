@@ -2,6 +2,7 @@ use Rattle.std.proofs.Common.{◌≡◌, ◌∙◌, List, ℕ, false, IsTrue, sy
 use Rattle.std.specs.List.{list_any, position_or_len, insert}
 use Rattle.timing_box.specs.declared.step.Step.{Step}
 use Rattle.timing_box.specs.Timing.{TimingValues, comes_before, ascend, with_step}
+use Rattle.timing_box.proofs.StepParts.{place_is}
 use Rattle.timing_box.proofs.StepOrder.{same_place, insert-with_step, ascend-with_step}
 use Rattle.timing_box.proofs.timing.Timing.insert.Goals as goal
 
@@ -9,11 +10,12 @@ pub invariant_of-self-2 : goal.invariant_of-self-2
 invariant_of-self-2 c =
     let xs : List (Step ℕ) = c.self.inside.steps.items in
     let step : Step ℕ = c.args.step in
-    let at : c.place_of-at.result ≡ position_or_len (comes_before step) xs =
-    c.place_of-at.ensures.place
+    let at : c.place_after-at.result ≡ position_or_len (comes_before step) xs =
+    sym (place_is c.as_slice.result.now step c.place_after-at.result
+    c.place_after-at.ensures.within c.place_after-at.ensures.parted)
     ∙ ap (λ (ys : List (Step ℕ)). position_or_len (comes_before step) ys)
     c.as_slice.ensures.value in
-    let items : c.insert.new.self.items ≡ insert xs c.place_of-at.result step =
+    let items : c.insert.new.self.items ≡ insert xs c.place_after-at.result step =
     c.in_ok-insert.ensures.items in
     let all : c.insert.new.self.items ≡ with_step step xs =
     items ∙ ap (λ n. insert xs n step) at ∙ insert-with_step step xs in
@@ -26,11 +28,12 @@ pub returns-clause-added : goal.returns-clause-added
 returns-clause-added c =
     let xs : List (Step ℕ) = c.self.inside.steps.items in
     let step : Step ℕ = c.args.step in
-    let at : c.place_of-at.result ≡ position_or_len (comes_before step) xs =
-    c.place_of-at.ensures.place
+    let at : c.place_after-at.result ≡ position_or_len (comes_before step) xs =
+    sym (place_is c.as_slice.result.now step c.place_after-at.result
+    c.place_after-at.ensures.within c.place_after-at.ensures.parted)
     ∙ ap (λ (ys : List (Step ℕ)). position_or_len (comes_before step) ys)
     c.as_slice.ensures.value in
-    let items : c.insert.new.self.items ≡ insert xs c.place_of-at.result step =
+    let items : c.insert.new.self.items ≡ insert xs c.place_after-at.result step =
     c.in_ok-insert.ensures.items in
     let all : c.insert.new.self.items ≡ with_step step xs =
     items ∙ ap (λ n. insert xs n step) at ∙ insert-with_step step xs in

@@ -1,0 +1,156 @@
+-- Halves of a part of a box, and what can be split in it.
+use Rattle.std.proofs.Common.{◌≡◌, ◌<◌, ◌≤◌, ◌+◌, ℕ, refl, sym, ◌∙◌, subst, arith}
+use Rattle.std.specs.Prelude.{◌↔◌}
+use Rattle.line_model.specs.declared.line.Line.{Line}
+use Rattle.line_model.specs.declared.script.Script.{Script}
+use Rattle.line_model.specs.Parameters.{param_count, declared_ends}
+use Rattle.line_model.specs.SetBounds.{IsDelayAt, SameButParams}
+use Rattle.line_model.specs.Choice.{Box, declared_box}
+use Rattle.line_model.specs.Boxes.{box_with, IsSameBox}
+use Rattle.line_model.specs.HeldOver.{IsHeldOver}
+use Rattle.line_model.specs.WithBounds.{IsWithBounds}
+use Rattle.box_split.specs.Known.{Known}
+use Rattle.box_split.specs.Leaves.{CanSplit, lower_half, upper_half}
+use Rattle.box_split.specs.Parts.{IsPart}
+use Rattle.box_split.proofs.EndsWith.{exchanged}
+use Rattle.box_split.proofs.SoundLaws.{same_lower, same_upper, can_split_same, can_split_kept}
+
+-- ---- the declared box, number by number
+
+pub can_split_when : (line : Line) (param mid : ℕ) → CanSplit line (declared_box line) param mid
+    → ((declared_ends line param).least ≤ mid) × (mid < (declared_ends line param).greatest)
+unfolding declared_box
+can_split_when line param mid can = (can.above, can.below)
+
+pub splits_when : (line : Line) (param mid : ℕ) → param < param_count line
+    → ¬ (IsDelayAt line param) → (declared_ends line param).least ≤ mid
+    → mid < (declared_ends line param).greatest → CanSplit line (declared_box line) param mid
+unfolding declared_box
+splits_when line param mid here number above below = record {
+  exists = here;
+  number = number;
+  above = above;
+  below = below;
+}
+
+module _ (known : Known) where
+  pub mid_small : (line : Line) (param mid : ℕ) → CanSplit line (declared_box line) param mid
+      → mid < 4000
+  mid_small line param mid can =
+      omega (arith, (can_split_when line param mid can).1, known.limited line param can.exists)
+
+  -- ---- boxes that are the same, of lines that are the same but for their intervals
+
+  same_on : (line part : Line) (a b : Box) → SameButParams line part → IsSameBox part a b
+      → IsSameBox line a b
+  same_on line part a b rest same = record {
+    numbers = λ i lt. same.numbers i (subst (λ (n : ℕ). i < n)
+        (sym (known.counts.params line part rest)) lt);
+    delays = λ c t lt early. same.delays c t
+        (subst (λ (n : ℕ). c < n) (sym (known.counts.channels line part rest)) lt)
+        (subst (λ (n : ℕ). t < n) (sym rest.horizon) early);
+  }
+
+  same_then : (line : Line) (a b c : Box) → IsSameBox line a b → IsSameBox line b c
+      → IsSameBox line a c
+  same_then line a b c x y = record {
+    numbers = λ i lt. x.numbers i lt ∙ y.numbers i lt;
+    delays = λ d t lt early. x.delays d t lt early ∙ y.delays d t lt early;
+  }
+
+  turned : (line : Line) (a b : Box) → IsSameBox line a b → IsSameBox line b a
+  turned line a b same = record {
+    numbers = λ i lt. sym (same.numbers i lt);
+    delays = λ c t lt early. sym (same.delays c t lt early);
+  }
+
+  rest_then : (line part other : Line) → SameButParams line part → SameButParams part other
+      → SameButParams line other
+  rest_then line part other a b = record {
+    tick_us = b.tick_us ∙ a.tick_us;
+    horizon = b.horizon ∙ a.horizon;
+    scheme = b.scheme ∙ a.scheme;
+    zone1_trip = b.zone1_trip ∙ a.zone1_trip;
+    terminals = b.terminals ∙ a.terminals;
+    channels = b.channels ∙ a.channels;
+  }
+
+  -- ---- halves
+
+  -- the declared box of a part with another interval for a number
+  changed : (part half : Line) (param mid least greatest : ℕ)
+      → CanSplit part (declared_box part) param mid
+      → IsWithBounds part param least greatest half
+      → IsSameBox part (declared_box half)
+      (box_with (declared_box part) param (record { least = least; greatest = greatest }))
+  changed part half param mid least greatest can is =
+      known.number_changed part half param least greatest can.exists can.number is
+
+  pub lower_of : (line part half : Line) (box : Box) (param mid least : ℕ)
+      → CanSplit part (declared_box part) param mid
+      → least ≡ (declared_ends part param).least
+      → IsWithBounds part param least mid half → IsPart line box part
+      → IsPart line (lower_half box param mid) half
+  unfolding declared_box
+  lower_of line part half box param mid least can low is p =
+      let here : param < param_count line =
+      subst (λ (n : ℕ). param < n) (known.counts.params line part p.rest) can.exists in
+      let P : ℕ → Type 0 = λ n. IsSameBox part (declared_box half)
+      (box_with (declared_box part) param (record { least = n; greatest = mid })) in
+      let is_half : IsSameBox part (declared_box half) (lower_half (declared_box part) param mid) =
+      subst P low (changed part half param mid least mid can is) in
+      record {
+        rest = rest_then line part half p.rest is.rest;
+        intervals = same_then line (declared_box half) (lower_half (declared_box part) param mid)
+            (lower_half box param mid) (same_on line part _ _ p.rest is_half)
+            (same_lower line (declared_box part) box param mid here p.intervals);
+      }
+
+  pub upper_of : (line part half : Line) (box : Box) (param mid greatest : ℕ)
+      → CanSplit part (declared_box part) param mid
+      → greatest ≡ (declared_ends part param).greatest
+      → IsWithBounds part param (mid + 1) greatest half → IsPart line box part
+      → IsPart line (upper_half box param mid) half
+  unfolding declared_box
+  upper_of line part half box param mid greatest can high is p =
+      let here : param < param_count line =
+      subst (λ (n : ℕ). param < n) (known.counts.params line part p.rest) can.exists in
+      let P : ℕ → Type 0 = λ n. IsSameBox part (declared_box half)
+      (box_with (declared_box part) param (record { least = mid + 1; greatest = n })) in
+      let is_half : IsSameBox part (declared_box half) (upper_half (declared_box part) param mid) =
+      subst P high (changed part half param mid (mid + 1) greatest can is) in
+      record {
+        rest = rest_then line part half p.rest is.rest;
+        intervals = same_then line (declared_box half) (upper_half (declared_box part) param mid)
+            (upper_half box param mid) (same_on line part _ _ p.rest is_half)
+            (same_upper line (declared_box part) box param mid here p.intervals);
+      }
+
+  -- ---- a part and its box
+
+  pub own_part : (line part : Line) → SameButParams line part → IsPart line (declared_box part) part
+  own_part line part rest = record {
+    rest = rest;
+    intervals = record { numbers = λ i lt. refl; delays = λ c t lt early. refl };
+  }
+
+  pub split_part : (line part : Line) (box : Box) (param mid : ℕ) → IsPart line box part
+      → CanSplit part (declared_box part) param mid ↔ CanSplit line box param mid
+  split_part line part box param mid p = (
+    λ can. can_split_same line (declared_box part) box param mid p.intervals
+        (can_split_kept known part line (exchanged line part p.rest) (declared_box part) param mid can),
+    λ can. can_split_kept known line part p.rest (declared_box part) param mid
+        (can_split_same line box (declared_box part) param mid
+        (turned line (declared_box part) box p.intervals) can),
+  )
+
+  pub held_part : (line part : Line) (box : Box) (script : Script) (k : ℕ) → IsPart line box part
+      → IsHeldOver part script k (declared_box part) ↔ IsHeldOver line script k box
+  held_part line part box script k p = (
+    λ held. known.held_same_box line script k (declared_box part) box
+        (turned line (declared_box part) box p.intervals)
+        (known.held_same_line part line script k (declared_box part)
+        (exchanged line part p.rest) held),
+    λ held. known.held_same_line line part script k (declared_box part) p.rest
+        (known.held_same_box line script k box (declared_box part) p.intervals held),
+  )

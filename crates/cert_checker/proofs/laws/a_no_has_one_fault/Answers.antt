@@ -1,0 +1,22 @@
+use Rattle.cert_checker.specs.Refutations.{steady_timing, choice_of}
+use Rattle.cert_checker.proofs.OneFault.{no_once}
+use Rattle.cert_checker.proofs.Refusal.{no_refused}
+use Rattle.cert_checker.proofs.laws.a_no_has_one_fault.Goals as goal
+
+pub returns-clause-one : goal.returns-clause-one
+returns-clause-one c = λ line script k values fault other some any.
+    no_once line script
+    (λ numbers inside. c.each_choice_has_one_history.ensures.exists line script
+    (choice_of line numbers) (c.each_line_has_a_choice_inside.ensures.choices line
+    (choice_of line numbers)
+    (c.timings_inside_are_choices_inside.ensures line (steady_timing numbers) inside)))
+    k values fault other some any
+
+pub returns-clause-refused : goal.returns-clause-refused
+returns-clause-refused c = λ line script k values fault some.
+    no_refused line script
+    (λ numbers inside. c.each_choice_has_one_history.ensures.exists line script
+    (choice_of line numbers) (c.each_line_has_a_choice_inside.ensures.choices line
+    (choice_of line numbers)
+    (c.timings_inside_are_choices_inside.ensures line (steady_timing numbers) inside)))
+    k values fault some

@@ -1,0 +1,18 @@
+use Rattle.std.proofs.Common.{length, subst, rules}
+use Rattle.history.specs.Rails.{rails_at}
+use Rattle.tick_signal.specs.Lanes.{in_lane}
+use Rattle.channel.specs.SentKeys.{SentKeys}
+use Rattle.channel.specs.Tracks.{StaysUntil, IsNextAfter}
+use Rattle.channel.proofs.TrackLaws.{stays}
+use Rattle.channel.proofs.track.Track.stays_until.Goals as goal
+
+pub returns-clause-stays : goal.returns-clause-stays
+returns-clause-stays g c = λ lane inside.
+    let values = c.self.inside.values.items in
+    let end = c.next_after.result in
+    let next : IsNextAfter c.self.inside.changes.items c.args.t (length values) end =
+    search rules in
+    subst (λ (s : SentKeys _). StaysUntil (rails_at (in_lane g.V.Signal.rails lane s.keys))
+    c.args.t (length s.keys) end) c.self.view_is
+    (stays g.V.Signal.LANES g.V.Signal.rails values c.self.inside.changes.items c.args.t end
+    c.self.invariant.told next lane inside)

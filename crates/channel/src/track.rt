@@ -1,0 +1,155 @@
+//! The values of a signal, tick by tick, and the ticks at which they change.
+#![tactic(auto)]
+
+ghost use Rattle.std.specs.Prelude.{◌≡◌, ℕ, ◌<◌, ◌≤◌, ◌+◌, [], ◌∷◌, ◌++◌, length, IfOk, Some};
+ghost use Rattle.std.specs.Prelude.{slice_get, replicate, vec_capacity, IsFalse, ◌⊎◌};
+ghost use Rattle.history.specs.Rails.{rails_at, rails_delayed};
+ghost use Rattle.tick_signal.specs.Lanes.{in_lane};
+ghost use Rattle.channel.specs.SentKeys.{SentKeys};
+ghost use Rattle.channel.specs.Tracks.{IsLast, IsNextAfter, StaysUntil, AreAscending};
+
+use crate::Carried;
+use crate::memory::Memory;
+use crate::same::is_same;
+use std::alloc::Global;
+use std::marker::Model;
+use tick_signal::Signal;
+
+/// The values of a key or a trip from tick 0 on, with room up to a horizon. Contracts see both.
+#[derive(Drop)]
+pub struct Track<V: Signal> {
+    values: Vec<V>,
+    // The ticks at which the value may differ from the one before, in order.
+    changes: Vec<u32>,
+    horizon: u32,
+}
+
+impl<V: Signal> Model for Track<V> {
+    ghost use Rattle.std.specs.Prelude.{vec_capacity};
+    ghost use Rattle.channel.specs.SentKeys.{SentKeys};
+    ghost use Rattle.channel.specs.Tracks.{IsTrack};
+
+    ghost Value = { SentKeys V };
+
+    ghost view = { λ a. record { keys = a.values.items; horizon = a.horizon } };
+
+    ghost invariant = { λ a. IsTrack V.LANES V.rails a.values.items (vec_capacity a.values)
+        a.changes.items (vec_capacity a.changes) a.horizon };
+}
+
+impl<V: Signal> Track<V> {
+    /// A track with no values. All its memory is taken here.
+    pub fn new(alloc: Global, horizon: u32) -> Result<Self, Memory>
+        requires { horizon ≤ 4000 }
+        ensures { IfOk result (λ track. track ≡ record { keys = []; horizon = horizon }) }
+    {
+        let values = Vec::with_capacity(alloc, horizon as usize)?;
+        let changes = Vec::with_capacity(alloc, horizon as usize)?;
+        Ok(Track {
+            values,
+            changes,
+            horizon,
+        })
+    }
+
+    /// How many ticks there are.
+    pub fn len(&self) -> u32
+        ensures length { result ≡ length self.now.keys }
+        ensures limited { length self.now.keys ≤ 4000 }
+    {
+        self.values.len() as u32
+    }
+
+    /// The value at a tick.
+    pub fn at(&self, t: u32) -> V
+        requires { t < length self.now.keys }
+        ensures { slice_get self.now.keys t ≡ Some result }
+    {
+        self.values[t as usize]
+    }
+
+    /// Appends so many ticks with this value.
+    pub fn push(&mut self, value: V, count: u32)
+        requires some { 1 ≤ count }
+        requires room { length self.old.keys + count ≤ self.old.horizon }
+        ensures keys { self.new.keys ≡ self.old.keys ++ replicate count value }
+        ensures horizon { self.new.horizon ≡ self.old.horizon }
+    {
+        note_change(&self.values, &mut self.changes, value);
+        fill_within(&mut self.values, value, count);
+    }
+
+    /// Until when the values are those of this tick: the next change, or where the track ends. The
+    /// search takes as many looks as the number of changes has binary digits.
+    pub fn stays_until(&self, t: u32) -> u32
+        requires { t < length self.now.keys }
+        ensures later { t < result }
+        ensures limited { result ≤ length self.now.keys }
+        ensures stays { (lane : ℕ) → lane < V.LANES →
+            StaysUntil (rails_at (in_lane V.rails lane self.now.keys)) t
+            (length self.now.keys) result }
+    {
+        next_after(&self.changes, t, self.values.len() as u32)
+    }
+}
+
+impl<V: Carried> Track<V> {
+    /// What is received at the next tick of a key, through a delay within the span.
+    pub fn received(&self, delay: &V::Span) -> V
+        requires later { (lane : ℕ) → lane < V.LANES → 1 ≤ (V.ends delay.now lane).least }
+        requires room { length self.now.keys < 4000 }
+        ensures { (lane : ℕ) → lane < V.LANES →
+            V.rails result lane
+            ≡ rails_delayed (rails_at (in_lane V.rails lane self.now.keys))
+            (V.ends delay.now lane) (length self.now.keys) }
+    {
+        V::arrive(&self.values, delay)
+    }
+}
+
+// Notes the tick after these values if the value may differ from the last of them.
+fn note_change<V: Signal>(values: &[V], changes: &mut Vec<u32>, value: V)
+    requires short { length values.now < 4000 }
+    requires room { length changes.old.items < vec_capacity changes.old }
+    ensures noted { ((changes.new.items ≡ changes.old.items)
+        × IsLast V.LANES V.rails values.now value)
+        ⊎ (changes.new.items ≡ changes.old.items ++ length values.now ∷ []) }
+    ensures room { vec_capacity changes.old ≤ vec_capacity changes.new }
+{
+    if changes_to(values, value) {
+        changes.push(values.len() as u32).unwrap();
+    }
+}
+
+// Whether the value may differ from the last of these.
+fn changes_to<V: Signal>(values: &[V], value: V) -> bool
+    ensures { IsFalse result → IsLast V.LANES V.rails values.now value }
+{
+    let count = values.len();
+    if count == 0 {
+        return true;
+    }
+    !is_same(values[count - 1], value)
+}
+
+// Appends a value so many times to a list with room for them.
+fn fill_within<V: Copy>(list: &mut Vec<V>, value: V, count: u32)
+    requires { length list.old.items + count ≤ vec_capacity list.old }
+    ensures items { list.new.items ≡ list.old.items ++ replicate count value }
+    ensures room { vec_capacity list.old ≤ vec_capacity list.new }
+{
+    for _ in 0..count {
+        list.push(value).unwrap();
+    }
+}
+
+// The first of the changes after t, or the bound where there is none.
+fn next_after(changes: &[u32], t: u32, bound: u32) -> u32
+    requires later { t < bound }
+    requires ascending { AreAscending changes.now }
+    requires inside { (i c : ℕ) → slice_get changes.now i ≡ Some c → c < bound }
+    ensures { IsNextAfter changes.now t bound result }
+{
+    let i = changes.partition_point(|change| *change <= t);
+    if i < changes.len() { changes[i] } else { bound }
+}

@@ -1,0 +1,304 @@
+-- The parts of a certificate: each script has one, and what is written of them.
+use Rattle.std.proofs.Common.{
+  ◌≡◌,
+  ℕ,
+  ◌+◌,
+  ◌<◌,
+  ◌≤◌,
+  Bool,
+  true,
+  false,
+  ◌||◌,
+  List,
+  [],
+  ◌∷◌,
+  ◌++◌,
+  length,
+  get_or,
+  take,
+  drop,
+  map,
+  Result,
+  Ok,
+  Err,
+  refl,
+  sym,
+  ap,
+  ◌∙◌,
+  subst,
+}
+use Rattle.std.proofs.Math.Bool.{or-false}
+use Rattle.std.proofs.lemmas.List.{append-nil, drop_more, map-append, take-append-drop, take_all, take_more}
+use Rattle.std.proofs.lemmas.List.Elements.{All-drop, All-head, All-tail}
+use Rattle.std.proofs.lemmas.List.Folds.{concat-append, list_any-append}
+use Rattle.std.specs.List.{All, AllZip, concat, list_any}
+use Rattle.tick_signal.specs.declared.tern.Tern.{Tern}
+use Rattle.line_model.specs.declared.line.Line.{Line}
+use Rattle.line_model.specs.declared.script.Script.{Script}
+use Rattle.line_model.specs.Choice.{Box, LeastFromOne, declared_box}
+use Rattle.line_model.specs.Fits.{Fits}
+use Rattle.line_model.specs.Histories.{PairHistory, IsPairHistory}
+use Rattle.certify_core.specs.declared.verdict.Verdict.{Verdict}
+use Rattle.certify_core.specs.declared.verdict.ScriptVerdict.{ScriptVerdict}
+use Rattle.certify_core.specs.Piece.{part_text, piece_text}
+use Rattle.certify_core.specs.Verdicts.{AreKeys, AreVerdicts}
+use Rattle.engine.specs.Certified.{IsCertified}
+use Rattle.commands.specs.Certify.{
+  certify_answer,
+  IsCertificate,
+  IsPart,
+  Part,
+  certificate_end,
+  certificate_head,
+  is_no,
+  is_undecided,
+  some_verdict,
+}
+use Rattle.commands.specs.Answers.{WritesAnswer, status_by}
+use Rattle.commands.specs.PartWrites.{WritesPart, WritesParts, parts_text}
+use Rattle.commands.specs.Sinks.{SinkView, GrewByAll, WriteStops}
+use Rattle.commands.specs.declared.found.Found.{Found}
+use Rattle.commands.specs.declared.done.Done.{Done}
+use Rattle.commands.specs.declared.put.WriteStop.{WriteStop}
+use Rattle.commands.specs.declared.put.WriteStop.TheVariants as stop
+use Rattle.commands.specs.SinkLaws.{grew_both, grew_none}
+use Rattle.commands.proofs.Writing.{stops_more, stops_none, stops_then}
+
+-- ---- each script has one part
+
+module _
+    (history : (line : Line) (script : Script) (box : Box) → LeastFromOne line box
+    → (w : PairHistory) × IsPairHistory line script box w)
+    (declared : (line : Line) → LeastFromOne line (declared_box line))
+    (keys : (line : Line) (script : Script) (w : PairHistory)
+    → IsPairHistory line script (declared_box line) w
+    → (keys : List (List Tern)) × AreKeys line w keys)
+    (verdicts : (line : Line) (script : Script) (w : PairHistory) → Fits line script
+    → (verdicts : List Verdict) × AreVerdicts line script w verdicts) where
+  pub part_exists : (line : Line) (script : Script) → Fits line script
+      → (part : Part) × IsPart line script part
+  part_exists line script fits =
+      let w = history line script (declared_box line) (declared line) in
+      let k = keys line script w.0 w.1 in
+      let v = verdicts line script w.0 fits in (
+        record { verdicts = v.0; text = part_text line script k.0 v.0 },
+        record {
+          history = w.0;
+          is_history = w.1;
+          keys = k.0;
+          are_keys = k.1;
+          are_verdicts = v.1;
+          text_is = refl;
+        },
+      )
+
+module _
+    (one_key_list : (line : Line) (script : Script) (v w : PairHistory) (a b : List (List Tern))
+    → IsPairHistory line script (declared_box line) v
+    → IsPairHistory line script (declared_box line) w → AreKeys line v a → AreKeys line w b
+    → a ≡ b)
+    (one_verdict_list : (line : Line) (script : Script) (v w : PairHistory) (a b : List Verdict)
+    → Fits line script → IsPairHistory line script (declared_box line) v
+    → IsPairHistory line script (declared_box line) w → AreVerdicts line script v a
+    → AreVerdicts line script w b → a ≡ b)
+    (line : Line) where
+  part_once : (script : Script) (p q : Part) → Fits line script → IsPart line script p
+      → IsPart line script q → p ≡ q
+  part_once script p q fits is_p is_q =
+      let keys : is_p.keys ≡ is_q.keys =
+      one_key_list line script is_p.history is_q.history is_p.keys is_q.keys is_p.is_history
+      is_q.is_history is_p.are_keys is_q.are_keys in
+      let verdicts : p.verdicts ≡ q.verdicts =
+      one_verdict_list line script is_p.history is_q.history p.verdicts q.verdicts fits
+      is_p.is_history is_q.is_history is_p.are_verdicts is_q.are_verdicts in
+      let text : p.text ≡ q.text =
+      is_p.text_is ∙ ap (λ k. part_text line script k p.verdicts) keys
+      ∙ ap (λ v. part_text line script is_q.keys v) verdicts ∙ sym is_q.text_is in
+      ap (λ (v : List Verdict). record { verdicts = v; text = p.text }) verdicts
+      ∙ ap (λ (t : List ℕ). record { verdicts = q.verdicts; text = t }) text
+
+  parts_once : (scripts : List Script) (ps qs : List Part) → All (Fits line) scripts
+      → AllZip (IsPart line) scripts ps → AllZip (IsPart line) scripts qs → ps ≡ qs
+  parts_once [] [] [] fits are_ps are_qs = refl
+  parts_once [] [] (q ∷ qs) fits are_ps are_qs = absurd are_qs
+  parts_once [] (p ∷ ps) qs fits are_ps are_qs = absurd are_ps
+  parts_once (x ∷ xs) [] qs fits are_ps are_qs = absurd are_ps
+  parts_once (x ∷ xs) (p ∷ ps) [] fits are_ps are_qs = absurd are_qs
+  parts_once (x ∷ xs) (p ∷ ps) (q ∷ qs) fits are_ps are_qs =
+      ap (λ z. z ∷ ps) (part_once x p q (All-head (Fits line) x xs fits) are_ps.0 are_qs.0)
+      ∙ ap (λ zs. q ∷ zs) (parts_once xs ps qs (All-tail (Fits line) x xs fits) are_ps.1 are_qs.1)
+
+  pub certificate_once : (scripts : List Script) (s t : Done) (a b : List ℕ)
+      → All (Fits line) scripts → IsCertificate line scripts s a → IsCertificate line scripts t b
+      → (s ≡ t) × (a ≡ b)
+  certificate_once scripts s t a b fits p q =
+      let same : p.parts ≡ q.parts =
+      parts_once scripts p.parts q.parts fits p.are_parts q.are_parts in (
+        p.status_is
+            ∙ ap (λ ps. status_by (some_verdict is_no ps) (some_verdict is_undecided ps)) same
+            ∙ sym q.status_is,
+        p.text_is
+            ∙ ap (λ ps. certificate_head ++ parts_text ps ++ certificate_end) same
+            ∙ sym q.text_is,
+      )
+
+-- what is certified of a script makes its part
+pub part_said : (line : Line) (script : Script) (said : ScriptVerdict) (text : List ℕ)
+    → (w : PairHistory) × IsPairHistory line script (declared_box line) w
+    → IsCertified line script said → text ≡ piece_text line script said
+    → IsPart line script (record { verdicts = said.verdicts.items; text = text })
+part_said line script said text (w, is_w) certified is = record {
+  history = w;
+  is_history = is_w;
+  keys = said.keys.items;
+  are_keys = certified.keys w is_w;
+  are_verdicts = certified.verdicts w is_w;
+  text_is = is;
+}
+
+-- ---- the certificate of parts
+
+module _ (line : Line) where
+  pub certificate_of : (scripts : List Script) (parts : List Part)
+      → AllZip (IsPart line) scripts parts
+      → IsCertificate line scripts
+      (status_by (some_verdict is_no parts) (some_verdict is_undecided parts))
+      (certificate_head ++ parts_text parts ++ certificate_end)
+  certificate_of scripts parts are =
+      record { parts = parts; are_parts = are; status_is = refl; text_is = refl }
+
+  module _ (part : (script : Script) → Fits line script → (p : Part) × IsPart line script p) where
+    pub parts_exist : (scripts : List Script) → All (Fits line) scripts
+        → (parts : List Part) × AllZip (IsPart line) scripts parts
+    parts_exist [] fits = ([], tt)
+    parts_exist (x ∷ xs) fits =
+        let first = part x (All-head (Fits line) x xs fits) in
+        let rest = parts_exist xs (All-tail (Fits line) x xs fits) in
+        (first.0 ∷ rest.0, (first.1, rest.1))
+
+    pub certificate_exists : (scripts : List Script) → All (Fits line) scripts
+        → (s : Done) × (text : List ℕ) × IsCertificate line scripts s text
+    certificate_exists scripts fits =
+        let all = parts_exist scripts fits in (
+          status_by (some_verdict is_no all.0) (some_verdict is_undecided all.0),
+          certificate_head ++ parts_text all.0 ++ certificate_end,
+          certificate_of scripts all.0 all.1,
+        )
+
+-- ---- what is written
+
+parts_text-append : (xs ys : List Part) → parts_text (xs ++ ys) ≡ parts_text xs ++ parts_text ys
+parts_text-append xs ys =
+    ap concat (map-append (λ (p : Part). p.text) xs ys)
+    ∙ concat-append (map (λ (p : Part). p.text) xs) (map (λ (p : Part). p.text) ys)
+
+parts_text-first : (part : Part) (parts : List Part)
+    → parts_text (part ∷ parts) ≡ part.text ++ parts_text parts
+parts_text-first part parts = refl
+
+pub zip_append : {A B : Type 0} (R : A → B → Type 0) (xs us : List A) (ys vs : List B)
+    → AllZip R xs ys → AllZip R us vs → AllZip R (xs ++ us) (ys ++ vs)
+zip_append R [] us [] vs zip more = more
+zip_append R [] us (y ∷ ys) vs zip more = absurd zip
+zip_append R (x ∷ xs) us [] vs zip more = absurd zip
+zip_append R (x ∷ xs) us (y ∷ ys) vs zip more = (zip.0, zip_append R xs us ys vs zip.1 more)
+
+-- some verdict of one part more
+some_more : (is_such : Verdict → Bool) (parts : List Part) (part : Part)
+    → some_verdict is_such (parts ++ part ∷ [])
+    ≡ some_verdict is_such parts || list_any is_such part.verdicts
+some_more is_such parts part =
+    list_any-append (λ (p : Part). list_any is_such p.verdicts) parts (part ∷ [])
+    ∙ ap (λ b. some_verdict is_such parts || b) (or-false (list_any is_such part.verdicts))
+
+pub both_found : (a b c d : Bool) → a ≡ b → c ≡ d → a || c ≡ b || d
+both_found a b c d e f = ap (λ x. x || c) e ∙ ap (λ x. b || x) f
+
+module _ (line : Line) where
+  -- no part yet
+  pub parts_none : (s : SinkView) (found : Found) → found.some_no ≡ false
+      → found.some_open ≡ false → WritesParts line [] s s (Ok found)
+  parts_none s found noes undecideds = record {
+    parts = [];
+    are_parts = tt;
+    writes = grew_none s;
+    some_no = noes;
+    some_undecided = undecideds;
+  }
+
+  -- a part whose script is not decided for want of memory
+  pub part_undecided : (script : Script) (s : SinkView)
+      → (part : Part) × IsPart line script part → WritesPart line script s s (Err stop.Memory)
+  part_undecided script s exists = record {
+    part = exists.0;
+    is_part = exists.1;
+    writes = stops_none s exists.0.text;
+    some_no = tt;
+    some_undecided = tt;
+  }
+
+  module _ (scripts : List Script) (i : ℕ) (script : Script) (lt : i < length scripts)
+      (here : get_or scripts i script ≡ script) where
+    -- one part more
+    pub parts_more : (a b c : SinkView) (f g h : Found) → h.some_no ≡ f.some_no || g.some_no
+        → h.some_open ≡ f.some_open || g.some_open
+        → WritesParts line (take i scripts) a b (Ok f) → WritesPart line script b c (Ok g)
+        → WritesParts line (take (i + 1) scripts) a c (Ok h)
+    parts_more a b c f g h noes undecideds w p = record {
+      parts = w.parts ++ p.part ∷ [];
+      are_parts = subst (λ xs. AllZip (IsPart line) xs (w.parts ++ p.part ∷ []))
+          (sym (take_more scripts i script lt ∙ ap (λ x. take i scripts ++ x ∷ []) here))
+          (zip_append (IsPart line) (take i scripts) (script ∷ []) w.parts (p.part ∷ [])
+          w.are_parts (p.is_part, tt));
+      writes = subst (GrewByAll a c)
+          (sym (parts_text-append w.parts (p.part ∷ [])
+          ∙ ap (λ z. parts_text w.parts ++ z) (append-nil p.part.text)))
+          (grew_both w.writes p.writes);
+      some_no = noes ∙ both_found _ _ _ _ w.some_no p.some_no ∙ sym (some_more is_no w.parts p.part);
+      some_undecided = undecideds ∙ both_found _ _ _ _ w.some_undecided p.some_undecided
+          ∙ sym (some_more is_undecided w.parts p.part);
+    }
+
+    -- a part stops: the others are still to come
+    pub parts_stop : (a b c : SinkView) (f : Found) (why : WriteStop)
+        → ((x : Script) → Fits line x → (p : Part) × IsPart line x p) → All (Fits line) scripts
+        → WritesParts line (take i scripts) a b (Ok f) → WritesPart line script b c (Err why)
+        → WritesParts line scripts a c (Err why)
+    parts_stop a b c f why part fits w p =
+        let rest = parts_exist line part (drop (i + 1) scripts)
+        (All-drop (Fits line) (i + 1) scripts fits) in
+        record {
+          parts = w.parts ++ p.part ∷ rest.0;
+          are_parts = subst (λ xs. AllZip (IsPart line) xs (w.parts ++ p.part ∷ rest.0))
+              (ap (λ z. take i scripts ++ z)
+              (sym (drop_more scripts i script lt
+              ∙ ap (λ x. x ∷ drop (i + 1) scripts) here))
+              ∙ take-append-drop i scripts)
+              (zip_append (IsPart line) (take i scripts) (script ∷ drop (i + 1) scripts) w.parts
+              (p.part ∷ rest.0) w.are_parts (p.is_part, rest.1));
+          writes = subst (λ z. WriteStops a c z why)
+              (sym (parts_text-append w.parts (p.part ∷ rest.0)))
+              (stops_then w.writes (stops_more (parts_text rest.0) p.writes));
+          some_no = tt;
+          some_undecided = tt;
+        }
+
+  -- all parts
+  pub parts_all : (scripts : List Script) (i : ℕ) (a b : SinkView) (r : Result Found WriteStop)
+      → length scripts ≤ i → WritesParts line (take i scripts) a b r
+      → WritesParts line scripts a b r
+  parts_all scripts i a b r le w =
+      subst (λ xs. WritesParts line xs a b r) (take_all i scripts le) w
+
+-- a writer of a certificate that stops
+pub certificate_stops : (line : Line) (scripts : List Script) (parts : List Part)
+    → AllZip (IsPart line) scripts parts → (old new : SinkView) (why : WriteStop)
+    → WriteStops old new (certificate_head ++ parts_text parts ++ certificate_end) why
+    → WritesAnswer (certify_answer line scripts) old new (Err why)
+certificate_stops line scripts parts are old new why stops = record {
+  status = status_by (some_verdict is_no parts) (some_verdict is_undecided parts);
+  text = certificate_head ++ parts_text parts ++ certificate_end;
+  is = certificate_of line scripts parts are;
+  writes = stops;
+  gives = tt;
+}

@@ -1,0 +1,40 @@
+use Rattle.std.proofs.Common.{ap, ◌∙◌}
+use Rattle.std.specs.List.{list_any}
+use Rattle.std.proofs.lemmas.Result.{err_from_is_err_and}
+use Rattle.line_model.specs.Choice.{declared_box}
+use Rattle.commands.specs.Certify.{is_no, is_undecided}
+use Rattle.commands.proofs.Parts.{part_said}
+use Rattle.commands.proofs.certify.write_part.Goals as goal
+
+pub returns-in_err-put_text-clause-writes : goal.returns-in_err-put_text-clause-writes
+returns-in_err-put_text-clause-writes g c =
+    let p = err_from_is_err_and c.from_residual-in_err-put_text.result
+    c.from_residual-in_err-put_text.ensures.1 in
+    let line = c.args.line.now in
+    let said = c.in_ok-said.said in
+    rw (p.1, p.2) (record {
+      part = record { verdicts = said.verdicts.items; text = c.in_ok-piece.piece.items };
+      is_part = part_said line c.args.script.now said c.in_ok-piece.piece.items
+          (c.each_box_has_one_interval_history.ensures.exists line c.args.script.now
+          (declared_box line) (c.each_line_has_a_choice_inside.ensures.declared line))
+          c.in_ok-said.ensures.certified c.in_ok-piece.ensures;
+      writes = rw c.as_slice.ensures.value at c.in_err-put_text.ensures;
+      some_no = tt;
+      some_undecided = tt;
+    })
+
+pub returns-clause-writes : goal.returns-clause-writes
+returns-clause-writes g c =
+    let line = c.args.line.now in
+    let said = c.in_ok-said.said in
+    let verdicts = c.as_slice-verdicts.ensures.value in
+    record {
+      part = record { verdicts = said.verdicts.items; text = c.in_ok-piece.piece.items };
+      is_part = part_said line c.args.script.now said c.in_ok-piece.piece.items
+          (c.each_box_has_one_interval_history.ensures.exists line c.args.script.now
+          (declared_box line) (c.each_line_has_a_choice_inside.ensures.declared line))
+          c.in_ok-said.ensures.certified c.in_ok-piece.ensures;
+      writes = rw c.as_slice.ensures.value at c.in_ok-put_text.ensures;
+      some_no = c.some_no.ensures ∙ ap (list_any is_no) verdicts;
+      some_undecided = c.some_undecided.ensures ∙ ap (list_any is_undecided) verdicts;
+    }

@@ -1,0 +1,13 @@
+use Rattle.std.proofs.Common.{Ok, take}
+use Rattle.engine.specs.Calls.{AskedVerdicts, NoneFell}
+use Rattle.commands.specs.PartWrites.{WritesParts}
+use Rattle.commands.specs.Sinks.{sink_view}
+use Rattle.commands.proofs.certify.write_parts.Given as goal
+
+abbrev pub invariant-loop-script : goal.invariant-loop-script
+invariant-loop-script g l =
+    AskedVerdicts l.line l.script-index (g.G.Engine.calls l.fn.engine) (g.G.Engine.calls l.engine)
+    × WritesParts l.line (take l.script-index l.scripts)
+    (sink_view g.O.Sink.written g.O.Sink.faults l.fn.out)
+    (sink_view g.O.Sink.written g.O.Sink.faults l.out) (Ok l.found)
+    × NoneFell (g.G.Engine.calls l.fn.engine) (g.G.Engine.calls l.engine)

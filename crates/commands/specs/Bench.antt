@@ -1,0 +1,33 @@
+-- The command `bench`: the verdicts of the bench's first scripts are counted, and their certificate
+-- is accepted.
+use Rattle.std.specs.Prelude.{◌≡◌, ◌++◌, ℕ, List}
+use Rattle.line_model.specs.declared.line.Line.{Line}
+use Rattle.line_model.specs.declared.script.Script.{Script}
+use Rattle.certificate.specs.Grammar.{Claims}
+use Rattle.certificate.specs.Text.{certificate_text, part_text}
+use Rattle.own_certificate.specs.Certified.{AreCertified, IsCertified}
+use Rattle.bench.specs.BenchLine.{IsBenchLine}
+use Rattle.bench_answer.specs.Answer.{IsBenchText}
+use Rattle.engine.specs.Calls.{AskedCheck, AskedVerdicts}
+use Rattle.commands.specs.Answers.{Answers, prints}
+use Rattle.commands.specs.Asked.{Asks}
+
+abbrev pub bench_answer : ℕ → Answers
+bench_answer n = prints (IsBenchText n)
+
+-- the engine is asked for the verdicts of each script of the bench's line, and for a check
+abbrev pub bench_asks : ℕ → Asks
+bench_asks n old new =
+    (line : Line) × IsBenchLine line × AskedVerdicts line n old new × AskedCheck line old new
+
+-- the text of what is certified of the scripts
+pub record IsOwnText (line : Line) (scripts : List Script) (text : List ℕ) : Type 0 where
+  pub claims : List Claims
+  pub certified : AreCertified line scripts claims
+  pub text_is : text ≡ certificate_text line scripts claims
+
+-- a text has more by the part of what is certified of a script
+pub record HasPart (line : Line) (script : Script) (old new : List ℕ) : Type 0 where
+  pub claims : Claims
+  pub certified : IsCertified line script claims
+  pub text_is : new ≡ old ++ part_text line script claims

@@ -1,0 +1,8 @@
+-- The command `migrate`.
+use Rattle.line_model.specs.declared.line.Line.{Line}
+use Rattle.commands.specs.Answers.{Answers, prints}
+use Rattle.commands.specs.Line.{IsLineText}
+
+-- with times in microseconds
+abbrev pub migrate_answer : Line → Answers
+migrate_answer line = prints (IsLineText 2 line)

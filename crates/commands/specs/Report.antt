@@ -1,0 +1,9 @@
+-- The command `report`.
+use Rattle.std.specs.Prelude.{List}
+use Rattle.line_model.specs.declared.line.Line.{Line}
+use Rattle.line_model.specs.declared.script.Script.{Script}
+use Rattle.timing_report.specs.ReportText.{IsReportText}
+use Rattle.commands.specs.Answers.{Answers, prints}
+
+abbrev pub report_answer : Line → List Script → Answers
+report_answer line scripts = prints (IsReportText line scripts)

@@ -1,0 +1,134 @@
+//! The command `certify`: the verdict of each obligation, for every choice of delays.
+ghost use Rattle.std.specs.Prelude.{◌≡◌, OnOk, length};
+ghost use Rattle.std.specs.List.{All, list_any};
+ghost use Rattle.line_model.specs.Fits.{Fits};
+ghost use Rattle.gate_net.specs.NetOf.{IsNetOf};
+ghost use Rattle.engine.specs.Calls.{AskedCertify, AskedVerdicts, NoneFell};
+ghost use Rattle.commands.specs.Certify.{certify_answer, certify_asks};
+ghost use Rattle.commands.specs.Certify.{is_no as no_verdict};
+ghost use Rattle.commands.specs.Certify.{is_undecided as undecided_verdict};
+ghost use Rattle.commands.specs.Answers.{WritesAnswer};
+ghost use Rattle.commands.specs.PartWrites.{WritesPart, WritesParts};
+ghost use Rattle.commands.specs.Sinks.{sink_view};
+ghost use Rattle.commands.specs.Study.{IsStudy};
+
+use crate::done::Done;
+use crate::found::{Found, NOTHING};
+use crate::laws::each_certificate_has_one_text;
+use crate::put::{WriteStop, put_text};
+use crate::study::Study;
+use certify_core::{CERT_END, CERT_HEAD, Verdict, cert_piece};
+use engine::Engine;
+use gate_net::Net;
+use line_model::laws::{each_box_has_one_interval_history, each_line_has_a_choice_inside};
+use line_model::{Line, Script};
+use relay_base::Sink;
+use std::alloc::Global;
+
+/// Writes the certificate: its head, the part of each script once it is decided, and its end.
+pub fn certify<G: Engine, O: Sink>(
+    alloc: Global,
+    study: &Study,
+    engine: &mut G,
+    out: &mut O,
+) -> Result<Done, WriteStop>
+    requires { IsStudy study.now }
+    ensures asked { OnOk result (certify_asks study.now.line study.now.scripts.items
+        (G.calls engine.old) (G.calls engine.new)) }
+    ensures kept { NoneFell (G.calls engine.old) (G.calls engine.new) }
+    ensures writes { WritesAnswer (certify_answer study.now.line study.now.scripts.items)
+        (sink_view O.written O.faults out.old) (sink_view O.written O.faults out.new) result }
+{
+    each_certificate_has_one_text();
+    put_text(out, CERT_HEAD)?;
+    let scripts = study.scripts.as_slice();
+    let found = write_parts(alloc, &study.line, &study.net, scripts, engine, out)?;
+    put_text(out, CERT_END)?;
+    Ok(found.status())
+}
+
+// Writes the part of each script in order.
+fn write_parts<G: Engine, O: Sink>(
+    alloc: Global,
+    line: &Line,
+    net: &Net,
+    scripts: &[Script],
+    engine: &mut G,
+    out: &mut O,
+) -> Result<Found, WriteStop>
+    requires of_line { IsNetOf line.now net.now }
+    requires fit { All (Fits line.now) scripts.now }
+    ensures asked { OnOk result (AskedVerdicts line.now (length scripts.now)
+        (G.calls engine.old) (G.calls engine.new)) }
+    ensures kept { NoneFell (G.calls engine.old) (G.calls engine.new) }
+    ensures writes { WritesParts line.now scripts.now
+        (sink_view O.written O.faults out.old) (sink_view O.written O.faults out.new) result }
+{
+    each_certificate_has_one_text();
+    let mut found = NOTHING;
+    for script in scripts {
+        let more = write_part(alloc, line, net, script, engine, out)?;
+        found = found.and(more);
+    }
+    Ok(found)
+}
+
+// Decides the obligations of a script and writes its part.
+fn write_part<G: Engine, O: Sink>(
+    alloc: Global,
+    line: &Line,
+    net: &Net,
+    script: &Script,
+    engine: &mut G,
+    out: &mut O,
+) -> Result<Found, WriteStop>
+    requires of_line { IsNetOf line.now net.now }
+    requires fits { Fits line.now script.now }
+    ensures asked { OnOk result (AskedCertify line.now
+        (G.calls engine.old) (G.calls engine.new)) }
+    ensures kept { NoneFell (G.calls engine.old) (G.calls engine.new) }
+    ensures writes { WritesPart line.now script.now
+        (sink_view O.written O.faults out.old) (sink_view O.written O.faults out.new) result }
+{
+    each_certificate_has_one_text();
+    each_box_has_one_interval_history();
+    each_line_has_a_choice_inside();
+    let said = engine.certify(alloc, line, net, script)?;
+    let piece = cert_piece(alloc, line, script, &said)?;
+    put_text(out, piece.as_slice())?;
+    let verdicts = said.verdicts.as_slice();
+    Ok(Found {
+        some_no: some_no(verdicts),
+        some_open: some_undecided(verdicts),
+    })
+}
+
+fn some_no(verdicts: &[Verdict]) -> bool
+    ensures { result ≡ list_any no_verdict verdicts.now }
+{
+    verdicts.iter().any(|verdict| is_no(verdict))
+}
+
+fn some_undecided(verdicts: &[Verdict]) -> bool
+    ensures { result ≡ list_any undecided_verdict verdicts.now }
+{
+    verdicts.iter().any(|verdict| is_undecided(verdict))
+}
+
+fn is_no(verdict: &Verdict) -> bool
+    ensures { result ≡ no_verdict verdict.now }
+{
+    match verdict {
+        Verdict::No(_) => true,
+        Verdict::Yes | Verdict::Undecided => false,
+    }
+}
+
+fn is_undecided(verdict: &Verdict) -> bool
+    ensures { result ≡ undecided_verdict verdict.now }
+{
+    match verdict {
+        Verdict::Undecided => true,
+        Verdict::Yes | Verdict::No(_) => false,
+    }
+}

@@ -1,0 +1,119 @@
+//! The command `check`: whether a certificate is accepted.
+ghost use Rattle.std.specs.Prelude.{◌≡◌, ◌≢◌, IfOk, OnOk};
+ghost use Rattle.std.specs.List.{concat};
+ghost use Rattle.cert_checker.specs.declared.fault.CheckFault.{CheckFault};
+ghost use Rattle.commands.specs.Answers.{Says};
+ghost use Rattle.commands.specs.Check.{check_answer, check_asks, rejected_pieces};
+ghost use Rattle.commands.specs.Check.{level_word as word_of_level};
+ghost use Rattle.commands.specs.Study.{IsStudy};
+
+use crate::checked::{accepted_text, place, rejected_line, rejected_outside, rejected_passes};
+use crate::done::Done;
+use crate::said::Said;
+use crate::study::Study;
+use crate::text::text_of;
+use cert_checker::CheckFault;
+use engine::Engine;
+use itoa::Buffer;
+use line_model::Memory;
+use std::alloc::Global;
+use tick_signal::Tern;
+
+/// The counts of the certificate's verdicts where it is accepted, and its first fault where it is
+/// rejected.
+pub fn check<G: Engine>(
+    alloc: Global,
+    study: &Study,
+    cert: &[u8],
+    engine: &mut G,
+) -> Result<Said, Memory>
+    requires { IsStudy study.now }
+    ensures asked { OnOk result (check_asks study.now.line
+        (G.calls engine.old) (G.calls engine.new)) }
+    ensures said { IfOk result
+        (Says (check_answer study.now.line study.now.scripts.items cert.now)) }
+{
+    match engine.check(
+        alloc,
+        &study.line,
+        &study.net,
+        study.scripts.as_slice(),
+        cert,
+    ) {
+        Ok(counts) => {
+            let text = accepted_text(alloc, counts)?;
+            Ok(Said::good(text))
+        }
+        Err(fault) => match fault {
+            CheckFault::Memory => Err(Memory),
+            fault => {
+                let text = rejected_text(alloc, study, fault)?;
+                Ok(Said {
+                    status: Done::Rejected,
+                    text,
+                })
+            }
+        },
+    }
+}
+
+fn rejected_text(alloc: Global, study: &Study, fault: CheckFault) -> Result<Vec<u8>, Memory>
+    requires { fault ≢ CheckFault.Memory }
+    ensures { IfOk result (λ text. text.items
+        ≡ concat (rejected_pieces study.now.line study.now.scripts.items fault)) }
+{
+    match fault {
+        CheckFault::Line(number) => rejected_line(alloc, number),
+        CheckFault::NotCovered {
+            script,
+            terminal,
+            tick,
+            claimed,
+            derived,
+        } => {
+            let mut digits = Buffer::new();
+            let place = place(alloc, study, script, terminal)?;
+            let tick = digits.format(tick).as_bytes();
+            text_of(
+                alloc,
+                &[
+                    b"rejected NotCovered",
+                    place.as_slice(),
+                    b" ",
+                    tick,
+                    b" claimed ",
+                    level_word(claimed),
+                    b" derived ",
+                    level_word(derived),
+                    b"\n",
+                ],
+            )
+        }
+        CheckFault::NotHeld { script, terminal } => {
+            let place = place(alloc, study, script, terminal)?;
+            text_of(alloc, &[b"rejected NotHeld", place.as_slice(), b"\n"])
+        }
+        CheckFault::Outside {
+            script,
+            terminal,
+            param,
+            value,
+        } => rejected_outside(alloc, study, script, terminal, param, value),
+        CheckFault::Passes {
+            script,
+            terminal,
+            tick,
+        } => rejected_passes(alloc, study, script, terminal, tick),
+        CheckFault::Memory => Err(Memory),
+    }
+}
+
+fn level_word(level: Tern) -> &'static [u8]
+    ensures { result.now ≡ word_of_level level }
+{
+    match level {
+        Tern::Zero => b"0",
+        Tern::One => b"1",
+        Tern::Unknown => b"?",
+    }
+}

@@ -1,0 +1,48 @@
+//! The laws of what a command answers.
+
+ghost use Rattle.std.specs.Prelude.{◌≡◌, ℕ, List};
+ghost use Rattle.std.specs.List.{All};
+ghost use Rattle.line_model.specs.declared.line.Line.{Line};
+ghost use Rattle.line_model.specs.declared.script.Script.{Script};
+ghost use Rattle.line_model.specs.Fits.{Fits};
+ghost use Rattle.timing_box.specs.Inside.{IsTimingInside};
+ghost use Rattle.timing_box.specs.SoFar.{NamedValues};
+ghost use Rattle.commands.specs.Certify.{IsCertificate, IsPart, Part};
+ghost use Rattle.commands.specs.Play.{IsPlayText};
+ghost use Rattle.commands.specs.declared.done.Done.{Done};
+
+use line_model::laws::{
+    each_box_has_one_interval_history, each_choice_has_one_history, each_line_has_a_choice_inside,
+};
+use own_certificate::each_script_has_one_certificate;
+use timing_box::timings_inside_are_choices_inside;
+
+/// A line has exactly one play text for scripts and timings inside its declared intervals.
+pub fn each_play_has_one_text()
+    ensures exists { (line : Line) (scripts : List Script) (timings : List NamedValues) →
+        All (λ timing. IsTimingInside line timing.timing) timings →
+        (text : List ℕ) × IsPlayText line scripts timings text }
+    ensures only { (line : Line) (scripts : List Script) (timings : List NamedValues)
+        (a b : List ℕ) → All (λ timing. IsTimingInside line timing.timing) timings →
+        IsPlayText line scripts timings a → IsPlayText line scripts timings b → a ≡ b }
+{
+    each_choice_has_one_history();
+    each_line_has_a_choice_inside();
+    timings_inside_are_choices_inside();
+}
+
+/// Each script that fits has a part of a certificate, and scripts that fit have exactly one
+/// certificate, with one status.
+pub fn each_certificate_has_one_text()
+    ensures part { (line : Line) (script : Script) → Fits line script →
+        (part : Part) × IsPart line script part }
+    ensures exists { (line : Line) (scripts : List Script) → All (Fits line) scripts →
+        (s : Done) × (text : List ℕ) × IsCertificate line scripts s text }
+    ensures only { (line : Line) (scripts : List Script) (s t : Done) (a b : List ℕ) →
+        All (Fits line) scripts → IsCertificate line scripts s a →
+        IsCertificate line scripts t b → (s ≡ t) × (a ≡ b) }
+{
+    each_script_has_one_certificate();
+    each_box_has_one_interval_history();
+    each_line_has_a_choice_inside();
+}

@@ -1,0 +1,17 @@
+//! The command `line`: the canonical line file, with times in ticks.
+ghost use Rattle.std.specs.Prelude.{IfOk};
+ghost use Rattle.commands.specs.Answers.{Says};
+ghost use Rattle.commands.specs.Line.{line_answer};
+
+use crate::said::Said;
+use line_file::print_line;
+use line_model::{Line, Memory};
+use std::alloc::Global;
+
+/// The line, with every time as an array of two numbers of ticks.
+pub fn print_ticks(alloc: Global, line: &Line) -> Result<Said, Memory>
+    ensures { IfOk result (Says (line_answer line.now)) }
+{
+    let text = print_line(alloc, line)?;
+    Ok(Said::good(text))
+}

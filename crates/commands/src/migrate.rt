@@ -1,0 +1,17 @@
+//! The command `migrate`: the canonical line file of version 2, with times in microseconds.
+ghost use Rattle.std.specs.Prelude.{IfOk};
+ghost use Rattle.commands.specs.Answers.{Says};
+ghost use Rattle.commands.specs.Migrate.{migrate_answer};
+
+use crate::said::Said;
+use line_file::print_line_us;
+use line_model::{Line, Memory};
+use std::alloc::Global;
+
+/// The line, with every time as an array of two numbers of microseconds.
+pub fn print_microseconds(alloc: Global, line: &Line) -> Result<Said, Memory>
+    ensures { IfOk result (Says (migrate_answer line.now)) }
+{
+    let text = print_line_us(alloc, line)?;
+    Ok(Said::good(text))
+}

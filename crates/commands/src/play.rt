@@ -1,0 +1,145 @@
+//! The command `play`: the play text of a line, scripts and timings.
+ghost use Rattle.std.specs.Prelude.{◌*◌, ℕ, List, OnOk, length, map};
+ghost use Rattle.std.specs.List.{All};
+ghost use Rattle.gate_net.specs.NetOf.{IsNetOf};
+ghost use Rattle.timing_box.specs.Inside.{IsTimingInside};
+ghost use Rattle.timing_box.specs.SoFar.{values_of};
+ghost use Rattle.engine.specs.Calls.{AskedPlay, AskedPlays};
+ghost use Rattle.commands.specs.Answers.{WritesAnswer};
+ghost use Rattle.commands.specs.Play.{IsPlayText, IsRunText, IsTimingText, Pieces};
+ghost use Rattle.commands.specs.Play.{play_answer, play_asks};
+ghost use Rattle.commands.specs.Sinks.{Writes, sink_view};
+ghost use Rattle.commands.specs.Study.{IsStudy};
+
+use crate::done::Done;
+use crate::laws::each_play_has_one_text;
+use crate::put::{WriteStop, put_text};
+use crate::study::Study;
+use engine::Engine;
+use gate_net::Net;
+use line_model::{Line, Script};
+use relay_base::Sink;
+use std::alloc::Global;
+use timing_box::NamedTiming;
+
+/// Writes the play text: each timing over each script.
+pub fn play<G: Engine, O: Sink>(
+    alloc: Global,
+    study: &Study,
+    timings: &[NamedTiming],
+    engine: &mut G,
+    out: &mut O,
+) -> Result<Done, WriteStop>
+    requires study { IsStudy study.now }
+    requires inside { All (λ timing. IsTimingInside study.now.line timing.timing) timings.now }
+    ensures asked { OnOk result (play_asks study.now.line study.now.scripts.items
+        (map values_of timings.now) (G.calls engine.old) (G.calls engine.new)) }
+    ensures writes { WritesAnswer
+        (play_answer study.now.line study.now.scripts.items (map values_of timings.now))
+        (sink_view O.written O.faults out.old) (sink_view O.written O.faults out.new) result }
+{
+    each_play_has_one_text();
+    let scripts = study.scripts.as_slice();
+    write_play(
+        alloc,
+        &study.line,
+        &study.net,
+        scripts,
+        timings,
+        engine,
+        out,
+    )?;
+    Ok(Done::Good)
+}
+
+// Writes the header, and then each timing in order.
+fn write_play<G: Engine, O: Sink>(
+    alloc: Global,
+    line: &Line,
+    net: &Net,
+    scripts: &[Script],
+    timings: &[NamedTiming],
+    engine: &mut G,
+    out: &mut O,
+) -> Result<(), WriteStop>
+    requires of_line { IsNetOf line.now net.now }
+    requires inside { All (λ timing. IsTimingInside line.now timing.timing) timings.now }
+    ensures asked { OnOk result (AskedPlays line.now (length timings.now * length scripts.now)
+        (G.calls engine.old) (G.calls engine.new)) }
+    ensures writes { (text : List ℕ) → IsPlayText line.now scripts.now (map values_of timings.now) text →
+        Writes (sink_view O.written O.faults out.old) (sink_view O.written O.faults out.new)
+        text result }
+{
+    put_text(out, b"timing,script,tick,terminal,signal,level\n")?;
+    write_timings(alloc, line, net, scripts, timings, engine, out)
+}
+
+// Writes the rows of each timing in order.
+fn write_timings<G: Engine, O: Sink>(
+    alloc: Global,
+    line: &Line,
+    net: &Net,
+    scripts: &[Script],
+    timings: &[NamedTiming],
+    engine: &mut G,
+    out: &mut O,
+) -> Result<(), WriteStop>
+    requires of_line { IsNetOf line.now net.now }
+    requires inside { All (λ timing. IsTimingInside line.now timing.timing) timings.now }
+    ensures asked { OnOk result (AskedPlays line.now (length timings.now * length scripts.now)
+        (G.calls engine.old) (G.calls engine.new)) }
+    ensures writes { (text : List ℕ) →
+        Pieces (IsTimingText line.now scripts.now) (map values_of timings.now) text →
+        Writes (sink_view O.written O.faults out.old) (sink_view O.written O.faults out.new)
+        text result }
+{
+    for timing in timings {
+        write_timing(alloc, line, net, scripts, timing, engine, out)?;
+    }
+    Ok(())
+}
+
+// Writes the rows of one timing, each script in order.
+fn write_timing<G: Engine, O: Sink>(
+    alloc: Global,
+    line: &Line,
+    net: &Net,
+    scripts: &[Script],
+    timing: &NamedTiming,
+    engine: &mut G,
+    out: &mut O,
+) -> Result<(), WriteStop>
+    requires of_line { IsNetOf line.now net.now }
+    requires inside { IsTimingInside line.now timing.now.timing }
+    ensures asked { OnOk result (AskedPlays line.now (length scripts.now)
+        (G.calls engine.old) (G.calls engine.new)) }
+    ensures writes { (text : List ℕ) → IsTimingText line.now scripts.now (values_of timing.now) text →
+        Writes (sink_view O.written O.faults out.old) (sink_view O.written O.faults out.new)
+        text result }
+{
+    for script in scripts {
+        write_run(alloc, line, net, script, timing, engine, out)?;
+    }
+    Ok(())
+}
+
+// Writes the rows of one timing and one script.
+fn write_run<G: Engine, O: Sink>(
+    alloc: Global,
+    line: &Line,
+    net: &Net,
+    script: &Script,
+    timing: &NamedTiming,
+    engine: &mut G,
+    out: &mut O,
+) -> Result<(), WriteStop>
+    requires of_line { IsNetOf line.now net.now }
+    requires inside { IsTimingInside line.now timing.now.timing }
+    ensures asked { OnOk result (AskedPlay line.now (G.calls engine.old) (G.calls engine.new)) }
+    ensures writes { (text : List ℕ) → IsRunText line.now (values_of timing.now) script.now text →
+        Writes (sink_view O.written O.faults out.old) (sink_view O.written O.faults out.new)
+        text result }
+{
+    let rows = engine.play(alloc, line, net, script, timing)?;
+    put_text(out, rows.as_slice())
+}

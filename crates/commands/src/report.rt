@@ -1,0 +1,20 @@
+//! The command `report`: when each terminal may and must trip, and its margin.
+ghost use Rattle.std.specs.Prelude.{IfOk};
+ghost use Rattle.commands.specs.Answers.{Says};
+ghost use Rattle.commands.specs.Report.{report_answer};
+ghost use Rattle.commands.specs.Study.{IsStudy};
+
+use crate::said::Said;
+use crate::study::Study;
+use line_model::Memory;
+use std::alloc::Global;
+use timing_report::report_text;
+
+/// A row for each script and terminal.
+pub fn report(alloc: Global, study: &Study) -> Result<Said, Memory>
+    requires { IsStudy study.now }
+    ensures { IfOk result (Says (report_answer study.now.line study.now.scripts.items)) }
+{
+    let text = report_text(alloc, &study.line, &study.net, study.scripts.as_slice())?;
+    Ok(Said::good(text))
+}

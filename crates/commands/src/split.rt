@@ -1,0 +1,143 @@
+//! The command `split`: the parts of the declared box in which each obligation is decided.
+ghost use Rattle.std.specs.Prelude.{◌≡◌, ◌≤◌, IfOk};
+ghost use Rattle.std.specs.List.{list_any};
+ghost use Rattle.line_model.specs.Fits.{Fits};
+ghost use Rattle.line_model.specs.Parameters.{terminal_count};
+ghost use Rattle.gate_net.specs.NetOf.{IsNetOf};
+ghost use Rattle.certify_core.specs.OneEach.{OneEach};
+ghost use Rattle.box_split.specs.Found.{IsFound};
+ghost use Rattle.split_text.specs.Piece.{ArePrintable, written_as};
+ghost use Rattle.commands.specs.Answers.{Says};
+ghost use Rattle.commands.specs.Split.{HasSplits, split_answer};
+ghost use Rattle.commands.specs.Split.{is_fails as failing, is_open as undecided};
+ghost use Rattle.commands.specs.Split.{is_undecided as undecided_node};
+ghost use Rattle.commands.specs.Study.{IsStudy};
+
+use crate::found::{Found, NOTHING};
+use crate::said::Said;
+use crate::study::Study;
+use box_split::{Node, Outcome, search};
+use gate_net::Net;
+use line_model::{Line, Memory, Script};
+use own_splits::what_is_searched_grows_by_parts;
+use split_text::{
+    SPLIT_END, SPLIT_HEAD, a_split_text_grows_by_parts, a_split_text_has_a_head_and_an_end,
+    split_piece, what_a_search_finds_can_be_written,
+};
+use std::alloc::Global;
+
+/// The split trees of all obligations, at most `depth` splits above one another.
+pub fn split(alloc: Global, study: &Study, depth: u32) -> Result<Said, Memory>
+    requires study { IsStudy study.now }
+    requires depth { depth ≤ 8 }
+    ensures { IfOk result (Says (split_answer study.now.line study.now.scripts.items depth)) }
+{
+    a_split_text_grows_by_parts();
+    what_is_searched_grows_by_parts();
+    a_split_text_has_a_head_and_an_end();
+    let mut text = Vec::from_slice(alloc, SPLIT_HEAD)?;
+    let mut found = NOTHING;
+    let scripts = study.scripts.as_slice();
+    for script in scripts {
+        let more = push_part(alloc, &mut text, &study.line, &study.net, script, depth)?;
+        found = found.and(more);
+    }
+    text.extend_from_slice(SPLIT_END)?;
+    Ok(Said {
+        status: found.status(),
+        text,
+    })
+}
+
+// Appends a script's part, and tells what was found.
+fn push_part(
+    alloc: Global,
+    text: &mut Vec<u8>,
+    line: &Line,
+    net: &Net,
+    script: &Script,
+    depth: u32,
+) -> Result<Found, Memory>
+    requires of_line { IsNetOf line.now net.now }
+    requires fits { Fits line.now script.now }
+    requires depth { depth ≤ 8 }
+    ensures { IfOk result (HasSplits line.now depth script.now text.old.items text.new.items) }
+{
+    let outcomes = outcomes(alloc, line, net, script, depth)?;
+    let piece = split_piece(alloc, line, script, outcomes.as_slice())?;
+    text.extend_from_slice(piece.as_slice())?;
+    Ok(Found {
+        some_no: some_fails(outcomes.as_slice()),
+        some_open: some_open(outcomes.as_slice()),
+    })
+}
+
+// The outcome of the search for each terminal, in line order.
+fn outcomes(
+    alloc: Global,
+    line: &Line,
+    net: &Net,
+    script: &Script,
+    depth: u32,
+) -> Result<Vec<Outcome>, Memory>
+    requires of_line { IsNetOf line.now net.now }
+    requires fits { Fits line.now script.now }
+    requires depth { depth ≤ 8 }
+    ensures found { IfOk result (λ all.
+        OneEach (λ k outcome. IsFound line.now script.now k depth outcome)
+        (terminal_count line.now) all.items) }
+    ensures printable { IfOk result (λ all. ArePrintable line.now all.items) }
+{
+    what_a_search_finds_can_be_written();
+    let mut all = Vec::new(alloc);
+    for k in 0..line.terminals.len() {
+        let outcome = search(alloc, line, net, script, k as u32, depth)?;
+        all.push(outcome)?;
+    }
+    Ok(all)
+}
+
+fn some_fails(outcomes: &[Outcome]) -> bool
+    ensures { result ≡ list_any (λ outcome. failing (written_as outcome)) outcomes.now }
+{
+    outcomes.iter().any(|outcome| is_fails(outcome))
+}
+
+fn some_open(outcomes: &[Outcome]) -> bool
+    ensures { result ≡ list_any (λ outcome. undecided (written_as outcome)) outcomes.now }
+{
+    outcomes.iter().any(|outcome| is_open(outcome))
+}
+
+fn is_fails(outcome: &Outcome) -> bool
+    ensures { result ≡ failing (written_as outcome.now) }
+{
+    match outcome {
+        Outcome::Tree(_) => false,
+        Outcome::Fails(_) => true,
+    }
+}
+
+fn is_open(outcome: &Outcome) -> bool
+    ensures { result ≡ undecided (written_as outcome.now) }
+{
+    match outcome {
+        Outcome::Tree(nodes) => some_undecided(nodes.as_slice()),
+        Outcome::Fails(_) => false,
+    }
+}
+
+fn some_undecided(nodes: &[Node]) -> bool
+    ensures { result ≡ list_any undecided_node nodes.now }
+{
+    nodes.iter().any(|node| is_undecided(*node))
+}
+
+fn is_undecided(node: Node) -> bool
+    ensures { result ≡ undecided_node node }
+{
+    match node {
+        Node::Undecided => true,
+        Node::Yes | Node::Split { .. } => false,
+    }
+}

@@ -1,0 +1,42 @@
+// Milliseconds, and the distance of labels.
+
+use crate::scale::label_step;
+use crate::words::Words;
+use std::test::Fail;
+use timing_diagram::Window;
+
+#[test]
+fn milliseconds(rt: HostRuntime) -> Result<(), Fail> {
+    let rows: [(u64, &[u8]); 6] = [
+        (0, b"0"),
+        (1000, b"1"),
+        (250, b"0.25"),
+        (2500, b"2.5"),
+        (10001, b"10.001"),
+        (20010, b"20.01"),
+    ];
+    for (microseconds, wanted) in rows {
+        let said = Words::new(rt.alloc())
+            .milliseconds(microseconds)
+            .ok()
+            .ok_or("memory")?;
+        assert_eq!(rt; said.bytes.as_slice(), wanted);
+    }
+    Ok(())
+}
+
+#[test]
+fn label_steps(rt: HostRuntime) -> Result<(), Fail> {
+    let rows: [(u32, u32, u32); 6] = [
+        (0, 9, 1),
+        (0, 29, 5),
+        (0, 119, 20),
+        (3, 109, 20),
+        (900, 1099, 20),
+        (0, 3999, 500),
+    ];
+    for (first, last, wanted) in rows {
+        assert_eq!(rt; label_step(Window { first, last }), wanted);
+    }
+    Ok(())
+}

@@ -1,0 +1,59 @@
+// Words of labels, piece by piece.
+
+use itoa::Buffer;
+use line_model::Memory;
+use std::alloc::Global;
+
+/// The bytes of a label so far.
+#[derive(Drop)]
+pub struct Words {
+    pub bytes: Vec<u8>,
+}
+
+impl Words {
+    /// No words.
+    pub fn new(alloc: Global) -> Words {
+        Words {
+            bytes: Vec::new(alloc),
+        }
+    }
+
+    /// And this behind them.
+    pub fn word(self, word: &[u8]) -> Result<Words, Memory> {
+        let mut bytes = self.bytes;
+        bytes.extend_from_slice(word)?;
+        Ok(Words { bytes })
+    }
+
+    /// And this number, in decimal digits.
+    pub fn number(self, number: u64) -> Result<Words, Memory> {
+        self.word(Buffer::new().format(number).as_bytes())
+    }
+
+    /// And these microseconds as milliseconds, with up to three decimal places.
+    pub fn milliseconds(self, microseconds: u64) -> Result<Words, Memory> {
+        let words = self.number(microseconds / 1000)?;
+        let rest = microseconds % 1000;
+        if rest == 0 {
+            return Ok(words);
+        }
+        let words = words.word(b".")?.number(rest / 100)?;
+        if rest % 100 == 0 {
+            return Ok(words);
+        }
+        let words = words.number(rest / 10 % 10)?;
+        if rest % 10 == 0 {
+            return Ok(words);
+        }
+        words.number(rest % 10)
+    }
+
+    /// And so many ticks, as ticks and milliseconds.
+    pub fn ticks(self, ticks: u64, tick_us: u32) -> Result<Words, Memory> {
+        let unit: &[u8] = if ticks == 1 { b" tick, " } else { b" ticks, " };
+        self.number(ticks)?
+            .word(unit)?
+            .milliseconds(ticks.saturating_mul(tick_us as u64))?
+            .word(b" ms")
+    }
+}

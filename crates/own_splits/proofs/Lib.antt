@@ -1,0 +1,5 @@
+pub mod Supported
+pub mod Splits
+pub mod SameLines
+pub mod OneSearch
+pub mod OneOutcome

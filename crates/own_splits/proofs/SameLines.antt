@@ -1,0 +1,351 @@
+-- What lines that are the same in every field have in common: boxes, candidates, verdicts, widths.
+use Rattle.std.proofs.Common.{◌≡◌, ◌<◌, ◌+◌, ◌-◌, ◌*◌, ◌/◌, ◌==◌, ℕ, Bool, cond, List, [], ◌∷◌, map}
+use Rattle.std.proofs.Common.{get_or, refl, sym, ◌∙◌, ap, subst, arith, ⊎_elim}
+use Rattle.std.specs.Prelude.{◌&&◌, length, take, nat_le, nat_lt, slice_set, if◌then◌else◌}
+use Rattle.std.specs.List.{count_by, range_with_len}
+use Rattle.std.proofs.Math.Path.{fun_ext}
+use Rattle.std.proofs.lemmas.Bool.{cases_lt}
+use Rattle.history.specs.Elements.{some_below}
+use Rattle.history.specs.Rails.{Ends, Rails}
+use Rattle.line_model.specs.declared.line.Line.{Line}
+use Rattle.line_model.specs.declared.line.Param.{Param}
+use Rattle.line_model.specs.declared.script.Script.{Script}
+use Rattle.line_model.specs.SameLine.{SameLine}
+use Rattle.line_model.specs.SetBounds.{SameButParams}
+use Rattle.line_model.specs.WithBounds.{IsWithBounds}
+use Rattle.line_model.specs.Intervals.{leasts, greatests}
+use Rattle.line_model.specs.Parameters.{channel_count, delay_param, declared_ends}
+use Rattle.line_model.specs.Choice.{Box, Choice, declared_box}
+use Rattle.line_model.specs.Histories.{History, IsLineHistory, Meets, MeetsBy, PairHistory}
+use Rattle.line_model.specs.Histories.{IsPairHistory}
+use Rattle.line_model.specs.Rule.{Held, rule_by, rule_of}
+use Rattle.timing_box.specs.Delays.{is_delay}
+use Rattle.timing_box.specs.Timing.{TimingValues, number_at}
+use Rattle.timing_box.specs.Choice.{timing_choice}
+use Rattle.timing_box.specs.Candidates.{
+  is_free,
+  candidate,
+  candidate_count,
+  candidate_value,
+}
+use Rattle.certify_core.specs.declared.verdict.Verdict.{Verdict}
+use Rattle.certify_core.specs.declared.verdict.Verdict.TheVariants.{Yes, No, Undecided}
+use Rattle.certify_core.specs.Verdicts.{FailsAt, PassesAt, IsFirstFailing, IsVerdict}
+use Rattle.box_split.specs.Widths.{width, middle, IsWidest, IsNarrow}
+use Rattle.box_split.specs.Search.{IsVerdictOf}
+use Rattle.own_splits.specs.Known.{LinesKnown}
+
+-- ---- as functions of the parameters alone
+
+abbrev ends_by : List Param → ℕ → Ends
+ends_by ps i = record {
+  least = get_or (map (λ p. p.least) ps) i 0;
+  greatest = get_or (map (λ p. p.greatest) ps) i 0;
+}
+
+abbrev is_free_by : List Param → ℕ → ℕ → Bool
+is_free_by ps i param =
+    nat_lt (ends_by ps param).least (ends_by ps param).greatest
+    && (count_by is_free (take param ps) + 1 == i)
+
+abbrev value_by : List Param → ℕ → ℕ → ℕ
+value_by ps index param =
+    let ends = ends_by ps param in
+    if index == 0 then ends.least
+    else if index == 1 then ends.greatest
+    else if nat_le index (1 + count_by is_free ps)
+    then (if is_free_by ps (index - 1) param then ends.greatest else ends.least)
+    else (if is_free_by ps (index - 1 - count_by is_free ps) param then ends.least
+    else ends.greatest)
+
+abbrev candidate_by : List Param → ℕ → TimingValues
+candidate_by ps index = record {
+  values = map (value_by ps index) (range_with_len 0 (length ps));
+  steps = [];
+}
+
+candidate_is : (line : Line) (index : ℕ) → candidate line index ≡ candidate_by line.params.items index
+unfolding candidate_value
+candidate_is line index = refl
+
+-- ---- parameters by their names and intervals
+
+param_by : (x y : Param) → x.name ≡ y.name → x.least ≡ y.least → x.greatest ≡ y.greatest → x ≡ y
+param_by x y name least greatest =
+    ap (λ n. record { name = n; least = x.least; greatest = x.greatest }) name
+    ∙ ap (λ (n : ℕ). record { name = y.name; least = n; greatest = x.greatest }) least
+    ∙ ap (λ (n : ℕ). record { name = y.name; least = y.least; greatest = n }) greatest
+
+params_by : (a b : List Param) → map (λ p. p.name) a ≡ map (λ p. p.name) b → leasts a ≡ leasts b
+    → greatests a ≡ greatests b → a ≡ b
+params_by [] [] names low high = refl
+params_by [] (y ∷ b) names low high = absurd (cc)
+params_by (x ∷ a) [] names low high = absurd (cc)
+params_by (x ∷ a) (y ∷ b) names low high =
+    let name : x.name ≡ y.name = cc in
+    let least : x.least ≡ y.least = cc in
+    let greatest : x.greatest ≡ y.greatest = cc in
+    let same : x ≡ y = param_by x y name least greatest in
+    let later : a ≡ b = params_by a b (cc) (cc) (cc) in
+    ap (λ (p : Param). p ∷ a) same ∙ ap (λ (ps : List Param). y ∷ ps) later
+
+pub own_line : (line : Line) → SameLine line line
+own_line line = record {
+  tick_us = refl;
+  horizon = refl;
+  scheme = refl;
+  zone1_trip = refl;
+  terminals = refl;
+  channels = refl;
+  params = refl;
+}
+
+-- ---- two lines
+
+module _ (known : LinesKnown) (old new : Line) (same : SameLine old new) where
+  rest : SameButParams old new
+  rest = record {
+    tick_us = same.tick_us;
+    horizon = same.horizon;
+    scheme = same.scheme;
+    zone1_trip = same.zone1_trip;
+    terminals = same.terminals;
+    channels = same.channels;
+  }
+
+  delays_same : delay_param new ≡ delay_param old
+  delays_same = fun_ext (λ c. known.counts.delays old new c rest)
+
+  ends_same : declared_ends new ≡ declared_ends old
+  ends_same = let made : List Param → ℕ → Ends = ends_by in ap made same.params
+
+  box_same : declared_box new ≡ declared_box old
+  unfolding declared_box
+  box_same =
+      let made : (ℕ → Ends) → (ℕ → ℕ) → Box = λ ends at. record {
+        ends = ends;
+        delay = λ c t. ends (at c);
+      } in
+      ap (λ (ends : ℕ → Ends). made ends (delay_param new)) ends_same
+      ∙ ap (made (declared_ends old)) delays_same
+
+  history_new : (script : Script) (w : PairHistory) → IsPairHistory old script (declared_box old) w
+      → IsPairHistory new script (declared_box new) w
+  history_new script w is =
+      subst (λ (box : Box). IsPairHistory new script box w) (sym box_same)
+      ((known.histories.boxes old new script (declared_box old) w rest).1 is)
+
+  -- ---- candidates
+
+  choice_same : (timing : TimingValues) → timing_choice new timing ≡ timing_choice old timing
+  unfolding timing_choice
+  choice_same timing =
+      let made : (ℕ → ℕ) → Choice = λ param_of. record {
+        number = λ i. get_or timing.values i 0;
+        delay = λ c t. number_at timing.steps (param_of c) t (get_or timing.values (param_of c) 0);
+      } in
+      ap made delays_same
+
+  candidate_same : (i : ℕ) → candidate new i ≡ candidate old i
+  candidate_same i =
+      candidate_is new i ∙ ap (λ (ps : List Param). candidate_by ps i) same.params
+      ∙ sym (candidate_is old i)
+
+  count_same : candidate_count new ≡ candidate_count old
+  count_same = ap (λ (ps : List Param). 2 + 2 * count_by is_free ps) same.params
+
+  module _ (script : Script) (k : ℕ) where
+    meets_new : (h : History) → Meets old script k h → Meets new script k h
+    meets_new h met =
+        subst (λ (n : ℕ). MeetsBy script.kind script.deadline n (h.trip k)) (sym same.horizon) met
+
+    meets_old : (h : History) → Meets new script k h → Meets old script k h
+    meets_old h met =
+        subst (λ (n : ℕ). MeetsBy script.kind script.deadline n (h.trip k)) same.horizon met
+
+    fails_old : (timing : TimingValues) → FailsAt new script k timing → FailsAt old script k timing
+    fails_old timing f = record {
+      h = f.h;
+      is = (known.histories.choices old new script (timing_choice old timing) f.h rest).0
+          (subst (λ (c : Choice). IsLineHistory new script c f.h) (choice_same timing) f.is);
+      fails = λ met. f.fails (meets_new f.h met);
+    }
+
+    passes_old : (timing : TimingValues) → PassesAt new script k timing
+        → PassesAt old script k timing
+    passes_old timing p = record {
+      meets = λ h is.
+          meets_old h
+          (p.meets h
+          (subst (λ (c : Choice). IsLineHistory new script c h) (sym (choice_same timing))
+          ((known.histories.choices old new script (timing_choice old timing) h rest).1 is)));
+    }
+
+    held_old : (trip : ℕ → Rails) → rule_of new script trip ≡ Held → rule_of old script trip ≡ Held
+    held_old trip held =
+        subst (λ (n : ℕ). rule_by script.kind script.deadline n trip ≡ Held) same.horizon held
+
+    held_new : (trip : ℕ → Rails) → rule_of old script trip ≡ Held → rule_of new script trip ≡ Held
+    held_new trip held =
+        subst (λ (n : ℕ). rule_by script.kind script.deadline n trip ≡ Held) (sym same.horizon) held
+
+    verdict_old : (w : PairHistory) (v : Verdict) → IsVerdict new script k w v
+        → IsVerdict old script k w v
+    verdict_old w Yes held = held_old (w.trip k) held
+    verdict_old w (No timing) is = record {
+      not_held = λ held. is.not_held (held_new (w.trip k) held);
+      number = is.number;
+      first = record {
+        below = subst (λ (n : ℕ). is.number < n) count_same is.first.below;
+        fails = subst (FailsAt old script k) (candidate_same is.number)
+            (fails_old (candidate new is.number) is.first.fails);
+        earlier = λ i lt.
+            subst (PassesAt old script k) (candidate_same i)
+            (passes_old (candidate new i) (is.first.earlier i lt));
+      };
+      is = is.is ∙ candidate_same is.number;
+    }
+    verdict_old w Undecided is = record {
+      not_held = λ held. is.not_held (held_new (w.trip k) held);
+      passes = λ i lt.
+          subst (PassesAt old script k) (candidate_same i)
+          (passes_old (candidate new i)
+          (is.passes i (subst (λ (n : ℕ). i < n) (sym count_same) lt)));
+    }
+
+  -- ---- widths
+
+  width_same : (p : ℕ) → width new p ≡ width old p
+  unfolding width is_delay
+  width_same p =
+      let made : (ℕ → ℕ) → ℕ → (ℕ → Ends) → ℕ = λ at n ends.
+      cond (some_below (λ c. at c == p) n) 0 ((ends p).greatest - (ends p).least) in
+      ap (λ (at : ℕ → ℕ). made at (channel_count new) (declared_ends new)) delays_same
+      ∙ ap (λ (n : ℕ). made (delay_param old) n (declared_ends new))
+      (known.counts.channels old new rest)
+      ∙ ap (made (delay_param old) (channel_count old)) ends_same
+
+  pub middle_same : (p : ℕ) → middle new p ≡ middle old p
+  middle_same p = ap (λ (ends : ℕ → Ends). ((ends p).least + (ends p).greatest) / 2) ends_same
+
+  pub widest_once : (p q : ℕ) → IsWidest old p → IsWidest new q → p ≡ q
+  widest_once p q a b =
+      let count = known.counts.params old new rest in
+      ⊎_elim
+      (λ lt. absurd (omega (
+        arith,
+        b.first p lt,
+        a.widest q (omega (arith, b.exists, count)),
+        width_same p,
+        width_same q,
+      )))
+      (λ ge.
+      ⊎_elim
+      (λ lt. absurd (omega (
+        arith,
+        a.first q lt,
+        b.widest p (omega (arith, a.exists, count)),
+        width_same p,
+        width_same q,
+      )))
+      (λ le. omega (arith, ge, le))
+      (cases_lt q p))
+      (cases_lt p q)
+
+  pub narrow_or_widest : (q : ℕ) → IsNarrow old → IsWidest new q → ⊥
+  narrow_or_widest q a b =
+      omega (
+        arith,
+        b.free,
+        width_same q,
+        a.narrow q (omega (
+          arith,
+          b.exists,
+          known.counts.params old new rest,
+        )),
+      )
+
+  pub widest_or_narrow : (p : ℕ) → IsWidest old p → IsNarrow new → ⊥
+  widest_or_narrow p a b =
+      omega (
+        arith,
+        a.free,
+        width_same p,
+        b.narrow p (omega (
+          arith,
+          a.exists,
+          known.counts.params old new rest,
+        )),
+      )
+
+  -- ---- halves
+
+  pub half_same : (param least greatest : ℕ) (first second : Line)
+      → IsWithBounds old param least greatest first
+      → IsWithBounds new param least greatest second → SameLine first second
+  half_same param least greatest first second a b = record {
+    tick_us = b.rest.tick_us ∙ same.tick_us ∙ sym a.rest.tick_us;
+    horizon = b.rest.horizon ∙ same.horizon ∙ sym a.rest.horizon;
+    scheme = b.rest.scheme ∙ same.scheme ∙ sym a.rest.scheme;
+    zone1_trip = b.rest.zone1_trip ∙ same.zone1_trip ∙ sym a.rest.zone1_trip;
+    terminals = b.rest.terminals ∙ same.terminals ∙ sym a.rest.terminals;
+    channels = b.rest.channels ∙ same.channels ∙ sym a.rest.channels;
+    params = params_by second.params.items first.params.items
+        (b.params.names ∙ ap (λ (ps : List Param). map (λ p. p.name) ps) same.params
+        ∙ sym a.params.names)
+        (b.params.least_of ∙ ap (λ (ps : List Param). slice_set (leasts ps) param least) same.params
+        ∙ sym a.params.least_of)
+        (b.params.greatest_of
+        ∙ ap (λ (ps : List Param). slice_set (greatests ps) param greatest) same.params
+        ∙ sym a.params.greatest_of);
+  }
+
+  pub same_least : (p : ℕ) → (declared_ends new p).least ≡ (declared_ends old p).least
+  same_least p = ap (λ (ends : ℕ → Ends). (ends p).least) ends_same
+
+  pub same_greatest : (p : ℕ) → (declared_ends new p).greatest ≡ (declared_ends old p).greatest
+  same_greatest p = ap (λ (ends : ℕ → Ends). (ends p).greatest) ends_same
+
+-- ---- one verdict
+
+module _ (line : Line) (script : Script) (k : ℕ) where
+  pass_or_fail : (i j : ℕ) → i ≡ j → PassesAt line script k (candidate line i)
+      → FailsAt line script k (candidate line j) → ⊥
+  pass_or_fail i j same passes fails =
+      let here : PassesAt line script k (candidate line j) =
+      subst (λ (n : ℕ). PassesAt line script k (candidate line n)) same passes in
+      fails.fails (here.meets fails.h fails.is)
+
+  first_once : (i j : ℕ) → IsFirstFailing line script k i → IsFirstFailing line script k j → i ≡ j
+  first_once i j p q =
+      ⊎_elim (λ before. absurd (pass_or_fail i i refl (q.earlier i before) p.fails))
+      (λ late.
+      ⊎_elim (λ after. absurd (pass_or_fail j j refl (p.earlier j after) q.fails))
+      (λ even. omega (arith, late, even))
+      (cases_lt j i))
+      (cases_lt i j)
+
+  verdict_once : (w : PairHistory) (a b : Verdict) → IsVerdict line script k w a
+      → IsVerdict line script k w b → a ≡ b
+  verdict_once w Yes Yes p q = refl
+  verdict_once w Yes (No timing) p q = absurd (q.not_held p)
+  verdict_once w Yes Undecided p q = absurd (q.not_held p)
+  verdict_once w (No timing) Yes p q = absurd (p.not_held q)
+  verdict_once w (No timing) (No other) p q =
+      ap No (p.is ∙ ap (candidate line) (first_once p.number q.number p.first q.first) ∙ sym q.is)
+  verdict_once w (No timing) Undecided p q =
+      absurd (pass_or_fail p.number p.number refl (q.passes p.number p.first.below) p.first.fails)
+  verdict_once w Undecided Yes p q = absurd (p.not_held q)
+  verdict_once w Undecided (No timing) p q =
+      absurd (pass_or_fail q.number q.number refl (p.passes q.number q.first.below) q.first.fails)
+  verdict_once w Undecided Undecided p q = refl
+
+-- lines that are the same have one verdict
+pub said_once : LinesKnown → (old new : Line) → SameLine old new → (script : Script) (k : ℕ)
+    (a b : Verdict) → IsVerdictOf old script k a → IsVerdictOf new script k b → a ≡ b
+said_once known old new same script k a b one two =
+    let (w, is_w) = known.lines.interval_histories.exists old script (declared_box old)
+    (known.lines.inside.declared old) in
+    verdict_once old script k w a b (one w is_w)
+    (verdict_old known old new same script k w b
+    (two w (history_new known old new same script w is_w)))

@@ -1,0 +1,23 @@
+-- What is searched of a script, and of several.
+use Rattle.std.specs.Prelude.{◌≡◌, ℕ, List, map}
+use Rattle.std.specs.List.{AllZip}
+use Rattle.line_model.specs.declared.line.Line.{Line}
+use Rattle.line_model.specs.declared.script.Script.{Script}
+use Rattle.line_model.specs.Parameters.{terminal_count}
+use Rattle.certify_core.specs.OneEach.{OneEach}
+use Rattle.box_split.specs.declared.node.Outcome.{Outcome}
+use Rattle.box_split.specs.Found.{IsFound}
+use Rattle.split_text.specs.Grammar.{SplitResult}
+use Rattle.split_text.specs.Piece.{written_as}
+
+-- the results are the outcomes of the searches to depth n, one for each terminal, as they are
+-- written
+pub record AreSearched (line : Line) (n : ℕ) (script : Script) (results : List SplitResult)
+    : Type 0 where
+  pub searches : List Outcome
+  pub found : OneEach (λ k outcome. IsFound line script k n outcome) (terminal_count line) searches
+  pub written : results ≡ map written_as searches
+
+-- those of each script, in order
+abbrev pub AllSearched : Line → ℕ → List Script → List (List SplitResult) → Type 0
+AllSearched line n scripts parts = AllZip (AreSearched line n) scripts parts

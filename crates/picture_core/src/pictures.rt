@@ -1,0 +1,48 @@
+// The texts of pictures.
+
+ghost use Rattle.std.specs.Prelude.{IfOk};
+ghost use Rattle.gate_net.specs.NetOf.{IsNetOf};
+ghost use Rattle.line_model.specs.Fits.{Fits};
+ghost use Rattle.svg_text.specs.Content.{IsContent};
+ghost use Rattle.timing_box.specs.Inside.{IsTimingInside};
+
+use diagram_svg::{Subject, draw};
+use gate_net::Net;
+use interval_wave::analyse;
+use line_model::laws::deadlines_are_below_the_horizon;
+use line_model::{Line, Memory, Script};
+use std::alloc::Global;
+use timing_box::NamedTiming;
+use timing_diagram::{history_diagram, play_diagram};
+use wave_picture::play_waves;
+
+/// The timing diagram of every choice of delays: well-formed SVG.
+pub fn bands_text(alloc: Global, line: &Line, net: &Net, script: &Script) -> Result<Vec<u8>, Memory>
+    requires of_line { IsNetOf line.now net.now }
+    requires fits { Fits line.now script.now }
+    ensures { IfOk result (λ text. ∥ IsContent text.items ∥₁) }
+{
+    deadlines_are_below_the_horizon();
+    let waves = analyse(alloc, net, line, script)?;
+    let diagram = history_diagram(alloc, line, script, &waves)?;
+    let drawn = draw(alloc, line, script, Subject::EveryChoice, &diagram)?;
+    Ok(drawn.text)
+}
+
+/// The timing diagram of a play: well-formed SVG.
+pub fn run_text(
+    alloc: Global,
+    line: &Line,
+    net: &Net,
+    script: &Script,
+    timing: &NamedTiming,
+) -> Result<Vec<u8>, Memory>
+    requires of_line { IsNetOf line.now net.now }
+    requires inside { IsTimingInside line.now timing.now.timing }
+    ensures { IfOk result (λ text. ∥ IsContent text.items ∥₁) }
+{
+    let waves = play_waves(alloc, line, net, script, timing)?;
+    let diagram = play_diagram(alloc, line, script, &waves)?;
+    let drawn = draw(alloc, line, script, Subject::Play(timing.name), &diagram)?;
+    Ok(drawn.text)
+}

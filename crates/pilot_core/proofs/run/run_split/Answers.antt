@@ -1,0 +1,40 @@
+use Rattle.engine.specs.Calls.{Calls}
+use Rattle.pilot_core.specs.Call.{answer_by, asks_by}
+use Rattle.pilot_core.specs.Reading.{over_files}
+use Rattle.commands.specs.Sinks.{sink_view}
+use Rattle.pilot_core.specs.Words.{named, split}
+use Rattle.pilot_core.specs.declared.stop.File.TheVariants as file
+use Rattle.pilot_core.proofs.Fetching.{ends_of_two, told_two}
+use Rattle.pilot_core.proofs.Results.{on_ok}
+use Rattle.pilot_core.proofs.run.run_split.Goals as goal
+
+pub returns-clause-asked : goal.returns-clause-asked
+returns-clause-asked g c =
+    let command = split c.args.line.now c.args.scripts.now c.args.depth.splits in
+    let one = c.in_ok-line.ensures.file in
+    let two = c.in_ok-scripts.ensures.file in
+    let asked =
+    rw (c.as_slice.ensures.value, c.as_slice-2.ensures.value) at c.split_to.ensures.asked in
+    on_ok c.split_to.result
+    (λ a (calls : Calls). told_two (g.S.Store.held c.args.store.now)
+    (λ bytes. asks_by (over_files command bytes) calls calls)
+    (named file.Line c.args.line.now) (named file.Scripts c.args.scripts.now)
+    c.in_ok-line.line.items c.in_ok-scripts.scripts.items
+    (record { short = one.1; is = one.2 })
+    (record { short = two.1; is = rw c.in_ok-line.ensures.held at two.2 }) (a calls))
+    asked
+
+pub returns-clause-ends : goal.returns-clause-ends
+returns-clause-ends g c =
+    let command = split c.args.line.now c.args.scripts.now c.args.depth.splits in
+    let one = c.in_ok-line.ensures.file in
+    let two = c.in_ok-scripts.ensures.file in
+    let works =
+    rw (c.as_slice.ensures.value, c.as_slice-2.ensures.value) at c.split_to.ensures.works in
+    ends_of_two (sink_view g.O.Sink.written g.O.Sink.faults) (g.S.Store.held c.args.store.now)
+    c.args.out.now c.split_to.new.out (λ bytes. answer_by (over_files command bytes))
+    (named file.Line c.args.line.now) (named file.Scripts c.args.scripts.now)
+    c.in_ok-line.line.items c.in_ok-scripts.scripts.items
+    (record { short = one.1; is = one.2 })
+    (record { short = two.1; is = rw c.in_ok-line.ensures.held at two.2 })
+    _ _ _ c.split_to.result one.0 two.0 works

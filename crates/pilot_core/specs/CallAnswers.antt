@@ -1,0 +1,23 @@
+-- What a call may answer: a relation of the status, the text on out and the line on err.
+use Rattle.std.specs.Prelude.{◌≡◌, ℕ, List, []}
+use Rattle.commands.specs.Answers.{Answers}
+use Rattle.commands.specs.declared.done.Done.{Done}
+use Rattle.pilot_core.specs.Messages.{message_of}
+use Rattle.pilot_core.specs.Status.{status_of_done}
+use Rattle.pilot_core.specs.declared.refusal.Refusal.{Refusal}
+use Rattle.pilot_core.specs.declared.stop.Status.{Status}
+use Rattle.pilot_core.specs.declared.stop.Status.TheVariants as status
+use Rattle.pilot_core.specs.declared.stop.Stop.TheVariants as stop
+
+abbrev pub CallAnswers : Type 1
+CallAnswers = Status → List ℕ → List ℕ → Type 0
+
+-- a file, or the parameter, is refused: nothing on out
+abbrev pub refuses : Refusal → CallAnswers
+refuses why s text message =
+    (s ≡ status.BadInput) × (text ≡ []) × (message ≡ message_of (stop.Refused why))
+
+-- a command is done, which may answer so: nothing on err
+abbrev pub done_with : Answers → CallAnswers
+done_with allowed s text message =
+    (d : Done) × (s ≡ status_of_done d) × allowed d text × (message ≡ [])

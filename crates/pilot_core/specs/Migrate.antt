@@ -1,8 +1,0 @@
--- The command `migrate`.
-use Rattle.line_model.specs.declared.line.Line.{Line}
-use Rattle.pilot_core.specs.Answers.{Answers, prints}
-use Rattle.pilot_core.specs.Line.{IsLineText}
-
--- with times in microseconds
-abbrev pub migrate_answer : Line → Answers
-migrate_answer line = prints (IsLineText 2 line)

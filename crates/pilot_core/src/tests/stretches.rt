@@ -1,0 +1,247 @@
+//! Runs from change to change: what is quiet, what is not, and what moves while all else is quiet.
+
+use super::*;
+
+const CERTIFY: &[&str] = &["certify", "l", "s"];
+
+#[test]
+fn stretches(rt: HostRuntime) -> Result<(), Fail> {
+    run_rows(&rt, rt.alloc(), STRETCHES)
+}
+
+const STRETCHES: &[Row<'static>] = &[
+    Row {
+        what: "a quiet script, up to the longest horizon",
+        words: CERTIFY,
+        line: QUIET_LINE,
+        scripts: NO_ROWS,
+        out: "pilot-cert 1
+script Q
+key A 0:4000
+key B 0:4000
+verdict A yes
+verdict B yes
+end
+",
+        ..ROW
+    },
+    Row {
+        what: "its play",
+        words: PLAY,
+        line: QUIET_LINE,
+        scripts: NO_ROWS,
+        third: ONE_DELAY,
+        out: "timing,script,tick,terminal,signal,level
+",
+        ..ROW
+    },
+    Row {
+        what: "echoes that ring to the horizon",
+        words: PLAY,
+        line: RINGING,
+        scripts: ONE_TICK_SEEN,
+        third: LEAST_DELAY,
+        out: "timing,script,tick,terminal,signal,level
+T,R,3,A,key,1
+T,R,4,A,key,0
+T,R,4,B,key,1
+T,R,5,A,key,1
+T,R,5,B,key,0
+T,R,6,A,key,0
+T,R,6,B,key,1
+T,R,7,A,key,1
+T,R,7,B,key,0
+T,R,8,A,key,0
+T,R,8,B,key,1
+T,R,9,A,key,1
+T,R,9,B,key,0
+T,R,10,A,key,0
+T,R,10,B,key,1
+T,R,11,A,key,1
+T,R,11,B,key,0
+",
+        ..ROW
+    },
+    Row {
+        what: "what is seen up to the horizon",
+        words: PLAY,
+        line: SHORT,
+        scripts: HELD,
+        third: ONE_DELAY,
+        out: "timing,script,tick,terminal,signal,level
+T,M,12,A,key,1
+T,M,12,B,key,1
+T,M,17,A,trip,1
+T,M,62,B,trip,1
+",
+        ..ROW
+    },
+    Row {
+        what: "delays that move while nothing else does",
+        words: PLAY,
+        line: SHORT,
+        scripts: HELD,
+        third: MOVES,
+        out: "timing,script,tick,terminal,signal,level
+T,M,12,A,key,1
+T,M,12,B,key,1
+T,M,40,B,trip,1
+T,M,70,A,trip,1
+",
+        ..ROW
+    },
+    Row {
+        what: "lanes with different delays, of which one trips",
+        words: CERTIFY,
+        line: APART,
+        scripts: BRIEF,
+        status: Status::SomeNo,
+        out: "pilot-cert 1
+script X
+key A 0:12 ?:1 1:6 0:101
+key B 0:102 ?:9 0:9
+verdict A yes
+verdict B no 0 0 2 1 0 0 0 0 0 0 2 1 0 0 0 0 90 5
+end
+",
+        ..ROW
+    },
+];
+
+const QUIET_LINE: &str = "version = 1
+tick_us = 1000
+horizon = 4000
+scheme = \"pott\"
+
+[[terminal]]
+name = \"A\"
+z2 = { pickup = [2, 3], dropout = 1 }
+
+[[terminal]]
+name = \"B\"
+z2 = { pickup = [2, 3], dropout = 1 }
+
+[[channel]]
+from = \"A\"
+to = \"B\"
+delay = [5, 90]
+
+[[channel]]
+from = \"B\"
+to = \"A\"
+delay = [5, 90]
+";
+
+const SHORT: &str = "version = 1
+tick_us = 1000
+horizon = 120
+scheme = \"pott\"
+
+[[terminal]]
+name = \"A\"
+z2 = { pickup = [2, 3], dropout = 1 }
+
+[[terminal]]
+name = \"B\"
+z2 = { pickup = [2, 3], dropout = 1 }
+
+[[channel]]
+from = \"A\"
+to = \"B\"
+delay = [5, 90]
+
+[[channel]]
+from = \"B\"
+to = \"A\"
+delay = [5, 90]
+";
+
+const RINGING: &str = "version = 1
+tick_us = 1000
+horizon = 12
+scheme = \"pott\"
+
+[[terminal]]
+name = \"A\"
+z2 = { pickup = 0, dropout = 0 }
+echo = { block = 0, pickup = 0, pulse = 1 }
+
+[[terminal]]
+name = \"B\"
+z2 = { pickup = 0, dropout = 0 }
+echo = { block = 0, pickup = 0, pulse = 1 }
+
+[[channel]]
+from = \"A\"
+to = \"B\"
+delay = 1
+
+[[channel]]
+from = \"B\"
+to = \"A\"
+delay = 1
+";
+
+const APART: &str = "version = 1
+tick_us = 1000
+horizon = 120
+scheme = \"pott\"
+
+[[terminal]]
+name = \"A\"
+z2 = { pickup = [2, 3], dropout = 1 }
+
+[[terminal]]
+name = \"B\"
+z2 = { pickup = [2, 30], dropout = 1 }
+
+[[channel]]
+from = \"A\"
+to = \"B\"
+delay = [5, 90]
+
+[[channel]]
+from = \"B\"
+to = \"A\"
+delay = [5, 90]
+";
+
+const NO_ROWS: &str = "script,item,place,from,to
+Q,external,,,
+";
+
+const ONE_TICK_SEEN: &str = "script,item,place,from,to
+R,external,,,
+R,z2,A,3,4
+";
+
+const HELD: &str = "script,item,place,from,to
+M,internal,,110,
+M,z2,A,10,120
+M,z2,B,10,120
+M,cur,A,10,120
+M,cur,B,10,120
+";
+
+const BRIEF: &str = "script,item,place,from,to
+X,external,,,
+X,z2,A,10,18
+X,z2,B,100,110
+X,cur,A,0,120
+X,cur,B,0,120
+";
+
+const ONE_DELAY: &str = "timing,parameter,value
+T,A>B.delay,50
+";
+
+const LEAST_DELAY: &str = "timing,parameter,value
+T,A>B.delay,1
+";
+
+const MOVES: &str = "timing,parameter,value
+T,A>B.delay,50
+T,B>A.delay,90
+T,A>B.delay@40,10
+T,B>A.delay@70,20
+";

@@ -1,0 +1,126 @@
+-- What a net is given from outside, from a tick on.
+use Rattle.std.proofs.Common.{◌≡◌, ℕ, zero, ◌+◌, ◌-◌, ◌<◌, ◌≤◌, List, length, Some, sym, ◌∙◌, ap}
+use Rattle.std.proofs.Common.{arith, subst, ⊎_elim, length-set}
+use Rattle.std.specs.Prelude.{slice_get, slice_set, option_map}
+use Rattle.std.proofs.lemmas.Option.{slice_get-map, slice_get_within, get_or_from_slice_get}
+use Rattle.history.specs.Rails.{Ends}
+use Rattle.line_model.specs.declared.line.Line.{Line}
+use Rattle.line_model.specs.declared.line.Channel.{Channel}
+use Rattle.line_model.specs.declared.script.Script.{Script}
+use Rattle.line_model.specs.declared.script.SeenSpan.{SeenSpan}
+use Rattle.line_model.specs.Channels.{from_of}
+use Rattle.line_model.specs.Parameters.{terminal_count, channel_count, param_count, delay_param}
+use Rattle.line_model.specs.Choice.{pair_world_of}
+use Rattle.timing_box.specs.declared.step.Step.{Step}
+use Rattle.simulator.specs.declared.inputs.Delay.{Delay}
+use Rattle.simulator.specs.Inputs.{AreDelays, AreGiven, AreDelaysOf, IsWorldAt, CanReceive}
+use Rattle.simulator.specs.LaneBox.{ends_at, lane_box, lane_world}
+use Rattle.simulator.specs.ListLaws.{exists_at}
+use Rattle.simulator.specs.Quiet.{Keeps}
+use Rattle.simulator.specs.Runs.{AreDelayed}
+use Rattle.simulator.proofs.Lists.{at_set}
+
+-- who sends over a channel
+pub sender : (line : Line) (c : ℕ) (h : Channel) → slice_get line.channels.items c ≡ Some h
+    → from_of line.channels.items c ≡ h.from
+sender line c h is =
+    get_or_from_slice_get _ c h.from 0
+    (slice_get-map (λ (k : Channel). k.from) line.channels.items c
+    ∙ ap (option_map (λ (k : Channel). k.from)) is)
+
+-- one delay with another span
+pub span_set : {S : Type 0} (line : Line) (delays : List (Delay S)) (c : ℕ) (old new : Delay S)
+    → slice_get delays c ≡ Some old → new.from ≡ old.from → new.param ≡ old.param
+    → AreDelays line delays → AreDelays line (slice_set delays c new)
+span_set {S} line delays c old new at from param are =
+    let each : (P : ℕ → Delay S → Type 0) → P c new
+    → ((i : ℕ) (d : Delay S) → slice_get delays i ≡ Some d → P i d)
+    → (i : ℕ) (d : Delay S) → slice_get (slice_set delays c new) i ≡ Some d → P i d =
+    λ P now before i d there.
+    ⊎_elim (λ p. subst (λ (k : ℕ). P k d) (sym p.0) (subst (P c) p.1 now))
+    (λ p. before i d p.1) (at_set delays c new i d there) in
+    record {
+      count = length-set delays c new ∙ are.count;
+      from = each (λ i d. d.from ≡ from_of line.channels.items i) (from ∙ are.from c old at)
+          are.from;
+      param = each (λ i d. d.param ≡ delay_param line i) (param ∙ are.param c old at) are.param;
+      there = each (λ i d. d.param < param_count line)
+          (subst (λ (k : ℕ). k < param_count line) (sym param) (are.there c old at)) are.there;
+    }
+
+module _ {S : Type 0} (ends : S → ℕ → Ends) (line : Line) (script : Script) (spans : List S)
+    (steps : List (Step S)) where
+  abbrev Given : List SeenSpan → List (Delay S) → ℕ → ℕ → Type 0
+  Given present delays t until = AreGiven ends line script spans steps present delays t until
+
+  -- nothing before it is looked up
+  pub given_none : (present : List SeenSpan) (delays : List (Delay S)) → Given present delays 0 0
+  given_none present delays = record {
+    shown = λ r low high. absurd (omega arith);
+    script_keeps = record {
+      seen = λ p r low high. absurd (omega arith);
+      lost = λ c r low high. absurd (omega arith);
+    };
+    held = λ c d at lane r low high. absurd (omega arith);
+  }
+
+  pub given_later : (present : List SeenSpan) (delays : List (Delay S)) (t s until : ℕ) → t ≤ s
+      → Given present delays t until → Given present delays s until
+  given_later present delays t s until le given = record {
+    shown = λ r low high. given.shown r (omega arith) high;
+    script_keeps = record {
+      seen = λ p r low high. given.script_keeps.seen p r (omega arith) (omega arith)
+          ∙ sym (given.script_keeps.seen p s (omega arith) (omega arith));
+      lost = λ c r low high. given.script_keeps.lost c r (omega arith) (omega arith)
+          ∙ sym (given.script_keeps.lost c s (omega arith) (omega arith));
+    };
+    held = λ c d at lane r low high. given.held c d at lane r (omega arith) high;
+  }
+
+  module _ (lane : ℕ) (present : List SeenSpan) (delays : List (Delay S)) (t until : ℕ)
+      (are : AreDelays line delays) (given : Given present delays t until) where
+    -- the span of a channel's delay
+    span_at : (c r : ℕ) (d : Delay S) → slice_get delays c ≡ Some d → t ≤ r → r < until
+        → ends d.span lane ≡ ends_at ends lane spans steps (delay_param line c) r
+    span_at c r d at low high =
+        given.held c d at lane r low high
+        ∙ ap (λ (p : ℕ). ends_at ends lane spans steps p r) (are.param c d at)
+
+    pub world_at : t < until
+        → IsWorldAt ends lane present delays (lane_world ends line script spans steps lane) t
+    unfolding pair_world_of lane_box
+    world_at early =
+        let shown = given.shown t (omega arith) early in
+        record {
+          seen = shown.seen;
+          lost = shown.lost;
+          channels = record {
+            from = are.from;
+            delay = λ c d at. span_at c t d at (omega arith) early;
+          };
+        }
+
+    pub delay_keeps : (n : ℕ) → 1 ≤ n → t + n ≤ until → (c : ℕ) → c < channel_count line
+        → Keeps (λ r. ends_at ends lane spans steps (delay_param line c) r) t n
+    delay_keeps n some over c lt r low high =
+        let there : c < length delays = subst (λ (m : ℕ). c < m) (sym are.count) lt in
+        let (d, at) = exists_at delays c there in
+        sym (span_at c r d at low (omega arith)) ∙ span_at c t d at (omega arith) (omega arith)
+
+  pub can_receive : (lanes : ℕ) (present : List SeenSpan) (delays : List (Delay S)) (t until : ℕ)
+      → AreDelays line delays → Given present delays t until → t < until → t < line.horizon
+      → AreDelayed lanes ends line spans steps → CanReceive lanes ends line delays
+  unfolding lane_box
+  can_receive lanes present delays t until are given early inside delayed =
+      let channel : (c : ℕ) (d : Delay S) → slice_get delays c ≡ Some d → c < channel_count line =
+      λ c d at. subst (λ (m : ℕ). c < m) are.count (slice_get_within delays c d at) in
+      record {
+        count = are.count;
+        from = λ c d at.
+            subst (λ (k : ℕ). k < terminal_count line) (sym (are.from c d at))
+            (line.pairs_once.from c (channel c d at));
+        later = λ c d at lane below.
+            subst (λ (e : Ends). 1 ≤ e.least)
+            (sym (span_at lane present delays t until are given c t d at (omega arith) early))
+            (delayed lane below c t (channel c d at) inside);
+      }

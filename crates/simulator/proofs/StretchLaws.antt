@@ -1,0 +1,104 @@
+-- A stretch of ticks of a line's net.
+use Rattle.std.proofs.Common.{◌≡◌, ℕ, ◌+◌, ◌-◌, ◌<◌, ◌≤◌, List, length, Some, sym, ◌∙◌, ap, arith, subst}
+use Rattle.std.specs.Prelude.{slice_get}
+use Rattle.history.specs.Rails.{Rails, Ends}
+use Rattle.timers.specs.Stretches.{ElementsInAStretch}
+use Rattle.line_model.specs.declared.line.Line.{Line}
+use Rattle.line_model.specs.declared.script.Script.{Script}
+use Rattle.line_model.specs.declared.script.SeenSpan.{SeenSpan}
+use Rattle.line_model.specs.Channels.{from_of}
+use Rattle.line_model.specs.Parameters.{channel_count}
+use Rattle.line_model.specs.PairMean.{PairWorld, PairSignals}
+use Rattle.line_model.specs.Choice.{Box, LeastFromOne, pair_world_of}
+use Rattle.line_model.specs.Logic.{key_tree}
+use Rattle.line_model.specs.Solution.{the_keys}
+use Rattle.line_model.specs.Laws.{LineLaws}
+use Rattle.gate_net.specs.declared.gate.Gate.{Gate}
+use Rattle.gate_net.specs.declared.gate.GateId.{GateId}
+use Rattle.gate_net.specs.NetLaws.{GatesStandForTheirTrees}
+use Rattle.gate_net.specs.NetOf.{NetOf, IsNetOf, AreGatesOf, key_of}
+use Rattle.timing_box.specs.declared.step.Step.{Step}
+use Rattle.simulator.specs.declared.inputs.Delay.{Delay}
+use Rattle.simulator.specs.GatePairs.{GateSignals, line_pairs}
+use Rattle.simulator.specs.Inputs.{AreDelays, AreGiven}
+use Rattle.simulator.specs.LaneBox.{lane_box, lane_world}
+use Rattle.simulator.specs.Quiet.{Keeps, ArrivalKeeps, TimerKeeps, AreGatePairs}
+use Rattle.simulator.specs.Ticks.{ValuesAgree}
+use Rattle.simulator.specs.WavesOf.{number_at}
+use Rattle.simulator.proofs.GatePairLaws.{gate_pairs-kind}
+use Rattle.simulator.proofs.GivenLaws.{delay_keeps}
+use Rattle.simulator.proofs.InputLaws.{script_fewer}
+use Rattle.simulator.proofs.QuietLaws.{gates_keep}
+use Rattle.simulator.proofs.RunLaws.{key_pair}
+
+pub keeps_one : {A : Type 0} (u : ℕ → A) (t : ℕ) → Keeps u t 1
+keeps_one u t r low high = let e : r ≡ t = omega arith in ap u e
+
+-- what a column has of some gates is what they have through the stretch
+pub held_values : {V : Type 0} (rails : V → ℕ → Rails) (lane : ℕ) (u : GateSignals) (t n len : ℕ)
+    (column : List V) (ids : List GateId) → AreGatesOf ids len → ValuesAgree rails lane u t column
+    → ((i : ℕ) → i < len → Keeps (u i) t n)
+    → (k : ℕ) (x : V) → k < length ids → slice_get column (number_at ids k) ≡ Some x
+    → (r : ℕ) → t ≤ r → r < t + n → u (number_at ids k) r ≡ rails x lane
+held_values rails lane u t n len column ids are agree keeps k x lt at r low high =
+    keeps (number_at ids k) (are k lt) r low high ∙ sym (agree (number_at ids k) x at)
+
+module _ {S : Type 0} (laws : LineLaws) (trees : GatesStandForTheirTrees)
+    (stretch : ElementsInAStretch) (ends : S → ℕ → Ends) (line : Line) (script : Script)
+    (spans : List S) (steps : List (Step S)) (lane : ℕ) (net : NetOf) (of_line : IsNetOf line net)
+    (d : LeastFromOne line (lane_box ends line spans steps lane)) where
+  abbrev box : Box
+  box = lane_box ends line spans steps lane
+
+  abbrev world : PairWorld
+  world = lane_world ends line script spans steps lane
+
+  abbrev keys : PairSignals
+  keys = the_keys world (key_tree line)
+
+  abbrev pairs : GateSignals
+  pairs = line_pairs line script box net
+
+  -- the key's gate of the terminal that sends over a channel
+  are_pairs : AreGatePairs world keys pairs (channel_count line) line.horizon net.gates
+  unfolding pair_world_of
+  are_pairs = record {
+    told = λ t i g at. gate_pairs-kind trees.kinds world keys net.gates i g t of_line.laws.gates at;
+    key_gate = λ c. key_of net (from_of line.channels.items c);
+    there = λ c lt. of_line.laws.keys (from_of line.channels.items c)
+        (subst (λ (n : ℕ). from_of line.channels.items c < n) (sym of_line.terminals)
+        (line.pairs_once.from c lt));
+    keys_are = λ c t lt early.
+        sym (key_pair laws trees line script box d net of_line (from_of line.channels.items c) t
+        (line.pairs_once.from c lt) early);
+  }
+
+  pub key_is : (k t : ℕ) → k < length net.keys → t < line.horizon
+      → keys k t ≡ pairs (key_of net k) t
+  key_is k t kn lt =
+      sym (key_pair laws trees line script box d net of_line k t
+      (subst (λ (n : ℕ). k < n) of_line.terminals kn) lt)
+
+  -- every gate keeps its value through the stretch
+  pub stretch_keeps : (present : List SeenSpan) (delays : List (Delay S)) (t until n : ℕ)
+      → AreDelays line delays → AreGiven ends line script spans steps present delays t until
+      → 1 ≤ n → t + n ≤ until → t + n ≤ line.horizon
+      → ((c : ℕ) → c < length delays
+      → ArrivalKeeps (keys (world.from c)) (world.delay c t) t n)
+      → ((i : ℕ) (g : Gate) → slice_get net.gates i ≡ Some g → TimerKeeps world pairs t n g)
+      → (i : ℕ) → i < length net.gates → Keeps (pairs i) t n
+  unfolding pair_world_of lane_box
+  stretch_keeps present delays t until n are given some over fits arrivals timers i inside =
+      let shown = script_fewer script.spans.items t n (until - t) (omega arith)
+      given.script_keeps in
+      gates_keep stretch line world keys pairs t n net.gates of_line.laws.gates of_line.named
+      are_pairs
+      (record {
+        seen = shown.seen;
+        lost = shown.lost;
+        delays = λ c lt. delay_keeps ends line script spans steps lane present delays t until are
+            given n some over c lt;
+        arrivals = λ c lt. arrivals c (subst (λ (m : ℕ). c < m) (sym are.count) lt);
+        timers = timers;
+      })
+      fits i inside

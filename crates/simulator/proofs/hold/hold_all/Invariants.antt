@@ -1,0 +1,18 @@
+use Rattle.std.proofs.Common.{ℕ, suc, ◌<◌, ◌+◌, length}
+use Rattle.line_model.specs.PairMean.{PairWorld}
+use Rattle.simulator.specs.GatePairs.{GateSignals}
+use Rattle.simulator.specs.Ticks.{HaveCells, AllStand, CellsBetween, ValuesAgree}
+use Rattle.simulator.specs.Quiet.{Keeps}
+use Rattle.simulator.proofs.hold.hold_all.Given as goal
+
+abbrev pub invariant-loop-i : goal.invariant-loop-i
+invariant-loop-i g l = record {
+  cells : HaveCells l.net.gates l.cells.items;
+  held : (lane : ℕ) (w : PairWorld) (u : GateSignals) (t : ℕ) → lane < g.V.Signal.LANES
+      → ValuesAgree g.V.Signal.rails lane u t l.column
+      → ((i : ℕ) → i < length l.net.gates → Keeps (u i) t (suc l.count))
+      → AllStand g.V.Timed.stands_for g.V.Signal.ends g.V.Signal.rails lane w u (suc t)
+      l.net.gates l.initial.cells.items
+      → CellsBetween g.V.Timed.stands_for g.V.Signal.ends g.V.Signal.rails lane w u (suc t)
+      (suc t + l.count) l.i l.net.gates l.cells.items;
+}

@@ -1,0 +1,79 @@
+use Rattle.std.proofs.Common.{ℕ, ◌<◌, length, refl, sym, ◌∙◌, ap, subst}
+use Rattle.line_model.specs.PairMean.{PairWorld, PairSignals}
+use Rattle.line_model.specs.Logic.{key_tree}
+use Rattle.line_model.specs.Solution.{the_keys}
+use Rattle.line_model.specs.Choice.{pair_world_of}
+use Rattle.simulator.specs.GatePairs.{GateSignals, line_pairs}
+use Rattle.simulator.specs.LaneBox.{lane_box, lane_world}
+use Rattle.simulator.proofs.PointLaws.{exact_at}
+use Rattle.simulator.specs.Ticks.{AreSent}
+use Rattle.simulator.specs.Tracks.{tracks_history, trips_of, LineTracked}
+use Rattle.simulator.proofs.SendLaws.{fresh_sent, none_sent}
+use Rattle.simulator.proofs.TrackLaws.{kept_pair, kept_history}
+use Rattle.simulator.proofs.GivenLaws.{given_none}
+use Rattle.simulator.specs.Inputs.{AreGiven}
+use Rattle.simulator.proofs.tracks.run_tracks.Goals as goal
+
+pub take_all-requires-clause-keys : goal.take_all-requires-clause-keys
+take_all-requires-clause-keys g c =
+    let h = c.args.line.now.horizon in
+    let n = length c.key_gates.result.now in
+    subst (λ (m : ℕ). AreSent m h 0 c.in_ok-keys.keys.items) (ap length c.key_gates.ensures)
+    (fresh_sent n h c.in_ok-keys.keys.items c.in_ok-keys.ensures)
+
+pub take_all-requires-clause-trips : goal.take_all-requires-clause-trips
+take_all-requires-clause-trips g c =
+    let h = c.args.line.now.horizon in
+    let n = length c.trip_gates.result.now in
+    subst (λ (m : ℕ). AreSent m h 0 c.in_ok-trips.trips.items) (ap length c.trip_gates.ensures)
+    (fresh_sent n h c.in_ok-trips.trips.items c.in_ok-trips.ensures)
+
+pub take_all-requires-clause-given : goal.take_all-requires-clause-given
+take_all-requires-clause-given g c =
+    let inputs = c.in_ok-inputs.inputs in
+    subst (λ (m : ℕ). AreGiven g.V.Signal.ends c.args.line.now c.args.script.now c.args.spans.now
+    c.args.steps.now inputs.present.items inputs.delays.items 0 m)
+    (sym c.in_ok-inputs.ensures.over)
+    (given_none g.V.Signal.ends c.args.line.now c.args.script.now c.args.spans.now
+    c.args.steps.now inputs.present.items inputs.delays.items)
+
+pub returns-clause-history : goal.returns-clause-history
+unfolding pair_world_of lane_box
+returns-clause-history g c = λ lane inside.
+    let line = c.args.line.now in
+    let script = c.args.script.now in
+    let spans = c.args.spans.now in
+    let steps = c.args.steps.now in
+    let net = c.args.net.now in
+    let of_line = c.requires.of_line in
+    let h = line.horizon in
+    let ends = g.V.Signal.ends in
+    let rails = g.V.Signal.rails in
+    let w : ℕ → PairWorld = λ l. lane_world ends line script spans steps l in
+    let key : ℕ → PairSignals = λ l. the_keys (w l) (key_tree line) in
+    let u : ℕ → GateSignals = λ l. line_pairs line script (lane_box ends line spans steps l) net in
+    let stands : LineTracked g.V.Timed.stands_for ends rails line script spans steps net lane h
+    c.take_all.new.keys.items c.take_all.new.trips.items c.take_all.new.cells.items =
+    c.take_all.ensures.stands
+    (λ l il. record {
+      keys_kept = none_sent rails l (length c.key_gates.result.now) h (key l)
+          c.in_ok-keys.keys.items c.in_ok-keys.ensures;
+      trips_kept = none_sent rails l (length c.trip_gates.result.now) h (trips_of net (u l))
+          c.in_ok-trips.trips.items c.in_ok-trips.ensures;
+      stand = c.in_ok-cells.ensures.stands l (w l) (u l) il (λ x. refl);
+    })
+    lane inside in
+    kept_history c.line_laws.ensures c.gates_stand_for_their_trees.ensures line script (lane_box ends line spans steps lane) (c.requires.delayed lane inside)
+    net of_line
+    (tracks_history rails lane c.take_all.new.keys.items c.take_all.new.trips.items)
+    (λ k t kn lt. kept_pair c.history_laws.ensures rails lane (key lane) (length net.keys) h h k t
+    c.take_all.new.keys.items c.take_all.ensures.keys stands.keys_kept
+    (subst (λ (n : ℕ). k < n) (sym of_line.terminals) kn) lt)
+    (λ k t kn lt. kept_pair c.history_laws.ensures rails lane (trips_of net (u lane)) (length net.trips) h h k t
+    c.take_all.new.trips.items c.take_all.ensures.trips stands.trips_kept
+    (subst (λ (n : ℕ). k < n) (sym (of_line.laws.same ∙ of_line.terminals)) kn) lt)
+
+pub returns-clause-exact : goal.returns-clause-exact
+returns-clause-exact g c = λ lane choice inside point.
+    exact_at c.line_laws.ensures c.args.line.now c.args.script.now _ (c.requires.delayed lane inside) choice point _
+    (returns-clause-history g c lane inside).is

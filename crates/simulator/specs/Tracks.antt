@@ -1,0 +1,55 @@
+-- What a run by stretches holds before a tick, and what it gives.
+use Rattle.std.specs.Prelude.{ℕ, List, Option, Some, None, slice_get, false}
+use Rattle.history.specs.Rails.{Rails, Ends, rails_at, both}
+use Rattle.tick_signal.specs.Lanes.{in_lane}
+use Rattle.channel.specs.SentKeys.{SentKeys}
+use Rattle.line_model.specs.declared.line.Line.{Line}
+use Rattle.line_model.specs.declared.script.Script.{Script}
+use Rattle.line_model.specs.PairMean.{PairWorld, PairSignals}
+use Rattle.line_model.specs.Logic.{key_tree}
+use Rattle.line_model.specs.Solution.{the_keys}
+use Rattle.line_model.specs.Histories.{PairHistory}
+use Rattle.gate_net.specs.declared.gate.Gate.{Gate}
+use Rattle.gate_net.specs.NetOf.{NetOf, trip_of}
+use Rattle.timing_box.specs.declared.step.Step.{Step}
+use Rattle.simulator.specs.GatePairs.{GateSignals, line_pairs}
+use Rattle.simulator.specs.LaneBox.{lane_box, lane_world}
+use Rattle.simulator.specs.declared.cell.Cell.{Cell}
+use Rattle.simulator.specs.Ticks.{KeysSent, AllStand}
+
+-- in a lane, before tick t: the keys and the trips of the ticks before were kept, and the cells
+-- stand for them
+pub record LaneTracked {C S V : Type 0} (stands_for : C → S → S → ℕ → List Rails → Type 0)
+    (ends : S → ℕ → Ends) (rails : V → ℕ → Rails) (lane : ℕ) (w : PairWorld)
+    (key trip : PairSignals) (u : GateSignals) (t : ℕ) (gates : List Gate)
+    (keys trips : List (SentKeys V)) (cells : List (Cell C V S)) : Type 0 where
+  pub keys_kept : KeysSent rails lane key t keys
+  pub trips_kept : KeysSent rails lane trip t trips
+  pub stand : AllStand stands_for ends rails lane w u t gates cells
+
+-- the pairs of the trips' gates
+abbrev pub trips_of : NetOf → GateSignals → PairSignals
+trips_of net u k t = u (trip_of net k) t
+
+-- the same over the interval history of the line over the lane's box
+abbrev pub LineTracked : {C S V : Type 0} → (C → S → S → ℕ → List Rails → Type 0)
+    → (S → ℕ → Ends) → (V → ℕ → Rails) → Line → Script → List S → List (Step S) → NetOf → ℕ → ℕ
+    → List (SentKeys V) → List (SentKeys V) → List (Cell C V S) → Type 0
+LineTracked stands_for ends rails line script spans steps net lane t keys trips cells =
+    let w = lane_world ends line script spans steps lane in
+    let u = line_pairs line script (lane_box ends line spans steps lane) net in
+    LaneTracked stands_for ends rails lane w (the_keys w (key_tree line)) (trips_of net u) u t
+    net.gates keys trips cells
+
+-- the pair of the value at a tick of a track in a lane; off where there is none
+abbrev pub pair_of : {V : Type 0} → (V → ℕ → Rails) → ℕ → ℕ → Option (SentKeys V) → Rails
+pair_of rails lane t None = both false
+pair_of rails lane t (Some s) = rails_at (in_lane rails lane s.keys) t
+
+-- the pairs of what each terminal keys and of its trip, in a lane
+abbrev pub tracks_history : {V : Type 0} → (V → ℕ → Rails) → ℕ → List (SentKeys V)
+    → List (SentKeys V) → PairHistory
+tracks_history rails lane keys trips = record {
+  key = λ k t. pair_of rails lane t (slice_get keys k);
+  trip = λ k t. pair_of rails lane t (slice_get trips k);
+}

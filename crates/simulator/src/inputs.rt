@@ -1,0 +1,146 @@
+//! What a net is given at a tick: what its script shows and loses, and its delays.
+
+ghost use Rattle.std.specs.Prelude.{◌≡◌, ℕ, ◌<◌, ◌≤◌, ◌+◌, length, vec_capacity, IfOk, IsTrue};
+ghost use Rattle.line_model.specs.Parameters.{channel_count, param_count, delay_param};
+ghost use Rattle.timing_box.specs.Timing.{ascend};
+ghost use Rattle.simulator.specs.Inputs.{AreDelays, AreGiven, DelayHolds, DelaysHold};
+
+use crate::lesser::lesser;
+use crate::present::keep_present;
+use crate::steps::{steps_stay, value_at};
+use line_model::{Line, Memory, Script, SeenSpan};
+use std::alloc::Global;
+use tick_signal::Signal;
+use timing_box::Step;
+
+/// A channel's delay: the terminal that sends, the delay's parameter, and its span at the tick.
+#[derive(Clone, Copy)]
+pub struct Delay<P: Copy> {
+    pub from: u32,
+    pub param: u32,
+    pub span: P,
+}
+
+/// The spans of the script that hold a tick, the delay of each channel at it, and the first tick
+/// at which either may differ.
+#[derive(Drop)]
+pub struct Inputs<P: Copy> {
+    pub present: Vec<SeenSpan>,
+    pub delays: Vec<Delay<P>>,
+    pub until: u32,
+}
+
+/// What is looked up before tick 0. All memory is taken here.
+pub fn fresh_inputs<V: Signal>(
+    alloc: Global,
+    line: &Line,
+    script: &Script,
+    spans: &[V::Span],
+) -> Result<Inputs<V::Span>, Memory>
+    requires spans { length spans.now ≡ param_count line.now }
+    ensures room { IfOk result (λ inputs.
+        length script.now.spans.items ≤ vec_capacity inputs.present) }
+    ensures delays { IfOk result (λ inputs. AreDelays line.now inputs.delays.items) }
+    ensures over { IfOk result (λ inputs. inputs.until ≡ 0) }
+{
+    let present = Vec::with_capacity(alloc, script.spans.len())?;
+    let delays = fresh_delays::<V>(alloc, line, spans)?;
+    Ok(Inputs {
+        present,
+        delays,
+        until: 0,
+    })
+}
+
+// The own delay of each channel.
+fn fresh_delays<V: Signal>(
+    alloc: Global,
+    line: &Line,
+    spans: &[V::Span],
+) -> Result<Vec<Delay<V::Span>>, Memory>
+    requires spans { length spans.now ≡ param_count line.now }
+    ensures { IfOk result (λ delays. AreDelays line.now delays.items) }
+{
+    let mut delays = Vec::new(alloc);
+    for channel in 0..line.channels.len() {
+        let param = line.delay_of(channel as u32);
+        delays.push(Delay {
+            from: line.channels[channel].from,
+            param,
+            span: spans[param as usize],
+        })?;
+    }
+    Ok(delays)
+}
+
+/// Looks up what is given from this tick on, if that of the tick before is over.
+pub fn turn<V: Signal>(
+    line: &Line,
+    script: &Script,
+    spans: &[V::Span],
+    steps: &[Step<V::Span>],
+    inputs: &mut Inputs<V::Span>,
+    t: u32,
+)
+    requires spans { length spans.now ≡ param_count line.now }
+    requires ascending { IsTrue (ascend steps.now) }
+    requires early { t < 4000 }
+    requires room { length script.now.spans.items ≤ vec_capacity inputs.old.present }
+    requires delays { AreDelays line.now inputs.old.delays.items }
+    requires given { AreGiven V.ends line.now script.now spans.now steps.now
+        inputs.old.present.items inputs.old.delays.items t inputs.old.until }
+    ensures later { t < inputs.new.until }
+    ensures room { length script.now.spans.items ≤ vec_capacity inputs.new.present }
+    ensures delays { AreDelays line.now inputs.new.delays.items }
+    ensures given { AreGiven V.ends line.now script.now spans.now steps.now
+        inputs.new.present.items inputs.new.delays.items t inputs.new.until }
+{
+    if t < inputs.until {
+        return;
+    }
+    let shown = keep_present(&script.spans, t, &mut inputs.present);
+    let still = set_delays::<V>(line, spans, steps, &mut inputs.delays, t);
+    inputs.until = t + lesser(shown, still);
+}
+
+// Sets each delay to its span at the tick, and answers for how many ticks all stay.
+fn set_delays<V: Signal>(
+    line: &Line,
+    spans: &[V::Span],
+    steps: &[Step<V::Span>],
+    delays: &mut Vec<Delay<V::Span>>,
+    t: u32,
+) -> u32
+    requires spans { length spans.now ≡ param_count line.now }
+    requires ascending { IsTrue (ascend steps.now) }
+    requires delays { AreDelays line.now delays.old.items }
+    ensures some { 1 ≤ result }
+    ensures limited { result ≤ 4000 }
+    ensures delays { AreDelays line.now delays.new.items }
+    ensures hold { DelaysHold V.ends spans.now steps.now delays.new.items t (t + result) }
+{
+    let mut stays = 4000;
+    for channel in 0..delays.len() {
+        let still = set_delay::<V>(spans, steps, &mut delays[channel], t);
+        stays = lesser(stays, still);
+    }
+    stays
+}
+
+// Sets a delay to its span at the tick, and answers for how many ticks it stays.
+fn set_delay<V: Signal>(
+    spans: &[V::Span],
+    steps: &[Step<V::Span>],
+    delay: &mut Delay<V::Span>,
+    t: u32,
+) -> u32
+    requires exists { delay.old.param < length spans.now }
+    requires ascending { IsTrue (ascend steps.now) }
+    ensures some { 1 ≤ result }
+    ensures from { delay.new.from ≡ delay.old.from }
+    ensures param { delay.new.param ≡ delay.old.param }
+    ensures holds { DelayHolds V.ends spans.now steps.now delay.new t (t + result) }
+{
+    delay.span = value_at(steps, spans[delay.param as usize], delay.param, t);
+    steps_stay(steps, delay.param, t)
+}

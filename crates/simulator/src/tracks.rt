@@ -1,0 +1,144 @@
+//! A run from one tick at which some gate may change to the next.
+
+ghost use Rattle.std.specs.Prelude.{◌≡◌, ℕ, ◌<◌, ◌≤◌, length, vec_capacity, IfOk, IsTrue};
+ghost use Rattle.line_model.specs.Parameters.{param_count};
+ghost use Rattle.line_model.specs.Choice.{Choice};
+ghost use Rattle.gate_net.specs.NetOf.{IsNetOf};
+ghost use Rattle.timing_box.specs.Timing.{ascend};
+ghost use Rattle.simulator.specs.LaneBox.{lane_box};
+ghost use Rattle.simulator.specs.Inputs.{AreDelays, AreGiven};
+ghost use Rattle.simulator.specs.Runs.{AreDelayed, IsTheHistory, IsPoint, IsExactAt};
+ghost use Rattle.simulator.specs.Ticks.{HaveCells, AreSent};
+ghost use Rattle.simulator.specs.Tracks.{LineTracked, tracks_history};
+
+use crate::cell::Cell;
+use crate::fresh::{fresh_cells, fresh_tracks};
+use crate::inputs::{Inputs, fresh_inputs};
+use crate::stretch::take_stretch;
+use channel::{Carried, Track};
+use gate_net::Net;
+use gate_net::laws::gates_stand_for_their_trees;
+use history::laws::history_laws;
+use line_model::laws::line_laws;
+use line_model::{Line, Memory, Script};
+use std::alloc::Global;
+use tick_signal::Signal;
+use timers::{SealCell, Timed};
+use timing_box::Step;
+
+/// What each terminal keys, and whether it trips, in the order of the line.
+#[derive(Drop)]
+pub struct Tracks<V: Signal> {
+    pub keys: Vec<Track<V>>,
+    pub trips: Vec<Track<V>>,
+}
+
+/// Runs the net of a line over a script as `run` does, from one tick at which some gate may change
+/// to the next, and keeps keys and trips alone: quiet ticks cost next to nothing. A span stands for each parameter, in the order of the line; a delay
+/// has at each tick the span of its step with the greatest `from` not after the tick, else its own.
+pub fn run_tracks<V: Timed + Carried>(
+    alloc: Global,
+    net: &Net,
+    line: &Line,
+    script: &Script,
+    spans: &[V::Span],
+    steps: &[Step<V::Span>],
+) -> Result<Tracks<V>, Memory>
+    requires of_line { IsNetOf line.now net.now }
+    requires spans { length spans.now ≡ param_count line.now }
+    requires ascending { IsTrue (ascend steps.now) }
+    requires delayed { AreDelayed V.LANES V.ends line.now spans.now steps.now }
+    // There is a value for each terminal and tick.
+    ensures keys { IfOk result (λ tracks.
+        AreSent (length net.now.keys) line.now.horizon line.now.horizon tracks.keys.items) }
+    ensures trips { IfOk result (λ tracks.
+        AreSent (length net.now.trips) line.now.horizon line.now.horizon tracks.trips.items) }
+    // In each lane keys and trips are the one interval history over the lane's box,
+    ensures history { IfOk result (λ tracks. (lane : ℕ) → lane < V.LANES →
+        IsTheHistory line.now script.now (lane_box V.ends line.now spans.now steps.now lane)
+        (tracks_history V.rails lane tracks.keys.items tracks.trips.items)) }
+    // and where it holds one choice alone, they are the history at that choice.
+    ensures exact { IfOk result (λ tracks. (lane : ℕ) (choice : Choice) → lane < V.LANES →
+        IsPoint line.now (lane_box V.ends line.now spans.now steps.now lane) choice →
+        IsExactAt line.now script.now choice
+        (tracks_history V.rails lane tracks.keys.items tracks.trips.items)) }
+{
+    line_laws();
+    gates_stand_for_their_trees();
+    history_laws();
+    let mut cells = fresh_cells::<V>(alloc, net, line, spans)?;
+    let mut column: Vec<V> = Vec::with_capacity(alloc, net.len() as usize)?;
+    let mut inputs = fresh_inputs::<V>(alloc, line, script, spans)?;
+    let mut keys = fresh_tracks::<V>(alloc, net.key_gates().len() as u32, line.horizon)?;
+    let mut trips = fresh_tracks::<V>(alloc, net.trip_gates().len() as u32, line.horizon)?;
+    take_all::<V>(
+        net,
+        &mut cells,
+        &mut column,
+        &mut inputs,
+        &mut keys,
+        &mut trips,
+        line,
+        script,
+        spans,
+        steps,
+    );
+    Ok(Tracks { keys, trips })
+}
+
+// Takes all ticks up to the horizon.
+fn take_all<V: Timed + Carried>(
+    net: &Net,
+    cells: &mut Vec<Cell<V::Cells, SealCell<V>, V::Span>>,
+    column: &mut Vec<V>,
+    inputs: &mut Inputs<V::Span>,
+    keys: &mut Vec<Track<V>>,
+    trips: &mut Vec<Track<V>>,
+    line: &Line,
+    script: &Script,
+    spans: &[V::Span],
+    steps: &[Step<V::Span>],
+)
+    requires of_line { IsNetOf line.now net.now }
+    requires spans { length spans.now ≡ param_count line.now }
+    requires ascending { IsTrue (ascend steps.now) }
+    requires delayed { AreDelayed V.LANES V.ends line.now spans.now steps.now }
+    requires room { length net.now.gates ≤ vec_capacity column.old }
+    requires shown { length script.now.spans.items ≤ vec_capacity inputs.old.present }
+    requires delays { AreDelays line.now inputs.old.delays.items }
+    requires given { AreGiven V.ends line.now script.now spans.now steps.now
+        inputs.old.present.items inputs.old.delays.items 0 inputs.old.until }
+    requires cells { HaveCells net.now.gates cells.old.items }
+    requires keys { AreSent (length net.now.keys) line.now.horizon 0 keys.old.items }
+    requires trips { AreSent (length net.now.trips) line.now.horizon 0 trips.old.items }
+    ensures keys { AreSent (length net.now.keys) line.now.horizon line.now.horizon keys.new.items }
+    ensures trips { AreSent (length net.now.trips) line.now.horizon line.now.horizon trips.new.items }
+    ensures stands { ((lane : ℕ) → lane < V.LANES →
+        LineTracked V.stands_for V.ends V.rails line.now script.now spans.now steps.now net.now lane
+        0 keys.old.items trips.old.items cells.old.items) →
+        (lane : ℕ) → lane < V.LANES →
+        LineTracked V.stands_for V.ends V.rails line.now script.now spans.now steps.now net.now lane
+        line.now.horizon keys.new.items trips.new.items cells.new.items }
+{
+    let mut t = 0;
+    let mut next_look = 0;
+    while t < line.horizon {
+        let ahead = next_look <= t;
+        let stays = take_stretch::<V>(
+            net, cells, column, inputs, keys, trips, line, script, spans, steps, t, ahead,
+        );
+        t += stays;
+        next_look = look_again(next_look, ahead, stays, t);
+    }
+}
+
+// From which tick on it is worth looking ahead: where a look found nothing, not at once.
+fn look_again(next_look: u32, ahead: bool, stays: u32, t: u32) -> u32
+    requires { t ≤ 4000 }
+{
+    if ahead && stays == 1 {
+        t + 2
+    } else {
+        next_look
+    }
+}

@@ -1,0 +1,112 @@
+use Rattle.std.proofs.Common.{◌≡◌, ◌<◌, ◌≤◌, ℕ, List, Some, length, map, refl, sym, arith, subst, Vec}
+use Rattle.std.specs.Prelude.{slice_get}
+use Rattle.std.specs.declared.alloc.Global.{Global}
+use Rattle.std.proofs.lemmas.Option.{slice_get_read}
+use Rattle.line_model.specs.declared.script.Script.{Script}
+use Rattle.line_model.specs.Fits.{Fits}
+use Rattle.split_text.specs.declared.claim.SplitClaim.{SplitClaim}
+use Rattle.split_text.specs.Grammar.{HasOneEach}
+use Rattle.split_text.specs.Reading.{result_in, results_in}
+use Rattle.split_checker.specs.declared.fault.ResultFault.{ResultFault}
+use Rattle.split_checker.specs.Check.{IsSplitFault}
+use Rattle.split_checker.specs.Results.{AreSupported, AreTold, IsFirstFault}
+use Rattle.split_checker.proofs.ListLaws.{each_mapped, slice_mapped}
+use Rattle.split_checker.proofs.ScriptLaws.{fault_told, one_script}
+use Rattle.split_checker.proofs.whole.check_scripts.Goals as goal
+
+pub check_results-requires-clause-fits : goal.check_results-requires-clause-fits
+check_results-requires-clause-fits c =
+    let scripts : List Script = c.args.scripts.now in
+    let i : ℕ = c.loop-i.i in
+    let inside : i < length scripts = omega (arith, c.loop-i-test.true) in
+    subst (Fits c.args.line.now) (sym c.index-scripts-i.is)
+    (c.requires.fits i c.index-scripts-i.result inside)
+
+pub check_results-requires-clause-one_each : goal.check_results-requires-clause-one_each
+check_results-requires-clause-one_each c =
+    let line = c.args.line.now in
+    let parts : List (Vec SplitClaim Global) = c.args.parts.now in
+    let i : ℕ = c.loop-i.i in
+    let item : Vec SplitClaim Global = c.index-parts-i.result in
+    let inside : i < length parts = omega (arith, c.loop-i-test.true, c.requires.many) in
+    subst (λ (l : List SplitClaim). HasOneEach line (map result_in l)) (sym c.as_slice.ensures.value)
+    (each_mapped results_in parts i item inside c.index-parts-i.is (HasOneEach line)
+    c.requires.one_each)
+
+pub loop-i-preserved : goal.loop-i-preserved
+loop-i-preserved c =
+    let line = c.args.line.now in
+    let scripts : List Script = c.args.scripts.now in
+    let parts : List (Vec SplitClaim Global) = c.args.parts.now in
+    let i : ℕ = c.loop-i.i in
+    let script : Script = c.index-scripts-i.result in
+    let item : Vec SplitClaim Global = c.index-parts-i.result in
+    let inside : i < length scripts = omega (arith, c.loop-i-test.true) in
+    let at : slice_get scripts i ≡ Some script =
+    slice_get_read scripts (length scripts) i script refl inside c.index-scripts-i.is in
+    let there : slice_get (map results_in parts) i ≡ Some (results_in item) =
+    slice_mapped results_in parts i item (omega (arith, inside, c.requires.many))
+    c.index-parts-i.is in
+    record {
+      supported = one_script (AreSupported line) scripts (map results_in parts) i script
+          (results_in item) at there c.loop-i.invariant.supported
+          (subst (λ (l : List SplitClaim). AreSupported line script (map result_in l))
+          c.as_slice.ensures.value c.in_default.ensures.exact);
+      told = one_script (AreTold line) scripts (map results_in parts) i script
+          (results_in item) at there c.loop-i.invariant.told
+          (subst (λ (l : List SplitClaim). AreTold line script (map result_in l))
+          c.as_slice.ensures.value c.in_default.ensures.told);
+    }
+
+pub returns-in-Err : goal.returns-in-Err
+returns-in-Err c =
+    let line = c.args.line.now in
+    let scripts : List Script = c.args.scripts.now in
+    let parts : List (Vec SplitClaim Global) = c.args.parts.now in
+    let i : ℕ = c.loop-i.i in
+    let script : Script = c.index-scripts-i.result in
+    let item : Vec SplitClaim Global = c.index-parts-i.result in
+    let fault : ResultFault = c.in-Err.fault in
+    let inside : i < length scripts = omega (arith, c.loop-i-test.true) in
+    let at : slice_get scripts i ≡ Some script =
+    slice_get_read scripts (length scripts) i script refl inside c.index-scripts-i.is in
+    let there : slice_get (map results_in parts) i ≡ Some (results_in item) =
+    slice_mapped results_in parts i item (omega (arith, inside, c.requires.many))
+    c.index-parts-i.is in
+    record {
+      exact = λ bytes is. subst (IsSplitFault line scripts bytes) (sym c.in_script.ensures)
+          (fault_told line scripts bytes i fault (record {
+            parts = map results_in parts;
+            is = is;
+            script = script;
+            results = results_in item;
+            script_is = at;
+            results_are = there;
+            before = c.loop-i.invariant.supported;
+            wrong = subst (λ (l : List SplitClaim).
+                IsFirstFault line script (map result_in l) fault)
+                c.as_slice.ensures.value c.in-Err.ensures.exact;
+          }));
+      told = tt;
+    }
+
+pub counts_of-requires : goal.counts_of-requires
+counts_of-requires c = record {
+  few = omega (arith, c.requires.few, c.requires.many);
+  each = λ k d lt. omega (arith, (c.requires.one_each k d lt).many, c.args.line.now.two_or_three.1);
+}
+
+pub returns : goal.returns
+returns c =
+    let scripts : List Script = c.args.scripts.now in
+    let done : length scripts ≤ c.loop-i.i = omega (arith, c.loop-i-test.false) in
+    record {
+      exact = λ bytes is. record {
+        parts = map results_in c.args.parts.now;
+        is = is;
+        each = λ k script said lt. c.loop-i.invariant.supported k script said
+            (omega (arith, lt, done));
+        counted = c.counts_of.ensures;
+      };
+      told = λ k script said lt. c.loop-i.invariant.told k script said (omega (arith, lt, done));
+    }

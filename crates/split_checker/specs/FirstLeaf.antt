@@ -1,0 +1,34 @@
+-- Trees whose yes leaves are held, and the first yes leaf that is not.
+use Rattle.std.specs.Prelude.{◌≡◌, ◌<◌, ℕ, List, Some, slice_get, IsTrue}
+use Rattle.line_model.specs.declared.line.Line.{Line}
+use Rattle.line_model.specs.declared.script.Script.{Script}
+use Rattle.line_model.specs.HeldOver.{IsHeldOver}
+use Rattle.line_model.specs.Choice.{declared_box}
+use Rattle.box_split.specs.declared.node.Node.{Node}
+use Rattle.box_split.specs.Trees.{SplitTree, preorder}
+use Rattle.box_split.specs.Leaves.{Leaf, leaves, AreSound}
+
+-- Of all leaves, numbered from 0, this is the first that is yes where the rule of terminal k is not
+-- held over its box.
+pub record IsFirstNotHeld (line : Line) (script : Script) (k : ℕ) (all : List Leaf) (number : ℕ)
+    : Type 0 where
+  pub leaf : Leaf
+  pub at : slice_get all number ≡ Some leaf
+  pub yes : IsTrue leaf.yes
+  pub not_held : ¬ (IsHeldOver line script k leaf.box)
+  pub before : (i : ℕ) (earlier : Leaf) → i < number → slice_get all i ≡ Some earlier
+      → IsTrue earlier.yes → IsHeldOver line script k earlier.box
+
+-- these are the nodes of a tree, of which the rule of terminal k is held over the part of each yes
+-- leaf of the declared box
+pub record IsTreeHeld (line : Line) (script : Script) (k : ℕ) (nodes : List Node) : Type 0 where
+  pub tree : SplitTree
+  pub are : nodes ≡ preorder tree
+  pub sound : AreSound line script k (declared_box line) tree
+
+-- these are the nodes of a tree, of which this leaf is the first that is yes and not held
+pub record IsTreeNotHeld (line : Line) (script : Script) (k : ℕ) (nodes : List Node) (leaf : ℕ)
+    : Type 0 where
+  pub tree : SplitTree
+  pub are : nodes ≡ preorder tree
+  pub first : IsFirstNotHeld line script k (leaves (declared_box line) tree) leaf

@@ -1,0 +1,5 @@
+pub mod FirstLeaf
+pub mod Walks
+pub mod Results
+pub mod Counts
+pub mod Check

@@ -1,0 +1,78 @@
+-- When the results of a script are supported, and the first fault where they are not.
+use Rattle.std.specs.Prelude.{◌≡◌, ◌<◌, ℕ, List, Some, length, slice_get, IsTrue}
+use Rattle.line_model.specs.declared.line.Line.{Line}
+use Rattle.line_model.specs.declared.script.Script.{Script}
+use Rattle.line_model.specs.Choice.{Choice, IsInside}
+use Rattle.line_model.specs.Histories.{History, IsLineHistory, Meets}
+use Rattle.cert_checker.specs.Refutations.{IsRefutation, IsFirstOutside, IsMetInside}
+use Rattle.box_split.specs.declared.node.Node.{Node}
+use Rattle.split_checker.specs.Counts.{is_yes_tree}
+use Rattle.split_text.specs.Grammar.{SplitResult, tree, fails}
+use Rattle.split_checker.specs.declared.fault.ResultFault.{ResultFault}
+use Rattle.split_checker.specs.declared.fault.ResultFault.TheVariants.{
+  NotHeld,
+  Outside,
+  Passes,
+  Memory,
+}
+use Rattle.split_checker.specs.FirstLeaf.{IsTreeHeld, IsTreeNotHeld}
+
+-- ---- one result
+
+-- the result of terminal k is supported: over the part of each yes leaf of a tree the rule is held;
+-- the numbers of a `no` are inside, and their history fails the obligation
+abbrev pub IsSupported : Line → Script → ℕ → SplitResult → Type 0
+IsSupported line script k (tree nodes) = IsTreeHeld line script k nodes
+IsSupported line script k (fails values) = IsRefutation line script k values
+
+-- what is wrong with a tree of terminal k: a yes leaf is not held. Want of memory says nothing.
+abbrev pub IsTreeFault : Line → Script → ℕ → List Node → ResultFault → Type 0
+IsTreeFault line script k nodes (NotHeld j n) = (j ≡ k) × IsTreeNotHeld line script k nodes n
+IsTreeFault line script k nodes (Outside j i value) = ⊥
+IsTreeFault line script k nodes (Passes j tick) = ⊥
+IsTreeFault line script k nodes Memory = Unit {0}
+
+-- what is wrong with a `no` of terminal k: a number is outside, or the numbers' history meets the
+-- obligation
+abbrev pub IsNoFault : Line → Script → ℕ → List ℕ → ResultFault → Type 0
+IsNoFault line script k values (NotHeld j n) = ⊥
+IsNoFault line script k values (Outside j i value) =
+    (j ≡ k) × IsFirstOutside line values i value
+IsNoFault line script k values (Passes j tick) = (j ≡ k) × IsMetInside line script k values tick
+IsNoFault line script k values Memory = Unit {0}
+
+-- what is wrong with the result of terminal k
+abbrev pub IsFaultOf : Line → Script → ℕ → SplitResult → ResultFault → Type 0
+IsFaultOf line script k (tree nodes) fault = IsTreeFault line script k nodes fault
+IsFaultOf line script k (fails values) fault = IsNoFault line script k values fault
+
+-- what it says is so: where a tree has yes leaves alone, each history of each choice inside meets
+-- the obligation; at the numbers of a `no`, which are inside, it is failed
+abbrev pub IsTold : Line → Script → ℕ → SplitResult → Type 0
+IsTold line script k (tree nodes) =
+    IsTrue (is_yes_tree nodes) → (choice : Choice) (h : History) → IsInside line choice
+    → IsLineHistory line script choice h → Meets line script k h
+IsTold line script k (fails values) = IsRefutation line script k values
+
+-- ---- the results of a script
+
+-- this holds of the result of each of the first terminals, so many
+abbrev pub EachTerminal : (ℕ → SplitResult → Type 0) → List SplitResult → ℕ → Type 0
+EachTerminal holds results n =
+    (k : ℕ) (result : SplitResult) → k < n → slice_get results k ≡ Some result → holds k result
+
+-- each is supported, and what each says is so
+abbrev pub AreSupported : Line → Script → List SplitResult → Type 0
+AreSupported line script results = EachTerminal (IsSupported line script) results (length results)
+
+abbrev pub AreTold : Line → Script → List SplitResult → Type 0
+AreTold line script results = EachTerminal (IsTold line script) results (length results)
+
+-- this is what is wrong with the first result that is not supported
+pub record IsFirstFault (line : Line) (script : Script) (results : List SplitResult)
+    (fault : ResultFault) : Type 0 where
+  pub terminal : ℕ
+  pub result : SplitResult
+  pub is : slice_get results terminal ≡ Some result
+  pub before : EachTerminal (IsSupported line script) results terminal
+  pub wrong : IsFaultOf line script terminal result fault

@@ -1,0 +1,36 @@
+//! The laws of acceptance.
+
+ghost use Rattle.std.specs.Prelude.{◌≡◌, ◌≢◌, ℕ, List};
+ghost use Rattle.line_model.specs.declared.line.Line.{Line};
+ghost use Rattle.line_model.specs.declared.script.Script.{Script};
+ghost use Rattle.cert_checker.specs.declared.counts.Counts.{Counts};
+ghost use Rattle.split_checker.specs.declared.fault.SplitFault.{SplitFault};
+ghost use Rattle.split_checker.specs.Check.{IsAccepted, IsSplitFault};
+
+use cert_checker::a_no_has_one_fault;
+use split_text::{a_split_text_has_one_meaning, a_split_text_leaves_at_one_line};
+
+/// A text of split trees that has a first fault is not accepted, whatever the counts. So
+/// `check_split` is good exactly where there is none, but for want of memory.
+pub fn a_fault_refuses_the_split_text()
+    ensures { (line : Line) (scripts : List Script) (bytes : List ℕ) (counts : Counts)
+        (fault : SplitFault) → fault ≢ SplitFault.Memory →
+        IsSplitFault line scripts bytes fault → ¬ (IsAccepted line scripts bytes counts) }
+{
+    a_no_has_one_fault();
+    a_split_text_has_one_meaning();
+    a_split_text_leaves_at_one_line();
+}
+
+/// A text of split trees has at most one first fault. So the error of `check_split` is the fault of
+/// the text, but for want of memory.
+pub fn a_split_text_has_one_first_fault()
+    ensures { (line : Line) (scripts : List Script) (bytes : List ℕ) (fault other : SplitFault) →
+        fault ≢ SplitFault.Memory → other ≢ SplitFault.Memory →
+        IsSplitFault line scripts bytes fault → IsSplitFault line scripts bytes other →
+        fault ≡ other }
+{
+    a_no_has_one_fault();
+    a_split_text_has_one_meaning();
+    a_split_text_leaves_at_one_line();
+}

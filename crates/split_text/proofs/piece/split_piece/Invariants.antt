@@ -1,0 +1,12 @@
+use Rattle.std.proofs.Common.{◌≡◌, ◌++◌, map, take}
+use Rattle.certificate.specs.Grammar.{script_text, terminal_names}
+use Rattle.certificate.specs.Text.{fed}
+use Rattle.split_text.specs.Text.{trees_text}
+use Rattle.split_text.specs.Piece.{written_as}
+use Rattle.split_text.proofs.piece.split_piece.Given as goal
+
+-- the script's line and the trees of the first terminals
+abbrev pub invariant-loop-k : goal.invariant-loop-k
+invariant-loop-k l =
+    l.text.items ≡ fed (script_text l.script.name)
+    ++ trees_text l.line (take l.k (terminal_names l.line)) (map written_as (take l.k l.searches))

@@ -1,0 +1,16 @@
+use Rattle.std.proofs.Common.{ℕ, List, ◌∙◌, ap}
+use Rattle.svg_text.specs.Attributes.{said}
+use Rattle.svg_text.specs.Content.{element_text}
+use Rattle.svg_text.proofs.Grown.{made_of_element}
+use Rattle.svg_text.proofs.markup.Markup.element.Goals as goal
+
+pub invariant_of-result : goal.invariant_of-result
+invariant_of-result c =
+    let attributes = said c.args.attributes.now in
+    record {
+      well_formed =
+          made_of_element _ c.args.tag attributes c.args.inside.now.text.items
+          (c.in_ok-text.ensures
+          ∙ ap (λ (l : List ℕ). element_text c.args.tag attributes l) c.deref.ensures.value)
+          c.requires c.args.inside.now.well_formed;
+    }

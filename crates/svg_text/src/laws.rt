@@ -1,0 +1,10 @@
+//! The law of escaped text.
+
+ghost use Rattle.std.specs.Prelude.{ℕ, List, IsTrue};
+ghost use Rattle.std.specs.List.{list_all};
+ghost use Rattle.svg_text.specs.Escape.{escaped, is_plain};
+
+/// Escaped words hold printable ASCII and line feeds alone, and neither `<`, nor `>`, nor `"`.
+pub fn escaped_words_are_plain()
+    ensures { (words : List ℕ) → IsTrue (list_all is_plain (escaped words)) }
+{}

@@ -1,0 +1,4 @@
+pub mod Lists
+pub mod StretchLaws
+pub mod TraceLaws
+pub mod WindowLaws

@@ -1,0 +1,11 @@
+use Rattle.std.proofs.Common.{◌≡◌, map}
+use Rattle.history.specs.Recorded.{first_ticks}
+use Rattle.line_model.specs.Rule.{rule_of}
+use Rattle.interval_wave.specs.PairWavesOf.{pair_history}
+use Rattle.interval_wave.specs.Rules.{rule_named}
+use Rattle.timing_diagram.proofs.diagram.rules.Given as goal
+
+abbrev pub invariant-loop-k : goal.invariant-loop-k
+invariant-loop-k l =
+    map rule_named l.all.items
+    ≡ first_ticks (λ k. rule_of l.line l.script ((pair_history l.waves).trip k)) l.k

@@ -1,0 +1,10 @@
+use Rattle.std.proofs.Common.{take}
+use Rattle.std.specs.List.{All}
+use Rattle.timing_diagram.specs.Windows.{IsChangeShown, IsWider}
+use Rattle.timing_diagram.proofs.window.with_stretches.Given as goal
+
+abbrev pub invariant-loop-stretch : goal.invariant-loop-stretch
+invariant-loop-stretch l = record {
+  shown : All (IsChangeShown l.wide) (take l.stretch-index l.stretches);
+  wider : IsWider l.fn.window l.wide;
+}

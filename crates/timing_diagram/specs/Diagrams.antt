@@ -1,0 +1,38 @@
+-- The diagram of a script over a history.
+use Rattle.std.specs.Prelude.{◌≡◌, ℕ, map, IfSome}
+use Rattle.std.specs.List.{All}
+use Rattle.history.specs.Recorded.{first_ticks}
+use Rattle.line_model.specs.declared.line.Line.{Line}
+use Rattle.line_model.specs.declared.script.Script.{Script}
+use Rattle.line_model.specs.Histories.{PairHistory}
+use Rattle.line_model.specs.Parameters.{terminal_count}
+use Rattle.timing_diagram.specs.declared.diagram.Diagram.{Diagram}
+use Rattle.timing_diagram.specs.declared.rows.Row.{Row}
+use Rattle.timing_diagram.specs.declared.trace.Trace.{Trace}
+use Rattle.timing_diagram.specs.Stretches.{AreStretches}
+use Rattle.timing_diagram.specs.Times.{trip_times_of, is_begun}
+use Rattle.timing_diagram.specs.Traces.{traces_of, trace_pair}
+use Rattle.timing_diagram.specs.Windows.{Holds, IsShown}
+use Rattle.wave_runs.specs.FirstTick.{first_on}
+use Rattle.timing_report.specs.Margin.{deadline_of}
+
+abbrev pub trace_of : Row → Trace
+trace_of row = row.trace
+
+-- the stretches of the row are those of its pairs, from tick 0 to the horizon
+abbrev pub IsRow : Script → PairHistory → ℕ → Row → Type 0
+IsRow script w horizon row =
+    AreStretches (trace_pair script w row.trace) 0 row.stretches.items horizon
+
+pub record IsDiagramOf (line : Line) (script : Script) (w : PairHistory) (diagram : Diagram)
+    : Type 0 where
+  pub traces : map trace_of diagram.rows.items ≡ traces_of line
+  pub stretches : All (IsRow script w line.horizon) diagram.rows.items
+  pub trips : diagram.trips.items
+      ≡ first_ticks (λ k. trip_times_of script line.horizon (w.trip k)) (terminal_count line)
+  pub inception : diagram.inception ≡ first_on (is_begun script.spans.items) line.horizon
+  pub deadline : diagram.deadline ≡ deadline_of script.kind script.deadline
+  -- nothing changes at a tick that is not shown
+  pub shown : All (IsShown diagram.window) diagram.rows.items
+  pub marked : IfSome diagram.inception (Holds diagram.window)
+  pub due : IfSome diagram.deadline (Holds diagram.window)

@@ -1,0 +1,5 @@
+pub mod Traces
+pub mod Stretches
+pub mod Times
+pub mod Windows
+pub mod Diagrams

@@ -1,0 +1,22 @@
+-- The ticks that a diagram shows.
+use Rattle.std.specs.Prelude.{◌<◌, ◌≤◌, ℕ}
+use Rattle.std.specs.List.{All}
+use Rattle.timing_diagram.specs.declared.rows.Row.{Row}
+use Rattle.timing_diagram.specs.declared.stretch.Stretch.{Stretch}
+use Rattle.timing_diagram.specs.declared.window.Window.{Window}
+
+-- the tick is shown
+abbrev pub Holds : Window → ℕ → Type 0
+Holds window t = (window.first ≤ t) × (t ≤ window.last)
+
+-- the second shows all that the first shows
+abbrev pub IsWider : Window → Window → Type 0
+IsWider narrow wide = (wide.first ≤ narrow.first) × (narrow.last ≤ wide.last)
+
+-- the tick at which the stretch begins is shown, if the row changes there
+abbrev pub IsChangeShown : Window → Stretch → Type 0
+IsChangeShown window s = 0 < s.from → Holds window s.from
+
+-- each change of the row is shown
+abbrev pub IsShown : Window → Row → Type 0
+IsShown window row = All (IsChangeShown window) row.stretches.items

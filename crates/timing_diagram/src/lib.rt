@@ -1,0 +1,21 @@
+//! Timing diagrams as values: for each terminal what it sees, which channels into it are lost,
+//! what it keys and whether it trips, as stretches of ticks; the first ticks of each trip, the
+//! inception, the deadline and the margin; and the ticks that are worth looking at.
+#![tactic(auto)]
+
+mod diagram;
+mod marks;
+mod rows;
+mod shown;
+mod stretch;
+mod times;
+mod trace;
+mod window;
+
+pub use diagram::{Diagram, history_diagram, play_diagram};
+pub use rows::Row;
+pub use shown::Shown;
+pub use stretch::Stretch;
+pub use times::TripTimes;
+pub use trace::Trace;
+pub use window::Window;

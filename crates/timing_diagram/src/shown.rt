@@ -1,0 +1,77 @@
+// The keys and trips that a diagram shows.
+
+ghost use Rattle.std.specs.Prelude.{◌≡◌, ◌<◌, ℕ, length, min};
+ghost use Rattle.line_model.specs.Histories.{PairHistory};
+ghost use Rattle.interval_wave.specs.PairWavesOf.{pair_history};
+ghost use Rattle.simulator.specs.Played.{played};
+ghost use Rattle.tick_signal.specs.Levels.{level_rails};
+ghost use Rattle.tick_signal.specs.Terns.{tern_rails};
+ghost use Rattle.timing_diagram.specs.Traces.{known_history};
+
+use interval_wave::PairWaves;
+use simulator::Waves;
+use tick_signal::{Level, Tern};
+
+/// Keys and trips tick by tick: those of one play, or those of every choice of delays at once.
+pub trait Shown {
+    /// The pairs of keys and trips.
+    ghost pairs: { Self → PairHistory };
+
+    ghost terminals: { Self → ℕ };
+
+    ghost ticks: { Self → ℕ };
+
+    /// What a terminal keys at a tick.
+    fn key_at(&self, terminal: u32, t: u32) -> Tern
+        requires terminal { terminal < terminals self.now }
+        requires tick { t < ticks self.now }
+        ensures { tern_rails result ≡ (pairs self.now).key terminal t };
+
+    /// Whether a terminal trips at a tick.
+    fn trip_at(&self, terminal: u32, t: u32) -> Tern
+        requires terminal { terminal < terminals self.now }
+        requires tick { t < ticks self.now }
+        ensures { tern_rails result ≡ (pairs self.now).trip terminal t };
+}
+
+impl Shown for PairWaves {
+    ghost pairs = { λ w. pair_history w };
+
+    ghost terminals = { λ w. w.terminals };
+
+    ghost ticks = { λ w. w.horizon };
+
+    fn key_at(&self, terminal: u32, t: u32) -> Tern {
+        self.key(terminal, t)
+    }
+
+    fn trip_at(&self, terminal: u32, t: u32) -> Tern {
+        self.trip(terminal, t)
+    }
+}
+
+impl Shown for Waves<Level> {
+    ghost pairs = { λ w. known_history (played w) };
+
+    ghost terminals = { λ w. min (length w.keys) (length w.trips) };
+
+    ghost ticks = { λ w. w.horizon };
+
+    fn key_at(&self, terminal: u32, t: u32) -> Tern {
+        known(self.key(terminal, t))
+    }
+
+    fn trip_at(&self, terminal: u32, t: u32) -> Tern {
+        known(self.trip(terminal, t))
+    }
+}
+
+// A level as a value that is known.
+fn known(level: Level) -> Tern
+    ensures { tern_rails result ≡ level_rails level }
+{
+    match level {
+        Level::Off => Tern::Zero,
+        Level::On => Tern::One,
+    }
+}

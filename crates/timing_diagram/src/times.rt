@@ -1,0 +1,89 @@
+// The first ticks of trips, and the margin to the deadline.
+
+ghost use Rattle.std.specs.Prelude.{◌≡◌, ◌<◌, IfOk};
+ghost use Rattle.history.specs.Recorded.{first_ticks};
+ghost use Rattle.line_model.specs.Parameters.{terminal_count};
+ghost use Rattle.timing_diagram.specs.Times.{trip_times_of};
+ghost use Rattle.wave_runs.specs.FirstTick.{first_on};
+
+use crate::shown::Shown;
+use line_model::{Line, Memory, Script};
+use std::alloc::Global;
+use tick_signal::Signal;
+use timing_report::margin;
+use wave_runs::the_first_tick_is_the_least;
+
+/// The first tick at which a terminal may trip, the first at which it must, and how many ticks
+/// lie between that and the deadline of an internal fault; below 0 where the trip is late. In one
+/// play it trips where it may.
+#[derive(Clone, Copy, PartialEq, Eq, Debug)]
+pub struct TripTimes {
+    pub first_may: Option<u32>,
+    pub first_must: Option<u32>,
+    pub margin: Option<i64>,
+}
+
+/// The times of each terminal's trip, in line order.
+pub fn trips<H: Shown>(
+    alloc: Global,
+    line: &Line,
+    script: &Script,
+    shown: &H,
+) -> Result<Vec<TripTimes>, Memory>
+    requires terminals { H.terminals shown.now ≡ terminal_count line.now }
+    requires ticks { H.ticks shown.now ≡ line.now.horizon }
+    ensures { IfOk result (λ trips. trips.items
+        ≡ first_ticks
+        (λ k. trip_times_of script.now line.now.horizon ((H.pairs shown.now).trip k))
+        (terminal_count line.now)) }
+{
+    let mut all = Vec::new(alloc);
+    for k in 0..line.terminals.len() {
+        all.push(trip_times(line, script, shown, k as u32))?;
+    }
+    Ok(all)
+}
+
+fn trip_times<H: Shown>(line: &Line, script: &Script, shown: &H, k: u32) -> TripTimes
+    requires terminal { k < H.terminals shown.now }
+    requires ticks { H.ticks shown.now ≡ line.now.horizon }
+    ensures { result
+        ≡ trip_times_of script.now line.now.horizon ((H.pairs shown.now).trip k) }
+{
+    let first_must = first_must(shown, k, line.horizon);
+    TripTimes {
+        first_may: first_may(shown, k, line.horizon),
+        first_must,
+        margin: margin(script.kind, script.deadline, first_must),
+    }
+}
+
+// The first tick at which a terminal must trip.
+fn first_must<H: Shown>(shown: &H, k: u32, horizon: u32) -> Option<u32>
+    requires terminal { k < H.terminals shown.now }
+    requires ticks { H.ticks shown.now ≡ horizon }
+    ensures { result ≡ first_on (λ t. ((H.pairs shown.now).trip k t).must) horizon }
+{
+    the_first_tick_is_the_least();
+    for t in 0..horizon {
+        if shown.trip_at(k, t).must(0) {
+            return Some(t);
+        }
+    }
+    None
+}
+
+// The first tick at which a terminal may trip.
+fn first_may<H: Shown>(shown: &H, k: u32, horizon: u32) -> Option<u32>
+    requires terminal { k < H.terminals shown.now }
+    requires ticks { H.ticks shown.now ≡ horizon }
+    ensures { result ≡ first_on (λ t. ((H.pairs shown.now).trip k t).may) horizon }
+{
+    the_first_tick_is_the_least();
+    for t in 0..horizon {
+        if shown.trip_at(k, t).may(0) {
+            return Some(t);
+        }
+    }
+    None
+}
