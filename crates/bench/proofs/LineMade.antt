@@ -1,15 +1,13 @@
 -- The terminals, channels and intervals of the bench are those of a line.
-use Rattle.std.proofs.Common.{◌≡◌, ◌≢◌, ℕ, zero, suc, ◌<◌, ◌≤◌, Bool, List, Some}
-use Rattle.std.proofs.Common.{get_or, refl, ap, arith}
+use Rattle.std.proofs.Common.{◌≡◌, ◌≢◌, ℕ, zero, suc, ◌<◌, ◌≤◌, Bool, List, Some, get_or, refl, ap}
+use Rattle.std.proofs.Common.{arith}
+use Rattle.std.proofs.lemmas.Bool.{and_parts, leb-true}
 use Rattle.std.specs.Prelude.{IsTrue, is_some, ◌&&◌, nat_le}
 use Rattle.line_model.specs.declared.line.Scheme.TheVariants.{Pott}
 use Rattle.line_model.specs.Channels.{AreChannels, channel_number, from_of, to_of}
 use Rattle.line_model.specs.Intervals.{AreIntervals, LeastDelaysFromOne, delay_number_of}
 use Rattle.line_model.specs.Making.{AreBounds, AreTerminals, greatest_ends, least_ends}
-use Rattle.line_model.specs.Settings.{line_settings}
-use Rattle.line_model.specs.Terminals.{NamesDiffer}
-use Rattle.std.proofs.lemmas.Bool.{and_parts}
-use Rattle.std.proofs.lemmas.Bool.{leb-true}
+use Rattle.line_model.specs.{Settings.line_settings, Terminals.NamesDiffer}
 use Rattle.bench.specs.BenchLine.{bench_bounds, bench_channels, bench_terminals}
 use Rattle.bench.proofs.Below.{below_three, below_six, each_passes}
 

@@ -1,21 +1,20 @@
 -- The scripts of the bench fit its line.
-use Rattle.std.proofs.Common.{◌≡◌, ℕ, ◌+◌, ◌<◌, ◌≤◌, Bool, true, false, length}
-use Rattle.std.proofs.Common.{refl, sym, ap, ◌∙◌, arith, subst}
-use Rattle.std.specs.Prelude.{◌++◌, codes, map, IsTrue, nat_le, nat_lt, if◌then◌else◌}
-use Rattle.std.specs.List.{list_all}
+use Rattle.std.proofs.Common.{◌≡◌, ℕ, ◌+◌, ◌<◌, ◌≤◌, Bool, true, false, length, refl, sym, ap, ◌∙◌}
+use Rattle.std.proofs.Common.{arith, subst}
 use Rattle.std.proofs.lemmas.Bool.{and_from, leb-true}
 use Rattle.std.proofs.lemmas.Bool.Decides.{nat_tests}
 use Rattle.std.proofs.lemmas.Fmt.{decimal-digits_of}
+use Rattle.std.specs.Prelude.{◌++◌, codes, map, IsTrue, nat_le, nat_lt, if◌then◌else◌}
+use Rattle.std.specs.List.{list_all}
 use Rattle.std.specs.Int.Digits.{digits_of}
-use Rattle.line_model.specs.declared.line.Line.{Line}
 use Rattle.line_model.specs.declared.script.Element.{Element}
 use Rattle.line_model.specs.declared.script.Element.TheVariants.{Z2, Rv, Cur}
 use Rattle.line_model.specs.declared.script.Script.{Script}
-use Rattle.line_model.specs.Fits.{Fits, deadline_fits, span_fits}
-use Rattle.line_model.specs.Parameters.{terminal_count}
-use Rattle.line_model.specs.PlainNames.{is_plain_name}
+use Rattle.line_model.specs.{declared.line.Line.Line, Fits.Fits, Fits.deadline_fits, Fits.span_fits}
+use Rattle.line_model.specs.{Parameters.terminal_count, PlainNames.is_plain_name}
 use Rattle.bench.specs.BenchLine.{IsBenchLine}
-use Rattle.bench.specs.BenchScripts.{IsBenchScript, bench_deadline, bench_kind, bench_spans, inception, is_internal, seen_at, spans_by}
+use Rattle.bench.specs.BenchScripts.{IsBenchScript, bench_deadline, bench_kind, bench_spans}
+use Rattle.bench.specs.BenchScripts.{inception, is_internal, seen_at, spans_by}
 use Rattle.bench.proofs.Below.{each_passes}
 
 module _ (line : Line) (bench : IsBenchLine line) where

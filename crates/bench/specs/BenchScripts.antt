@@ -1,26 +1,11 @@
 -- The scripts of the bench.
-use Rattle.std.specs.Prelude.{
-  ◌≡◌,
-  ◌+◌,
-  ◌%◌,
-  ◌==◌,
-  ◌∷◌,
-  ◌++◌,
-  ℕ,
-  Bool,
-  List,
-  [],
-  codes,
-  decimal,
-  length,
-  if◌then◌else◌,
-}
+use Rattle.std.specs.Prelude.{◌≡◌, ◌+◌, ◌%◌, ◌==◌, ◌∷◌, ◌++◌, ℕ, Bool, List, [], codes, decimal}
+use Rattle.std.specs.Prelude.{length, if◌then◌else◌}
 use Rattle.line_model.specs.declared.script.Element.{Element}
 use Rattle.line_model.specs.declared.script.Element.TheVariants.{Z2, Rv, Cur}
-use Rattle.line_model.specs.declared.script.Kind.{Kind}
 use Rattle.line_model.specs.declared.script.Kind.TheVariants.{Internal, External}
 use Rattle.line_model.specs.declared.script.Script.{Script}
-use Rattle.line_model.specs.declared.script.SeenSpan.{SeenSpan}
+use Rattle.line_model.specs.{declared.script.Kind.Kind, declared.script.SeenSpan.SeenSpan}
 use Rattle.line_model.specs.declared.script.What.TheVariants as what
 
 -- the tick at which fault i begins

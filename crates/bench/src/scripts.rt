@@ -2,10 +2,8 @@
 
 ghost use Rattle.std.specs.Prelude.{◌≤◌, IfOk};
 ghost use Rattle.std.specs.List.{All};
-ghost use Rattle.line_model.specs.declared.line.Line.{Line};
-ghost use Rattle.line_model.specs.Fits.{Fits};
-ghost use Rattle.bench.specs.BenchLine.{IsBenchLine};
-ghost use Rattle.bench.specs.BenchScripts.{AreBenchScripts};
+ghost use Rattle.line_model.specs.{declared.line.Line.Line, Fits.Fits};
+ghost use Rattle.bench.specs.{BenchLine.IsBenchLine, BenchScripts.AreBenchScripts};
 
 use crate::script::bench_script;
 use line_model::{Memory, Script};

@@ -1,13 +1,10 @@
 -- What is answered of the first scripts of the bench.
 use Rattle.std.specs.Prelude.{◌≡◌, ℕ, List}
-use Rattle.line_model.specs.declared.line.Line.{Line}
-use Rattle.line_model.specs.declared.script.Script.{Script}
+use Rattle.line_model.specs.{declared.line.Line.Line, declared.script.Script.Script}
 use Rattle.certificate.specs.Grammar.{Claims}
-use Rattle.cert_checker.specs.declared.counts.Counts.{Counts}
-use Rattle.cert_checker.specs.Counts.{AreCounts, all_verdicts}
+use Rattle.cert_checker.specs.{declared.counts.Counts.Counts, Counts.AreCounts, Counts.all_verdicts}
 use Rattle.own_certificate.specs.Certified.{AreCertified}
-use Rattle.bench.specs.BenchLine.{IsBenchLine}
-use Rattle.bench.specs.BenchScripts.{AreBenchScripts}
+use Rattle.bench.specs.{BenchLine.IsBenchLine, BenchScripts.AreBenchScripts}
 use Rattle.bench_answer.specs.BenchText.{bench_text}
 
 -- the text of the counts of all verdicts that are certified of the first n scripts over the line

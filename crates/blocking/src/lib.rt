@@ -8,11 +8,8 @@
 ghost use Rattle.std.specs.Prelude.{◌≡◌, ◌<◌, ◌≤◌, ◌+◌, length, IfOk};
 ghost use Rattle.line_model.specs.Parameters.{terminal_count};
 ghost use Rattle.line_model.specs.Logic.{blocking_key, blocking_pilot};
-ghost use Rattle.gate_net.specs.Formulas.{Stands};
-ghost use Rattle.gate_net.specs.Growing.{Grows};
-ghost use Rattle.gate_net.specs.Named.{KeepsNames};
-ghost use Rattle.zones.specs.LocalGates.{AreLocal};
-ghost use Rattle.zones.specs.Outputs.{AreOutputs};
+ghost use Rattle.gate_net.specs.{Formulas.Stands, Growing.Grows, Named.KeepsNames};
+ghost use Rattle.zones.specs.{LocalGates.AreLocal, Outputs.AreOutputs};
 
 use gate_net::{GateId, NetBuilder};
 use line_model::{Line, Memory, Scheme, Setting, Time};

@@ -2,16 +2,12 @@
 use Rattle.std.proofs.Common.{◌≡◌, ◌<◌, ◌≤◌, ◌+◌, ℕ, refl, sym, ◌∙◌, subst, arith}
 use Rattle.std.specs.Prelude.{◌↔◌}
 use Rattle.line_model.specs.declared.line.Line.{Line}
-use Rattle.line_model.specs.declared.script.Script.{Script}
-use Rattle.line_model.specs.Parameters.{param_count, declared_ends}
-use Rattle.line_model.specs.SetBounds.{IsDelayAt, SameButParams}
-use Rattle.line_model.specs.Choice.{Box, declared_box}
-use Rattle.line_model.specs.Boxes.{box_with, IsSameBox}
-use Rattle.line_model.specs.HeldOver.{IsHeldOver}
-use Rattle.line_model.specs.WithBounds.{IsWithBounds}
+use Rattle.line_model.specs.{declared.script.Script.Script, Parameters.param_count}
+use Rattle.line_model.specs.{Parameters.declared_ends, SetBounds.IsDelayAt, SetBounds.SameButParams}
+use Rattle.line_model.specs.{Choice.Box, Choice.declared_box, Boxes.box_with, Boxes.IsSameBox}
+use Rattle.line_model.specs.{HeldOver.IsHeldOver, WithBounds.IsWithBounds}
 use Rattle.box_split.specs.Known.{Known}
-use Rattle.box_split.specs.Leaves.{CanSplit, lower_half, upper_half}
-use Rattle.box_split.specs.Parts.{IsPart}
+use Rattle.box_split.specs.{Leaves.CanSplit, Leaves.lower_half, Leaves.upper_half, Parts.IsPart}
 use Rattle.box_split.proofs.EndsWith.{exchanged}
 use Rattle.box_split.proofs.SoundLaws.{same_lower, same_upper, can_split_same, can_split_kept}
 

@@ -1,21 +1,9 @@
 -- The tree that a search finds is no higher than it may be.
 use Rattle.std.proofs.Common.{◌≤◌, ℕ, arith}
-use Rattle.line_model.specs.declared.line.Line.{Line}
-use Rattle.line_model.specs.declared.script.Script.{Script}
+use Rattle.line_model.specs.{declared.line.Line.Line, declared.script.Script.Script}
 use Rattle.box_split.specs.Trees.{SplitTree, height}
-use Rattle.box_split.specs.Search.{
-  Found,
-  Tree,
-  Fails,
-  IsSearch,
-  yes,
-  no,
-  deepest,
-  narrow,
-  first_fails,
-  second_fails,
-  split,
-}
+use Rattle.box_split.specs.Search.{Found, Tree, Fails, IsSearch, yes, no, deepest, narrow}
+use Rattle.box_split.specs.Search.{first_fails, second_fails, split}
 
 abbrev IsAsDeep : ℕ → Found → Type 0
 IsAsDeep n (Tree tree) = height tree ≤ n

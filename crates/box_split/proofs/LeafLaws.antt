@@ -1,28 +1,19 @@
 -- Each choice in a box lies in the box of exactly one leaf of a tree that splits it.
-use Rattle.std.proofs.Common.{◌≡◌, ◌<◌, ◌≤◌, ◌+◌, ◌++◌, ◌⊎◌, ℕ, zero, suc, List, [], ◌∷◌, Some, true, false}
-use Rattle.std.proofs.Common.{length, refl, sym, ◌∙◌, ap, subst, arith, ⊎_elim, inl, inr}
-use Rattle.std.specs.Prelude.{slice_get}
+use Rattle.std.proofs.Common.{◌≡◌, ◌<◌, ◌≤◌, ◌+◌, ◌++◌, ◌⊎◌, ℕ, zero, suc, List, [], ◌∷◌, Some}
+use Rattle.std.proofs.Common.{true, false, length, refl, sym, ◌∙◌, ap, subst, arith, ⊎_elim, inl}
+use Rattle.std.proofs.Common.{inr}
 use Rattle.std.proofs.lemmas.Bool.{cases_eq, cases_lt}
+use Rattle.std.specs.Prelude.{slice_get}
 use Rattle.history.specs.Rails.{Ends, IsPartOf}
 use Rattle.line_model.specs.declared.line.Line.{Line}
-use Rattle.line_model.specs.declared.script.Script.{Script}
-use Rattle.line_model.specs.Parameters.{terminal_count}
 use Rattle.line_model.specs.Choice.{Choice, Box, IsIn, IsWithin, LeastFromOne}
 use Rattle.line_model.specs.Histories.{History, IsLineHistory, Meets}
 use Rattle.line_model.specs.Boxes.{ends_with, box_with}
-use Rattle.box_split.specs.Known.{Known}
+use Rattle.line_model.specs.{declared.script.Script.Script, Parameters.terminal_count}
+use Rattle.box_split.specs.Leaves.{Leaf, lower_half, upper_half, leaves, CanSplit, Splits}
+use Rattle.box_split.specs.Leaves.{LiesInOne, AllHeld}
+use Rattle.box_split.specs.{Known.Known, Trees.SplitTree, Trees.Yes, Trees.Undecided, Trees.Split}
 use Rattle.box_split.proofs.EndsWith.{ends_with-here, ends_with-elsewhere}
-use Rattle.box_split.specs.Trees.{SplitTree, Yes, Undecided, Split}
-use Rattle.box_split.specs.Leaves.{
-  Leaf,
-  lower_half,
-  upper_half,
-  leaves,
-  CanSplit,
-  Splits,
-  LiesInOne,
-  AllHeld,
-}
 
 -- ---- elements of joined lists
 

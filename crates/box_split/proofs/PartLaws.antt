@@ -1,24 +1,19 @@
 -- What fails in a part of the declared box fails.
-use Rattle.std.proofs.Common.{◌≡◌, ◌<◌, ℕ, List, sym, ◌∙◌, ap, subst, arith}
-use Rattle.std.proofs.Common.{inl, inr}
-use Rattle.std.specs.Prelude.{get_or}
-use Rattle.std.specs.List.{All}
+use Rattle.std.proofs.Common.{◌≡◌, ◌<◌, ℕ, List, sym, ◌∙◌, ap, subst, arith, inl, inr}
 use Rattle.std.proofs.Math.Path.{fun_ext}
 use Rattle.std.proofs.lemmas.Bool.{cases_eq}
 use Rattle.std.proofs.lemmas.List.Elements.{All-nil}
+use Rattle.std.specs.Prelude.{get_or}
+use Rattle.std.specs.List.{All}
 use Rattle.history.specs.Rails.{Ends, IsPartOf}
-use Rattle.line_model.specs.declared.line.Line.{Line}
 use Rattle.line_model.specs.declared.script.Script.{Script}
 use Rattle.line_model.specs.Parameters.{param_count, declared_ends}
 use Rattle.line_model.specs.Choice.{Choice, IsIn, declared_box}
 use Rattle.line_model.specs.Histories.{History, IsLineHistory, Meets, MeetsBy}
-use Rattle.timing_box.specs.declared.step.Step.{Step}
+use Rattle.line_model.specs.{declared.line.Line.Line, WithBounds.IsWithBounds, Boxes.ends_with}
 use Rattle.timing_box.specs.Timing.{TimingValues, number_at}
-use Rattle.timing_box.specs.Inside.{IsStepInside}
-use Rattle.timing_box.specs.Choice.{timing_choice}
+use Rattle.timing_box.specs.{declared.step.Step.Step, Inside.IsStepInside, Choice.timing_choice}
 use Rattle.certify_core.specs.Verdicts.{IsRefutation}
-use Rattle.line_model.specs.WithBounds.{IsWithBounds}
-use Rattle.line_model.specs.Boxes.{ends_with}
 use Rattle.box_split.specs.Known.{Known}
 use Rattle.box_split.proofs.EndsWith.{ends_with-here, ends_with-elsewhere}
 

@@ -1,53 +1,26 @@
 -- What a search finds, of every choice inside the declared intervals.
-use Rattle.std.proofs.Common.{◌≡◌, ◌&&◌, ◌<◌, ◌+◌, ℕ, Bool, true, false}
-use Rattle.std.proofs.Common.{refl, sym, ◌∙◌, ap, subst, arith, ⊎_elim}
-use Rattle.std.specs.Prelude.{IsTrue}
-use Rattle.std.specs.List.{list_all}
+use Rattle.std.proofs.Common.{◌≡◌, ◌&&◌, ◌<◌, ◌+◌, ℕ, Bool, true, false, refl, sym, ◌∙◌, ap, subst}
+use Rattle.std.proofs.Common.{arith, ⊎_elim}
 use Rattle.std.proofs.lemmas.Bool.{cases_lt}
 use Rattle.std.proofs.lemmas.List.Folds.{list_all-append}
+use Rattle.std.specs.Prelude.{IsTrue}
+use Rattle.std.specs.List.{list_all}
 use Rattle.history.specs.Rails.{IsPartOf}
 use Rattle.line_model.specs.declared.line.Line.{Line}
-use Rattle.line_model.specs.declared.script.Kind.{Kind}
 use Rattle.line_model.specs.declared.script.Kind.TheVariants.{Internal, External}
-use Rattle.line_model.specs.declared.script.Script.{Script}
 use Rattle.line_model.specs.Parameters.{terminal_count, param_count, declared_ends}
 use Rattle.line_model.specs.Choice.{Choice, IsIn, IsInside, DelaysFromOne, declared_box}
 use Rattle.line_model.specs.Histories.{History, IsLineHistory, IsSameHistory, Meets, MeetsBy}
 use Rattle.line_model.specs.SetBounds.{SameButParams, IsDelayAt}
-use Rattle.timing_box.specs.Timing.{TimingValues}
-use Rattle.timing_box.specs.Choice.{timing_choice}
-use Rattle.timing_box.specs.Candidates.{candidate}
+use Rattle.line_model.specs.{declared.script.Kind.Kind, declared.script.Script.Script}
+use Rattle.timing_box.specs.{Timing.TimingValues, Choice.timing_choice, Candidates.candidate}
 use Rattle.certify_core.specs.declared.verdict.Verdict.TheVariants as verdict
 use Rattle.certify_core.specs.Verdicts.{IsRefutation, IsRefuted}
-use Rattle.box_split.specs.Known.{Known}
-use Rattle.box_split.specs.Trees.{
-  SplitTree,
-  Yes,
-  Undecided,
-  Split,
-  preorder,
-  are_yes,
-  is_decided,
-}
-use Rattle.box_split.specs.Widths.{middle}
-use Rattle.box_split.specs.Search.{
-  Found,
-  Tree,
-  Fails,
-  IsVerdictOf,
-  IsSplitAt,
-  IsLower,
-  IsUpper,
-  IsSearch,
-  yes,
-  no,
-  deepest,
-  narrow,
-  first_fails,
-  second_fails,
-  split,
-}
-use Rattle.box_split.specs.declared.node.Outcome.{Outcome}
+use Rattle.box_split.specs.Trees.{SplitTree, Yes, Undecided, Split, preorder, are_yes, is_decided}
+use Rattle.box_split.specs.Search.{Found, Tree, Fails, IsVerdictOf, IsSplitAt, IsLower, IsUpper}
+use Rattle.box_split.specs.Search.{IsSearch, yes, no, deepest, narrow, first_fails, second_fails}
+use Rattle.box_split.specs.Search.{split}
+use Rattle.box_split.specs.{Known.Known, Widths.middle, declared.node.Outcome.Outcome}
 use Rattle.box_split.specs.declared.node.Outcome.TheVariants as outcome
 use Rattle.box_split.specs.Found.{IsFound, IsAllYes}
 use Rattle.box_split.proofs.WidthLaws.{split_no_delay, middle_inside}

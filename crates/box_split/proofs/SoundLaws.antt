@@ -1,55 +1,28 @@
 -- The tree that a search finds splits the declared box, and its yes leaves are held.
-use Rattle.std.proofs.Common.{◌≡◌, ◌<◌, ◌≤◌, ◌+◌, ℕ, zero, suc}
-use Rattle.std.proofs.Common.{Some, sym, ◌∙◌, ap, subst, ⊎_elim}
+use Rattle.std.proofs.Common.{◌≡◌, ◌<◌, ◌≤◌, ◌+◌, ℕ, zero, suc, Some, sym, ◌∙◌, ap, subst, ⊎_elim}
 use Rattle.std.proofs.Common.{inl, inr}
-use Rattle.std.specs.Prelude.{IsTrue, slice_get}
 use Rattle.std.proofs.lemmas.Bool.{cases_eq}
+use Rattle.std.specs.Prelude.{IsTrue, slice_get}
 use Rattle.history.specs.Rails.{Ends}
-use Rattle.line_model.specs.declared.line.Line.{Line}
-use Rattle.line_model.specs.declared.script.Script.{Script}
 use Rattle.line_model.specs.Parameters.{terminal_count, param_count, declared_ends}
 use Rattle.line_model.specs.SetBounds.{SameButParams, IsDelayAt}
 use Rattle.line_model.specs.Choice.{Choice, Box, IsWithin, LeastFromOne, declared_box}
 use Rattle.line_model.specs.Histories.{History, IsLineHistory, Meets}
 use Rattle.line_model.specs.Settings.{line_settings, setting_number}
+use Rattle.line_model.specs.{declared.line.Line.Line, declared.script.Script.Script}
 use Rattle.line_model.specs.declared.line.Owner.TheVariants as owner
 use Rattle.line_model.specs.declared.line.Setting.TheVariants.{Delay}
 use Rattle.certify_core.specs.declared.verdict.Verdict.TheVariants as verdict
-use Rattle.line_model.specs.Boxes.{box_with, IsSameBox}
-use Rattle.line_model.specs.HeldOver.{IsHeldOver}
-use Rattle.box_split.specs.Known.{Known}
-use Rattle.box_split.proofs.EndsWith.{along, ends_with-elsewhere, ends_with-here, exchanged}
+use Rattle.line_model.specs.{Boxes.box_with, Boxes.IsSameBox, HeldOver.IsHeldOver}
 use Rattle.box_split.specs.Trees.{SplitTree, Yes, Undecided, Split, are_yes}
-use Rattle.box_split.specs.Widths.{middle}
-use Rattle.box_split.specs.Leaves.{
-  Leaf,
-  lower_half,
-  upper_half,
-  leaves,
-  CanSplit,
-  Splits,
-  AreSound,
-}
-use Rattle.box_split.specs.Search.{
-  Found,
-  Tree,
-  Fails,
-  IsVerdictOf,
-  IsSplitAt,
-  IsLower,
-  IsUpper,
-  IsSearch,
-  yes,
-  no,
-  deepest,
-  narrow,
-  first_fails,
-  second_fails,
-  split,
-}
-use Rattle.box_split.proofs.LeafLaws.{at_append, held_leaves}
-use Rattle.box_split.proofs.SearchLaws.{both_true}
+use Rattle.box_split.specs.Leaves.{Leaf, lower_half, upper_half, leaves, CanSplit, Splits, AreSound}
+use Rattle.box_split.specs.Search.{Found, Tree, Fails, IsVerdictOf, IsSplitAt, IsLower, IsUpper}
+use Rattle.box_split.specs.Search.{IsSearch, yes, no, deepest, narrow, first_fails, second_fails}
+use Rattle.box_split.specs.Search.{split}
+use Rattle.box_split.specs.{Known.Known, Widths.middle}
+use Rattle.box_split.proofs.EndsWith.{along, ends_with-elsewhere, ends_with-here, exchanged}
 use Rattle.box_split.proofs.WidthLaws.{split_no_delay, middle_inside}
+use Rattle.box_split.proofs.{LeafLaws.at_append, LeafLaws.held_leaves, SearchLaws.both_true}
 
 -- ---- boxes that are the same
 

@@ -1,12 +1,11 @@
 -- A parameter that is split is no delay, and its middle lies in its interval.
-use Rattle.std.proofs.Common.{◌≡◌, ◌<◌, ◌≤◌, ◌+◌, ◌-◌, ◌/◌, ◌||◌, ℕ, zero, suc, Bool, true, false, ap, refl, sym, ◌∙◌}
-use Rattle.std.proofs.Common.{arith, cond, eq-eqb, ⊎_elim}
+use Rattle.std.proofs.Common.{◌≡◌, ◌<◌, ◌≤◌, ◌+◌, ◌-◌, ◌/◌, ◌||◌, ℕ, zero, suc, Bool, true, false}
+use Rattle.std.proofs.Common.{ap, refl, sym, ◌∙◌, arith, cond, eq-eqb, ⊎_elim}
 use Rattle.std.proofs.lemmas.Bool.{cases_lt}
 use Rattle.history.specs.Elements.{some_below}
 use Rattle.std.specs.Prelude.{◌==◌, unwrap_or}
-use Rattle.line_model.specs.declared.line.Line.{Line}
 use Rattle.line_model.specs.Parameters.{channel_count, delay_param, declared_ends}
-use Rattle.line_model.specs.SetBounds.{IsDelayAt}
+use Rattle.line_model.specs.{declared.line.Line.Line, SetBounds.IsDelayAt}
 use Rattle.timing_box.specs.Delays.{is_delay}
 use Rattle.box_split.specs.Widths.{width, middle}
 

@@ -2,29 +2,17 @@
 -- for word, some of boxes, candidates and timings.
 use Rattle.std.specs.Prelude.{◌≤◌, ◌<◌, ℕ}
 use Rattle.history.specs.Rails.{Ends}
-use Rattle.line_model.specs.declared.line.Line.{Line}
-use Rattle.line_model.specs.declared.script.Script.{Script}
 use Rattle.line_model.specs.Parameters.{declared_ends, param_count, terminal_count}
 use Rattle.line_model.specs.SetBounds.{IsDelayAt, SameButParams}
-use Rattle.line_model.specs.WithBounds.{IsWithBounds}
 use Rattle.line_model.specs.Boxes.{IsSameBox, box_with, declared_with}
-use Rattle.line_model.specs.Choice.{
-  Box,
-  Choice,
-  IsIn,
-  IsInside,
-  IsWithin,
-  LeastFromOne,
-  declared_box,
-}
+use Rattle.line_model.specs.Choice.{Box, Choice, IsIn, IsInside, IsWithin, LeastFromOne}
+use Rattle.line_model.specs.Choice.{declared_box}
 use Rattle.line_model.specs.Histories.{History, IsLineHistory, Meets}
-use Rattle.line_model.specs.HeldOver.{IsHeldOver}
 use Rattle.line_model.specs.IntervalLaws.{CountsRestOnNoInterval, HistoriesRestOnNoInterval}
-use Rattle.line_model.specs.Laws.{LineLaws}
+use Rattle.line_model.specs.{declared.line.Line.Line, declared.script.Script.Script}
+use Rattle.line_model.specs.{WithBounds.IsWithBounds, HeldOver.IsHeldOver, Laws.LineLaws}
 use Rattle.timing_box.specs.Candidates.{candidate, candidate_count}
-use Rattle.timing_box.specs.Choice.{timing_choice}
-use Rattle.timing_box.specs.Inside.{IsTimingInside}
-use Rattle.timing_box.specs.Timing.{TimingValues}
+use Rattle.timing_box.specs.{Choice.timing_choice, Inside.IsTimingInside, Timing.TimingValues}
 
 pub record Known : Type 0 where
   pub lines : LineLaws

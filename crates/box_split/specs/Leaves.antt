@@ -1,13 +1,9 @@
 -- The leaves of a tree of splits, each with its part of a box.
-use Rattle.std.specs.Prelude.{◌≡◌, ◌≤◌, ◌<◌, ◌+◌, ◌++◌, ℕ, Bool, true, false, List, [], ◌∷◌}
-use Rattle.std.specs.Prelude.{Some, slice_get}
-use Rattle.line_model.specs.declared.line.Line.{Line}
-use Rattle.line_model.specs.declared.script.Script.{Script}
-use Rattle.line_model.specs.Parameters.{param_count}
-use Rattle.line_model.specs.SetBounds.{IsDelayAt}
-use Rattle.line_model.specs.Choice.{Choice, Box, IsWithin}
-use Rattle.line_model.specs.Boxes.{box_with}
-use Rattle.line_model.specs.HeldOver.{IsHeldOver}
+use Rattle.std.specs.Prelude.{◌≡◌, ◌≤◌, ◌<◌, ◌+◌, ◌++◌, ℕ, Bool, true, false, List, [], ◌∷◌, Some}
+use Rattle.std.specs.Prelude.{slice_get}
+use Rattle.line_model.specs.{declared.line.Line.Line, declared.script.Script.Script}
+use Rattle.line_model.specs.{Parameters.param_count, SetBounds.IsDelayAt, Choice.Choice, Choice.Box}
+use Rattle.line_model.specs.{Choice.IsWithin, Boxes.box_with, HeldOver.IsHeldOver}
 use Rattle.box_split.specs.Trees.{SplitTree, Yes, Undecided, Split}
 
 -- a leaf: its part of the box, and whether it is yes

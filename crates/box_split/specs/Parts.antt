@@ -1,8 +1,6 @@
 -- A part of a box, as the declared box of a line of its own.
-use Rattle.line_model.specs.declared.line.Line.{Line}
-use Rattle.line_model.specs.SetBounds.{SameButParams}
-use Rattle.line_model.specs.Boxes.{IsSameBox}
 use Rattle.line_model.specs.Choice.{Box, declared_box}
+use Rattle.line_model.specs.{declared.line.Line.Line, SetBounds.SameButParams, Boxes.IsSameBox}
 
 -- the part differs from the line in its intervals alone, and they are those of the box
 pub record IsPart (line : Line) (box : Box) (part : Line) : Type 0 where

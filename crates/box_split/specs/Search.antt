@@ -1,10 +1,8 @@
 -- The search for the parts of the declared box in which an obligation is decided.
 use Rattle.std.specs.Prelude.{◌+◌, ℕ, zero, suc}
 use Rattle.line_model.specs.declared.line.Line.{Line}
-use Rattle.line_model.specs.declared.script.Script.{Script}
-use Rattle.line_model.specs.Parameters.{declared_ends}
-use Rattle.line_model.specs.Choice.{declared_box}
-use Rattle.line_model.specs.Histories.{PairHistory, IsPairHistory}
+use Rattle.line_model.specs.{declared.script.Script.Script, Parameters.declared_ends}
+use Rattle.line_model.specs.{Choice.declared_box, Histories.PairHistory, Histories.IsPairHistory}
 use Rattle.timing_box.specs.Timing.{TimingValues}
 use Rattle.certify_core.specs.declared.verdict.Verdict.{Verdict}
 use Rattle.certify_core.specs.declared.verdict.Verdict.TheVariants as verdict

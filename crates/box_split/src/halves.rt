@@ -1,8 +1,7 @@
 // The two halves of a line.
 
 ghost use Rattle.std.specs.Prelude.{◌+◌, IfOk};
-ghost use Rattle.line_model.specs.Parameters.{declared_ends};
-ghost use Rattle.line_model.specs.WithBounds.{IsWithBounds};
+ghost use Rattle.line_model.specs.{Parameters.declared_ends, WithBounds.IsWithBounds};
 ghost use Rattle.box_split.specs.Widths.{IsWidest, middle as middle_of};
 
 use crate::known::laws_below;

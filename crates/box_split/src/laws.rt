@@ -1,14 +1,11 @@
 // The laws of splits.
 
 ghost use Rattle.std.specs.Prelude.{◌≤◌, ◌<◌, ◌↔◌, ℕ, IsTrue};
-ghost use Rattle.line_model.specs.declared.line.Line.{Line};
-ghost use Rattle.line_model.specs.declared.script.Script.{Script};
-ghost use Rattle.line_model.specs.Parameters.{terminal_count};
-ghost use Rattle.line_model.specs.SetBounds.{SameButParams};
-ghost use Rattle.line_model.specs.HeldOver.{IsHeldOver};
-ghost use Rattle.line_model.specs.Choice.{Choice, Box, IsInside, IsWithin, LeastFromOne};
-ghost use Rattle.line_model.specs.Choice.{declared_box};
 ghost use Rattle.line_model.specs.Histories.{History, IsLineHistory, Meets};
+ghost use Rattle.line_model.specs.{declared.line.Line.Line, declared.script.Script.Script};
+ghost use Rattle.line_model.specs.{Parameters.terminal_count, SetBounds.SameButParams};
+ghost use Rattle.line_model.specs.{HeldOver.IsHeldOver, Choice.Choice, Choice.Box, Choice.IsInside};
+ghost use Rattle.line_model.specs.{Choice.IsWithin, Choice.LeastFromOne, Choice.declared_box};
 ghost use Rattle.timing_box.specs.Timing.{TimingValues};
 ghost use Rattle.certify_core.specs.Verdicts.{IsRefutation};
 ghost use Rattle.box_split.specs.Trees.{SplitTree, height, are_yes};

@@ -3,8 +3,7 @@
 ghost use Rattle.std.specs.Prelude.{◌<◌, ℕ, IfOk};
 ghost use Rattle.std.specs.Bool.{Decides};
 ghost use Rattle.line_model.specs.declared.line.Line.{Line};
-ghost use Rattle.line_model.specs.Parameters.{param_count};
-ghost use Rattle.line_model.specs.Choice.{Box, declared_box};
+ghost use Rattle.line_model.specs.{Parameters.param_count, Choice.Box, Choice.declared_box};
 ghost use Rattle.box_split.specs.Leaves.{CanSplit, lower_half, upper_half};
 ghost use Rattle.box_split.specs.Parts.{IsPart};
 

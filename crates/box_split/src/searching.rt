@@ -2,14 +2,12 @@
 
 ghost use Rattle.std.specs.Prelude.{◌≡◌, ◌≤◌, ◌<◌, IfOk};
 ghost use Rattle.line_model.specs.Choice.{Choice, IsInside};
-ghost use Rattle.line_model.specs.Fits.{Fits};
 ghost use Rattle.line_model.specs.Histories.{History, IsLineHistory, Meets};
-ghost use Rattle.line_model.specs.Parameters.{terminal_count};
+ghost use Rattle.line_model.specs.{Fits.Fits, Parameters.terminal_count};
 ghost use Rattle.gate_net.specs.NetOf.{IsNetOf};
 ghost use Rattle.timing_box.specs.Timing.{TimingValues};
 ghost use Rattle.certify_core.specs.Verdicts.{IsRefutation};
-ghost use Rattle.box_split.specs.declared.node.Outcome.{Outcome};
-ghost use Rattle.box_split.specs.Found.{IsFound, IsAllYes};
+ghost use Rattle.box_split.specs.{declared.node.Outcome.Outcome, Found.IsFound, Found.IsAllYes};
 
 use crate::halves::{lower, upper};
 use crate::known::laws_below;

@@ -1,31 +1,22 @@
 -- What the waves of gates say of keys, trips and verdicts.
 use Rattle.std.proofs.Common.{◌≡◌, ℕ, ◌+◌, ◌<◌, List, [], length, Some, sym, ◌∙◌, ap, subst, arith}
 use Rattle.std.proofs.Common.{⊎_elim}
-use Rattle.std.specs.Prelude.{get_or, slice_get, Result, Ok, Err, IfOk, MatchResult}
 use Rattle.std.proofs.lemmas.Bool.{cases_lt}
+use Rattle.std.specs.Prelude.{get_or, slice_get, Result, Ok, Err, IfOk, MatchResult}
 use Rattle.tick_signal.specs.declared.tern.Tern.{Tern}
-use Rattle.line_model.specs.declared.line.Line.{Line}
 use Rattle.line_model.specs.declared.script.Script.{Script}
-use Rattle.line_model.specs.PairMean.{PairSignals, pair_mean}
-use Rattle.line_model.specs.Choice.{declared_box}
-use Rattle.line_model.specs.Histories.{AreCovered}
-use Rattle.line_model.specs.Tree.{Tree}
-use Rattle.gate_net.specs.declared.gate.Gate.{Gate}
-use Rattle.gate_net.specs.Formulas.{formula_of}
+use Rattle.line_model.specs.{declared.line.Line.Line, PairMean.PairSignals, PairMean.pair_mean}
+use Rattle.line_model.specs.{Choice.declared_box, Histories.AreCovered, Tree.Tree}
+use Rattle.gate_net.specs.{declared.gate.Gate.Gate, Formulas.formula_of}
 use Rattle.wave_runs.specs.Waves.{wave_at}
 use Rattle.certificate.specs.Grammar.{Claims, Verdict, yes, no, undecided}
 use Rattle.cert_checker.specs.declared.claim.Uncovered.{Uncovered}
 use Rattle.cert_checker.specs.declared.claim.ClaimFault.{ClaimFault}
-use Rattle.cert_checker.specs.declared.claim.ClaimFault.TheVariants.{
-  NotCovered,
-  NotHeld,
-  Outside,
-  Passes,
-  Memory,
-}
+use Rattle.cert_checker.specs.declared.claim.ClaimFault.TheVariants.{NotCovered, NotHeld, Outside}
+use Rattle.cert_checker.specs.declared.claim.ClaimFault.TheVariants.{Passes, Memory}
 use Rattle.cert_checker.specs.Claims.{AreGateWaves, declared_world, pairs_of}
-use Rattle.cert_checker.specs.Verdicts.{IsFaultOf, IsVerdictFault, IsFirstFault}
-use Rattle.cert_checker.specs.Verdicts.{AreSupported, AreAccepted}
+use Rattle.cert_checker.specs.Verdicts.{IsFaultOf, IsVerdictFault, IsFirstFault, AreSupported}
+use Rattle.cert_checker.specs.Verdicts.{AreAccepted}
 
 -- the wave of a gate has the pairs of its tree
 pub tree_pairs : (line : Line) (script : Script) (gates : List Gate) (claims : PairSignals)

@@ -1,16 +1,15 @@
 -- Counts grow verdict by verdict and script by script.
-use Rattle.std.proofs.Common.{◌≡◌, ◌<◌, ◌≤◌, ◌+◌, ◌++◌, ℕ, Bool, List, [], ◌∷◌, length, map, take, get_or}
-use Rattle.std.proofs.Common.{sym, ◌∙◌, ap, arith}
-use Rattle.std.specs.List.{All, count_by}
+use Rattle.std.proofs.Common.{◌≡◌, ◌<◌, ◌≤◌, ◌+◌, ◌++◌, ℕ, Bool, List, [], ◌∷◌, length, map, take}
+use Rattle.std.proofs.Common.{get_or, sym, ◌∙◌, ap, arith}
 use Rattle.std.proofs.lemmas.List.{map-append, take_more, append-nil, length-map, length-take-le}
 use Rattle.std.proofs.lemmas.List.Sums.{sum_by-append, count_by-le-length}
 use Rattle.std.proofs.lemmas.Grind.{flat_map-append}
-use Rattle.certificate.specs.declared.claim.Claim.{Claim}
-use Rattle.certificate.specs.declared.claim.ScriptClaims.{ScriptClaims}
+use Rattle.std.specs.List.{All, count_by}
 use Rattle.certificate.specs.Grammar.{Claims, Verdict, verdict_in, claims_in}
+use Rattle.certificate.specs.{declared.claim.Claim.Claim, declared.claim.ScriptClaims.ScriptClaims}
 use Rattle.cert_checker.specs.declared.counts.Counts.{Counts}
-use Rattle.cert_checker.proofs.MapLaws.{each_mapped}
 use Rattle.cert_checker.specs.Counts.{Adds, AreCounts, all_verdicts, is_yes, is_no, is_undecided}
+use Rattle.cert_checker.proofs.MapLaws.{each_mapped}
 
 count_then : (p : Verdict → Bool) (xs ys : List Verdict) (a b c : ℕ) → b ≡ a + count_by p xs
     → c ≡ b + count_by p ys → c ≡ a + count_by p (xs ++ ys)

@@ -2,9 +2,8 @@
 use Rattle.std.proofs.Common.{◌≡◌, ◌<◌, ◌≤◌, ℕ, List, length, get_or, sym, ◌∙◌, ap, arith}
 use Rattle.std.proofs.lemmas.List.{length-map, get_or-map}
 use Rattle.line_model.specs.declared.line.Line.{Line}
-use Rattle.line_model.specs.declared.line.Param.{Param}
 use Rattle.line_model.specs.Intervals.{IsInterval, leasts, greatests}
-use Rattle.line_model.specs.Parameters.{param_count}
+use Rattle.line_model.specs.{declared.line.Param.Param, Parameters.param_count}
 
 pub interval_at : (line : Line) (i : ℕ) (p : Param) → i < param_count line
     → p ≡ get_or line.params.items i p → (p.least ≤ p.greatest) × (p.greatest ≤ 4000)

@@ -1,5 +1,6 @@
 -- Facts of each number below a bound, as loops gather them.
-use Rattle.std.proofs.Common.{◌≡◌, ℕ, ◌+◌, ◌≤◌, ◌<◌, Bool, true, false, sym, ◌∙◌, arith, subst, ap, List, ⊎_elim}
+use Rattle.std.proofs.Common.{◌≡◌, ℕ, ◌+◌, ◌≤◌, ◌<◌, Bool, true, false, sym, ◌∙◌, arith, subst, ap}
+use Rattle.std.proofs.Common.{List, ⊎_elim}
 use Rattle.std.proofs.lemmas.Bool.{cases_lt}
 use Rattle.history.specs.Rails.{Rails, RailsCover}
 use Rattle.tick_signal.specs.declared.tern.Tern.{Tern}

@@ -5,20 +5,10 @@ use Rattle.history.specs.Rails.{Rails, rails_not, rails_and, rails_or}
 use Rattle.history.specs.Laws.{RailsReadThePast}
 use Rattle.tick_signal.specs.declared.tern.Tern.{Tern}
 use Rattle.line_model.specs.PairMean.{PairWorld, PairSignals, pair_mean}
-use Rattle.gate_net.specs.declared.gate.Gate.{Gate}
-use Rattle.gate_net.specs.declared.gate.Gate.TheVariants.{
-  Const,
-  Seen,
-  Loss,
-  Raw,
-  Not,
-  And,
-  Or,
-  Timer,
-  Seal,
-}
+use Rattle.gate_net.specs.declared.gate.Gate.TheVariants.{Const, Seen, Loss, Raw, Not, And, Or}
+use Rattle.gate_net.specs.declared.gate.Gate.TheVariants.{Timer, Seal}
 use Rattle.gate_net.specs.Formulas.{formula_of}
-use Rattle.gate_net.specs.Laws.{AreGates, HasArguments}
+use Rattle.gate_net.specs.{declared.gate.Gate.Gate, Laws.AreGates, Laws.HasArguments}
 use Rattle.simulator.specs.GatePairs.{GateSignals, GatesHaveTheirKind, gate_pairs, kind_pair}
 use Rattle.wave_runs.specs.Waves.{IsWaveOf}
 use Rattle.cert_checker.specs.Claims.{pairs_of}

@@ -1,14 +1,11 @@
 -- The rule that is held, by the tests of the trip.
-use Rattle.std.proofs.Common.{◌≡◌, ℕ, ◌+◌, ◌<◌, ◌≤◌, Bool, true, false, not, refl}
-use Rattle.std.proofs.Common.{sym, ◌∙◌, ap, arith, subst}
+use Rattle.std.proofs.Common.{◌≡◌, ℕ, ◌+◌, ◌<◌, ◌≤◌, Bool, true, false, not, refl, sym, ◌∙◌, ap}
+use Rattle.std.proofs.Common.{arith, subst}
 use Rattle.std.specs.Prelude.{IsTrue, IsFalse}
 use Rattle.std.specs.Bool.{Decides}
-use Rattle.history.specs.Elements.{some_below}
-use Rattle.history.specs.Laws.{TestsAreTheirFacts}
-use Rattle.history.specs.Rails.{Rails}
-use Rattle.line_model.specs.declared.script.Kind.{Kind}
+use Rattle.history.specs.{Elements.some_below, Laws.TestsAreTheirFacts, Rails.Rails}
 use Rattle.line_model.specs.declared.script.Kind.TheVariants.{Internal, External}
-use Rattle.line_model.specs.Rule.{IsHeld}
+use Rattle.line_model.specs.{declared.script.Kind.Kind, Rule.IsHeld}
 use Rattle.cert_checker.proofs.Firsts.{not_both}
 
 pub off_by : (b : Bool) → (b ≡ true → ⊥) → b ≡ false

@@ -1,11 +1,11 @@
 -- An element of a list, seen by a function.
 use Rattle.std.proofs.Common.{◌≡◌, ◌<◌, ℕ, List, Some, length, map, get_or, refl, sym, ◌∙◌, ap}
 use Rattle.std.proofs.Common.{arith, subst}
-use Rattle.std.specs.Prelude.{slice_get}
-use Rattle.std.specs.List.{All}
 use Rattle.std.proofs.lemmas.List.{length-map}
 use Rattle.std.proofs.lemmas.Option.{slice_get_read}
 use Rattle.std.proofs.Math.ListN.{get_or-map}
+use Rattle.std.specs.Prelude.{slice_get}
+use Rattle.std.specs.List.{All}
 
 module _ {A B : Type 0} (f : A → B) (xs : List A) (i : ℕ) (x : A) (inside : i < length xs)
     (is : x ≡ get_or xs i x) where

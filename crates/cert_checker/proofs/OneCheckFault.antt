@@ -1,10 +1,9 @@
 -- A certificate has one first fault.
-use Rattle.std.proofs.Common.{◌≡◌, ◌≢◌, ◌<◌, ◌⊎◌, inl, inr, ⊎_elim, ℕ, List, refl, sym, ◌∙◌}
-use Rattle.std.proofs.Common.{ap, subst}
-use Rattle.std.specs.Prelude.{slice_get}
+use Rattle.std.proofs.Common.{◌≡◌, ◌≢◌, ◌<◌, ◌⊎◌, inl, inr, ⊎_elim, ℕ, List, refl, sym, ◌∙◌, ap}
+use Rattle.std.proofs.Common.{subst}
 use Rattle.std.proofs.lemmas.Option.{same_Some}
-use Rattle.line_model.specs.declared.line.Line.{Line}
-use Rattle.line_model.specs.declared.script.Script.{Script}
+use Rattle.std.specs.Prelude.{slice_get}
+use Rattle.line_model.specs.{declared.line.Line.Line, declared.script.Script.Script}
 use Rattle.certificate.specs.Grammar.{Claims, IsCertificate, LeavesGrammar}
 use Rattle.cert_checker.specs.declared.claim.ClaimFault.{ClaimFault}
 use Rattle.cert_checker.specs.declared.claim.ClaimFault.TheVariants as wrong
@@ -12,8 +11,7 @@ use Rattle.cert_checker.specs.declared.fault.CheckFault.{CheckFault}
 use Rattle.cert_checker.specs.declared.fault.CheckFault.TheVariants as check
 use Rattle.cert_checker.specs.Check.{IsScriptFault, IsCheckFault, fault_in}
 use Rattle.cert_checker.specs.Verdicts.{AreAccepted, IsFirstFault}
-use Rattle.cert_checker.proofs.OneFault.{same_number}
-use Rattle.cert_checker.proofs.Refused.{Refuses, OneMeaning}
+use Rattle.cert_checker.proofs.{OneFault.same_number, Refused.Refuses, Refused.OneMeaning}
 
 -- what the laws say, as the proofs here use it
 abbrev pub OnceOfClaims : Type 0

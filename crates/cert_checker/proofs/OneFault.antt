@@ -1,35 +1,28 @@
 -- Claims have one first fault.
-use Rattle.std.proofs.Common.{◌≡◌, ◌≢◌, ◌<◌, ℕ, suc, Bool, true, false, List, get_or, refl}
-use Rattle.std.proofs.Common.{sym, ◌∙◌, ap, subst, arith, ⊎_elim}
-use Rattle.std.specs.Prelude.{slice_get}
+use Rattle.std.proofs.Common.{◌≡◌, ◌≢◌, ◌<◌, ℕ, suc, Bool, true, false, List, get_or, refl, sym}
+use Rattle.std.proofs.Common.{◌∙◌, ap, subst, arith, ⊎_elim}
 use Rattle.std.proofs.lemmas.Bool.{cases_lt}
 use Rattle.std.proofs.lemmas.Option.{same_Some}
+use Rattle.std.specs.Prelude.{slice_get}
 use Rattle.history.specs.Rails.{Rails}
-use Rattle.tick_signal.specs.declared.tern.Tern.{Tern}
 use Rattle.tick_signal.specs.declared.tern.Tern.TheVariants.{Zero, One, Unknown}
-use Rattle.tick_signal.specs.Terns.{tern_rails}
+use Rattle.tick_signal.specs.{declared.tern.Tern.Tern, Terns.tern_rails}
 use Rattle.line_model.specs.declared.line.Line.{Line}
-use Rattle.line_model.specs.declared.script.Kind.{Kind}
 use Rattle.line_model.specs.declared.script.Kind.TheVariants.{Internal, External}
 use Rattle.line_model.specs.declared.script.Script.{Script}
 use Rattle.line_model.specs.Parameters.{param_count, terminal_count}
-use Rattle.line_model.specs.PairMean.{PairSignals}
+use Rattle.line_model.specs.{declared.script.Kind.Kind, PairMean.PairSignals}
 use Rattle.certificate.specs.Grammar.{Claims, Verdict, yes, no, undecided}
-use Rattle.cert_checker.specs.declared.claim.Uncovered.{Uncovered}
 use Rattle.cert_checker.specs.declared.claim.ClaimFault.{ClaimFault}
-use Rattle.cert_checker.specs.declared.claim.ClaimFault.TheVariants.{
-  NotCovered,
-  NotHeld,
-  Outside,
-  Passes,
-  Memory,
-}
-use Rattle.cert_checker.specs.Claims.{pairs_of}
+use Rattle.cert_checker.specs.declared.claim.ClaimFault.TheVariants.{NotCovered, NotHeld, Outside}
+use Rattle.cert_checker.specs.declared.claim.ClaimFault.TheVariants.{Passes, Memory}
 use Rattle.cert_checker.specs.Firsts.{IsFirstFailing, IsFirstOn}
 use Rattle.cert_checker.specs.Refutations.{IsMetAt, IsNumberIn, IsFirstOutside, IsMetInside}
-use Rattle.cert_checker.specs.Verdicts.{IsYesFault, IsNoFault, IsFaultOf, IsCovered, IsKeyCovered, IsFirstUncovered, IsVerdictFault, IsFirstVerdictFault, IsFirstFault, derived_key, derived_trip}
-use Rattle.cert_checker.proofs.Firsts.{not_both}
-use Rattle.cert_checker.proofs.Refusal.{HaveHistories, verdict_refused}
+use Rattle.cert_checker.specs.Verdicts.{IsYesFault, IsNoFault, IsFaultOf, IsCovered, IsKeyCovered}
+use Rattle.cert_checker.specs.Verdicts.{IsFirstUncovered, IsVerdictFault, IsFirstVerdictFault}
+use Rattle.cert_checker.specs.Verdicts.{IsFirstFault, derived_key, derived_trip}
+use Rattle.cert_checker.specs.{declared.claim.Uncovered.Uncovered, Claims.pairs_of}
+use Rattle.cert_checker.proofs.{Firsts.not_both, Refusal.HaveHistories, Refusal.verdict_refused}
 
 -- ---- first numbers
 

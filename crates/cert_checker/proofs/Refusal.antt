@@ -1,29 +1,16 @@
 -- A first fault refuses the claims.
 use Rattle.std.proofs.Common.{◌≢◌, ℕ, List, refl}
 use Rattle.history.specs.Rails.{Rails}
-use Rattle.line_model.specs.declared.line.Line.{Line}
 use Rattle.line_model.specs.declared.script.Script.{Script}
-use Rattle.line_model.specs.Histories.{History, IsLineHistory}
+use Rattle.line_model.specs.{declared.line.Line.Line, Histories.History, Histories.IsLineHistory}
 use Rattle.timing_box.specs.Inside.{IsTimingInside}
 use Rattle.certificate.specs.Grammar.{Claims, Verdict, yes, no, undecided}
 use Rattle.cert_checker.specs.declared.claim.ClaimFault.{ClaimFault}
-use Rattle.cert_checker.specs.declared.claim.ClaimFault.TheVariants.{
-  NotCovered,
-  NotHeld,
-  Outside,
-  Passes,
-  Memory,
-}
+use Rattle.cert_checker.specs.declared.claim.ClaimFault.TheVariants.{NotCovered, NotHeld, Outside}
+use Rattle.cert_checker.specs.declared.claim.ClaimFault.TheVariants.{Passes, Memory}
 use Rattle.cert_checker.specs.Refutations.{IsRefutation, IsMetInside, choice_of, steady_timing}
-use Rattle.cert_checker.specs.Verdicts.{
-  IsSupported,
-  IsYesFault,
-  IsNoFault,
-  IsFaultOf,
-  IsFirstVerdictFault,
-  IsFirstFault,
-  AreAccepted,
-}
+use Rattle.cert_checker.specs.Verdicts.{IsSupported, IsYesFault, IsNoFault, IsFaultOf}
+use Rattle.cert_checker.specs.Verdicts.{IsFirstVerdictFault, IsFirstFault, AreAccepted}
 use Rattle.cert_checker.proofs.Refutations.{met_meets}
 
 -- numbers that are inside have a history

@@ -1,13 +1,11 @@
 -- What a run at known numbers shows of an obligation.
-use Rattle.std.proofs.Common.{◌≡◌, ℕ, suc, ◌<◌, ◌≤◌, Bool, List, Option, Some, None}
-use Rattle.std.proofs.Common.{sym, ◌∙◌, arith}
+use Rattle.std.proofs.Common.{◌≡◌, ℕ, suc, ◌<◌, ◌≤◌, Bool, List, Option, Some, None, sym, ◌∙◌}
+use Rattle.std.proofs.Common.{arith}
 use Rattle.std.specs.Prelude.{MatchOption}
-use Rattle.line_model.specs.declared.line.Line.{Line}
-use Rattle.line_model.specs.declared.script.Kind.{Kind}
 use Rattle.line_model.specs.declared.script.Kind.TheVariants.{Internal, External}
-use Rattle.line_model.specs.declared.script.Script.{Script}
-use Rattle.line_model.specs.Parameters.{terminal_count}
 use Rattle.line_model.specs.Histories.{History, IsLineHistory, IsSameHistory, MeetsBy}
+use Rattle.line_model.specs.{declared.line.Line.Line, declared.script.Kind.Kind}
+use Rattle.line_model.specs.{declared.script.Script.Script, Parameters.terminal_count}
 use Rattle.cert_checker.specs.Refutations.{choice_of, FailsAt, IsMetAt, PassesAt}
 
 -- ---- trips that are the same over the run

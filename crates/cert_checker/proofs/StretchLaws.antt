@@ -1,16 +1,15 @@
 -- What a script shows over a stretch of ticks without a change.
-use Rattle.std.proofs.Common.{◌≡◌, ◌&&◌, ◌||◌, ℕ, ◌+◌, ◌≤◌, ◌<◌, Bool, List, [], ◌∷◌, ◌++◌}
-use Rattle.std.proofs.Common.{length, take, get_or, true, false, refl, ◌∙◌, ap, arith}
-use Rattle.std.specs.Prelude.{IsTrue}
-use Rattle.std.specs.List.{All}
+use Rattle.std.proofs.Common.{◌≡◌, ◌&&◌, ◌||◌, ℕ, ◌+◌, ◌≤◌, ◌<◌, Bool, List, [], ◌∷◌, ◌++◌, length}
+use Rattle.std.proofs.Common.{take, get_or, true, false, refl, ◌∙◌, ap, arith}
 use Rattle.std.proofs.lemmas.Bool.Decides.{nat_tests}
 use Rattle.std.proofs.lemmas.List.{take_more}
 use Rattle.std.proofs.lemmas.List.Elements.{All-head, All-tail, All-push, All-weaker, All-same}
+use Rattle.std.specs.Prelude.{IsTrue}
+use Rattle.std.specs.List.{All}
 use Rattle.line_model.specs.declared.script.SeenSpan.{SeenSpan}
-use Rattle.line_model.specs.declared.script.Place.{Place}
-use Rattle.line_model.specs.declared.script.What.{What}
 use Rattle.line_model.specs.declared.script.What.TheVariants.{Element, Loss}
 use Rattle.line_model.specs.Seen.{shows, loses, is_seen, is_lost, is_of_place, is_of_loss}
+use Rattle.line_model.specs.{declared.script.Place.Place, declared.script.What.What}
 use Rattle.cert_checker.specs.Stretches.{HoldsAlike, ShowsAlike}
 
 -- ---- one span

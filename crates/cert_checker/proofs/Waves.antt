@@ -1,15 +1,13 @@
 -- Waves that are made tick by tick.
-use Rattle.std.proofs.Common.{◌≡◌, ℕ, ◌+◌, ◌<◌, ◌≤◌, List, [], ◌∷◌, ◌++◌, length, replicate}
-use Rattle.std.proofs.Common.{refl, sym, ◌∙◌, ap, arith, subst, ⊎_elim}
-use Rattle.std.specs.Prelude.{get_or}
+use Rattle.std.proofs.Common.{◌≡◌, ℕ, ◌+◌, ◌<◌, ◌≤◌, List, [], ◌∷◌, ◌++◌, length, replicate, refl}
+use Rattle.std.proofs.Common.{sym, ◌∙◌, ap, arith, subst, ⊎_elim}
 use Rattle.std.proofs.lemmas.Bool.{cases_lt}
 use Rattle.std.proofs.lemmas.List.{get_or_append_left}
 use Rattle.std.proofs.Math.Seq.{get_or-append_seam}
+use Rattle.std.specs.Prelude.{get_or}
 use Rattle.history.specs.Rails.{Rails}
-use Rattle.tick_signal.specs.declared.tern.Tern.{Tern}
-use Rattle.tick_signal.specs.Terns.{tern_rails}
-use Rattle.wave_runs.specs.Waves.{IsWaveOf}
-use Rattle.wave_runs.specs.WaveLaws.{WavesGrow}
+use Rattle.tick_signal.specs.{declared.tern.Tern.Tern, Terns.tern_rails}
+use Rattle.wave_runs.specs.{Waves.IsWaveOf, WaveLaws.WavesGrow}
 
 -- before the first tick
 pub at_first : (wave : List Tern) (value : ℕ → Rails) → wave ≡ [] → IsWaveOf wave 0 value

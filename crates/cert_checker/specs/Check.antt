@@ -1,22 +1,15 @@
 -- When a certificate is accepted, and its first fault where it is not.
 use Rattle.std.specs.Prelude.{◌≡◌, ◌<◌, ℕ, List, Some, length, slice_get}
-use Rattle.line_model.specs.declared.line.Line.{Line}
-use Rattle.line_model.specs.declared.script.Script.{Script}
+use Rattle.line_model.specs.{declared.line.Line.Line, declared.script.Script.Script}
 use Rattle.certificate.specs.Grammar.{Claims, IsCertificate, LeavesGrammar}
 use Rattle.cert_checker.specs.declared.claim.ClaimFault.{ClaimFault}
 use Rattle.cert_checker.specs.declared.claim.ClaimFault.TheVariants as wrong
-use Rattle.cert_checker.specs.declared.counts.Counts.{Counts}
-use Rattle.cert_checker.specs.declared.fault.CheckFault.{CheckFault}
-use Rattle.cert_checker.specs.declared.fault.CheckFault.TheVariants.{
-  Line as Line',
-  NotCovered,
-  NotHeld,
-  Outside,
-  Passes,
-  Memory,
-}
+use Rattle.cert_checker.specs.declared.fault.CheckFault.TheVariants.{Line as Line', NotCovered}
+use Rattle.cert_checker.specs.declared.fault.CheckFault.TheVariants.{NotHeld, Outside, Passes}
+use Rattle.cert_checker.specs.declared.fault.CheckFault.TheVariants.{Memory}
 use Rattle.cert_checker.specs.Counts.{AreCounts, all_verdicts}
 use Rattle.cert_checker.specs.Verdicts.{AreAccepted, AreSound, IsFirstFault}
+use Rattle.cert_checker.specs.{declared.counts.Counts.Counts, declared.fault.CheckFault.CheckFault}
 
 -- this holds of what is said of each of the first scripts, so many
 abbrev pub EachBelow : {Said : Type 0} → (Script → Said → Type 0) → List Script → List Said → ℕ

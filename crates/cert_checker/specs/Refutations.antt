@@ -1,15 +1,12 @@
 -- What numbers say against an obligation: their history fails it.
 use Rattle.std.specs.Prelude.{◌≡◌, ℕ, suc, Bool, List, [], get_or}
 use Rattle.line_model.specs.declared.line.Line.{Line}
-use Rattle.line_model.specs.declared.script.Kind.{Kind}
 use Rattle.line_model.specs.declared.script.Kind.TheVariants.{Internal, External}
 use Rattle.line_model.specs.declared.script.Script.{Script}
 use Rattle.line_model.specs.Parameters.{param_count, declared_ends}
-use Rattle.line_model.specs.Choice.{Choice, IsIn}
 use Rattle.line_model.specs.Histories.{History, IsLineHistory, Meets}
-use Rattle.timing_box.specs.Timing.{TimingValues}
-use Rattle.timing_box.specs.Inside.{IsTimingInside}
-use Rattle.timing_box.specs.Choice.{timing_choice}
+use Rattle.line_model.specs.{declared.script.Kind.Kind, Choice.Choice, Choice.IsIn}
+use Rattle.timing_box.specs.{Timing.TimingValues, Inside.IsTimingInside, Choice.timing_choice}
 use Rattle.cert_checker.specs.Firsts.{IsFirstFailing, IsFirstOn, IsNeverOn}
 
 -- one number for each parameter: a timing whose delays stay as they are

@@ -1,9 +1,8 @@
 -- Stretches of ticks over which a script shows the same.
 use Rattle.std.specs.Prelude.{◌≡◌, ◌≤◌, ◌<◌, ◌&&◌, ℕ, Bool, IsTrue, nat_le, nat_lt}
 use Rattle.line_model.specs.declared.script.SeenSpan.{SeenSpan}
-use Rattle.line_model.specs.declared.script.What.{What}
 use Rattle.line_model.specs.declared.script.What.TheVariants.{Element, Loss}
-use Rattle.line_model.specs.Seen.{is_of_place, is_of_loss}
+use Rattle.line_model.specs.{declared.script.What.What, Seen.is_of_place, Seen.is_of_loss}
 
 -- from t on until `end` a span holds each tick, or none
 abbrev pub HoldsAlike : ℕ → ℕ → SeenSpan → Type 0

@@ -2,27 +2,18 @@
 use Rattle.std.specs.Prelude.{◌≡◌, ◌<◌, ℕ, List, Some, slice_get}
 use Rattle.history.specs.Rails.{Rails, RailsCover}
 use Rattle.tick_signal.specs.Terns.{tern_rails}
-use Rattle.line_model.specs.declared.line.Line.{Line}
-use Rattle.line_model.specs.declared.script.Script.{Script}
-use Rattle.line_model.specs.Parameters.{terminal_count}
-use Rattle.line_model.specs.PairMean.{PairSignals, pair_mean}
 use Rattle.line_model.specs.Choice.{Choice, IsInside, declared_box}
-use Rattle.line_model.specs.Logic.{key_tree, trip_tree}
 use Rattle.line_model.specs.Histories.{AreCovered, History, IsLineHistory, Meets}
-use Rattle.line_model.specs.Rule.{Held, rule_of}
+use Rattle.line_model.specs.{declared.line.Line.Line, declared.script.Script.Script}
+use Rattle.line_model.specs.{Parameters.terminal_count, PairMean.PairSignals, PairMean.pair_mean}
+use Rattle.line_model.specs.{Logic.key_tree, Logic.trip_tree, Rule.Held, Rule.rule_of}
 use Rattle.certificate.specs.Grammar.{Claims, Verdict, yes, no, undecided}
-use Rattle.cert_checker.specs.declared.claim.Uncovered.{Uncovered}
 use Rattle.cert_checker.specs.declared.claim.ClaimFault.{ClaimFault}
-use Rattle.cert_checker.specs.declared.claim.ClaimFault.TheVariants.{
-  NotCovered,
-  NotHeld,
-  Outside,
-  Passes,
-  Memory,
-}
+use Rattle.cert_checker.specs.declared.claim.ClaimFault.TheVariants.{NotCovered, NotHeld, Outside}
+use Rattle.cert_checker.specs.declared.claim.ClaimFault.TheVariants.{Passes, Memory}
 use Rattle.cert_checker.specs.Claims.{declared_world, pairs_of}
-use Rattle.cert_checker.specs.Firsts.{IsFirstFailing}
 use Rattle.cert_checker.specs.Refutations.{IsRefutation, IsFirstOutside, IsMetInside}
+use Rattle.cert_checker.specs.{declared.claim.Uncovered.Uncovered, Firsts.IsFirstFailing}
 
 -- ---- keys
 

@@ -2,15 +2,12 @@
 
 ghost use Rattle.std.specs.Prelude.{◌≡◌, ◌<◌, ℕ, length, MatchOption};
 ghost use Rattle.history.specs.Rails.{RailsCover};
-ghost use Rattle.line_model.specs.declared.script.Script.{Script};
-ghost use Rattle.line_model.specs.Parameters.{terminal_count};
-ghost use Rattle.line_model.specs.Choice.{declared_box};
-ghost use Rattle.line_model.specs.Histories.{AreCovered};
+ghost use Rattle.line_model.specs.{declared.script.Script.Script, Parameters.terminal_count};
+ghost use Rattle.line_model.specs.{Choice.declared_box, Histories.AreCovered};
 ghost use Rattle.gate_net.specs.NetOf.{IsNetOf};
 ghost use Rattle.wave_runs.specs.Waves.{wave_at};
 ghost use Rattle.cert_checker.specs.Claims.{AreWaves, AreGateWaves, pairs_of};
-ghost use Rattle.cert_checker.specs.Firsts.{IsFirstFailing};
-ghost use Rattle.cert_checker.specs.Verdicts.{IsFirstUncovered};
+ghost use Rattle.cert_checker.specs.{Firsts.IsFirstFailing, Verdicts.IsFirstUncovered};
 
 use crate::claim::Uncovered;
 use crate::gate::nth;

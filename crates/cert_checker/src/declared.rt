@@ -3,8 +3,7 @@
 ghost use Rattle.std.specs.Prelude.{◌≡◌, ◌≤◌, ◌<◌};
 ghost use Rattle.line_model.specs.Parameters.{param_count, channel_count, delay_param};
 ghost use Rattle.line_model.specs.Parameters.{declared_ends};
-ghost use Rattle.line_model.specs.Names.{HasTime};
-ghost use Rattle.line_model.specs.Choice.{ends_by};
+ghost use Rattle.line_model.specs.{Names.HasTime, Choice.ends_by};
 
 use line_model::{Line, Time};
 use tick_signal::Within;

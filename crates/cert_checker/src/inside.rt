@@ -1,10 +1,8 @@
 //! Whether claimed numbers are inside the declared intervals.
 
 ghost use Rattle.std.specs.Prelude.{◌≡◌, ◌↔◌, ◌<◌, ℕ, length, IsTrue, MatchOption};
-ghost use Rattle.line_model.specs.Parameters.{param_count, declared_ends};
-ghost use Rattle.line_model.specs.Choice.{IsIn};
-ghost use Rattle.cert_checker.specs.Firsts.{IsFirstFailing};
-ghost use Rattle.cert_checker.specs.Refutations.{IsNumberIn};
+ghost use Rattle.line_model.specs.{Parameters.param_count, Parameters.declared_ends, Choice.IsIn};
+ghost use Rattle.cert_checker.specs.{Firsts.IsFirstFailing, Refutations.IsNumberIn};
 
 use crate::declared::declared_param;
 use line_model::Line;

@@ -1,15 +1,13 @@
 //! The laws of acceptance.
 
 ghost use Rattle.std.specs.Prelude.{◌≡◌, ◌≢◌, ℕ, List};
-ghost use Rattle.line_model.specs.declared.line.Line.{Line};
-ghost use Rattle.line_model.specs.declared.script.Script.{Script};
+ghost use Rattle.line_model.specs.{declared.line.Line.Line, declared.script.Script.Script};
 ghost use Rattle.certificate.specs.Grammar.{Claims};
 ghost use Rattle.cert_checker.specs.declared.claim.ClaimFault.{ClaimFault};
-ghost use Rattle.cert_checker.specs.declared.counts.Counts.{Counts};
 ghost use Rattle.cert_checker.specs.declared.fault.CheckFault.{CheckFault};
 ghost use Rattle.cert_checker.specs.Check.{IsAccepted, IsCheckFault};
-ghost use Rattle.cert_checker.specs.Refutations.{IsRefutation};
 ghost use Rattle.cert_checker.specs.Verdicts.{AreAccepted, IsFirstFault, IsNoFault};
+ghost use Rattle.cert_checker.specs.{declared.counts.Counts.Counts, Refutations.IsRefutation};
 
 use certificate::{a_text_has_one_meaning, a_text_leaves_at_one_line};
 use line_model::laws::{each_choice_has_one_history, each_line_has_a_choice_inside};

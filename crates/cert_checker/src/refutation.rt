@@ -1,10 +1,7 @@
 //! Whether claimed numbers refute an obligation.
 
-ghost use Rattle.std.specs.Prelude.{◌≡◌, ◌<◌, ◌≤◌, length, IfOk};
-ghost use Rattle.std.specs.Prelude.{MatchOption};
-ghost use Rattle.line_model.specs.Parameters.{terminal_count};
-ghost use Rattle.line_model.specs.Histories.{MeetsBy};
-ghost use Rattle.line_model.specs.Fits.{Fits};
+ghost use Rattle.std.specs.Prelude.{◌≡◌, ◌<◌, ◌≤◌, length, IfOk, MatchOption};
+ghost use Rattle.line_model.specs.{Parameters.terminal_count, Histories.MeetsBy, Fits.Fits};
 ghost use Rattle.gate_net.specs.NetOf.{IsNetOf};
 ghost use Rattle.timing_box.specs.Inside.{IsTimingInside};
 ghost use Rattle.simulator.specs.PlayedTracks.{is_on};

@@ -4,17 +4,16 @@ ghost use Rattle.std.specs.Prelude.{◌≡◌, ◌<◌, ℕ, length, map, IfOk, 
 ghost use Rattle.std.specs.List.{All};
 ghost use Rattle.history.specs.Rails.{Rails};
 ghost use Rattle.line_model.specs.Parameters.{terminal_count, param_count};
-ghost use Rattle.line_model.specs.PairMean.{PairSignals};
-ghost use Rattle.line_model.specs.Fits.{Fits};
+ghost use Rattle.line_model.specs.{PairMean.PairSignals, Fits.Fits};
 ghost use Rattle.gate_net.specs.NetOf.{IsNetOf};
 ghost use Rattle.wave_runs.specs.Waves.{wave_at};
 ghost use Rattle.certificate.specs.Grammar.{HasNumbers, claims_in, verdict_in};
 ghost use Rattle.certificate.specs.Text.{CanBeWritten};
 ghost use Rattle.cert_checker.specs.Claims.{AreWaves, AreGateWaves};
-ghost use Rattle.cert_checker.specs.Verdicts.{IsSupported, IsFaultOf, AreSound};
+ghost use Rattle.cert_checker.specs.Verdicts.{IsSupported, IsFaultOf, AreSound, IsNoFault};
+ghost use Rattle.cert_checker.specs.Verdicts.{IsVerdictFault, AreSupported, AreAccepted};
+ghost use Rattle.cert_checker.specs.Verdicts.{IsFirstFault};
 ghost use Rattle.cert_checker.specs.Refutations.{IsRefutation};
-ghost use Rattle.cert_checker.specs.Verdicts.{IsNoFault, IsVerdictFault, AreSupported};
-ghost use Rattle.cert_checker.specs.Verdicts.{AreAccepted, IsFirstFault};
 
 use crate::claim::ClaimFault;
 use crate::cover::first_uncovered;

@@ -1,10 +1,9 @@
 -- A certificate has few lines.
 use Rattle.std.proofs.Common.{◌≤◌, ◌+◌, ◌*◌, ℕ, List, [], ◌∷◌, length, map, arith, length-append}
-use Rattle.std.specs.List.{flat_map}
 use Rattle.std.proofs.lemmas.List.{length-map}
+use Rattle.std.specs.List.{flat_map}
 use Rattle.text_lines.specs.Lines.{Lines}
-use Rattle.line_model.specs.declared.line.Line.{Line}
-use Rattle.line_model.specs.declared.script.Script.{Script}
+use Rattle.line_model.specs.{declared.line.Line.Line, declared.script.Script.Script}
 use Rattle.certificate.specs.Grammar.{Place, Said, Stands, opens_none, fixed, key_of, verdict_of}
 use Rattle.certificate.specs.Grammar.{end_text, part_places, terminal_names, LeavesGrammar}
 use Rattle.certificate.proofs.ReadLaws.{names_count}

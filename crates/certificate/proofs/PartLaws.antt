@@ -1,17 +1,15 @@
 -- A certificate is its head, the parts of its scripts, and its end.
-use Rattle.std.proofs.Common.{◌≡◌, ℕ, List, [], ◌∷◌, ◌++◌, length, map, refl, sym, ◌∙◌, ap}
-use Rattle.std.proofs.Common.{arith, append_assoc, length-append}
-use Rattle.std.specs.List.{All, flat_map}
+use Rattle.std.proofs.Common.{◌≡◌, ℕ, List, [], ◌∷◌, ◌++◌, length, map, refl, sym, ◌∙◌, ap, arith}
+use Rattle.std.proofs.Common.{append_assoc, length-append}
 use Rattle.std.proofs.lemmas.List.{length-map, append-nil}
 use Rattle.std.proofs.lemmas.List.Elements.{All-head, All-tail}
-use Rattle.line_model.specs.declared.line.Line.{Line}
-use Rattle.line_model.specs.declared.script.Script.{Script}
-use Rattle.certificate.specs.Grammar.{Place, fixed, key_of, verdict_of, Claims, HasOneEach}
-use Rattle.certificate.specs.Grammar.{Said, says_nothing, says_key, says_verdict, end_text, head_text}
+use Rattle.std.specs.List.{All, flat_map}
+use Rattle.line_model.specs.{declared.line.Line.Line, declared.script.Script.Script}
+use Rattle.certificate.specs.Grammar.{Place, fixed, key_of, verdict_of, Claims, HasOneEach, Said}
+use Rattle.certificate.specs.Grammar.{says_nothing, says_key, says_verdict, end_text, head_text}
 use Rattle.certificate.specs.Grammar.{part_places, part_said, terminal_names}
 use Rattle.certificate.specs.Text.{fed, lines_text, part_text, parts_text, certificate_text}
-use Rattle.certificate.proofs.ReadLaws.{names_count}
-use Rattle.certificate.proofs.TextLaws.{lines_append}
+use Rattle.certificate.proofs.{ReadLaws.names_count, TextLaws.lines_append}
 
 -- a script's part has as many places as it says something
 places_count : (line : Line) (script : Script) (claims : Claims) → HasOneEach line claims

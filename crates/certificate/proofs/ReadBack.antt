@@ -1,14 +1,13 @@
 -- What a certificate says can be written.
 use Rattle.std.proofs.Common.{◌≡◌, ℕ, List, [], ◌∷◌, ◌++◌, length, map, subst, arith, append_assoc}
 use Rattle.std.proofs.Common.{sym, ◌∙◌}
-use Rattle.std.specs.List.{All, flat_map}
 use Rattle.std.proofs.lemmas.List.Elements.{All-head, All-tail, All-nil, All-cons}
+use Rattle.std.specs.List.{All, flat_map}
 use Rattle.tick_signal.specs.declared.tern.Tern.{Tern}
-use Rattle.line_model.specs.declared.line.Line.{Line}
-use Rattle.line_model.specs.declared.script.Script.{Script}
+use Rattle.line_model.specs.{declared.line.Line.Line, declared.script.Script.Script}
 use Rattle.text_lines.specs.Lines.{Lines}
-use Rattle.certificate.specs.Grammar.{Place, fixed, key_of, verdict_of, Stands, opens_none}
-use Rattle.certificate.specs.Grammar.{Said, says_nothing, says_key, says_verdict, Claims, Verdict}
+use Rattle.certificate.specs.Grammar.{Place, fixed, key_of, verdict_of, Stands, opens_none, Said}
+use Rattle.certificate.specs.Grammar.{says_nothing, says_key, says_verdict, Claims, Verdict}
 use Rattle.certificate.specs.Grammar.{HasNumbers, HasOneEach, IsCertificate, terminal_names}
 use Rattle.certificate.specs.Grammar.{part_places, part_said, end_text}
 use Rattle.certificate.specs.Text.{CanBeWritten}

@@ -1,20 +1,17 @@
 -- Lines of a certificate, read one after another.
 use Rattle.std.proofs.Common.{◌≡◌, ℕ, ◌+◌, ◌<◌, List, ◌∷◌, ◌++◌, length, map, drop, get_or, sym}
-use Rattle.std.proofs.Common.{subst}
-use Rattle.std.proofs.Common.{Bool, false}
+use Rattle.std.proofs.Common.{subst, Bool, false}
+use Rattle.std.proofs.lemmas.List.{length-map}
 use Rattle.std.specs.Bool.{Decides}
 use Rattle.tick_signal.specs.declared.tern.Tern.{Tern}
-use Rattle.std.proofs.lemmas.List.{length-map}
 use Rattle.line_model.specs.declared.line.Line.{Line}
 use Rattle.certificate.specs.declared.claim.CertificateFault.{CertificateFault}
 use Rattle.certificate.specs.declared.claim.CertificateFault.TheVariants as fault
-use Rattle.text_lines.specs.Lines.{Goes}
-use Rattle.certificate.specs.Grammar.{Place, Said, Stands, opens_none, IsFault}
-use Rattle.certificate.specs.Grammar.{says_nothing, says_key, says_verdict, Verdict}
-use Rattle.certificate.specs.Grammar.{IsFixed, IsKey, IsVerdict, terminal_names}
+use Rattle.text_lines.specs.{Lines.Goes, LineLaws.leaves_later, Reading.next_place}
+use Rattle.certificate.specs.Grammar.{Place, Said, Stands, opens_none, IsFault, says_nothing}
+use Rattle.certificate.specs.Grammar.{says_key, says_verdict, Verdict, IsFixed, IsKey, IsVerdict}
+use Rattle.certificate.specs.Grammar.{terminal_names}
 use Rattle.line_model.specs.Parameters.{terminal_count}
-use Rattle.text_lines.specs.LineLaws.{leaves_later}
-use Rattle.text_lines.specs.Reading.{next_place}
 
 -- lines of a certificate were read
 abbrev pub GoesOn : Line → List Place → List Said → List ℕ → ℕ → List Place → List ℕ → ℕ → Type 0

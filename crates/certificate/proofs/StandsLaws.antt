@@ -1,14 +1,12 @@
 -- A line says one thing, and what it says has one text.
-use Rattle.std.proofs.Common.{◌≡◌, ◌≤◌, ℕ, List, length, drop, get_or, refl, sym}
-use Rattle.std.proofs.Common.{◌∙◌}
-use Rattle.std.proofs.Common.{ap, arith}
+use Rattle.std.proofs.Common.{◌≡◌, ◌≤◌, ℕ, List, length, drop, get_or, refl, sym, ◌∙◌, ap, arith}
 use Rattle.std.specs.Prelude.{codes}
 use Rattle.tick_signal.specs.declared.tern.Tern.{Tern}
 use Rattle.line_model.specs.declared.line.Line.{Line}
 use Rattle.wave_runs.specs.Text.{runs_text}
-use Rattle.certificate.specs.Grammar.{Place, fixed, key_of, verdict_of, Stands, HasNumbers}
-use Rattle.certificate.specs.Grammar.{Said, says_nothing, says_key, says_verdict, verdict_words}
-use Rattle.certificate.specs.Grammar.{Verdict, yes, no, undecided}
+use Rattle.certificate.specs.Grammar.{Place, fixed, key_of, verdict_of, Stands, HasNumbers, Said}
+use Rattle.certificate.specs.Grammar.{says_nothing, says_key, says_verdict, verdict_words, Verdict}
+use Rattle.certificate.specs.Grammar.{yes, no, undecided}
 use Rattle.certificate.proofs.NumberLaws.{numbers_tell}
 use Rattle.text_lines.specs.NamedLaws.{one_text}
 

@@ -1,15 +1,13 @@
 -- What is printed in a line has no line feed.
-use Rattle.std.proofs.Common.{◌≡◌, ◌&&◌, ℕ, ◌<◌, ◌^◌, true, not, List, []}
-use Rattle.std.proofs.Common.{◌∷◌, length, refl, ap, arith}
-use Rattle.std.proofs.Common.{ne_eqb, inl, inr}
-use Rattle.std.specs.Prelude.{nat_le}
-use Rattle.std.specs.List.{All, list_all}
+use Rattle.std.proofs.Common.{◌≡◌, ◌&&◌, ℕ, ◌<◌, ◌^◌, true, not, List, [], ◌∷◌, length, refl, ap}
+use Rattle.std.proofs.Common.{arith, ne_eqb, inl, inr}
 use Rattle.std.proofs.lemmas.Bool.{cases_eq}
 use Rattle.std.proofs.lemmas.List.Elements.{All-head, All-tail}
+use Rattle.std.specs.Prelude.{nat_le}
+use Rattle.std.specs.List.{All, list_all}
 use Rattle.line_model.specs.PlainNames.{is_plain_byte, is_plain_name}
-use Rattle.text_lines.specs.Lines.{is_no_feed, is_one_line}
-use Rattle.text_lines.specs.LineLaws.{both_true}
 use Rattle.text_lines.specs.NamedLaws.{whole_append, whole_more, decimal_whole}
+use Rattle.text_lines.specs.{Lines.is_no_feed, Lines.is_one_line, LineLaws.both_true}
 use Rattle.certificate.specs.Grammar.{numbers_text, spaced}
 
 pub numbers_whole : (numbers : List ℕ) → All (λ n. n < 2 ^ 32) numbers

@@ -1,29 +1,22 @@
 -- The text of claims is a certificate that claims them.
-use Rattle.std.proofs.Common.{◌≡◌, ◌≤◌, ℕ, true, List, [], ◌∷◌, ◌++◌, length, map, refl, sym}
-use Rattle.std.proofs.Common.{◌∙◌}
+use Rattle.std.proofs.Common.{◌≡◌, ◌≤◌, ℕ, true, List, [], ◌∷◌, ◌++◌, length, map, refl, sym, ◌∙◌}
 use Rattle.std.proofs.Common.{arith, append_assoc}
+use Rattle.std.proofs.lemmas.List.Elements.{All-head, All-tail, All-nil, All-cons, All-weaker}
 use Rattle.std.specs.Prelude.{codes}
 use Rattle.std.specs.List.{All, flat_map, list_all}
-use Rattle.std.proofs.lemmas.List.Elements.{All-head, All-tail, All-nil, All-cons, All-weaker}
 use Rattle.tick_signal.specs.declared.tern.Tern.{Tern}
-use Rattle.line_model.specs.declared.line.Line.{Line}
-use Rattle.line_model.specs.declared.line.Terminal.{Terminal}
-use Rattle.line_model.specs.declared.script.Script.{Script}
-use Rattle.line_model.specs.Fits.{Fits}
-use Rattle.line_model.specs.PlainNames.{is_plain_name}
+use Rattle.line_model.specs.{declared.line.Line.Line, declared.line.Terminal.Terminal}
+use Rattle.line_model.specs.{declared.script.Script.Script, Fits.Fits, PlainNames.is_plain_name}
 use Rattle.wave_runs.specs.Text.{runs_text}
 use Rattle.text_lines.specs.Lines.{Lines, is_one_line}
-use Rattle.certificate.specs.Grammar.{Place, fixed, key_of, verdict_of, Stands, opens_none}
-use Rattle.certificate.specs.Grammar.{Said, says_nothing, says_key, says_verdict, Claims, Verdict}
-use Rattle.certificate.specs.Grammar.{yes, no, undecided, HasNumbers, verdict_words}
-use Rattle.certificate.specs.Grammar.{part_places, part_said, certificate_places, certificate_said}
-use Rattle.certificate.specs.Grammar.{terminal_names, HasOneEach, IsCertificate}
-use Rattle.certificate.specs.Grammar.{end_text}
+use Rattle.text_lines.specs.{LineLaws.both_true, NamedLaws.named_whole, NamedLaws.whole_append}
+use Rattle.certificate.specs.Grammar.{Place, fixed, key_of, verdict_of, Stands, opens_none, Said}
+use Rattle.certificate.specs.Grammar.{says_nothing, says_key, says_verdict, Claims, Verdict, yes}
+use Rattle.certificate.specs.Grammar.{no, undecided, HasNumbers, verdict_words, part_places}
+use Rattle.certificate.specs.Grammar.{part_said, certificate_places, certificate_said}
+use Rattle.certificate.specs.Grammar.{terminal_names, HasOneEach, IsCertificate, end_text}
 use Rattle.certificate.specs.Text.{line_text, lines_text, CanBeWritten, certificate_text}
-use Rattle.text_lines.specs.LineLaws.{both_true}
-use Rattle.certificate.proofs.ReadLaws.{names_count}
-use Rattle.text_lines.specs.NamedLaws.{named_whole, whole_append}
-use Rattle.certificate.proofs.WholeLaws.{name_whole, numbers_whole}
+use Rattle.certificate.proofs.{ReadLaws.names_count, WholeLaws.name_whole, WholeLaws.numbers_whole}
 
 -- the text of a wave has no line feed
 abbrev pub WavesAreLines : Type 0

@@ -1,18 +1,14 @@
 -- The text of a certificate: the lines that one of a line's scripts has, and what each can say.
-use Rattle.std.specs.Prelude.{◌≡◌, ◌<◌, ◌^◌, ◌++◌, ℕ, List, [], ◌∷◌, length, map, codes}
-use Rattle.std.specs.Prelude.{decimal}
+use Rattle.std.specs.Prelude.{◌≡◌, ◌<◌, ◌^◌, ◌++◌, ℕ, List, [], ◌∷◌, length, map, codes, decimal}
 use Rattle.std.specs.List.{All, flat_map}
 use Rattle.tick_signal.specs.declared.tern.Tern.{Tern}
-use Rattle.line_model.specs.declared.line.Line.{Line}
-use Rattle.line_model.specs.declared.script.Script.{Script}
 use Rattle.line_model.specs.Parameters.{terminal_count, param_count}
+use Rattle.line_model.specs.{declared.line.Line.Line, declared.script.Script.Script}
 use Rattle.wave_runs.specs.Text.{runs_text}
-use Rattle.text_lines.specs.Lines.{Lines, LeavesAt, Goes}
-use Rattle.text_lines.specs.Named.{named}
-use Rattle.certificate.specs.declared.claim.Claim.{Claim}
+use Rattle.text_lines.specs.{Lines.Lines, Lines.LeavesAt, Lines.Goes, Named.named}
 use Rattle.certificate.specs.declared.claim.Claim.TheVariants.{Yes, No, Undecided}
-use Rattle.certificate.specs.declared.claim.ScriptClaims.{ScriptClaims}
 use Rattle.certificate.specs.declared.claim.CertificateFault.{CertificateFault}
+use Rattle.certificate.specs.{declared.claim.Claim.Claim, declared.claim.ScriptClaims.ScriptClaims}
 use Rattle.certificate.specs.declared.claim.CertificateFault.TheVariants as fault
 
 -- ---- what a certificate says

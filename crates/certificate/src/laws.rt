@@ -3,9 +3,8 @@
 ghost use Rattle.std.specs.Prelude.{◌≡◌, ◌≤◌, ◌+◌, ◌*◌, ℕ, List, length};
 ghost use Rattle.std.specs.List.{All};
 ghost use Rattle.line_model.specs.Fits.{Fits};
+ghost use Rattle.line_model.specs.{declared.line.Line.Line, declared.script.Script.Script};
 ghost use Rattle.certificate.specs.Text.{CanBeWritten, certificate_text};
-ghost use Rattle.line_model.specs.declared.line.Line.{Line};
-ghost use Rattle.line_model.specs.declared.script.Script.{Script};
 ghost use Rattle.certificate.specs.Grammar.{Claims, IsCertificate, LeavesGrammar};
 
 use wave_runs::{texts_tell_waves, the_text_of_a_wave_is_one_line};

@@ -1,7 +1,7 @@
 //! The numbers of a `no`, read.
 
-ghost use Rattle.std.specs.Prelude.{◌≡◌, ◌≢◌, ◌≤◌, ◌<◌, ◌^◌, ◌++◌, ℕ, List, Some, length, take, drop};
-ghost use Rattle.std.specs.Prelude.{IfOk, MatchOption};
+ghost use Rattle.std.specs.Prelude.{◌≡◌, ◌≢◌, ◌≤◌, ◌<◌, ◌^◌, ◌++◌, ℕ, List, Some, length, take};
+ghost use Rattle.std.specs.Prelude.{drop, IfOk, MatchOption};
 ghost use Rattle.std.specs.List.{All, position_or_len};
 ghost use Rattle.certificate.specs.Grammar.{AreNumbers, numbers_text, spaced};
 ghost use Rattle.certificate.specs.Numbers.{is_space, BeginsNumber};

@@ -3,10 +3,10 @@
 ghost use Rattle.std.specs.Prelude.{◌≡◌, ◌<◌, ◌++◌, [], ◌∷◌, length, map, get_or, OnOk};
 ghost use Rattle.line_model.specs.Parameters.{terminal_count};
 ghost use Rattle.certificate.specs.Grammar.{spaced, numbers_text, verdict_words, verdict_in};
-ghost use Rattle.text_lines.specs.Named.{named};
 ghost use Rattle.certificate.specs.Grammar.{script_text, key_text, verdict_text, terminal_names};
 ghost use Rattle.certificate.specs.Grammar.{key_of, verdict_of, says_key, says_verdict};
 ghost use Rattle.certificate.specs.Text.{fed, lines_text, part_text};
+ghost use Rattle.text_lines.specs.Named.{named};
 
 use crate::claim::Claim;
 use crate::read::name_at;

@@ -1,20 +1,16 @@
 -- What the bits of a block's lanes tell.
 use Rattle.std.proofs.Common.{◌≡◌, ℕ, zero, suc, ◌+◌, ◌-◌, ◌<◌, ◌≤◌, Bool, true, false, not, ◌||◌}
 use Rattle.std.proofs.Common.{List, Some, refl, sym, ◌∙◌, ap, arith}
-use Rattle.std.specs.Prelude.{Decides, slice_get, option_map}
 use Rattle.std.proofs.lemmas.Option.{slice_get-map, get_or_from_slice_get}
-use Rattle.history.specs.Elements.{some_below}
-use Rattle.history.specs.Rails.{both, rails_at}
-use Rattle.tick_signal.specs.Bits.{bit_rails}
-use Rattle.tick_signal.specs.Lanes.{in_lane}
+use Rattle.std.specs.Prelude.{Decides, slice_get, option_map}
+use Rattle.history.specs.{Elements.some_below, Rails.both, Rails.rails_at}
+use Rattle.tick_signal.specs.{Bits.bit_rails, Lanes.in_lane}
 use Rattle.line_model.specs.declared.line.Line.{Line}
-use Rattle.line_model.specs.declared.script.Kind.{Kind}
 use Rattle.line_model.specs.declared.script.Kind.TheVariants.{Internal, External}
 use Rattle.line_model.specs.declared.script.Script.{Script}
-use Rattle.line_model.specs.Parameters.{terminal_count}
 use Rattle.line_model.specs.Histories.{History, MeetsBy, Meets, IsSameHistory}
-use Rattle.line_model.specs.Rule.{is_held}
 use Rattle.line_model.specs.Laws.{TheRuleIsTested}
+use Rattle.line_model.specs.{declared.script.Kind.Kind, Parameters.terminal_count, Rule.is_held}
 use Rattle.certify_core.specs.Candidates.{TellsFailing}
 
 on_off : (b : Bool) → b ≡ true → b ≡ false → ⊥

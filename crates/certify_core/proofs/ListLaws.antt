@@ -1,9 +1,8 @@
 -- Lists with one element for each number, made one by one.
 use Rattle.std.proofs.Common.{◌≡◌, ℕ, ◌+◌, ◌<◌, List, [], ◌∷◌, ◌++◌, Some, length, length-append}
-use Rattle.std.proofs.Common.{map, take, get_or}
-use Rattle.std.proofs.Common.{sym, ◌∙◌, ap, subst, ⊎_elim}
-use Rattle.std.specs.Prelude.{slice_get}
+use Rattle.std.proofs.Common.{map, take, get_or, sym, ◌∙◌, ap, subst, ⊎_elim}
 use Rattle.std.proofs.lemmas.List.{map-append, take_more}
+use Rattle.std.specs.Prelude.{slice_get}
 use Rattle.simulator.specs.ListLaws.{at_push}
 use Rattle.certify_core.specs.OneEach.{OneEach}
 

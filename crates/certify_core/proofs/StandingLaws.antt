@@ -1,16 +1,13 @@
 -- How obligations stand after more candidates.
-use Rattle.std.proofs.Common.{◌≡◌, ◌≢◌, ℕ, ◌+◌, ◌-◌, ◌<◌, ◌≤◌}
-use Rattle.std.proofs.Common.{refl, subst, arith, ⊎_elim}
+use Rattle.std.proofs.Common.{◌≡◌, ◌≢◌, ℕ, ◌+◌, ◌-◌, ◌<◌, ◌≤◌, refl, subst, arith, ⊎_elim}
 use Rattle.std.proofs.lemmas.Bool.{cases_lt}
 use Rattle.line_model.specs.declared.line.Line.{Line}
-use Rattle.line_model.specs.declared.script.Script.{Script}
-use Rattle.line_model.specs.Histories.{PairHistory}
+use Rattle.line_model.specs.{declared.script.Script.Script, Histories.PairHistory}
 use Rattle.timing_box.specs.Candidates.{candidate, candidate_count}
-use Rattle.certify_core.specs.declared.standing.Standing.{Standing}
 use Rattle.certify_core.specs.declared.standing.Standing.TheVariants.{Held, Failing, Open}
-use Rattle.certify_core.specs.Verdicts.{PassesAt}
 use Rattle.certify_core.specs.Candidates.{candidate_in, TellFailing, IsLowest, IsNone64}
 use Rattle.certify_core.specs.Standings.{StandsFailing, StandsOpen, IsStanding}
+use Rattle.certify_core.specs.{declared.standing.Standing.Standing, Verdicts.PassesAt}
 use Rattle.certify_core.proofs.BlockLaws.{candidate_exists, candidate_at, candidate_before}
 
 module _ (line : Line) (script : Script) (k : ℕ) (w : PairHistory) where

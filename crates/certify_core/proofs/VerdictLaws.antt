@@ -1,24 +1,21 @@
 -- Verdicts by how the obligations stand, and what verdicts say.
-use Rattle.std.proofs.Common.{◌≡◌, ◌≢◌, ◌||◌, ℕ, zero, suc, ◌<◌, ◌≤◌, Bool, not, cond}
-use Rattle.std.proofs.Common.{List, [], ◌∷◌, Some, length, map, refl, sym, ◌∙◌, ap, subst}
-use Rattle.std.proofs.Common.{arith, ⊎_elim}
-use Rattle.std.specs.Prelude.{slice_get, IsTrue}
+use Rattle.std.proofs.Common.{◌≡◌, ◌≢◌, ◌||◌, ℕ, zero, suc, ◌<◌, ◌≤◌, Bool, not, cond, List, []}
+use Rattle.std.proofs.Common.{◌∷◌, Some, length, map, refl, sym, ◌∙◌, ap, subst, arith, ⊎_elim}
 use Rattle.std.proofs.lemmas.Bool.Decides.{nat_tests}
 use Rattle.std.proofs.lemmas.Option.{slice_get_within}
-use Rattle.tick_signal.specs.declared.tern.Tern.{Tern}
 use Rattle.std.proofs.lemmas.Bool.{cases_lt}
 use Rattle.std.proofs.lemmas.List.{length-map}
 use Rattle.std.proofs.lemmas.List.FromFn.{length-map-range_with_len}
-use Rattle.history.specs.Elements.{some_below}
-use Rattle.history.specs.Rails.{Rails, must_of, may_of}
+use Rattle.std.specs.Prelude.{slice_get, IsTrue}
+use Rattle.tick_signal.specs.declared.tern.Tern.{Tern}
+use Rattle.history.specs.{Elements.some_below, Rails.Rails, Rails.must_of, Rails.may_of}
 use Rattle.line_model.specs.declared.line.Line.{Line}
-use Rattle.line_model.specs.declared.script.Kind.{Kind}
 use Rattle.line_model.specs.declared.script.Kind.TheVariants.{Internal, External}
 use Rattle.line_model.specs.declared.script.Script.{Script}
-use Rattle.line_model.specs.Fits.{deadline_fits, Fits}
 use Rattle.line_model.specs.Parameters.{terminal_count, param_count}
 use Rattle.line_model.specs.Histories.{PairHistory, IsSamePairHistory}
 use Rattle.line_model.specs.Rule.{Rule, Held, Broken, Unknown, rule_by, rule_of}
+use Rattle.line_model.specs.{declared.script.Kind.Kind, Fits.deadline_fits, Fits.Fits}
 use Rattle.timing_box.specs.Timing.{TimingValues}
 use Rattle.timing_box.specs.Candidates.{candidate, candidate_count, candidate_value}
 use Rattle.certify_core.specs.declared.verdict.Verdict.{Verdict}
@@ -26,9 +23,8 @@ use Rattle.certify_core.specs.declared.verdict.Verdict.TheVariants.{Yes, No, Und
 use Rattle.certify_core.specs.declared.standing.Standing.{Standing}
 use Rattle.certify_core.specs.declared.standing.Standing.TheVariants as standing
 use Rattle.certify_core.specs.Verdicts.{PassesAt, IsVerdict, AreVerdicts, AreKeys}
-use Rattle.certify_core.specs.OneEach.{OneEach}
-use Rattle.certify_core.specs.Piece.{IsWritten}
 use Rattle.certify_core.specs.Standings.{IsStanding, AllStand, IsOfLine, verdict_as}
+use Rattle.certify_core.specs.{OneEach.OneEach, Piece.IsWritten}
 
 -- an element of a mapped list is that of an element
 mapped : {A B : Type 0} (f : A → B) (xs : List A) (k : ℕ) (y : B) → slice_get (map f xs) k ≡ Some y

@@ -1,20 +1,15 @@
 -- Candidates in blocks of 64, one in each lane.
-use Rattle.std.specs.Prelude.{◌≡◌, ◌+◌, ◌-◌, ◌<◌, ℕ, Bool, List, IsTrue, IsFalse}
-use Rattle.std.specs.Prelude.{slice_index, nat_lt, if◌then◌else◌}
+use Rattle.std.specs.Prelude.{◌≡◌, ◌+◌, ◌-◌, ◌<◌, ℕ, Bool, List, IsTrue, IsFalse, slice_index}
+use Rattle.std.specs.Prelude.{nat_lt, if◌then◌else◌}
 use Rattle.history.specs.Rails.{rails_at}
-use Rattle.tick_signal.specs.Bits.{bit_rails, bit_on}
-use Rattle.tick_signal.specs.Lanes.{in_lane}
+use Rattle.tick_signal.specs.{Bits.bit_rails, Bits.bit_on, Lanes.in_lane}
 use Rattle.channel.specs.SentKeys.{SentKeys}
-use Rattle.line_model.specs.declared.line.Line.{Line}
-use Rattle.line_model.specs.declared.script.Script.{Script}
 use Rattle.line_model.specs.Parameters.{param_count, terminal_count}
+use Rattle.line_model.specs.{declared.line.Line.Line, declared.script.Script.Script}
 use Rattle.timing_box.specs.Choice.{timing_choice}
 use Rattle.timing_box.specs.Candidates.{candidate, candidate_count, candidate_value}
-use Rattle.simulator.specs.Runs.{IsExactAt}
-use Rattle.simulator.specs.Ticks.{AreSent}
-use Rattle.simulator.specs.Tracks.{tracks_history}
-use Rattle.certify_core.specs.OneEach.{OneEach}
-use Rattle.certify_core.specs.Verdicts.{PassesAt, FailsAt}
+use Rattle.simulator.specs.{Runs.IsExactAt, Ticks.AreSent, Tracks.tracks_history}
+use Rattle.certify_core.specs.{OneEach.OneEach, Verdicts.PassesAt, Verdicts.FailsAt}
 
 -- the number of the candidate in a lane of the block that begins with candidate `first`; the lanes
 -- past the last candidate repeat it

@@ -1,15 +1,12 @@
 //! The verdict of a script.
 
 ghost use Rattle.std.specs.Prelude.{◌≡◌, ◌<◌, ℕ, Some, slice_get, IfOk};
-ghost use Rattle.line_model.specs.Choice.{Choice, IsInside, declared_box};
-ghost use Rattle.line_model.specs.Fits.{Fits};
-ghost use Rattle.line_model.specs.Histories.{History, IsLineHistory, Meets};
-ghost use Rattle.line_model.specs.Histories.{PairHistory, IsPairHistory};
-ghost use Rattle.line_model.specs.Rule.{Broken, Unknown, rule_of};
+ghost use Rattle.line_model.specs.{Choice.Choice, Choice.IsInside, Choice.declared_box, Fits.Fits};
+ghost use Rattle.line_model.specs.{Histories.History, Histories.IsLineHistory, Histories.Meets};
+ghost use Rattle.line_model.specs.{Histories.PairHistory, Histories.IsPairHistory, Rule.Broken};
+ghost use Rattle.line_model.specs.{Rule.Unknown, Rule.rule_of, Parameters.terminal_count};
 ghost use Rattle.gate_net.specs.NetOf.{IsNetOf};
-ghost use Rattle.line_model.specs.Parameters.{terminal_count};
-ghost use Rattle.timing_box.specs.Timing.{TimingValues};
-ghost use Rattle.timing_box.specs.Candidates.{candidate};
+ghost use Rattle.timing_box.specs.{Timing.TimingValues, Candidates.candidate};
 ghost use Rattle.certify_core.specs.Piece.{IsPrintable};
 ghost use Rattle.certify_core.specs.Verdicts.{AreKeys, AreVerdicts, IsRefutation};
 

@@ -2,8 +2,7 @@
 
 ghost use Rattle.std.specs.Prelude.{◌≡◌, ◌<◌, ◌≤◌, ℕ, length, MatchOption};
 ghost use Rattle.history.specs.Elements.{some_below};
-ghost use Rattle.line_model.specs.Parameters.{terminal_count};
-ghost use Rattle.line_model.specs.Histories.{MeetsBy};
+ghost use Rattle.line_model.specs.{Parameters.terminal_count, Histories.MeetsBy};
 ghost use Rattle.tick_signal.specs.Bits.{bit_on};
 ghost use Rattle.simulator.specs.Ticks.{AreSent};
 ghost use Rattle.certify_core.specs.Candidates.{IsBlockRun, trips_in, TellsFailing, TellFailing};

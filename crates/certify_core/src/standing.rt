@@ -2,8 +2,7 @@
 
 ghost use Rattle.std.specs.Prelude.{◌≡◌, ◌≢◌, ◌<◌, ◌+◌, ℕ, length, map, slice_get, Some, IfOk};
 ghost use Rattle.std.specs.Prelude.{IsFalse};
-ghost use Rattle.line_model.specs.Parameters.{terminal_count};
-ghost use Rattle.line_model.specs.Histories.{PairHistory};
+ghost use Rattle.line_model.specs.{Parameters.terminal_count, Histories.PairHistory};
 ghost use Rattle.gate_net.specs.NetOf.{IsNetOf};
 ghost use Rattle.interval_wave.specs.PairWavesOf.{pair_history};
 ghost use Rattle.timing_box.specs.Candidates.{candidate_count as count_of};

@@ -2,14 +2,11 @@
 use Rattle.std.proofs.Common.{◌≡◌, ℕ, Bool, ◌+◌, ◌<◌, ◌≤◌, List, length, get_or, subst, arith}
 use Rattle.std.proofs.Common.{⊎_elim}
 use Rattle.std.proofs.lemmas.Bool.{cases_lt}
-use Rattle.history.specs.Comes.{Comes}
 use Rattle.std.proofs.lemmas.List.{get_or-map}
-use Rattle.history.specs.Rails.{Rails, both, rails_at}
+use Rattle.history.specs.{Comes.Comes, Rails.Rails, Rails.both, Rails.rails_at}
 use Rattle.std.specs.Prelude.{false, zero, suc, [], ◌∷◌, IsTrue}
 use Rattle.channel.specs.Sent.{sent_must, sent_may}
-use Rattle.tick_signal.specs.declared.tern.Tern.{Tern}
-use Rattle.tick_signal.specs.Terns.{tern_sound}
-use Rattle.tick_signal.specs.Lanes.{in_lane}
+use Rattle.tick_signal.specs.{declared.tern.Tern.Tern, Terns.tern_sound, Lanes.in_lane}
 
 -- the rails of what was sent at a tick
 pub rails_at-in_lane : {V : Type 0} (rails : V → ℕ → Rails) (lane : ℕ) (sent : List V) (r : ℕ)

@@ -4,11 +4,11 @@ use Rattle.std.proofs.Common.{length, Some, refl, sym, ◌∙◌, ap, arith, inl
 use Rattle.std.proofs.Common.{length-append, replicate, append_assoc, leb, leb-true, get_or}
 use Rattle.std.proofs.lemmas.List.{append-nil, replicate_more, length-replicate}
 use Rattle.std.proofs.lemmas.List.Sorted.{IsPartitionedBy-leb}
-use Rattle.std.specs.List.Sorted.{IsPartitionedBy, IsPartitionPoint}
-use Rattle.std.specs.Prelude.{slice_get, option_map, true, false, Bool, not, IsTrue, IsFalse}
 use Rattle.std.proofs.lemmas.Bool.{cases_lt, leb-false}
 use Rattle.std.proofs.lemmas.Option.{slice_get-map, get_or_from_slice_get, slice_get-get_or}
 use Rattle.std.proofs.lemmas.Option.{slice_get_within}
+use Rattle.std.specs.List.Sorted.{IsPartitionedBy, IsPartitionPoint}
+use Rattle.std.specs.Prelude.{slice_get, option_map, true, false, Bool, not, IsTrue, IsFalse}
 use Rattle.history.specs.Rails.{Rails, rails_at, both}
 use Rattle.tick_signal.specs.Lanes.{in_lane}
 use Rattle.channel.specs.Tracks.{IsOneOf, AreAscending, ChangeAt, IsTrack, IsLast, IsNextAfter}

@@ -1,9 +1,7 @@
 -- The rails of what was sent.
 use Rattle.std.specs.Prelude.{ℕ, Bool, List}
 use Rattle.history.specs.Rails.{rails_at}
-use Rattle.tick_signal.specs.declared.tern.Tern.{Tern}
-use Rattle.tick_signal.specs.Terns.{tern_rails}
-use Rattle.tick_signal.specs.Lanes.{in_lane}
+use Rattle.tick_signal.specs.{declared.tern.Tern.Tern, Terns.tern_rails, Lanes.in_lane}
 
 -- whether what was sent at tick r must be on
 abbrev pub sent_must : List Tern → ℕ → Bool

@@ -3,8 +3,7 @@
 
 ghost use Rattle.std.specs.Prelude.{◌≡◌, ◌<◌, ◌≤◌, length};
 ghost use Rattle.history.specs.Rails.{both, single, rails_at, rails_delayed};
-ghost use Rattle.tick_signal.specs.Bits.{bit_rails};
-ghost use Rattle.tick_signal.specs.Lanes.{in_lane};
+ghost use Rattle.tick_signal.specs.{Bits.bit_rails, Lanes.in_lane};
 
 use crate::Carried;
 use history::delay_laws::one_delay_reads_one_tick;

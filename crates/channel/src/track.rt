@@ -26,8 +26,7 @@ pub struct Track<V: Signal> {
 
 impl<V: Signal> Model for Track<V> {
     ghost use Rattle.std.specs.Prelude.{vec_capacity};
-    ghost use Rattle.channel.specs.SentKeys.{SentKeys};
-    ghost use Rattle.channel.specs.Tracks.{IsTrack};
+    ghost use Rattle.channel.specs.{SentKeys.SentKeys, Tracks.IsTrack};
 
     ghost Value = { SentKeys V };
 

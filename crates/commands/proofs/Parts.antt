@@ -1,65 +1,27 @@
 -- The parts of a certificate: each script has one, and what is written of them.
-use Rattle.std.proofs.Common.{
-  ◌≡◌,
-  ℕ,
-  ◌+◌,
-  ◌<◌,
-  ◌≤◌,
-  Bool,
-  true,
-  false,
-  ◌||◌,
-  List,
-  [],
-  ◌∷◌,
-  ◌++◌,
-  length,
-  get_or,
-  take,
-  drop,
-  map,
-  Result,
-  Ok,
-  Err,
-  refl,
-  sym,
-  ap,
-  ◌∙◌,
-  subst,
-}
+use Rattle.std.proofs.Common.{◌≡◌, ℕ, ◌+◌, ◌<◌, ◌≤◌, Bool, true, false, ◌||◌, List, [], ◌∷◌, ◌++◌}
+use Rattle.std.proofs.Common.{length, get_or, take, drop, map, Result, Ok, Err, refl, sym, ap, ◌∙◌}
+use Rattle.std.proofs.Common.{subst}
 use Rattle.std.proofs.Math.Bool.{or-false}
-use Rattle.std.proofs.lemmas.List.{append-nil, drop_more, map-append, take-append-drop, take_all, take_more}
+use Rattle.std.proofs.lemmas.List.{append-nil, drop_more, map-append, take-append-drop, take_all}
+use Rattle.std.proofs.lemmas.List.{take_more}
 use Rattle.std.proofs.lemmas.List.Elements.{All-drop, All-head, All-tail}
 use Rattle.std.proofs.lemmas.List.Folds.{concat-append, list_any-append}
 use Rattle.std.specs.List.{All, AllZip, concat, list_any}
 use Rattle.tick_signal.specs.declared.tern.Tern.{Tern}
-use Rattle.line_model.specs.declared.line.Line.{Line}
-use Rattle.line_model.specs.declared.script.Script.{Script}
 use Rattle.line_model.specs.Choice.{Box, LeastFromOne, declared_box}
-use Rattle.line_model.specs.Fits.{Fits}
 use Rattle.line_model.specs.Histories.{PairHistory, IsPairHistory}
+use Rattle.line_model.specs.{declared.line.Line.Line, declared.script.Script.Script, Fits.Fits}
 use Rattle.certify_core.specs.declared.verdict.Verdict.{Verdict}
-use Rattle.certify_core.specs.declared.verdict.ScriptVerdict.{ScriptVerdict}
-use Rattle.certify_core.specs.Piece.{part_text, piece_text}
-use Rattle.certify_core.specs.Verdicts.{AreKeys, AreVerdicts}
+use Rattle.certify_core.specs.{declared.verdict.ScriptVerdict.ScriptVerdict, Piece.part_text}
+use Rattle.certify_core.specs.{Piece.piece_text, Verdicts.AreKeys, Verdicts.AreVerdicts}
 use Rattle.engine.specs.Certified.{IsCertified}
-use Rattle.commands.specs.Certify.{
-  certify_answer,
-  IsCertificate,
-  IsPart,
-  Part,
-  certificate_end,
-  certificate_head,
-  is_no,
-  is_undecided,
-  some_verdict,
-}
-use Rattle.commands.specs.Answers.{WritesAnswer, status_by}
+use Rattle.commands.specs.Certify.{certify_answer, IsCertificate, IsPart, Part, certificate_end}
+use Rattle.commands.specs.Certify.{certificate_head, is_no, is_undecided, some_verdict}
 use Rattle.commands.specs.PartWrites.{WritesPart, WritesParts, parts_text}
 use Rattle.commands.specs.Sinks.{SinkView, GrewByAll, WriteStops}
-use Rattle.commands.specs.declared.found.Found.{Found}
-use Rattle.commands.specs.declared.done.Done.{Done}
-use Rattle.commands.specs.declared.put.WriteStop.{WriteStop}
+use Rattle.commands.specs.{Answers.WritesAnswer, Answers.status_by, declared.found.Found.Found}
+use Rattle.commands.specs.{declared.done.Done.Done, declared.put.WriteStop.WriteStop}
 use Rattle.commands.specs.declared.put.WriteStop.TheVariants as stop
 use Rattle.commands.specs.SinkLaws.{grew_both, grew_none}
 use Rattle.commands.proofs.Writing.{stops_more, stops_none, stops_then}

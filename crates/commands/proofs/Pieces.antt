@@ -1,28 +1,9 @@
 -- Texts of pieces, and what a writer has written of one.
-use Rattle.std.proofs.Common.{
-  ◌≡◌,
-  ℕ,
-  ◌+◌,
-  ◌<◌,
-  ◌≤◌,
-  List,
-  [],
-  ◌∷◌,
-  ◌++◌,
-  length,
-  get_or,
-  drop,
-  refl,
-  sym,
-  ap,
-  ◌∙◌,
-  subst,
-}
+use Rattle.std.proofs.Common.{◌≡◌, ℕ, ◌+◌, ◌<◌, ◌≤◌, List, [], ◌∷◌, ◌++◌, length, get_or, drop}
+use Rattle.std.proofs.Common.{refl, sym, ap, ◌∙◌, subst}
 use Rattle.std.proofs.lemmas.List.{append_assoc, append-nil, drop_all, drop_more}
-use Rattle.commands.specs.Play.{Pieces}
-use Rattle.commands.specs.Sinks.{SinkView, GrewByAll, WriteStops}
-use Rattle.commands.specs.declared.put.WriteStop.{WriteStop}
-use Rattle.commands.specs.SinkLaws.{grew_both, grew_none}
+use Rattle.commands.specs.{Play.Pieces, Sinks.SinkView, Sinks.GrewByAll, Sinks.WriteStops}
+use Rattle.commands.specs.{declared.put.WriteStop.WriteStop, SinkLaws.grew_both, SinkLaws.grew_none}
 use Rattle.commands.proofs.Writing.{stops_more, stops_then}
 
 -- the pieces of the first i elements are written, and those of the others are left

@@ -2,23 +2,13 @@
 use Rattle.std.proofs.Common.{◌≡◌, ℕ, List, [], ◌∷◌, ◌++◌, refl, sym, ap, ◌∙◌}
 use Rattle.std.proofs.lemmas.List.Elements.{All-head, All-tail}
 use Rattle.std.specs.List.{All}
-use Rattle.line_model.specs.declared.line.Line.{Line}
-use Rattle.line_model.specs.declared.script.Script.{Script}
 use Rattle.line_model.specs.Choice.{Choice, DelaysFromOne, IsInside}
 use Rattle.line_model.specs.Histories.{History, IsLineHistory, IsSameHistory}
-use Rattle.simulator.specs.PlayRows.{run_rows}
-use Rattle.simulator.specs.RowLaws.{run_rows-same}
+use Rattle.line_model.specs.{declared.line.Line.Line, declared.script.Script.Script}
+use Rattle.simulator.specs.{PlayRows.run_rows, RowLaws.run_rows-same}
 use Rattle.timing_box.specs.Choice.{timing_choice}
-use Rattle.timing_box.specs.Inside.{IsTimingInside}
-use Rattle.timing_box.specs.SoFar.{NamedValues}
-use Rattle.timing_box.specs.Timing.{TimingValues}
-use Rattle.commands.specs.Play.{
-  IsPlayText,
-  IsRunText,
-  IsTimingText,
-  Pieces,
-  play_header,
-}
+use Rattle.timing_box.specs.{Inside.IsTimingInside, SoFar.NamedValues, Timing.TimingValues}
+use Rattle.commands.specs.Play.{IsPlayText, IsRunText, IsTimingText, Pieces, play_header}
 
 -- where each element of a list has a piece, there is a text of pieces
 pieces_exist : {X : Type 0} (IsPiece : X → List ℕ → Type 0) (P : X → Type 0)

@@ -1,46 +1,21 @@
 -- The text of split trees, as it is made script by script.
-use Rattle.std.proofs.Common.{
-  ◌≡◌,
-  ℕ,
-  ◌+◌,
-  ◌<◌,
-  ◌≤◌,
-  ◌||◌,
-  List,
-  [],
-  ◌∷◌,
-  ◌++◌,
-  Some,
-  length,
-  length-append,
-  get_or,
-  map,
-  false,
-  take,
-  refl,
-  sym,
-  ap,
-  ◌∙◌,
-  subst,
-  ⊎_elim,
-}
+use Rattle.std.proofs.Common.{◌≡◌, ℕ, ◌+◌, ◌<◌, ◌≤◌, ◌||◌, List, [], ◌∷◌, ◌++◌, Some, length}
+use Rattle.std.proofs.Common.{length-append, get_or, map, false, take, refl, sym, ap, ◌∙◌, subst}
+use Rattle.std.proofs.Common.{⊎_elim}
 use Rattle.std.proofs.Math.Bool.{or-false}
 use Rattle.std.proofs.lemmas.List.{append_assoc, append-nil, take_all, take_more}
 use Rattle.std.proofs.lemmas.List.Folds.{list_any-append}
 use Rattle.std.specs.List.{list_any}
 use Rattle.std.specs.Prelude.{Bool, slice_get}
-use Rattle.line_model.specs.declared.line.Line.{Line}
-use Rattle.line_model.specs.declared.script.Script.{Script}
+use Rattle.line_model.specs.{declared.line.Line.Line, declared.script.Script.Script}
 use Rattle.simulator.specs.ListLaws.{at_push}
-use Rattle.certificate.specs.Grammar.{end_text}
-use Rattle.certificate.specs.Text.{fed}
+use Rattle.certificate.specs.{Grammar.end_text, Text.fed}
 use Rattle.certify_core.specs.OneEach.{OneEach}
 use Rattle.split_text.specs.Grammar.{SplitResult, head_text}
 use Rattle.split_text.specs.Text.{part_text, parts_text}
 use Rattle.own_splits.specs.Searched.{AllSearched, AreSearched}
-use Rattle.commands.specs.Answers.{status_by}
 use Rattle.commands.specs.Split.{HasSplits, IsSplitOf, is_fails, is_open, some_result}
-use Rattle.commands.specs.declared.found.Found.{Found}
+use Rattle.commands.specs.{Answers.status_by, declared.found.Found.Found}
 use Rattle.commands.proofs.Parts.{both_found}
 
 -- ---- one element for each number

@@ -1,10 +1,8 @@
 -- What a command may answer: a relation of its status and its text.
 use Rattle.std.specs.Prelude.{◌≡◌, ℕ, Bool, List, IfOk, Result, if◌then◌else◌}
-use Rattle.commands.specs.Sinks.{SinkView, Writes}
-use Rattle.commands.specs.declared.done.Done.{Done}
+use Rattle.commands.specs.{Sinks.SinkView, Sinks.Writes, declared.done.Done.Done}
 use Rattle.commands.specs.declared.done.Done.TheVariants as done
-use Rattle.commands.specs.declared.put.WriteStop.{WriteStop}
-use Rattle.commands.specs.declared.said.Said.{Said}
+use Rattle.commands.specs.{declared.put.WriteStop.WriteStop, declared.said.Said.Said}
 
 abbrev pub Answers : Type 1
 Answers = Done → List ℕ → Type 0

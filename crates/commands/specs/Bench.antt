@@ -1,16 +1,13 @@
 -- The command `bench`: the verdicts of the bench's first scripts are counted, and their certificate
 -- is accepted.
 use Rattle.std.specs.Prelude.{◌≡◌, ◌++◌, ℕ, List}
-use Rattle.line_model.specs.declared.line.Line.{Line}
-use Rattle.line_model.specs.declared.script.Script.{Script}
-use Rattle.certificate.specs.Grammar.{Claims}
-use Rattle.certificate.specs.Text.{certificate_text, part_text}
+use Rattle.line_model.specs.{declared.line.Line.Line, declared.script.Script.Script}
+use Rattle.certificate.specs.{Grammar.Claims, Text.certificate_text, Text.part_text}
 use Rattle.own_certificate.specs.Certified.{AreCertified, IsCertified}
 use Rattle.bench.specs.BenchLine.{IsBenchLine}
 use Rattle.bench_answer.specs.Answer.{IsBenchText}
 use Rattle.engine.specs.Calls.{AskedCheck, AskedVerdicts}
-use Rattle.commands.specs.Answers.{Answers, prints}
-use Rattle.commands.specs.Asked.{Asks}
+use Rattle.commands.specs.{Answers.Answers, Answers.prints, Asked.Asks}
 
 abbrev pub bench_answer : ℕ → Answers
 bench_answer n = prints (IsBenchText n)

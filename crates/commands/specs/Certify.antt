@@ -1,32 +1,16 @@
 -- The command `certify`: its text is the certificate of the scripts, which has the verdict of each
 -- obligation and the keys that show it.
-use Rattle.std.specs.Prelude.{
-  ◌≡◌,
-  ◌++◌,
-  ℕ,
-  Bool,
-  true,
-  false,
-  List,
-  [],
-  length,
-  map,
-  codes,
-}
+use Rattle.std.specs.Prelude.{◌≡◌, ◌++◌, ℕ, Bool, true, false, List, [], length, map, codes}
 use Rattle.std.specs.List.{AllZip, concat, list_any}
-use Rattle.line_model.specs.declared.line.Line.{Line}
-use Rattle.line_model.specs.declared.script.Script.{Script}
-use Rattle.line_model.specs.Choice.{declared_box}
-use Rattle.line_model.specs.Histories.{PairHistory, IsPairHistory}
+use Rattle.line_model.specs.{declared.line.Line.Line, declared.script.Script.Script}
+use Rattle.line_model.specs.{Choice.declared_box, Histories.PairHistory, Histories.IsPairHistory}
 use Rattle.tick_signal.specs.declared.tern.Tern.{Tern}
 use Rattle.certify_core.specs.Piece.{part_text}
 use Rattle.certify_core.specs.Verdicts.{AreKeys, AreVerdicts}
 use Rattle.certify_core.specs.declared.verdict.Verdict.{Verdict}
 use Rattle.certify_core.specs.declared.verdict.Verdict.TheVariants.{Yes, No, Undecided}
 use Rattle.engine.specs.Calls.{AskedVerdicts}
-use Rattle.commands.specs.Answers.{Answers, status_by}
-use Rattle.commands.specs.Asked.{Asks}
-use Rattle.commands.specs.declared.done.Done.{Done}
+use Rattle.commands.specs.{Answers.Answers, Answers.status_by, Asked.Asks, declared.done.Done.Done}
 
 -- the first and the last line
 abbrev pub certificate_head : List ℕ

@@ -1,34 +1,16 @@
 -- The command `check`: whether a certificate is accepted, with its counts, or its first fault.
-use Rattle.std.specs.Prelude.{
-  ◌≡◌,
-  ◌≢◌,
-  ◌∷◌,
-  ℕ,
-  List,
-  [],
-  codes,
-  decimal,
-}
+use Rattle.std.specs.Prelude.{◌≡◌, ◌≢◌, ◌∷◌, ℕ, List, [], codes, decimal}
 use Rattle.std.specs.List.{concat}
-use Rattle.line_model.specs.declared.line.Line.{Line}
-use Rattle.line_model.specs.declared.script.Script.{Script}
+use Rattle.line_model.specs.{declared.line.Line.Line, declared.script.Script.Script}
 use Rattle.tick_signal.specs.declared.tern.Tern.{Tern}
 use Rattle.tick_signal.specs.declared.tern.Tern.TheVariants as tern
 use Rattle.cert_checker.specs.Check.{IsAccepted, IsCheckFault}
-use Rattle.cert_checker.specs.declared.counts.Counts.{Counts}
-use Rattle.cert_checker.specs.declared.fault.CheckFault.{CheckFault}
+use Rattle.cert_checker.specs.{declared.counts.Counts.Counts, declared.fault.CheckFault.CheckFault}
 use Rattle.cert_checker.specs.declared.fault.CheckFault.TheVariants as fault
 use Rattle.engine.specs.Calls.{AskedCheck}
-use Rattle.commands.specs.Answers.{Answers}
-use Rattle.commands.specs.Asked.{Asks}
-use Rattle.commands.specs.Checked.{
-  accepted_pieces,
-  line_pieces,
-  outside_pieces,
-  passes_pieces,
-  place,
-}
-use Rattle.commands.specs.declared.done.Done.{Done}
+use Rattle.commands.specs.Checked.{accepted_pieces, line_pieces, outside_pieces, passes_pieces}
+use Rattle.commands.specs.Checked.{place}
+use Rattle.commands.specs.{Answers.Answers, Asked.Asks, declared.done.Done.Done}
 use Rattle.commands.specs.declared.done.Done.TheVariants as done
 
 -- ---- the lines

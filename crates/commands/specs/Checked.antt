@@ -1,10 +1,8 @@
 -- The lines that tell what a check of a text found.
 use Rattle.std.specs.Prelude.{◌∷◌, ℕ, List, [], Option, None, Some, codes, decimal, slice_get}
 use Rattle.std.specs.List.{concat}
-use Rattle.line_model.specs.declared.line.Line.{Line}
-use Rattle.line_model.specs.declared.line.Param.{Param}
-use Rattle.line_model.specs.declared.line.Terminal.{Terminal}
-use Rattle.line_model.specs.declared.script.Script.{Script}
+use Rattle.line_model.specs.{declared.line.Line.Line, declared.line.Param.Param}
+use Rattle.line_model.specs.{declared.line.Terminal.Terminal, declared.script.Script.Script}
 use Rattle.cert_checker.specs.declared.counts.Counts.{Counts}
 
 -- `accepted Y N U`

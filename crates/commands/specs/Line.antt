@@ -2,9 +2,7 @@
 use Rattle.std.specs.Prelude.{◌≡◌, ℕ, false, List, Ok}
 use Rattle.toml.specs.Text.{IsDocumentText}
 use Rattle.line_model.specs.declared.line.Line.{Line}
-use Rattle.line_file.specs.Canonical.{canonical}
-use Rattle.line_file.specs.LineFiles.{line_of}
-use Rattle.line_file.specs.Lines.{line_values}
+use Rattle.line_file.specs.{Canonical.canonical, LineFiles.line_of, Lines.line_values}
 use Rattle.commands.specs.Answers.{Answers, prints}
 
 -- a document of the line's canonical table of that version, which is read as the same line

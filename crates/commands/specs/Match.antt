@@ -1,11 +1,8 @@
 -- The command `match`: a line for each head of a record file, in file order.
 use Rattle.std.specs.Prelude.{◌≡◌, ℕ, Bool, List}
-use Rattle.line_model.specs.declared.line.Line.{Line}
-use Rattle.line_model.specs.declared.script.Script.{Script}
-use Rattle.record_match.specs.Answer.{IsMatchAnswer}
-use Rattle.record_match.specs.Waves.{SeenValues}
-use Rattle.commands.specs.Answers.{Answers, status_by}
-use Rattle.commands.specs.declared.done.Done.{Done}
+use Rattle.line_model.specs.{declared.line.Line.Line, declared.script.Script.Script}
+use Rattle.record_match.specs.{Answer.IsMatchAnswer, Waves.SeenValues}
+use Rattle.commands.specs.{Answers.Answers, Answers.status_by, declared.done.Done.Done}
 
 -- the lines of all heads, with the status that they give
 pub record IsMatched

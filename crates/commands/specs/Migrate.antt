@@ -1,7 +1,6 @@
 -- The command `migrate`.
 use Rattle.line_model.specs.declared.line.Line.{Line}
-use Rattle.commands.specs.Answers.{Answers, prints}
-use Rattle.commands.specs.Line.{IsLineText}
+use Rattle.commands.specs.{Answers.Answers, Answers.prints, Line.IsLineText}
 
 -- with times in microseconds
 abbrev pub migrate_answer : Line → Answers

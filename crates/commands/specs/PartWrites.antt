@@ -1,12 +1,10 @@
 -- The parts of a certificate as they are written, one script after another.
 use Rattle.std.specs.Prelude.{◌≡◌, ℕ, List, map, IfOk, Result}
 use Rattle.std.specs.List.{AllZip, concat, list_any}
-use Rattle.line_model.specs.declared.line.Line.{Line}
-use Rattle.line_model.specs.declared.script.Script.{Script}
+use Rattle.line_model.specs.{declared.line.Line.Line, declared.script.Script.Script}
 use Rattle.commands.specs.Certify.{IsPart, Part, is_no, is_undecided, some_verdict}
 use Rattle.commands.specs.Sinks.{SinkView, Writes}
-use Rattle.commands.specs.declared.found.Found.{Found}
-use Rattle.commands.specs.declared.put.WriteStop.{WriteStop}
+use Rattle.commands.specs.{declared.found.Found.Found, declared.put.WriteStop.WriteStop}
 
 -- the text of the parts
 abbrev pub parts_text : List Part → List ℕ

@@ -1,14 +1,11 @@
 -- The command `play`: its text has the header, and then the rows of each timing over each script.
 use Rattle.std.specs.Prelude.{◌≡◌, ◌∷◌, ◌++◌, ◌*◌, ℕ, List, [], codes, length}
 use Rattle.engine.specs.Calls.{AskedPlays}
-use Rattle.line_model.specs.declared.line.Line.{Line}
 use Rattle.line_model.specs.declared.script.Script.{Script}
-use Rattle.line_model.specs.Histories.{History, IsLineHistory}
+use Rattle.line_model.specs.{declared.line.Line.Line, Histories.History, Histories.IsLineHistory}
 use Rattle.simulator.specs.PlayRows.{run_rows}
-use Rattle.timing_box.specs.Choice.{timing_choice}
-use Rattle.timing_box.specs.SoFar.{NamedValues}
-use Rattle.commands.specs.Answers.{Answers, prints}
-use Rattle.commands.specs.Asked.{Asks}
+use Rattle.timing_box.specs.{Choice.timing_choice, SoFar.NamedValues}
+use Rattle.commands.specs.{Answers.Answers, Answers.prints, Asked.Asks}
 
 abbrev pub play_header : List ℕ
 play_header = codes "timing,script,tick,terminal,signal,level\n"

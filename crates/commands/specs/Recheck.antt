@@ -1,21 +1,14 @@
 -- The command `recheck`: whether split trees are accepted, with their counts, or their first fault.
 use Rattle.std.specs.Prelude.{◌≡◌, ◌≢◌, ◌∷◌, ℕ, List, [], codes, decimal}
 use Rattle.std.specs.List.{concat}
-use Rattle.line_model.specs.declared.line.Line.{Line}
-use Rattle.line_model.specs.declared.script.Script.{Script}
+use Rattle.line_model.specs.{declared.line.Line.Line, declared.script.Script.Script}
 use Rattle.cert_checker.specs.declared.counts.Counts.{Counts}
 use Rattle.split_checker.specs.Check.{IsAccepted, IsSplitFault}
 use Rattle.split_checker.specs.declared.fault.SplitFault.{SplitFault}
 use Rattle.split_checker.specs.declared.fault.SplitFault.TheVariants as fault
 use Rattle.commands.specs.Answers.{Answers}
-use Rattle.commands.specs.Checked.{
-  accepted_pieces,
-  line_pieces,
-  outside_pieces,
-  passes_pieces,
-  place,
-}
-use Rattle.commands.specs.declared.done.Done.{Done}
+use Rattle.commands.specs.{Checked.accepted_pieces, Checked.line_pieces, Checked.outside_pieces}
+use Rattle.commands.specs.{Checked.passes_pieces, Checked.place, declared.done.Done.Done}
 use Rattle.commands.specs.declared.done.Done.TheVariants as done
 
 -- `rejected` and the fault; want of memory is none

@@ -1,8 +1,7 @@
 -- What a sink took of a text.
 use Rattle.std.specs.Prelude.{◌≡◌, MatchResult, ℕ, List, Option, Result, Ok, Err}
 use Rattle.std.specs.Io.KnownBytes.{Appends}
-use Rattle.relay_base.specs.Counts.{Rose}
-use Rattle.relay_base.specs.Sink.{GrewByProper, GrewByPart}
+use Rattle.relay_base.specs.{Counts.Rose, Sink.GrewByProper, Sink.GrewByPart}
 use Rattle.commands.specs.declared.put.WriteStop.{WriteStop}
 use Rattle.commands.specs.declared.put.WriteStop.TheVariants as stop
 

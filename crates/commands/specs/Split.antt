@@ -1,16 +1,14 @@
 -- The command `split`: the parts of the declared box in which each obligation is decided.
 use Rattle.std.specs.Prelude.{◌≡◌, ◌++◌, ℕ, Bool, true, false, List}
 use Rattle.std.specs.List.{list_any}
-use Rattle.line_model.specs.declared.line.Line.{Line}
-use Rattle.line_model.specs.declared.script.Script.{Script}
+use Rattle.line_model.specs.{declared.line.Line.Line, declared.script.Script.Script}
 use Rattle.box_split.specs.declared.node.Node.{Node}
 use Rattle.box_split.specs.declared.node.Node.TheVariants as node
 use Rattle.split_text.specs.Grammar.{SplitResult, tree, fails}
 use Rattle.split_text.specs.Text.{part_text, split_text}
 use Rattle.own_splits.specs.Searched.{AllSearched, AreSearched}
 use Rattle.commands.specs.Answers.{Answers, status_by}
-use Rattle.commands.specs.declared.done.Done.{Done}
-use Rattle.commands.specs.declared.found.Found.{Found}
+use Rattle.commands.specs.{declared.done.Done.Done, declared.found.Found.Found}
 
 -- a timing fails the obligation
 abbrev pub is_fails : SplitResult → Bool

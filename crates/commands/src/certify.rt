@@ -4,13 +4,10 @@ ghost use Rattle.std.specs.List.{All, list_any};
 ghost use Rattle.line_model.specs.Fits.{Fits};
 ghost use Rattle.gate_net.specs.NetOf.{IsNetOf};
 ghost use Rattle.engine.specs.Calls.{AskedCertify, AskedVerdicts, NoneFell};
-ghost use Rattle.commands.specs.Certify.{certify_answer, certify_asks};
-ghost use Rattle.commands.specs.Certify.{is_no as no_verdict};
+ghost use Rattle.commands.specs.Certify.{certify_answer, certify_asks, is_no as no_verdict};
 ghost use Rattle.commands.specs.Certify.{is_undecided as undecided_verdict};
-ghost use Rattle.commands.specs.Answers.{WritesAnswer};
 ghost use Rattle.commands.specs.PartWrites.{WritesPart, WritesParts};
-ghost use Rattle.commands.specs.Sinks.{sink_view};
-ghost use Rattle.commands.specs.Study.{IsStudy};
+ghost use Rattle.commands.specs.{Answers.WritesAnswer, Sinks.sink_view, Study.IsStudy};
 
 use crate::done::Done;
 use crate::found::{Found, NOTHING};

@@ -3,9 +3,8 @@ ghost use Rattle.std.specs.Prelude.{◌≡◌, ◌≢◌, IfOk, OnOk};
 ghost use Rattle.std.specs.List.{concat};
 ghost use Rattle.cert_checker.specs.declared.fault.CheckFault.{CheckFault};
 ghost use Rattle.commands.specs.Answers.{Says};
-ghost use Rattle.commands.specs.Check.{check_answer, check_asks, rejected_pieces};
-ghost use Rattle.commands.specs.Check.{level_word as word_of_level};
-ghost use Rattle.commands.specs.Study.{IsStudy};
+ghost use Rattle.commands.specs.{Check.check_answer, Check.check_asks, Check.rejected_pieces};
+ghost use Rattle.commands.specs.{Check.level_word as word_of_level, Study.IsStudy};
 
 use crate::checked::{accepted_text, place, rejected_line, rejected_outside, rejected_passes};
 use crate::done::Done;

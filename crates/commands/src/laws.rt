@@ -3,13 +3,10 @@
 ghost use Rattle.std.specs.Prelude.{◌≡◌, ℕ, List};
 ghost use Rattle.std.specs.List.{All};
 ghost use Rattle.line_model.specs.declared.line.Line.{Line};
-ghost use Rattle.line_model.specs.declared.script.Script.{Script};
-ghost use Rattle.line_model.specs.Fits.{Fits};
-ghost use Rattle.timing_box.specs.Inside.{IsTimingInside};
-ghost use Rattle.timing_box.specs.SoFar.{NamedValues};
+ghost use Rattle.line_model.specs.{declared.script.Script.Script, Fits.Fits};
+ghost use Rattle.timing_box.specs.{Inside.IsTimingInside, SoFar.NamedValues};
 ghost use Rattle.commands.specs.Certify.{IsCertificate, IsPart, Part};
-ghost use Rattle.commands.specs.Play.{IsPlayText};
-ghost use Rattle.commands.specs.declared.done.Done.{Done};
+ghost use Rattle.commands.specs.{Play.IsPlayText, declared.done.Done.Done};
 
 use line_model::laws::{
     each_box_has_one_interval_history, each_choice_has_one_history, each_line_has_a_choice_inside,

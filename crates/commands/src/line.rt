@@ -1,7 +1,6 @@
 //! The command `line`: the canonical line file, with times in ticks.
 ghost use Rattle.std.specs.Prelude.{IfOk};
-ghost use Rattle.commands.specs.Answers.{Says};
-ghost use Rattle.commands.specs.Line.{line_answer};
+ghost use Rattle.commands.specs.{Answers.Says, Line.line_answer};
 
 use crate::said::Said;
 use line_file::print_line;

@@ -2,9 +2,7 @@
 ghost use Rattle.std.specs.Prelude.{◌≡◌, ◌<◌, IfOk, IfSome};
 ghost use Rattle.line_model.specs.Parameters.{param_count};
 ghost use Rattle.timing_box.specs.Checks.{param_named as number_of_name};
-ghost use Rattle.commands.specs.Answers.{Says};
-ghost use Rattle.commands.specs.Margin.{margin_answer as answer_of};
-ghost use Rattle.commands.specs.Study.{IsStudy};
+ghost use Rattle.commands.specs.{Answers.Says, Margin.margin_answer as answer_of, Study.IsStudy};
 
 use crate::done::Done;
 use crate::said::Said;

@@ -1,11 +1,8 @@
 //! The command `match`: whether some choice of delays explains each record of the field.
 ghost use Rattle.std.specs.Prelude.{◌<◌, IfOk, length, map};
 ghost use Rattle.std.specs.List.{All};
-ghost use Rattle.record_match.specs.Seen.{AreSeen};
-ghost use Rattle.record_match.specs.Waves.{seen_values};
-ghost use Rattle.commands.specs.Answers.{Says};
-ghost use Rattle.commands.specs.Match.{match_answer as answer_of};
-ghost use Rattle.commands.specs.Study.{IsStudy};
+ghost use Rattle.record_match.specs.{Seen.AreSeen, Waves.seen_values};
+ghost use Rattle.commands.specs.{Answers.Says, Match.match_answer as answer_of, Study.IsStudy};
 
 use crate::found::Found;
 use crate::said::Said;

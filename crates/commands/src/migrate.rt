@@ -1,7 +1,6 @@
 //! The command `migrate`: the canonical line file of version 2, with times in microseconds.
 ghost use Rattle.std.specs.Prelude.{IfOk};
-ghost use Rattle.commands.specs.Answers.{Says};
-ghost use Rattle.commands.specs.Migrate.{migrate_answer};
+ghost use Rattle.commands.specs.{Answers.Says, Migrate.migrate_answer};
 
 use crate::said::Said;
 use line_file::print_line_us;

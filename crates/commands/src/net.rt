@@ -1,7 +1,6 @@
 //! The command `net`: the compiled net of a line.
 ghost use Rattle.std.specs.Prelude.{IfOk};
-ghost use Rattle.commands.specs.Answers.{Says};
-ghost use Rattle.commands.specs.Net.{net_answer};
+ghost use Rattle.commands.specs.{Answers.Says, Net.net_answer};
 
 use crate::said::Said;
 use line_model::{Line, Memory};

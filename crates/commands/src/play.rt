@@ -2,14 +2,11 @@
 ghost use Rattle.std.specs.Prelude.{◌*◌, ℕ, List, OnOk, length, map};
 ghost use Rattle.std.specs.List.{All};
 ghost use Rattle.gate_net.specs.NetOf.{IsNetOf};
-ghost use Rattle.timing_box.specs.Inside.{IsTimingInside};
-ghost use Rattle.timing_box.specs.SoFar.{values_of};
+ghost use Rattle.timing_box.specs.{Inside.IsTimingInside, SoFar.values_of};
 ghost use Rattle.engine.specs.Calls.{AskedPlay, AskedPlays};
-ghost use Rattle.commands.specs.Answers.{WritesAnswer};
-ghost use Rattle.commands.specs.Play.{IsPlayText, IsRunText, IsTimingText, Pieces};
-ghost use Rattle.commands.specs.Play.{play_answer, play_asks};
-ghost use Rattle.commands.specs.Sinks.{Writes, sink_view};
-ghost use Rattle.commands.specs.Study.{IsStudy};
+ghost use Rattle.commands.specs.{Answers.WritesAnswer, Play.IsPlayText, Play.IsRunText};
+ghost use Rattle.commands.specs.{Play.IsTimingText, Play.Pieces, Play.play_answer, Play.play_asks};
+ghost use Rattle.commands.specs.{Sinks.Writes, Sinks.sink_view, Study.IsStudy};
 
 use crate::done::Done;
 use crate::laws::each_play_has_one_text;

@@ -3,8 +3,7 @@ ghost use Rattle.std.specs.Prelude.{◌≡◌, ◌≢◌, IfOk};
 ghost use Rattle.std.specs.List.{concat};
 ghost use Rattle.split_checker.specs.declared.fault.SplitFault.{SplitFault};
 ghost use Rattle.commands.specs.Answers.{Says};
-ghost use Rattle.commands.specs.Recheck.{recheck_answer, rejected_pieces};
-ghost use Rattle.commands.specs.Study.{IsStudy};
+ghost use Rattle.commands.specs.{Recheck.recheck_answer, Recheck.rejected_pieces, Study.IsStudy};
 
 use crate::checked::{accepted_text, place, rejected_line, rejected_outside, rejected_passes};
 use crate::done::Done;

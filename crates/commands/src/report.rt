@@ -1,8 +1,6 @@
 //! The command `report`: when each terminal may and must trip, and its margin.
 ghost use Rattle.std.specs.Prelude.{IfOk};
-ghost use Rattle.commands.specs.Answers.{Says};
-ghost use Rattle.commands.specs.Report.{report_answer};
-ghost use Rattle.commands.specs.Study.{IsStudy};
+ghost use Rattle.commands.specs.{Answers.Says, Report.report_answer, Study.IsStudy};
 
 use crate::said::Said;
 use crate::study::Study;

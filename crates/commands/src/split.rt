@@ -1,17 +1,14 @@
 //! The command `split`: the parts of the declared box in which each obligation is decided.
 ghost use Rattle.std.specs.Prelude.{◌≡◌, ◌≤◌, IfOk};
 ghost use Rattle.std.specs.List.{list_any};
-ghost use Rattle.line_model.specs.Fits.{Fits};
-ghost use Rattle.line_model.specs.Parameters.{terminal_count};
+ghost use Rattle.line_model.specs.{Fits.Fits, Parameters.terminal_count};
 ghost use Rattle.gate_net.specs.NetOf.{IsNetOf};
 ghost use Rattle.certify_core.specs.OneEach.{OneEach};
 ghost use Rattle.box_split.specs.Found.{IsFound};
 ghost use Rattle.split_text.specs.Piece.{ArePrintable, written_as};
-ghost use Rattle.commands.specs.Answers.{Says};
-ghost use Rattle.commands.specs.Split.{HasSplits, split_answer};
-ghost use Rattle.commands.specs.Split.{is_fails as failing, is_open as undecided};
-ghost use Rattle.commands.specs.Split.{is_undecided as undecided_node};
-ghost use Rattle.commands.specs.Study.{IsStudy};
+ghost use Rattle.commands.specs.Split.{HasSplits, split_answer, is_fails as failing};
+ghost use Rattle.commands.specs.Split.{is_open as undecided, is_undecided as undecided_node};
+ghost use Rattle.commands.specs.{Answers.Says, Study.IsStudy};
 
 use crate::found::{Found, NOTHING};
 use crate::said::Said;

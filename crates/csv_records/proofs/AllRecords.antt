@@ -1,24 +1,14 @@
 -- The records of a text: each read leaves fewer bytes, and a state between two records.
-use Rattle.std.proofs.Common.{◌≡◌, ℕ, zero, suc, ◌+◌, ◌<◌, ◌≤◌, ◌==◌, ◌&&◌, Bool, true, false, cond, List, [], ◌∷◌, ◌++◌, length, Option, None, Some, refl, ap, subst, arith}
-use Rattle.csv.specs.Machine.{
-  Read,
-  next_record,
-  step,
-  in_field,
-  start_field,
-  start_record,
-  after_end,
-  ends_at_end,
-  ends_with,
-  is_byte,
-  is_end,
-  fields_after,
-  field_after,
-}
-use Rattle.csv.specs.Reading.{records_from, records, records_next, default_config, strip_bom, is_bom}
+use Rattle.std.proofs.Common.{◌≡◌, ℕ, zero, suc, ◌+◌, ◌<◌, ◌≤◌, ◌==◌, ◌&&◌, Bool, true, false, cond}
+use Rattle.std.proofs.Common.{List, [], ◌∷◌, ◌++◌, length, Option, None, Some, refl, ap, subst}
+use Rattle.std.proofs.Common.{arith}
+use Rattle.csv.specs.Machine.{Read, next_record, step, in_field, start_field, start_record}
+use Rattle.csv.specs.Machine.{after_end, ends_at_end, ends_with, is_byte, is_end, fields_after}
+use Rattle.csv.specs.Machine.{field_after}
+use Rattle.csv.specs.Reading.{records_from, records, records_next, default_config, strip_bom}
+use Rattle.csv.specs.Reading.{is_bom}
+use Rattle.csv.specs.{declared.parser.Config.Config, declared.parser.Terminator.Terminator}
 use Rattle.csv_records.specs.Records.{records_of}
-use Rattle.csv.specs.declared.parser.Config.{Config}
-use Rattle.csv.specs.declared.parser.Terminator.{Terminator}
 use Rattle.csv.specs.declared.parser.Terminator.TheVariants as term
 use Rattle.csv.specs.declared.parser.State.{State}
 use Rattle.csv.specs.declared.parser.State.TheVariants as st

@@ -1,8 +1,8 @@
 -- Records of a file one after another.
-use Rattle.std.proofs.Common.{◌≡◌, ℕ, ◌+◌, ◌<◌, Bool, List, [], ◌∷◌, length, Result, Ok, Err, refl, sym, ap, subst, ◌∙◌, arith}
-use Rattle.csv_records.specs.Gives.{◌>>=◌, Fails}
-use Rattle.csv_records.specs.CheckLaws.{fails_first}
+use Rattle.std.proofs.Common.{◌≡◌, ℕ, ◌+◌, ◌<◌, Bool, List, [], ◌∷◌, length, Result, Ok, Err, refl}
+use Rattle.std.proofs.Common.{sym, ap, subst, ◌∙◌, arith}
 use Rattle.csv_records.specs.RecordFile.{RecordFile, after_header, after_records}
+use Rattle.csv_records.specs.{Gives.◌>>=◌, Gives.Fails, CheckLaws.fails_first}
 
 module _ {S F : Type 0} (file : RecordFile S F) where
   -- at least one record

@@ -1,21 +1,13 @@
 -- What a read of a csv reader takes of the records that it has left.
-use Rattle.std.proofs.Common.{◌≡◌, ℕ, ◌+◌, Bool, Bor, true, false, List, [], ◌∷◌, length, Option, None, Some, refl, sym, ◌∙◌, inl, arith}
+use Rattle.std.proofs.Common.{◌≡◌, ℕ, ◌+◌, Bool, Bor, true, false, List, [], ◌∷◌, length, Option}
+use Rattle.std.proofs.Common.{None, Some, refl, sym, ◌∙◌, inl, arith}
 use Rattle.std.proofs.lemmas.Bool.{false≢true}
 use Rattle.csv.specs.Machine.{Read, ends_at_end, next_record}
-use Rattle.csv.specs.Reading.{
-  ExplainsRead,
-  NextIs,
-  ReadRecord,
-  ReadsNext,
-  default_config,
-  is_flexible,
-  stops_reader,
-  took_first,
-}
+use Rattle.csv.specs.Reading.{ExplainsRead, NextIs, ReadRecord, ReadsNext, default_config}
+use Rattle.csv.specs.Reading.{is_flexible, stops_reader, took_first}
 use Rattle.csv.specs.declared.error.ErrorKind.{ErrorKind}
 use Rattle.csv.specs.declared.error.ErrorKind.TheVariants as kind
-use Rattle.csv.specs.declared.parser.State.{State}
-use Rattle.csv.specs.declared.reader.Reader.{Reader}
+use Rattle.csv.specs.{declared.parser.State.State, declared.reader.Reader.Reader}
 use Rattle.csv.proofs.ReadFacts.{rows-end}
 use Rattle.csv_records.specs.Left.{IsReading, NextRow, bytes_left, records_left}
 use Rattle.csv_records.proofs.AllRecords.{after_read, first_record, no_record}

@@ -1,5 +1,6 @@
 -- Laws of checks one after another: where one fails, and what is known where all passed.
-use Rattle.std.specs.Prelude.{◌≡◌, Bool, true, false, cond, Option, None, Some, Result, Ok, Err, refl}
+use Rattle.std.specs.Prelude.{◌≡◌, Bool, true, false, cond, Option, None, Some, Result, Ok, Err}
+use Rattle.std.specs.Prelude.{refl}
 use Rattle.std.proofs.Common.{ap}
 use Rattle.csv_records.specs.Gives.{◌>>=◌, Fails, Unless}
 

@@ -1,11 +1,11 @@
 -- What a csv reader that stands between two records has left.
-use Rattle.std.specs.Prelude.{◌≡◌, ◌+◌, ℕ, Bool, true, false, List, [], ◌∷◌, length, Option, None, Some}
+use Rattle.std.specs.Prelude.{◌≡◌, ◌+◌, ℕ, Bool, true, false, List, [], ◌∷◌, length, Option, None}
+use Rattle.std.specs.Prelude.{Some}
 use Rattle.std.specs.Borrow.{Bor}
-use Rattle.csv.specs.Machine.{ends_at_end}
-use Rattle.csv.specs.Reading.{Ready, default_config, records_from, source_of}
-use Rattle.csv.specs.Reading.{is_flexible, reader_config, reader_state, reader_trim}
+use Rattle.csv.specs.Reading.{Ready, default_config, records_from, source_of, is_flexible}
+use Rattle.csv.specs.Reading.{reader_config, reader_state, reader_trim}
 use Rattle.csv.specs.declared.parser.State.{State}
-use Rattle.csv.specs.declared.reader.Reader.{Reader}
+use Rattle.csv.specs.{Machine.ends_at_end, declared.reader.Reader.Reader}
 use Rattle.csv.specs.declared.reader.Trim.TheVariants as trim
 
 -- the bytes that are left, of a text that is held

@@ -1,7 +1,6 @@
 -- What a file of records says: a header, and then what each record makes of those before it.
 use Rattle.std.specs.Prelude.{ℕ, ◌+◌, Bool, List, [], ◌∷◌, Result, Ok, Err, if◌then◌else◌}
-use Rattle.csv_records.specs.Gives.{◌>>=◌}
-use Rattle.csv_records.specs.Records.{records_of}
+use Rattle.csv_records.specs.{Gives.◌>>=◌, Records.records_of}
 
 -- a kind of file: what its records say, from the start on, and how it is refused
 pub record RecordFile (S F : Type 0) : Type 0 where

@@ -1,24 +1,10 @@
 // Reading a file of records.
 
-ghost use Rattle.std.specs.Prelude.{
-  ◌≡◌,
-  ◌≤◌,
-  ◌<◌,
-  ◌+◌,
-  ◌-◌,
-  ◌^◌,
-  ℕ,
-  List,
-  Ok,
-  IfOk,
-  IsTrue,
-  MatchResult,
-  length,
-};
+ghost use Rattle.std.specs.Prelude.{◌≡◌, ◌≤◌, ◌<◌, ◌+◌, ◌-◌, ◌^◌, ℕ, List, Ok, IfOk, IsTrue};
+ghost use Rattle.std.specs.Prelude.{MatchResult, length};
 ghost use Rattle.csv.specs.Records.{fields_of};
-ghost use Rattle.csv_records.specs.Gives.{Gives};
 ghost use Rattle.csv_records.specs.Left.{IsReading, NextRow, left_of};
-ghost use Rattle.csv_records.specs.RecordFile.{after_header, said_of};
+ghost use Rattle.csv_records.specs.{Gives.Gives, RecordFile.after_header, RecordFile.said_of};
 
 use crate::reader::RecordReader;
 use crate::rows::{next_row, rows_of};

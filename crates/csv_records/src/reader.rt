@@ -2,8 +2,7 @@
 
 ghost use Rattle.std.specs.Prelude.{◌≡◌, ℕ, Bool, IsTrue};
 ghost use Rattle.csv.specs.Records.{fields_of};
-ghost use Rattle.csv_records.specs.Gives.{Gives};
-ghost use Rattle.csv_records.specs.RecordFile.{RecordFile};
+ghost use Rattle.csv_records.specs.{Gives.Gives, RecordFile.RecordFile};
 
 use csv::ByteRecord;
 use std::alloc::Global;

@@ -1,10 +1,8 @@
 // The records of a text one after another, as the csv reader reaches them.
 
 ghost use Rattle.std.specs.Prelude.{◌≡◌, IfOk, true};
-ghost use Rattle.csv.specs.Reading.{stops_reader};
-ghost use Rattle.csv.specs.Records.{fields_of};
-ghost use Rattle.csv_records.specs.Records.{records_of};
-ghost use Rattle.csv_records.specs.Left.{IsReading, NextRow, left_of};
+ghost use Rattle.csv.specs.{Reading.stops_reader, Records.fields_of};
+ghost use Rattle.csv_records.specs.{Records.records_of, Left.IsReading, Left.NextRow, Left.left_of};
 
 use crate::memory::Memory;
 use csv::{ByteRecord, ErrorKind, Reader, ReaderBuilder};

@@ -1,16 +1,9 @@
 -- The gates of a weak terminal, and of a terminal over a permission.
 use Rattle.std.specs.Prelude.{ℕ, List}
-use Rattle.line_model.specs.declared.line.Line.{Line}
-use Rattle.line_model.specs.Tree.{Tree}
-use Rattle.line_model.specs.Permissive.{
-  echo_wanted,
-  echo,
-  weak_infeed_trip,
-  permissive_key,
-  permissive_pilot,
-}
-use Rattle.gate_net.specs.declared.gate.Gate.{Gate}
-use Rattle.gate_net.specs.Formulas.{Stands}
+use Rattle.line_model.specs.Permissive.{echo_wanted, echo, weak_infeed_trip, permissive_key}
+use Rattle.line_model.specs.Permissive.{permissive_pilot}
+use Rattle.line_model.specs.{declared.line.Line.Line, Tree.Tree}
+use Rattle.gate_net.specs.{declared.gate.Gate.Gate, Formulas.Stands}
 use Rattle.zones.specs.declared.outputs.Out.{Out}
 use Rattle.echo_weak.specs.declared.weak_end.EchoGates.{EchoGates}
 

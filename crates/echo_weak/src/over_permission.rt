@@ -1,16 +1,11 @@
 // What a terminal sends and trips on, over a permission.
 
 ghost use Rattle.std.specs.Prelude.{◌<◌, ◌≤◌, ◌+◌, length, IfOk};
-ghost use Rattle.line_model.specs.Parameters.{terminal_count};
-ghost use Rattle.line_model.specs.Permissive.{
-  echo as echo_tree,
-  weak_infeed_trip as weak_infeed_trip_tree,
-  permissive_key,
-  permissive_pilot,
-};
+ghost use Rattle.line_model.specs.{Parameters.terminal_count, Permissive.echo as echo_tree};
+ghost use Rattle.line_model.specs.{Permissive.weak_infeed_trip as weak_infeed_trip_tree};
+ghost use Rattle.line_model.specs.{Permissive.permissive_key, Permissive.permissive_pilot};
 ghost use Rattle.gate_net.specs.Formulas.{formula_of, Stands};
-ghost use Rattle.gate_net.specs.Growing.{Grows};
-ghost use Rattle.gate_net.specs.Named.{KeepsNames};
+ghost use Rattle.gate_net.specs.{Growing.Grows, Named.KeepsNames};
 ghost use Rattle.zones.specs.LocalGates.{AreLocal};
 ghost use Rattle.echo_weak.specs.Echoes.{ArePermissive};
 

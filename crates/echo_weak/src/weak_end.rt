@@ -2,15 +2,11 @@
 
 ghost use Rattle.std.specs.Prelude.{◌<◌, ◌≤◌, ◌+◌, length, IfOk};
 ghost use Rattle.line_model.specs.Parameters.{terminal_count};
-ghost use Rattle.line_model.specs.Permissive.{
-  quiet as quiet_tree,
-  echo_wanted as echo_wanted_tree,
-  echo as echo_tree,
-  weak_infeed_trip as weak_infeed_trip_tree,
-};
+ghost use Rattle.line_model.specs.Permissive.{quiet as quiet_tree, echo_wanted as echo_wanted_tree};
+ghost use Rattle.line_model.specs.Permissive.{echo as echo_tree};
+ghost use Rattle.line_model.specs.Permissive.{weak_infeed_trip as weak_infeed_trip_tree};
 ghost use Rattle.gate_net.specs.Formulas.{formula_of, Stands};
-ghost use Rattle.gate_net.specs.Growing.{Grows};
-ghost use Rattle.gate_net.specs.Named.{KeepsNames};
+ghost use Rattle.gate_net.specs.{Growing.Grows, Named.KeepsNames};
 ghost use Rattle.zones.specs.LocalGates.{AreLocal};
 ghost use Rattle.echo_weak.specs.Echoes.{AreEchoes};
 

@@ -2,12 +2,10 @@
 
 ghost use Rattle.std.specs.Prelude.{◌≡◌, ◌≤◌, IfOk, MatchResult, length};
 ghost use Rattle.std.specs.List.{All};
-ghost use Rattle.line_model.specs.Fits.{Fits};
-ghost use Rattle.line_model.specs.Histories.{History, IsLineHistory};
+ghost use Rattle.line_model.specs.{Fits.Fits, Histories.History, Histories.IsLineHistory};
 ghost use Rattle.gate_net.specs.NetOf.{IsNetOf};
 ghost use Rattle.simulator.specs.PlayRows.{run_rows};
-ghost use Rattle.timing_box.specs.Choice.{timing_choice};
-ghost use Rattle.timing_box.specs.Inside.{IsTimingInside};
+ghost use Rattle.timing_box.specs.{Choice.timing_choice, Inside.IsTimingInside};
 ghost use Rattle.cert_checker.specs.Check.{IsAccepted, IsCheckFault, IsSound};
 ghost use Rattle.engine.specs.Calls.{AskedCertify, AskedCheck, AskedPlay, Calls, NoneFell};
 ghost use Rattle.engine.specs.Certified.{IsCertified};

@@ -1,55 +1,24 @@
 -- That what passes the checks fits the line.
-use Rattle.std.proofs.Common.{
-  ◌≡◌,
-  ◌&&◌,
-  ◌==◌,
-  ℕ,
-  ◌+◌,
-  ◌<◌,
-  ◌≤◌,
-  Bool,
-  true,
-  false,
-  cond,
-  List,
-  [],
-  ◌∷◌,
-  ◌++◌,
-  length,
-  Option,
-  Some,
-  None,
-  refl,
-  sym,
-  ap,
-  subst,
-  arith,
-  ◌∙◌,
-}
+use Rattle.std.proofs.Common.{◌≡◌, ◌&&◌, ◌==◌, ℕ, ◌+◌, ◌<◌, ◌≤◌, Bool, true, false, cond, List, []}
+use Rattle.std.proofs.Common.{◌∷◌, ◌++◌, length, Option, Some, None, refl, sym, ap, subst, arith}
+use Rattle.std.proofs.Common.{◌∙◌}
+use Rattle.std.proofs.lemmas.List.Folds.{list_all-append}
 use Rattle.std.specs.Prelude.{nat_lt, nat_le, option_map, IsTrue}
 use Rattle.std.specs.List.{list_all, position_from}
 use Rattle.std.specs.Str.{bytes_eq}
-use Rattle.std.proofs.lemmas.List.Folds.{list_all-append}
 use Rattle.relay_base.specs.Number.{number_of}
 use Rattle.line_model.specs.declared.line.Line.{Line}
-use Rattle.line_model.specs.declared.script.Kind.{Kind}
 use Rattle.line_model.specs.declared.script.Kind.TheVariants.{Internal, External}
 use Rattle.line_model.specs.declared.script.SeenSpan.{SeenSpan}
-use Rattle.line_model.specs.declared.script.What.{What}
+use Rattle.line_model.specs.{declared.script.Kind.Kind, declared.script.What.What}
 use Rattle.line_model.specs.declared.script.What.TheVariants as what
 use Rattle.line_model.specs.Fits.{exists_in, span_fits, deadline_fits}
 use Rattle.line_model.specs.PlainNames.{is_plain_name}
 use Rattle.fault_script.specs.declared.item.Item.{Item}
 use Rattle.fault_script.specs.declared.item.Item.TheVariants.{Head, Seen, Lost}
-use Rattle.csv_records.specs.CheckLaws.{tested}
 use Rattle.fault_script.specs.Places.{terminal_named, channel_named, has_name}
-use Rattle.fault_script.specs.Checks.{
-  is_empty,
-  below_horizon,
-  deadline_of,
-  span_between,
-  what_at,
-}
+use Rattle.fault_script.specs.Checks.{is_empty, below_horizon, deadline_of, span_between, what_at}
+use Rattle.csv_records.specs.CheckLaws.{tested}
 
 below_fits : (horizon : ℕ) (o : Option ℕ) (d : ℕ) → below_horizon horizon o ≡ Some d
     → nat_lt d horizon ≡ true

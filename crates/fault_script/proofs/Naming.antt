@@ -1,47 +1,17 @@
 -- A terminal or a channel is found by its own name.
-use Rattle.std.proofs.Common.{
-  ◌≡◌,
-  ◌&&◌,
-  ◌==◌,
-  ℕ,
-  zero,
-  suc,
-  ◌+◌,
-  ◌<◌,
-  ◌≤◌,
-  Bool,
-  true,
-  false,
-  cond,
-  List,
-  [],
-  ◌∷◌,
-  ◌++◌,
-  length,
-  get_or,
-  Some,
-  refl,
-  sym,
-  ap,
-  ◌∙◌,
-  arith,
-  eq-eqb,
-  inl,
-  inr,
-  subst,
-  zero-add,
-}
+use Rattle.std.proofs.Common.{◌≡◌, ◌&&◌, ◌==◌, ℕ, zero, suc, ◌+◌, ◌<◌, ◌≤◌, Bool, true, false, cond}
+use Rattle.std.proofs.Common.{List, [], ◌∷◌, ◌++◌, length, get_or, Some, refl, sym, ap, ◌∙◌, arith}
+use Rattle.std.proofs.Common.{eq-eqb, inl, inr, subst, zero-add}
+use Rattle.std.proofs.lemmas.Bool.{cases_lt, cases_Bool, eqb-true}
+use Rattle.std.proofs.lemmas.List.{get_or-map}
 use Rattle.std.specs.Prelude.{◌⊎◌, nat_eq, nat_le, slice_get}
 use Rattle.std.specs.List.{list_all, position_from}
 use Rattle.std.specs.Str.{bytes_eq}
-use Rattle.std.proofs.lemmas.Bool.{cases_lt, cases_Bool, eqb-true}
-use Rattle.std.proofs.lemmas.List.{get_or-map}
-use Rattle.line_model.specs.declared.line.Terminal.{Terminal}
-use Rattle.line_model.specs.declared.line.Channel.{Channel}
 use Rattle.line_model.specs.PlainNames.{is_plain_byte, is_plain_name}
 use Rattle.line_model.specs.Terminals.{names_of, are_plain_names, NamesDiffer}
 use Rattle.line_model.specs.Channels.{AreChannels, is_pair, from_of, to_of}
 use Rattle.line_model.specs.ParamNames.{name_at, pair_name, channel_name}
+use Rattle.line_model.specs.{declared.line.Terminal.Terminal, declared.line.Channel.Channel}
 use Rattle.fault_script.specs.Places.{has_name}
 
 pub bytes_same : (bs : List ℕ) → bytes_eq bs bs ≡ true

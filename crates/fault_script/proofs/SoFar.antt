@@ -1,78 +1,30 @@
 -- What the scripts that were read keep: each fits the line, and there are few.
-use Rattle.std.proofs.Common.{
-  ◌≡◌,
-  ℕ,
-  ◌+◌,
-  ◌*◌,
-  ◌<◌,
-  ◌≤◌,
-  true,
-  false,
-  List,
-  [],
-  ◌∷◌,
-  ◌++◌,
-  length,
-  map,
-  Option,
-  Some,
-  Result,
-  Ok,
-  Err,
-  refl,
-  sym,
-  subst,
-  ◌∙◌,
-  arith,
-  length-append,
-}
-use Rattle.std.specs.Str.{bytes_eq}
+use Rattle.std.proofs.Common.{◌≡◌, ℕ, ◌+◌, ◌*◌, ◌<◌, ◌≤◌, true, false, List, [], ◌∷◌, ◌++◌, length}
+use Rattle.std.proofs.Common.{map, Option, Some, Result, Ok, Err, refl, sym, subst, ◌∙◌, arith}
+use Rattle.std.proofs.Common.{length-append}
 use Rattle.std.proofs.lemmas.List.{map-append, length-map}
-use Rattle.std.specs.Prelude.{Vec, IfOk}
-use Rattle.std.specs.declared.alloc.Global.{Global}
-use Rattle.std.specs.List.{sum_by, All}
 use Rattle.std.proofs.lemmas.List.Sums.{sum_by-append, sum_by-cons}
 use Rattle.std.proofs.lemmas.List.Elements.{All-nil, All-cons, All-push, All-head, All-tail}
 use Rattle.std.proofs.lemmas.Bool.{ltb-true}
+use Rattle.std.specs.Str.{bytes_eq}
+use Rattle.std.specs.Prelude.{Vec, IfOk}
+use Rattle.std.specs.declared.alloc.Global.{Global}
+use Rattle.std.specs.List.{sum_by, All}
 use Rattle.relay_base.specs.Number.{number_of}
-use Rattle.line_model.specs.declared.line.Line.{Line}
-use Rattle.line_model.specs.declared.script.Kind.{Kind}
-use Rattle.line_model.specs.declared.script.Script.{Script}
-use Rattle.line_model.specs.Fits.{Fits}
-use Rattle.line_model.specs.PlainNames.{is_plain_name}
+use Rattle.line_model.specs.{declared.line.Line.Line, declared.script.Kind.Kind}
+use Rattle.line_model.specs.{declared.script.Script.Script, Fits.Fits, PlainNames.is_plain_name}
 use Rattle.fault_script.specs.declared.fault.ScriptFault.{ScriptFault}
-use Rattle.fault_script.specs.Gives.{Gives}
-use Rattle.fault_script.specs.declared.item.Item.{Item}
 use Rattle.fault_script.specs.declared.item.Item.TheVariants.{Head, Seen, Lost}
-use Rattle.fault_script.specs.Row.{Row}
-use Rattle.fault_script.specs.Values.{
-  ScriptValues,
-  ScriptsSoFar,
-  AreOfOneFile,
-  values_of,
-  all_scripts,
-  no_scripts,
-  with_head,
-  with_row,
-}
-use Rattle.fault_script.specs.Checks.{is_head, is_taken}
-use Rattle.fault_script.specs.Scripts.{after_item, after_record}
-use Rattle.csv_records.specs.ListLaws.{All-front, All-last, list_any-map}
-use Rattle.fault_script.proofs.Once.{once_none, once_more}
+use Rattle.fault_script.specs.Values.{ScriptValues, ScriptsSoFar, AreOfOneFile, values_of}
+use Rattle.fault_script.specs.Values.{all_scripts, no_scripts, with_head, with_row}
 use Rattle.fault_script.specs.SoFar.{AreOnce, IsSoFar, ValuesFit, names_in, records_in}
-use Rattle.fault_script.proofs.Fitting.{
-  head_deadline_fits,
-  row_span_fits,
-  one_span_more,
-}
+use Rattle.fault_script.specs.{Gives.Gives, declared.item.Item.Item, Row.Row, Checks.is_head}
+use Rattle.fault_script.specs.{Checks.is_taken, Scripts.after_item, Scripts.after_record}
+use Rattle.csv_records.specs.ListLaws.{All-front, All-last, list_any-map}
 use Rattle.csv_records.specs.CheckLaws.{same_ok}
-use Rattle.fault_script.proofs.Steps.{
-  HeadPassed,
-  head_passed,
-  RowPassed,
-  row_passed,
-  record_passed,
-}
+use Rattle.fault_script.proofs.Once.{once_none, once_more}
+use Rattle.fault_script.proofs.Fitting.{head_deadline_fits, row_span_fits, one_span_more}
+use Rattle.fault_script.proofs.Steps.{HeadPassed, head_passed, RowPassed, row_passed, record_passed}
 
 pub none_so_far : (line : Line) → IsSoFar line 2 no_scripts
 none_so_far line =

@@ -1,59 +1,23 @@
 -- What a record that passes makes of the scripts before it.
-use Rattle.std.proofs.Common.{
-  ◌≡◌,
-  ◌&&◌,
-  ℕ,
-  Bool,
-  true,
-  false,
-  cond,
-  List,
-  length,
-  Option,
-  Some,
-  None,
-  Result,
-  Ok,
-  Err,
-  refl,
-  sym,
-  ap,
-  ◌∙◌,
-}
+use Rattle.std.proofs.Common.{◌≡◌, ◌&&◌, ℕ, Bool, true, false, cond, List, length, Option, Some}
+use Rattle.std.proofs.Common.{None, Result, Ok, Err, refl, sym, ap, ◌∙◌}
 use Rattle.std.specs.Prelude.{nat_lt, not}
 use Rattle.std.specs.Str.{bytes_eq}
 use Rattle.line_model.specs.PlainNames.{is_plain_name}
+use Rattle.line_model.specs.{declared.line.Line.Line, declared.script.Kind.Kind}
+use Rattle.line_model.specs.{declared.script.What.What, declared.script.SeenSpan.SeenSpan}
 use Rattle.relay_base.specs.Number.{number_of}
-use Rattle.line_model.specs.declared.line.Line.{Line}
-use Rattle.line_model.specs.declared.script.Kind.{Kind}
-use Rattle.line_model.specs.declared.script.What.{What}
-use Rattle.line_model.specs.declared.script.SeenSpan.{SeenSpan}
 use Rattle.fault_script.specs.declared.fault.ScriptFault.{ScriptFault}
 use Rattle.fault_script.specs.declared.fault.ScriptFault.TheVariants as fault
-use Rattle.fault_script.specs.declared.item.Item.{Item}
+use Rattle.fault_script.specs.Values.{ScriptValues, ScriptsSoFar, all_scripts, with_head, with_row}
+use Rattle.fault_script.specs.Checks.{item_of, has_good_name, is_head, is_taken, check_name}
+use Rattle.fault_script.specs.Checks.{check_item, check_order, check_heads, check_rows}
+use Rattle.fault_script.specs.Checks.{check_no_place, what_at, check_place, deadline_of}
+use Rattle.fault_script.specs.Checks.{check_deadline, span_between, check_span}
+use Rattle.fault_script.specs.Scripts.{after_head, after_row, after_item, after_record}
+use Rattle.fault_script.specs.{declared.item.Item.Item, Row.Row, Row.row_in}
 use Rattle.csv_records.specs.Gives.{◌>>=◌}
 use Rattle.csv_records.specs.CheckLaws.{passed, same_ok, test_passed}
-use Rattle.fault_script.specs.Row.{Row, row_in}
-use Rattle.fault_script.specs.Values.{ScriptValues, ScriptsSoFar, all_scripts, with_head, with_row}
-use Rattle.fault_script.specs.Checks.{
-  item_of,
-  has_good_name,
-  is_head,
-  is_taken,
-  check_name,
-  check_item,
-  check_order,
-  check_heads,
-  check_rows,
-  check_no_place,
-  what_at,
-  check_place,
-  deadline_of,
-  check_deadline,
-  span_between,
-  check_span,
-}
-use Rattle.fault_script.specs.Scripts.{after_head, after_row, after_item, after_record}
 
 -- a head that passed
 pub record HeadPassed (line : Line) (s : ScriptsSoFar) (row : Row) (kind : Kind)

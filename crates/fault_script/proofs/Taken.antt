@@ -1,9 +1,9 @@
 -- The names that the scripts so far have.
 use Rattle.std.proofs.Common.{◌≡◌, ◌||◌, ℕ, Bool, List, map, ap, ◌∙◌}
+use Rattle.std.proofs.lemmas.List.Folds.{list_any-append}
 use Rattle.std.specs.Prelude.{option_map}
 use Rattle.std.specs.List.{list_any}
 use Rattle.std.specs.Str.{bytes_eq}
-use Rattle.std.proofs.lemmas.List.Folds.{list_any-append}
 use Rattle.fault_script.specs.declared.reading.Reading.{Reading}
 use Rattle.fault_script.specs.Values.{ScriptValues, values_of, one_or_none, so_far_of}
 use Rattle.fault_script.specs.Checks.{is_taken}

@@ -1,45 +1,22 @@
 -- The checks of one record, each of them alone. n is the record's number; the header is record 1.
-use Rattle.std.specs.Prelude.{
-  ◌&&◌,
-  ℕ,
-  Bool,
-  true,
-  false,
-  not,
-  List,
-  [],
-  ◌∷◌,
-  length,
-  nat_le,
-  nat_lt,
-  codes,
-  Option,
-  None,
-  Some,
-  option_map,
-  Result,
-  Ok,
-  Err,
-  if◌then◌else◌,
-}
+use Rattle.std.specs.Prelude.{◌&&◌, ℕ, Bool, true, false, not, List, [], ◌∷◌, length, nat_le}
+use Rattle.std.specs.Prelude.{nat_lt, codes, Option, None, Some, option_map, Result, Ok, Err}
+use Rattle.std.specs.Prelude.{if◌then◌else◌}
 use Rattle.std.specs.List.{list_any}
 use Rattle.std.specs.Str.{bytes_eq}
-use Rattle.line_model.specs.declared.line.Line.{Line}
 use Rattle.line_model.specs.declared.script.Element.TheVariants.{Z1, Z2, Rv, Uv, Cur}
 use Rattle.line_model.specs.declared.script.Kind.{Kind}
 use Rattle.line_model.specs.declared.script.Kind.TheVariants.{Internal, External}
-use Rattle.line_model.specs.declared.script.What.{What}
+use Rattle.line_model.specs.{declared.line.Line.Line, declared.script.What.What}
 use Rattle.line_model.specs.declared.script.What.TheVariants as what
-use Rattle.line_model.specs.declared.script.SeenSpan.{SeenSpan}
-use Rattle.line_model.specs.PlainNames.{is_plain_name}
+use Rattle.line_model.specs.{declared.script.SeenSpan.SeenSpan, PlainNames.is_plain_name}
 use Rattle.relay_base.specs.Number.{number_of}
 use Rattle.fault_script.specs.declared.fault.ScriptFault.{ScriptFault}
 use Rattle.fault_script.specs.declared.fault.ScriptFault.TheVariants as fault
-use Rattle.fault_script.specs.declared.item.Item.{Item}
 use Rattle.fault_script.specs.declared.item.Item.TheVariants.{Head, Seen, Lost}
 use Rattle.fault_script.specs.Values.{ScriptValues, ScriptsSoFar, all_scripts}
 use Rattle.fault_script.specs.Places.{terminal_named, channel_named}
-use Rattle.fault_script.specs.Row.{Row}
+use Rattle.fault_script.specs.{declared.item.Item.Item, Row.Row}
 
 -- the header has exactly these five fields
 abbrev pub is_header : List (List ℕ) → Bool

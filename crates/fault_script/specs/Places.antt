@@ -2,10 +2,8 @@
 use Rattle.std.specs.Prelude.{ℕ, Bool, List, Option}
 use Rattle.std.specs.List.{position_from}
 use Rattle.std.specs.Str.{bytes_eq}
-use Rattle.line_model.specs.declared.line.Line.{Line}
-use Rattle.line_model.specs.declared.line.Channel.{Channel}
-use Rattle.line_model.specs.declared.line.Terminal.{Terminal}
-use Rattle.line_model.specs.ParamNames.{pair_name}
+use Rattle.line_model.specs.{declared.line.Line.Line, declared.line.Channel.Channel}
+use Rattle.line_model.specs.{declared.line.Terminal.Terminal, ParamNames.pair_name}
 
 -- the number of the terminal of this name
 abbrev pub terminal_named : Line → List ℕ → Option ℕ

@@ -3,12 +3,11 @@ use Rattle.std.specs.Prelude.{ℕ, List, [], ◌∷◌, map, codes, slice_get}
 use Rattle.std.specs.List.{flat_map}
 use Rattle.std.specs.Fmt.{decimal}
 use Rattle.csv.specs.Writing.{row_text, default_writer}
-use Rattle.line_model.specs.declared.line.Line.{Line}
 use Rattle.line_model.specs.declared.script.Element.{Element}
 use Rattle.line_model.specs.declared.script.Element.TheVariants.{Z1, Z2, Rv, Uv, Cur}
 use Rattle.line_model.specs.declared.script.Kind.{Kind}
 use Rattle.line_model.specs.declared.script.Kind.TheVariants.{Internal, External}
-use Rattle.line_model.specs.declared.script.What.{What}
+use Rattle.line_model.specs.{declared.line.Line.Line, declared.script.What.What}
 use Rattle.line_model.specs.declared.script.What.TheVariants as what
 use Rattle.line_model.specs.declared.script.SeenSpan.{SeenSpan}
 use Rattle.line_model.specs.ParamNames.{name_at, channel_name}

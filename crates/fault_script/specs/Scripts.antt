@@ -1,40 +1,19 @@
 -- What a file of scripts says: its scripts, or its first fault.
 use Rattle.std.specs.Prelude.{ℕ, List, Result, Ok}
-use Rattle.line_model.specs.declared.line.Line.{Line}
-use Rattle.line_model.specs.declared.script.Kind.{Kind}
+use Rattle.line_model.specs.{declared.line.Line.Line, declared.script.Kind.Kind}
 use Rattle.csv_records.specs.Gives.{◌>>=◌}
-use Rattle.csv_records.specs.RecordFile.{RecordFile, said_in}
-use Rattle.csv_records.specs.Records.{records_of}
+use Rattle.csv_records.specs.{RecordFile.RecordFile, RecordFile.said_in, Records.records_of}
 use Rattle.relay_base.specs.Number.{number_of}
 use Rattle.fault_script.specs.declared.fault.ScriptFault.{ScriptFault}
 use Rattle.fault_script.specs.declared.fault.ScriptFault.TheVariants as fault
 use Rattle.fault_script.specs.declared.item.Item.{Item}
 use Rattle.fault_script.specs.declared.item.Item.TheVariants.{Head, Seen, Lost}
-use Rattle.fault_script.specs.Values.{
-  ScriptValues,
-  ScriptsSoFar,
-  all_scripts,
-  no_scripts,
-  with_head,
-  with_row,
-}
+use Rattle.fault_script.specs.Values.{ScriptValues, ScriptsSoFar, all_scripts, no_scripts}
+use Rattle.fault_script.specs.Values.{with_head, with_row}
 use Rattle.fault_script.specs.Row.{Row, row_in}
-use Rattle.fault_script.specs.Checks.{
-  is_header,
-  item_of,
-  check_name,
-  check_item,
-  check_order,
-  check_heads,
-  check_rows,
-  check_no_place,
-  what_at,
-  check_place,
-  deadline_of,
-  check_deadline,
-  span_between,
-  check_span,
-}
+use Rattle.fault_script.specs.Checks.{is_header, item_of, check_name, check_item, check_order}
+use Rattle.fault_script.specs.Checks.{check_heads, check_rows, check_no_place, what_at, check_place}
+use Rattle.fault_script.specs.Checks.{deadline_of, check_deadline, span_between, check_span}
 
 -- a head: room for one more, no place, then its deadline
 unfoldable pub after_head : Line → ScriptsSoFar → ℕ → Row → Kind → Result ScriptsSoFar ScriptFault

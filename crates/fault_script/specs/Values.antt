@@ -1,24 +1,8 @@
 -- What a script holds, and what the records of a file have said so far.
-use Rattle.std.specs.Prelude.{
-  ◌≢◌,
-  ◌≤◌,
-  ◌<◌,
-  ◌++◌,
-  ℕ,
-  List,
-  [],
-  ◌∷◌,
-  Option,
-  None,
-  Some,
-  option_map,
-  map,
-  length,
-  get_or,
-}
+use Rattle.std.specs.Prelude.{◌≢◌, ◌≤◌, ◌<◌, ◌++◌, ℕ, List, [], ◌∷◌, Option, None, Some, option_map}
+use Rattle.std.specs.Prelude.{map, length, get_or}
 use Rattle.line_model.specs.declared.script.Script.{Script}
-use Rattle.line_model.specs.declared.script.Kind.{Kind}
-use Rattle.line_model.specs.declared.script.SeenSpan.{SeenSpan}
+use Rattle.line_model.specs.{declared.script.Kind.Kind, declared.script.SeenSpan.SeenSpan}
 use Rattle.fault_script.specs.declared.reading.Reading.{Reading}
 
 -- a script, field by field

@@ -6,14 +6,8 @@ ghost use Rattle.std.specs.Str.{bytes_eq};
 ghost use Rattle.relay_base.specs.Number.{number_of};
 ghost use Rattle.fault_script.specs.Row.{row_of};
 ghost use Rattle.fault_script.specs.Values.{so_far_of, all_scripts, values_of, one_or_none};
-ghost use Rattle.fault_script.specs.Checks.{
-  is_taken,
-  has_good_name,
-  is_empty,
-  what_at,
-  deadline_of,
-  span_between,
-};
+ghost use Rattle.fault_script.specs.Checks.{is_taken, has_good_name, is_empty, what_at};
+ghost use Rattle.fault_script.specs.Checks.{deadline_of, span_between};
 
 use crate::fields::Fields;
 use crate::item::{Item, is, item_named, opens};

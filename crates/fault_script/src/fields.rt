@@ -2,9 +2,7 @@
 
 ghost use Rattle.std.specs.Prelude.{◌≡◌};
 ghost use Rattle.csv.specs.Records.{fields_of};
-ghost use Rattle.fault_script.specs.Row.{row_in, row_of};
-ghost use Rattle.fault_script.specs.Gives.{Gives};
-ghost use Rattle.fault_script.specs.Checks.{is_header};
+ghost use Rattle.fault_script.specs.{Row.row_in, Row.row_of, Gives.Gives, Checks.is_header};
 
 use crate::fault::ScriptFault;
 use crate::item::is;

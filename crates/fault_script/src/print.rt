@@ -1,21 +1,14 @@
 // Printing scripts as a file.
 
-ghost use Rattle.std.specs.Prelude.{◌≡◌, ◌∷◌, [], ◌++◌, IfOk, OnOk, map};
+ghost use Rattle.std.specs.Prelude.{◌≡◌, ◌∷◌, [], ◌++◌, IfOk, OnOk, map, IsTrue};
 ghost use Rattle.std.specs.List.{All};
+ghost use Rattle.std.specs.Fmt.{decimal};
 ghost use Rattle.csv.specs.Writing.{row_text, default_writer};
 ghost use Rattle.line_model.specs.Fits.{Fits, exists_in};
 ghost use Rattle.fault_script.specs.Values.{values_of, AreOfOneFile};
-ghost use Rattle.fault_script.specs.Printed.{
-  element_text,
-  head_record,
-  row_record,
-  script_records,
-  file_records,
-  records_text,
-};
+ghost use Rattle.fault_script.specs.Printed.{element_text, head_record, row_record, script_records};
+ghost use Rattle.fault_script.specs.Printed.{file_records, records_text};
 ghost use Rattle.fault_script.specs.Scripts.{scripts_in};
-ghost use Rattle.std.specs.Fmt.{decimal};
-ghost use Rattle.std.specs.Prelude.{IsTrue};
 
 use itoa::Buffer;
 use line_model::{Element, Kind, Line, Memory, Script, SeenSpan, What, channel_name};

@@ -3,19 +3,11 @@
 ghost use Rattle.std.specs.Prelude.{◌≡◌, IfOk, IsTrue, map};
 ghost use Rattle.std.specs.List.{All};
 ghost use Rattle.csv.specs.Records.{fields_of};
-ghost use Rattle.line_model.specs.Fits.{Fits};
-ghost use Rattle.line_model.specs.PlainNames.{is_plain_name};
-ghost use Rattle.fault_script.specs.Gives.{Gives, is_memory};
-ghost use Rattle.fault_script.specs.Row.{row_of};
+ghost use Rattle.line_model.specs.{Fits.Fits, PlainNames.is_plain_name};
 ghost use Rattle.fault_script.specs.Values.{ScriptsSoFar, values_of, so_far_of, AreOfOneFile};
-ghost use Rattle.fault_script.specs.SoFar.{IsSoFar};
-ghost use Rattle.fault_script.specs.Scripts.{
-  scripts_of,
-  script_file,
-  after_record,
-  after_head,
-  after_row,
-};
+ghost use Rattle.fault_script.specs.Scripts.{scripts_of, script_file, after_record, after_head};
+ghost use Rattle.fault_script.specs.Scripts.{after_row};
+ghost use Rattle.fault_script.specs.{Gives.Gives, Gives.is_memory, Row.row_of, SoFar.IsSoFar};
 
 use crate::check::{deadline, has_room, is_named_well, is_nothing, span, what_named};
 use crate::fault::ScriptFault;

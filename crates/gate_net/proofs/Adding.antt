@@ -1,42 +1,13 @@
 -- A gate that is added keeps the laws.
-use Rattle.std.proofs.Common.{
-  ◌≡◌,
-  ◌≢◌,
-  ◌||◌,
-  ◌⊎◌,
-  ℕ,
-  zero,
-  suc,
-  ◌<◌,
-  Bool,
-  true,
-  false,
-  List,
-  [],
-  ◌∷◌,
-  ◌++◌,
-  length,
-  Some,
-  cond,
-  refl,
-  sym,
-  ap,
-  ◌∙◌,
-  subst,
-  arith,
-  inl,
-  inr,
-  ⊎_elim,
-  length-append,
-}
+use Rattle.std.proofs.Common.{◌≡◌, ◌≢◌, ◌||◌, ◌⊎◌, ℕ, zero, suc, ◌<◌, Bool, true, false, List, []}
+use Rattle.std.proofs.Common.{◌∷◌, ◌++◌, length, Some, cond, refl, sym, ap, ◌∙◌, subst, arith, inl}
+use Rattle.std.proofs.Common.{inr, ⊎_elim, length-append}
+use Rattle.std.proofs.Math.Seq.{take-append_seam, take-length}
 use Rattle.std.specs.Prelude.{slice_get}
 use Rattle.std.specs.List.{list_any}
-use Rattle.std.proofs.Math.Seq.{take-append_seam, take-length}
 use Rattle.line_model.specs.declared.line.Line.{Line}
-use Rattle.gate_net.specs.declared.gate.Gate.{Gate}
-use Rattle.gate_net.specs.Laws.{HasArguments, AreGates}
-use Rattle.gate_net.specs.Growing.{Grows, Adds}
-use Rattle.gate_net.specs.Named.{GateNames, KeepsNames}
+use Rattle.gate_net.specs.{declared.gate.Gate.Gate, Laws.HasArguments, Laws.AreGates, Growing.Grows}
+use Rattle.gate_net.specs.{Growing.Adds, Named.GateNames, Named.KeepsNames}
 use Rattle.gate_net.proofs.Standing.{grows_from}
 use Rattle.gate_net.proofs.Equal.{gate_eq, gate_eq-same, gate_eq-refl}
 

@@ -1,42 +1,15 @@
 -- What gates name of a line, as they grow.
-use Rattle.std.proofs.Common.{
-  ◌≡◌,
-  ℕ,
-  zero,
-  suc,
-  List,
-  [],
-  ◌∷◌,
-  ◌++◌,
-  length,
-  Some,
-  refl,
-  sym,
-  ◌∙◌,
-  arith,
-  ⊎_elim,
-}
-use Rattle.std.specs.Prelude.{slice_get}
+use Rattle.std.proofs.Common.{◌≡◌, ℕ, zero, suc, List, [], ◌∷◌, ◌++◌, length, Some, refl, sym, ◌∙◌}
+use Rattle.std.proofs.Common.{arith, ⊎_elim}
 use Rattle.std.proofs.lemmas.Option.{slice_get_within}
 use Rattle.std.proofs.lemmas.Bool.{cases_lt}
-use Rattle.line_model.specs.declared.line.Line.{Line}
-use Rattle.line_model.specs.Tree.{Tree}
-use Rattle.line_model.specs.Names.{Names}
-use Rattle.gate_net.specs.declared.gate.Gate.{Gate}
-use Rattle.gate_net.specs.declared.gate.Gate.TheVariants.{
-  Const,
-  Seen,
-  Loss,
-  Raw,
-  Not,
-  And,
-  Or,
-  Timer,
-  Seal,
-}
+use Rattle.std.specs.Prelude.{slice_get}
+use Rattle.line_model.specs.{declared.line.Line.Line, Tree.Tree, Names.Names}
+use Rattle.gate_net.specs.declared.gate.Gate.TheVariants.{Const, Seen, Loss, Raw, Not, And, Or}
+use Rattle.gate_net.specs.declared.gate.Gate.TheVariants.{Timer, Seal}
 use Rattle.gate_net.specs.Formulas.{tree_at, tree_with, formulas_after, formula_of}
-use Rattle.gate_net.specs.Growing.{Grows}
 use Rattle.gate_net.specs.Named.{GateNames, NamedFrom, KeepsNames}
+use Rattle.gate_net.specs.{declared.gate.Gate.Gate, Growing.Grows}
 
 -- no gate is named beyond the last
 pub named_start : (line : Line) (gates : List Gate) → NamedFrom line (length gates) gates

@@ -1,25 +1,12 @@
 -- A net of a line is a net of each line that agrees with it in all but the intervals.
 use Rattle.std.proofs.Common.{◌≡◌, ◌<◌, ℕ, sym, ◌∙◌, subst}
-use Rattle.line_model.specs.declared.line.Line.{Line}
-use Rattle.line_model.specs.declared.formula.Time.{Time}
+use Rattle.line_model.specs.{declared.line.Line.Line, declared.formula.Time.Time}
 use Rattle.line_model.specs.declared.formula.Time.TheVariants as time
-use Rattle.line_model.specs.Names.{HasTime}
-use Rattle.line_model.specs.SetBounds.{SameButParams}
-use Rattle.gate_net.specs.declared.gate.Gate.{Gate}
-use Rattle.gate_net.specs.declared.gate.Gate.TheVariants.{
-  Const,
-  Seen,
-  Loss,
-  Raw,
-  Not,
-  And,
-  Or,
-  Timer,
-  Seal,
-}
-use Rattle.gate_net.specs.Named.{GateNames}
-use Rattle.gate_net.specs.NetOf.{NetOf, IsNetOf}
 use Rattle.line_model.specs.IntervalLaws.{CountsRestOnNoInterval, TreesRestOnNoInterval}
+use Rattle.line_model.specs.{Names.HasTime, SetBounds.SameButParams}
+use Rattle.gate_net.specs.declared.gate.Gate.TheVariants.{Const, Seen, Loss, Raw, Not, And, Or}
+use Rattle.gate_net.specs.declared.gate.Gate.TheVariants.{Timer, Seal}
+use Rattle.gate_net.specs.{declared.gate.Gate.Gate, Named.GateNames, NetOf.NetOf, NetOf.IsNetOf}
 
 module _ (counts : CountsRestOnNoInterval) (trees : TreesRestOnNoInterval) (old new : Line)
     (same : SameButParams old new) where

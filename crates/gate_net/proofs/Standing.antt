@@ -1,57 +1,18 @@
 -- Gates that are added leave the trees of the old ones.
-use Rattle.std.proofs.Common.{
-  ◌≡◌,
-  ℕ,
-  zero,
-  suc,
-  ◌+◌,
-  ◌<◌,
-  ◌≤◌,
-  false,
-  List,
-  [],
-  ◌∷◌,
-  ◌++◌,
-  length,
-  take,
-  drop,
-  Some,
-  refl,
-  sym,
-  ap,
-  ◌∙◌,
-  subst,
-  arith,
-  length-append,
-}
-use Rattle.std.specs.Prelude.{slice_get}
+use Rattle.std.proofs.Common.{◌≡◌, ℕ, zero, suc, ◌+◌, ◌<◌, ◌≤◌, false, List, [], ◌∷◌, ◌++◌, length}
+use Rattle.std.proofs.Common.{take, drop, Some, refl, sym, ap, ◌∙◌, subst, arith, length-append}
 use Rattle.std.proofs.lemmas.List.{take-append-drop, get_or_append_left}
 use Rattle.std.proofs.lemmas.Option.{slice_get_within}
 use Rattle.std.proofs.Math.Seq.{get_or-append_seam}
+use Rattle.std.specs.Prelude.{slice_get}
 use Rattle.line_model.specs.Tree.{Tree}
 use Rattle.line_model.specs.Tree as tree
-use Rattle.gate_net.specs.declared.gate.Gate.{Gate}
-use Rattle.gate_net.specs.declared.gate.Gate.TheVariants.{
-  Const,
-  Seen,
-  Loss,
-  Raw,
-  Not,
-  And,
-  Or,
-  Timer,
-  Seal,
-}
+use Rattle.gate_net.specs.declared.gate.Gate.TheVariants.{Const, Seen, Loss, Raw, Not, And, Or}
+use Rattle.gate_net.specs.declared.gate.Gate.TheVariants.{Timer, Seal}
 use Rattle.gate_net.specs.Laws.{HasArguments, AreGates}
-use Rattle.gate_net.specs.Formulas.{
-  tree_at,
-  tree_with,
-  formulas_after,
-  formula_of,
-  kind_over,
-  Stands,
-}
-use Rattle.gate_net.specs.Growing.{Grows, Adds}
+use Rattle.gate_net.specs.Formulas.{tree_at, tree_with, formulas_after, formula_of, kind_over}
+use Rattle.gate_net.specs.Formulas.{Stands}
+use Rattle.gate_net.specs.{declared.gate.Gate.Gate, Growing.Grows, Growing.Adds}
 
 -- the trees so far stay under their numbers
 after_keeps : (gs : List Gate) (ts : List Tree) (i : ℕ) → i < length ts

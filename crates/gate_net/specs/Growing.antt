@@ -1,21 +1,7 @@
 -- How a list of gates grows.
-use Rattle.std.specs.Prelude.{
-  ◌≡◌,
-  ◌≢◌,
-  ◌<◌,
-  ◌≤◌,
-  ◌+◌,
-  ◌++◌,
-  ℕ,
-  List,
-  [],
-  ◌∷◌,
-  Some,
-  length,
-  slice_get,
-}
-use Rattle.gate_net.specs.declared.gate.Gate.{Gate}
-use Rattle.gate_net.specs.Formulas.{formula_of}
+use Rattle.std.specs.Prelude.{◌≡◌, ◌≢◌, ◌<◌, ◌≤◌, ◌+◌, ◌++◌, ℕ, List, [], ◌∷◌, Some, length}
+use Rattle.std.specs.Prelude.{slice_get}
+use Rattle.gate_net.specs.{declared.gate.Gate.Gate, Formulas.formula_of}
 
 -- the old gates stand under their numbers, for the trees that they stood for, and at most n gates
 -- are added

@@ -1,11 +1,8 @@
 -- Laws of gates and nets that proofs above cite.
 use Rattle.std.specs.Prelude.{◌≡◌, ℕ, List, Some, slice_get}
-use Rattle.line_model.specs.declared.line.Line.{Line}
-use Rattle.line_model.specs.Names.{Names}
+use Rattle.line_model.specs.{declared.line.Line.Line, Names.Names}
 use Rattle.gate_net.specs.declared.gate.Gate.{Gate}
-use Rattle.gate_net.specs.Laws.{AreGates}
-use Rattle.gate_net.specs.Formulas.{formula_of, kind_over}
-use Rattle.gate_net.specs.Named.{NamedFrom}
+use Rattle.gate_net.specs.{Laws.AreGates, Formulas.formula_of, Formulas.kind_over, Named.NamedFrom}
 
 -- each gate stands for its own kind over the trees of its arguments, and where every gate names
 -- only what a line has, so do their trees

@@ -1,13 +1,9 @@
 -- A finished net, and when it is the net of a line.
 use Rattle.std.specs.Prelude.{◌≡◌, ◌<◌, ℕ, List, length, map, get_or}
 use Rattle.line_model.specs.declared.line.Line.{Line}
-use Rattle.line_model.specs.Parameters.{terminal_count}
-use Rattle.line_model.specs.Logic.{key_tree, trip_tree}
-use Rattle.gate_net.specs.declared.gate.Gate.{Gate}
-use Rattle.gate_net.specs.declared.gate.GateId.{GateId}
-use Rattle.gate_net.specs.Laws.{AreGates}
-use Rattle.gate_net.specs.Formulas.{formula_of}
-use Rattle.gate_net.specs.Named.{NamedFrom}
+use Rattle.line_model.specs.{Parameters.terminal_count, Logic.key_tree, Logic.trip_tree}
+use Rattle.gate_net.specs.{declared.gate.Gate.Gate, declared.gate.GateId.GateId, Laws.AreGates}
+use Rattle.gate_net.specs.{Formulas.formula_of, Named.NamedFrom}
 
 -- the gates in order, and the gates of each terminal's key and trip
 pub record NetOf : Type 0 where

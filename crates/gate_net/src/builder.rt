@@ -6,10 +6,8 @@ ghost use Rattle.line_model.specs.Tree.{Const, Seen, Loss, Raw, Not, And, Or, Ti
 ghost use Rattle.line_model.specs.Names.{HasTime};
 ghost use Rattle.line_model.specs.Parameters.{terminal_count, channel_count};
 ghost use Rattle.gate_net.specs.Formulas.{formula_of, kind_over, Stands};
-ghost use Rattle.gate_net.specs.Growing.{Grows, Adds};
-ghost use Rattle.gate_net.specs.Laws.{HasArguments, AreGates};
-ghost use Rattle.gate_net.specs.Named.{GateNames, KeepsNames};
-ghost use Rattle.gate_net.specs.NetOf.{AreGatesOf, IsNet};
+ghost use Rattle.gate_net.specs.{Growing.Grows, Growing.Adds, Laws.HasArguments, Laws.AreGates};
+ghost use Rattle.gate_net.specs.{Named.GateNames, Named.KeepsNames, NetOf.AreGatesOf, NetOf.IsNet};
 
 use crate::gate::{Gate, GateId};
 use crate::net::Net;
@@ -30,8 +28,7 @@ pub struct NetBuilder {
 
 impl Model for NetBuilder {
     ghost use Rattle.std.specs.Prelude.{List};
-    ghost use Rattle.gate_net.specs.declared.gate.Gate.{Gate};
-    ghost use Rattle.gate_net.specs.Laws.{AreGates};
+    ghost use Rattle.gate_net.specs.{declared.gate.Gate.Gate, Laws.AreGates};
 
     ghost Value = { List Gate };
 

@@ -1,9 +1,7 @@
 //! The laws of gates and nets.
 
-ghost use Rattle.line_model.specs.declared.line.Line.{Line};
-ghost use Rattle.line_model.specs.SetBounds.{SameButParams};
-ghost use Rattle.gate_net.specs.NetOf.{NetOf, IsNetOf};
-ghost use Rattle.gate_net.specs.NetLaws.{GatesStandForTheirTrees};
+ghost use Rattle.line_model.specs.{declared.line.Line.Line, SetBounds.SameButParams};
+ghost use Rattle.gate_net.specs.{NetOf.NetOf, NetOf.IsNetOf, NetLaws.GatesStandForTheirTrees};
 
 use line_model::interval_laws::{
     counts_do_not_rest_on_the_intervals, trees_do_not_rest_on_the_intervals,

@@ -1,16 +1,14 @@
 -- The delay, and what is received by the interval rule.
-use Rattle.std.proofs.Common.{◌≡◌, ℕ, suc, ◌+◌, ◌-◌, ◌<◌, ◌≤◌, Bool, false, ◌&&◌, ◌||◌, ◌∙◌, ap, subst}
-use Rattle.std.proofs.Common.{arith, inl, inr, ⊎_elim, ◌⊎◌, sym, length}
-use Rattle.std.specs.Prelude.{nat_le, nat_lt, IsTrue, Decides}
+use Rattle.std.proofs.Common.{◌≡◌, ℕ, suc, ◌+◌, ◌-◌, ◌<◌, ◌≤◌, Bool, false, ◌&&◌, ◌||◌, ◌∙◌, ap}
+use Rattle.std.proofs.Common.{subst, arith, inl, inr, ⊎_elim, ◌⊎◌, sym, length}
 use Rattle.std.proofs.lemmas.Bool.{cases_lt, le-leb, lt-leb}
 use Rattle.std.proofs.lemmas.Bool.Decides.{Decides-like, Decides-and, Decides-or, Decides-ltb}
 use Rattle.std.proofs.lemmas.Bool.Decides.{same_from_decides}
-use Rattle.history.specs.Elements.{delayed}
+use Rattle.std.specs.Prelude.{nat_le, nat_lt, IsTrue, Decides}
 use Rattle.history.specs.Rails.{Rails, Ends, Covers, rails_delayed, rails_at, must_of, may_of}
-use Rattle.history.specs.Recorded.{first_ticks}
 use Rattle.history.specs.Comes.{Comes, AllCome, SomeComes}
+use Rattle.history.specs.{Elements.delayed, Recorded.first_ticks, FirstTicks.length-first_ticks}
 use Rattle.history.proofs.ElementLaws.{Decides-le, Decides-true, Decides-every, Decides-some}
-use Rattle.history.specs.FirstTicks.{length-first_ticks}
 use Rattle.history.proofs.RailsBridge.{rails_at-first_ticks}
 
 pub Decides-delayed : (u : ℕ → Bool) (c t : ℕ) → Decides (delayed u c t) (Comes u c t)

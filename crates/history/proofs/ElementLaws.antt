@@ -1,10 +1,10 @@
 -- Each element is what its facts say, it grows with its input, and only the ticks so far matter.
 use Rattle.std.proofs.Common.{◌≡◌, ℕ, suc, ◌+◌, ◌-◌, ◌<◌, ◌≤◌, Bool, ◌&&◌, ◌||◌, refl, sym, ◌∙◌}
 use Rattle.std.proofs.Common.{subst, arith, inl, inr, ⊎_elim, ◌⊎◌}
-use Rattle.std.specs.Prelude.{nat_le, IsTrue, Decides}
 use Rattle.std.proofs.lemmas.Bool.{leb-true, le-leb, cases_lt}
 use Rattle.std.proofs.lemmas.Bool.Decides.{Decides-like, Decides-and, Decides-or, Decides-below_and}
 use Rattle.std.proofs.lemmas.Bool.Decides.{Decides-below_or, same_from_decides}
+use Rattle.std.specs.Prelude.{nat_le, IsTrue, Decides}
 use Rattle.history.specs.Elements.{every_below, some_below, hold, timed, sealed, Holds, IsTimed}
 use Rattle.history.specs.Elements.{IsSealed, SameUpTo, Below}
 

@@ -1,9 +1,9 @@
 -- From what a plain function has looked at to the truth value of the definition.
 use Rattle.std.proofs.Common.{◌≡◌, ℕ, ◌+◌, ◌-◌, ◌<◌, ◌≤◌, Bool, true, false, sym, ◌∙◌, subst, arith}
 use Rattle.std.proofs.Common.{⊎_elim}
-use Rattle.std.specs.Prelude.{nat_le, IsTrue, Decides}
 use Rattle.std.proofs.lemmas.Bool.{lt-leb, cases_lt, false≢true}
 use Rattle.std.proofs.lemmas.Bool.Decides.{Decides-like, same_from_decides}
+use Rattle.std.specs.Prelude.{nat_le, IsTrue, Decides}
 use Rattle.history.specs.Elements.{hold, timed, sealed, delayed, Holds, IsTimed, IsSealed}
 use Rattle.history.proofs.ElementLaws.{Decides-hold, Decides-timed, Decides-sealed}
 use Rattle.history.proofs.DelayLaws.{delayed_before}

@@ -1,14 +1,13 @@
 -- From the lists that cells stand for to histories as functions of the tick, and covering.
-use Rattle.std.proofs.Common.{◌≡◌, ℕ, suc, ◌+◌, ◌<◌, ◌≤◌, Bool, List, [], ◌∷◌, ◌++◌, length}
-use Rattle.std.proofs.Common.{map, take, get_or-take, refl, ◌∙◌, ap, arith}
-use Rattle.std.specs.Prelude.{false}
+use Rattle.std.proofs.Common.{◌≡◌, ℕ, suc, ◌+◌, ◌<◌, ◌≤◌, Bool, List, [], ◌∷◌, ◌++◌, length, map}
+use Rattle.std.proofs.Common.{take, get_or-take, refl, ◌∙◌, ap, arith}
 use Rattle.std.proofs.Math.ListN.{get_or-map}
-use Rattle.history.specs.Elements.{timed, sealed}
-use Rattle.history.specs.Recorded.{at, first_ticks}
+use Rattle.std.specs.Prelude.{false}
 use Rattle.history.specs.Rails.{Rails, Ends, Covers, both, must_of, may_of, rails_timed}
 use Rattle.history.specs.Rails.{rails_sealed, rails_at, SameRails}
-use Rattle.history.proofs.ElementLaws.{timed-same, timed-below, sealed-same, sealed-below}
 use Rattle.history.specs.FirstTicks.{length-first_ticks, get_or-first_ticks}
+use Rattle.history.specs.{Elements.timed, Elements.sealed, Recorded.at, Recorded.first_ticks}
+use Rattle.history.proofs.ElementLaws.{timed-same, timed-below, sealed-same, sealed-below}
 
 -- reading the first n ticks gives the history back
 pub rails_at-first_ticks : (u : ℕ → Rails) (n r : ℕ) → r < n → rails_at (first_ticks u n) r ≡ u r

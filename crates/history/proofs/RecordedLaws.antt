@@ -2,8 +2,7 @@
 use Rattle.std.proofs.Common.{◌≡◌, ℕ, zero, suc, ◌<◌, Bool, false, List, [], ◌∷◌, ◌++◌, length}
 use Rattle.std.proofs.Common.{refl, arith, ◌∙◌, ap}
 use Rattle.history.specs.Elements.{SameUpTo}
-use Rattle.history.specs.Recorded.{at, first_ticks}
-use Rattle.history.specs.FirstTicks.{get_or-first_ticks}
+use Rattle.history.specs.{Recorded.at, Recorded.first_ticks, FirstTicks.get_or-first_ticks}
 
 -- the ticks that a list was recorded from are the list
 pub first_ticks-cons : (u : ℕ → Bool) (n : ℕ) →

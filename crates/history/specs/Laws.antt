@@ -1,59 +1,14 @@
 -- The laws of histories, each under the name of the function that ensures it, so that the proofs
 -- above can take them as arguments.
-use Rattle.std.specs.Prelude.{
-  ◌≡◌,
-  ◌+◌,
-  ◌-◌,
-  ◌≤◌,
-  ◌<◌,
-  ◌&&◌,
-  ◌||◌,
-  ◌↔◌,
-  ℕ,
-  Bool,
-  not,
-  IsTrue,
-  Decides,
-  List,
-  [],
-  ◌∷◌,
-  ◌++◌,
-  false,
-  length,
-}
-use Rattle.history.specs.Elements.{
-  every_below,
-  some_below,
-  hold,
-  timed,
-  sealed,
-  delayed,
-  Holds,
-  IsTimed,
-  IsSealed,
-  SameUpTo,
-  Below,
-}
+use Rattle.std.specs.Prelude.{◌≡◌, ◌+◌, ◌-◌, ◌≤◌, ◌<◌, ◌&&◌, ◌||◌, ◌↔◌, ℕ, Bool, not, IsTrue}
+use Rattle.std.specs.Prelude.{Decides, List, [], ◌∷◌, ◌++◌, false, length}
+use Rattle.history.specs.Elements.{every_below, some_below, hold, timed, sealed, delayed, Holds}
+use Rattle.history.specs.Elements.{IsTimed, IsSealed, SameUpTo, Below}
 use Rattle.history.specs.Comes.{Comes, AllCome, SomeComes}
 use Rattle.history.specs.Recorded.{at, first_ticks}
-use Rattle.history.specs.Rails.{
-  Rails,
-  Ends,
-  Covers,
-  RailsCover,
-  IsPartOf,
-  IsSound,
-  SameRails,
-  both,
-  single,
-  rails_at,
-  rails_not,
-  rails_and,
-  rails_or,
-  rails_timed,
-  rails_sealed,
-  rails_delayed,
-}
+use Rattle.history.specs.Rails.{Rails, Ends, Covers, RailsCover, IsPartOf, IsSound, SameRails, both}
+use Rattle.history.specs.Rails.{single, rails_at, rails_not, rails_and, rails_or, rails_timed}
+use Rattle.history.specs.Rails.{rails_sealed, rails_delayed}
 
 -- ---- elements over one history
 

@@ -1,36 +1,16 @@
 -- The spans of the declared intervals make the declared box.
-use Rattle.std.proofs.Common.{
-  ◌≡◌,
-  ◌<◌,
-  ◌≤◌,
-  ℕ,
-  List,
-  [],
-  length,
-  get_or,
-  map,
-  Option,
-  Some,
-  None,
-  refl,
-  sym,
-  ◌∙◌,
-  ap,
-  subst,
-  arith,
-  ⊎_elim,
-}
-use Rattle.std.specs.Prelude.{slice_get, option_map}
+use Rattle.std.proofs.Common.{◌≡◌, ◌<◌, ◌≤◌, ℕ, List, [], length, get_or, map, Option, Some, None}
+use Rattle.std.proofs.Common.{refl, sym, ◌∙◌, ap, subst, arith, ⊎_elim}
 use Rattle.std.proofs.Math.Path.{fun_ext}
 use Rattle.std.proofs.lemmas.List.{length-map, get_or_past, get_or-map}
 use Rattle.std.proofs.lemmas.Option.{slice_get-map, slice_get_cases}
+use Rattle.std.specs.Prelude.{slice_get, option_map}
 use Rattle.history.specs.Rails.{Ends}
 use Rattle.tick_signal.specs.Spans.{ends_of}
 use Rattle.line_model.specs.declared.line.Line.{Line}
-use Rattle.line_model.specs.declared.line.Param.{Param}
-use Rattle.line_model.specs.Intervals.{IsInterval, leasts, greatests}
-use Rattle.line_model.specs.Parameters.{delay_param, declared_ends}
 use Rattle.line_model.specs.Choice.{Box, LeastFromOne, declared_box}
+use Rattle.line_model.specs.{declared.line.Param.Param, Intervals.IsInterval, Intervals.leasts}
+use Rattle.line_model.specs.{Intervals.greatests, Parameters.delay_param, Parameters.declared_ends}
 use Rattle.timing_box.specs.Timing.{number_at}
 use Rattle.simulator.specs.LaneBox.{ends_in, own_ends, ends_at, lane_box}
 use Rattle.simulator.specs.Runs.{AreDelayed}

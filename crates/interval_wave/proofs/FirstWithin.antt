@@ -1,9 +1,8 @@
 -- Whether a signal is on below a tick, by the first tick at which it is on.
 use Rattle.std.proofs.Common.{◌≡◌, ◌<◌, ℕ, Bool, true, false, refl, sym, ◌∙◌, arith, ⊎_elim}
-use Rattle.std.specs.Prelude.{nat_lt, IsTrue, IsFalse}
 use Rattle.std.proofs.lemmas.Bool.{cases_lt, lt-ltb, le-ltb}
-use Rattle.history.specs.Elements.{some_below}
-use Rattle.history.specs.Laws.{TestsAreTheirFacts}
+use Rattle.std.specs.Prelude.{nat_lt, IsTrue, IsFalse}
+use Rattle.history.specs.{Elements.some_below, Laws.TestsAreTheirFacts}
 
 on_and_off : (b : Bool) → b ≡ true → b ≡ false → ⊥
 on_and_off b on off = let same : true ≡ false = sym on ∙ off in cc

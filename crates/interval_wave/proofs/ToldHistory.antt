@@ -1,27 +1,17 @@
 -- What waves tell is an interval history.
 use Rattle.std.proofs.Common.{◌≡◌, ◌<◌, ℕ, List, [], Some, map, get_or, sym, ◌∙◌, ap, arith}
-use Rattle.std.specs.Prelude.{slice_get, option_map}
 use Rattle.std.proofs.lemmas.Option.{slice_get-map, get_or_from_slice_get}
+use Rattle.std.specs.Prelude.{slice_get, option_map}
 use Rattle.history.specs.Rails.{Rails, rails_at}
-use Rattle.tick_signal.specs.declared.tern.Tern.{Tern}
-use Rattle.tick_signal.specs.Terns.{tern_rails}
+use Rattle.tick_signal.specs.{declared.tern.Tern.Tern, Terns.tern_rails}
 use Rattle.line_model.specs.declared.line.Line.{Line}
-use Rattle.line_model.specs.declared.script.Script.{Script}
-use Rattle.line_model.specs.Parameters.{terminal_count}
-use Rattle.line_model.specs.PairMean.{PairSignals}
-use Rattle.line_model.specs.Choice.{Box, LeastFromOne}
-use Rattle.line_model.specs.Logic.{key_tree, trip_tree}
 use Rattle.line_model.specs.Histories.{PairHistory, IsPairHistory, IsSamePairHistory}
-use Rattle.line_model.specs.Laws.{TreesNameTheLine, ValuesRestOnEarlierKeys}
+use Rattle.line_model.specs.{declared.script.Script.Script, Parameters.terminal_count}
+use Rattle.line_model.specs.{PairMean.PairSignals, Choice.Box, Choice.LeastFromOne, Logic.key_tree}
+use Rattle.line_model.specs.{Logic.trip_tree, Laws.TreesNameTheLine, Laws.ValuesRestOnEarlierKeys}
 use Rattle.simulator.specs.ListLaws.{exists_at}
-use Rattle.interval_wave.specs.PairWavesOf.{
-  pairs_of,
-  told_by,
-  AreWaves,
-  AreWavesOf,
-  pair_at,
-  pair_history,
-}
+use Rattle.interval_wave.specs.PairWavesOf.{pairs_of, told_by, AreWaves, AreWavesOf, pair_at}
+use Rattle.interval_wave.specs.PairWavesOf.{pair_history}
 
 -- the pairs of a terminal's wave
 pub wave_pairs : (waves : List (List Tern)) (k : ℕ) (wave : List Tern)

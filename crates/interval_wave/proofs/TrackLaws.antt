@@ -1,15 +1,13 @@
 -- The waves of tracks.
-use Rattle.std.proofs.Common.{◌≡◌, ℕ, List, ◌∷◌, ◌++◌, [], Some, length, map}
-use Rattle.std.proofs.Common.{◌+◌, length-append, sym, ◌∙◌, ap, subst, arith, ⊎_elim}
-use Rattle.std.specs.Prelude.{slice_get, option_map, false}
+use Rattle.std.proofs.Common.{◌≡◌, ℕ, List, ◌∷◌, ◌++◌, [], Some, length, map, ◌+◌, length-append}
+use Rattle.std.proofs.Common.{sym, ◌∙◌, ap, subst, arith, ⊎_elim}
 use Rattle.std.proofs.lemmas.Option.{slice_get-map, get_or_from_slice_get}
+use Rattle.std.specs.Prelude.{slice_get, option_map, false}
 use Rattle.history.specs.Rails.{both}
-use Rattle.tick_signal.specs.declared.tern.Tern.{Tern}
-use Rattle.tick_signal.specs.Terns.{tern_rails}
+use Rattle.tick_signal.specs.{declared.tern.Tern.Tern, Terns.tern_rails}
 use Rattle.channel.specs.SentKeys.{SentKeys}
 use Rattle.wave_runs.specs.Waves.{wave_at, IsWaveOf}
-use Rattle.simulator.specs.ListLaws.{at_push}
-use Rattle.simulator.specs.Tracks.{pair_of}
+use Rattle.simulator.specs.{ListLaws.at_push, Tracks.pair_of}
 use Rattle.interval_wave.specs.PairWavesOf.{AreWavesOf, track_pairs}
 
 -- the rails of the value at a tick

@@ -1,11 +1,9 @@
 -- The pairs of what each terminal keys and of its trip, tick by tick.
 use Rattle.std.specs.Prelude.{◌≡◌, ℕ, List, [], Some, length, map, get_or, slice_get}
 use Rattle.history.specs.Rails.{Rails, rails_at}
-use Rattle.tick_signal.specs.declared.tern.Tern.{Tern}
-use Rattle.tick_signal.specs.Terns.{tern_rails}
+use Rattle.tick_signal.specs.{declared.tern.Tern.Tern, Terns.tern_rails}
 use Rattle.channel.specs.SentKeys.{SentKeys}
-use Rattle.line_model.specs.PairMean.{PairSignals}
-use Rattle.line_model.specs.Histories.{PairHistory}
+use Rattle.line_model.specs.{PairMean.PairSignals, Histories.PairHistory}
 use Rattle.wave_runs.specs.Waves.{IsWaveOf}
 use Rattle.simulator.specs.Tracks.{pair_of}
 

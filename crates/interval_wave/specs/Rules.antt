@@ -1,8 +1,7 @@
 -- The rule that is answered, and the deadlines that it asks for.
 use Rattle.std.specs.Prelude.{◌≡◌, ◌<◌, ℕ, suc, Bool, not, if◌then◌else◌}
 use Rattle.std.proofs.Common.{◌∙◌, ap}
-use Rattle.history.specs.Elements.{some_below}
-use Rattle.history.specs.Rails.{Rails}
+use Rattle.history.specs.{Elements.some_below, Rails.Rails}
 use Rattle.line_model.specs.declared.script.Kind.{Kind}
 use Rattle.line_model.specs.declared.script.Kind.TheVariants.{Internal, External}
 use Rattle.line_model.specs.Rule as of_line

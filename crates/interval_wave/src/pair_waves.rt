@@ -2,8 +2,7 @@
 
 ghost use Rattle.std.specs.Prelude.{◌≡◌, ◌<◌, IfSome, length};
 ghost use Rattle.tick_signal.specs.Terns.{tern_rails};
-ghost use Rattle.wave_runs.specs.FirstTick.{first_on};
-ghost use Rattle.wave_runs.specs.Waves.{IsWaveOf};
+ghost use Rattle.wave_runs.specs.{FirstTick.first_on, Waves.IsWaveOf};
 ghost use Rattle.interval_wave.specs.PairWavesOf.{AreWaves, told_by, pair_history};
 
 use std::marker::Model;

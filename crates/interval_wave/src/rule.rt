@@ -3,9 +3,8 @@
 ghost use Rattle.std.specs.Prelude.{◌≡◌, ◌<◌, ◌≤◌, ℕ, Bool};
 ghost use Rattle.history.specs.Elements.{some_below};
 ghost use Rattle.line_model.specs.declared.line.Line.{Line};
-ghost use Rattle.line_model.specs.Parameters.{terminal_count};
 ghost use Rattle.line_model.specs.Histories.{History, CoversHistory, Meets};
-ghost use Rattle.line_model.specs.Rule.{rule_by};
+ghost use Rattle.line_model.specs.{Parameters.terminal_count, Rule.rule_by};
 ghost use Rattle.wave_runs.specs.FirstTick.{first_on};
 ghost use Rattle.interval_wave.specs.PairWavesOf.{pair_history};
 ghost use Rattle.interval_wave.specs.Rules.{rule_named, rule_from, counted_ticks, IsDeadlineWithin};

@@ -1,7 +1,6 @@
 -- What readings that ended well came by.
 use Rattle.std.proofs.Common.{◌≡◌, Bool, true, false, Result, Ok, Err, cond, refl}
-use Rattle.line_file.specs.declared.fault.LineFault.{LineFault}
-use Rattle.line_file.specs.Reading.{◌>>=◌}
+use Rattle.line_file.specs.{declared.fault.LineFault.LineFault, Reading.◌>>=◌}
 
 abbrev pub ok_of : {A : Type 0} → A → Result A LineFault
 ok_of x = Ok x

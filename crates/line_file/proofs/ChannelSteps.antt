@@ -1,78 +1,27 @@
 -- Channels, one after another.
-use Rattle.std.proofs.Common.{
-  ◌≡◌,
-  ◌≢◌,
-  ◌+◌,
-  ◌<◌,
-  ◌==◌,
-  ℕ,
-  false,
-  List,
-  [],
-  ◌∷◌,
-  ◌++◌,
-  Option,
-  Some,
-  None,
-  Ok,
-  drop,
-  length,
-  get_or,
-  refl,
-  codes,
-  sym,
-  ap,
-  subst,
-  ◌∙◌,
-  arith,
-  ◌≤◌,
-}
+use Rattle.std.proofs.Common.{◌≡◌, ◌≢◌, ◌+◌, ◌<◌, ◌==◌, ℕ, false, List, [], ◌∷◌, ◌++◌, Option, Some}
+use Rattle.std.proofs.Common.{None, Ok, drop, length, get_or, refl, codes, sym, ap, subst, ◌∙◌}
+use Rattle.std.proofs.Common.{arith, ◌≤◌}
 use Rattle.std.proofs.lemmas.Bool.{eqb-false}
 use Rattle.std.specs.Str.{bytes_eq}
 use Rattle.std.specs.List.{list_any}
 use Rattle.toml.specs.Data.{Data, Members}
-use Rattle.toml.specs.View.{view, items_view}
-use Rattle.toml.specs.declared.value.Value.{Value}
+use Rattle.toml.specs.{View.view, View.items_view, declared.value.Value.Value}
 use Rattle.toml.proofs.Views.{items_view-drop}
 use Rattle.line_model.specs.declared.line.Terminal.{Terminal}
-use Rattle.line_model.specs.declared.line.Channel.{Channel}
-use Rattle.line_model.specs.declared.bounds.Bounds.{Bounds}
-use Rattle.line_model.specs.declared.line.Scheme.{Scheme}
 use Rattle.line_model.specs.declared.line.Scheme.TheVariants.{Pott, Putt, Dcb, Dcub, Dtt}
 use Rattle.line_model.specs.Channels.{is_pair}
-use Rattle.line_model.specs.Settings.{channel_settings}
-use Rattle.line_model.specs.Making.{least_ends}
-use Rattle.line_model.specs.FirstPositions.{position_within}
-use Rattle.line_file.specs.Paths.{item_path}
-use Rattle.line_file.specs.Reading.{◌>>=◌}
+use Rattle.line_model.specs.{declared.line.Channel.Channel, declared.bounds.Bounds.Bounds}
+use Rattle.line_model.specs.{declared.line.Scheme.Scheme, Settings.channel_settings}
+use Rattle.line_model.specs.{Making.least_ends, FirstPositions.position_within}
 use Rattle.line_file.specs.Keys.{all_known, table_in, text_at}
-use Rattle.line_file.specs.Times.{time_at}
-use Rattle.line_file.specs.Lines.{LineValues}
-use Rattle.line_file.specs.ChannelTables.{
-  unblock_keys,
-  channel_keys,
-  terminal_called,
-  sender,
-  receiver,
-  from_at,
-  to_at,
-  ends_at,
-  receiver_times,
-  channel_at,
-  channels_at,
-}
+use Rattle.line_file.specs.ChannelTables.{unblock_keys, channel_keys, terminal_called, sender}
+use Rattle.line_file.specs.ChannelTables.{receiver, from_at, to_at, ends_at, receiver_times}
+use Rattle.line_file.specs.ChannelTables.{channel_at, channels_at}
+use Rattle.line_file.specs.{Paths.item_path, Reading.◌>>=◌, Times.time_at, Lines.LineValues}
 use Rattle.line_file.proofs.Binds.{bind_ok, guard_ok, same_ok}
-use Rattle.line_file.proofs.TimeLaws.{
-  IsTime,
-  Grew,
-  grew_none,
-  grew_one,
-  grew_more,
-  grew_as,
-  any_fewest,
-  time_ok,
-  required_ok,
-}
+use Rattle.line_file.proofs.TimeLaws.{IsTime, Grew, grew_none, grew_one, grew_more, grew_as}
+use Rattle.line_file.proofs.TimeLaws.{any_fewest, time_ok, required_ok}
 
 -- the next channel, and then those after it
 pub channels_at-more :

@@ -1,66 +1,24 @@
 -- The canonical table has no date that could not be written.
-use Rattle.std.proofs.Common.{
-  ◌≡◌,
-  ◌+◌,
-  ℕ,
-  Bool,
-  true,
-  false,
-  List,
-  [],
-  ◌∷◌,
-  map,
-  Less,
-  Equal,
-  Greater,
-  refl,
-  codes,
-}
+use Rattle.std.proofs.Common.{◌≡◌, ◌+◌, ℕ, Bool, true, false, List, [], ◌∷◌, map, Less, Equal}
+use Rattle.std.proofs.Common.{Greater, refl, codes}
 use Rattle.std.proofs.lemmas.Bool.{and_parts}
 use Rattle.std.specs.Ordering.{nat_cmp, match_ordering}
 use Rattle.std.specs.Cmp.Lexicographic.{slice_cmp}
-use Rattle.toml.specs.Data.{
-  Data,
-  string,
-  Members,
-  no_members,
-  member,
-  has_valid_dates,
-  items_have_valid_dates,
-  members_have_valid_dates,
-}
+use Rattle.toml.specs.Data.{Data, string, Members, no_members, member, has_valid_dates}
+use Rattle.toml.specs.Data.{items_have_valid_dates, members_have_valid_dates}
 use Rattle.toml.specs.View.{items_of}
 use Rattle.line_model.specs.declared.line.Line.{Line}
-use Rattle.line_model.specs.declared.line.Scheme.{Scheme}
 use Rattle.line_model.specs.declared.line.Scheme.TheVariants.{Pott, Putt, Dcb, Dcub, Dtt}
-use Rattle.line_model.specs.declared.line.Terminal.{Terminal}
-use Rattle.line_model.specs.declared.line.Channel.{Channel}
-use Rattle.line_model.specs.declared.line.Owner.{Owner}
+use Rattle.line_model.specs.{declared.line.Scheme.Scheme, declared.line.Terminal.Terminal}
+use Rattle.line_model.specs.{declared.line.Channel.Channel, declared.line.Owner.Owner}
 use Rattle.line_model.specs.declared.line.Owner.TheVariants as owner
 use Rattle.line_model.specs.declared.line.Setting.{Setting}
-use Rattle.line_model.specs.declared.line.Setting.TheVariants.{Delay}
-use Rattle.line_model.specs.ParamNames.{name_at}
-use Rattle.line_file.specs.Canonical.{
-  put_member,
-  put_all,
-  table_of,
-  time_data,
-  setting_interval,
-  setting_pair,
-  times_data,
-  element_pairs,
-  guard_pairs,
-  weak_pairs,
-  scheme_pairs,
-  terminal_members,
-  terminals_data,
-  receiver_pairs,
-  channel_members,
-  channels_data,
-  head_pairs,
-  table_pairs,
-  canonical_in,
-}
+use Rattle.line_model.specs.{declared.line.Setting.TheVariants.Delay, ParamNames.name_at}
+use Rattle.line_file.specs.Canonical.{put_member, put_all, table_of, time_data, setting_interval}
+use Rattle.line_file.specs.Canonical.{setting_pair, times_data, element_pairs, guard_pairs}
+use Rattle.line_file.specs.Canonical.{weak_pairs, scheme_pairs, terminal_members, terminals_data}
+use Rattle.line_file.specs.Canonical.{receiver_pairs, channel_members, channels_data, head_pairs}
+use Rattle.line_file.specs.Canonical.{table_pairs, canonical_in}
 
 -- each value has only such dates
 abbrev pub AreDated : List (List ℕ × Data) → Type 0

@@ -1,65 +1,22 @@
 -- How deep the canonical table nests.
-use Rattle.std.proofs.Common.{
-  ◌+◌,
-  ◌≤◌,
-  ℕ,
-  Bool,
-  true,
-  false,
-  List,
-  [],
-  ◌∷◌,
-  map,
-  Less,
-  Equal,
-  Greater,
-  arith,
-  codes,
-}
+use Rattle.std.proofs.Common.{◌+◌, ◌≤◌, ℕ, Bool, true, false, List, [], ◌∷◌, map, Less, Equal}
+use Rattle.std.proofs.Common.{Greater, arith, codes}
 use Rattle.std.specs.Ordering.{nat_cmp, match_ordering}
 use Rattle.std.specs.Cmp.Lexicographic.{slice_cmp}
-use Rattle.toml.specs.Data.{
-  Data,
-  string,
-  Members,
-  no_members,
-  member,
-  depth,
-  items_depth,
-  members_depth,
-}
-use Rattle.toml.specs.View.{items_of}
+use Rattle.toml.specs.{Data.Data, Data.string, Data.Members, Data.no_members, Data.member}
+use Rattle.toml.specs.{Data.depth, Data.items_depth, Data.members_depth, View.items_of}
 use Rattle.line_model.specs.declared.line.Line.{Line}
-use Rattle.line_model.specs.declared.line.Scheme.{Scheme}
 use Rattle.line_model.specs.declared.line.Scheme.TheVariants.{Pott, Putt, Dcb, Dcub, Dtt}
-use Rattle.line_model.specs.declared.line.Terminal.{Terminal}
-use Rattle.line_model.specs.declared.line.Channel.{Channel}
-use Rattle.line_model.specs.declared.line.Owner.{Owner}
+use Rattle.line_model.specs.{declared.line.Scheme.Scheme, declared.line.Terminal.Terminal}
+use Rattle.line_model.specs.{declared.line.Channel.Channel, declared.line.Owner.Owner}
 use Rattle.line_model.specs.declared.line.Owner.TheVariants as owner
 use Rattle.line_model.specs.declared.line.Setting.{Setting}
-use Rattle.line_model.specs.declared.line.Setting.TheVariants.{Delay}
-use Rattle.line_model.specs.ParamNames.{name_at}
-use Rattle.line_file.specs.Canonical.{
-  put_member,
-  put_all,
-  table_of,
-  time_data,
-  setting_interval,
-  setting_pair,
-  times_data,
-  element_pairs,
-  guard_pairs,
-  weak_pairs,
-  scheme_pairs,
-  terminal_members,
-  terminals_data,
-  receiver_pairs,
-  channel_members,
-  channels_data,
-  head_pairs,
-  table_pairs,
-  canonical_in,
-}
+use Rattle.line_model.specs.{declared.line.Setting.TheVariants.Delay, ParamNames.name_at}
+use Rattle.line_file.specs.Canonical.{put_member, put_all, table_of, time_data, setting_interval}
+use Rattle.line_file.specs.Canonical.{setting_pair, times_data, element_pairs, guard_pairs}
+use Rattle.line_file.specs.Canonical.{weak_pairs, scheme_pairs, terminal_members, terminals_data}
+use Rattle.line_file.specs.Canonical.{receiver_pairs, channel_members, channels_data, head_pairs}
+use Rattle.line_file.specs.Canonical.{table_pairs, canonical_in}
 
 -- each value nests at most so deep
 abbrev pub AreShallow : ℕ → List (List ℕ × Data) → Type 0

@@ -1,26 +1,11 @@
 -- Documents, and lists of texts behind references.
-use Rattle.std.proofs.Common.{
-  ◌≡◌,
-  ℕ,
-  Bool,
-  false,
-  List,
-  [],
-  ◌∷◌,
-  map,
-  Option,
-  None,
-  Bor,
-  refl,
-  ap,
-  ◌||◌,
-}
+use Rattle.std.proofs.Common.{◌≡◌, ℕ, Bool, false, List, [], ◌∷◌, map, Option, None, Bor, refl, ap}
+use Rattle.std.proofs.Common.{◌||◌}
 use Rattle.std.proofs.lemmas.Bool.{false_from_ne_true}
 use Rattle.std.proofs.lemmas.Str.{IsUtf8-from_is_utf8, is_utf8-from_IsUtf8}
 use Rattle.std.specs.Str.{IsUtf8, is_utf8}
 use Rattle.std.specs.List.{list_any}
-use Rattle.toml.specs.Data.{Members}
-use Rattle.toml.specs.Parse.{parse_document}
+use Rattle.toml.specs.{Data.Members, Parse.parse_document}
 use Rattle.line_file.specs.Keys.{document_of}
 
 -- bytes that are a text stand for what the text stands for

@@ -1,5 +1,6 @@
 -- Where the keys of a table ascend, the first unknown one is the least.
-use Rattle.std.proofs.Common.{◌≡◌, ℕ, Bool, true, false, cond, List, [], ◌∷◌, Some, refl, sym, ◌∙◌, ap, subst, inl, inr}
+use Rattle.std.proofs.Common.{◌≡◌, ℕ, Bool, true, false, cond, List, [], ◌∷◌, Some, refl, sym, ◌∙◌}
+use Rattle.std.proofs.Common.{ap, subst, inl, inr}
 use Rattle.std.specs.Prelude.{string_bytes, String}
 use Rattle.std.specs.Ordering.{nat_cmp}
 use Rattle.std.specs.Str.{bytes_eq}
@@ -10,10 +11,8 @@ use Rattle.std.specs.String.{string_cmp}
 use Rattle.std.specs.Cmp.Lexicographic.{slice_cmp}
 use Rattle.std.specs.declared.alloc.Global.{Global}
 use Rattle.std.specs.declared.cmp.Ordering.TheVariants.{Less}
-use Rattle.toml.specs.declared.value.Value.{Value}
-use Rattle.toml.specs.View.{members_view}
-use Rattle.line_file.specs.Keys.{first_unknown}
-use Rattle.line_file.specs.LeastUnknown.{HasKey, IsLeastUnknown}
+use Rattle.toml.specs.{declared.value.Value.Value, View.members_view}
+use Rattle.line_file.specs.{Keys.first_unknown, LeastUnknown.HasKey, LeastUnknown.IsLeastUnknown}
 
 abbrev Entry : Type 0
 Entry = String Global × Value

@@ -1,62 +1,22 @@
 -- The canonical table of a line is read as the line.
-use Rattle.std.proofs.Common.{
-  ◌≡◌,
-  ◌<◌,
-  ◌≤◌,
-  ◌&&◌,
-  ℕ,
-  true,
-  List,
-  [],
-  ◌∷◌,
-  length,
-  Some,
-  Ok,
-  refl,
-  ap,
-  ◌∙◌,
-  arith,
-  codes,
-  nat_le,
-}
+use Rattle.std.proofs.Common.{◌≡◌, ◌<◌, ◌≤◌, ◌&&◌, ℕ, true, List, [], ◌∷◌, length, Some, Ok, refl}
+use Rattle.std.proofs.Common.{ap, ◌∙◌, arith, codes, nat_le}
 use Rattle.std.proofs.lemmas.Bool.{le-leb}
 use Rattle.toml.specs.View.{items_of}
-use Rattle.line_model.specs.declared.line.Line.{Line}
-use Rattle.line_model.specs.declared.line.Scheme.{Scheme}
 use Rattle.line_model.specs.declared.line.Scheme.TheVariants.{Pott, Putt, Dcb, Dcub, Dtt}
 use Rattle.line_model.specs.declared.line.Terminal.{Terminal}
-use Rattle.line_model.specs.Laws.{LineLaws}
+use Rattle.line_model.specs.{declared.line.Line.Line, declared.line.Scheme.Scheme, Laws.LineLaws}
 use Rattle.line_file.specs.Keys.{document_of, all_known, number_at, text_at, array_at}
-use Rattle.line_file.specs.Times.{units_per_tick}
-use Rattle.line_file.specs.Lines.{
-  LineValues,
-  line_values,
-  scheme_named,
-  scheme_of,
-  zone1_trip_of,
-  head_of,
-  two_or_three,
-  terminal_items,
-  channel_items,
-}
+use Rattle.line_file.specs.Lines.{LineValues, line_values, scheme_named, scheme_of, zone1_trip_of}
+use Rattle.line_file.specs.Lines.{head_of, two_or_three, terminal_items, channel_items}
 use Rattle.line_file.specs.TerminalTables.{terminals_at}
-use Rattle.line_file.specs.ChannelTables.{channels_at}
 use Rattle.line_file.specs.LineFiles.{top_keys, line_in, line_of}
-use Rattle.line_file.specs.Canonical.{
-  terminals_data,
-  channels_data,
-  scheme_text,
-  canonical_in,
-}
+use Rattle.line_file.specs.Canonical.{terminals_data, channels_data, scheme_text, canonical_in}
+use Rattle.line_file.specs.{Times.units_per_tick, ChannelTables.channels_at}
 use Rattle.line_file.proofs.Binds.{ok_of}
 use Rattle.line_file.proofs.TerminalBack.{read_terminals, terminals_back}
-use Rattle.line_file.proofs.ChannelBack.{
-  read_channels,
-  channels_back,
-  between_back,
-  whole_back,
-  joined_back,
-}
+use Rattle.line_file.proofs.ChannelBack.{read_channels, channels_back, between_back, whole_back}
+use Rattle.line_file.proofs.ChannelBack.{joined_back}
 
 scheme_back : (s : Scheme) → scheme_named (scheme_text s) ≡ Some s
 scheme_back Pott = refl

@@ -1,68 +1,27 @@
 -- A line can be made of the values that are read.
-use Rattle.std.proofs.Common.{
-  ◌≡◌,
-  ◌≢◌,
-  ◌+◌,
-  ◌*◌,
-  ◌<◌,
-  ◌≤◌,
-  ◌||◌,
-  ◌++◌,
-  ℕ,
-  zero,
-  suc,
-  Bool,
-  true,
-  false,
-  List,
-  [],
-  ◌∷◌,
-  length,
-  get_or,
-  Ok,
-  refl,
-  sym,
-  ap,
-  subst,
-  ◌∙◌,
-  arith,
-  codes,
-  length-append,
-}
-use Rattle.std.specs.Prelude.{IsTrue}
-use Rattle.std.specs.Str.{bytes_eq}
-use Rattle.std.specs.List.{list_all, list_any}
+use Rattle.std.proofs.Common.{◌≡◌, ◌≢◌, ◌+◌, ◌*◌, ◌<◌, ◌≤◌, ◌||◌, ◌++◌, ℕ, zero, suc, Bool, true}
+use Rattle.std.proofs.Common.{false, List, [], ◌∷◌, length, get_or, Ok, refl, sym, ap, subst, ◌∙◌}
+use Rattle.std.proofs.Common.{arith, codes, length-append}
 use Rattle.std.proofs.Math.ListN.{get_or-append, get_or-map}
 use Rattle.std.proofs.Math.Nat.{mul-le-mul_left}
 use Rattle.std.proofs.Math.Seq.{get_or-append_seam}
+use Rattle.std.specs.Prelude.{IsTrue}
+use Rattle.std.specs.Str.{bytes_eq}
+use Rattle.std.specs.List.{list_all, list_any}
 use borrow.Author.Count.{below_more}
 use Rattle.std.proofs.lemmas.List.{map-append, length-map}
 use Rattle.std.proofs.lemmas.List.Folds.{list_all-append, list_any_at}
 use Rattle.std.proofs.lemmas.Slice.Eq.{bytes_eq-Decides}
 use Rattle.toml.specs.Data.{Items, no_items, item}
 use Rattle.line_model.specs.declared.bounds.Bounds.{Bounds}
-use Rattle.line_model.specs.declared.line.Scheme.{Scheme}
 use Rattle.line_model.specs.declared.line.Scheme.TheVariants.{Pott, Putt, Dcb, Dcub, Dtt}
 use Rattle.line_model.specs.declared.line.Terminal.{Terminal}
-use Rattle.line_model.specs.declared.line.Param.{Param}
-use Rattle.line_model.specs.declared.line.Line.{Line}
-use Rattle.line_model.specs.PlainNames.{is_plain_name}
-use Rattle.line_model.specs.Terminals.{
-  names_of,
-  are_plain_names,
-  NamesDiffer,
-  has_flags,
-  has_no_flag,
-  flags_fit,
-}
-use Rattle.line_model.specs.Channels.{AreChannelsBelow}
-use Rattle.line_model.specs.Settings.{
-  OwnedSetting,
-  owned_by,
-  terminal_settings,
-  channel_settings,
-  settings_of_terminals,
-}
+use Rattle.line_model.specs.Settings.{OwnedSetting, owned_by, terminal_settings, channel_settings}
+use Rattle.line_model.specs.Settings.{settings_of_terminals}
+use Rattle.line_model.specs.{declared.line.Scheme.Scheme, declared.line.Param.Param}
+use Rattle.line_model.specs.{declared.line.Line.Line, PlainNames.is_plain_name, Terminals.names_of}
+use Rattle.line_model.specs.{Terminals.are_plain_names, Terminals.NamesDiffer, Terminals.has_flags}
+use Rattle.line_model.specs.{Terminals.has_no_flag, Terminals.flags_fit, Channels.AreChannelsBelow}
 use Rattle.line_model.specs.declared.line.Owner.TheVariants as owner
 use Rattle.line_model.specs.Intervals.{leasts, greatests, AreIntervals, delay_number_of}
 use Rattle.line_model.specs.Making.{least_ends, greatest_ends, MakesLine, IsMadeOf}
@@ -70,14 +29,12 @@ use Rattle.line_model.specs.Laws.{SettingsAreCounted}
 use Rattle.line_file.specs.Paths.{item_path}
 use Rattle.line_file.specs.Lines.{LineValues, intervals_of, line_values}
 use Rattle.line_file.specs.TerminalTables.{terminal_at, terminals_at}
-use Rattle.line_file.specs.ChannelTables.{channel_at, channels_at}
-use Rattle.line_file.specs.LineFiles.{whole}
-use Rattle.line_file.proofs.Binds.{bind_ok, same_ok}
+use Rattle.line_file.specs.{ChannelTables.channel_at, ChannelTables.channels_at, LineFiles.whole}
 use Rattle.line_file.proofs.TimeLaws.{AreTimes, AreTimes-append, Grew, grew_count}
 use Rattle.line_file.proofs.TerminalLaws.{IsOneMoreTerminal, terminal_at-ok}
 use Rattle.line_file.proofs.ChannelSteps.{IsOneMoreChannel, channel_at-ok}
 use Rattle.line_file.proofs.ChannelPairs.{channels_more}
-use Rattle.line_file.proofs.WholePairs.{whole_are}
+use Rattle.line_file.proofs.{Binds.bind_ok, Binds.same_ok, WholePairs.whole_are}
 
 -- what is kept while terminals are read
 pub record TerminalsKept (v : LineValues) : Type 0 where

@@ -1,43 +1,16 @@
 -- The intervals of a line's parameters, by their places.
-use Rattle.std.proofs.Common.{
-  ◌≡◌,
-  ◌+◌,
-  ◌<◌,
-  ◌≤◌,
-  ◌++◌,
-  ℕ,
-  zero,
-  suc,
-  List,
-  [],
-  ◌∷◌,
-  length,
-  take,
-  get_or,
-  Option,
-  Some,
-  refl,
-  sym,
-  ap,
-  ◌∙◌,
-  arith,
-  length-append,
-}
-use Rattle.std.specs.Prelude.{option_map, unwrap_or}
+use Rattle.std.proofs.Common.{◌≡◌, ◌+◌, ◌<◌, ◌≤◌, ◌++◌, ℕ, zero, suc, List, [], ◌∷◌, length, take}
+use Rattle.std.proofs.Common.{get_or, Option, Some, refl, sym, ap, ◌∙◌, arith, length-append}
 use Rattle.std.proofs.lemmas.List.{take_more, length-map}
+use Rattle.std.specs.Prelude.{option_map, unwrap_or}
 use Rattle.line_model.specs.declared.bounds.Bounds.{Bounds}
-use Rattle.line_model.specs.declared.line.Line.{Line}
-use Rattle.line_model.specs.declared.line.Param.{Param}
-use Rattle.line_model.specs.declared.line.Scheme.{Scheme}
-use Rattle.line_model.specs.declared.line.Terminal.{Terminal}
-use Rattle.line_model.specs.declared.line.Owner.{Owner}
-use Rattle.line_model.specs.declared.line.Setting.{Setting}
-use Rattle.line_model.specs.Intervals.{leasts, greatests}
-use Rattle.line_model.specs.Parameters.{param_number}
 use Rattle.line_model.specs.Settings.{owned_by, terminal_settings, settings_of_terminals}
+use Rattle.line_model.specs.{declared.line.Line.Line, declared.line.Param.Param}
+use Rattle.line_model.specs.{declared.line.Scheme.Scheme, declared.line.Terminal.Terminal}
+use Rattle.line_model.specs.{declared.line.Owner.Owner, declared.line.Setting.Setting}
+use Rattle.line_model.specs.{Intervals.leasts, Intervals.greatests, Parameters.param_number}
 use Rattle.line_model.specs.declared.line.Owner.TheVariants as owner
-use Rattle.line_file.specs.Lines.{intervals_of}
-use Rattle.line_file.specs.Canonical.{interval_of, setting_interval}
+use Rattle.line_file.specs.{Lines.intervals_of, Canonical.interval_of, Canonical.setting_interval}
 use Rattle.line_file.proofs.TimeLaws.{IsTime}
 
 -- all intervals of a line

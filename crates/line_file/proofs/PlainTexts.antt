@@ -1,26 +1,13 @@
 -- Plain names are texts.
-use Rattle.std.proofs.Common.{
-  ◌≡◌,
-  ◌<◌,
-  ℕ,
-  zero,
-  suc,
-  Bool,
-  true,
-  List,
-  [],
-  ◌∷◌,
-  length,
-  get_or,
-  arith,
-}
-use Rattle.std.specs.Str.{IsAscii, IsUtf8}
-use Rattle.std.specs.List.{list_all}
+use Rattle.std.proofs.Common.{◌≡◌, ◌<◌, ℕ, zero, suc, Bool, true, List, [], ◌∷◌, length, get_or}
+use Rattle.std.proofs.Common.{arith}
 use Rattle.std.proofs.lemmas.Bool.{and_parts}
 use Rattle.std.proofs.lemmas.Bool.Decides.{nat_tests}
 use Rattle.std.proofs.lemmas.Str.{IsUtf8-from_ascii}
-use Rattle.line_model.specs.PlainNames.{is_plain_byte, is_plain_name}
+use Rattle.std.specs.Str.{IsAscii, IsUtf8}
+use Rattle.std.specs.List.{list_all}
 use Rattle.std.specs.Prelude.{nat_le}
+use Rattle.line_model.specs.PlainNames.{is_plain_byte, is_plain_name}
 
 byte_below : (b : ℕ) → is_plain_byte b ≡ true → b < 128
 byte_below b h = grind (arith, nat_tests)

@@ -1,45 +1,16 @@
 -- A table's map beside its members, when a value is put under a key.
-use Rattle.std.proofs.Common.{
-  ◌≡◌,
-  ◌+◌,
-  ◌<◌,
-  ℕ,
-  List,
-  [],
-  ◌∷◌,
-  length,
-  drop,
-  get_or,
-  map,
-  String,
-  Global,
-  Ordering,
-  Less,
-  Equal,
-  Greater,
-  string_bytes,
-  refl,
-  ◌∙◌,
-  Bor,
-}
+use Rattle.std.proofs.Common.{◌≡◌, ◌+◌, ◌<◌, ℕ, List, [], ◌∷◌, length, drop, get_or, map, String}
+use Rattle.std.proofs.Common.{Global, Ordering, Less, Equal, Greater, string_bytes, refl, ◌∙◌, Bor}
+use Rattle.std.proofs.lemmas.List.{drop_more}
 use Rattle.std.specs.String.{string_cmp}
 use Rattle.std.specs.Ordering.{match_ordering}
 use Rattle.std.specs.BTreeMap.{insert_entry}
-use Rattle.std.proofs.lemmas.List.{drop_more}
-use Rattle.toml.specs.Data.{Members}
-use Rattle.toml.specs.View.{view, members_view}
-use Rattle.toml.specs.declared.value.Value.{Value}
+use Rattle.toml.specs.{Data.Members, View.view, View.members_view, declared.value.Value.Value}
 use Rattle.toml.proofs.Views.{Entry}
 use Rattle.line_model.specs.declared.line.Line.{Line}
-use Rattle.line_model.specs.declared.line.Owner.{Owner}
-use Rattle.line_model.specs.declared.line.Setting.{Setting}
-use Rattle.line_file.specs.Canonical.{
-  put_member,
-  put_all,
-  time_data,
-  setting_interval,
-  setting_pair,
-}
+use Rattle.line_model.specs.{declared.line.Owner.Owner, declared.line.Setting.Setting}
+use Rattle.line_file.specs.Canonical.{put_member, put_all, time_data, setting_interval}
+use Rattle.line_file.specs.Canonical.{setting_pair}
 
 match_members :
     (o : Ordering) (a b c : List Entry)

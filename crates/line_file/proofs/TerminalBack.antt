@@ -1,128 +1,44 @@
 -- A printed terminal is read back.
-use Rattle.std.proofs.Common.{
-  ◌≡◌,
-  ◌≢◌,
-  ◌+◌,
-  ◌<◌,
-  ◌≤◌,
-  ◌&&◌,
-  ◌||◌,
-  ◌++◌,
-  ℕ,
-  zero,
-  suc,
-  Bool,
-  true,
-  false,
-  not,
-  List,
-  [],
-  ◌∷◌,
-  length,
-  take,
-  drop,
-  get_or,
-  Option,
-  Some,
-  Ok,
-  refl,
-  sym,
-  ap,
-  ◌∙◌,
-  arith,
-  codes,
-}
-use Rattle.std.specs.Prelude.{is_some}
-use Rattle.std.specs.Str.{bytes_eq}
-use Rattle.std.specs.List.{list_all, list_any}
+use Rattle.std.proofs.Common.{◌≡◌, ◌≢◌, ◌+◌, ◌<◌, ◌≤◌, ◌&&◌, ◌||◌, ◌++◌, ℕ, zero, suc, Bool, true}
+use Rattle.std.proofs.Common.{false, not, List, [], ◌∷◌, length, take, drop, get_or, Option, Some}
+use Rattle.std.proofs.Common.{Ok, refl, sym, ap, ◌∙◌, arith, codes}
 use Rattle.std.proofs.Math.ListN.{get_or-map}
 use Rattle.std.proofs.lemmas.Bool.{false_from_ne_true}
 use Rattle.std.proofs.lemmas.List.{append-nil, drop_all, drop_more, get_or_default, take_more}
 use Rattle.std.proofs.lemmas.Slice.Eq.{bytes_eq-Decides}
-use Rattle.toml.specs.Data.{Data, table, Members, get_member}
-use Rattle.toml.specs.View.{items_of}
-use Rattle.line_model.specs.declared.bounds.Bounds.{Bounds}
-use Rattle.line_model.specs.declared.line.Line.{Line}
-use Rattle.line_model.specs.declared.line.Scheme.{Scheme}
+use Rattle.std.specs.Prelude.{is_some}
+use Rattle.std.specs.Str.{bytes_eq}
+use Rattle.std.specs.List.{list_all, list_any}
+use Rattle.toml.specs.{Data.Data, Data.table, Data.Members, Data.get_member, View.items_of}
 use Rattle.line_model.specs.declared.line.Scheme.TheVariants.{Pott, Putt, Dcb, Dcub, Dtt}
 use Rattle.line_model.specs.declared.line.Terminal.{Terminal}
-use Rattle.line_model.specs.declared.line.Owner.{Owner}
+use Rattle.line_model.specs.{declared.bounds.Bounds.Bounds, declared.line.Line.Line}
+use Rattle.line_model.specs.{declared.line.Scheme.Scheme, declared.line.Owner.Owner}
 use Rattle.line_model.specs.declared.line.Owner.TheVariants as owner
-use Rattle.line_model.specs.declared.line.Setting.{Setting}
-use Rattle.line_model.specs.declared.line.Setting.TheVariants.{
-  Z1Pickup,
-  Z1Dropout,
-  Z2Pickup,
-  Z2Dropout,
-  RvPickup,
-  RvDropout,
-  UvPickup,
-  UvDropout,
-  ReversalPickup,
-  ReversalDropout,
-  EchoBlock,
-  EchoPickup,
-  EchoPulse,
-  BlockCarry,
-  BlockCoord,
-  TransferSecurity,
-}
+use Rattle.line_model.specs.declared.line.Setting.TheVariants.{Z1Pickup, Z1Dropout, Z2Pickup}
+use Rattle.line_model.specs.declared.line.Setting.TheVariants.{Z2Dropout, RvPickup, RvDropout}
+use Rattle.line_model.specs.declared.line.Setting.TheVariants.{UvPickup, UvDropout, ReversalPickup}
+use Rattle.line_model.specs.declared.line.Setting.TheVariants.{ReversalDropout, EchoBlock}
+use Rattle.line_model.specs.declared.line.Setting.TheVariants.{EchoPickup, EchoPulse, BlockCarry}
+use Rattle.line_model.specs.declared.line.Setting.TheVariants.{BlockCoord, TransferSecurity}
 use Rattle.line_model.specs.PlainNames.{is_plain_name}
-use Rattle.line_model.specs.Places.{terminal_place}
-use Rattle.line_model.specs.Settings.{
-  guard_settings,
-  weak_settings,
-  scheme_settings,
-  terminal_settings,
-  channel_settings,
-  settings_of_terminals,
-}
+use Rattle.line_model.specs.Settings.{guard_settings, weak_settings, scheme_settings}
+use Rattle.line_model.specs.Settings.{terminal_settings, channel_settings, settings_of_terminals}
 use Rattle.line_model.specs.Terminals.{names_of, has_flags, has_no_flag}
-use Rattle.line_model.specs.Laws.{LineLaws}
-use Rattle.line_file.specs.Paths.{joined, item_path}
-use Rattle.line_file.specs.Keys.{text_at}
+use Rattle.line_model.specs.{declared.line.Setting.Setting, Places.terminal_place, Laws.LineLaws}
 use Rattle.line_file.specs.Times.{times_in, optional_times, required_times}
-use Rattle.line_file.specs.Lines.{LineValues}
-use Rattle.line_file.specs.TerminalTables.{
-  timer_keys,
-  echo_keys,
-  name_at,
-  element_times,
-  elements_times,
-  permissive_times,
-  scheme_times,
-  terminal_named,
-  terminal_at,
-  terminals_at,
-}
-use Rattle.line_file.specs.Canonical.{
-  times_data,
-  timer_settings,
-  interval_of,
-  setting_interval,
-  terminal_members,
-  terminals_data,
-}
+use Rattle.line_file.specs.TerminalTables.{timer_keys, echo_keys, name_at, element_times}
+use Rattle.line_file.specs.TerminalTables.{elements_times, permissive_times, scheme_times}
+use Rattle.line_file.specs.TerminalTables.{terminal_named, terminal_at, terminals_at}
+use Rattle.line_file.specs.Canonical.{times_data, timer_settings, interval_of, setting_interval}
+use Rattle.line_file.specs.Canonical.{terminal_members, terminals_data}
+use Rattle.line_file.specs.{Paths.joined, Paths.item_path, Keys.text_at, Lines.LineValues}
 use Rattle.line_file.proofs.TimesBack.{timer_back, echo_back, block_back, transfer_back}
-use Rattle.line_file.proofs.TerminalHolds.{
-  members,
-  guard_value,
-  weak_value,
-  block_value,
-  transfer_value,
-  Holds,
-  holds,
-}
-use Rattle.line_file.proofs.ParamPlaces.{
-  intervals,
-  take_next,
-  times_at_place,
-  interval_at,
-  settings_within,
-}
-use Rattle.line_file.proofs.TerminalLaws.{own_settings_count}
-use Rattle.line_file.proofs.PlainTexts.{passes}
-use Rattle.line_file.proofs.Binds.{ok_of}
+use Rattle.line_file.proofs.TerminalHolds.{members, guard_value, weak_value, block_value}
+use Rattle.line_file.proofs.TerminalHolds.{transfer_value, Holds, holds}
+use Rattle.line_file.proofs.ParamPlaces.{intervals, take_next, times_at_place, interval_at}
+use Rattle.line_file.proofs.ParamPlaces.{settings_within}
+use Rattle.line_file.proofs.{TerminalLaws.own_settings_count, PlainTexts.passes, Binds.ok_of}
 
 abbrev pub before : Line → ℕ → ℕ
 before line k = length (settings_of_terminals line.scheme 0 (take k line.terminals.items))

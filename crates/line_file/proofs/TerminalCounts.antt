@@ -1,26 +1,8 @@
 -- How many terminals a file has, and their names.
-use Rattle.std.proofs.Common.{
-  ◌≡◌,
-  ◌≤◌,
-  ◌<◌,
-  ℕ,
-  zero,
-  suc,
-  List,
-  [],
-  ◌∷◌,
-  length,
-  get_or,
-  Ok,
-  Err,
-  codes,
-  refl,
-  arith,
-}
-use Rattle.toml.specs.View.{items_view}
-use Rattle.toml.specs.declared.value.Value.{Value}
-use Rattle.line_model.specs.declared.line.Terminal.{Terminal}
-use Rattle.line_model.specs.ParamNames.{name_at}
+use Rattle.std.proofs.Common.{◌≡◌, ◌≤◌, ◌<◌, ℕ, zero, suc, List, [], ◌∷◌, length, get_or, Ok, Err}
+use Rattle.std.proofs.Common.{codes, refl, arith}
+use Rattle.toml.specs.{View.items_view, declared.value.Value.Value}
+use Rattle.line_model.specs.{declared.line.Terminal.Terminal, ParamNames.name_at}
 use Rattle.line_file.specs.declared.fault.LineFault.TheVariants as fault
 use Rattle.line_file.specs.Lines.{two_or_three}
 

@@ -1,55 +1,19 @@
 -- What the printed table of a terminal holds under each key.
-use Rattle.std.proofs.Common.{
-  ◌≡◌,
-  ◌||◌,
-  ℕ,
-  Bool,
-  true,
-  false,
-  not,
-  List,
-  [],
-  ◌∷◌,
-  Option,
-  Some,
-  None,
-  Ok,
-  refl,
-  codes,
-}
+use Rattle.std.proofs.Common.{◌≡◌, ◌||◌, ℕ, Bool, true, false, not, List, [], ◌∷◌, Option, Some}
+use Rattle.std.proofs.Common.{None, Ok, refl, codes}
 use Rattle.toml.specs.Data.{Data, string, Members, get_member}
 use Rattle.line_model.specs.declared.line.Line.{Line}
-use Rattle.line_model.specs.declared.line.Scheme.{Scheme}
 use Rattle.line_model.specs.declared.line.Scheme.TheVariants.{Pott, Putt, Dcb, Dcub, Dtt}
-use Rattle.line_model.specs.declared.line.Owner.{Owner}
-use Rattle.line_model.specs.declared.line.Setting.TheVariants.{
-  Z1Pickup,
-  Z1Dropout,
-  Z2Pickup,
-  Z2Dropout,
-  RvPickup,
-  RvDropout,
-  UvPickup,
-  UvDropout,
-  ReversalPickup,
-  ReversalDropout,
-}
+use Rattle.line_model.specs.declared.line.Setting.TheVariants.{Z1Pickup, Z1Dropout, Z2Pickup}
+use Rattle.line_model.specs.declared.line.Setting.TheVariants.{Z2Dropout, RvPickup, RvDropout}
+use Rattle.line_model.specs.declared.line.Setting.TheVariants.{UvPickup, UvDropout, ReversalPickup}
+use Rattle.line_model.specs.declared.line.Setting.TheVariants.{ReversalDropout}
 use Rattle.line_model.specs.Terminals.{has_flags}
-use Rattle.line_file.specs.Keys.{all_known}
-use Rattle.line_file.specs.TerminalTables.{terminal_keys}
-use Rattle.line_file.specs.Canonical.{
-  put_all,
-  table_of,
-  times_data,
-  timer_settings,
-  echo_settings,
-  block_settings,
-  transfer_settings,
-  element_pairs,
-  guard_pairs,
-  weak_pairs,
-  scheme_pairs,
-}
+use Rattle.line_model.specs.{declared.line.Scheme.Scheme, declared.line.Owner.Owner}
+use Rattle.line_file.specs.Canonical.{put_all, table_of, times_data, timer_settings, echo_settings}
+use Rattle.line_file.specs.Canonical.{block_settings, transfer_settings, element_pairs, guard_pairs}
+use Rattle.line_file.specs.Canonical.{weak_pairs, scheme_pairs}
+use Rattle.line_file.specs.{Keys.all_known, TerminalTables.terminal_keys}
 
 module _ (unit : ℕ) (line : Line) (o : Owner) (name : List ℕ) where
   -- the members of a terminal, by what it has

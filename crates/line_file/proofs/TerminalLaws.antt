@@ -1,73 +1,25 @@
 -- What the terminals that are read keep.
-use Rattle.std.proofs.Common.{
-  ◌≡◌,
-  ◌+◌,
-  ◌<◌,
-  ◌||◌,
-  ◌++◌,
-  ℕ,
-  Bool,
-  true,
-  false,
-  not,
-  List,
-  [],
-  ◌∷◌,
-  length,
-  Option,
-  Some,
-  None,
-  Ok,
-  refl,
-  subst,
-  arith,
-  codes,
-  length-append,
-}
+use Rattle.std.proofs.Common.{◌≡◌, ◌+◌, ◌<◌, ◌||◌, ◌++◌, ℕ, Bool, true, false, not, List, [], ◌∷◌}
+use Rattle.std.proofs.Common.{length, Option, Some, None, Ok, refl, subst, arith, codes}
+use Rattle.std.proofs.Common.{length-append}
 use Rattle.std.specs.Prelude.{IsTrue, is_some}
 use Rattle.std.specs.Str.{bytes_eq}
 use Rattle.std.specs.List.{list_any}
 use Rattle.toml.specs.Data.{Data, Members, get_member}
 use Rattle.line_model.specs.declared.bounds.Bounds.{Bounds}
-use Rattle.line_model.specs.declared.line.Scheme.{Scheme}
 use Rattle.line_model.specs.declared.line.Scheme.TheVariants.{Pott, Putt, Dcb, Dcub, Dtt}
-use Rattle.line_model.specs.declared.line.Terminal.{Terminal}
-use Rattle.line_model.specs.PlainNames.{is_plain_name}
-use Rattle.line_model.specs.Terminals.{has_flags, has_no_flag}
-use Rattle.line_model.specs.Settings.{
-  guard_settings,
-  weak_settings,
-  scheme_settings,
-  terminal_settings,
-}
-use Rattle.line_file.specs.Keys.{all_known, table_in, text_at}
-use Rattle.line_file.specs.Lines.{LineValues}
-use Rattle.line_file.specs.TerminalTables.{
-  timer_keys,
-  echo_keys,
-  block_keys,
-  transfer_keys,
-  terminal_keys,
-  name_at,
-  no_times,
-  element_times,
-  elements_times,
-  permissive_times,
-  scheme_times,
-  terminal_named,
-  terminal_at,
-}
+use Rattle.line_model.specs.Settings.{guard_settings, weak_settings, scheme_settings}
+use Rattle.line_model.specs.Settings.{terminal_settings}
+use Rattle.line_model.specs.{declared.line.Scheme.Scheme, declared.line.Terminal.Terminal}
+use Rattle.line_model.specs.{PlainNames.is_plain_name, Terminals.has_flags, Terminals.has_no_flag}
+use Rattle.line_file.specs.TerminalTables.{timer_keys, echo_keys, block_keys, transfer_keys}
+use Rattle.line_file.specs.TerminalTables.{terminal_keys, name_at, no_times, element_times}
+use Rattle.line_file.specs.TerminalTables.{elements_times, permissive_times, scheme_times}
+use Rattle.line_file.specs.TerminalTables.{terminal_named, terminal_at}
+use Rattle.line_file.specs.{Keys.all_known, Keys.table_in, Keys.text_at, Lines.LineValues}
 use Rattle.line_file.proofs.Binds.{bind_ok, guard_ok, same_ok}
-use Rattle.line_file.proofs.TimeLaws.{
-  IsTime,
-  AreTimes,
-  Grew,
-  grew_none,
-  grew_more,
-  grew_as,
-  required_ok,
-  optional_ok,
-}
+use Rattle.line_file.proofs.TimeLaws.{IsTime, AreTimes, Grew, grew_none, grew_more, grew_as}
+use Rattle.line_file.proofs.TimeLaws.{required_ok, optional_ok}
 
 no_times_are : AreTimes no_times
 no_times_are =

@@ -1,12 +1,9 @@
 -- Terminals, one after another.
 use Rattle.std.proofs.Common.{◌≡◌, ◌+◌, ◌<◌, ℕ, List, drop, length, get_or, codes}
-use Rattle.toml.specs.View.{view, items_view}
-use Rattle.toml.specs.declared.value.Value.{Value}
+use Rattle.toml.specs.{View.view, View.items_view, declared.value.Value.Value}
 use Rattle.toml.proofs.Views.{items_view-drop}
-use Rattle.line_file.specs.Paths.{item_path}
-use Rattle.line_file.specs.Reading.{◌>>=◌}
-use Rattle.line_file.specs.Lines.{LineValues}
 use Rattle.line_file.specs.TerminalTables.{terminal_at, terminals_at}
+use Rattle.line_file.specs.{Paths.item_path, Reading.◌>>=◌, Lines.LineValues}
 
 -- the next terminal, and then those after it
 pub terminals_more :

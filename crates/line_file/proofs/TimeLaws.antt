@@ -1,74 +1,18 @@
 -- The intervals that are read: in order, at most 4,000 ticks, one for each key.
-use Rattle.std.proofs.Common.{
-  ◌≡◌,
-  ◌+◌,
-  ◌-◌,
-  ◌*◌,
-  ◌/◌,
-  ◌<◌,
-  ◌≤◌,
-  ◌&&◌,
-  ◌++◌,
-  ℕ,
-  ℤ,
-  pos,
-  negsuc,
-  List,
-  [],
-  ◌∷◌,
-  length,
-  Option,
-  Some,
-  None,
-  Ok,
-  refl,
-  sym,
-  ap,
-  subst,
-  ◌∙◌,
-  arith,
-  append_assoc,
-  length-append,
-  nat_le,
-  div-mul-le_self,
-}
-use Rattle.std.specs.Prelude.{IsTrue, is_some}
+use Rattle.std.proofs.Common.{◌≡◌, ◌+◌, ◌-◌, ◌*◌, ◌/◌, ◌<◌, ◌≤◌, ◌&&◌, ◌++◌, ℕ, ℤ, pos, negsuc}
+use Rattle.std.proofs.Common.{List, [], ◌∷◌, length, Option, Some, None, Ok, refl, sym, ap, subst}
+use Rattle.std.proofs.Common.{◌∙◌, arith, append_assoc, length-append, nat_le, div-mul-le_self}
 use Rattle.std.proofs.lemmas.Bool.{and_parts, leb-true}
 use Rattle.std.proofs.lemmas.List.{append-nil}
 use Rattle.std.proofs.lemmas.Nat.{le-div}
 use Rattle.std.proofs.Math.Nat.{div-lt_iff_lt-mul}
-use Rattle.toml.specs.Data.{
-  Data,
-  string,
-  integer,
-  float,
-  boolean,
-  datetime,
-  array,
-  table,
-  Members,
-  Items,
-  no_items,
-  item,
-  as_integer,
-  get_member,
-}
+use Rattle.std.specs.Prelude.{IsTrue, is_some}
+use Rattle.toml.specs.Data.{Data, string, integer, float, boolean, datetime, array, table, Members}
+use Rattle.toml.specs.Data.{Items, no_items, item, as_integer, get_member}
 use Rattle.line_model.specs.declared.bounds.Bounds.{Bounds}
-use Rattle.line_file.specs.Paths.{joined}
-use Rattle.line_file.specs.Keys.{all_known, value_at, table_in}
-use Rattle.line_file.specs.Times.{
-  in_ticks,
-  interval_in,
-  two_ends,
-  ends_in,
-  time_in,
-  time_at,
-  times_at,
-  times_in,
-  required_times,
-  times_or,
-  optional_times,
-}
+use Rattle.line_file.specs.Times.{in_ticks, interval_in, two_ends, ends_in, time_in, time_at}
+use Rattle.line_file.specs.Times.{times_at, times_in, required_times, times_or, optional_times}
+use Rattle.line_file.specs.{Paths.joined, Keys.all_known, Keys.value_at, Keys.table_in}
 use Rattle.line_file.proofs.Binds.{bind_ok, taken_ok, same_ok}
 
 -- an interval of times, the least of which is not below `fewest`

@@ -1,53 +1,23 @@
 -- Printed times are read back.
-use Rattle.std.proofs.Common.{
-  ◌≡◌,
-  ◌+◌,
-  ◌-◌,
-  ◌*◌,
-  ◌/◌,
-  ◌<◌,
-  ◌≤◌,
-  ◌++◌,
-  ℕ,
-  List,
-  [],
-  ◌∷◌,
-  Ok,
-  arith,
-  mul-le-mul_right,
-}
+use Rattle.std.proofs.Common.{◌≡◌, ◌+◌, ◌-◌, ◌*◌, ◌/◌, ◌<◌, ◌≤◌, ◌++◌, ℕ, List, [], ◌∷◌, Ok, arith}
+use Rattle.std.proofs.Common.{mul-le-mul_right}
 use Rattle.std.proofs.Math.Nat.{mul-div_left}
 use Rattle.std.proofs.lemmas.Bool.{le-leb}
 use Rattle.std.proofs.lemmas.Nat.{div-mul-add}
 use Rattle.line_model.specs.declared.bounds.Bounds.{Bounds}
-use Rattle.line_model.specs.declared.line.Line.{Line}
-use Rattle.line_model.specs.declared.line.Owner.{Owner}
 use Rattle.line_model.specs.declared.line.Setting.{Setting}
-use Rattle.line_model.specs.declared.line.Setting.TheVariants.{
-  EchoBlock,
-  EchoPickup,
-  EchoPulse,
-  BlockCarry,
-  BlockCoord,
-  TransferSecurity,
-  UnblockPickup,
-  UnblockWindow,
-  UnblockRestore,
-}
+use Rattle.line_model.specs.declared.line.Setting.TheVariants.{EchoBlock, EchoPickup, EchoPulse}
+use Rattle.line_model.specs.declared.line.Setting.TheVariants.{BlockCarry, BlockCoord}
+use Rattle.line_model.specs.declared.line.Setting.TheVariants.{TransferSecurity, UnblockPickup}
+use Rattle.line_model.specs.declared.line.Setting.TheVariants.{UnblockWindow, UnblockRestore}
+use Rattle.line_model.specs.{declared.line.Line.Line, declared.line.Owner.Owner}
 use Rattle.line_file.specs.Keys.{all_known}
 use Rattle.line_file.specs.Times.{time_in, time_at, times_at, times_in}
 use Rattle.line_file.specs.TerminalTables.{timer_keys, echo_keys, block_keys, transfer_keys}
 use Rattle.line_file.specs.ChannelTables.{unblock_keys}
-use Rattle.line_file.specs.Canonical.{
-  time_data,
-  setting_interval,
-  times_data,
-  timer_settings,
-  echo_settings,
-  block_settings,
-  transfer_settings,
-  unblock_settings,
-}
+use Rattle.line_file.specs.Canonical.{time_data, setting_interval, times_data, timer_settings}
+use Rattle.line_file.specs.Canonical.{echo_settings, block_settings, transfer_settings}
+use Rattle.line_file.specs.Canonical.{unblock_settings}
 use Rattle.line_file.proofs.TimeLaws.{IsTime}
 
 -- a printed time gives its interval

@@ -1,30 +1,11 @@
 -- Times, one after another.
-use Rattle.std.proofs.Common.{
-  ◌≡◌,
-  ◌≢◌,
-  ◌+◌,
-  ◌++◌,
-  ◌<◌,
-  ℕ,
-  List,
-  [],
-  ◌∷◌,
-  map,
-  drop,
-  length,
-  get_or,
-  Err,
-  Bor,
-  refl,
-}
+use Rattle.std.proofs.Common.{◌≡◌, ◌≢◌, ◌+◌, ◌++◌, ◌<◌, ℕ, List, [], ◌∷◌, map, drop, length, get_or}
+use Rattle.std.proofs.Common.{Err, Bor, refl}
 use Rattle.std.proofs.lemmas.List.{drop_more}
-use Rattle.toml.specs.Data.{Members}
-use Rattle.toml.specs.View.{items_view}
-use Rattle.toml.specs.declared.value.Value.{Value}
+use Rattle.toml.specs.{Data.Members, View.items_view, declared.value.Value.Value}
 use Rattle.line_model.specs.declared.bounds.Bounds.{Bounds}
 use Rattle.line_file.specs.declared.fault.LineFault.TheVariants as fault
-use Rattle.line_file.specs.Reading.{◌>>=◌}
-use Rattle.line_file.specs.Times.{ends_in, time_at, times_at}
+use Rattle.line_file.specs.{Reading.◌>>=◌, Times.ends_in, Times.time_at, Times.times_at}
 
 -- an array of other than two items is no time
 pub ends_not_two :

@@ -1,33 +1,7 @@
 -- Channels that join each pair of terminals are as many as the pairs.
-use Rattle.std.proofs.Common.{
-  ◌≡◌,
-  ◌≢◌,
-  ◌+◌,
-  ◌*◌,
-  ◌<◌,
-  ◌≤◌,
-  ◌==◌,
-  ℕ,
-  zero,
-  suc,
-  true,
-  false,
-  List,
-  [],
-  ◌∷◌,
-  map,
-  length,
-  get_or,
-  Ok,
-  cond,
-  refl,
-  sym,
-  ap,
-  ◌∙◌,
-  arith,
-  inl,
-  inr,
-}
+use Rattle.std.proofs.Common.{◌≡◌, ◌≢◌, ◌+◌, ◌*◌, ◌<◌, ◌≤◌, ◌==◌, ℕ, zero, suc, true, false, List}
+use Rattle.std.proofs.Common.{[], ◌∷◌, map, length, get_or, Ok, cond, refl, sym, ap, ◌∙◌, arith}
+use Rattle.std.proofs.Common.{inl, inr}
 use Rattle.std.proofs.Math.Dec.{eqb}
 use Rattle.std.proofs.lemmas.Bool.Decides.{eqb_tells}
 use Rattle.std.proofs.lemmas.List.{length-map}
@@ -36,18 +10,9 @@ use Rattle.std.specs.Cmp.{IsEquivalence}
 use Rattle.std.specs.Set.{is_member}
 use Rattle.std.specs.List.{list_any, IsDistinct}
 use Rattle.line_model.specs.declared.line.Terminal.{Terminal}
-use Rattle.line_model.specs.declared.line.Channel.{Channel}
-use Rattle.line_model.specs.Channels.{
-  is_pair,
-  from_of,
-  to_of,
-  IsChannel,
-  AreChannels,
-  AreChannelsBelow,
-  AreFoundBelow,
-}
-use Rattle.line_model.specs.FirstPositions.{is_some-position}
-use Rattle.line_model.specs.Channels.{channels_are}
+use Rattle.line_model.specs.Channels.{is_pair, from_of, to_of, IsChannel, AreChannels}
+use Rattle.line_model.specs.Channels.{AreChannelsBelow, AreFoundBelow, channels_are}
+use Rattle.line_model.specs.{declared.line.Channel.Channel, FirstPositions.is_some-position}
 use Rattle.line_file.specs.LineFiles.{two_pairs, three_pairs, pair_joined, all_joined, whole}
 use Rattle.line_file.proofs.Binds.{bind_ok, taken_ok}
 use Rattle.line_file.proofs.ChannelPairs.{pair_code, pair_code-at, codes_distinct}

@@ -1,70 +1,27 @@
 -- The table that is printed for a line.
-use Rattle.std.specs.Prelude.{
-  ◌*◌,
-  ◌+◌,
-  ℕ,
-  Bool,
-  true,
-  false,
-  pos,
-  List,
-  [],
-  ◌∷◌,
-  map,
-  get_or,
-  codes,
-  unwrap_or,
-}
+use Rattle.std.specs.Prelude.{◌*◌, ◌+◌, ℕ, Bool, true, false, pos, List, [], ◌∷◌, map, get_or}
+use Rattle.std.specs.Prelude.{codes, unwrap_or}
 use Rattle.std.specs.Ordering.{nat_cmp, match_ordering}
 use Rattle.std.specs.Cmp.Lexicographic.{slice_cmp}
-use Rattle.toml.specs.Data.{
-  Data,
-  string,
-  integer,
-  boolean,
-  array,
-  table,
-  Members,
-  no_members,
-  member,
-  no_items,
-  item,
-}
+use Rattle.toml.specs.Data.{Data, string, integer, boolean, array, table, Members, no_members}
+use Rattle.toml.specs.Data.{member, no_items, item}
 use Rattle.toml.specs.View.{items_of}
 use Rattle.line_model.specs.declared.line.Line.{Line}
-use Rattle.line_model.specs.declared.line.Scheme.{Scheme}
 use Rattle.line_model.specs.declared.line.Scheme.TheVariants.{Pott, Putt, Dcb, Dcub, Dtt}
-use Rattle.line_model.specs.declared.line.Terminal.{Terminal}
-use Rattle.line_model.specs.declared.line.Channel.{Channel}
-use Rattle.line_model.specs.declared.line.Owner.{Owner}
+use Rattle.line_model.specs.{declared.line.Scheme.Scheme, declared.line.Terminal.Terminal}
+use Rattle.line_model.specs.{declared.line.Channel.Channel, declared.line.Owner.Owner}
 use Rattle.line_model.specs.declared.line.Owner.TheVariants as owner
 use Rattle.line_model.specs.declared.line.Setting.{Setting}
-use Rattle.line_model.specs.declared.line.Setting.TheVariants.{
-  Z1Pickup,
-  Z1Dropout,
-  Z2Pickup,
-  Z2Dropout,
-  RvPickup,
-  RvDropout,
-  UvPickup,
-  UvDropout,
-  ReversalPickup,
-  ReversalDropout,
-  EchoBlock,
-  EchoPickup,
-  EchoPulse,
-  BlockCarry,
-  BlockCoord,
-  TransferSecurity,
-  Delay,
-  UnblockPickup,
-  UnblockWindow,
-  UnblockRestore,
-}
-use Rattle.line_model.specs.declared.bounds.Bounds.{Bounds}
-use Rattle.line_model.specs.Intervals.{leasts, greatests}
-use Rattle.line_model.specs.Parameters.{param_number}
-use Rattle.line_model.specs.ParamNames.{name_at}
+use Rattle.line_model.specs.declared.line.Setting.TheVariants.{Z1Pickup, Z1Dropout, Z2Pickup}
+use Rattle.line_model.specs.declared.line.Setting.TheVariants.{Z2Dropout, RvPickup, RvDropout}
+use Rattle.line_model.specs.declared.line.Setting.TheVariants.{UvPickup, UvDropout, ReversalPickup}
+use Rattle.line_model.specs.declared.line.Setting.TheVariants.{ReversalDropout, EchoBlock}
+use Rattle.line_model.specs.declared.line.Setting.TheVariants.{EchoPickup, EchoPulse, BlockCarry}
+use Rattle.line_model.specs.declared.line.Setting.TheVariants.{BlockCoord, TransferSecurity, Delay}
+use Rattle.line_model.specs.declared.line.Setting.TheVariants.{UnblockPickup, UnblockWindow}
+use Rattle.line_model.specs.declared.line.Setting.TheVariants.{UnblockRestore}
+use Rattle.line_model.specs.{declared.bounds.Bounds.Bounds, Intervals.leasts, Intervals.greatests}
+use Rattle.line_model.specs.{Parameters.param_number, ParamNames.name_at}
 use Rattle.line_file.specs.Times.{units_per_tick}
 
 -- a table with a value under one more key, at its place in the order of the keys

@@ -1,37 +1,17 @@
 -- What the table of a channel says.
-use Rattle.std.specs.Prelude.{
-  ◌++◌,
-  ◌+◌,
-  ◌==◌,
-  ℕ,
-  List,
-  [],
-  ◌∷◌,
-  Option,
-  None,
-  Some,
-  Result,
-  Ok,
-  Err,
-  codes,
-  if◌then◌else◌,
-}
+use Rattle.std.specs.Prelude.{◌++◌, ◌+◌, ◌==◌, ℕ, List, [], ◌∷◌, Option, None, Some, Result, Ok}
+use Rattle.std.specs.Prelude.{Err, codes, if◌then◌else◌}
 use Rattle.std.specs.Str.{bytes_eq}
 use Rattle.std.specs.List.{list_any, position_from}
 use Rattle.toml.specs.Data.{Data, Members, Items, no_items, item}
-use Rattle.line_model.specs.declared.bounds.Bounds.{Bounds}
-use Rattle.line_model.specs.declared.line.Scheme.{Scheme}
-use Rattle.line_model.specs.declared.line.Scheme.TheVariants.{Dcub}
-use Rattle.line_model.specs.declared.line.Terminal.{Terminal}
-use Rattle.line_model.specs.declared.line.Channel.{Channel}
-use Rattle.line_model.specs.Channels.{is_pair}
+use Rattle.line_model.specs.{declared.bounds.Bounds.Bounds, declared.line.Scheme.Scheme}
+use Rattle.line_model.specs.{declared.line.Scheme.TheVariants.Dcub, declared.line.Terminal.Terminal}
+use Rattle.line_model.specs.{declared.line.Channel.Channel, Channels.is_pair}
 use Rattle.line_file.specs.declared.fault.LineFault.{LineFault}
 use Rattle.line_file.specs.declared.fault.LineFault.TheVariants as fault
 use Rattle.line_file.specs.Paths.{joined, item_path}
-use Rattle.line_file.specs.Reading.{◌>>=◌}
 use Rattle.line_file.specs.Keys.{all_known, text_at, table_in}
-use Rattle.line_file.specs.Times.{time_at, required_times}
-use Rattle.line_file.specs.Lines.{LineValues}
+use Rattle.line_file.specs.{Reading.◌>>=◌, Times.time_at, Times.required_times, Lines.LineValues}
 
 -- the keys of the table of an unblocking receiver
 abbrev pub unblock_keys : List (List ℕ)

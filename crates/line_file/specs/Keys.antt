@@ -1,42 +1,14 @@
 -- The keys of a table and the values under them.
-use Rattle.std.specs.Prelude.{
-  ◌&&◌,
-  ℕ,
-  length,
-  List,
-  Bool,
-  false,
-  Option,
-  None,
-  Some,
-  Result,
-  Ok,
-  Err,
-  pos,
-  negsuc,
-  if◌then◌else◌,
-  nat_le,
-}
+use Rattle.std.specs.Prelude.{◌&&◌, ℕ, length, List, Bool, false, Option, None, Some, Result, Ok}
+use Rattle.std.specs.Prelude.{Err, pos, negsuc, if◌then◌else◌, nat_le}
 use Rattle.std.specs.Str.{bytes_eq, is_utf8}
 use Rattle.std.specs.List.{list_any}
-use Rattle.toml.specs.Data.{
-  Data,
-  string,
-  integer,
-  boolean,
-  array,
-  table,
-  Members,
-  no_members,
-  member,
-  Items,
-  get_member,
-}
+use Rattle.toml.specs.Data.{Data, string, integer, boolean, array, table, Members, no_members}
+use Rattle.toml.specs.Data.{member, Items, get_member}
 use Rattle.toml.specs.Parse.{parse_document}
 use Rattle.line_file.specs.declared.fault.LineFault.{LineFault}
 use Rattle.line_file.specs.declared.fault.LineFault.TheVariants as fault
-use Rattle.line_file.specs.Paths.{joined, shown_key}
-use Rattle.line_file.specs.Reading.{◌>>=◌}
+use Rattle.line_file.specs.{Paths.joined, Paths.shown_key, Reading.◌>>=◌}
 
 -- the table that the bytes stand for, where they are a TOML document
 abbrev pub document_of : List ℕ → Option Members

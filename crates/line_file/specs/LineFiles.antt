@@ -3,17 +3,13 @@ use Rattle.std.specs.Prelude.{◌==◌, ℕ, List, [], ◌∷◌, Result, Ok, Er
 use Rattle.std.specs.List.{list_any}
 use Rattle.toml.specs.Data.{Members}
 use Rattle.line_model.specs.declared.line.Terminal.{Terminal}
-use Rattle.line_model.specs.declared.line.Channel.{Channel}
-use Rattle.line_model.specs.Channels.{is_pair}
-use Rattle.line_model.specs.ParamNames.{name_at}
+use Rattle.line_model.specs.{declared.line.Channel.Channel, Channels.is_pair, ParamNames.name_at}
 use Rattle.line_file.specs.declared.fault.LineFault.{LineFault}
 use Rattle.line_file.specs.declared.fault.LineFault.TheVariants as fault
-use Rattle.line_file.specs.Reading.{◌>>=◌}
 use Rattle.line_file.specs.Keys.{document_of, opened, all_known, number_at}
-use Rattle.line_file.specs.Times.{units_per_tick}
 use Rattle.line_file.specs.Lines.{LineValues, head_of, terminal_items, channel_items}
 use Rattle.line_file.specs.TerminalTables.{terminals_at}
-use Rattle.line_file.specs.ChannelTables.{channels_at}
+use Rattle.line_file.specs.{Reading.◌>>=◌, Times.units_per_tick, ChannelTables.channels_at}
 
 -- the keys at the top of the file
 abbrev pub top_keys : List (List ℕ)

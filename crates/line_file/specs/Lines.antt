@@ -1,30 +1,14 @@
 -- The values of a line, as its file gives them.
-use Rattle.std.specs.Prelude.{
-  ℕ,
-  Bool,
-  List,
-  [],
-  Result,
-  Ok,
-  Err,
-  codes,
-  map,
-  Option,
-  None,
-  Some,
-  if◌then◌else◌,
-}
+use Rattle.std.specs.Prelude.{ℕ, Bool, List, [], Result, Ok, Err, codes, map, Option, None, Some}
+use Rattle.std.specs.Prelude.{if◌then◌else◌}
 use Rattle.std.specs.Str.{bytes_eq}
 use Rattle.toml.specs.Data.{Members, Items, no_items, item, get_member}
 use Rattle.line_model.specs.declared.bounds.Bounds.{Bounds}
-use Rattle.line_model.specs.declared.line.Scheme.{Scheme}
 use Rattle.line_model.specs.declared.line.Scheme.TheVariants.{Pott, Putt, Dcb, Dcub, Dtt}
 use Rattle.line_model.specs.declared.line.Line.{Line}
-use Rattle.line_model.specs.declared.line.Param.{Param}
-use Rattle.line_model.specs.declared.line.Terminal.{Terminal}
-use Rattle.line_model.specs.declared.line.Channel.{Channel}
-use Rattle.line_file.specs.declared.draft.Draft.{Draft}
-use Rattle.line_file.specs.declared.fault.LineFault.{LineFault}
+use Rattle.line_model.specs.{declared.line.Scheme.Scheme, declared.line.Param.Param}
+use Rattle.line_model.specs.{declared.line.Terminal.Terminal, declared.line.Channel.Channel}
+use Rattle.line_file.specs.{declared.draft.Draft.Draft, declared.fault.LineFault.LineFault}
 use Rattle.line_file.specs.declared.fault.LineFault.TheVariants as fault
 use Rattle.line_file.specs.Reading.{◌>>=◌}
 use Rattle.line_file.specs.Keys.{number_at, text_at, flag_or_false, array_at}

@@ -1,17 +1,5 @@
 -- Places in a line file, as they are written in faults.
-use Rattle.std.specs.Prelude.{
-  ◌++◌,
-  ◌&&◌,
-  ℕ,
-  List,
-  [],
-  ◌∷◌,
-  map,
-  take,
-  codes,
-  nat_le,
-  if◌then◌else◌,
-}
+use Rattle.std.specs.Prelude.{◌++◌, ◌&&◌, ℕ, List, [], ◌∷◌, map, take, codes, nat_le, if◌then◌else◌}
 use Rattle.std.specs.Fmt.{decimal}
 
 -- A key of the table at a path: both, joined by a dot. The path of the file itself is empty.

@@ -1,36 +1,18 @@
 -- What the table of a terminal says.
-use Rattle.std.specs.Prelude.{
-  ◌++◌,
-  ◌&&◌,
-  ◌+◌,
-  ℕ,
-  not,
-  List,
-  [],
-  ◌∷◌,
-  Result,
-  Ok,
-  Err,
-  codes,
-  is_some,
-  if◌then◌else◌,
-}
+use Rattle.std.specs.Prelude.{◌++◌, ◌&&◌, ◌+◌, ℕ, not, List, [], ◌∷◌, Result, Ok, Err, codes}
+use Rattle.std.specs.Prelude.{is_some, if◌then◌else◌}
 use Rattle.std.specs.Str.{bytes_eq}
 use Rattle.std.specs.List.{list_any}
 use Rattle.toml.specs.Data.{Data, Members, Items, no_items, item, get_member}
 use Rattle.line_model.specs.declared.bounds.Bounds.{Bounds}
-use Rattle.line_model.specs.declared.line.Scheme.{Scheme}
 use Rattle.line_model.specs.declared.line.Scheme.TheVariants.{Pott, Putt, Dcb, Dcub, Dtt}
-use Rattle.line_model.specs.declared.line.Terminal.{Terminal}
-use Rattle.line_model.specs.PlainNames.{is_plain_name}
-use Rattle.line_model.specs.Terminals.{has_flags}
+use Rattle.line_model.specs.{declared.line.Scheme.Scheme, declared.line.Terminal.Terminal}
+use Rattle.line_model.specs.{PlainNames.is_plain_name, Terminals.has_flags}
 use Rattle.line_file.specs.declared.fault.LineFault.{LineFault}
 use Rattle.line_file.specs.declared.fault.LineFault.TheVariants as fault
 use Rattle.line_file.specs.Paths.{joined, item_path}
-use Rattle.line_file.specs.Reading.{◌>>=◌}
-use Rattle.line_file.specs.Keys.{all_known, text_at, table_in}
-use Rattle.line_file.specs.Times.{optional_times, required_times}
-use Rattle.line_file.specs.Lines.{LineValues}
+use Rattle.line_file.specs.{Reading.◌>>=◌, Keys.all_known, Keys.text_at, Keys.table_in}
+use Rattle.line_file.specs.{Times.optional_times, Times.required_times, Lines.LineValues}
 
 -- the keys of the tables that have only times
 abbrev pub timer_keys : List (List ℕ)

@@ -1,45 +1,13 @@
 -- Times, as a line file writes them, and the tables that have only times.
-use Rattle.std.specs.Prelude.{
-  ◌+◌,
-  ◌-◌,
-  ◌*◌,
-  ◌/◌,
-  ◌&&◌,
-  ◌==◌,
-  ◌++◌,
-  ℕ,
-  ℤ,
-  pos,
-  negsuc,
-  List,
-  [],
-  ◌∷◌,
-  Option,
-  None,
-  Some,
-  Result,
-  Ok,
-  Err,
-  if◌then◌else◌,
-  nat_le,
-}
-use Rattle.toml.specs.Data.{
-  Data,
-  integer,
-  array,
-  Members,
-  Items,
-  no_items,
-  item,
-  as_integer,
-  get_member,
-}
+use Rattle.std.specs.Prelude.{◌+◌, ◌-◌, ◌*◌, ◌/◌, ◌&&◌, ◌==◌, ◌++◌, ℕ, ℤ, pos, negsuc, List, []}
+use Rattle.std.specs.Prelude.{◌∷◌, Option, None, Some, Result, Ok, Err, if◌then◌else◌, nat_le}
+use Rattle.toml.specs.Data.{Data, integer, array, Members, Items, no_items, item, as_integer}
+use Rattle.toml.specs.Data.{get_member}
 use Rattle.line_model.specs.declared.bounds.Bounds.{Bounds}
 use Rattle.line_file.specs.declared.fault.LineFault.{LineFault}
 use Rattle.line_file.specs.declared.fault.LineFault.TheVariants as fault
 use Rattle.line_file.specs.Paths.{joined}
-use Rattle.line_file.specs.Reading.{◌>>=◌}
-use Rattle.line_file.specs.Keys.{all_known, value_at, table_in}
+use Rattle.line_file.specs.{Reading.◌>>=◌, Keys.all_known, Keys.value_at, Keys.table_in}
 
 -- How many units of time a tick has: version 1 writes ticks, version 2 microseconds.
 abbrev pub units_per_tick : ℕ → ℕ → ℕ

@@ -1,24 +1,13 @@
 //! The canonical table of a line.
 
 ghost use Rattle.std.specs.Prelude.{◌≡◌, ◌<◌, ◌≤◌, true, pos, IfOk, OnOk, map, length};
-ghost use Rattle.toml.specs.Data.{table, string, integer};
-ghost use Rattle.toml.specs.View.{view, table_view};
+ghost use Rattle.toml.specs.{Data.table, Data.string, Data.integer, View.view, View.table_view};
 ghost use Rattle.line_model.specs.PlainNames.{is_plain_name};
-ghost use Rattle.line_model.specs.Parameters.{IsOwner};
-ghost use Rattle.line_model.specs.ParamNames.{name_at};
+ghost use Rattle.line_model.specs.{Parameters.IsOwner, ParamNames.name_at};
 ghost use Rattle.line_model.specs.declared.line.Owner.TheVariants as owner;
-ghost use Rattle.line_file.specs.Canonical.{
-  put_member,
-  put_all,
-  terminal_members,
-  terminals_data,
-  receiver_pairs,
-  channel_members,
-  channels_data,
-  scheme_text,
-  head_pairs,
-  canonical_in,
-};
+ghost use Rattle.line_file.specs.Canonical.{put_member, put_all, terminal_members, terminals_data};
+ghost use Rattle.line_file.specs.Canonical.{receiver_pairs, channel_members, channels_data};
+ghost use Rattle.line_file.specs.Canonical.{scheme_text, head_pairs, canonical_in};
 
 use crate::table::{put, put_by_scheme, put_elements, put_guard, put_times, put_weak, time};
 use line_model::{Channel, Line, Memory, Name, Owner, Scheme, Setting, Terminal};

@@ -4,18 +4,9 @@ ghost use Rattle.std.specs.Prelude.{◌≡◌, ◌<◌, ◌≤◌, [], IfSome, O
 ghost use Rattle.std.specs.List.{list_any};
 ghost use Rattle.toml.specs.View.{view, table_view, items_view};
 ghost use Rattle.line_model.specs.Channels.{is_pair};
-ghost use Rattle.line_file.specs.Reading.{Becomes};
-ghost use Rattle.line_file.specs.Lines.{values_of};
-ghost use Rattle.line_file.specs.ChannelTables.{
-  channel_keys,
-  terminal_called,
-  from_at,
-  to_at,
-  ends_at,
-  receiver_times,
-  channel_at,
-  channels_at,
-};
+ghost use Rattle.line_file.specs.ChannelTables.{channel_keys, terminal_called, from_at, to_at};
+ghost use Rattle.line_file.specs.ChannelTables.{ends_at, receiver_times, channel_at, channels_at};
+ghost use Rattle.line_file.specs.{Reading.Becomes, Lines.values_of};
 
 use crate::draft::Draft;
 use crate::fault::LineFault;

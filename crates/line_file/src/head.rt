@@ -3,16 +3,8 @@
 ghost use Rattle.std.specs.Prelude.{◌≡◌, ◌≤◌, [], IfOk, length};
 ghost use Rattle.toml.specs.View.{table_view, items_view};
 ghost use Rattle.line_file.specs.Reading.{seen};
-ghost use Rattle.line_file.specs.Lines.{
-  values_of,
-  scheme_named,
-  scheme_of,
-  zone1_trip_of,
-  head_of,
-  two_or_three,
-  terminal_items,
-  channel_items,
-};
+ghost use Rattle.line_file.specs.Lines.{values_of, scheme_named, scheme_of, zone1_trip_of, head_of};
+ghost use Rattle.line_file.specs.Lines.{two_or_three, terminal_items, channel_items};
 
 use crate::draft::Draft;
 use crate::fault::LineFault;

@@ -3,24 +3,11 @@
 ghost use Rattle.std.specs.Prelude.{◌≡◌, ◌≤◌, ◌+◌, IfOk, map, option_map, length};
 ghost use Rattle.std.specs.Str.{bytes_eq};
 ghost use Rattle.std.specs.List.{list_any};
-ghost use Rattle.toml.specs.Data.{get_member};
-ghost use Rattle.toml.specs.View.{view, table_view, items_view};
+ghost use Rattle.toml.specs.{Data.get_member, View.view, View.table_view, View.items_view};
 ghost use Rattle.line_file.specs.Reading.{Gives, seen};
-ghost use Rattle.line_file.specs.Keys.{
-  document_of,
-  opened,
-  first_unknown,
-  all_known,
-  value_at,
-  number_in,
-  number_at,
-  text_in,
-  text_at,
-  flag_or_false,
-  array_in,
-  array_at,
-  table_in,
-};
+ghost use Rattle.line_file.specs.Keys.{document_of, opened, first_unknown, all_known, value_at};
+ghost use Rattle.line_file.specs.Keys.{number_in, number_at, text_in, text_at, flag_or_false};
+ghost use Rattle.line_file.specs.Keys.{array_in, array_at, table_in};
 
 use crate::fault::LineFault;
 use crate::path::Path;

@@ -2,8 +2,7 @@
 
 ghost use Rattle.std.specs.Prelude.{◌≡◌, ℕ, List, Some};
 ghost use Rattle.toml.specs.View.{table_view};
-ghost use Rattle.line_file.specs.Keys.{first_unknown};
-ghost use Rattle.line_file.specs.LeastUnknown.{IsLeastUnknown};
+ghost use Rattle.line_file.specs.{Keys.first_unknown, LeastUnknown.IsLeastUnknown};
 
 use toml::Table;
 

@@ -2,13 +2,7 @@
 
 ghost use Rattle.std.specs.Prelude.{◌≡◌, ◌<◌, ◌≤◌, length};
 ghost use Rattle.line_model.specs.ParamNames.{name_at};
-ghost use Rattle.line_file.specs.LineFiles.{
-  two_pairs,
-  three_pairs,
-  pair_joined,
-  all_joined,
-  whole,
-};
+ghost use Rattle.line_file.specs.LineFiles.{two_pairs, three_pairs, pair_joined, all_joined, whole};
 
 use crate::channel::has_pair;
 use crate::fault::LineFault;

@@ -2,10 +2,8 @@
 
 ghost use Rattle.std.specs.Prelude.{◌≡◌, ◌≤◌, false, Some, Ok, IfOk};
 ghost use Rattle.toml.specs.Text.{IsDocumentText};
-ghost use Rattle.line_file.specs.Keys.{document_of};
-ghost use Rattle.line_file.specs.Lines.{line_values};
-ghost use Rattle.line_file.specs.LineFiles.{line_of};
 ghost use Rattle.line_file.specs.Canonical.{canonical_in, canonical};
+ghost use Rattle.line_file.specs.{Keys.document_of, Lines.line_values, LineFiles.line_of};
 
 use crate::canonical;
 use line_model::laws::line_laws;

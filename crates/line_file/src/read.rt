@@ -3,9 +3,8 @@
 ghost use Rattle.std.specs.Prelude.{◌<◌, Ok, IfOk};
 ghost use Rattle.toml.specs.View.{table_view};
 ghost use Rattle.line_model.specs.Making.{MakesLine};
-ghost use Rattle.line_file.specs.Reading.{Gives};
 ghost use Rattle.line_file.specs.Lines.{line_values, values_of};
-ghost use Rattle.line_file.specs.LineFiles.{line_in, line_of};
+ghost use Rattle.line_file.specs.{Reading.Gives, LineFiles.line_in, LineFiles.line_of};
 
 use crate::channel::channels;
 use crate::draft::Draft;

@@ -1,23 +1,12 @@
 //! The tables that are printed for a line.
 
 ghost use Rattle.std.specs.Prelude.{◌≡◌, ◌<◌, ◌≤◌, ◌*◌, pos, IfOk, OnOk, map};
-ghost use Rattle.toml.specs.Data.{table, integer};
-ghost use Rattle.toml.specs.View.{view, table_view};
+ghost use Rattle.toml.specs.{Data.table, Data.integer, View.view, View.table_view};
 ghost use Rattle.line_model.specs.Parameters.{IsOwner};
 ghost use Rattle.line_model.specs.declared.line.Owner.TheVariants as owner;
-ghost use Rattle.line_file.specs.Canonical.{
-  put_member,
-  put_all,
-  time_data,
-  interval_of,
-  setting_interval,
-  times_data,
-  timer_settings,
-  element_pairs,
-  guard_pairs,
-  weak_pairs,
-  scheme_pairs,
-};
+ghost use Rattle.line_file.specs.Canonical.{put_member, put_all, time_data, interval_of};
+ghost use Rattle.line_file.specs.Canonical.{setting_interval, times_data, timer_settings};
+ghost use Rattle.line_file.specs.Canonical.{element_pairs, guard_pairs, weak_pairs, scheme_pairs};
 
 use line_model::{Bounds, Channel, Line, Memory, Owner, Scheme, Setting, Terminal};
 use std::alloc::Global;

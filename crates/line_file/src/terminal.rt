@@ -5,20 +5,10 @@ ghost use Rattle.std.specs.Str.{bytes_eq};
 ghost use Rattle.std.specs.List.{list_any};
 ghost use Rattle.toml.specs.View.{view, table_view, items_view};
 ghost use Rattle.line_model.specs.Terminals.{has_flags};
-ghost use Rattle.line_file.specs.Reading.{Becomes};
-ghost use Rattle.line_file.specs.Lines.{values_of};
-ghost use Rattle.line_file.specs.TerminalTables.{
-  terminal_keys,
-  name_in,
-  name_at,
-  element_times,
-  elements_times,
-  permissive_times,
-  scheme_times,
-  terminal_named,
-  terminal_at,
-  terminals_at,
-};
+ghost use Rattle.line_file.specs.TerminalTables.{terminal_keys, name_in, name_at, element_times};
+ghost use Rattle.line_file.specs.TerminalTables.{elements_times, permissive_times, scheme_times};
+ghost use Rattle.line_file.specs.TerminalTables.{terminal_named, terminal_at, terminals_at};
+ghost use Rattle.line_file.specs.{Reading.Becomes, Lines.values_of};
 
 use crate::draft::Draft;
 use crate::fault::LineFault;

@@ -3,20 +3,10 @@
 ghost use Rattle.std.specs.Prelude.{◌≡◌, ◌<◌, ◌≤◌, ◌+◌, map, length, IsTrue};
 ghost use Rattle.std.specs.List.{list_all};
 ghost use Rattle.toml.specs.View.{view, table_view, items_view};
-ghost use Rattle.line_file.specs.Reading.{Becomes};
-ghost use Rattle.line_file.specs.Keys.{is_short};
-ghost use Rattle.line_file.specs.Times.{
-  units_per_tick,
-  in_ticks,
-  interval_in,
-  ends_in,
-  time_in,
-  time_at,
-  times_at,
-  times_in,
-  optional_times,
-  required_times,
-};
+ghost use Rattle.line_file.specs.Times.{units_per_tick, in_ticks, interval_in, ends_in, time_in};
+ghost use Rattle.line_file.specs.Times.{time_at, times_at, times_in, optional_times};
+ghost use Rattle.line_file.specs.Times.{required_times};
+ghost use Rattle.line_file.specs.{Reading.Becomes, Keys.is_short};
 
 use crate::fault::LineFault;
 use crate::keys::{find, only, table_of, value};

@@ -2,45 +2,21 @@
 use Rattle.std.proofs.Common.{ℕ, ◌<◌, refl, sym, subst, arith}
 use Rattle.history.specs.Laws.{HistoryLaws}
 use Rattle.history.specs.Rails.{Rails, Ends, Covers, RailsCover, IsPartOf}
-use Rattle.line_model.specs.declared.line.Line.{Line}
-use Rattle.line_model.specs.declared.script.Script.{Script}
-use Rattle.line_model.specs.declared.formula.Time.{Time}
 use Rattle.line_model.specs.declared.formula.Time.TheVariants.{Zero, Param}
-use Rattle.line_model.specs.Parameters.{param_count}
-use Rattle.line_model.specs.Names.{HasTime, Names}
-use Rattle.line_model.specs.Tree.{Tree}
-use Rattle.line_model.specs.Mean.{mean}
 use Rattle.line_model.specs.PairMean.{PairWorld, PairSignals, pair_mean}
-use Rattle.line_model.specs.Choice.{
-  Choice,
-  Box,
-  IsIn,
-  IsWithin,
-  IsBoxWithin,
-  LeastFromOne,
-  point_box,
-  ends_by,
-  world_of,
-  pair_world_of,
-}
-use Rattle.line_model.specs.Logic.{key_tree, trip_tree}
-use Rattle.line_model.specs.Histories.{
-  History,
-  IsLineHistory,
-  PairHistory,
-  IsPairHistory,
-  CoversHistory,
-  CoversPairHistory,
-  AreCovered,
-  with_derived_trips,
-}
-use Rattle.line_model.specs.Solution.{IsDelayed}
-use Rattle.line_model.specs.Covering.{IsWider, CoverBefore}
-use Rattle.line_model.proofs.LogicNames.{names_trip_tree}
+use Rattle.line_model.specs.Choice.{Choice, Box, IsIn, IsWithin, IsBoxWithin, LeastFromOne}
+use Rattle.line_model.specs.Choice.{point_box, ends_by, world_of, pair_world_of}
+use Rattle.line_model.specs.Histories.{History, IsLineHistory, PairHistory, IsPairHistory}
+use Rattle.line_model.specs.Histories.{CoversHistory, CoversPairHistory, AreCovered}
+use Rattle.line_model.specs.Histories.{with_derived_trips}
+use Rattle.line_model.specs.{declared.line.Line.Line, declared.script.Script.Script}
+use Rattle.line_model.specs.{declared.formula.Time.Time, Parameters.param_count, Names.HasTime}
+use Rattle.line_model.specs.{Names.Names, Tree.Tree, Mean.mean, Logic.key_tree, Logic.trip_tree}
+use Rattle.line_model.specs.{Solution.IsDelayed, Covering.IsWider, Covering.CoverBefore}
 use Rattle.line_model.proofs.CoverLaws.{pair_mean-wider, claims_wider, solution_wider}
-use Rattle.line_model.proofs.PlainLaws.{lifted}
 use Rattle.line_model.proofs.WorldLaws.{pair_world_delayed}
 use Rattle.line_model.proofs.HistoryLaws.{keys_named, point_mean, point_history}
+use Rattle.line_model.proofs.{LogicNames.names_trip_tree, PlainLaws.lifted}
 
 -- intervals by number are part of one another where those of the parameters are
 time_part : (line : Line) (inner outer : ℕ → Ends)

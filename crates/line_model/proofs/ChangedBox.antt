@@ -1,18 +1,15 @@
 -- The declared box of a line with another interval for one parameter.
-use Rattle.std.proofs.Common.{◌≡◌, ◌<◌, ℕ, List, length, get_or, set, sym, ◌∙◌, ap, arith, inl, inr, eq-eqb, cond}
-use Rattle.std.specs.Prelude.{Bool}
+use Rattle.std.proofs.Common.{◌≡◌, ◌<◌, ℕ, List, length, get_or, set, sym, ◌∙◌, ap, arith, inl, inr}
+use Rattle.std.proofs.Common.{eq-eqb, cond}
 use Rattle.std.proofs.lemmas.Bool.{cases_eq, ne_eqb}
 use Rattle.std.proofs.lemmas.List.{length-map, get_or-set_same, get_or-set_other}
+use Rattle.std.specs.Prelude.{Bool}
 use Rattle.history.specs.Rails.{Ends}
-use Rattle.line_model.specs.declared.line.Line.{Line}
-use Rattle.line_model.specs.Intervals.{leasts, greatests}
 use Rattle.line_model.specs.Parameters.{param_count, channel_count, delay_param, declared_ends}
-use Rattle.line_model.specs.SetBounds.{IsDelayAt}
-use Rattle.line_model.specs.Choice.{declared_box}
-use Rattle.line_model.proofs.DeclaredLaws.{delay_at}
-use Rattle.line_model.specs.WithBounds.{IsWithBounds}
 use Rattle.line_model.specs.Boxes.{ends_with, box_with, declared_with, IsSameBox}
-use Rattle.line_model.proofs.SameCounts.{delay_same}
+use Rattle.line_model.specs.{declared.line.Line.Line, Intervals.leasts, Intervals.greatests}
+use Rattle.line_model.specs.{SetBounds.IsDelayAt, Choice.declared_box, WithBounds.IsWithBounds}
+use Rattle.line_model.proofs.{DeclaredLaws.delay_at, SameCounts.delay_same}
 
 -- at the parameter the new interval, elsewhere the old one
 pub ends_with-here : (ends : ℕ → Ends) (param : ℕ) (new : Ends) (i : ℕ) → i ≡ param

@@ -3,11 +3,10 @@ use Rattle.std.proofs.Common.{◌<◌, ℕ, refl, sym, subst, inl, inr}
 use Rattle.std.proofs.lemmas.Bool.{cases_eq}
 use Rattle.history.specs.Rails.{Ends}
 use Rattle.line_model.specs.declared.line.Line.{Line}
-use Rattle.line_model.specs.Parameters.{param_count}
 use Rattle.line_model.specs.SetBounds.{SameButParams, IsDelayAt}
 use Rattle.line_model.specs.Choice.{Choice, Box, IsIn, IsWithin, IsInside, declared_box}
 use Rattle.line_model.specs.WithBounds.{IsWithBounds}
-use Rattle.line_model.specs.Boxes.{box_with, IsSameBox}
+use Rattle.line_model.specs.{Parameters.param_count, Boxes.box_with, Boxes.IsSameBox}
 use Rattle.line_model.proofs.SameCounts.{channels_same, params_same}
 use Rattle.line_model.proofs.ChangedBox.{ends_with-here, ends_with-elsewhere, number_changed}
 

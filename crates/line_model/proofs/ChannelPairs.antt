@@ -1,11 +1,14 @@
 -- The channel between two terminals.
-use Rattle.std.proofs.Common.{◌≡◌, ◌≢◌, ◌==◌, ℕ, suc, ◌+◌, ◌<◌, Bool, true, false, List, [], ◌∷◌, Option, Some, None, length, get_or, cond, refl, ap, ◌∙◌, arith, subst, sym}
-use Rattle.std.specs.Prelude.{◌↔◌, IsSome, IfSome, is_some}
-use Rattle.std.specs.List.{position_from}
+use Rattle.std.proofs.Common.{◌≡◌, ◌≢◌, ◌==◌, ℕ, suc, ◌+◌, ◌<◌, Bool, true, false, List, [], ◌∷◌}
+use Rattle.std.proofs.Common.{Option, Some, None, length, get_or, cond, refl, ap, ◌∙◌, arith, subst}
+use Rattle.std.proofs.Common.{sym}
 use Rattle.std.proofs.lemmas.Bool.{eqb-true}
 use Rattle.std.proofs.lemmas.List.{get_or-map}
+use Rattle.std.specs.Prelude.{◌↔◌, IsSome, IfSome, is_some}
+use Rattle.std.specs.List.{position_from}
 use Rattle.line_model.specs.declared.line.Channel.{Channel}
-use Rattle.line_model.specs.Channels.{is_pair, channel_number, from_of, to_of, AreChannels, AreChannelsBelow}
+use Rattle.line_model.specs.Channels.{is_pair, channel_number, from_of, to_of, AreChannels}
+use Rattle.line_model.specs.Channels.{AreChannelsBelow}
 use Rattle.line_model.proofs.Conjunctions.{and_left, and_right}
 
 -- channel m of the list goes from j to k

@@ -1,15 +1,11 @@
 -- A copy's lists are the line's, so it keeps the line's laws.
 use Rattle.std.proofs.Common.{◌≡◌, ◌≤◌, List, length, sym, subst}
 use Rattle.std.specs.Prelude.{map, IsTrue}
-use Rattle.line_model.specs.declared.line.Line.{Line}
-use Rattle.line_model.specs.declared.line.Terminal.{Terminal}
-use Rattle.line_model.specs.declared.line.Channel.{Channel}
-use Rattle.line_model.specs.declared.line.Param.{Param}
 use Rattle.line_model.specs.Terminals.{are_plain_names, NamesDiffer, flags_fit}
-use Rattle.line_model.specs.Channels.{AreChannels}
-use Rattle.line_model.specs.Settings.{line_settings}
-use Rattle.line_model.specs.ParamNames.{param_name}
 use Rattle.line_model.specs.Intervals.{leasts, greatests, AreIntervals, LeastDelaysFromOne}
+use Rattle.line_model.specs.{declared.line.Line.Line, declared.line.Terminal.Terminal}
+use Rattle.line_model.specs.{declared.line.Channel.Channel, declared.line.Param.Param}
+use Rattle.line_model.specs.{Channels.AreChannels, Settings.line_settings, ParamNames.param_name}
 
 module _
     (line : Line) (ts : List Terminal) (cs : List Channel) (ps : List Param)

@@ -1,58 +1,21 @@
 -- How many settings a line has.
-use Rattle.std.proofs.Common.{
-  ◌≡◌,
-  ◌≤◌,
-  ◌||◌,
-  ◌&&◌,
-  ◌++◌,
-  ℕ,
-  suc,
-  ◌+◌,
-  ◌*◌,
-  ◌-◌,
-  ◌<◌,
-  Bool,
-  true,
-  false,
-  not,
-  List,
-  [],
-  ◌∷◌,
-  length,
-  take,
-  get_or,
-  refl,
-  sym,
-  ap,
-  ◌∙◌,
-  arith,
-  length-append,
-}
-use Rattle.std.specs.List.{list_all}
+use Rattle.std.proofs.Common.{◌≡◌, ◌≤◌, ◌||◌, ◌&&◌, ◌++◌, ℕ, suc, ◌+◌, ◌*◌, ◌-◌, ◌<◌, Bool, true}
+use Rattle.std.proofs.Common.{false, not, List, [], ◌∷◌, length, take, get_or, refl, sym, ap, ◌∙◌}
+use Rattle.std.proofs.Common.{arith, length-append}
 use Rattle.std.proofs.Math.Nat.{mul-le-mul, mul-le-mul_right}
 use Rattle.std.proofs.lemmas.List.{length-map, take_more}
+use Rattle.std.specs.List.{list_all}
 use Rattle.line_model.specs.declared.line.Line.{Line}
-use Rattle.line_model.specs.declared.line.Scheme.{Scheme}
 use Rattle.line_model.specs.declared.line.Scheme.TheVariants.{Pott, Putt, Dcb, Dcub, Dtt}
-use Rattle.line_model.specs.declared.line.Terminal.{Terminal}
-use Rattle.line_model.specs.declared.line.Channel.{Channel}
-use Rattle.line_model.specs.declared.line.Owner.{Owner}
+use Rattle.line_model.specs.{declared.line.Scheme.Scheme, declared.line.Terminal.Terminal}
+use Rattle.line_model.specs.{declared.line.Channel.Channel, declared.line.Owner.Owner}
 use Rattle.line_model.specs.declared.line.Owner.TheVariants as owner
 use Rattle.line_model.specs.declared.line.Setting.{Setting}
 use Rattle.line_model.specs.Terminals.{has_flags, has_no_flag, flags_fit}
-use Rattle.line_model.specs.Settings.{
-  OwnedSetting,
-  owned_by,
-  base_settings,
-  guard_settings,
-  weak_settings,
-  scheme_settings,
-  settings_of_terminals,
-  settings_of_channels,
-  terminal_settings,
-  channel_settings,
-  line_settings,
-}
+use Rattle.line_model.specs.Settings.{OwnedSetting, owned_by, base_settings, guard_settings}
+use Rattle.line_model.specs.Settings.{weak_settings, scheme_settings, settings_of_terminals}
+use Rattle.line_model.specs.Settings.{settings_of_channels, terminal_settings, channel_settings}
+use Rattle.line_model.specs.Settings.{line_settings}
 use Rattle.line_model.proofs.Numbers.{length-line_settings}
 
 length-owned_by : (o : Owner) (ss : List Setting) → length (owned_by o ss) ≡ length ss

@@ -1,28 +1,14 @@
 -- In a wider world each pair covers that of the narrower one.
-use Rattle.std.proofs.Common.{
-  ◌≡◌,
-  ◌∙◌,
-  ℕ,
-  zero,
-  suc,
-  ◌<◌,
-  ◌≤◌,
-  Bool,
-  refl,
-  sym,
-  subst,
-  arith,
-  ⊎_elim,
-}
+use Rattle.std.proofs.Common.{◌≡◌, ◌∙◌, ℕ, zero, suc, ◌<◌, ◌≤◌, Bool, refl, sym, subst, arith}
+use Rattle.std.proofs.Common.{⊎_elim}
 use Rattle.std.proofs.lemmas.Bool.{cases_lt}
 use Rattle.history.specs.Laws.{HistoryLaws}
 use Rattle.history.specs.Rails.{Rails, both, rails_delayed, RailsCover}
 use Rattle.line_model.specs.declared.line.Line.{Line}
-use Rattle.line_model.specs.Names.{Names, AllNamed}
 use Rattle.line_model.specs.Tree.{Tree, Const, Seen, Loss, Raw, Not, And, Or, Timer, Seal}
 use Rattle.line_model.specs.PairMean.{PairWorld, PairSignals, pair_mean}
-use Rattle.line_model.specs.Solution.{IsDelayed, Solves}
 use Rattle.line_model.specs.Covering.{IsWider, CoverBefore, CoverOwn}
+use Rattle.line_model.specs.{Names.Names, Names.AllNamed, Solution.IsDelayed, Solution.Solves}
 
 covers_same : (x y : Bool) → x ≡ y → RailsCover (both x) (both y)
 covers_same x y e = record { must = λ h. sym e ∙ h; may = λ h. e ∙ h }

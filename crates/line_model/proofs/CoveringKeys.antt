@@ -1,28 +1,14 @@
 -- Over keys that cover a history the pair of each tree covers the tree's value.
 use Rattle.std.proofs.Common.{◌<◌, ℕ, subst}
-use Rattle.history.specs.Laws.{HistoryLaws}
-use Rattle.history.specs.Rails.{Rails, Covers, RailsCover}
-use Rattle.line_model.specs.declared.line.Line.{Line}
-use Rattle.line_model.specs.declared.script.Script.{Script}
-use Rattle.line_model.specs.Parameters.{terminal_count}
-use Rattle.line_model.specs.Names.{Names}
-use Rattle.line_model.specs.Tree.{Tree}
-use Rattle.line_model.specs.Mean.{Signals, mean}
-use Rattle.line_model.specs.PairMean.{PairSignals, pair_mean}
-use Rattle.line_model.specs.Choice.{
-  Choice,
-  Box,
-  IsWithin,
-  LeastFromOne,
-  point_box,
-  world_of,
-  pair_world_of,
-}
+use Rattle.history.specs.{Laws.HistoryLaws, Rails.Rails, Rails.Covers, Rails.RailsCover}
+use Rattle.line_model.specs.Choice.{Choice, Box, IsWithin, LeastFromOne, point_box, world_of}
+use Rattle.line_model.specs.Choice.{pair_world_of}
+use Rattle.line_model.specs.{declared.line.Line.Line, declared.script.Script.Script}
+use Rattle.line_model.specs.{Parameters.terminal_count, Names.Names, Tree.Tree, Mean.Signals}
+use Rattle.line_model.specs.{Mean.mean, PairMean.PairSignals, PairMean.pair_mean}
 use Rattle.line_model.proofs.BoxLaws.{wider_world, point_within}
-use Rattle.line_model.proofs.CoverLaws.{pair_mean-wider}
-use Rattle.line_model.proofs.HistoryLaws.{point_mean}
-use Rattle.line_model.proofs.PlainLaws.{lifted}
 use Rattle.line_model.proofs.WorldLaws.{pair_world_delayed}
+use Rattle.line_model.proofs.{CoverLaws.pair_mean-wider, HistoryLaws.point_mean, PlainLaws.lifted}
 
 module _ (laws : HistoryLaws) where
   pub covering_keys : (line : Line) (script : Script) (box : Box) (choice : Choice)

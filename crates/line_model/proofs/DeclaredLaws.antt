@@ -1,20 +1,11 @@
 -- The declared intervals: a choice inside, and delays of at least 1.
 use Rattle.std.proofs.Common.{◌≡◌, ℕ, ◌<◌, ◌≤◌, Some, length, get_or, sym, ◌∙◌, ap, arith}
-use Rattle.std.specs.Prelude.{unwrap_or}
 use Rattle.std.proofs.lemmas.List.{length-map}
-use Rattle.line_model.specs.declared.line.Line.{Line}
-use Rattle.line_model.specs.Intervals.{leasts}
+use Rattle.std.specs.Prelude.{unwrap_or}
 use Rattle.line_model.specs.Parameters.{param_count, channel_count, delay_param, declared_ends}
-use Rattle.line_model.specs.SetBounds.{IsDelayAt}
-use Rattle.line_model.specs.Choice.{
-  Choice,
-  IsIn,
-  IsInside,
-  DelaysFromOne,
-  LeastFromOne,
-  declared_box,
-  steady_choice,
-}
+use Rattle.line_model.specs.Choice.{Choice, IsIn, IsInside, DelaysFromOne, LeastFromOne}
+use Rattle.line_model.specs.Choice.{declared_box, steady_choice}
+use Rattle.line_model.specs.{declared.line.Line.Line, Intervals.leasts, SetBounds.IsDelayAt}
 use Rattle.line_model.proofs.Numbers.{delay_number}
 
 -- the number of a channel's delay is that of a parameter

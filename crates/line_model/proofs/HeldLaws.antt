@@ -2,26 +2,15 @@
 use Rattle.std.proofs.Common.{◌≡◌, ◌<◌, ℕ, ◌∙◌, ap, arith}
 use Rattle.history.specs.Laws.{HistoryLaws}
 use Rattle.line_model.specs.declared.line.Line.{Line}
-use Rattle.line_model.specs.declared.script.Script.{Script}
-use Rattle.line_model.specs.Parameters.{terminal_count}
-use Rattle.line_model.specs.SetBounds.{SameButParams}
 use Rattle.line_model.specs.Choice.{Choice, Box, IsWithin, IsBoxWithin, LeastFromOne, declared_box}
-use Rattle.line_model.specs.Histories.{
-  History,
-  IsLineHistory,
-  Meets,
-  PairHistory,
-  IsPairHistory,
-}
+use Rattle.line_model.specs.Histories.{History, IsLineHistory, Meets, PairHistory, IsPairHistory}
 use Rattle.line_model.specs.Rule.{Held, rule_by, rule_of}
+use Rattle.line_model.specs.{declared.script.Script.Script, Parameters.terminal_count}
+use Rattle.line_model.specs.{SetBounds.SameButParams, Boxes.IsSameBox, HeldOver.IsHeldOver}
 use Rattle.line_model.proofs.DeclaredLaws.{declared_from_one}
-use Rattle.line_model.proofs.BoxLaws.{box_covers_choice}
-use Rattle.line_model.proofs.HistoryLaws.{pair_history_exists}
-use Rattle.line_model.proofs.RuleLaws.{held_rule_met}
-use Rattle.line_model.specs.Boxes.{IsSameBox}
-use Rattle.line_model.specs.HeldOver.{IsHeldOver}
-use Rattle.line_model.proofs.NarrowerRules.{narrower_held}
 use Rattle.line_model.proofs.SameHistories.{exchanged, pair_history_same, same_box}
+use Rattle.line_model.proofs.{BoxLaws.box_covers_choice, HistoryLaws.pair_history_exists}
+use Rattle.line_model.proofs.{RuleLaws.held_rule_met, NarrowerRules.narrower_held}
 
 -- a box is part of itself
 box_within_itself : (line : Line) (box : Box) → IsBoxWithin line box box

@@ -1,46 +1,20 @@
 -- One history for each choice, one interval history for each box, and covering between them.
 use Rattle.std.proofs.Common.{◌≡◌, ℕ, ◌<◌, Bool, refl, sym, ◌∙◌, ap, arith}
-use Rattle.history.specs.Laws.{HistoryLaws}
-use Rattle.history.specs.Rails.{both, must_of}
+use Rattle.history.specs.{Laws.HistoryLaws, Rails.both, Rails.must_of}
 use Rattle.line_model.specs.declared.line.Line.{Line}
-use Rattle.line_model.specs.declared.script.Script.{Script}
-use Rattle.line_model.specs.Parameters.{terminal_count}
-use Rattle.line_model.specs.Names.{Names, AllNamed}
-use Rattle.line_model.specs.Tree.{Tree}
 use Rattle.line_model.specs.Mean.{World, Signals, mean}
 use Rattle.line_model.specs.PairMean.{PairWorld, PairSignals, pair_mean, singles}
-use Rattle.line_model.specs.Choice.{
-  Choice,
-  Box,
-  DelaysFromOne,
-  LeastFromOne,
-  point_box,
-  world_of,
-  pair_world_of,
-}
-use Rattle.line_model.specs.Logic.{key_tree, trip_tree}
-use Rattle.line_model.specs.Histories.{
-  History,
-  IsLineHistory,
-  IsSameHistory,
-  PairHistory,
-  IsPairHistory,
-  IsSamePairHistory,
-  IsBothRails,
-  must_history,
-}
+use Rattle.line_model.specs.Choice.{Choice, Box, DelaysFromOne, LeastFromOne, point_box, world_of}
+use Rattle.line_model.specs.Choice.{pair_world_of}
+use Rattle.line_model.specs.Histories.{History, IsLineHistory, IsSameHistory, PairHistory}
+use Rattle.line_model.specs.Histories.{IsPairHistory, IsSamePairHistory, IsBothRails, must_history}
 use Rattle.line_model.specs.Solution.{IsDelayed, the_keys}
+use Rattle.line_model.specs.{declared.script.Script.Script, Parameters.terminal_count, Names.Names}
+use Rattle.line_model.specs.{Names.AllNamed, Tree.Tree, Logic.key_tree, Logic.trip_tree}
 use Rattle.line_model.proofs.LogicNames.{names_key_tree, names_trip_tree}
 use Rattle.line_model.proofs.PairLaws.{pair_mean-past, solution_once, the_keys-solve}
-use Rattle.line_model.proofs.PlainLaws.{
-  lifted,
-  plain_of,
-  pair_mean-single,
-  pair_mean-world,
-  mean-past,
-  plain_once,
-  plain_exists,
-}
+use Rattle.line_model.proofs.PlainLaws.{lifted, plain_of, pair_mean-single, pair_mean-world}
+use Rattle.line_model.proofs.PlainLaws.{mean-past, plain_once, plain_exists}
 use Rattle.line_model.proofs.WorldLaws.{world_delayed, pair_world_delayed, point_world}
 
 pub keys_named : (line : Line) → AllNamed line (key_tree line)

@@ -1,35 +1,14 @@
 -- The intervals of a line's parameters, where one is replaced.
-use Rattle.std.proofs.Common.{
-  ◌≡◌,
-  ℕ,
-  ◌≤◌,
-  ◌<◌,
-  List,
-  Some,
-  length,
-  get_or,
-  set,
-  sym,
-  ap,
-  ◌∙◌,
-  arith,
-  inl,
-  inr,
-}
-use Rattle.std.specs.Prelude.{unwrap_or}
+use Rattle.std.proofs.Common.{◌≡◌, ℕ, ◌≤◌, ◌<◌, List, Some, length, get_or, set, sym, ap, ◌∙◌}
+use Rattle.std.proofs.Common.{arith, inl, inr}
 use Rattle.std.proofs.Math.Seq.{map-set_same}
 use Rattle.std.proofs.lemmas.Bool.{cases_eq}
-use Rattle.std.proofs.lemmas.List.{
-  length-map,
-  length-set,
-  map-set,
-  get_or-set_same,
-  get_or-set_other,
-}
+use Rattle.std.proofs.lemmas.List.{length-map, length-set, map-set, get_or-set_same}
+use Rattle.std.proofs.lemmas.List.{get_or-set_other}
+use Rattle.std.specs.Prelude.{unwrap_or}
 use Rattle.line_model.specs.declared.line.Line.{Line}
-use Rattle.line_model.specs.declared.line.Param.{Param}
 use Rattle.line_model.specs.Intervals.{leasts, greatests, AreIntervals, LeastDelaysFromOne}
-use Rattle.line_model.specs.SetBounds.{IsDelayAt, WithBounds}
+use Rattle.line_model.specs.{declared.line.Param.Param, SetBounds.IsDelayAt, SetBounds.WithBounds}
 use Rattle.line_model.proofs.Numbers.{delay_number}
 
 -- an interval is replaced by one with its ends in order

@@ -1,29 +1,11 @@
 -- What a channel's raw value reads of recorded keys.
-use Rattle.std.proofs.Common.{
-  ◌≡◌,
-  ℕ,
-  ◌-◌,
-  ◌<◌,
-  ◌≤◌,
-  Bool,
-  false,
-  List,
-  [],
-  length,
-  get_or,
-  sym,
-  ap,
-  ◌∙◌,
-  arith,
-}
-use Rattle.std.specs.Prelude.{Vec}
+use Rattle.std.proofs.Common.{◌≡◌, ℕ, ◌-◌, ◌<◌, ◌≤◌, Bool, false, List, [], length, get_or, sym, ap}
+use Rattle.std.proofs.Common.{◌∙◌, arith}
 use Rattle.std.proofs.lemmas.List.{get_or-map, length-map, get_or_default}
-use Rattle.history.specs.Elements.{delayed}
-use Rattle.history.specs.Laws.{OneDelayReadsOneTick}
-use Rattle.line_model.specs.declared.line.Line.{Line}
-use Rattle.line_model.specs.declared.line.Channel.{Channel}
-use Rattle.line_model.specs.Channels.{from_of}
-use Rattle.line_model.specs.Keys.{Reach, histories, key_at}
+use Rattle.std.specs.Prelude.{Vec}
+use Rattle.history.specs.{Elements.delayed, Laws.OneDelayReadsOneTick}
+use Rattle.line_model.specs.{declared.line.Line.Line, declared.line.Channel.Channel}
+use Rattle.line_model.specs.{Channels.from_of, Keys.Reach, Keys.histories, Keys.key_at}
 
 pub from_of-is : (cs : List Channel) (c : ℕ) (h : Channel) → c < length cs → h ≡ get_or cs c h
     → from_of cs c ≡ h.from

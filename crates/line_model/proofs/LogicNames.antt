@@ -1,117 +1,39 @@
 -- The trees of a terminal name only what the terminal has, so only what the line has.
-use Rattle.std.proofs.Common.{
-  ◌≡◌,
-  ◌≢◌,
-  ◌==◌,
-  ℕ,
-  zero,
-  suc,
-  ◌<◌,
-  Bool,
-  true,
-  false,
-  cond,
-  Option,
-  Some,
-  None,
-  refl,
-  sym,
-  subst,
-  ap,
-  ◌∙◌,
-  arith,
-}
-use Rattle.std.specs.Prelude.{unwrap_or, IfSome}
+use Rattle.std.proofs.Common.{◌≡◌, ◌≢◌, ◌==◌, ℕ, zero, suc, ◌<◌, Bool, true, false, cond, Option}
+use Rattle.std.proofs.Common.{Some, None, refl, sym, subst, ap, ◌∙◌, arith}
 use Rattle.std.proofs.lemmas.Bool.{eqb-false}
-use Rattle.line_model.specs.declared.line.Line.{Line}
-use Rattle.line_model.specs.declared.line.Scheme.{Scheme}
+use Rattle.std.specs.Prelude.{unwrap_or, IfSome}
 use Rattle.line_model.specs.declared.line.Scheme.TheVariants.{Pott, Putt, Dcb, Dcub, Dtt}
+use Rattle.line_model.specs.{declared.line.Line.Line, declared.line.Scheme.Scheme}
 use Rattle.line_model.specs.declared.line.Owner.TheVariants as owner
 use Rattle.line_model.specs.declared.line.Setting.{Setting}
-use Rattle.line_model.specs.declared.line.Setting.TheVariants.{
-  Z1Pickup,
-  Z1Dropout,
-  Z2Pickup,
-  Z2Dropout,
-  RvPickup,
-  RvDropout,
-  UvPickup,
-  UvDropout,
-  ReversalPickup,
-  ReversalDropout,
-  EchoBlock,
-  EchoPickup,
-  EchoPulse,
-  BlockCarry,
-  BlockCoord,
-  TransferSecurity,
-  UnblockPickup,
-  UnblockWindow,
-  UnblockRestore,
-}
+use Rattle.line_model.specs.declared.line.Setting.TheVariants.{Z1Pickup, Z1Dropout, Z2Pickup}
+use Rattle.line_model.specs.declared.line.Setting.TheVariants.{Z2Dropout, RvPickup, RvDropout}
+use Rattle.line_model.specs.declared.line.Setting.TheVariants.{UvPickup, UvDropout, ReversalPickup}
+use Rattle.line_model.specs.declared.line.Setting.TheVariants.{ReversalDropout, EchoBlock}
+use Rattle.line_model.specs.declared.line.Setting.TheVariants.{EchoPickup, EchoPulse, BlockCarry}
+use Rattle.line_model.specs.declared.line.Setting.TheVariants.{BlockCoord, TransferSecurity}
+use Rattle.line_model.specs.declared.line.Setting.TheVariants.{UnblockPickup, UnblockWindow}
+use Rattle.line_model.specs.declared.line.Setting.TheVariants.{UnblockRestore}
 use Rattle.line_model.specs.declared.script.Element.{Element}
 use Rattle.line_model.specs.declared.script.Element.TheVariants as element
-use Rattle.line_model.specs.declared.formula.Time.{Time}
 use Rattle.line_model.specs.declared.formula.Time.TheVariants.{Zero, Param}
 use Rattle.line_model.specs.Places.{terminal_place, channel_place}
-use Rattle.line_model.specs.Parameters.{terminal_count}
 use Rattle.line_model.specs.Names.{Names, HasTime, HasOwnTime, IsLocal}
 use Rattle.line_model.specs.Tree.{Tree, Const, Seen, Loss, Raw, Not, And, Or, Timer, Seal}
-use Rattle.line_model.specs.Elements.{
-  is_guarded,
-  is_weak,
-  setting_of,
-  seen_timed,
-  zone1,
-  zone2,
-  reverse,
-  undervoltage,
-}
-use Rattle.line_model.specs.Received.{
-  channel_to,
-  received,
-  joined,
-  over_others,
-  all_others,
-  any_received,
-  all_received,
-}
-use Rattle.line_model.specs.Unblocking.{
-  channel_setting,
-  guard_seen,
-  late,
-  unblocked,
-  locked_out,
-  open_from,
-  all_open,
-}
-use Rattle.line_model.specs.Permissive.{
-  terminal_setting,
-  reversal_guard,
-  quiet,
-  echo_wanted,
-  echo,
-  weak_infeed_trip,
-  permissive_key,
-  permissive_pilot,
-}
-use Rattle.line_model.specs.Logic.{
-  blocking_key,
-  blocking_pilot,
-  underreach_pilot,
-  transfer_pilot,
-  key_by,
-  pilot_by,
-  key_tree,
-  set_tree,
-  trip_tree,
-}
-use Rattle.line_model.proofs.OwnSettings.{
-  number_within,
-  own_setting,
-  own_channel_setting,
-  own_channel,
-}
+use Rattle.line_model.specs.Elements.{is_guarded, is_weak, setting_of, seen_timed, zone1, zone2}
+use Rattle.line_model.specs.Elements.{reverse, undervoltage}
+use Rattle.line_model.specs.Received.{channel_to, received, joined, over_others, all_others}
+use Rattle.line_model.specs.Received.{any_received, all_received}
+use Rattle.line_model.specs.Unblocking.{channel_setting, guard_seen, late, unblocked, locked_out}
+use Rattle.line_model.specs.Unblocking.{open_from, all_open}
+use Rattle.line_model.specs.Permissive.{terminal_setting, reversal_guard, quiet, echo_wanted, echo}
+use Rattle.line_model.specs.Permissive.{weak_infeed_trip, permissive_key, permissive_pilot}
+use Rattle.line_model.specs.Logic.{blocking_key, blocking_pilot, underreach_pilot, transfer_pilot}
+use Rattle.line_model.specs.Logic.{key_by, pilot_by, key_tree, set_tree, trip_tree}
+use Rattle.line_model.specs.{declared.formula.Time.Time, Parameters.terminal_count}
+use Rattle.line_model.proofs.OwnSettings.{number_within, own_setting, own_channel_setting}
+use Rattle.line_model.proofs.OwnSettings.{own_channel}
 
 module _ (line : Line) (k : ℕ) (lt : k < terminal_count line) where
   -- ---- what a terminal sees

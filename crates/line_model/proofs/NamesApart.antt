@@ -1,46 +1,31 @@
 -- Each parameter of a line has a name of its own.
 use Rattle.std.proofs.Common.{◌≡◌, ◌≢◌, ◌&&◌, ◌==◌, ℕ, zero, suc, ◌+◌, ◌<◌, ◌≤◌, Bool, true, false}
-use Rattle.std.proofs.Common.{◌||◌, None, take, List, [], ◌∷◌, ◌++◌, length, map, get_or, cond, Some, refl, sym, ap}
-use Rattle.std.proofs.Common.{◌∙◌, arith, subst, inl, inr, eq-eqb, ne_eqb, length-append, zero-add}
-use Rattle.std.specs.Prelude.{nat_le, not}
-use Rattle.std.specs.List.{All, list_all, list_any, flat_map, position_from}
-use Rattle.std.specs.Str.{bytes_eq}
+use Rattle.std.proofs.Common.{◌||◌, None, take, List, [], ◌∷◌, ◌++◌, length, map, get_or, cond}
+use Rattle.std.proofs.Common.{Some, refl, sym, ap, ◌∙◌, arith, subst, inl, inr, eq-eqb, ne_eqb}
+use Rattle.std.proofs.Common.{length-append, zero-add}
 use Rattle.std.proofs.lemmas.Slice.Eq.{bytes_eq-Decides}
 use Rattle.std.proofs.lemmas.Bool.{and_parts, and_from, cases_eq, cases_lt, cases_Bool}
 use Rattle.std.proofs.lemmas.List.{get_or-map, length-map, take_all}
 use Rattle.std.proofs.lemmas.List.Folds.{list_all-append}
-use Rattle.std.proofs.lemmas.List.Elements.{
-  All-nil,
-  All-cons,
-  All-append,
-  All-head,
-  All-tail,
-  All-map,
-  All-get_or,
-  All-from_get_or,
-}
+use Rattle.std.proofs.lemmas.List.Elements.{All-nil, All-cons, All-append, All-head, All-tail}
+use Rattle.std.proofs.lemmas.List.Elements.{All-map, All-get_or, All-from_get_or}
+use Rattle.std.specs.Prelude.{nat_le, not}
+use Rattle.std.specs.List.{All, list_all, list_any, flat_map, position_from}
+use Rattle.std.specs.Str.{bytes_eq}
 use Rattle.line_model.specs.declared.line.Line.{Line}
-use Rattle.line_model.specs.declared.line.Param.{Param}
-use Rattle.line_model.specs.declared.line.Setting.{Setting}
-use Rattle.line_model.specs.declared.line.Terminal.{Terminal}
-use Rattle.line_model.specs.declared.line.Channel.{Channel}
 use Rattle.line_model.specs.PlainNames.{is_plain_byte, is_plain_name}
-use Rattle.line_model.specs.Terminals.{are_plain_names}
-use Rattle.line_model.specs.Channels.{is_pair, from_of, to_of}
-use Rattle.line_model.specs.Settings.{terminal_settings, channel_settings}
-use Rattle.line_model.specs.ParamNames.{
-  name_at,
-  pair_name,
-  setting_text,
-  dotted,
-  terminal_names,
-  channel_names,
-}
+use Rattle.line_model.specs.ParamNames.{name_at, pair_name, setting_text, dotted, terminal_names}
+use Rattle.line_model.specs.ParamNames.{channel_names}
 use Rattle.line_model.specs.ParamNamesApart.{name_of_param, has_no, ParamNamesApart}
 use Rattle.line_model.specs.Parameters.{param_count}
 use Rattle.line_model.specs.FirstPositions.{position_from-first, position_from-none}
+use Rattle.line_model.specs.{declared.line.Param.Param, declared.line.Setting.Setting}
+use Rattle.line_model.specs.{declared.line.Terminal.Terminal, declared.line.Channel.Channel}
+use Rattle.line_model.specs.{Terminals.are_plain_names, Channels.is_pair, Channels.from_of}
+use Rattle.line_model.specs.{Channels.to_of, Settings.terminal_settings, Settings.channel_settings}
 use Rattle.line_model.proofs.ParamNames.{name_at-get, names_of_line}
-use Rattle.line_model.proofs.SettingTexts.{rank, same_rank, text_has_no_at, rise, all_above, rise-tail, terminal_settings_rise, channel_settings_rise}
+use Rattle.line_model.proofs.SettingTexts.{rank, same_rank, text_has_no_at, rise, all_above}
+use Rattle.line_model.proofs.SettingTexts.{rise-tail, terminal_settings_rise, channel_settings_rise}
 
 -- ---- lists in which no element stands twice
 

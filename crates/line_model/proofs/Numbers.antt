@@ -1,58 +1,21 @@
 -- The numbers of a line's parameters: as many as settings, and each channel has a delay.
-use Rattle.std.proofs.Common.{
-  ◌≡◌,
-  ◌||◌,
-  ℕ,
-  zero,
-  suc,
-  ◌+◌,
-  ◌<◌,
-  true,
-  false,
-  List,
-  [],
-  ◌∷◌,
-  length,
-  Option,
-  Some,
-  None,
-  refl,
-  sym,
-  ap,
-  ◌∙◌,
-  subst,
-  arith,
-  eq-eqb,
-}
+use Rattle.std.proofs.Common.{◌≡◌, ◌||◌, ℕ, zero, suc, ◌+◌, ◌<◌, true, false, List, [], ◌∷◌, length}
+use Rattle.std.proofs.Common.{Option, Some, None, refl, sym, ap, ◌∙◌, subst, arith, eq-eqb}
+use Rattle.std.proofs.lemmas.List.{length-map}
 use Rattle.std.specs.Prelude.{is_some}
 use Rattle.std.specs.List.{list_any}
-use Rattle.std.proofs.lemmas.List.{length-map}
 use Rattle.line_model.specs.declared.line.Line.{Line}
-use Rattle.line_model.specs.declared.line.Scheme.{Scheme}
 use Rattle.line_model.specs.declared.line.Scheme.TheVariants.{Pott, Putt, Dcb, Dcub, Dtt}
 use Rattle.line_model.specs.declared.line.Channel.{Channel}
-use Rattle.line_model.specs.declared.line.Owner.{Owner}
+use Rattle.line_model.specs.{declared.line.Scheme.Scheme, declared.line.Owner.Owner}
 use Rattle.line_model.specs.declared.line.Owner.TheVariants as owner
-use Rattle.line_model.specs.declared.line.Setting.{Setting}
-use Rattle.line_model.specs.declared.line.Setting.TheVariants.{Delay}
-use Rattle.line_model.specs.Settings.{
-  OwnedSetting,
-  owned_by,
-  settings_of_terminals,
-  settings_of_channels,
-  channel_settings,
-  line_settings,
-  is_owned_setting,
-  same_owner,
-  same_setting,
-  setting_number,
-}
+use Rattle.line_model.specs.Settings.{OwnedSetting, owned_by, settings_of_terminals}
+use Rattle.line_model.specs.Settings.{settings_of_channels, channel_settings, line_settings}
+use Rattle.line_model.specs.Settings.{is_owned_setting, same_owner, same_setting, setting_number}
 use Rattle.line_model.specs.Parameters.{param_number}
-use Rattle.line_model.specs.FirstPositions.{
-  is_some-position,
-  list_any-append_left,
-  list_any-append_right,
-}
+use Rattle.line_model.specs.FirstPositions.{is_some-position, list_any-append_left}
+use Rattle.line_model.specs.FirstPositions.{list_any-append_right}
+use Rattle.line_model.specs.{declared.line.Setting.Setting, declared.line.Setting.TheVariants.Delay}
 pub use Rattle.line_model.specs.FirstPositions.{position_within}
 
 pub same_owner-refl : (o : Owner) → same_owner o o ≡ true

@@ -1,48 +1,19 @@
 -- Each setting that the logic names is a parameter of the line, and each channel exists.
-use Rattle.std.proofs.Common.{
-  ◌≡◌,
-  ◌≢◌,
-  ℕ,
-  ◌+◌,
-  ◌*◌,
-  ◌<◌,
-  true,
-  false,
-  List,
-  [],
-  length,
-  take,
-  get_or,
-  Option,
-  Some,
-  None,
-  refl,
-  sym,
-  ap,
-  ◌∙◌,
-  subst,
-  arith,
-}
-use Rattle.std.specs.Prelude.{unwrap_or, option_map, is_some}
+use Rattle.std.proofs.Common.{◌≡◌, ◌≢◌, ℕ, ◌+◌, ◌*◌, ◌<◌, true, false, List, [], length, take}
+use Rattle.std.proofs.Common.{get_or, Option, Some, None, refl, sym, ap, ◌∙◌, subst, arith}
 use Rattle.std.proofs.lemmas.List.{get_or-map, get_or_default}
+use Rattle.std.specs.Prelude.{unwrap_or, option_map, is_some}
 use Rattle.line_model.specs.declared.line.Line.{Line}
-use Rattle.line_model.specs.declared.line.Terminal.{Terminal}
-use Rattle.line_model.specs.declared.line.Owner.{Owner}
+use Rattle.line_model.specs.{declared.line.Terminal.Terminal, declared.line.Owner.Owner}
 use Rattle.line_model.specs.declared.line.Owner.TheVariants as owner
 use Rattle.line_model.specs.declared.line.Setting.{Setting}
-use Rattle.line_model.specs.Channels.{channel_number}
-use Rattle.line_model.specs.Settings.{
-  OwnedSetting,
-  line_settings,
-  settings_of_terminals,
-  channel_settings,
-  is_owned_setting,
-}
+use Rattle.line_model.specs.Settings.{OwnedSetting, line_settings, settings_of_terminals}
+use Rattle.line_model.specs.Settings.{channel_settings, is_owned_setting}
 use Rattle.line_model.specs.Places.{terminal_place, channel_place}
 use Rattle.line_model.specs.Parameters.{param_number, terminal_count, channel_count, param_count}
 use Rattle.line_model.specs.Names.{IsChannelTo, HasSettingsOf, IsOwnParam, HasOwnTime}
 use Rattle.line_model.specs.Elements.{is_guarded, is_weak, setting_of}
-use Rattle.line_model.specs.Received.{channel_to}
+use Rattle.line_model.specs.{Channels.channel_number, Received.channel_to}
 use Rattle.line_model.proofs.Numbers.{position_within, length-line_settings}
 use Rattle.line_model.proofs.ChannelPairs.{channel_ends}
 use Rattle.line_model.proofs.Positions.{terminal_number, channel_number_of}

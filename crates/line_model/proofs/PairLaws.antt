@@ -1,15 +1,15 @@
 -- A pair at a tick rests on the keys of earlier ticks only, so the equations of a line have exactly
 -- one solution, in each world whose delays are at least 1.
-use Rattle.std.proofs.Common.{◌≡◌, ℕ, zero, suc, ◌<◌, ◌≤◌, Bool, refl, sym, ◌∙◌, ap, subst, arith, ⊎_elim, eq-eqb}
-use Rattle.std.specs.Prelude.{cond}
+use Rattle.std.proofs.Common.{◌≡◌, ℕ, zero, suc, ◌<◌, ◌≤◌, Bool, refl, sym, ◌∙◌, ap, subst, arith}
+use Rattle.std.proofs.Common.{⊎_elim, eq-eqb}
 use Rattle.std.proofs.lemmas.Bool.{cases_lt, ne_eqb}
+use Rattle.std.specs.Prelude.{cond}
 use Rattle.history.specs.Laws.{HistoryLaws}
 use Rattle.history.specs.Rails.{Rails, Ends, rails_not, rails_and, rails_or, rails_delayed}
-use Rattle.line_model.specs.declared.line.Line.{Line}
-use Rattle.line_model.specs.Names.{Names, AllNamed}
 use Rattle.line_model.specs.Tree.{Tree, Const, Seen, Loss, Raw, Not, And, Or, Timer, Seal}
 use Rattle.line_model.specs.PairMean.{PairWorld, PairSignals, pair_mean}
 use Rattle.line_model.specs.Solution.{IsDelayed, Solves, SameBefore, keys_before, the_keys}
+use Rattle.line_model.specs.{declared.line.Line.Line, Names.Names, Names.AllNamed}
 
 module _ (laws : HistoryLaws) where
   -- delays of at least 1 read the ticks before t alone

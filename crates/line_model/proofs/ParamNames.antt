@@ -1,49 +1,17 @@
 -- The names of a line's parameters, by owner.
-use Rattle.std.proofs.Common.{
-  ◌≡◌,
-  ℕ,
-  zero,
-  suc,
-  ◌+◌,
-  ◌<◌,
-  ◌++◌,
-  List,
-  [],
-  ◌∷◌,
-  length,
-  get_or,
-  refl,
-  sym,
-  ap,
-  ◌∙◌,
-  arith,
-}
-use Rattle.std.specs.Prelude.{map, slice_get, Some}
+use Rattle.std.proofs.Common.{◌≡◌, ℕ, zero, suc, ◌+◌, ◌<◌, ◌++◌, List, [], ◌∷◌, length, get_or}
+use Rattle.std.proofs.Common.{refl, sym, ap, ◌∙◌, arith}
 use Rattle.std.proofs.lemmas.List.{map-append}
-use Rattle.line_model.specs.declared.line.Scheme.{Scheme}
-use Rattle.line_model.specs.declared.line.Terminal.{Terminal}
-use Rattle.line_model.specs.declared.line.Channel.{Channel}
-use Rattle.line_model.specs.declared.line.Owner.{Owner}
+use Rattle.std.specs.Prelude.{map, slice_get, Some}
+use Rattle.line_model.specs.{declared.line.Scheme.Scheme, declared.line.Terminal.Terminal}
+use Rattle.line_model.specs.{declared.line.Channel.Channel, declared.line.Owner.Owner}
 use Rattle.line_model.specs.declared.line.Owner.TheVariants as owner
 use Rattle.line_model.specs.declared.line.Setting.{Setting}
-use Rattle.line_model.specs.Settings.{
-  OwnedSetting,
-  owned_by,
-  settings_of_terminals,
-  settings_of_channels,
-  line_settings,
-  terminal_settings,
-  channel_settings,
-}
-use Rattle.line_model.specs.ParamNames.{
-  param_name,
-  name_at,
-  pair_name,
-  owner_name,
-  dotted,
-  terminal_names,
-  channel_names,
-}
+use Rattle.line_model.specs.Settings.{OwnedSetting, owned_by, settings_of_terminals}
+use Rattle.line_model.specs.Settings.{settings_of_channels, line_settings, terminal_settings}
+use Rattle.line_model.specs.Settings.{channel_settings}
+use Rattle.line_model.specs.ParamNames.{param_name, name_at, pair_name, owner_name, dotted}
+use Rattle.line_model.specs.ParamNames.{terminal_names, channel_names}
 
 -- the name of a terminal by its place in the list
 pub name_at-get :

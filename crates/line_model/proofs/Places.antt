@@ -1,20 +1,13 @@
 -- The places by cases are positions.
 use Rattle.std.proofs.Common.{◌≡◌, Bool, true, false, refl}
 use Rattle.std.specs.List.{position_from}
-use Rattle.line_model.specs.declared.line.Scheme.{Scheme}
-use Rattle.line_model.specs.declared.line.Scheme.TheVariants.{Pott, Putt, Dcb, Dcub, Dtt}
-use Rattle.line_model.specs.declared.line.Setting.{Setting}
-use Rattle.line_model.specs.declared.line.Setting.TheVariants.{Z1Pickup}
-use Rattle.line_model.specs.Settings.{
-  channel_settings,
-  same_setting,
-  base_settings,
-  guard_settings,
-  weak_settings,
-  scheme_settings,
-}
-use Rattle.line_model.specs.Places.{terminal_place, channel_place}
 use Rattle.std.specs.Prelude.{◌++◌}
+use Rattle.line_model.specs.declared.line.Scheme.TheVariants.{Pott, Putt, Dcb, Dcub, Dtt}
+use Rattle.line_model.specs.declared.line.Setting.TheVariants.{Z1Pickup}
+use Rattle.line_model.specs.Settings.{channel_settings, same_setting, base_settings, guard_settings}
+use Rattle.line_model.specs.Settings.{weak_settings, scheme_settings}
+use Rattle.line_model.specs.Places.{terminal_place, channel_place}
+use Rattle.line_model.specs.{declared.line.Scheme.Scheme, declared.line.Setting.Setting}
 
 -- the first place of a setting among a terminal's is the one of the table
 pub terminal_place-is :

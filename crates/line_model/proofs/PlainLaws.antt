@@ -1,41 +1,15 @@
 -- In a world of single numbers both rails are the plain value.
-use Rattle.std.proofs.Common.{
-  ◌≡◌,
-  ℕ,
-  zero,
-  suc,
-  ◌<◌,
-  ◌≤◌,
-  Bool,
-  refl,
-  sym,
-  ◌∙◌,
-  ap,
-  subst,
-  arith,
-  ⊎_elim,
-}
+use Rattle.std.proofs.Common.{◌≡◌, ℕ, zero, suc, ◌<◌, ◌≤◌, Bool, refl, sym, ◌∙◌, ap, subst, arith}
+use Rattle.std.proofs.Common.{⊎_elim}
 use Rattle.std.proofs.lemmas.Bool.{cases_lt}
 use Rattle.history.specs.Laws.{HistoryLaws}
-use Rattle.history.specs.Rails.{
-  Ends,
-  both,
-  single,
-  must_of,
-  rails_not,
-  rails_and,
-  rails_or,
-  rails_timed,
-  rails_delayed,
-}
-use Rattle.line_model.specs.declared.line.Line.{Line}
-use Rattle.line_model.specs.Names.{Names, AllNamed}
+use Rattle.history.specs.Rails.{Ends, both, single, must_of, rails_not, rails_and, rails_or}
+use Rattle.history.specs.Rails.{rails_timed, rails_delayed}
 use Rattle.line_model.specs.Tree.{Tree, Const, Seen, Loss, Raw, Not, And, Or, Timer, Seal}
-use Rattle.line_model.specs.Mean.{World, Signals, mean}
 use Rattle.line_model.specs.PairMean.{PairWorld, PairSignals, pair_mean, singles}
-use Rattle.line_model.specs.Keys.{AgreeBefore}
 use Rattle.line_model.specs.Solution.{IsDelayed, Solves, SolvesPlain, SameBefore, the_keys}
-use Rattle.line_model.specs.Covering.{IsSameWorld}
+use Rattle.line_model.specs.{declared.line.Line.Line, Names.Names, Names.AllNamed, Mean.World}
+use Rattle.line_model.specs.{Mean.Signals, Mean.mean, Keys.AgreeBefore, Covering.IsSameWorld}
 use Rattle.line_model.proofs.PairLaws.{pair_mean-past, solution_once, the_keys-solve}
 
 -- plain keys as pairs with equal rails, and the must rails of pairs as plain keys

@@ -1,67 +1,23 @@
 -- The number of a parameter: what stands before its owner, and its place there.
-use Rattle.std.proofs.Common.{
-  ◌≡◌,
-  ◌≢◌,
-  ◌&&◌,
-  ◌||◌,
-  ℕ,
-  zero,
-  suc,
-  ◌+◌,
-  ◌*◌,
-  ◌<◌,
-  false,
-  List,
-  [],
-  ◌∷◌,
-  ◌++◌,
-  length,
-  take,
-  get_or,
-  cond,
-  Option,
-  Some,
-  refl,
-  sym,
-  ap,
-  ◌∙◌,
-  arith,
-  length-append,
-  ne_eqb,
-}
+use Rattle.std.proofs.Common.{◌≡◌, ◌≢◌, ◌&&◌, ◌||◌, ℕ, zero, suc, ◌+◌, ◌*◌, ◌<◌, false, List, []}
+use Rattle.std.proofs.Common.{◌∷◌, ◌++◌, length, take, get_or, cond, Option, Some, refl, sym, ap}
+use Rattle.std.proofs.Common.{◌∙◌, arith, length-append, ne_eqb}
+use Rattle.std.proofs.lemmas.List.{length-map}
 use Rattle.std.specs.Prelude.{option_map, unwrap_or}
 use Rattle.std.specs.List.{position_from, list_any}
-use Rattle.std.proofs.lemmas.List.{length-map}
 use Rattle.line_model.specs.declared.line.Line.{Line}
-use Rattle.line_model.specs.declared.line.Scheme.{Scheme}
-use Rattle.line_model.specs.declared.line.Terminal.{Terminal}
-use Rattle.line_model.specs.declared.line.Channel.{Channel}
-use Rattle.line_model.specs.declared.line.Owner.{Owner}
+use Rattle.line_model.specs.{declared.line.Scheme.Scheme, declared.line.Terminal.Terminal}
+use Rattle.line_model.specs.{declared.line.Channel.Channel, declared.line.Owner.Owner}
 use Rattle.line_model.specs.declared.line.Owner.TheVariants as owner
-use Rattle.line_model.specs.declared.line.Setting.{Setting}
-use Rattle.line_model.specs.declared.line.Setting.TheVariants.{Delay}
-use Rattle.line_model.specs.Settings.{
-  OwnedSetting,
-  owned_by,
-  settings_of_terminals,
-  settings_of_channels,
-  terminal_settings,
-  channel_settings,
-  line_settings,
-  is_owned_setting,
-  same_owner,
-  same_setting,
-  setting_number,
-}
+use Rattle.line_model.specs.Settings.{OwnedSetting, owned_by, settings_of_terminals}
+use Rattle.line_model.specs.Settings.{settings_of_channels, terminal_settings, channel_settings}
+use Rattle.line_model.specs.Settings.{line_settings, is_owned_setting, same_owner, same_setting}
+use Rattle.line_model.specs.Settings.{setting_number}
 use Rattle.line_model.specs.Places.{terminal_place, channel_place}
-use Rattle.line_model.specs.Intervals.{delay_number_of}
-use Rattle.line_model.specs.Parameters.{param_number}
-use Rattle.line_model.specs.FirstPositions.{
-  list_any-append_false,
-  position_from-append_none,
-  position_from-none_behind,
-  position_from-later,
-}
+use Rattle.line_model.specs.FirstPositions.{list_any-append_false, position_from-append_none}
+use Rattle.line_model.specs.FirstPositions.{position_from-none_behind, position_from-later}
+use Rattle.line_model.specs.{declared.line.Setting.Setting, declared.line.Setting.TheVariants.Delay}
+use Rattle.line_model.specs.{Intervals.delay_number_of, Parameters.param_number}
 use Rattle.line_model.proofs.Places.{terminal_place-is, channel_place-is}
 use Rattle.line_model.proofs.Numbers.{same_owner-refl}
 

@@ -1,45 +1,16 @@
 -- The rule is told by its facts, and speaks for every history that the pairs cover.
-use Rattle.std.proofs.Common.{
-  ◌≡◌,
-  ◌||◌,
-  ℕ,
-  zero,
-  suc,
-  ◌<◌,
-  ◌≤◌,
-  Bool,
-  true,
-  false,
-  not,
-  refl,
-  sym,
-  ◌∙◌,
-  ap,
-  arith,
-}
-use Rattle.std.specs.Prelude.{IsTrue, IsFalse, Decides, cond}
+use Rattle.std.proofs.Common.{◌≡◌, ◌||◌, ℕ, zero, suc, ◌<◌, ◌≤◌, Bool, true, false, not, refl, sym}
+use Rattle.std.proofs.Common.{◌∙◌, ap, arith}
 use Rattle.std.proofs.lemmas.Bool.Decides.{Decides-like}
-use Rattle.history.specs.Laws.{HistoryLaws}
-use Rattle.history.specs.Elements.{some_below}
-use Rattle.history.specs.Rails.{Rails, Covers}
+use Rattle.std.specs.Prelude.{IsTrue, IsFalse, Decides, cond}
+use Rattle.history.specs.{Laws.HistoryLaws, Elements.some_below, Rails.Rails, Rails.Covers}
 use Rattle.line_model.specs.declared.line.Line.{Line}
-use Rattle.line_model.specs.declared.script.Kind.{Kind}
 use Rattle.line_model.specs.declared.script.Kind.TheVariants.{Internal, External}
 use Rattle.line_model.specs.declared.script.Script.{Script}
-use Rattle.line_model.specs.Parameters.{terminal_count}
 use Rattle.line_model.specs.Histories.{History, MeetsBy, Meets, PairHistory, CoversHistory}
-use Rattle.line_model.specs.Rule.{
-  Rule,
-  Held,
-  Broken,
-  Unknown,
-  IsHeld,
-  IsBroken,
-  is_held,
-  is_broken,
-  rule_by,
-  rule_of,
-}
+use Rattle.line_model.specs.Rule.{Rule, Held, Broken, Unknown, IsHeld, IsBroken, is_held, is_broken}
+use Rattle.line_model.specs.Rule.{rule_by, rule_of}
+use Rattle.line_model.specs.{declared.script.Kind.Kind, Parameters.terminal_count}
 use Rattle.line_model.proofs.BelowTests.{some_below-some}
 
 -- ---- what is tested is what is said

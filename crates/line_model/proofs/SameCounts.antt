@@ -1,23 +1,19 @@
 -- Lines that agree in all but their intervals have the same counts, and the same scripts fit them.
 use Rattle.std.proofs.Common.{◌≡◌, ℕ, List, sym, ◌∙◌, ap, subst, length}
+use Rattle.std.proofs.Math.Path.{fun_ext}
 use Rattle.std.specs.Prelude.{◌&&◌, Bool, IsTrue, nat_le, nat_lt, unwrap_or}
 use Rattle.std.specs.List.{list_all}
-use Rattle.std.proofs.Math.Path.{fun_ext}
 use Rattle.line_model.specs.declared.line.Line.{Line}
-use Rattle.line_model.specs.declared.line.Terminal.{Terminal}
-use Rattle.line_model.specs.declared.line.Channel.{Channel}
+use Rattle.line_model.specs.{declared.line.Terminal.Terminal, declared.line.Channel.Channel}
 use Rattle.line_model.specs.declared.line.Owner.TheVariants as owner
-use Rattle.line_model.specs.declared.line.Setting.TheVariants.{Delay}
-use Rattle.line_model.specs.declared.script.Script.{Script}
-use Rattle.line_model.specs.declared.script.SeenSpan.{SeenSpan}
-use Rattle.line_model.specs.declared.script.What.{What}
+use Rattle.line_model.specs.{declared.line.Setting.TheVariants.Delay, declared.script.Script.Script}
+use Rattle.line_model.specs.{declared.script.SeenSpan.SeenSpan, declared.script.What.What}
 use Rattle.line_model.specs.declared.script.What.TheVariants as what
 use Rattle.line_model.specs.Parameters.{terminal_count, channel_count, param_count, delay_param}
 use Rattle.line_model.specs.Settings.{line_settings, setting_number}
 use Rattle.line_model.specs.SetBounds.{SameButParams}
 use Rattle.line_model.specs.Fits.{exists_in, span_fits, deadline_fits, Fits}
-use Rattle.line_model.proofs.Numbers.{length-line_settings}
-use Rattle.line_model.proofs.SameTrees.{along}
+use Rattle.line_model.proofs.{Numbers.length-line_settings, SameTrees.along}
 
 module _ (old new : Line) (same : SameButParams old new) where
   pub terminals_same : terminal_count new ≡ terminal_count old

@@ -1,36 +1,20 @@
 -- Histories rest on no declared interval, and interval histories on the intervals of their box.
 use Rattle.std.proofs.Common.{◌≡◌, ◌<◌, ℕ, List, refl, sym, ◌∙◌, ap, subst}
-use Rattle.history.specs.Laws.{HistoryLaws}
-use Rattle.history.specs.Rails.{Ends}
+use Rattle.history.specs.{Laws.HistoryLaws, Rails.Ends}
 use Rattle.line_model.specs.declared.line.Line.{Line}
-use Rattle.line_model.specs.declared.line.Channel.{Channel}
-use Rattle.line_model.specs.declared.script.Script.{Script}
-use Rattle.line_model.specs.declared.formula.Time.{Time}
 use Rattle.line_model.specs.declared.formula.Time.TheVariants.{Zero, Param}
-use Rattle.line_model.specs.Channels.{from_of}
 use Rattle.line_model.specs.Seen.{is_seen, is_lost}
-use Rattle.line_model.specs.Parameters.{param_count}
-use Rattle.line_model.specs.Names.{HasTime}
-use Rattle.line_model.specs.Tree.{Tree}
-use Rattle.line_model.specs.Mean.{World, mean}
-use Rattle.line_model.specs.PairMean.{PairWorld, pair_mean}
-use Rattle.line_model.specs.Choice.{
-  Choice,
-  Box,
-  time_by,
-  ends_by,
-  world_of,
-  pair_world_of,
-}
+use Rattle.line_model.specs.Choice.{Choice, Box, time_by, ends_by, world_of, pair_world_of}
 use Rattle.line_model.specs.Logic.{key_tree, trip_tree}
 use Rattle.line_model.specs.Histories.{History, IsLineHistory, PairHistory, IsPairHistory}
 use Rattle.line_model.specs.SetBounds.{SameButParams}
-use Rattle.line_model.specs.Covering.{IsSameWorld}
+use Rattle.line_model.specs.{declared.line.Channel.Channel, declared.script.Script.Script}
+use Rattle.line_model.specs.{declared.formula.Time.Time, Channels.from_of, Parameters.param_count}
+use Rattle.line_model.specs.{Names.HasTime, Tree.Tree, Mean.World, Mean.mean, PairMean.PairWorld}
+use Rattle.line_model.specs.{PairMean.pair_mean, Covering.IsSameWorld, Boxes.IsSameBox}
 use Rattle.line_model.proofs.LogicNames.{names_key_tree, names_trip_tree}
-use Rattle.line_model.proofs.PlainLaws.{pair_mean-world}
-use Rattle.line_model.specs.Boxes.{IsSameBox}
 use Rattle.line_model.proofs.SameTrees.{key_tree-same, trip_tree-same}
-use Rattle.line_model.proofs.SameCounts.{terminals_same}
+use Rattle.line_model.proofs.{PlainLaws.pair_mean-world, SameCounts.terminals_same}
 
 -- the same with the two lines exchanged
 pub exchanged : (old new : Line) → SameButParams old new → SameButParams new old

@@ -1,45 +1,24 @@
 -- The texts of settings differ, and those of one owner are in the order of the settings.
 use Rattle.std.proofs.Common.{◌≡◌, ◌&&◌, ℕ, ◌<◌, ◌≤◌, Bool, true, false, List, [], ◌∷◌, ◌++◌, refl}
 use Rattle.std.proofs.Common.{sym, ap, ◌∙◌, arith}
+use Rattle.std.proofs.lemmas.Bool.{and_parts, ltb-true}
+use Rattle.std.proofs.lemmas.List.Elements.{All-nil, All-cons}
 use Rattle.std.specs.Prelude.{nat_lt, codes, if◌then◌else◌}
 use Rattle.std.specs.List.{All}
 use Rattle.std.specs.Str.{bytes_eq}
-use Rattle.std.proofs.lemmas.Bool.{and_parts, ltb-true}
-use Rattle.std.proofs.lemmas.List.Elements.{All-nil, All-cons}
-use Rattle.line_model.specs.declared.line.Scheme.{Scheme}
 use Rattle.line_model.specs.declared.line.Scheme.TheVariants.{Pott, Putt, Dcb, Dcub, Dtt}
-use Rattle.line_model.specs.declared.line.Setting.{Setting}
-use Rattle.line_model.specs.declared.line.Setting.TheVariants.{
-  Z1Pickup,
-  Z1Dropout,
-  Z2Pickup,
-  Z2Dropout,
-  RvPickup,
-  RvDropout,
-  UvPickup,
-  UvDropout,
-  ReversalPickup,
-  ReversalDropout,
-  EchoBlock,
-  EchoPickup,
-  EchoPulse,
-  BlockCarry,
-  BlockCoord,
-  TransferSecurity,
-  Delay,
-  UnblockPickup,
-  UnblockWindow,
-  UnblockRestore,
-}
-use Rattle.line_model.specs.Settings.{
-  base_settings,
-  guard_settings,
-  weak_settings,
-  scheme_settings,
-  channel_settings,
-}
-use Rattle.line_model.specs.ParamNames.{setting_text}
-use Rattle.line_model.specs.ParamNamesApart.{has_no}
+use Rattle.line_model.specs.declared.line.Setting.TheVariants.{Z1Pickup, Z1Dropout, Z2Pickup}
+use Rattle.line_model.specs.declared.line.Setting.TheVariants.{Z2Dropout, RvPickup, RvDropout}
+use Rattle.line_model.specs.declared.line.Setting.TheVariants.{UvPickup, UvDropout, ReversalPickup}
+use Rattle.line_model.specs.declared.line.Setting.TheVariants.{ReversalDropout, EchoBlock}
+use Rattle.line_model.specs.declared.line.Setting.TheVariants.{EchoPickup, EchoPulse, BlockCarry}
+use Rattle.line_model.specs.declared.line.Setting.TheVariants.{BlockCoord, TransferSecurity, Delay}
+use Rattle.line_model.specs.declared.line.Setting.TheVariants.{UnblockPickup, UnblockWindow}
+use Rattle.line_model.specs.declared.line.Setting.TheVariants.{UnblockRestore}
+use Rattle.line_model.specs.Settings.{base_settings, guard_settings, weak_settings, scheme_settings}
+use Rattle.line_model.specs.Settings.{channel_settings}
+use Rattle.line_model.specs.{declared.line.Scheme.Scheme, declared.line.Setting.Setting}
+use Rattle.line_model.specs.{ParamNames.setting_text, ParamNamesApart.has_no}
 
 -- where a setting stands among all
 abbrev pub rank : Setting → ℕ

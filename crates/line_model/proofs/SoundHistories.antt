@@ -2,19 +2,16 @@
 -- history of that choice. So there a rule is broken wherever what it says of the pairs is.
 use Rattle.std.proofs.Common.{◌≡◌, ◌<◌, ◌≤◌, ℕ, Bool, true, false, sym, ◌∙◌, arith}
 use Rattle.std.specs.Prelude.{◌↔◌, IsTrue, IsFalse}
-use Rattle.history.specs.Laws.{HistoryLaws}
-use Rattle.history.specs.Rails.{Rails, Covers, IsSound}
+use Rattle.history.specs.{Laws.HistoryLaws, Rails.Rails, Rails.Covers, Rails.IsSound}
 use Rattle.line_model.specs.declared.line.Line.{Line}
-use Rattle.line_model.specs.declared.script.Kind.{Kind}
 use Rattle.line_model.specs.declared.script.Kind.TheVariants.{Internal, External}
 use Rattle.line_model.specs.declared.script.Script.{Script}
-use Rattle.line_model.specs.Parameters.{terminal_count}
 use Rattle.line_model.specs.Choice.{Choice, Box, IsWithin, DelaysFromOne, LeastFromOne}
 use Rattle.line_model.specs.Histories.{PairHistory, IsPairHistory, CoversHistory, IsSoundHistory}
 use Rattle.line_model.specs.Rule.{Broken, IsHeld, IsBroken, rule_of}
-use Rattle.line_model.proofs.BoxLaws.{box_covers_choice}
+use Rattle.line_model.specs.{declared.script.Kind.Kind, Parameters.terminal_count}
 use Rattle.line_model.proofs.HistoryLaws.{history_exists}
-use Rattle.line_model.proofs.RuleLaws.{rule_broken, broken_rule}
+use Rattle.line_model.proofs.{BoxLaws.box_covers_choice, RuleLaws.rule_broken, RuleLaws.broken_rule}
 
 covering_sound : (x : Rails) (v : Bool) → Covers x v → IsSound x
 covering_sound x v cover on = cover.may (cover.must on)

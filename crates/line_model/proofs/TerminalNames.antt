@@ -1,8 +1,7 @@
 -- Names of terminals that differ.
 use Rattle.std.proofs.Common.{◌≡◌, ◌≢◌, ℕ, ◌<◌, List, [], length, get_or, sym, ◌∙◌}
 use Rattle.std.proofs.lemmas.List.{get_or-map}
-use Rattle.line_model.specs.declared.line.Terminal.{Terminal}
-use Rattle.line_model.specs.Terminals.{names_of}
+use Rattle.line_model.specs.{declared.line.Terminal.Terminal, Terminals.names_of}
 
 module _
     (ts : List Terminal) (j k : ℕ) (a b : Terminal) (jt : j < length ts) (kt : k < length ts) where

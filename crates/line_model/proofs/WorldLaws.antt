@@ -1,31 +1,16 @@
 -- The worlds of a line at a choice and over a box: their delays are at least 1 where those are.
 use Rattle.std.proofs.Common.{◌≡◌, ℕ, ◌<◌, ◌≤◌, List, refl, sym}
 use Rattle.std.specs.Prelude.{Bool, get_or}
-use Rattle.history.specs.Laws.{HistoryLaws}
-use Rattle.history.specs.Rails.{single}
-use Rattle.line_model.specs.declared.line.Line.{Line}
+use Rattle.history.specs.{Laws.HistoryLaws, Rails.single}
 use Rattle.line_model.specs.declared.script.Script.{Script}
-use Rattle.line_model.specs.declared.formula.Time.{Time}
 use Rattle.line_model.specs.declared.formula.Time.TheVariants.{Zero, Param}
 use Rattle.line_model.specs.Parameters.{channel_count, delay_param}
 use Rattle.line_model.specs.Tree.{Tree}
-use Rattle.line_model.specs.Mean.{Signals, mean}
-use Rattle.line_model.specs.PairMean.{singles}
-use Rattle.line_model.specs.Choice.{
-  Choice,
-  Box,
-  DelaysFromOne,
-  LeastFromOne,
-  steady_choice,
-  point_box,
-  time_by,
-  ends_by,
-  world_of,
-  pair_world_of,
-}
+use Rattle.line_model.specs.Choice.{Choice, Box, DelaysFromOne, LeastFromOne, steady_choice}
+use Rattle.line_model.specs.Choice.{point_box, time_by, ends_by, world_of, pair_world_of}
 use Rattle.line_model.specs.Keys.{CanAsk, AgreeBefore, key_at}
-use Rattle.line_model.specs.Solution.{IsDelayed}
-use Rattle.line_model.specs.Covering.{IsSameWorld}
+use Rattle.line_model.specs.{declared.line.Line.Line, declared.formula.Time.Time, Mean.Signals}
+use Rattle.line_model.specs.{Mean.mean, PairMean.singles, Solution.IsDelayed, Covering.IsSameWorld}
 use Rattle.line_model.proofs.PlainLaws.{mean-past}
 
 pub world_delayed : (line : Line) (script : Script) (choice : Choice) → DelaysFromOne line choice

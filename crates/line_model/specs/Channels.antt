@@ -1,23 +1,6 @@
 -- What a line keeps of its channels.
-use Rattle.std.specs.Prelude.{
-  ◌≡◌,
-  ◌≢◌,
-  ◌<◌,
-  ◌&&◌,
-  ◌==◌,
-  ◌*◌,
-  ◌-◌,
-  ℕ,
-  Bool,
-  List,
-  Option,
-  Some,
-  length,
-  map,
-  IsTrue,
-  is_some,
-  get_or,
-}
+use Rattle.std.specs.Prelude.{◌≡◌, ◌≢◌, ◌<◌, ◌&&◌, ◌==◌, ◌*◌, ◌-◌, ℕ, Bool, List, Option, Some}
+use Rattle.std.specs.Prelude.{length, map, IsTrue, is_some, get_or}
 use Rattle.std.specs.List.{position_from}
 use Rattle.line_model.specs.declared.line.Channel.{Channel}
 

@@ -1,15 +1,11 @@
 -- Choices of every number that a line leaves open, boxes of such choices, and the worlds they make.
 use Rattle.std.specs.Prelude.{◌≤◌, ◌<◌, ℕ, List, get_or}
 use Rattle.history.specs.Rails.{Ends, single, IsPartOf}
-use Rattle.line_model.specs.declared.line.Line.{Line}
 use Rattle.line_model.specs.declared.script.Script.{Script}
-use Rattle.line_model.specs.declared.formula.Time.{Time}
 use Rattle.line_model.specs.declared.formula.Time.TheVariants.{Zero, Param}
-use Rattle.line_model.specs.Channels.{from_of}
 use Rattle.line_model.specs.Parameters.{channel_count, param_count, delay_param, declared_ends}
-use Rattle.line_model.specs.Seen.{is_seen, is_lost}
-use Rattle.line_model.specs.Mean.{World}
-use Rattle.line_model.specs.PairMean.{PairWorld}
+use Rattle.line_model.specs.{declared.line.Line.Line, declared.formula.Time.Time, Channels.from_of}
+use Rattle.line_model.specs.{Seen.is_seen, Seen.is_lost, Mean.World, PairMean.PairWorld}
 
 -- one number for each parameter, and for each channel, at every tick, the delay that the signal
 -- arriving at that tick has had

@@ -1,13 +1,10 @@
 -- One world contains another, one list of keys covers another.
 use Rattle.std.specs.Prelude.{◌≡◌, ◌<◌, ℕ}
 use Rattle.history.specs.Rails.{RailsCover, IsPartOf}
-use Rattle.line_model.specs.declared.line.Line.{Line}
-use Rattle.line_model.specs.declared.script.Place.{Place}
-use Rattle.line_model.specs.declared.formula.Time.{Time}
 use Rattle.line_model.specs.Parameters.{terminal_count, channel_count}
-use Rattle.line_model.specs.Names.{HasTime}
-use Rattle.line_model.specs.Tree.{Tree}
 use Rattle.line_model.specs.PairMean.{PairWorld, PairSignals, pair_mean}
+use Rattle.line_model.specs.{declared.line.Line.Line, declared.script.Place.Place}
+use Rattle.line_model.specs.{declared.formula.Time.Time, Names.HasTime, Tree.Tree}
 
 -- both see the same, and each interval of the line is part of the wider world's, at every tick
 pub record IsWider (line : Line) (wide narrow : PairWorld) : Type 0 where

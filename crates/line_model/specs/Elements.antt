@@ -1,25 +1,15 @@
 -- The trees of what a terminal sees for itself.
 use Rattle.std.specs.Prelude.{ℕ, Bool, false, map, get_or, unwrap_or}
-use Rattle.line_model.specs.declared.line.Line.{Line}
-use Rattle.line_model.specs.declared.line.Owner.{Owner}
+use Rattle.line_model.specs.{declared.line.Line.Line, declared.line.Owner.Owner}
 use Rattle.line_model.specs.declared.line.Owner.TheVariants as owner
 use Rattle.line_model.specs.declared.line.Setting.{Setting}
-use Rattle.line_model.specs.declared.line.Setting.TheVariants.{
-  Z1Pickup,
-  Z1Dropout,
-  Z2Pickup,
-  Z2Dropout,
-  RvPickup,
-  RvDropout,
-  UvPickup,
-  UvDropout,
-}
+use Rattle.line_model.specs.declared.line.Setting.TheVariants.{Z1Pickup, Z1Dropout, Z2Pickup}
+use Rattle.line_model.specs.declared.line.Setting.TheVariants.{Z2Dropout, RvPickup, RvDropout}
+use Rattle.line_model.specs.declared.line.Setting.TheVariants.{UvPickup, UvDropout}
 use Rattle.line_model.specs.declared.script.Element.{Element}
 use Rattle.line_model.specs.declared.script.Element.TheVariants as element
-use Rattle.line_model.specs.declared.formula.Time.{Time}
-use Rattle.line_model.specs.declared.formula.Time.TheVariants.{Param}
-use Rattle.line_model.specs.Parameters.{param_number}
-use Rattle.line_model.specs.Tree.{Tree, Seen, Timer}
+use Rattle.line_model.specs.{declared.formula.Time.Time, declared.formula.Time.TheVariants.Param}
+use Rattle.line_model.specs.{Parameters.param_number, Tree.Tree, Tree.Seen, Tree.Timer}
 
 -- whether terminal k is guarded against current reversal, and whether it is a weak infeed
 abbrev pub is_guarded : Line → ℕ → Bool

@@ -2,14 +2,11 @@
 use Rattle.std.specs.Prelude.{◌≡◌, ◌≤◌, ◌<◌, ℕ, Bool, IsTrue, IsFalse}
 use Rattle.history.specs.Rails.{both, Covers, RailsCover, IsSound}
 use Rattle.line_model.specs.declared.line.Line.{Line}
-use Rattle.line_model.specs.declared.script.Kind.{Kind}
 use Rattle.line_model.specs.declared.script.Kind.TheVariants.{Internal, External}
-use Rattle.line_model.specs.declared.script.Script.{Script}
-use Rattle.line_model.specs.Parameters.{terminal_count}
-use Rattle.line_model.specs.Mean.{Signals, mean}
-use Rattle.line_model.specs.PairMean.{PairSignals, pair_mean}
-use Rattle.line_model.specs.Choice.{Choice, Box, world_of, pair_world_of}
-use Rattle.line_model.specs.Logic.{key_tree, trip_tree}
+use Rattle.line_model.specs.{declared.script.Kind.Kind, declared.script.Script.Script}
+use Rattle.line_model.specs.{Parameters.terminal_count, Mean.Signals, Mean.mean}
+use Rattle.line_model.specs.{PairMean.PairSignals, PairMean.pair_mean, Choice.Choice, Choice.Box}
+use Rattle.line_model.specs.{Choice.world_of, Choice.pair_world_of, Logic.key_tree, Logic.trip_tree}
 
 -- what each terminal keys, and whether it trips, at each tick
 pub record History : Type 0 where

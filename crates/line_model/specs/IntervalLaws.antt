@@ -1,12 +1,10 @@
 -- What lines that agree in all but their intervals have in common, as laws that proofs above cite.
 use Rattle.std.specs.Prelude.{◌≡◌, ◌↔◌, ℕ}
 use Rattle.line_model.specs.declared.line.Line.{Line}
-use Rattle.line_model.specs.declared.script.Script.{Script}
 use Rattle.line_model.specs.Parameters.{terminal_count, channel_count, param_count, delay_param}
-use Rattle.line_model.specs.SetBounds.{SameButParams}
-use Rattle.line_model.specs.Choice.{Choice, Box}
-use Rattle.line_model.specs.Logic.{key_tree, trip_tree}
 use Rattle.line_model.specs.Histories.{History, IsLineHistory, PairHistory, IsPairHistory}
+use Rattle.line_model.specs.{declared.script.Script.Script, SetBounds.SameButParams, Choice.Choice}
+use Rattle.line_model.specs.{Choice.Box, Logic.key_tree, Logic.trip_tree}
 
 -- each has as many terminals, channels and parameters, and the same number for each delay
 pub record CountsRestOnNoInterval : Type 0 where

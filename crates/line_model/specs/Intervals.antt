@@ -1,9 +1,7 @@
 -- What a line keeps of its parameters' intervals.
 use Rattle.std.specs.Prelude.{◌≤◌, ◌<◌, ℕ, List, length, map, get_or, unwrap_or}
-use Rattle.line_model.specs.declared.line.Scheme.{Scheme}
-use Rattle.line_model.specs.declared.line.Terminal.{Terminal}
-use Rattle.line_model.specs.declared.line.Channel.{Channel}
-use Rattle.line_model.specs.declared.line.Param.{Param}
+use Rattle.line_model.specs.{declared.line.Scheme.Scheme, declared.line.Terminal.Terminal}
+use Rattle.line_model.specs.{declared.line.Channel.Channel, declared.line.Param.Param}
 use Rattle.line_model.specs.declared.line.Owner.TheVariants as owner
 use Rattle.line_model.specs.declared.line.Setting.TheVariants.{Delay}
 use Rattle.line_model.specs.Settings.{line_settings, setting_number}

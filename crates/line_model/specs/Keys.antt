@@ -1,13 +1,9 @@
 -- Recorded keys, and what has to be known so that a tree's value can be asked for.
 use Rattle.std.specs.Prelude.{◌≡◌, ◌≤◌, ◌<◌, ℕ, Bool, false, List, [], Vec, length, map, get_or}
-use Rattle.line_model.specs.declared.line.Line.{Line}
 use Rattle.line_model.specs.Parameters.{terminal_count, channel_count, param_count, delay_param}
-use Rattle.line_model.specs.declared.script.Script.{Script}
-use Rattle.line_model.specs.declared.formula.Formula.{Formula}
-use Rattle.line_model.specs.Tree.{Tree, tree_of}
-use Rattle.line_model.specs.Names.{Names}
-use Rattle.line_model.specs.Mean.{Signals, mean}
-use Rattle.line_model.specs.Choice.{world_of, steady_choice}
+use Rattle.line_model.specs.{declared.line.Line.Line, declared.script.Script.Script}
+use Rattle.line_model.specs.{declared.formula.Formula.Formula, Tree.Tree, Tree.tree_of, Names.Names}
+use Rattle.line_model.specs.{Mean.Signals, Mean.mean, Choice.world_of, Choice.steady_choice}
 
 -- the histories that a slice of vectors holds, one for each terminal
 abbrev pub histories : {A : Type 0} → List (Vec Bool A) → List (List Bool)

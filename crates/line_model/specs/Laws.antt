@@ -1,94 +1,31 @@
 -- The laws of lines and histories, each under the name of the function that ensures it, so that the
 -- proofs above can take them as arguments.
-use Rattle.std.specs.Prelude.{
-  ◌≡◌,
-  ◌+◌,
-  ◌*◌,
-  ◌≤◌,
-  ◌<◌,
-  ◌↔◌,
-  ℕ,
-  Decides,
-  List,
-  Some,
-  length,
-  take,
-  get_or,
-  option_map,
-}
+use Rattle.std.specs.Prelude.{◌≡◌, ◌+◌, ◌*◌, ◌≤◌, ◌<◌, ◌↔◌, ℕ, Decides, List, Some, length, take}
+use Rattle.std.specs.Prelude.{get_or, option_map}
 use Rattle.history.specs.Rails.{Rails, Covers}
 use Rattle.line_model.specs.declared.line.Line.{Line}
-use Rattle.line_model.specs.declared.line.Scheme.{Scheme}
-use Rattle.line_model.specs.declared.line.Terminal.{Terminal}
-use Rattle.line_model.specs.declared.line.Channel.{Channel}
-use Rattle.line_model.specs.declared.line.Owner.{Owner}
+use Rattle.line_model.specs.{declared.line.Scheme.Scheme, declared.line.Terminal.Terminal}
+use Rattle.line_model.specs.{declared.line.Channel.Channel, declared.line.Owner.Owner}
 use Rattle.line_model.specs.declared.line.Owner.TheVariants as owner
-use Rattle.line_model.specs.declared.line.Setting.{Setting}
-use Rattle.line_model.specs.declared.script.Kind.{Kind}
-use Rattle.line_model.specs.declared.script.Script.{Script}
-use Rattle.line_model.specs.Settings.{
-  settings_of_terminals,
-  terminal_settings,
-  channel_settings,
-  line_settings,
-}
-use Rattle.line_model.specs.Places.{terminal_place, channel_place}
-use Rattle.line_model.specs.Intervals.{leasts, delay_number_of}
-use Rattle.line_model.specs.Parameters.{
-  terminal_count,
-  channel_count,
-  param_count,
-  param_number,
-  delay_param,
-}
-use Rattle.line_model.specs.Fits.{Fits}
-use Rattle.line_model.specs.Names.{Names, IsLocal}
-use Rattle.line_model.specs.Tree.{Tree}
-use Rattle.line_model.specs.Mean.{Signals, mean}
+use Rattle.line_model.specs.Parameters.{terminal_count, channel_count, param_count, param_number}
+use Rattle.line_model.specs.Parameters.{delay_param}
 use Rattle.line_model.specs.PairMean.{PairSignals, pair_mean}
-use Rattle.line_model.specs.Choice.{
-  Choice,
-  Box,
-  IsWithin,
-  IsBoxWithin,
-  IsInside,
-  DelaysFromOne,
-  LeastFromOne,
-  point_box,
-  declared_box,
-  steady_choice,
-  world_of,
-  pair_world_of,
-}
-use Rattle.line_model.specs.Keys.{AgreeBefore}
+use Rattle.line_model.specs.Choice.{Choice, Box, IsWithin, IsBoxWithin, IsInside, DelaysFromOne}
+use Rattle.line_model.specs.Choice.{LeastFromOne, point_box, declared_box, steady_choice, world_of}
+use Rattle.line_model.specs.Choice.{pair_world_of}
 use Rattle.line_model.specs.Solution.{Solves, SameBefore, the_keys}
-use Rattle.line_model.specs.Logic.{key_tree, trip_tree}
-use Rattle.line_model.specs.Histories.{
-  History,
-  IsLineHistory,
-  IsSameHistory,
-  Meets,
-  PairHistory,
-  IsPairHistory,
-  IsSamePairHistory,
-  IsBothRails,
-  IsSoundHistory,
-  CoversHistory,
-  CoversPairHistory,
-  AreCovered,
-  must_history,
-  with_derived_trips,
-}
-use Rattle.line_model.specs.Rule.{
-  Held,
-  Broken,
-  Unknown,
-  IsHeld,
-  IsBroken,
-  is_held,
-  is_broken,
-  rule_of,
-}
+use Rattle.line_model.specs.Histories.{History, IsLineHistory, IsSameHistory, Meets, PairHistory}
+use Rattle.line_model.specs.Histories.{IsPairHistory, IsSamePairHistory, IsBothRails}
+use Rattle.line_model.specs.Histories.{IsSoundHistory, CoversHistory, CoversPairHistory, AreCovered}
+use Rattle.line_model.specs.Histories.{must_history, with_derived_trips}
+use Rattle.line_model.specs.{declared.line.Setting.Setting, declared.script.Kind.Kind}
+use Rattle.line_model.specs.{declared.script.Script.Script, Settings.settings_of_terminals}
+use Rattle.line_model.specs.{Settings.terminal_settings, Settings.channel_settings}
+use Rattle.line_model.specs.{Settings.line_settings, Places.terminal_place, Places.channel_place}
+use Rattle.line_model.specs.{Intervals.leasts, Intervals.delay_number_of, Fits.Fits, Names.Names}
+use Rattle.line_model.specs.{Names.IsLocal, Tree.Tree, Mean.Signals, Mean.mean, Keys.AgreeBefore}
+use Rattle.line_model.specs.{Logic.key_tree, Logic.trip_tree, Rule.Held, Rule.Broken, Rule.Unknown}
+use Rattle.line_model.specs.{Rule.IsHeld, Rule.IsBroken, Rule.is_held, Rule.is_broken, Rule.rule_of}
 
 -- parameters are numbered in the order of the settings: as many as settings and at most 63, each
 -- setting that a line has within them

@@ -1,19 +1,14 @@
 -- What each terminal sends and trips on, by the scheme.
 use Rattle.std.specs.Prelude.{ℕ, if◌then◌else◌}
-use Rattle.line_model.specs.declared.line.Line.{Line}
-use Rattle.line_model.specs.declared.line.Scheme.{Scheme}
 use Rattle.line_model.specs.declared.line.Scheme.TheVariants.{Pott, Putt, Dcb, Dcub, Dtt}
-use Rattle.line_model.specs.declared.line.Setting.TheVariants.{
-  BlockCarry,
-  BlockCoord,
-  TransferSecurity,
-}
-use Rattle.line_model.specs.declared.formula.Time.TheVariants.{Zero}
+use Rattle.line_model.specs.declared.line.Setting.TheVariants.{BlockCarry, BlockCoord}
+use Rattle.line_model.specs.declared.line.Setting.TheVariants.{TransferSecurity}
 use Rattle.line_model.specs.Tree.{Tree, Not, And, Or, Timer, Seal}
 use Rattle.line_model.specs.Elements.{zone1, zone2, reverse, current}
 use Rattle.line_model.specs.Received.{any_received, all_received}
-use Rattle.line_model.specs.Unblocking.{all_open}
 use Rattle.line_model.specs.Permissive.{terminal_setting, permissive_key, permissive_pilot}
+use Rattle.line_model.specs.{declared.line.Line.Line, declared.line.Scheme.Scheme}
+use Rattle.line_model.specs.{declared.formula.Time.TheVariants.Zero, Unblocking.all_open}
 
 -- a blocking terminal sends while it sees a fault behind, and carries on for a while
 unfoldable pub blocking_key : Line → ℕ → Tree

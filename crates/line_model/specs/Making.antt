@@ -1,15 +1,11 @@
 -- What a line is made of.
 use Rattle.std.specs.Prelude.{◌≡◌, ◌≤◌, ℕ, Bool, List, length, map, IsTrue}
-use Rattle.line_model.specs.declared.line.Line.{Line}
-use Rattle.line_model.specs.declared.line.Scheme.{Scheme}
-use Rattle.line_model.specs.declared.line.Terminal.{Terminal}
-use Rattle.line_model.specs.declared.line.Channel.{Channel}
-use Rattle.line_model.specs.declared.line.Param.{Param}
-use Rattle.line_model.specs.declared.bounds.Bounds.{Bounds}
 use Rattle.line_model.specs.Terminals.{are_plain_names, NamesDiffer, flags_fit}
-use Rattle.line_model.specs.Channels.{AreChannels}
-use Rattle.line_model.specs.Settings.{line_settings}
 use Rattle.line_model.specs.Intervals.{leasts, greatests, AreIntervals, LeastDelaysFromOne}
+use Rattle.line_model.specs.{declared.line.Line.Line, declared.line.Scheme.Scheme}
+use Rattle.line_model.specs.{declared.line.Terminal.Terminal, declared.line.Channel.Channel}
+use Rattle.line_model.specs.{declared.line.Param.Param, declared.bounds.Bounds.Bounds}
+use Rattle.line_model.specs.{Channels.AreChannels, Settings.line_settings}
 
 -- the ends of the intervals
 abbrev pub least_ends : List Bounds → List ℕ

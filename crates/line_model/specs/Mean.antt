@@ -1,9 +1,8 @@
 -- The value of a tree at a tick.
 use Rattle.std.specs.Prelude.{◌&&◌, ◌||◌, ℕ, Bool, not}
 use Rattle.history.specs.Elements.{timed, sealed, delayed}
-use Rattle.line_model.specs.declared.script.Place.{Place}
-use Rattle.line_model.specs.declared.formula.Time.{Time}
 use Rattle.line_model.specs.Tree.{Tree, Const, Seen, Loss, Raw, Not, And, Or, Timer, Seal}
+use Rattle.line_model.specs.{declared.script.Place.Place, declared.formula.Time.Time}
 
 -- what a tree's value rests on beside the keys: what the script shows, who sends on a channel, the
 -- delay of each channel at each tick, and each pickup and dropout

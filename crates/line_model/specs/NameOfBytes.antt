@@ -2,8 +2,7 @@
 use Rattle.std.specs.Prelude.{◌≡◌, ◌≤◌, ◌-◌, ◌++◌, ℕ, List, take, replicate, length}
 use Rattle.std.proofs.Common.{arith, ap, ◌∙◌}
 use Rattle.std.proofs.lemmas.List.{length-take-le}
-use Rattle.line_model.specs.declared.name.Name.TheInside.{Inside}
-use Rattle.line_model.specs.NameBytes.{IsPadded}
+use Rattle.line_model.specs.{declared.name.Name.TheInside.Inside, NameBytes.IsPadded}
 
 -- the fields of the name of these bytes
 abbrev pub from_list : List ℕ → Inside

@@ -1,14 +1,12 @@
 -- Trees that name only what a line has, and only what one terminal of it has.
 use Rattle.std.specs.Prelude.{◌≡◌, ◌<◌, ℕ, Some}
-use Rattle.line_model.specs.declared.line.Line.{Line}
-use Rattle.line_model.specs.declared.line.Owner.{Owner}
+use Rattle.line_model.specs.{declared.line.Line.Line, declared.line.Owner.Owner}
 use Rattle.line_model.specs.declared.line.Owner.TheVariants as owner
 use Rattle.line_model.specs.declared.line.Setting.{Setting}
-use Rattle.line_model.specs.declared.formula.Time.{Time}
 use Rattle.line_model.specs.declared.formula.Time.TheVariants.{Zero, Param}
 use Rattle.line_model.specs.Parameters.{terminal_count, channel_count, param_count, param_number}
-use Rattle.line_model.specs.Channels.{to_of}
 use Rattle.line_model.specs.Tree.{Tree, Const, Seen, Loss, Raw, Not, And, Or, Timer, Seal}
+use Rattle.line_model.specs.{declared.formula.Time.Time, Channels.to_of}
 
 -- the line has the parameter that the time names, if it names one
 abbrev pub HasTime : Line → Time → Type 0

@@ -1,21 +1,9 @@
 -- The pair of a tree at a tick, by the interval rules.
 use Rattle.std.specs.Prelude.{ℕ, Bool}
-use Rattle.history.specs.Rails.{
-  Rails,
-  Ends,
-  both,
-  single,
-  rails_not,
-  rails_and,
-  rails_or,
-  rails_timed,
-  rails_sealed,
-  rails_delayed,
-}
-use Rattle.line_model.specs.declared.script.Place.{Place}
-use Rattle.line_model.specs.declared.formula.Time.{Time}
+use Rattle.history.specs.Rails.{Rails, Ends, both, single, rails_not, rails_and, rails_or}
+use Rattle.history.specs.Rails.{rails_timed, rails_sealed, rails_delayed}
 use Rattle.line_model.specs.Tree.{Tree, Const, Seen, Loss, Raw, Not, And, Or, Timer, Seal}
-use Rattle.line_model.specs.Mean.{World}
+use Rattle.line_model.specs.{declared.script.Place.Place, declared.formula.Time.Time, Mean.World}
 
 -- what a tree's pair rests on beside the keys: as a world, with an interval for each number
 pub record PairWorld : Type 0 where

@@ -1,48 +1,19 @@
 -- The names of a line's parameters: the owner, a dot and the setting.
-use Rattle.std.specs.Prelude.{
-  ◌++◌,
-  ℕ,
-  zero,
-  suc,
-  List,
-  [],
-  ◌∷◌,
-  Option,
-  Some,
-  None,
-  codes,
-  map,
-  slice_get,
-}
+use Rattle.std.specs.Prelude.{◌++◌, ℕ, zero, suc, List, [], ◌∷◌, Option, Some, None, codes, map}
+use Rattle.std.specs.Prelude.{slice_get}
 use Rattle.std.specs.List.{flat_map}
-use Rattle.line_model.specs.declared.line.Scheme.{Scheme}
-use Rattle.line_model.specs.declared.line.Terminal.{Terminal}
-use Rattle.line_model.specs.declared.line.Channel.{Channel}
-use Rattle.line_model.specs.declared.line.Owner.{Owner}
+use Rattle.line_model.specs.{declared.line.Scheme.Scheme, declared.line.Terminal.Terminal}
+use Rattle.line_model.specs.{declared.line.Channel.Channel, declared.line.Owner.Owner}
 use Rattle.line_model.specs.declared.line.Owner.TheVariants as owner
 use Rattle.line_model.specs.declared.line.Setting.{Setting}
-use Rattle.line_model.specs.declared.line.Setting.TheVariants.{
-  Z1Pickup,
-  Z1Dropout,
-  Z2Pickup,
-  Z2Dropout,
-  RvPickup,
-  RvDropout,
-  UvPickup,
-  UvDropout,
-  ReversalPickup,
-  ReversalDropout,
-  EchoBlock,
-  EchoPickup,
-  EchoPulse,
-  BlockCarry,
-  BlockCoord,
-  TransferSecurity,
-  Delay,
-  UnblockPickup,
-  UnblockWindow,
-  UnblockRestore,
-}
+use Rattle.line_model.specs.declared.line.Setting.TheVariants.{Z1Pickup, Z1Dropout, Z2Pickup}
+use Rattle.line_model.specs.declared.line.Setting.TheVariants.{Z2Dropout, RvPickup, RvDropout}
+use Rattle.line_model.specs.declared.line.Setting.TheVariants.{UvPickup, UvDropout, ReversalPickup}
+use Rattle.line_model.specs.declared.line.Setting.TheVariants.{ReversalDropout, EchoBlock}
+use Rattle.line_model.specs.declared.line.Setting.TheVariants.{EchoPickup, EchoPulse, BlockCarry}
+use Rattle.line_model.specs.declared.line.Setting.TheVariants.{BlockCoord, TransferSecurity, Delay}
+use Rattle.line_model.specs.declared.line.Setting.TheVariants.{UnblockPickup, UnblockWindow}
+use Rattle.line_model.specs.declared.line.Setting.TheVariants.{UnblockRestore}
 use Rattle.line_model.specs.Settings.{OwnedSetting, terminal_settings, channel_settings}
 
 -- a setting as it is written

@@ -1,10 +1,9 @@
 -- What the names of a line's parameters keep.
-use Rattle.std.specs.Prelude.{◌≡◌, ◌≢◌, ◌<◌, ◌==◌, ℕ, Bool, true, false, List, [], length, map, get_or, not}
-use Rattle.std.specs.Prelude.{Some, None}
+use Rattle.std.specs.Prelude.{◌≡◌, ◌≢◌, ◌<◌, ◌==◌, ℕ, Bool, true, false, List, [], length, map}
+use Rattle.std.specs.Prelude.{get_or, not, Some, None}
 use Rattle.std.specs.List.{list_all, position_from}
 use Rattle.std.specs.Str.{bytes_eq}
-use Rattle.line_model.specs.declared.line.Line.{Line}
-use Rattle.line_model.specs.Parameters.{param_count}
+use Rattle.line_model.specs.{declared.line.Line.Line, Parameters.param_count}
 
 -- the name of parameter i
 abbrev pub name_of_param : Line → ℕ → List ℕ

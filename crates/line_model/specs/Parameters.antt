@@ -1,12 +1,10 @@
 -- A line's parameters by number: where a setting stands, what is declared for it.
 use Rattle.std.specs.Prelude.{◌<◌, ℕ, Option, length, map, get_or, unwrap_or}
 use Rattle.history.specs.Rails.{Ends}
-use Rattle.line_model.specs.declared.line.Line.{Line}
-use Rattle.line_model.specs.declared.line.Owner.{Owner}
+use Rattle.line_model.specs.{declared.line.Line.Line, declared.line.Owner.Owner}
 use Rattle.line_model.specs.declared.line.Owner.TheVariants as owner
-use Rattle.line_model.specs.declared.line.Setting.{Setting}
-use Rattle.line_model.specs.declared.line.Setting.TheVariants.{Delay}
 use Rattle.line_model.specs.Settings.{line_settings, setting_number}
+use Rattle.line_model.specs.{declared.line.Setting.Setting, declared.line.Setting.TheVariants.Delay}
 
 -- how many terminals, channels and parameters a line has
 abbrev pub terminal_count : Line → ℕ

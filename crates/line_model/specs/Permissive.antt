@@ -1,23 +1,15 @@
 -- The trees of permission schemes: current reversal guard, echo, weak infeed, key and trip.
 use Rattle.std.specs.Prelude.{ℕ, false, if◌then◌else◌}
-use Rattle.line_model.specs.declared.line.Line.{Line}
-use Rattle.line_model.specs.declared.line.Scheme.{Scheme}
 use Rattle.line_model.specs.declared.line.Scheme.TheVariants.{Pott, Putt, Dcb, Dcub, Dtt}
+use Rattle.line_model.specs.{declared.line.Line.Line, declared.line.Scheme.Scheme}
 use Rattle.line_model.specs.declared.line.Owner.TheVariants as owner
 use Rattle.line_model.specs.declared.line.Setting.{Setting}
-use Rattle.line_model.specs.declared.line.Setting.TheVariants.{
-  ReversalPickup,
-  ReversalDropout,
-  EchoBlock,
-  EchoPickup,
-  EchoPulse,
-}
-use Rattle.line_model.specs.declared.formula.Time.{Time}
+use Rattle.line_model.specs.declared.line.Setting.TheVariants.{ReversalPickup, ReversalDropout}
+use Rattle.line_model.specs.declared.line.Setting.TheVariants.{EchoBlock, EchoPickup, EchoPulse}
 use Rattle.line_model.specs.declared.formula.Time.TheVariants.{Zero}
 use Rattle.line_model.specs.Tree.{Tree, Const, Not, And, Or, Timer}
 use Rattle.line_model.specs.Elements.{is_guarded, is_weak, setting_of, zone2, reverse, undervoltage}
-use Rattle.line_model.specs.Received.{all_received}
-use Rattle.line_model.specs.Unblocking.{all_open}
+use Rattle.line_model.specs.{declared.formula.Time.Time, Received.all_received, Unblocking.all_open}
 
 -- what permits a terminal to trip, in the schemes that ask for permission (PERM)
 abbrev pub permission_by : Scheme → Line → ℕ → Tree

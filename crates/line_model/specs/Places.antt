@@ -1,32 +1,17 @@
 -- The place of a setting among those of its owner, by cases.
 use Rattle.std.specs.Prelude.{◌+◌, ℕ, Bool, true, false, Option, Some, None, length}
-use Rattle.line_model.specs.declared.line.Scheme.{Scheme}
 use Rattle.line_model.specs.declared.line.Scheme.TheVariants.{Dcb, Dcub, Dtt}
-use Rattle.line_model.specs.declared.line.Setting.{Setting}
-use Rattle.line_model.specs.declared.line.Setting.TheVariants.{
-  Z1Pickup,
-  Z1Dropout,
-  Z2Pickup,
-  Z2Dropout,
-  RvPickup,
-  RvDropout,
-  UvPickup,
-  UvDropout,
-  ReversalPickup,
-  ReversalDropout,
-  EchoBlock,
-  EchoPickup,
-  EchoPulse,
-  BlockCarry,
-  BlockCoord,
-  TransferSecurity,
-  Delay,
-  UnblockPickup,
-  UnblockWindow,
-  UnblockRestore,
-}
+use Rattle.line_model.specs.declared.line.Setting.TheVariants.{Z1Pickup, Z1Dropout, Z2Pickup}
+use Rattle.line_model.specs.declared.line.Setting.TheVariants.{Z2Dropout, RvPickup, RvDropout}
+use Rattle.line_model.specs.declared.line.Setting.TheVariants.{UvPickup, UvDropout, ReversalPickup}
+use Rattle.line_model.specs.declared.line.Setting.TheVariants.{ReversalDropout, EchoBlock}
+use Rattle.line_model.specs.declared.line.Setting.TheVariants.{EchoPickup, EchoPulse, BlockCarry}
+use Rattle.line_model.specs.declared.line.Setting.TheVariants.{BlockCoord, TransferSecurity, Delay}
+use Rattle.line_model.specs.declared.line.Setting.TheVariants.{UnblockPickup, UnblockWindow}
+use Rattle.line_model.specs.declared.line.Setting.TheVariants.{UnblockRestore}
 use Rattle.line_model.specs.contracts.line.SchemePartialEq.TheImpl.{eq-value as scheme_eq}
 use Rattle.line_model.specs.Settings.{guard_settings, weak_settings}
+use Rattle.line_model.specs.{declared.line.Scheme.Scheme, declared.line.Setting.Setting}
 
 -- two schemes are compared as `==` compares them
 abbrev pub same_scheme : Scheme → Scheme → Bool

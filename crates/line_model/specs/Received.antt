@@ -1,20 +1,9 @@
 -- The trees of what a terminal receives from the others.
-use Rattle.std.specs.Prelude.{
-  ◌==◌,
-  ℕ,
-  zero,
-  suc,
-  false,
-  Option,
-  Some,
-  None,
-  unwrap_or,
-  if◌then◌else◌,
-}
+use Rattle.std.specs.Prelude.{◌==◌, ℕ, zero, suc, false, Option, Some, None, unwrap_or}
+use Rattle.std.specs.Prelude.{if◌then◌else◌}
 use Rattle.line_model.specs.declared.line.Line.{Line}
-use Rattle.line_model.specs.Channels.{channel_number}
-use Rattle.line_model.specs.Parameters.{terminal_count}
 use Rattle.line_model.specs.Tree.{Tree, Const, Loss, Raw, Not, And, Or}
+use Rattle.line_model.specs.{Channels.channel_number, Parameters.terminal_count}
 
 -- the channel to terminal k from terminal j
 unfoldable pub channel_to : Line → ℕ → ℕ → ℕ

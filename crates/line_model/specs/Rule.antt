@@ -1,11 +1,9 @@
 -- The rule of an obligation: held, broken or unknown, by the pairs of the terminal's trip.
 use Rattle.std.specs.Prelude.{◌≤◌, ◌<◌, ℕ, suc, not, Bool, IsTrue, IsFalse, if◌then◌else◌}
-use Rattle.history.specs.Rails.{Rails}
-use Rattle.history.specs.Elements.{some_below}
+use Rattle.history.specs.{Rails.Rails, Elements.some_below}
 use Rattle.line_model.specs.declared.line.Line.{Line}
-use Rattle.line_model.specs.declared.script.Kind.{Kind}
 use Rattle.line_model.specs.declared.script.Kind.TheVariants.{Internal, External}
-use Rattle.line_model.specs.declared.script.Script.{Script}
+use Rattle.line_model.specs.{declared.script.Kind.Kind, declared.script.Script.Script}
 
 pub data Rule : Type 0 where
   Held : Rule

@@ -1,8 +1,7 @@
 -- What a script shows at a tick. A span from..to holds the ticks t with from <= t < to.
 use Rattle.std.specs.Prelude.{◌&&◌, ◌==◌, ℕ, Bool, false, List, nat_le, nat_lt}
 use Rattle.std.specs.List.{list_any}
-use Rattle.line_model.specs.declared.script.Place.{Place}
-use Rattle.line_model.specs.declared.script.What.{What}
+use Rattle.line_model.specs.{declared.script.Place.Place, declared.script.What.What}
 use Rattle.line_model.specs.declared.script.What.TheVariants as what
 use Rattle.line_model.specs.declared.script.SeenSpan.{SeenSpan}
 use Rattle.line_model.specs.contracts.script.PlacePartialEq.TheImpl.{eq-value as place_eq}

@@ -1,11 +1,9 @@
 -- A line with another interval for one parameter.
 use Rattle.std.specs.Prelude.{◌≡◌, ◌<◌, ℕ, List, Some, length, map, slice_set}
-use Rattle.line_model.specs.declared.line.Line.{Line}
-use Rattle.line_model.specs.declared.line.Param.{Param}
+use Rattle.line_model.specs.{declared.line.Line.Line, declared.line.Param.Param}
 use Rattle.line_model.specs.declared.line.Owner.TheVariants as owner
 use Rattle.line_model.specs.declared.line.Setting.TheVariants.{Delay}
-use Rattle.line_model.specs.Intervals.{leasts, greatests}
-use Rattle.line_model.specs.Parameters.{param_number}
+use Rattle.line_model.specs.{Intervals.leasts, Intervals.greatests, Parameters.param_number}
 
 -- parameter i is the delay of a channel
 pub record IsDelayAt (line : Line) (i : ℕ) : Type 0 where

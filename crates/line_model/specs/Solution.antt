@@ -3,9 +3,8 @@ use Rattle.std.specs.Prelude.{◌≡◌, ◌≤◌, ◌<◌, ◌==◌, ℕ, zero
 use Rattle.history.specs.Rails.{both}
 use Rattle.line_model.specs.declared.line.Line.{Line}
 use Rattle.line_model.specs.Parameters.{terminal_count, channel_count}
-use Rattle.line_model.specs.Tree.{Tree}
-use Rattle.line_model.specs.Mean.{World, Signals, mean}
 use Rattle.line_model.specs.PairMean.{PairWorld, PairSignals, pair_mean}
+use Rattle.line_model.specs.{Tree.Tree, Mean.World, Mean.Signals, Mean.mean}
 
 -- the keys of the line's terminals solve the equations of their trees at each tick
 abbrev pub Solves : Line → PairWorld → (ℕ → Tree) → PairSignals → Type 0

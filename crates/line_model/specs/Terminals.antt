@@ -1,10 +1,9 @@
 -- What a line keeps of its terminals.
 use Rattle.std.specs.Prelude.{◌≢◌, ◌<◌, ◌||◌, ℕ, Bool, true, false, not, List, [], map, get_or}
 use Rattle.std.specs.List.{list_all}
-use Rattle.line_model.specs.declared.line.Scheme.{Scheme}
 use Rattle.line_model.specs.declared.line.Scheme.TheVariants.{Pott, Putt, Dcb, Dcub, Dtt}
 use Rattle.line_model.specs.declared.line.Terminal.{Terminal}
-use Rattle.line_model.specs.PlainNames.{is_plain_name}
+use Rattle.line_model.specs.{declared.line.Scheme.Scheme, PlainNames.is_plain_name}
 
 -- the names, in line order
 abbrev pub names_of : List Terminal → List (List ℕ)

@@ -3,16 +3,12 @@ use Rattle.std.specs.Prelude.{ℕ}
 use Rattle.line_model.specs.declared.line.Line.{Line}
 use Rattle.line_model.specs.declared.line.Owner.TheVariants as owner
 use Rattle.line_model.specs.declared.line.Setting.{Setting}
-use Rattle.line_model.specs.declared.line.Setting.TheVariants.{
-  UnblockPickup,
-  UnblockWindow,
-  UnblockRestore,
-}
-use Rattle.line_model.specs.declared.formula.Time.{Time}
+use Rattle.line_model.specs.declared.line.Setting.TheVariants.{UnblockPickup, UnblockWindow}
+use Rattle.line_model.specs.declared.line.Setting.TheVariants.{UnblockRestore}
 use Rattle.line_model.specs.declared.formula.Time.TheVariants.{Zero}
 use Rattle.line_model.specs.Tree.{Tree, Loss, Raw, Not, And, Or, Timer, Seal}
-use Rattle.line_model.specs.Elements.{setting_of}
 use Rattle.line_model.specs.Received.{channel_to, received, all_others}
+use Rattle.line_model.specs.{declared.formula.Time.Time, Elements.setting_of}
 
 -- a setting of the channel to k from j
 unfoldable pub channel_setting : Line → ℕ → ℕ → Setting → Time

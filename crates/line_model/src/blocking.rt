@@ -1,10 +1,9 @@
 // The blocking scheme, as formulas.
 
 ghost use Rattle.std.specs.Prelude.{◌≡◌, ◌<◌, IfOk};
-ghost use Rattle.line_model.specs.Tree.{tree_of};
 ghost use Rattle.line_model.specs.Parameters.{terminal_count};
-ghost use Rattle.line_model.specs.Logic.{blocking_key as blocking_key_tree};
-ghost use Rattle.line_model.specs.Logic.{blocking_pilot as blocking_pilot_tree};
+ghost use Rattle.line_model.specs.{Tree.tree_of, Logic.blocking_key as blocking_key_tree};
+ghost use Rattle.line_model.specs.{Logic.blocking_pilot as blocking_pilot_tree};
 
 use crate::build::{and, not, timer};
 use crate::elements::{reverse, zone2};

@@ -1,23 +1,8 @@
 // The channel between two terminals, and whether each pair has one.
 
-ghost use Rattle.std.specs.Prelude.{
-  ◌≡◌,
-  ◌≤◌,
-  ◌<◌,
-  ◌*◌,
-  ◌-◌,
-  ◌↔◌,
-  length,
-  IsTrue,
-  slice_index_or,
-};
-ghost use Rattle.line_model.specs.Channels.{
-  channel_number,
-  AreChannels,
-  IsChannel,
-  AreChannelsBelow,
-  AreFoundBelow,
-};
+ghost use Rattle.std.specs.Prelude.{◌≡◌, ◌≤◌, ◌<◌, ◌*◌, ◌-◌, ◌↔◌, length, IsTrue, slice_index_or};
+ghost use Rattle.line_model.specs.Channels.{channel_number, AreChannels, IsChannel};
+ghost use Rattle.line_model.specs.Channels.{AreChannelsBelow, AreFoundBelow};
 
 use crate::line::Channel;
 

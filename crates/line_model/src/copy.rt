@@ -2,9 +2,7 @@
 
 ghost use Rattle.std.specs.Prelude.{◌≤◌, ◌<◌, IfOk};
 ghost use Rattle.line_model.specs.Parameters.{param_count};
-ghost use Rattle.line_model.specs.SetBounds.{IsDelayAt};
-ghost use Rattle.line_model.specs.WithBounds.{IsWithBounds};
-ghost use Rattle.line_model.specs.SameLine.{SameLine};
+ghost use Rattle.line_model.specs.{SetBounds.IsDelayAt, WithBounds.IsWithBounds, SameLine.SameLine};
 
 use crate::line::Line;
 use crate::memory::Memory;

@@ -3,21 +3,18 @@
 
 ghost use Rattle.std.specs.Prelude.{◌≡◌, ◌≤◌, ◌<◌, ◌↔◌, ℕ};
 ghost use Rattle.history.specs.Rails.{Ends};
-ghost use Rattle.line_model.specs.declared.line.Line.{Line};
-ghost use Rattle.line_model.specs.declared.script.Script.{Script};
 ghost use Rattle.line_model.specs.Parameters.{terminal_count, param_count, declared_ends};
 ghost use Rattle.line_model.specs.SetBounds.{SameButParams, IsDelayAt};
 ghost use Rattle.line_model.specs.WithBounds.{IsWithBounds};
 ghost use Rattle.line_model.specs.Boxes.{IsSameBox, declared_with, box_with};
-ghost use Rattle.line_model.specs.Fits.{Fits};
 ghost use Rattle.line_model.specs.Choice.{Choice, Box, IsIn, IsWithin, IsInside, IsBoxWithin};
 ghost use Rattle.line_model.specs.Choice.{LeastFromOne, declared_box};
-ghost use Rattle.line_model.specs.Histories.{History, IsLineHistory, Meets};
-ghost use Rattle.line_model.specs.Histories.{PairHistory, IsPairHistory};
-ghost use Rattle.line_model.specs.Rule.{Held, rule_of};
-ghost use Rattle.line_model.specs.HeldOver.{IsHeldOver};
+ghost use Rattle.line_model.specs.Histories.{History, IsLineHistory, Meets, PairHistory};
+ghost use Rattle.line_model.specs.Histories.{IsPairHistory};
 ghost use Rattle.line_model.specs.IntervalLaws.{CountsRestOnNoInterval, TreesRestOnNoInterval};
 ghost use Rattle.line_model.specs.IntervalLaws.{HistoriesRestOnNoInterval};
+ghost use Rattle.line_model.specs.{declared.line.Line.Line, declared.script.Script.Script};
+ghost use Rattle.line_model.specs.{Fits.Fits, Rule.Held, Rule.rule_of, HeldOver.IsHeldOver};
 
 use history::laws::history_laws;
 

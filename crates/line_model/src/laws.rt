@@ -1,16 +1,15 @@
 //! The laws of the definitions: what every choice of delays, every box and every claim keeps.
 
 ghost use Rattle.line_model.specs.Laws.{ParametersAreNumbered, SettingsAreCounted};
-ghost use Rattle.line_model.specs.Laws.{TreesNameTheLine, TreesAreLocal};
-ghost use Rattle.line_model.specs.Laws.{ValuesRestOnEarlierKeys};
+ghost use Rattle.line_model.specs.Laws.{TreesNameTheLine, TreesAreLocal, ValuesRestOnEarlierKeys};
 ghost use Rattle.line_model.specs.Laws.{EachLineHasAChoiceInside, EachChoiceHasOneHistory};
 ghost use Rattle.line_model.specs.Laws.{EachBoxHasOneIntervalHistory, APointBoxGivesTheHistory};
 ghost use Rattle.line_model.specs.Laws.{AWiderBoxCovers, CoveringKeysGiveCoveringValues};
 ghost use Rattle.line_model.specs.Laws.{IntervalHistoriesAreSound, CoveredClaimsCover};
 ghost use Rattle.line_model.specs.Laws.{DeadlinesAreBelowTheHorizon, TheRuleIsTested};
 ghost use Rattle.line_model.specs.Laws.{TheRuleIsExact, ASoundRuleIsBrokenWhereItIsBroken};
-ghost use Rattle.line_model.specs.Laws.{TheRuleSpeaksForWhatIsCovered};
-ghost use Rattle.line_model.specs.Laws.{TheRuleSpeaksForEveryChoice, LineLaws};
+ghost use Rattle.line_model.specs.Laws.{TheRuleSpeaksForWhatIsCovered, TheRuleSpeaksForEveryChoice};
+ghost use Rattle.line_model.specs.Laws.{LineLaws};
 
 use history::laws::history_laws;
 

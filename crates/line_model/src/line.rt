@@ -3,9 +3,8 @@
 ghost use Rattle.std.specs.Prelude.{◌≡◌, ◌≤◌, length, map, IsTrue};
 ghost use Rattle.line_model.specs.Terminals.{are_plain_names, NamesDiffer, flags_fit};
 ghost use Rattle.line_model.specs.Channels.{AreChannels};
-ghost use Rattle.line_model.specs.Settings.{line_settings};
-ghost use Rattle.line_model.specs.ParamNames.{param_name};
 ghost use Rattle.line_model.specs.Intervals.{leasts, greatests, AreIntervals, LeastDelaysFromOne};
+ghost use Rattle.line_model.specs.{Settings.line_settings, ParamNames.param_name};
 
 use crate::name::Name;
 

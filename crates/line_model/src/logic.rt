@@ -1,9 +1,8 @@
 // What each terminal sends and trips on, by the line's scheme.
 
 ghost use Rattle.std.specs.Prelude.{◌≡◌, ◌<◌, IfOk};
-ghost use Rattle.line_model.specs.Tree.{tree_of};
-ghost use Rattle.line_model.specs.Parameters.{terminal_count};
 ghost use Rattle.line_model.specs.Logic.{pilot_by, key_tree, set_tree, trip_tree};
+ghost use Rattle.line_model.specs.{Tree.tree_of, Parameters.terminal_count};
 
 use crate::blocking::{blocking_key, blocking_pilot};
 use crate::build::{or, seal};

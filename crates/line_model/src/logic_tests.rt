@@ -2,8 +2,7 @@
 
 ghost use Rattle.std.specs.Prelude.{IsTrue};
 ghost use Rattle.line_model.specs.Tree.{tree_of};
-ghost use Rattle.line_model.specs.Names.{Names};
-ghost use Rattle.line_model.specs.Keys.{AreValues, Reach, histories};
+ghost use Rattle.line_model.specs.{Names.Names, Keys.AreValues, Keys.Reach, Keys.histories};
 
 use super::*;
 use crate::mean::mean;

@@ -1,21 +1,10 @@
 // The number of a parameter and of a channel.
 
-ghost use Rattle.std.specs.Prelude.{
-  ◌≡◌,
-  ◌≢◌,
-  ◌≤◌,
-  ◌<◌,
-  ◌+◌,
-  ◌↔◌,
-  length,
-  IsSome,
-  IfSome,
-  IsTrue,
-  option_map,
-};
+ghost use Rattle.std.specs.Prelude.{◌≡◌, ◌≢◌, ◌≤◌, ◌<◌, ◌+◌, ◌↔◌, length, IsSome, IfSome, IsTrue};
+ghost use Rattle.std.specs.Prelude.{option_map};
 ghost use Rattle.line_model.specs.Channels.{channel_number, from_of, to_of};
-ghost use Rattle.line_model.specs.Parameters.{param_number};
-ghost use Rattle.line_model.specs.Parameters.{IsOwner, channel_count, param_count, delay_param};
+ghost use Rattle.line_model.specs.Parameters.{param_number, IsOwner, channel_count, param_count};
+ghost use Rattle.line_model.specs.Parameters.{delay_param};
 ghost use Rattle.line_model.specs.SetBounds.{IsDelayAt};
 
 use crate::channels::find_channel;

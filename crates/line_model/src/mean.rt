@@ -2,14 +2,11 @@
 
 ghost use Rattle.std.specs.Prelude.{◌≡◌, ◌≤◌, ◌<◌, ◌+◌, ◌-◌, ◌||◌, nat_le, get_or};
 ghost use Rattle.history.specs.Elements.{every_below, timed as timed_at, delayed};
-ghost use Rattle.line_model.specs.Tree.{tree_of};
-ghost use Rattle.line_model.specs.Channels.{from_of};
 ghost use Rattle.line_model.specs.Parameters.{channel_count, delay_param};
-ghost use Rattle.line_model.specs.Names.{HasTime};
-ghost use Rattle.line_model.specs.Mean.{Signals, mean as mean_of};
 ghost use Rattle.line_model.specs.Choice.{world_of, steady_choice, time_by};
-ghost use Rattle.line_model.specs.Keys.{AreValues, Reach, CanAsk, AgreeBefore, histories, key_at};
-ghost use Rattle.line_model.specs.Keys.{value_of};
+ghost use Rattle.line_model.specs.{Tree.tree_of, Channels.from_of, Names.HasTime, Mean.Signals};
+ghost use Rattle.line_model.specs.{Mean.mean as mean_of, Keys.AreValues, Keys.Reach, Keys.CanAsk};
+ghost use Rattle.line_model.specs.{Keys.AgreeBefore, Keys.histories, Keys.key_at, Keys.value_of};
 
 use crate::formula::{Formula, Time};
 use crate::line::{Line, Owner, Setting};

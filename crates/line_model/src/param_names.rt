@@ -1,28 +1,11 @@
 // The names of a line's parameters, in order.
 
-ghost use Rattle.std.specs.Prelude.{
-  ◌≡◌,
-  ◌≤◌,
-  ◌<◌,
-  ◌++◌,
-  ◌+◌,
-  take,
-  length,
-  map,
-  IsTrue,
-  OnOk,
-  IfOk,
-};
-ghost use Rattle.line_model.specs.Terminals.{are_plain_names};
-ghost use Rattle.line_model.specs.Channels.{AreChannels};
+ghost use Rattle.std.specs.Prelude.{◌≡◌, ◌≤◌, ◌<◌, ◌++◌, ◌+◌, take, length, map, IsTrue, OnOk};
+ghost use Rattle.std.specs.Prelude.{IfOk};
 ghost use Rattle.line_model.specs.Settings.{line_settings, terminal_settings};
-ghost use Rattle.line_model.specs.ParamNames.{
-  dotted,
-  pair_name,
-  param_name,
-  terminal_names,
-  channel_names,
-};
+ghost use Rattle.line_model.specs.ParamNames.{dotted, pair_name, param_name, terminal_names};
+ghost use Rattle.line_model.specs.ParamNames.{channel_names};
+ghost use Rattle.line_model.specs.{Terminals.are_plain_names, Channels.AreChannels};
 
 use crate::line::{Channel, Scheme, Setting, Terminal};
 use crate::memory::Memory;

@@ -1,12 +1,11 @@
 // What a terminal receives from the others, as formulas.
 
 ghost use Rattle.std.specs.Prelude.{◌≡◌, ◌<◌, IfOk};
-ghost use Rattle.line_model.specs.Tree.{tree_of};
 ghost use Rattle.line_model.specs.Parameters.{terminal_count};
-ghost use Rattle.line_model.specs.Received.{channel_to as channel_number_to};
-ghost use Rattle.line_model.specs.Received.{received as received_tree};
-ghost use Rattle.line_model.specs.Received.{any_received as any_received_tree};
-ghost use Rattle.line_model.specs.Received.{all_received as all_received_tree};
+ghost use Rattle.line_model.specs.{Tree.tree_of, Received.channel_to as channel_number_to};
+ghost use Rattle.line_model.specs.{Received.received as received_tree};
+ghost use Rattle.line_model.specs.{Received.any_received as any_received_tree};
+ghost use Rattle.line_model.specs.{Received.all_received as all_received_tree};
 
 use crate::build::{and, not, or};
 use crate::channels::find_channel;

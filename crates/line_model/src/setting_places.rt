@@ -1,14 +1,8 @@
 // How many settings a terminal and a channel have, and the place of each.
 
 ghost use Rattle.std.specs.Prelude.{◌≡◌, ◌≤◌, ◌<◌, length, IfSome};
-ghost use Rattle.line_model.specs.Settings.{
-  terminal_settings,
-  channel_settings,
-  guard_settings,
-  weak_settings,
-  settings_of_terminals,
-  line_settings,
-};
+ghost use Rattle.line_model.specs.Settings.{terminal_settings, channel_settings, guard_settings};
+ghost use Rattle.line_model.specs.Settings.{weak_settings, settings_of_terminals, line_settings};
 ghost use Rattle.line_model.specs.Intervals.{delay_number_of};
 ghost use Rattle.line_model.specs.Places.{terminal_place, channel_place, place_where};
 

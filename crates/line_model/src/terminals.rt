@@ -2,13 +2,8 @@
 
 ghost use Rattle.std.specs.Prelude.{◌≡◌, ◌↔◌, length, IsTrue};
 ghost use Rattle.std.specs.List.{list_all};
-ghost use Rattle.line_model.specs.Terminals.{
-  are_plain_names,
-  NamesDiffer,
-  flags_fit,
-  has_flags,
-  has_no_flag,
-};
+ghost use Rattle.line_model.specs.Terminals.{are_plain_names, NamesDiffer, flags_fit, has_flags};
+ghost use Rattle.line_model.specs.Terminals.{has_no_flag};
 ghost use Rattle.line_model.specs.Making.{AreTerminals};
 
 use crate::line::{Scheme, Terminal};

@@ -1,10 +1,9 @@
 // Schemes that trip on any received signal, as formulas: underreach permission and transfer trip.
 
 ghost use Rattle.std.specs.Prelude.{◌≡◌, ◌<◌, IfOk};
-ghost use Rattle.line_model.specs.Tree.{tree_of};
 ghost use Rattle.line_model.specs.Parameters.{terminal_count};
-ghost use Rattle.line_model.specs.Logic.{underreach_pilot as underreach_pilot_tree};
-ghost use Rattle.line_model.specs.Logic.{transfer_pilot as transfer_pilot_tree};
+ghost use Rattle.line_model.specs.{Tree.tree_of, Logic.underreach_pilot as underreach_pilot_tree};
+ghost use Rattle.line_model.specs.{Logic.transfer_pilot as transfer_pilot_tree};
 
 use crate::build::{and, timer};
 use crate::elements::zone2;

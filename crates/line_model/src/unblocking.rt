@@ -1,14 +1,13 @@
 // Channels that open for a while when they are lost, as formulas.
 
 ghost use Rattle.std.specs.Prelude.{◌≡◌, ◌≢◌, ◌<◌, IfOk};
-ghost use Rattle.line_model.specs.Tree.{tree_of};
-ghost use Rattle.line_model.specs.Parameters.{terminal_count};
 ghost use Rattle.line_model.specs.Unblocking.{channel_setting as channel_setting_time};
 ghost use Rattle.line_model.specs.Unblocking.{guard_seen as guard_seen_tree, late as late_tree};
 ghost use Rattle.line_model.specs.Unblocking.{unblocked as unblocked_tree};
 ghost use Rattle.line_model.specs.Unblocking.{locked_out as locked_out_tree};
 ghost use Rattle.line_model.specs.Unblocking.{open_from as open_from_tree};
 ghost use Rattle.line_model.specs.Unblocking.{all_open as all_open_tree};
+ghost use Rattle.line_model.specs.{Tree.tree_of, Parameters.terminal_count};
 
 use crate::build::{and, not, or, seal, timer};
 use crate::elements::time_of;

@@ -1,21 +1,16 @@
 -- The losses of a line with another greatest number for one parameter.
-use Rattle.std.proofs.Common.{◌≡◌, ◌<◌, ◌≤◌, ◌+◌, ℕ, List, Some, Option, None, suc, sym}
-use Rattle.std.proofs.Common.{ap, subst, arith, ⊎_elim, length, zero, [], ◌∷◌, get_or}
-use Rattle.std.specs.Prelude.{slice_get}
+use Rattle.std.proofs.Common.{◌≡◌, ◌<◌, ◌≤◌, ◌+◌, ℕ, List, Some, Option, None, suc, sym, ap, subst}
+use Rattle.std.proofs.Common.{arith, ⊎_elim, length, zero, [], ◌∷◌, get_or}
 use Rattle.std.proofs.lemmas.Bool.{cases_lt}
 use Rattle.std.proofs.lemmas.Option.{slice_get_within}
+use Rattle.std.specs.Prelude.{slice_get}
 use Rattle.line_model.specs.declared.line.Line.{Line}
-use Rattle.line_model.specs.declared.script.Script.{Script}
 use Rattle.line_model.specs.Parameters.{terminal_count, param_count, declared_ends}
 use Rattle.line_model.specs.Choice.{Box, declared_box}
-use Rattle.line_model.specs.SetBounds.{SameButParams}
-use Rattle.line_model.specs.WithBounds.{IsWithBounds}
-use Rattle.line_model.specs.Boxes.{IsSameBox}
-use Rattle.line_model.specs.HeldOver.{IsHeldOver}
-use Rattle.margin_search.specs.Known.{Known}
-use Rattle.margin_search.specs.declared.upper_end.Lost.{Lost}
-use Rattle.margin_search.specs.Raised.{raised}
+use Rattle.line_model.specs.{declared.script.Script.Script, SetBounds.SameButParams}
+use Rattle.line_model.specs.{WithBounds.IsWithBounds, Boxes.IsSameBox, HeldOver.IsHeldOver}
 use Rattle.margin_search.specs.Lost.{IsScriptHeld, AreHeld, AllHeld, IsLoss}
+use Rattle.margin_search.specs.{Known.Known, declared.upper_end.Lost.Lost, Raised.raised}
 
 same_box_sym : (line : Line) (a b : Box) → IsSameBox line a b → IsSameBox line b a
 same_box_sym line a b same = record {

@@ -1,19 +1,15 @@
 -- What is held up to a number of a parameter, and the margin.
 use Rattle.std.proofs.Common.{◌≡◌, ◌<◌, ◌≤◌, ◌+◌, ℕ, List, Some, subst, arith}
-use Rattle.std.specs.Prelude.{slice_get}
-use Rattle.std.specs.List.{All}
 use Rattle.std.proofs.lemmas.List.Elements.{All-get_or}
 use Rattle.std.proofs.lemmas.Option.{slice_get_within, get_or_from_slice_get}
+use Rattle.std.specs.Prelude.{slice_get}
+use Rattle.std.specs.List.{All}
 use Rattle.line_model.specs.declared.line.Line.{Line}
-use Rattle.line_model.specs.declared.script.Script.{Script}
 use Rattle.line_model.specs.Parameters.{terminal_count, declared_ends}
-use Rattle.line_model.specs.Choice.{Choice, IsWithin}
-use Rattle.line_model.specs.Fits.{Fits}
-use Rattle.line_model.specs.Histories.{History, IsLineHistory, Meets}
-use Rattle.margin_search.specs.Known.{Known}
-use Rattle.margin_search.specs.declared.upper_end.Lost.{Lost}
-use Rattle.margin_search.specs.Raised.{raised}
+use Rattle.line_model.specs.{declared.script.Script.Script, Choice.Choice, Choice.IsWithin}
+use Rattle.line_model.specs.{Fits.Fits, Histories.History, Histories.IsLineHistory, Histories.Meets}
 use Rattle.margin_search.specs.Margin.{IsHeldTo, IsMargin, HasNoMargin, IsLostAt, IsBracket}
+use Rattle.margin_search.specs.{Known.Known, declared.upper_end.Lost.Lost, Raised.raised}
 use Rattle.margin_search.proofs.RaisedLaws.{raised_from_one, raised_within}
 
 -- an element of a list of which all is said

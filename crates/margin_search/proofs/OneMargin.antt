@@ -1,24 +1,15 @@
 -- One margin at most, and one obligation that is lost; and it is an obligation of the scripts.
-use Rattle.std.proofs.Common.{◌≡◌, ◌<◌, ◌≤◌, ◌+◌, ℕ, List, Option, Some, None, length}
-use Rattle.std.proofs.Common.{refl, sym, ◌∙◌, ap, subst, arith, ⊎_elim}
-use Rattle.std.specs.Prelude.{MatchOption, IsSomeAnd, IfSome, slice_get}
+use Rattle.std.proofs.Common.{◌≡◌, ◌<◌, ◌≤◌, ◌+◌, ℕ, List, Option, Some, None, length, refl, sym}
+use Rattle.std.proofs.Common.{◌∙◌, ap, subst, arith, ⊎_elim}
 use Rattle.std.proofs.lemmas.Bool.{cases_lt}
 use Rattle.std.proofs.lemmas.Option.{slice_get_within}
-use Rattle.line_model.specs.declared.line.Line.{Line}
-use Rattle.line_model.specs.declared.script.Script.{Script}
+use Rattle.std.specs.Prelude.{MatchOption, IsSomeAnd, IfSome, slice_get}
 use Rattle.line_model.specs.Parameters.{terminal_count, declared_ends}
-use Rattle.line_model.specs.Choice.{Box}
-use Rattle.margin_search.specs.declared.upper_end.Lost.{Lost}
-use Rattle.margin_search.specs.declared.upper_end.UpperEnd.{UpperEnd}
+use Rattle.line_model.specs.{declared.line.Line.Line, declared.script.Script.Script, Choice.Box}
 use Rattle.margin_search.specs.Lost.{IsFirstLost, IsFirstTerminal}
-use Rattle.margin_search.specs.Margin.{
-  HasNoMargin,
-  IsLostAbove,
-  IsLostAt,
-  IsLostAtLeast,
-  IsMargin,
-  IsUpperEnd,
-}
+use Rattle.margin_search.specs.Margin.{HasNoMargin, IsLostAbove, IsLostAt, IsLostAtLeast, IsMargin}
+use Rattle.margin_search.specs.Margin.{IsUpperEnd}
+use Rattle.margin_search.specs.{declared.upper_end.Lost.Lost, declared.upper_end.UpperEnd.UpperEnd}
 
 -- two numbers of which neither is the smaller
 neither_below : (a b : ℕ) → (a < b → ⊥) → (b < a → ⊥) → a ≡ b

@@ -4,8 +4,7 @@ use Rattle.std.proofs.lemmas.Bool.{cases_eq, ne_eqb}
 use Rattle.history.specs.Rails.{Ends, IsPartOf}
 use Rattle.line_model.specs.declared.line.Line.{Line}
 use Rattle.line_model.specs.Parameters.{delay_param, declared_ends}
-use Rattle.line_model.specs.Choice.{IsBoxWithin, LeastFromOne}
-use Rattle.line_model.specs.Boxes.{ends_with}
+use Rattle.line_model.specs.{Choice.IsBoxWithin, Choice.LeastFromOne, Boxes.ends_with}
 use Rattle.margin_search.specs.Raised.{raised}
 
 -- at the parameter the new interval, elsewhere the old one

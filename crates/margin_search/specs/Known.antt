@@ -1,30 +1,13 @@
 -- The laws below that the proofs here rest on: those of lines and histories, and, word for word,
 -- some of boxes and of lines that differ in their intervals.
 use Rattle.std.specs.Prelude.{◌≡◌, ◌<◌, ℕ}
-use Rattle.line_model.specs.declared.line.Line.{Line}
-use Rattle.line_model.specs.declared.script.Script.{Script}
 use Rattle.line_model.specs.Parameters.{terminal_count, param_count}
-use Rattle.line_model.specs.SetBounds.{SameButParams}
-use Rattle.line_model.specs.WithBounds.{IsWithBounds}
-use Rattle.line_model.specs.Boxes.{IsSameBox, declared_with}
-use Rattle.line_model.specs.Choice.{
-  Box,
-  Choice,
-  IsBoxWithin,
-  IsWithin,
-  LeastFromOne,
-  declared_box,
-}
-use Rattle.line_model.specs.Histories.{
-  History,
-  IsLineHistory,
-  IsPairHistory,
-  Meets,
-  PairHistory,
-}
+use Rattle.line_model.specs.Choice.{Box, Choice, IsBoxWithin, IsWithin, LeastFromOne, declared_box}
+use Rattle.line_model.specs.Histories.{History, IsLineHistory, IsPairHistory, Meets, PairHistory}
 use Rattle.line_model.specs.HeldOver.{IsHeldOver}
-use Rattle.line_model.specs.Laws.{LineLaws}
-use Rattle.line_model.specs.Rule.{Held, rule_of}
+use Rattle.line_model.specs.{declared.line.Line.Line, declared.script.Script.Script}
+use Rattle.line_model.specs.{SetBounds.SameButParams, WithBounds.IsWithBounds, Boxes.IsSameBox}
+use Rattle.line_model.specs.{Boxes.declared_with, Laws.LineLaws, Rule.Held, Rule.rule_of}
 
 pub record Known : Type 0 where
   pub lines : LineLaws

@@ -1,10 +1,7 @@
 -- Whether the rules of all obligations are held over a box, and the first that is not.
 use Rattle.std.specs.Prelude.{◌≡◌, ◌<◌, ℕ, List, Some, Option, MatchOption, slice_get}
-use Rattle.line_model.specs.declared.line.Line.{Line}
-use Rattle.line_model.specs.declared.script.Script.{Script}
-use Rattle.line_model.specs.Parameters.{terminal_count}
-use Rattle.line_model.specs.Choice.{Box}
-use Rattle.line_model.specs.HeldOver.{IsHeldOver}
+use Rattle.line_model.specs.{declared.line.Line.Line, declared.script.Script.Script}
+use Rattle.line_model.specs.{Parameters.terminal_count, Choice.Box, HeldOver.IsHeldOver}
 use Rattle.margin_search.specs.declared.upper_end.Lost.{Lost}
 
 -- the rule of a script is held at each of the first n terminals

@@ -2,8 +2,7 @@
 
 ghost use Rattle.std.specs.Prelude.{◌≤◌, ◌<◌, length, IfOk};
 ghost use Rattle.std.specs.List.{All};
-ghost use Rattle.line_model.specs.Parameters.{param_count};
-ghost use Rattle.line_model.specs.Fits.{Fits};
+ghost use Rattle.line_model.specs.{Parameters.param_count, Fits.Fits};
 ghost use Rattle.gate_net.specs.NetOf.{IsNetOf};
 ghost use Rattle.margin_search.specs.Answer.{IsMarginAnswer};
 

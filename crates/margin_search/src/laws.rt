@@ -2,15 +2,12 @@
 
 ghost use Rattle.std.specs.Prelude.{◌≡◌, ◌≤◌, ◌<◌, ℕ, List, Some, slice_get};
 ghost use Rattle.std.specs.List.{All};
-ghost use Rattle.line_model.specs.declared.line.Line.{Line};
-ghost use Rattle.line_model.specs.declared.script.Script.{Script};
 ghost use Rattle.line_model.specs.Parameters.{terminal_count, param_count};
-ghost use Rattle.line_model.specs.Choice.{Choice, IsWithin};
-ghost use Rattle.line_model.specs.Fits.{Fits};
 ghost use Rattle.line_model.specs.Histories.{History, IsLineHistory, Meets};
-ghost use Rattle.margin_search.specs.Raised.{raised};
+ghost use Rattle.line_model.specs.{declared.line.Line.Line, declared.script.Script.Script};
+ghost use Rattle.line_model.specs.{Choice.Choice, Choice.IsWithin, Fits.Fits};
 ghost use Rattle.margin_search.specs.Margin.{IsHeldTo, IsUpperEnd};
-ghost use Rattle.margin_search.specs.declared.upper_end.UpperEnd.{UpperEnd};
+ghost use Rattle.margin_search.specs.{Raised.raised, declared.upper_end.UpperEnd.UpperEnd};
 
 use crate::known::laws_below;
 

@@ -3,9 +3,7 @@
 ghost use Rattle.std.specs.Prelude.{◌≡◌, ◌≤◌, ◌<◌, length, IsTrue, IfOk, MatchOption};
 ghost use Rattle.std.specs.List.{All};
 ghost use Rattle.line_model.specs.Parameters.{terminal_count, param_count, declared_ends};
-ghost use Rattle.line_model.specs.Choice.{declared_box};
-ghost use Rattle.line_model.specs.Fits.{Fits};
-ghost use Rattle.line_model.specs.Rule.{Held, rule_of};
+ghost use Rattle.line_model.specs.{Choice.declared_box, Fits.Fits, Rule.Held, Rule.rule_of};
 ghost use Rattle.gate_net.specs.NetOf.{IsNetOf};
 ghost use Rattle.interval_wave.specs.PairWavesOf.{pair_history};
 ghost use Rattle.margin_search.specs.Raised.{raised};

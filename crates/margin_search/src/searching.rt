@@ -2,11 +2,10 @@
 
 ghost use Rattle.std.specs.Prelude.{◌≡◌, ◌≤◌, ◌<◌, ℕ, Some, length, slice_get, IfOk};
 ghost use Rattle.std.specs.List.{All};
-ghost use Rattle.line_model.specs.declared.script.Script.{Script};
 ghost use Rattle.line_model.specs.Parameters.{terminal_count, param_count, declared_ends};
 ghost use Rattle.line_model.specs.Choice.{Choice, IsWithin};
-ghost use Rattle.line_model.specs.Fits.{Fits};
 ghost use Rattle.line_model.specs.Histories.{History, IsLineHistory, Meets};
+ghost use Rattle.line_model.specs.{declared.script.Script.Script, Fits.Fits};
 ghost use Rattle.gate_net.specs.NetOf.{IsNetOf};
 ghost use Rattle.margin_search.specs.Raised.{raised};
 ghost use Rattle.margin_search.specs.Margin.{IsUpperEnd, IsMargin, IsBracket, IsHeldTo, IsLostAt};

@@ -1,7 +1,6 @@
 // The line of a margin.
 
-ghost use Rattle.std.specs.Prelude.{◌≡◌, ◌++◌, ◌<◌, length, OnOk, IfOk, IfSome};
-ghost use Rattle.std.specs.Prelude.{decimal};
+ghost use Rattle.std.specs.Prelude.{◌≡◌, ◌++◌, ◌<◌, length, OnOk, IfOk, IfSome, decimal};
 ghost use Rattle.line_model.specs.Parameters.{terminal_count, param_count, declared_ends};
 ghost use Rattle.margin_search.specs.MarginText.{greatest_words, lost_words, margin_line};
 ghost use Rattle.margin_search.specs.MarginText.{param_name, script_name};

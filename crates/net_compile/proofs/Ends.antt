@@ -1,42 +1,13 @@
 -- The keys and trips of the terminals below some number.
-use Rattle.std.proofs.Common.{
-  ◌≡◌,
-  ◌⊎◌,
-  ℕ,
-  zero,
-  suc,
-  ◌*◌,
-  ◌<◌,
-  ◌≤◌,
-  List,
-  [],
-  ◌∷◌,
-  ◌++◌,
-  length,
-  get_or,
-  refl,
-  sym,
-  ◌∙◌,
-  subst,
-  arith,
-  inl,
-  inr,
-  ⊎_elim,
-  length-append,
-}
+use Rattle.std.proofs.Common.{◌≡◌, ◌⊎◌, ℕ, zero, suc, ◌*◌, ◌<◌, ◌≤◌, List, [], ◌∷◌, ◌++◌, length}
+use Rattle.std.proofs.Common.{get_or, refl, sym, ◌∙◌, subst, arith, inl, inr, ⊎_elim, length-append}
 use Rattle.std.specs.Prelude.{map, Result, Ok, Err, IfOk}
 use Rattle.line_model.specs.declared.line.Line.{Line}
-use Rattle.line_model.specs.Tree.{Tree}
-use Rattle.line_model.specs.Parameters.{terminal_count}
-use Rattle.line_model.specs.Logic.{key_tree, trip_tree}
-use Rattle.gate_net.specs.declared.gate.Gate.{Gate}
-use Rattle.gate_net.specs.declared.gate.GateId.{GateId}
-use Rattle.gate_net.specs.Formulas.{Stands}
-use Rattle.gate_net.specs.Growing.{Grows}
+use Rattle.line_model.specs.{Tree.Tree, Parameters.terminal_count, Logic.key_tree, Logic.trip_tree}
 use Rattle.gate_net.specs.Named.{NamedFrom, KeepsNames}
-use Rattle.gate_net.specs.NetOf.{NetOf, AreGatesOf, IsNet, IsNetOf}
-use Rattle.net_compile.specs.declared.terminal_gates.Ends.{Ends}
-use Rattle.net_compile.specs.Compiled.{AreEnds}
+use Rattle.gate_net.specs.{declared.gate.Gate.Gate, declared.gate.GateId.GateId, Formulas.Stands}
+use Rattle.gate_net.specs.{Growing.Grows, NetOf.NetOf, NetOf.AreGatesOf, NetOf.IsNet, NetOf.IsNetOf}
+use Rattle.net_compile.specs.{declared.terminal_gates.Ends.Ends, Compiled.AreEnds}
 
 -- one gate for each terminal below j, which stands for the terminal's tree
 pub record StandInOrder (gates : List Gate) (ids : List GateId) (tree : ℕ → Tree) (j : ℕ)

@@ -1,9 +1,7 @@
 -- The gates of a terminal.
 use Rattle.std.specs.Prelude.{ℕ, List}
-use Rattle.line_model.specs.declared.line.Line.{Line}
-use Rattle.line_model.specs.Logic.{key_tree, trip_tree}
-use Rattle.gate_net.specs.declared.gate.Gate.{Gate}
-use Rattle.gate_net.specs.Formulas.{Stands}
+use Rattle.line_model.specs.{declared.line.Line.Line, Logic.key_tree, Logic.trip_tree}
+use Rattle.gate_net.specs.{declared.gate.Gate.Gate, Formulas.Stands}
 use Rattle.net_compile.specs.declared.terminal_gates.Ends.{Ends}
 
 -- the gates stand for what terminal k sends and for its trip

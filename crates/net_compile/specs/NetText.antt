@@ -1,47 +1,16 @@
 -- The text of a net.
-use Rattle.std.specs.Prelude.{
-  ◌++◌,
-  ℕ,
-  zero,
-  suc,
-  Bool,
-  true,
-  false,
-  List,
-  [],
-  ◌∷◌,
-  Option,
-  Some,
-  None,
-  codes,
-  decimal,
-  length,
-  map,
-  get_or,
-  slice_get,
-}
-use Rattle.line_model.specs.declared.line.Line.{Line}
+use Rattle.std.specs.Prelude.{◌++◌, ℕ, zero, suc, Bool, true, false, List, [], ◌∷◌, Option, Some}
+use Rattle.std.specs.Prelude.{None, codes, decimal, length, map, get_or, slice_get}
 use Rattle.line_model.specs.declared.script.Element.{Element}
 use Rattle.line_model.specs.declared.script.Element.TheVariants.{Z1, Z2, Rv, Uv, Cur}
-use Rattle.line_model.specs.declared.script.Place.{Place}
-use Rattle.line_model.specs.declared.formula.Time.{Time}
 use Rattle.line_model.specs.declared.formula.Time.TheVariants.{Zero, Param}
 use Rattle.line_model.specs.ParamNames.{name_at, channel_name}
-use Rattle.line_model.specs.Parameters.{terminal_count}
-use Rattle.gate_net.specs.declared.gate.Gate.{Gate}
-use Rattle.gate_net.specs.declared.gate.Gate.TheVariants.{
-  Const,
-  Seen,
-  Loss,
-  Raw,
-  Not,
-  And,
-  Or,
-  Timer,
-  Seal,
-}
+use Rattle.line_model.specs.{declared.line.Line.Line, declared.script.Place.Place}
+use Rattle.line_model.specs.{declared.formula.Time.Time, Parameters.terminal_count}
+use Rattle.gate_net.specs.declared.gate.Gate.TheVariants.{Const, Seen, Loss, Raw, Not, And, Or}
+use Rattle.gate_net.specs.declared.gate.Gate.TheVariants.{Timer, Seal}
 use Rattle.gate_net.specs.declared.gate.GateId.{GateId}
-use Rattle.gate_net.specs.NetOf.{NetOf, key_of, trip_of}
+use Rattle.gate_net.specs.{declared.gate.Gate.Gate, NetOf.NetOf, NetOf.key_of, NetOf.trip_of}
 
 -- a truth value, and an element, as they are written
 abbrev pub truth_text : Bool → List ℕ

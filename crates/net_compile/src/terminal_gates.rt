@@ -3,11 +3,8 @@
 ghost use Rattle.std.specs.Prelude.{◌<◌, ◌≤◌, ◌+◌, length, IfOk};
 ghost use Rattle.line_model.specs.Parameters.{terminal_count};
 ghost use Rattle.line_model.specs.Logic.{pilot_by, key_tree, set_tree, trip_tree};
-ghost use Rattle.gate_net.specs.Formulas.{Stands};
-ghost use Rattle.gate_net.specs.Growing.{Grows};
-ghost use Rattle.gate_net.specs.Named.{KeepsNames};
-ghost use Rattle.zones.specs.LocalGates.{AreLocal};
-ghost use Rattle.zones.specs.Outputs.{AreOutputs};
+ghost use Rattle.gate_net.specs.{Formulas.Stands, Growing.Grows, Named.KeepsNames};
+ghost use Rattle.zones.specs.{LocalGates.AreLocal, Outputs.AreOutputs};
 ghost use Rattle.net_compile.specs.Compiled.{AreEnds};
 
 use gate_net::{GateId, NetBuilder};

@@ -1,25 +1,12 @@
 // The text of a net.
 
 ghost use Rattle.std.specs.Prelude.{◌≡◌, ◌<◌, ◌++◌, codes, decimal, length, IfOk, OnOk};
-ghost use Rattle.line_model.specs.Names.{HasTime};
 ghost use Rattle.line_model.specs.Parameters.{terminal_count, channel_count};
-ghost use Rattle.line_model.specs.ParamNames.{name_at};
-ghost use Rattle.gate_net.specs.NetOf.{IsNetOf};
-ghost use Rattle.gate_net.specs.Named.{GateNames};
-ghost use Rattle.net_compile.specs.NetText.{
-  truth_text,
-  element_text,
-  place_text,
-  channel_text,
-  time_text,
-  pair_text,
-  gate_text,
-  gate_line,
-  end_line,
-  terminal_lines,
-  lines_below,
-  net_text_of,
-};
+ghost use Rattle.line_model.specs.{Names.HasTime, ParamNames.name_at};
+ghost use Rattle.gate_net.specs.{NetOf.IsNetOf, Named.GateNames};
+ghost use Rattle.net_compile.specs.NetText.{truth_text, element_text, place_text, channel_text};
+ghost use Rattle.net_compile.specs.NetText.{time_text, pair_text, gate_text, gate_line, end_line};
+ghost use Rattle.net_compile.specs.NetText.{terminal_lines, lines_below, net_text_of};
 
 use gate_net::{Gate, GateId, Net};
 use itoa::Buffer;

@@ -1,36 +1,26 @@
 -- What is certified of a script has no fault as a claim.
-use Rattle.std.proofs.Common.{◌≡◌, ℕ, zero, suc, ◌<◌, List, [], ◌∷◌, Some}
-use Rattle.std.proofs.Common.{get_or, map, refl, sym, ◌∙◌, subst, arith}
-use Rattle.std.specs.Prelude.{slice_get}
+use Rattle.std.proofs.Common.{◌≡◌, ℕ, zero, suc, ◌<◌, List, [], ◌∷◌, Some, get_or, map, refl, sym}
+use Rattle.std.proofs.Common.{◌∙◌, subst, arith}
 use Rattle.std.proofs.lemmas.List.{get_or_default, length-map}
 use Rattle.std.proofs.lemmas.Option.{slice_get_within, slice_get-get_or}
+use Rattle.std.specs.Prelude.{slice_get}
 use Rattle.history.specs.Rails.{RailsCover}
 use Rattle.tick_signal.specs.declared.tern.Tern.{Tern}
 use Rattle.line_model.specs.declared.line.Line.{Line}
-use Rattle.line_model.specs.declared.script.Script.{Script}
 use Rattle.line_model.specs.Parameters.{param_count, terminal_count}
-use Rattle.line_model.specs.Choice.{Choice, declared_box, pair_world_of}
-use Rattle.line_model.specs.Fits.{Fits}
-use Rattle.line_model.specs.Logic.{key_tree, trip_tree}
-use Rattle.line_model.specs.Names.{Names}
-use Rattle.line_model.specs.PairMean.{pair_mean}
-use Rattle.line_model.specs.Tree.{Tree}
 use Rattle.line_model.specs.Histories.{PairHistory, IsPairHistory, AreCovered}
-use Rattle.line_model.specs.Rule.{Held, rule_of}
+use Rattle.line_model.specs.{declared.script.Script.Script, Choice.Choice, Choice.declared_box}
+use Rattle.line_model.specs.{Choice.pair_world_of, Fits.Fits, Logic.key_tree, Logic.trip_tree}
+use Rattle.line_model.specs.{Names.Names, PairMean.pair_mean, Tree.Tree, Rule.Held, Rule.rule_of}
 use Rattle.timing_box.specs.Candidates.{candidate}
-use Rattle.timing_box.specs.Choice.{timing_choice}
-use Rattle.timing_box.specs.Inside.{IsTimingInside}
-use Rattle.timing_box.specs.Timing.{TimingValues}
-use Rattle.certificate.specs.Grammar.{AreNumbers, HasNumbers}
-use Rattle.certificate.specs.Grammar.{Verdict as Written}
+use Rattle.timing_box.specs.{Choice.timing_choice, Inside.IsTimingInside, Timing.TimingValues}
+use Rattle.certificate.specs.Grammar.{AreNumbers, HasNumbers, Verdict as Written}
 use Rattle.certificate.specs.Text.{CanBeWritten}
-use Rattle.certify_core.specs.declared.verdict.Verdict.{Verdict}
 use Rattle.certify_core.specs.declared.verdict.Verdict.TheVariants.{Yes, No, Undecided}
-use Rattle.certify_core.specs.Piece.{claims_of, written_as}
 use Rattle.certify_core.specs.Verdicts.{AreKeys, AreVerdicts, IsVerdict, IsRefuted}
-use Rattle.cert_checker.specs.Claims.{pairs_of}
-use Rattle.cert_checker.specs.Refutations.{IsRefutation}
+use Rattle.certify_core.specs.{declared.verdict.Verdict.Verdict, Piece.claims_of, Piece.written_as}
 use Rattle.cert_checker.specs.Verdicts.{AreAccepted, IsSupported, derived_trip}
+use Rattle.cert_checker.specs.{Claims.pairs_of, Refutations.IsRefutation}
 use Rattle.own_certificate.specs.Known.{Known}
 use Rattle.own_certificate.proofs.Obligations.{held_same, same_meets}
 

@@ -1,28 +1,22 @@
 -- What is certified of several scripts: that there is one list of claims, and that it is accepted.
-use Rattle.std.proofs.Common.{◌≡◌, ◌≢◌, ℕ, zero, suc, List, [], ◌∷◌, ◌++◌, Some, length}
-use Rattle.std.proofs.Common.{map, refl, sym, ◌∙◌, ap, subst, arith, append_assoc}
-use Rattle.std.specs.Prelude.{slice_get}
-use Rattle.std.specs.List.{All, count_by}
+use Rattle.std.proofs.Common.{◌≡◌, ◌≢◌, ℕ, zero, suc, List, [], ◌∷◌, ◌++◌, Some, length, map, refl}
+use Rattle.std.proofs.Common.{sym, ◌∙◌, ap, subst, arith, append_assoc}
 use Rattle.std.proofs.lemmas.List.{append-nil}
 use Rattle.std.proofs.lemmas.List.Elements.{All-cons, All-head, All-nil, All-tail}
+use Rattle.std.specs.Prelude.{slice_get}
+use Rattle.std.specs.List.{All, count_by}
 use Rattle.line_model.specs.declared.line.Line.{Line}
-use Rattle.line_model.specs.declared.script.Script.{Script}
-use Rattle.line_model.specs.Choice.{declared_box}
-use Rattle.line_model.specs.Fits.{Fits}
+use Rattle.line_model.specs.{declared.script.Script.Script, Choice.declared_box, Fits.Fits}
 use Rattle.tick_signal.specs.declared.tern.Tern.{Tern}
-use Rattle.certificate.specs.Grammar.{Claims, IsCertificate}
-use Rattle.certificate.specs.Grammar.{Verdict as Written}
+use Rattle.certificate.specs.Grammar.{Claims, IsCertificate, Verdict as Written}
 use Rattle.certificate.specs.Text.{CanBeWritten, certificate_text, part_text, parts_text}
-use Rattle.certify_core.specs.declared.verdict.Verdict.{Verdict}
-use Rattle.certify_core.specs.Piece.{claims_of, written_as}
-use Rattle.cert_checker.specs.declared.counts.Counts.{Counts}
-use Rattle.cert_checker.specs.declared.fault.CheckFault.{CheckFault}
+use Rattle.certify_core.specs.{declared.verdict.Verdict.Verdict, Piece.claims_of, Piece.written_as}
+use Rattle.cert_checker.specs.{declared.counts.Counts.Counts, declared.fault.CheckFault.CheckFault}
 use Rattle.cert_checker.specs.declared.fault.CheckFault.TheVariants as wrong
 use Rattle.cert_checker.specs.Check.{IsAccepted, IsCheckFault}
 use Rattle.cert_checker.specs.Counts.{AreCounts, all_verdicts, is_no, is_undecided, is_yes}
 use Rattle.cert_checker.specs.Verdicts.{AreAccepted}
-use Rattle.own_certificate.specs.Certified.{AreCertified, IsCertified}
-use Rattle.own_certificate.specs.Known.{Known}
+use Rattle.own_certificate.specs.{Certified.AreCertified, Certified.IsCertified, Known.Known}
 use Rattle.own_certificate.proofs.Accepted.{accepted, can_be_written}
 use Rattle.own_certificate.proofs.KeyLists.{keys_exist, keys_once}
 use Rattle.own_certificate.proofs.VerdictLists.{verdicts_exist, verdicts_once}

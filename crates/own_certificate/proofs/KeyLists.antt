@@ -1,23 +1,15 @@
 -- An interval history has exactly one list of key waves.
-use Rattle.std.proofs.Common.{◌≡◌, ℕ, ◌<◌, Bool, true, false, List, Some, get_or, map}
-use Rattle.std.proofs.Common.{refl, sym, ◌∙◌, ap, arith}
+use Rattle.std.proofs.Common.{◌≡◌, ℕ, ◌<◌, Bool, true, false, List, Some, get_or, map, refl, sym}
+use Rattle.std.proofs.Common.{◌∙◌, ap, arith}
+use Rattle.std.proofs.lemmas.Option.{get_or_from_slice_get, slice_get-get_or, slice_get-map}
+use Rattle.std.proofs.lemmas.Option.{slice_get_within}
 use Rattle.std.specs.Prelude.{slice_get, IsTrue, option_map}
-use Rattle.std.proofs.lemmas.Option.{
-  get_or_from_slice_get,
-  slice_get-get_or,
-  slice_get-map,
-  slice_get_within,
-}
 use Rattle.history.specs.Rails.{Rails, IsSound, both, must_of, may_of}
-use Rattle.tick_signal.specs.declared.tern.Tern.{Tern}
 use Rattle.tick_signal.specs.declared.tern.Tern.TheVariants.{Zero, One, Unknown}
-use Rattle.tick_signal.specs.Terns.{tern_rails}
-use Rattle.line_model.specs.declared.line.Line.{Line}
-use Rattle.line_model.specs.declared.script.Script.{Script}
-use Rattle.line_model.specs.Intervals.{leasts}
-use Rattle.line_model.specs.Parameters.{terminal_count}
-use Rattle.line_model.specs.Choice.{declared_box, steady_choice}
-use Rattle.line_model.specs.Histories.{PairHistory, IsPairHistory}
+use Rattle.tick_signal.specs.{declared.tern.Tern.Tern, Terns.tern_rails}
+use Rattle.line_model.specs.{declared.line.Line.Line, declared.script.Script.Script}
+use Rattle.line_model.specs.{Intervals.leasts, Parameters.terminal_count, Choice.declared_box}
+use Rattle.line_model.specs.{Choice.steady_choice, Histories.PairHistory, Histories.IsPairHistory}
 use Rattle.wave_runs.specs.Waves.{IsWaveOf, wave_at}
 use Rattle.certify_core.specs.Verdicts.{AreKeys}
 use Rattle.own_certificate.specs.Known.{Known}

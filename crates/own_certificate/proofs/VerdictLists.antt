@@ -1,33 +1,19 @@
 -- A script that fits has exactly one list of verdicts.
-use Rattle.std.proofs.Common.{◌≡◌, ◌⊎◌, ℕ, zero, suc, ◌<◌, ◌≤◌, List}
-use Rattle.std.proofs.Common.{refl, sym, ◌∙◌, ap, subst, arith, inl, inr, ⊎_elim}
+use Rattle.std.proofs.Common.{◌≡◌, ◌⊎◌, ℕ, zero, suc, ◌<◌, ◌≤◌, List, refl, sym, ◌∙◌, ap, subst}
+use Rattle.std.proofs.Common.{arith, inl, inr, ⊎_elim}
 use Rattle.std.proofs.lemmas.Bool.{cases_lt}
 use Rattle.line_model.specs.declared.line.Line.{Line}
-use Rattle.line_model.specs.declared.script.Script.{Script}
-use Rattle.line_model.specs.Parameters.{terminal_count}
 use Rattle.line_model.specs.Choice.{Choice, DelaysFromOne, declared_box}
-use Rattle.line_model.specs.Fits.{Fits}
 use Rattle.line_model.specs.Histories.{PairHistory, IsPairHistory}
-use Rattle.timing_box.specs.Candidates.{candidate, candidate_count}
-use Rattle.timing_box.specs.Choice.{timing_choice}
+use Rattle.line_model.specs.{declared.script.Script.Script, Parameters.terminal_count, Fits.Fits}
+use Rattle.timing_box.specs.{Candidates.candidate, Candidates.candidate_count, Choice.timing_choice}
 use Rattle.certify_core.specs.declared.verdict.Verdict.{Verdict}
 use Rattle.certify_core.specs.declared.verdict.Verdict.TheVariants.{Yes, No, Undecided}
-use Rattle.certify_core.specs.Verdicts.{
-  AreVerdicts,
-  FailsAt,
-  IsFirstFailing,
-  IsRuleHeld,
-  IsVerdict,
-  PassesAt,
-}
+use Rattle.certify_core.specs.Verdicts.{AreVerdicts, FailsAt, IsFirstFailing, IsRuleHeld, IsVerdict}
+use Rattle.certify_core.specs.Verdicts.{PassesAt}
 use Rattle.own_certificate.specs.Known.{Known}
 use Rattle.own_certificate.proofs.Lists.{one_each_once, one_each_exists}
-use Rattle.own_certificate.proofs.Obligations.{
-  held_same,
-  met_or_not,
-  rule_held_or_not,
-  same_meets,
-}
+use Rattle.own_certificate.proofs.Obligations.{held_same, met_or_not, rule_held_or_not, same_meets}
 
 -- ---- one verdict at most
 

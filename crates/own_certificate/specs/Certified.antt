@@ -1,14 +1,11 @@
 -- What is certified of a script, and of several.
 use Rattle.std.specs.Prelude.{◌≡◌, List, map}
 use Rattle.std.specs.List.{AllZip}
-use Rattle.line_model.specs.declared.line.Line.{Line}
-use Rattle.line_model.specs.declared.script.Script.{Script}
-use Rattle.line_model.specs.Choice.{declared_box}
-use Rattle.line_model.specs.Histories.{PairHistory, IsPairHistory}
+use Rattle.line_model.specs.{declared.line.Line.Line, declared.script.Script.Script}
+use Rattle.line_model.specs.{Choice.declared_box, Histories.PairHistory, Histories.IsPairHistory}
 use Rattle.certificate.specs.Grammar.{Claims}
 use Rattle.certify_core.specs.declared.verdict.Verdict.{Verdict}
-use Rattle.certify_core.specs.Piece.{written_as}
-use Rattle.certify_core.specs.Verdicts.{AreKeys, AreVerdicts}
+use Rattle.certify_core.specs.{Piece.written_as, Verdicts.AreKeys, Verdicts.AreVerdicts}
 
 -- the claims are the keys of the interval history over the declared intervals and the verdict of
 -- each terminal, as they are written

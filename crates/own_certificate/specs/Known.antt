@@ -1,13 +1,9 @@
 -- The laws below that the proofs here rest on.
 use Rattle.std.specs.Prelude.{◌<◌, ◌≤◌, ℕ}
-use Rattle.line_model.specs.declared.line.Line.{Line}
-use Rattle.line_model.specs.Choice.{IsInside}
-use Rattle.line_model.specs.Laws.{LineLaws}
 use Rattle.line_model.specs.Parameters.{declared_ends, param_count}
+use Rattle.line_model.specs.{declared.line.Line.Line, Choice.IsInside, Laws.LineLaws}
 use Rattle.timing_box.specs.Candidates.{candidate, candidate_count}
-use Rattle.timing_box.specs.Choice.{timing_choice}
-use Rattle.timing_box.specs.Inside.{IsTimingInside}
-use Rattle.timing_box.specs.Timing.{TimingValues}
+use Rattle.timing_box.specs.{Choice.timing_choice, Inside.IsTimingInside, Timing.TimingValues}
 
 -- those of lines and histories, and, word for word, three of candidates, timings and intervals
 pub record Known : Type 0 where

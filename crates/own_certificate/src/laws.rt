@@ -4,20 +4,16 @@ ghost use Rattle.std.specs.Prelude.{◌≡◌, ◌∷◌, ◌++◌, [], List, le
 ghost use Rattle.std.specs.List.{All};
 ghost use Rattle.tick_signal.specs.declared.tern.Tern.{Tern};
 ghost use Rattle.line_model.specs.declared.line.Line.{Line};
-ghost use Rattle.line_model.specs.declared.script.Script.{Script};
-ghost use Rattle.line_model.specs.Choice.{declared_box};
-ghost use Rattle.line_model.specs.Fits.{Fits};
 ghost use Rattle.line_model.specs.Histories.{PairHistory, IsPairHistory};
+ghost use Rattle.line_model.specs.{declared.script.Script.Script, Choice.declared_box, Fits.Fits};
 ghost use Rattle.certificate.specs.Grammar.{Claims, IsCertificate};
 ghost use Rattle.certificate.specs.Text.{CanBeWritten, certificate_text, part_text, parts_text};
 ghost use Rattle.certify_core.specs.declared.verdict.Verdict.{Verdict};
-ghost use Rattle.certify_core.specs.Piece.{claims_of};
-ghost use Rattle.certify_core.specs.Verdicts.{AreKeys, AreVerdicts};
+ghost use Rattle.certify_core.specs.{Piece.claims_of, Verdicts.AreKeys, Verdicts.AreVerdicts};
 ghost use Rattle.cert_checker.specs.declared.counts.Counts.{Counts};
 ghost use Rattle.cert_checker.specs.declared.fault.CheckFault.{CheckFault};
 ghost use Rattle.cert_checker.specs.Check.{IsAccepted, IsCheckFault};
-ghost use Rattle.cert_checker.specs.Counts.{AreCounts, all_verdicts};
-ghost use Rattle.cert_checker.specs.Verdicts.{AreAccepted};
+ghost use Rattle.cert_checker.specs.{Counts.AreCounts, Counts.all_verdicts, Verdicts.AreAccepted};
 ghost use Rattle.own_certificate.specs.Certified.{IsCertified, AreCertified};
 
 use crate::known::laws_below;

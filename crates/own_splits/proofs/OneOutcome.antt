@@ -1,18 +1,14 @@
 -- What is searched of scripts is one list of results.
-use Rattle.std.proofs.Common.{◌≡◌, ℕ, suc, List, [], ◌∷◌, Some, length, map, refl, sym, ◌∙◌, ap, arith}
+use Rattle.std.proofs.Common.{◌≡◌, ℕ, suc, List, [], ◌∷◌, Some, length, map, refl, sym, ◌∙◌, ap}
+use Rattle.std.proofs.Common.{arith}
 use Rattle.std.specs.Prelude.{slice_get}
-use Rattle.line_model.specs.declared.line.Line.{Line}
-use Rattle.line_model.specs.declared.script.Script.{Script}
+use Rattle.line_model.specs.{declared.line.Line.Line, declared.script.Script.Script}
 use Rattle.timing_box.specs.Timing.{TimingValues}
 use Rattle.box_split.specs.declared.node.Outcome.{Outcome}
 use Rattle.box_split.specs.declared.node.Outcome.TheVariants as outcome
-use Rattle.box_split.specs.Trees.{preorder}
-use Rattle.box_split.specs.Search.{Tree, Fails}
-use Rattle.box_split.specs.Found.{IsFound}
-use Rattle.split_text.specs.Grammar.{SplitResult, tree, fails}
-use Rattle.split_text.specs.Piece.{written_as}
-use Rattle.own_splits.specs.Known.{LinesKnown}
-use Rattle.own_splits.specs.Searched.{AreSearched, AllSearched}
+use Rattle.box_split.specs.{Trees.preorder, Search.Tree, Search.Fails, Found.IsFound}
+use Rattle.split_text.specs.{Grammar.SplitResult, Grammar.tree, Grammar.fails, Piece.written_as}
+use Rattle.own_splits.specs.{Known.LinesKnown, Searched.AreSearched, Searched.AllSearched}
 use Rattle.own_splits.proofs.OneSearch.{search_once}
 
 -- lists whose elements are, place by place, written the same are written the same

@@ -1,45 +1,19 @@
 -- A search has one outcome.
 use Rattle.std.proofs.Common.{◌≡◌, ◌+◌, ◌⊎◌, inl, inr, ⊎_elim, ℕ, zero, suc, refl, sym, ◌∙◌, ap}
 use Rattle.std.proofs.Common.{subst, arith}
-use Rattle.line_model.specs.declared.line.Line.{Line}
-use Rattle.line_model.specs.declared.script.Script.{Script}
-use Rattle.line_model.specs.SameLine.{SameLine}
-use Rattle.line_model.specs.Parameters.{declared_ends}
-use Rattle.line_model.specs.WithBounds.{IsWithBounds}
+use Rattle.line_model.specs.{declared.line.Line.Line, declared.script.Script.Script}
+use Rattle.line_model.specs.{SameLine.SameLine, Parameters.declared_ends, WithBounds.IsWithBounds}
 use Rattle.timing_box.specs.Timing.{TimingValues}
 use Rattle.certify_core.specs.declared.verdict.Verdict.{Verdict}
 use Rattle.certify_core.specs.declared.verdict.Verdict.TheVariants as verdict
-use Rattle.box_split.specs.Trees.{Yes, Undecided, Split}
-use Rattle.box_split.specs.Widths.{middle, IsNarrow}
-use Rattle.box_split.specs.Search.{
-  Found,
-  Tree,
-  Fails,
-  IsVerdictOf,
-  IsSplitAt,
-  IsLower,
-  IsUpper,
-  IsSearch,
-  yes,
-  no,
-  deepest,
-  narrow,
-  first_fails,
-  second_fails,
-  split,
-}
+use Rattle.box_split.specs.Search.{Found, Tree, Fails, IsVerdictOf, IsSplitAt, IsLower, IsUpper}
+use Rattle.box_split.specs.Search.{IsSearch, yes, no, deepest, narrow, first_fails, second_fails}
+use Rattle.box_split.specs.Search.{split}
+use Rattle.box_split.specs.{Trees.Yes, Trees.Undecided, Trees.Split, Widths.middle, Widths.IsNarrow}
 use Rattle.own_splits.specs.Known.{LinesKnown}
-use Rattle.own_splits.proofs.SameLines.{
-  own_line,
-  said_once,
-  middle_same,
-  widest_once,
-  narrow_or_widest,
-  widest_or_narrow,
-  half_same,
-  same_least,
-  same_greatest,
-}
+use Rattle.own_splits.proofs.SameLines.{own_line, said_once, middle_same, widest_once}
+use Rattle.own_splits.proofs.SameLines.{narrow_or_widest, widest_or_narrow, half_same, same_least}
+use Rattle.own_splits.proofs.SameLines.{same_greatest}
 
 -- ---- a search, by its first step
 

@@ -1,33 +1,22 @@
 -- What lines that are the same in every field have in common: boxes, candidates, verdicts, widths.
 use Rattle.std.proofs.Common.{◌≡◌, ◌<◌, ◌+◌, ◌-◌, ◌*◌, ◌/◌, ◌==◌, ℕ, Bool, cond, List, [], ◌∷◌, map}
 use Rattle.std.proofs.Common.{get_or, refl, sym, ◌∙◌, ap, subst, arith, ⊎_elim}
-use Rattle.std.specs.Prelude.{◌&&◌, length, take, nat_le, nat_lt, slice_set, if◌then◌else◌}
-use Rattle.std.specs.List.{count_by, range_with_len}
 use Rattle.std.proofs.Math.Path.{fun_ext}
 use Rattle.std.proofs.lemmas.Bool.{cases_lt}
-use Rattle.history.specs.Elements.{some_below}
-use Rattle.history.specs.Rails.{Ends, Rails}
-use Rattle.line_model.specs.declared.line.Line.{Line}
-use Rattle.line_model.specs.declared.line.Param.{Param}
+use Rattle.std.specs.Prelude.{◌&&◌, length, take, nat_le, nat_lt, slice_set, if◌then◌else◌}
+use Rattle.std.specs.List.{count_by, range_with_len}
+use Rattle.history.specs.{Elements.some_below, Rails.Ends, Rails.Rails}
 use Rattle.line_model.specs.declared.script.Script.{Script}
-use Rattle.line_model.specs.SameLine.{SameLine}
-use Rattle.line_model.specs.SetBounds.{SameButParams}
-use Rattle.line_model.specs.WithBounds.{IsWithBounds}
-use Rattle.line_model.specs.Intervals.{leasts, greatests}
 use Rattle.line_model.specs.Parameters.{channel_count, delay_param, declared_ends}
 use Rattle.line_model.specs.Choice.{Box, Choice, declared_box}
 use Rattle.line_model.specs.Histories.{History, IsLineHistory, Meets, MeetsBy, PairHistory}
 use Rattle.line_model.specs.Histories.{IsPairHistory}
-use Rattle.line_model.specs.Rule.{Held, rule_by, rule_of}
+use Rattle.line_model.specs.{declared.line.Line.Line, declared.line.Param.Param, SameLine.SameLine}
+use Rattle.line_model.specs.{SetBounds.SameButParams, WithBounds.IsWithBounds, Intervals.leasts}
+use Rattle.line_model.specs.{Intervals.greatests, Rule.Held, Rule.rule_by, Rule.rule_of}
 use Rattle.timing_box.specs.Delays.{is_delay}
-use Rattle.timing_box.specs.Timing.{TimingValues, number_at}
-use Rattle.timing_box.specs.Choice.{timing_choice}
-use Rattle.timing_box.specs.Candidates.{
-  is_free,
-  candidate,
-  candidate_count,
-  candidate_value,
-}
+use Rattle.timing_box.specs.Candidates.{is_free, candidate, candidate_count, candidate_value}
+use Rattle.timing_box.specs.{Timing.TimingValues, Timing.number_at, Choice.timing_choice}
 use Rattle.certify_core.specs.declared.verdict.Verdict.{Verdict}
 use Rattle.certify_core.specs.declared.verdict.Verdict.TheVariants.{Yes, No, Undecided}
 use Rattle.certify_core.specs.Verdicts.{FailsAt, PassesAt, IsFirstFailing, IsVerdict}

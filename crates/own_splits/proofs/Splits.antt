@@ -1,12 +1,10 @@
 -- What is searched of several scripts is accepted.
 use Rattle.std.proofs.Common.{◌≡◌, ◌≢◌, ℕ, zero, suc, ◌≤◌, List, [], ◌∷◌, ◌++◌, Some, length, refl}
 use Rattle.std.proofs.Common.{ap, subst}
+use Rattle.std.proofs.lemmas.List.Elements.{All-cons, All-head, All-nil, All-tail}
 use Rattle.std.specs.Prelude.{slice_get}
 use Rattle.std.specs.List.{All, count_by}
-use Rattle.std.proofs.lemmas.List.Elements.{All-cons, All-head, All-nil, All-tail}
-use Rattle.line_model.specs.declared.line.Line.{Line}
-use Rattle.line_model.specs.declared.script.Script.{Script}
-use Rattle.line_model.specs.Fits.{Fits}
+use Rattle.line_model.specs.{declared.line.Line.Line, declared.script.Script.Script, Fits.Fits}
 use Rattle.cert_checker.specs.declared.counts.Counts.{Counts}
 use Rattle.cert_checker.specs.Counts.{is_yes, is_no, is_undecided}
 use Rattle.split_text.specs.Grammar.{SplitResult, HasOneEach, IsSplitText}
@@ -14,8 +12,7 @@ use Rattle.split_text.specs.Text.{split_text}
 use Rattle.split_checker.specs.declared.fault.SplitFault.{SplitFault}
 use Rattle.split_checker.specs.declared.fault.SplitFault.TheVariants as wrong
 use Rattle.split_checker.specs.Check.{IsAccepted, IsSplitFault}
-use Rattle.split_checker.specs.Counts.{CountResults, all_verdicts}
-use Rattle.split_checker.specs.Results.{AreSupported}
+use Rattle.split_checker.specs.{Counts.CountResults, Counts.all_verdicts, Results.AreSupported}
 use Rattle.own_splits.specs.Searched.{AreSearched, AllSearched}
 use Rattle.own_splits.proofs.Supported.{Known, one_each, supported}
 

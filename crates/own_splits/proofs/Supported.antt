@@ -1,23 +1,18 @@
 -- What is searched of a script can be written, and is supported.
 use Rattle.std.proofs.Common.{◌≡◌, ℕ, zero, suc, ◌<◌, ◌≤◌, List, [], ◌∷◌, Some, length, get_or, map}
 use Rattle.std.proofs.Common.{refl, sym, ◌∙◌, ap, subst, arith}
-use Rattle.std.specs.Prelude.{slice_get}
 use Rattle.std.proofs.lemmas.List.{length-map}
 use Rattle.std.proofs.lemmas.Option.{slice_get_within, slice_get-get_or}
-use Rattle.line_model.specs.declared.line.Line.{Line}
-use Rattle.line_model.specs.declared.script.Script.{Script}
-use Rattle.line_model.specs.Fits.{Fits}
-use Rattle.line_model.specs.Parameters.{terminal_count}
-use Rattle.line_model.specs.Choice.{declared_box}
+use Rattle.std.specs.Prelude.{slice_get}
+use Rattle.line_model.specs.{declared.line.Line.Line, declared.script.Script.Script, Fits.Fits}
+use Rattle.line_model.specs.{Parameters.terminal_count, Choice.declared_box}
 use Rattle.timing_box.specs.Timing.{TimingValues}
 use Rattle.certify_core.specs.Verdicts as certified
 use Rattle.cert_checker.specs.Refutations.{IsRefutation, steady_timing}
 use Rattle.box_split.specs.declared.node.Outcome.{Outcome}
 use Rattle.box_split.specs.declared.node.Outcome.TheVariants as outcome
-use Rattle.box_split.specs.Trees.{SplitTree}
 use Rattle.box_split.specs.Search.{Tree, Fails, IsSearch}
-use Rattle.box_split.specs.Found.{IsFound}
-use Rattle.box_split.specs.Leaves.{AreSound}
+use Rattle.box_split.specs.{Trees.SplitTree, Found.IsFound, Leaves.AreSound}
 use Rattle.split_text.specs.Grammar.{SplitResult, IsSplitResult, HasOneEach}
 use Rattle.split_text.specs.Piece.{IsPrintable, written_as}
 use Rattle.split_checker.specs.Results.{IsSupported, AreSupported}

@@ -2,13 +2,10 @@
 use Rattle.std.specs.Prelude.{◌≡◌, ℕ, List, map}
 use Rattle.std.specs.List.{AllZip}
 use Rattle.line_model.specs.declared.line.Line.{Line}
-use Rattle.line_model.specs.declared.script.Script.{Script}
-use Rattle.line_model.specs.Parameters.{terminal_count}
+use Rattle.line_model.specs.{declared.script.Script.Script, Parameters.terminal_count}
 use Rattle.certify_core.specs.OneEach.{OneEach}
-use Rattle.box_split.specs.declared.node.Outcome.{Outcome}
-use Rattle.box_split.specs.Found.{IsFound}
-use Rattle.split_text.specs.Grammar.{SplitResult}
-use Rattle.split_text.specs.Piece.{written_as}
+use Rattle.box_split.specs.{declared.node.Outcome.Outcome, Found.IsFound}
+use Rattle.split_text.specs.{Grammar.SplitResult, Piece.written_as}
 
 -- the results are the outcomes of the searches to depth n, one for each terminal, as they are
 -- written

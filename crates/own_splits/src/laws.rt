@@ -3,19 +3,15 @@
 ghost use Rattle.std.specs.Prelude.{◌≡◌, ◌≤◌, ◌∷◌, ◌++◌, [], ℕ, List, length};
 ghost use Rattle.std.specs.List.{All};
 ghost use Rattle.line_model.specs.declared.line.Line.{Line};
-ghost use Rattle.line_model.specs.declared.script.Script.{Script};
-ghost use Rattle.line_model.specs.Fits.{Fits};
+ghost use Rattle.line_model.specs.{declared.script.Script.Script, Fits.Fits};
 ghost use Rattle.cert_checker.specs.declared.counts.Counts.{Counts};
 ghost use Rattle.box_split.specs.declared.node.Outcome.{Outcome};
-ghost use Rattle.box_split.specs.Found.{IsFound};
-ghost use Rattle.box_split.specs.Search.{Found, IsSearch};
+ghost use Rattle.box_split.specs.{Found.IsFound, Search.Found, Search.IsSearch};
 ghost use Rattle.split_text.specs.Grammar.{SplitResult, HasOneEach, IsSplitText};
-ghost use Rattle.split_text.specs.Piece.{written_as};
-ghost use Rattle.split_text.specs.Text.{split_text};
+ghost use Rattle.split_text.specs.{Piece.written_as, Text.split_text};
 ghost use Rattle.split_checker.specs.declared.fault.SplitFault.{SplitFault};
 ghost use Rattle.split_checker.specs.Check.{IsAccepted, IsSplitFault};
-ghost use Rattle.split_checker.specs.Counts.{CountResults};
-ghost use Rattle.split_checker.specs.Results.{AreSupported};
+ghost use Rattle.split_checker.specs.{Counts.CountResults, Results.AreSupported};
 ghost use Rattle.own_splits.specs.Searched.{AreSearched, AllSearched};
 
 use box_split::{what_a_search_finds_is_sound, what_fails_in_a_part_fails};

@@ -2,12 +2,8 @@
 
 ghost use Rattle.std.specs.Prelude.{◌≡◌, ◌<◌, length, IfSome};
 ghost use Rattle.std.specs.Option.{option_copied};
-ghost use Rattle.picture_core.specs.Chosen.{
-  chosen_script,
-  chosen_timing,
-  place_of_script,
-  place_of_timing,
-};
+ghost use Rattle.picture_core.specs.Chosen.{chosen_script, chosen_timing, place_of_script};
+ghost use Rattle.picture_core.specs.Chosen.{place_of_timing};
 
 use line_model::Script;
 use timing_box::NamedTiming;

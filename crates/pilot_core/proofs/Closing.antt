@@ -1,48 +1,16 @@
 -- The clauses of the top call, from how it ends.
-use Rattle.std.proofs.Common.{
-  ◌≡◌,
-  ◌⊎◌,
-  ◌<◌,
-  ℕ,
-  List,
-  [],
-  ◌∷◌,
-  Option,
-  None,
-  Some,
-  OnOk,
-  Result,
-  Ok,
-  Err,
-  refl,
-  ap,
-  subst,
-  inl,
-  inr,
-  arith,
-}
+use Rattle.std.proofs.Common.{◌≡◌, ◌⊎◌, ◌<◌, ℕ, List, [], ◌∷◌, Option, None, Some, OnOk, Result, Ok}
+use Rattle.std.proofs.Common.{Err, refl, ap, subst, inl, inr, arith}
 use Rattle.std.specs.Io.KnownBytes.{Appends, Keeps}
-use Rattle.relay_base.specs.Counts.{Rose}
-use Rattle.relay_base.specs.Sink.{GrewByPart}
-use Rattle.relay_base.specs.SinkLaws.{part_of_proper}
+use Rattle.relay_base.specs.{Counts.Rose, Sink.GrewByPart, SinkLaws.part_of_proper}
 use Rattle.engine.specs.Calls.{Calls}
-use Rattle.pilot_core.specs.Call.{Asked, Told}
-use Rattle.pilot_core.specs.Clauses.{
-  Call,
-  Clauses,
-  IsLine,
-  OutIsAnswer,
-  OutIsFront,
-  OutIsProperFront,
-}
-use Rattle.pilot_core.specs.Ends.{EndsOf}
 use Rattle.pilot_core.specs.Files.{NamedFile, NoneRose, StoreCause}
-use Rattle.pilot_core.specs.Messages.{message_of}
-use Rattle.commands.specs.Sinks.{SinkView, GrewByAll, Puts}
 use Rattle.pilot_core.specs.Status.{IsAnswer, IsDone, IsEarly, status_of, stop_status}
-use Rattle.pilot_core.specs.Words.{Command, files_named}
-use Rattle.pilot_core.specs.declared.stop.File.{File}
-use Rattle.pilot_core.specs.declared.stop.Status.{Status}
+use Rattle.pilot_core.specs.{Call.Asked, Call.Told, Clauses.Call, Clauses.Clauses, Clauses.IsLine}
+use Rattle.pilot_core.specs.{Clauses.OutIsAnswer, Clauses.OutIsFront, Clauses.OutIsProperFront}
+use Rattle.pilot_core.specs.{Ends.EndsOf, Messages.message_of, Words.Command, Words.files_named}
+use Rattle.pilot_core.specs.{declared.stop.File.File, declared.stop.Status.Status}
+use Rattle.commands.specs.Sinks.{SinkView, GrewByAll, Puts}
 use Rattle.pilot_core.specs.declared.stop.Status.TheVariants as status
 use Rattle.pilot_core.specs.declared.stop.Stop.{Stop}
 use Rattle.pilot_core.specs.declared.stop.Stop.TheVariants as stop

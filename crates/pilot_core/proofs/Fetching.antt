@@ -1,40 +1,13 @@
 -- How a call ends, file after file.
-use Rattle.std.proofs.Common.{
-  ◌≡◌,
-  ℕ,
-  ◌≤◌,
-  false,
-  List,
-  [],
-  ◌∷◌,
-  Option,
-  None,
-  Some,
-  IsSome,
-  IfSome,
-  Result,
-  Ok,
-  Err,
-  length,
-  nat_lt,
-  unwrap_or,
-  refl,
-  sym,
-  ◌∙◌,
-  inl,
-  inr,
-  subst,
-  ap,
-  arith,
-}
+use Rattle.std.proofs.Common.{◌≡◌, ℕ, ◌≤◌, false, List, [], ◌∷◌, Option, None, Some, IsSome, IfSome}
+use Rattle.std.proofs.Common.{Result, Ok, Err, length, nat_lt, unwrap_or, refl, sym, ◌∙◌, inl, inr}
+use Rattle.std.proofs.Common.{subst, ap, arith}
 use Rattle.relay_base.specs.Store.{SameCounts}
 use Rattle.commands.specs.Sinks.{SinkView}
-use Rattle.pilot_core.specs.CallAnswers.{CallAnswers}
-use Rattle.pilot_core.specs.Ends.{Works, Ends}
 use Rattle.pilot_core.specs.Files.{contents, in_front, limit_of, AllTold, NamedFile, StoreCause}
 use Rattle.pilot_core.specs.declared.stop.File.{File}
-use Rattle.pilot_core.specs.declared.stop.Status.{Status}
-use Rattle.pilot_core.specs.declared.stop.Stop.{Stop}
+use Rattle.pilot_core.specs.{CallAnswers.CallAnswers, Ends.Works, Ends.Ends}
+use Rattle.pilot_core.specs.{declared.stop.Status.Status, declared.stop.Stop.Stop}
 use Rattle.pilot_core.specs.declared.stop.Stop.TheVariants as stop
 
 -- a work may answer what a wider relation allows

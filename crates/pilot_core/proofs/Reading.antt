@@ -1,49 +1,34 @@
 -- What is answered once a file is read, or refused.
-use Rattle.std.proofs.Common.{◌≡◌, ℕ, List, Option, None, Some, Result, Ok, Err, refl, sym, subst, inl}
+use Rattle.std.proofs.Common.{◌≡◌, ℕ, List, Option, None, Some, Result, Ok, Err, refl, sym, subst}
+use Rattle.std.proofs.Common.{inl}
 use Rattle.std.specs.Prelude.{⊤}
 use Rattle.std.specs.List.{All}
-use Rattle.line_model.specs.declared.line.Line.{Line}
-use Rattle.line_model.specs.declared.script.Script.{Script}
-use Rattle.line_file.specs.LineFiles.{line_of}
-use Rattle.line_file.specs.Lines.{LineValues, line_values}
+use Rattle.line_model.specs.{declared.line.Line.Line, declared.script.Script.Script}
+use Rattle.line_file.specs.{LineFiles.line_of, Lines.LineValues, Lines.line_values}
 use Rattle.line_file.specs.Reading as line_reading
 use Rattle.line_file.specs.declared.fault.LineFault.{LineFault}
 use Rattle.line_file.specs.declared.fault.LineFault.TheVariants as line_fault
 use Rattle.fault_script.specs.Gives as script_reading
 use Rattle.fault_script.specs.Scripts.{scripts_of}
-use Rattle.fault_script.specs.Values.{ScriptValues}
-use Rattle.fault_script.specs.declared.fault.ScriptFault.{ScriptFault}
+use Rattle.fault_script.specs.{Values.ScriptValues, declared.fault.ScriptFault.ScriptFault}
 use Rattle.fault_script.specs.declared.fault.ScriptFault.TheVariants as script_fault
 use Rattle.timing_box.specs.Gives as timing_reading
 use Rattle.engine.specs.Calls.{Calls}
 use Rattle.timing_box.specs.Inside.{IsTimingInside}
-use Rattle.timing_box.specs.SoFar.{NamedValues}
-use Rattle.timing_box.specs.declared.fault.TimingFault.{TimingFault}
+use Rattle.timing_box.specs.{SoFar.NamedValues, declared.fault.TimingFault.TimingFault}
 use Rattle.timing_box.specs.declared.fault.TimingFault.TheVariants as timing_fault
 use Rattle.record_match.specs.Gives as record_reading
-use Rattle.record_match.specs.Waves.{SeenValues}
-use Rattle.record_match.specs.declared.fault.SeenFault.{SeenFault}
+use Rattle.record_match.specs.{Waves.SeenValues, declared.fault.SeenFault.SeenFault}
 use Rattle.record_match.specs.declared.fault.SeenFault.TheVariants as seen_fault
 use Rattle.pilot_core.specs.CallAnswers.{CallAnswers, refuses}
-use Rattle.pilot_core.specs.Commands.{asks}
-use Rattle.pilot_core.specs.Ends.{Works}
-use Rattle.pilot_core.specs.Reading.{
-  of_line,
-  of_parameter,
-  of_record,
-  of_scripts,
-  of_study,
-  of_timings,
-  work_of_one,
-}
-use Rattle.commands.specs.Sinks.{SinkView}
+use Rattle.pilot_core.specs.Reading.{of_line, of_parameter, of_record, of_scripts, of_study}
+use Rattle.pilot_core.specs.Reading.{of_timings, work_of_one}
 use Rattle.pilot_core.specs.Stops.{line_stop, record_stop, script_stop, timing_stop}
-use Rattle.commands.specs.Study.{IsStudy}
 use Rattle.pilot_core.specs.Study.{IsSaid, ReadsStudy}
-use Rattle.pilot_core.specs.declared.refusal.Refusal.{Refusal}
+use Rattle.pilot_core.specs.{Commands.asks, Ends.Works, declared.refusal.Refusal.Refusal}
+use Rattle.commands.specs.{Sinks.SinkView, Study.IsStudy}
 use Rattle.pilot_core.specs.declared.refusal.Refusal.TheVariants as refusal
-use Rattle.pilot_core.specs.declared.stop.Status.{Status}
-use Rattle.pilot_core.specs.declared.stop.Stop.{Stop}
+use Rattle.pilot_core.specs.{declared.stop.Status.Status, declared.stop.Stop.Stop}
 use Rattle.pilot_core.specs.declared.stop.Stop.TheVariants as stop
 use Rattle.commands.specs.declared.study.Study.{Study}
 use Rattle.pilot_core.specs.declared.words.OneFile.{OneFile}

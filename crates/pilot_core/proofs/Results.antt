@@ -1,7 +1,6 @@
 -- Results, by cases.
 use Rattle.std.proofs.Common.{OnOk, Result, Ok, Err}
-use Rattle.commands.specs.declared.done.Done.{Done}
-use Rattle.commands.specs.declared.put.WriteStop.{WriteStop}
+use Rattle.commands.specs.{declared.done.Done.Done, declared.put.WriteStop.WriteStop}
 use Rattle.pilot_core.specs.Status.{ended}
 
 -- what follows, where there is a value

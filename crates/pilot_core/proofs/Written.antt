@@ -1,15 +1,13 @@
 -- What a call answers once its command wrote its text.
 use Rattle.std.proofs.Common.{◌≡◌, List, ℕ, [], IfOk, Result, Ok, Err, refl, inr}
 use Rattle.commands.specs.Answers.{Answers, Says, WritesAnswer}
-use Rattle.commands.specs.Sinks.{SinkView, Writes}
-use Rattle.commands.specs.declared.done.Done.{Done}
+use Rattle.commands.specs.{Sinks.SinkView, Sinks.Writes, declared.done.Done.Done}
 use Rattle.commands.specs.declared.done.Done.TheVariants as done
 use Rattle.commands.specs.declared.put.WriteStop.{WriteStop}
 use Rattle.commands.specs.declared.put.WriteStop.TheVariants as write_stop
 use Rattle.commands.specs.declared.said.Said.{Said}
 use Rattle.pilot_core.specs.CallAnswers.{done_with}
-use Rattle.pilot_core.specs.Ends.{Works}
-use Rattle.pilot_core.specs.Status.{IsDone, ended, status_of_done}
+use Rattle.pilot_core.specs.{Ends.Works, Status.IsDone, Status.ended, Status.status_of_done}
 
 -- the statuses of commands that are done
 is_done : (d : Done) → IsDone (status_of_done d)

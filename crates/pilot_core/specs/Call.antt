@@ -4,10 +4,8 @@ use Rattle.engine.specs.Calls.{Calls}
 use Rattle.commands.specs.Asked.{Asks}
 use Rattle.pilot_core.specs.CallAnswers.{CallAnswers, done_with, refuses}
 use Rattle.pilot_core.specs.Commands.{answer, asks}
-use Rattle.pilot_core.specs.Files.{AllTold, contents}
-use Rattle.pilot_core.specs.Messages.{message_of}
-use Rattle.pilot_core.specs.Reading.{Reading, over_files}
-use Rattle.pilot_core.specs.Words.{Command, files_of, files_named}
+use Rattle.pilot_core.specs.{Files.AllTold, Files.contents, Messages.message_of, Reading.Reading}
+use Rattle.pilot_core.specs.{Reading.over_files, Words.Command, Words.files_of, Words.files_named}
 use Rattle.pilot_core.specs.declared.stop.Status.TheVariants as status
 use Rattle.pilot_core.specs.declared.stop.Stop.TheVariants as stop
 

@@ -1,11 +1,8 @@
 -- What a call may answer: a relation of the status, the text on out and the line on err.
 use Rattle.std.specs.Prelude.{◌≡◌, ℕ, List, []}
-use Rattle.commands.specs.Answers.{Answers}
-use Rattle.commands.specs.declared.done.Done.{Done}
-use Rattle.pilot_core.specs.Messages.{message_of}
-use Rattle.pilot_core.specs.Status.{status_of_done}
-use Rattle.pilot_core.specs.declared.refusal.Refusal.{Refusal}
-use Rattle.pilot_core.specs.declared.stop.Status.{Status}
+use Rattle.commands.specs.{Answers.Answers, declared.done.Done.Done}
+use Rattle.pilot_core.specs.{Messages.message_of, Status.status_of_done}
+use Rattle.pilot_core.specs.{declared.refusal.Refusal.Refusal, declared.stop.Status.Status}
 use Rattle.pilot_core.specs.declared.stop.Status.TheVariants as status
 use Rattle.pilot_core.specs.declared.stop.Stop.TheVariants as stop
 

@@ -1,18 +1,13 @@
 -- The clauses of the top call.
 use Rattle.std.specs.Prelude.{◌≡◌, ◌⊎◌, ◌<◌, ℕ, List, [], Option}
 use Rattle.std.specs.Io.KnownBytes.{Appends, Keeps}
-use Rattle.relay_base.specs.Counts.{Rose}
-use Rattle.relay_base.specs.Sink.{GrewByProper, GrewByPart}
+use Rattle.relay_base.specs.{Counts.Rose, Sink.GrewByProper, Sink.GrewByPart}
 use Rattle.engine.specs.Calls.{Calls}
-use Rattle.pilot_core.specs.Call.{Asked, Told, answers}
-use Rattle.pilot_core.specs.Files.{StoreCause, NoneRose}
-use Rattle.pilot_core.specs.Messages.{message_of}
+use Rattle.pilot_core.specs.{Call.Asked, Call.Told, Call.answers, Files.StoreCause, Files.NoneRose}
+use Rattle.pilot_core.specs.{Messages.message_of, Status.IsAnswer, Status.IsDone, Words.Command}
+use Rattle.pilot_core.specs.{Words.files_named, declared.refusal.Refusal.Refusal}
+use Rattle.pilot_core.specs.{declared.stop.File.File, declared.stop.Status.Status}
 use Rattle.commands.specs.Sinks.{SinkView, GrewByAll}
-use Rattle.pilot_core.specs.Status.{IsAnswer, IsDone}
-use Rattle.pilot_core.specs.Words.{Command, files_named}
-use Rattle.pilot_core.specs.declared.refusal.Refusal.{Refusal}
-use Rattle.pilot_core.specs.declared.stop.File.{File}
-use Rattle.pilot_core.specs.declared.stop.Status.{Status}
 use Rattle.pilot_core.specs.declared.stop.Status.TheVariants as status
 use Rattle.pilot_core.specs.declared.stop.Stop.TheVariants as stop
 

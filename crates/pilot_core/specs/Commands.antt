@@ -1,18 +1,10 @@
 -- The commands: what each answers, and what it asks of the engine.
-use Rattle.commands.specs.Answers.{Answers}
-use Rattle.commands.specs.Asked.{Asks, asks_nothing}
 use Rattle.commands.specs.Bench.{bench_answer, bench_asks}
-use Rattle.commands.specs.Certify.{certify_answer, certify_asks}
-use Rattle.commands.specs.Check.{check_answer, check_asks}
-use Rattle.commands.specs.Line.{line_answer}
-use Rattle.commands.specs.Margin.{margin_answer}
-use Rattle.commands.specs.Match.{match_answer}
-use Rattle.commands.specs.Migrate.{migrate_answer}
-use Rattle.commands.specs.Net.{net_answer}
-use Rattle.commands.specs.Play.{play_answer, play_asks}
-use Rattle.commands.specs.Recheck.{recheck_answer}
-use Rattle.commands.specs.Report.{report_answer}
-use Rattle.commands.specs.Split.{split_answer}
+use Rattle.commands.specs.{Answers.Answers, Asked.Asks, Asked.asks_nothing, Certify.certify_answer}
+use Rattle.commands.specs.{Certify.certify_asks, Check.check_answer, Check.check_asks}
+use Rattle.commands.specs.{Line.line_answer, Margin.margin_answer, Match.match_answer}
+use Rattle.commands.specs.{Migrate.migrate_answer, Net.net_answer, Play.play_answer, Play.play_asks}
+use Rattle.commands.specs.{Recheck.recheck_answer, Report.report_answer, Split.split_answer}
 use Rattle.pilot_core.specs.Work as work
 use Rattle.pilot_core.specs.Work.{Work}
 

@@ -2,19 +2,12 @@
 -- also where it stopped in the middle.
 use Rattle.std.specs.Prelude.{◌≡◌, ◌⊎◌, None, Some, ℕ, List, [], Option, Result, Ok, Err}
 use Rattle.std.specs.Io.KnownBytes.{Keeps}
-use Rattle.relay_base.specs.Counts.{Rose}
-use Rattle.relay_base.specs.Sink.{GrewByProper, GrewByPart}
-use Rattle.relay_base.specs.Store.{SameCounts}
+use Rattle.relay_base.specs.{Counts.Rose, Sink.GrewByProper, Sink.GrewByPart, Store.SameCounts}
 use Rattle.commands.specs.Sinks.{SinkView, GrewByAll}
-use Rattle.pilot_core.specs.Call.{answer_by}
-use Rattle.pilot_core.specs.CallAnswers.{CallAnswers}
 use Rattle.pilot_core.specs.Files.{AllTold, NamedFile, StoreCause, contents}
-use Rattle.pilot_core.specs.Messages.{message_of}
-use Rattle.pilot_core.specs.Reading.{over_files}
-use Rattle.pilot_core.specs.Status.{IsDone}
-use Rattle.pilot_core.specs.Words.{Command, files_of}
-use Rattle.pilot_core.specs.declared.stop.File.{File}
-use Rattle.pilot_core.specs.declared.stop.Status.{Status}
+use Rattle.pilot_core.specs.{Call.answer_by, CallAnswers.CallAnswers, Messages.message_of}
+use Rattle.pilot_core.specs.{Reading.over_files, Status.IsDone, Words.Command, Words.files_of}
+use Rattle.pilot_core.specs.{declared.stop.File.File, declared.stop.Status.Status}
 use Rattle.pilot_core.specs.declared.stop.Status.TheVariants as status
 use Rattle.pilot_core.specs.declared.stop.Stop.{Stop}
 use Rattle.pilot_core.specs.declared.stop.Stop.TheVariants as stop

@@ -1,29 +1,8 @@
 -- The files of a command: their bytes, and what a fetch of one does.
-use Rattle.std.specs.Prelude.{
-  ◌≡◌,
-  ◌⊎◌,
-  ◌∷◌,
-  ◌<◌,
-  ◌≤◌,
-  ⊤,
-  Vec,
-  ℕ,
-  List,
-  [],
-  Option,
-  IfSome,
-  IsSome,
-  Result,
-  Ok,
-  Err,
-  length,
-  nat_lt,
-  if◌then◌else◌,
-  unwrap_or,
-}
+use Rattle.std.specs.Prelude.{◌≡◌, ◌⊎◌, ◌∷◌, ◌<◌, ◌≤◌, ⊤, Vec, ℕ, List, [], Option, IfSome, IsSome}
+use Rattle.std.specs.Prelude.{Result, Ok, Err, length, nat_lt, if◌then◌else◌, unwrap_or}
 use Rattle.std.specs.declared.alloc.Global.{Global}
-use Rattle.relay_base.specs.Counts.{Rose}
-use Rattle.relay_base.specs.Store.{SameCounts}
+use Rattle.relay_base.specs.{Counts.Rose, Store.SameCounts}
 use Rattle.pilot_core.specs.declared.refusal.Refusal.TheVariants as refusal
 use Rattle.pilot_core.specs.declared.stop.File.{File}
 use Rattle.pilot_core.specs.declared.stop.File.TheVariants as file

@@ -2,30 +2,21 @@
 -- too long or that a reader refuses.
 use Rattle.std.specs.Prelude.{◌≡◌, ◌∷◌, ℕ, List, [], Option, None, Some, Result, Ok, Err, map}
 use Rattle.std.specs.List.{All}
-use Rattle.line_model.specs.declared.line.Line.{Line}
-use Rattle.line_model.specs.declared.script.Script.{Script}
-use Rattle.line_model.specs.Fits.{Fits}
+use Rattle.line_model.specs.{declared.line.Line.Line, declared.script.Script.Script, Fits.Fits}
 use Rattle.line_file.specs.LineFiles.{line_of}
-use Rattle.line_file.specs.Lines.{LineValues, line_values}
-use Rattle.line_file.specs.declared.fault.LineFault.{LineFault}
-use Rattle.fault_script.specs.Scripts.{scripts_of}
+use Rattle.line_file.specs.{Lines.LineValues, Lines.line_values, declared.fault.LineFault.LineFault}
 use Rattle.fault_script.specs.Values.{ScriptValues, values_of}
-use Rattle.fault_script.specs.declared.fault.ScriptFault.{ScriptFault}
-use Rattle.timing_box.specs.Checks.{param_named}
-use Rattle.timing_box.specs.Inside.{IsTimingInside}
-use Rattle.timing_box.specs.SoFar.{NamedValues}
-use Rattle.timing_box.specs.Timings.{timings_of}
-use Rattle.timing_box.specs.declared.fault.TimingFault.{TimingFault}
+use Rattle.fault_script.specs.{Scripts.scripts_of, declared.fault.ScriptFault.ScriptFault}
+use Rattle.timing_box.specs.{Checks.param_named, Inside.IsTimingInside, SoFar.NamedValues}
+use Rattle.timing_box.specs.{Timings.timings_of, declared.fault.TimingFault.TimingFault}
 use Rattle.record_match.specs.Waves.{SeenValues, records_said}
 use Rattle.record_match.specs.declared.fault.SeenFault.{SeenFault}
 use Rattle.pilot_core.specs.Words as words
 use Rattle.pilot_core.specs.Words.{Command}
 use Rattle.pilot_core.specs.Work as work
-use Rattle.pilot_core.specs.Work.{Work}
-use Rattle.pilot_core.specs.declared.refusal.Refusal.{Refusal}
+use Rattle.pilot_core.specs.{Work.Work, declared.refusal.Refusal.Refusal}
 use Rattle.pilot_core.specs.declared.refusal.Refusal.TheVariants as refusal
-use Rattle.pilot_core.specs.declared.stop.File.{File}
-use Rattle.pilot_core.specs.declared.words.OneFile.{OneFile}
+use Rattle.pilot_core.specs.{declared.stop.File.File, declared.words.OneFile.OneFile}
 use Rattle.pilot_core.specs.declared.words.OneFile.TheVariants as one
 use Rattle.pilot_core.specs.declared.words.TwoFiles.{TwoFiles}
 use Rattle.pilot_core.specs.declared.words.TwoFiles.TheVariants as two

@@ -1,13 +1,9 @@
 -- What is read of a line file and a scripts file.
 use Rattle.std.specs.Prelude.{◌≡◌, ⊤, ℕ, List, Result, Ok, Err, map}
-use Rattle.commands.specs.Study.{IsStudy}
-use Rattle.commands.specs.declared.study.Study.{Study}
-use Rattle.line_file.specs.LineFiles.{line_of}
-use Rattle.line_file.specs.Lines.{line_values}
-use Rattle.fault_script.specs.Scripts.{scripts_of}
-use Rattle.fault_script.specs.Values.{values_of}
-use Rattle.pilot_core.specs.Reading.{of_study}
-use Rattle.pilot_core.specs.declared.stop.Stop.{Stop}
+use Rattle.commands.specs.{Study.IsStudy, declared.study.Study.Study}
+use Rattle.line_file.specs.{LineFiles.line_of, Lines.line_values}
+use Rattle.fault_script.specs.{Scripts.scripts_of, Values.values_of}
+use Rattle.pilot_core.specs.{Reading.of_study, declared.stop.Stop.Stop}
 use Rattle.pilot_core.specs.declared.stop.Stop.TheVariants as stop
 
 -- a line file and a scripts file say it

@@ -1,22 +1,9 @@
 -- The words that are a command, and the files that it reads.
-use Rattle.std.specs.Prelude.{
-  ◌∷◌,
-  ◌&&◌,
-  ℕ,
-  List,
-  [],
-  Option,
-  None,
-  Some,
-  codes,
-  nat_le,
-  option_map,
-  if◌then◌else◌,
-}
+use Rattle.std.specs.Prelude.{◌∷◌, ◌&&◌, ℕ, List, [], Option, None, Some, codes, nat_le, option_map}
+use Rattle.std.specs.Prelude.{if◌then◌else◌}
 use Rattle.std.specs.Str.{bytes_eq}
 use Rattle.relay_base.specs.Number.{number_of}
-use Rattle.pilot_core.specs.Files.{NamedFile}
-use Rattle.pilot_core.specs.declared.stop.File.{File}
+use Rattle.pilot_core.specs.{Files.NamedFile, declared.stop.File.File}
 use Rattle.pilot_core.specs.declared.stop.File.TheVariants as file
 use Rattle.pilot_core.specs.declared.words.OneFile.{OneFile}
 use Rattle.pilot_core.specs.declared.words.OneFile.TheVariants as one

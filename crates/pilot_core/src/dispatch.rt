@@ -1,17 +1,13 @@
 //! The work of each command, over the bytes of its files.
 ghost use Rattle.std.specs.Prelude.{◌≤◌, IfOk, OnOk, length};
-ghost use Rattle.commands.specs.Answers.{Says};
-ghost use Rattle.commands.specs.Sinks.{sink_view};
-ghost use Rattle.commands.specs.Study.{IsStudy};
+ghost use Rattle.commands.specs.{Answers.Says, Sinks.sink_view, Study.IsStudy};
 ghost use Rattle.engine.specs.Calls.{Calls};
 ghost use Rattle.pilot_core.specs.Call.{answer_by, asks_by};
-ghost use Rattle.pilot_core.specs.Commands.{answer};
-ghost use Rattle.pilot_core.specs.Ends.{Works};
-ghost use Rattle.pilot_core.specs.Files.{limit_of};
 ghost use Rattle.pilot_core.specs.Reading.{bench as of_bench, margin as of_margin};
 ghost use Rattle.pilot_core.specs.Reading.{one_file as of_one_file, three_files as of_three_files};
-ghost use Rattle.pilot_core.specs.Reading.{split as of_split, third_file, two_files as of_two_files, work_of_one};
-ghost use Rattle.pilot_core.specs.Words.{own_file};
+ghost use Rattle.pilot_core.specs.Reading.{split as of_split, third_file};
+ghost use Rattle.pilot_core.specs.Reading.{two_files as of_two_files, work_of_one};
+ghost use Rattle.pilot_core.specs.{Commands.answer, Ends.Works, Files.limit_of, Words.own_file};
 ghost use Rattle.pilot_core.specs.declared.words.ThreeFiles.TheVariants as three;
 
 use crate::bench_size::BenchSize;

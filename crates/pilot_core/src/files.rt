@@ -1,7 +1,6 @@
 //! The files of a command.
 ghost use Rattle.std.specs.Prelude.{◌≡◌, ◌≤◌};
-ghost use Rattle.pilot_core.specs.Files.{Fetches, limit_of as limit};
-ghost use Rattle.pilot_core.specs.Words.{named};
+ghost use Rattle.pilot_core.specs.{Files.Fetches, Files.limit_of as limit, Words.named};
 
 use crate::refusal::Refusal;
 use crate::stop::{File, Stop};

@@ -1,8 +1,7 @@
 //! The lines to standard error, piece by piece, with no memory taken.
 ghost use Rattle.std.specs.Prelude.{◌≡◌};
 ghost use Rattle.std.specs.List.{concat};
-ghost use Rattle.pilot_core.specs.Messages.{file_word, message_of, refusal_pieces};
-ghost use Rattle.pilot_core.specs.Messages.{subject_word};
+ghost use Rattle.pilot_core.specs.Messages.{file_word, message_of, refusal_pieces, subject_word};
 ghost use Rattle.commands.specs.Sinks.{Puts, sink_view};
 
 use crate::refusal::{Detail, Subject};

@@ -1,7 +1,7 @@
 //! Why a file or the parameter is refused, and what the line to standard error tells of it.
 ghost use Rattle.std.specs.Prelude.{◌≡◌};
-ghost use Rattle.pilot_core.specs.Refusals.{detail_of, name_of, subject_of};
-ghost use Rattle.pilot_core.specs.Refusals.{line_detail, record_detail};
+ghost use Rattle.pilot_core.specs.Refusals.{detail_of, name_of, subject_of, line_detail};
+ghost use Rattle.pilot_core.specs.Refusals.{record_detail};
 
 use crate::stop::File;
 use fault_script::ScriptFault;

@@ -1,15 +1,13 @@
 //! The command that the words are, over a store.
 ghost use Rattle.std.specs.Prelude.{◌≡◌, OnOk, map, string_bytes};
 ghost use Rattle.engine.specs.Calls.{Calls};
-ghost use Rattle.pilot_core.specs.Call.{Asked};
-ghost use Rattle.pilot_core.specs.CommandView.{command_view};
-ghost use Rattle.pilot_core.specs.Ends.{EndsOf};
-ghost use Rattle.commands.specs.Sinks.{sink_view};
 ghost use Rattle.pilot_core.specs.Words.{command_of, own_file as file_of_work};
-ghost use Rattle.pilot_core.specs.Words.{margin as margin_command};
-ghost use Rattle.pilot_core.specs.Words.{one_file as one_file_command, split as split_command};
+ghost use Rattle.pilot_core.specs.Words.{margin as margin_command, one_file as one_file_command};
+ghost use Rattle.pilot_core.specs.Words.{split as split_command};
 ghost use Rattle.pilot_core.specs.Words.{three_files as three_files_command};
 ghost use Rattle.pilot_core.specs.Words.{two_files as two_files_command};
+ghost use Rattle.pilot_core.specs.{Call.Asked, CommandView.command_view, Ends.EndsOf};
+ghost use Rattle.commands.specs.Sinks.{sink_view};
 
 use crate::dispatch::{margin_of, no_file, one_file, split_to, three_files, two_files};
 use crate::files::fetch_file;

@@ -1,7 +1,6 @@
 //! How a call ends: its exit status, and why it stopped.
 ghost use Rattle.std.specs.Prelude.{◌≡◌};
-ghost use Rattle.pilot_core.specs.Status.{ended as end_of};
-ghost use Rattle.pilot_core.specs.declared.stop.Stop.TheVariants.{Memory};
+ghost use Rattle.pilot_core.specs.{Status.ended as end_of, declared.stop.Stop.TheVariants.Memory};
 
 use crate::refusal::Refusal;
 use commands::{Done, WriteStop};

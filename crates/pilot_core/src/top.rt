@@ -1,9 +1,8 @@
 //! The top call.
 ghost use Rattle.std.specs.Prelude.{◌≡◌, ◌↔◌, map, string_bytes};
 ghost use Rattle.pilot_core.specs.Clauses.{Clauses};
+ghost use Rattle.pilot_core.specs.{Status.IsDone, Status.IsEarly, Words.command_of};
 ghost use Rattle.commands.specs.Sinks.{sink_view};
-ghost use Rattle.pilot_core.specs.Status.{IsDone, IsEarly};
-ghost use Rattle.pilot_core.specs.Words.{command_of};
 
 use crate::messages::put_message;
 use crate::run::answer;

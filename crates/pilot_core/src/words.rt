@@ -3,8 +3,8 @@ ghost use Rattle.std.specs.Prelude.{◌≡◌, map, option_map, string_bytes};
 ghost use Rattle.relay_base.specs.Number.{number_of};
 ghost use Rattle.pilot_core.specs.Words.{bench_size as size_of, bench, command_of};
 ghost use Rattle.pilot_core.specs.Words.{split_depth as depth_of, split};
-ghost use Rattle.pilot_core.specs.Words.{command_of_four as of_four};
-ghost use Rattle.pilot_core.specs.Words.{command_of_three as of_three, command_of_two as of_two};
+ghost use Rattle.pilot_core.specs.Words.{command_of_four as of_four, command_of_three as of_three};
+ghost use Rattle.pilot_core.specs.Words.{command_of_two as of_two};
 ghost use Rattle.pilot_core.specs.CommandView.{command_view};
 
 use crate::bench_size::BenchSize;

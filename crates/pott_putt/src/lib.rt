@@ -8,10 +8,8 @@
 
 ghost use Rattle.std.specs.Prelude.{◌≡◌, ◌<◌, ◌≤◌, ◌+◌, length, IfOk};
 ghost use Rattle.line_model.specs.Parameters.{terminal_count};
-ghost use Rattle.gate_net.specs.Growing.{Grows};
-ghost use Rattle.gate_net.specs.Named.{KeepsNames};
-ghost use Rattle.zones.specs.LocalGates.{AreLocal};
-ghost use Rattle.zones.specs.Outputs.{AreOutputs};
+ghost use Rattle.gate_net.specs.{Growing.Grows, Named.KeepsNames};
+ghost use Rattle.zones.specs.{LocalGates.AreLocal, Outputs.AreOutputs};
 
 use echo_weak::permissive;
 use gate_net::NetBuilder;

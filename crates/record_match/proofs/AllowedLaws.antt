@@ -1,18 +1,14 @@
 -- What a choice inside the declared intervals gives is allowed by what is derived.
 use Rattle.std.proofs.Common.{◌≡◌, ◌<◌, ℕ, Bool, true, false, sym, ◌∙◌, subst, arith}
 use Rattle.history.specs.Rails.{Rails, Covers, both}
-use Rattle.line_model.specs.declared.line.Line.{Line}
 use Rattle.line_model.specs.declared.script.Script.{Script}
-use Rattle.line_model.specs.Parameters.{terminal_count}
-use Rattle.line_model.specs.PairMean.{pair_mean}
 use Rattle.line_model.specs.Choice.{Choice, IsInside, declared_box}
 use Rattle.line_model.specs.Histories.{History, IsLineHistory, IsSameHistory}
-use Rattle.line_model.specs.Laws.{LineLaws}
-use Rattle.line_model.specs.Logic.{key_tree, trip_tree}
+use Rattle.line_model.specs.{declared.line.Line.Line, Parameters.terminal_count, PairMean.pair_mean}
+use Rattle.line_model.specs.{Laws.LineLaws, Logic.key_tree, Logic.trip_tree}
 use Rattle.cert_checker.specs.Claims.{pairs_of, declared_world}
 use Rattle.record_match.specs.declared.seen.Seen.{Seen}
-use Rattle.record_match.specs.Seen.{AreSeen, seen_history}
-use Rattle.record_match.specs.Clash.{IsAllowed}
+use Rattle.record_match.specs.{Seen.AreSeen, Seen.seen_history, Clash.IsAllowed}
 
 -- a known pair covers its value
 known_covers : (x : Rails) (v w : Bool) → x ≡ both v → w ≡ v → Covers x w

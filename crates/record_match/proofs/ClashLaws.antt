@@ -1,22 +1,18 @@
 -- What the waves of gates allow.
-use Rattle.std.proofs.Common.{◌≡◌, ◌<◌, ℕ, Bool, true, false, List, [], Option, Some, None}
-use Rattle.std.proofs.Common.{length, get_or, refl, sym, ◌∙◌, ap, subst, arith}
+use Rattle.std.proofs.Common.{◌≡◌, ◌<◌, ℕ, Bool, true, false, List, [], Option, Some, None, length}
+use Rattle.std.proofs.Common.{get_or, refl, sym, ◌∙◌, ap, subst, arith}
 use Rattle.std.specs.Prelude.{IsTrue, MatchOption}
 use Rattle.history.specs.Rails.{Rails, Covers, RailsCover, both}
 use Rattle.tick_signal.specs.declared.tern.Tern.{Tern}
-use Rattle.line_model.specs.declared.line.Line.{Line}
-use Rattle.line_model.specs.declared.script.Script.{Script}
-use Rattle.line_model.specs.Parameters.{terminal_count}
-use Rattle.line_model.specs.PairMean.{pair_mean}
-use Rattle.line_model.specs.Tree.{Tree}
+use Rattle.line_model.specs.{declared.line.Line.Line, declared.script.Script.Script}
+use Rattle.line_model.specs.{Parameters.terminal_count, PairMean.pair_mean, Tree.Tree}
 use Rattle.gate_net.specs.NetOf.{NetOf, IsNetOf, key_of, trip_of}
 use Rattle.wave_runs.specs.Waves.{wave_at}
 use Rattle.cert_checker.specs.Claims.{AreGateWaves, pairs_of, declared_world}
-use Rattle.record_match.specs.declared.seen.Seen.{Seen}
-use Rattle.record_match.specs.declared.clash.Clash.{Clash}
-use Rattle.record_match.specs.Seen.{AreSeen}
 use Rattle.record_match.specs.Signal.{CoversAt, IsSignalClash, IsSignalChecked}
-use Rattle.record_match.specs.Clash.{level_at, derived_at, IsAllowed, IsSignalAllowed, IsTerminalAllowed, IsTerminalClash, IsFirstClash}
+use Rattle.record_match.specs.Clash.{level_at, derived_at, IsAllowed, IsSignalAllowed}
+use Rattle.record_match.specs.Clash.{IsTerminalAllowed, IsTerminalClash, IsFirstClash}
+use Rattle.record_match.specs.{declared.seen.Seen.Seen, declared.clash.Clash.Clash, Seen.AreSeen}
 
 -- a known value is covered as rails are
 covers_both : (x : Rails) (v : Bool) → Covers x v → RailsCover x (both v)

@@ -1,8 +1,8 @@
 -- The level at which changes leave a signal, and at each tick, by the signal's own changes.
 use Rattle.std.proofs.Common.{◌≡◌, ℕ, ◌+◌, ◌<◌, Bool, true, false, ◌&&◌, List, [], ◌∷◌, ◌++◌, cond}
 use Rattle.std.proofs.Common.{length, get_or, take, refl, ◌∙◌, ap}
-use Rattle.std.specs.Prelude.{nat_le, filter}
 use Rattle.std.proofs.lemmas.List.{take_more}
+use Rattle.std.specs.Prelude.{nat_le, filter}
 use Rattle.record_match.specs.declared.change.Change.{Change}
 use Rattle.record_match.specs.Heads.{is_of, level_after, level_by}
 

@@ -1,35 +1,30 @@
 -- Each head that a record file says is of a script.
 use Rattle.std.proofs.Common.{◌≡◌, ◌<◌, ◌+◌, ℕ, Bool, true, false, cond, List, [], ◌∷◌, ◌++◌}
-use Rattle.std.proofs.Common.{length, map, Option, Some, None, Result, Ok, Err}
-use Rattle.std.proofs.Common.{refl, sym, ◌∙◌, ap, subst, arith}
+use Rattle.std.proofs.Common.{length, map, Option, Some, None, Result, Ok, Err, refl, sym, ◌∙◌, ap}
+use Rattle.std.proofs.Common.{subst, arith}
+use Rattle.std.proofs.lemmas.Bool.{ltb-true}
+use Rattle.std.proofs.lemmas.Iterator.Adapters.{position_from-zero}
+use Rattle.std.proofs.lemmas.List.Elements.{All-nil, All-cons, All-head, All-tail, All-push}
 use Rattle.std.specs.Prelude.{◌&&◌, ◌==◌, nat_lt, IfOk, Vec}
 use Rattle.std.specs.declared.alloc.Global.{Global}
 use Rattle.std.specs.List.{All, position_from, position_or_len}
 use Rattle.std.specs.Str.{bytes_eq}
-use Rattle.std.proofs.lemmas.Bool.{ltb-true}
-use Rattle.std.proofs.lemmas.Iterator.Adapters.{position_from-zero}
-use Rattle.std.proofs.lemmas.List.Elements.{All-nil, All-cons, All-head, All-tail, All-push}
 use Rattle.relay_base.specs.Number.{number_of}
-use Rattle.line_model.specs.declared.line.Line.{Line}
-use Rattle.line_model.specs.declared.script.Script.{Script}
-use Rattle.record_match.specs.declared.change.Place.{Place}
-use Rattle.record_match.specs.declared.fault.SeenFault.{SeenFault}
+use Rattle.line_model.specs.{declared.line.Line.Line, declared.script.Script.Script}
+use Rattle.record_match.specs.{declared.change.Place.Place, declared.fault.SeenFault.SeenFault}
 use Rattle.record_match.specs.declared.fault.SeenFault.TheVariants as fault
 use Rattle.record_match.specs.declared.heads.Head.{Head}
-use Rattle.record_match.specs.declared.seen.Seen.{Seen}
-use Rattle.csv_records.specs.ListLaws.{All-front, All-last}
-use Rattle.csv_records.specs.CheckLaws.{choice_passed, passed, same_ok}
-use Rattle.csv_records.specs.Gives.{◌>>=◌}
-use Rattle.record_match.specs.Gives.{Gives}
-use Rattle.record_match.specs.Row.{Row, row_in}
 use Rattle.record_match.specs.Heads.{HeadValues, HeadsSoFar, all_heads, values_of, with_head}
 use Rattle.record_match.specs.Heads.{AllNamed, IsNamed, with_change}
 use Rattle.record_match.specs.Waves.{SeenValues, seen_values, seen_of}
-use Rattle.record_match.specs.Checks.{is_head, is_taken, script_named, name_for}
-use Rattle.record_match.specs.Checks.{check_name, check_order, place_at, check_place, below}
-use Rattle.record_match.specs.Checks.{check_tick, comes_later, check_later, level_of}
-use Rattle.record_match.specs.Checks.{level_before, other_level, check_level, change_of}
+use Rattle.record_match.specs.Checks.{is_head, is_taken, script_named, name_for, check_name}
+use Rattle.record_match.specs.Checks.{check_order, place_at, check_place, below, check_tick}
+use Rattle.record_match.specs.Checks.{comes_later, check_later, level_of, level_before, other_level}
+use Rattle.record_match.specs.Checks.{check_level, change_of}
 use Rattle.record_match.specs.Records.{after_row, after_name, after_record}
+use Rattle.record_match.specs.{declared.seen.Seen.Seen, Gives.Gives, Row.Row, Row.row_in}
+use Rattle.csv_records.specs.CheckLaws.{choice_passed, passed, same_ok}
+use Rattle.csv_records.specs.{ListLaws.All-front, ListLaws.All-last, Gives.◌>>=◌}
 
 -- a first place is within the list
 first_within : (b : Bool) (n i m : ℕ) → (b ≡ true → n < m) → cond b (Some n) None ≡ Some i → i < m

@@ -3,18 +3,15 @@ use Rattle.std.proofs.Common.{◌≡◌, ℕ, ◌<◌, Bool, true, false, refl, 
 use Rattle.std.proofs.Common.{⊎_elim}
 use Rattle.std.proofs.lemmas.Bool.{cases_lt}
 use Rattle.history.specs.Rails.{must_of, may_of}
-use Rattle.tick_signal.specs.declared.tern.Tern.{Tern}
 use Rattle.tick_signal.specs.declared.tern.Tern.TheVariants.{Zero, One, Unknown}
-use Rattle.tick_signal.specs.Terns.{tern_rails}
-use Rattle.line_model.specs.declared.line.Line.{Line}
-use Rattle.line_model.specs.declared.script.Script.{Script}
+use Rattle.tick_signal.specs.{declared.tern.Tern.Tern, Terns.tern_rails}
+use Rattle.line_model.specs.{declared.line.Line.Line, declared.script.Script.Script}
 use Rattle.timing_box.specs.Candidates.{candidate}
 use Rattle.cert_checker.specs.Firsts.{IsFirstFailing}
-use Rattle.record_match.specs.declared.seen.Seen.{Seen}
-use Rattle.record_match.specs.declared.seen.Match.{Match}
 use Rattle.record_match.specs.declared.seen.Match.TheVariants.{Explained, Impossible, Unsettled}
-use Rattle.record_match.specs.Match.{IsMatch}
-use Rattle.record_match.specs.Clash.{AllAllowed, IsAllowed, IsFirstClash, IsSignalAllowed, IsTerminalAllowed, IsTerminalClash}
+use Rattle.record_match.specs.Clash.{AllAllowed, IsAllowed, IsFirstClash, IsSignalAllowed}
+use Rattle.record_match.specs.Clash.{IsTerminalAllowed, IsTerminalClash}
+use Rattle.record_match.specs.{declared.seen.Seen.Seen, declared.seen.Match.Match, Match.IsMatch}
 
 -- two numbers of which neither is the smaller
 neither_below : (a b : ℕ) → (a < b → ⊥) → (b < a → ⊥) → a ≡ b

@@ -1,14 +1,11 @@
 -- What is answered of the records of a file: a line for each head, in file order.
 use Rattle.std.specs.Prelude.{◌≡◌, ℕ, Bool, true, false, List, Some, map, slice_get}
 use Rattle.std.specs.List.{AllZip, concat, list_any}
-use Rattle.line_model.specs.declared.line.Line.{Line}
-use Rattle.line_model.specs.declared.script.Script.{Script}
+use Rattle.line_model.specs.{declared.line.Line.Line, declared.script.Script.Script}
 use Rattle.record_match.specs.declared.seen.Seen.{Seen}
-use Rattle.record_match.specs.declared.seen.Match.{Match}
 use Rattle.record_match.specs.declared.seen.Match.TheVariants.{Explained, Impossible, Unsettled}
-use Rattle.record_match.specs.Match.{IsMatch}
-use Rattle.record_match.specs.MatchText.{match_line}
 use Rattle.record_match.specs.Waves.{SeenValues, seen_values}
+use Rattle.record_match.specs.{declared.seen.Match.Match, Match.IsMatch, MatchText.match_line}
 
 -- what is settled of a record, and its line
 pub record Head : Type 0 where

@@ -3,10 +3,9 @@
 ghost use Rattle.std.specs.Prelude.{◌≡◌, ◌<◌, ◌||◌, length, map, slice_get, IfOk, Some};
 ghost use Rattle.std.specs.List.{All};
 ghost use Rattle.gate_net.specs.NetOf.{IsNetOf};
-ghost use Rattle.record_match.specs.Answer.{IsHead, IsMatchAnswer};
-ghost use Rattle.record_match.specs.Answer.{is_impossible as impossible, is_unsettled as unsettled};
-ghost use Rattle.record_match.specs.Seen.{AreSeen};
-ghost use Rattle.record_match.specs.Waves.{seen_values};
+ghost use Rattle.record_match.specs.Answer.{IsHead, IsMatchAnswer, is_impossible as impossible};
+ghost use Rattle.record_match.specs.Answer.{is_unsettled as unsettled};
+ghost use Rattle.record_match.specs.{Seen.AreSeen, Waves.seen_values};
 
 use crate::seen::{Match, Seen};
 use crate::settling::settle;

@@ -1,16 +1,11 @@
 // The law of records.
 
 ghost use Rattle.std.specs.Prelude.{◌≡◌, ◌<◌, ℕ, Bool};
-ghost use Rattle.line_model.specs.declared.line.Line.{Line};
-ghost use Rattle.line_model.specs.declared.script.Script.{Script};
-ghost use Rattle.line_model.specs.Parameters.{terminal_count};
-ghost use Rattle.line_model.specs.Choice.{Choice, IsInside};
 ghost use Rattle.line_model.specs.Histories.{History, IsLineHistory, IsSameHistory};
-ghost use Rattle.record_match.specs.declared.seen.Seen.{Seen};
-ghost use Rattle.record_match.specs.Seen.{AreSeen, seen_history};
-ghost use Rattle.record_match.specs.declared.seen.Match.{Match};
-ghost use Rattle.record_match.specs.Clash.{IsAllowed};
-ghost use Rattle.record_match.specs.Match.{IsMatch};
+ghost use Rattle.line_model.specs.{declared.line.Line.Line, declared.script.Script.Script};
+ghost use Rattle.line_model.specs.{Parameters.terminal_count, Choice.Choice, Choice.IsInside};
+ghost use Rattle.record_match.specs.{declared.seen.Seen.Seen, Seen.AreSeen, Seen.seen_history};
+ghost use Rattle.record_match.specs.{declared.seen.Match.Match, Clash.IsAllowed, Match.IsMatch};
 
 use line_model::laws::line_laws;
 

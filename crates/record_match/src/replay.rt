@@ -4,9 +4,9 @@ ghost use Rattle.std.specs.Prelude.{◌≡◌, ◌<◌, ◌↔◌, ℕ, length, 
 ghost use Rattle.line_model.specs.Parameters.{terminal_count, param_count};
 ghost use Rattle.line_model.specs.Histories.{IsSameHistory};
 ghost use Rattle.gate_net.specs.NetOf.{IsNetOf};
-ghost use Rattle.timing_box.specs.Candidates.{candidate as candidate_timing};
-ghost use Rattle.timing_box.specs.Candidates.{candidate_count as count_of, candidate_value as value_of};
-ghost use Rattle.timing_box.specs.Inside.{IsTimingInside};
+ghost use Rattle.timing_box.specs.{Candidates.candidate as candidate_timing};
+ghost use Rattle.timing_box.specs.{Candidates.candidate_count as count_of};
+ghost use Rattle.timing_box.specs.{Candidates.candidate_value as value_of, Inside.IsTimingInside};
 ghost use Rattle.simulator.specs.Played.{played};
 ghost use Rattle.record_match.specs.Seen.{AreSeen, Gives, IsSameAt, seen_history};
 

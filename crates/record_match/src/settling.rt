@@ -5,10 +5,8 @@ ghost use Rattle.tick_signal.specs.declared.tern.Tern.{Tern};
 ghost use Rattle.line_model.specs.Choice.{Choice, IsInside};
 ghost use Rattle.line_model.specs.Histories.{History, IsLineHistory, IsSameHistory};
 ghost use Rattle.gate_net.specs.NetOf.{IsNetOf};
-ghost use Rattle.record_match.specs.declared.seen.Match.{Match};
 ghost use Rattle.record_match.specs.Seen.{AreSeen, seen_history};
-ghost use Rattle.record_match.specs.Match.{IsMatch};
-ghost use Rattle.record_match.specs.MatchText.{IsWritten};
+ghost use Rattle.record_match.specs.{declared.seen.Match.Match, Match.IsMatch, MatchText.IsWritten};
 
 use crate::clash::first_clash;
 use crate::laws::what_a_choice_gives_is_allowed;

@@ -1,20 +1,6 @@
 -- Digits that are read one by one, up to the first that is none or makes the number too large.
-use Rattle.std.proofs.Common.{◌≡◌, ℕ, ◌≤◌, ◌<◌, Bool, true, false, ◌&&◌}
-use Rattle.std.proofs.Common.{
-  List,
-  [],
-  ◌∷◌,
-  Option,
-  Some,
-  None,
-  if◌then◌else◌,
-  nat_le,
-  refl,
-  sym,
-  arith,
-  inl,
-  inr,
-}
+use Rattle.std.proofs.Common.{◌≡◌, ℕ, ◌≤◌, ◌<◌, Bool, true, false, ◌&&◌, List, [], ◌∷◌, Option}
+use Rattle.std.proofs.Common.{Some, None, if◌then◌else◌, nat_le, refl, sym, arith, inl, inr}
 use Rattle.std.proofs.lemmas.Bool.{le-leb}
 use Rattle.std.proofs.lemmas.Bool.Decides.{leb_tells}
 use Rattle.std.specs.List.{fold, list_all}

@@ -1,39 +1,13 @@
 -- The bytes under names, read and replaced.
-use Rattle.std.proofs.Common.{
-  ◌≡◌,
-  ℕ,
-  Bool,
-  true,
-  false,
-  List,
-  [],
-  ◌∷◌,
-  refl,
-  sym,
-  ◌∙◌,
-  ap,
-  Option,
-  Some,
-  String,
-  Vec,
-  Global,
-  map,
-}
+use Rattle.std.proofs.Common.{◌≡◌, ℕ, Bool, true, false, List, [], ◌∷◌, refl, sym, ◌∙◌, ap, Option}
+use Rattle.std.proofs.Common.{Some, String, Vec, Global, map}
 use Rattle.std.proofs.Math.Bool.{cond}
 use Rattle.std.proofs.lemmas.Cmp.{eq_by_cmp_equiv}
 use Rattle.std.proofs.lemmas.Map.Text.{btree_map_updates_text, is_eq-slice_cmp}
 use Rattle.std.specs.BTreeMap.{BTreeMap, UpdatesBy, get_by_text}
 use Rattle.std.specs.Cmp.Lexicographic.{slice_cmp, nat_list_cmp_total}
-use Rattle.std.specs.FinMap.{
-  find,
-  get,
-  insert,
-  get-from_entries,
-  get-insert,
-  same_map,
-  nat_cmp-IsAntisymmetric,
-  slice_cmp-IsAntisymmetric,
-}
+use Rattle.std.specs.FinMap.{find, get, insert, get-from_entries, get-insert, same_map}
+use Rattle.std.specs.FinMap.{nat_cmp-IsAntisymmetric, slice_cmp-IsAntisymmetric}
 use Rattle.std.specs.Map.{lookup}
 use Rattle.std.specs.Option.{option_map}
 use Rattle.std.specs.Ordering.{nat_cmp, is_eq}

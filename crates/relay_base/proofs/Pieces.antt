@@ -1,27 +1,9 @@
 -- A piece that was copied.
-use Rattle.std.proofs.Common.{
-  ◌≡◌,
-  ℕ,
-  ◌<◌,
-  ◌≤◌,
-  ◌-◌,
-  min,
-  List,
-  ◌++◌,
-  length,
-  take,
-  drop,
-  refl,
-  sym,
-  ◌∙◌,
-  ap,
-  arith,
-}
-use Rattle.std.proofs.Common.{Option, None, Some, length-append, length-drop}
+use Rattle.std.proofs.Common.{◌≡◌, ℕ, ◌<◌, ◌≤◌, ◌-◌, min, List, ◌++◌, length, take, drop, refl, sym}
+use Rattle.std.proofs.Common.{◌∙◌, ap, arith, Option, None, Some, length-append, length-drop}
 use Rattle.std.proofs.lemmas.List.{take_at, drop-drop, take-append-drop}
 use Rattle.std.specs.Option.{ForSome}
-use Rattle.relay_base.specs.Bound.{at_most}
-use Rattle.relay_base.specs.Store.{IsPiece}
+use Rattle.relay_base.specs.{Bound.at_most, Store.IsPiece}
 
 -- an amount that is cut to a bound is not raised
 pub at_most-le : (bound : Option ℕ) (amount : ℕ) → at_most bound amount ≤ amount

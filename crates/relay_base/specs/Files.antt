@@ -1,6 +1,5 @@
 -- The entries of a map of byte vectors, as bytes under names.
-use Rattle.std.specs.Prelude.{ℕ, List, map}
-use Rattle.std.specs.Prelude.{String, Vec}
+use Rattle.std.specs.Prelude.{ℕ, List, map, String, Vec}
 use Rattle.std.specs.FinMap.{from_entries}
 use Rattle.std.specs.String.{string_bytes}
 use Rattle.std.specs.declared.alloc.Global.{Global}

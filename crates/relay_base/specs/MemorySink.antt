@@ -1,7 +1,6 @@
 -- What contracts see of a sink in memory.
 use Rattle.std.specs.Prelude.{ℕ, ◌-◌, ◌≤◌, min, List, [], ◌++◌, length, Option, None, Contains, ◌⊎◌}
-use Rattle.relay_base.specs.Bound.{at_most}
-use Rattle.relay_base.specs.Counts.{one_more}
+use Rattle.relay_base.specs.{Bound.at_most, Counts.one_more}
 
 -- a sink in memory
 pub record SinkState : Type 0 where

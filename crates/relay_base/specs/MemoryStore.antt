@@ -1,24 +1,11 @@
 -- What contracts see of a store in memory.
-use Rattle.std.specs.Prelude.{
-  ℕ,
-  ◌-◌,
-  min,
-  List,
-  [],
-  length,
-  Option,
-  None,
-  IsNone,
-  Contains,
-  ◌⊎◌,
-  refl,
-}
+use Rattle.std.specs.Prelude.{ℕ, ◌-◌, min, List, [], length, Option, None, IsNone, Contains, ◌⊎◌}
+use Rattle.std.specs.Prelude.{refl}
 use Rattle.std.specs.Cmp.Lexicographic.{slice_cmp}
 use Rattle.std.specs.Coded.{Coded, code_by, coded×, coded_list, coded_option, coded_ℕ}
 use Rattle.std.specs.FinMap.{FinMap, empty, get, code}
 use Rattle.std.specs.Ordering.{nat_cmp}
-use Rattle.relay_base.specs.Bound.{at_most}
-use Rattle.relay_base.specs.Counts.{one_more, raised_by}
+use Rattle.relay_base.specs.{Bound.at_most, Counts.one_more, Counts.raised_by}
 
 -- bytes under names
 abbrev pub Files : Type 0

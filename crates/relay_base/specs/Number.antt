@@ -1,6 +1,6 @@
 -- Numbers written as decimal digits, with no sign and no leading zero.
-use Rattle.std.specs.Prelude.{◌==◌, Bool, ◌&&◌, ℕ, ◌+◌, ◌-◌, ◌*◌, ◌^◌, nat_le}
-use Rattle.std.specs.Prelude.{List, [], ◌∷◌, fold, Option, None, Some, if◌then◌else◌}
+use Rattle.std.specs.Prelude.{◌==◌, Bool, ◌&&◌, ℕ, ◌+◌, ◌-◌, ◌*◌, ◌^◌, nat_le, List, [], ◌∷◌, fold}
+use Rattle.std.specs.Prelude.{Option, None, Some, if◌then◌else◌}
 use Rattle.std.specs.List.{list_all}
 
 -- the byte is one of `0` to `9`

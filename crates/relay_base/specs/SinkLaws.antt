@@ -1,21 +1,6 @@
 -- Laws of sinks: one write after another.
-use Rattle.std.proofs.Common.{
-  ◌≡◌,
-  ℕ,
-  suc,
-  ◌+◌,
-  ◌≤◌,
-  List,
-  [],
-  ◌∷◌,
-  ◌++◌,
-  length,
-  take,
-  refl,
-  ◌∙◌,
-  ap,
-}
-use Rattle.std.proofs.Common.{Option, None, Some, append_assoc, arith, length-append}
+use Rattle.std.proofs.Common.{◌≡◌, ℕ, suc, ◌+◌, ◌≤◌, List, [], ◌∷◌, ◌++◌, length, take, refl, ◌∙◌}
+use Rattle.std.proofs.Common.{ap, Option, None, Some, append_assoc, arith, length-append}
 use Rattle.std.proofs.lemmas.List.{take-append-le, take_at}
 use Rattle.std.specs.Io.KnownBytes.{Appends}
 use Rattle.relay_base.specs.Sink.{GrewByProper, GrewByPart}

@@ -1,8 +1,7 @@
 -- What a pull gives of the bytes under a name, and what a whole fetch gives.
-use Rattle.std.specs.Prelude.{◌≡◌, ℕ, ◌+◌, ◌<◌, ◌≤◌, List, ◌++◌, length, take, drop, Option}
-use Rattle.std.specs.Prelude.{IfSome, ⊤}
-use Rattle.relay_base.specs.Counts.{Rose}
-use Rattle.relay_base.specs.declared.store.FetchFault.{FetchFault}
+use Rattle.std.specs.Prelude.{◌≡◌, ℕ, ◌+◌, ◌<◌, ◌≤◌, List, ◌++◌, length, take, drop, Option, IfSome}
+use Rattle.std.specs.Prelude.{⊤}
+use Rattle.relay_base.specs.{Counts.Rose, declared.store.FetchFault.FetchFault}
 use Rattle.relay_base.specs.declared.store.FetchFault.TheVariants as fault
 
 -- the first `count` bytes of the piece are those of `bytes` from that place on,

@@ -1,32 +1,11 @@
 //! A sink in memory.
-ghost use Rattle.std.specs.Prelude.{
-  ◌≡◌,
-  ◌<◌,
-  ◌≤◌,
-  ◌↔◌,
-  [],
-  ◌∷◌,
-  ◌++◌,
-  Some,
-  length,
-  take,
-  IfOk,
-  OnOk,
-  OnErr,
-  IsErr,
-};
+ghost use Rattle.std.specs.Prelude.{◌≡◌, ◌<◌, ◌≤◌, ◌↔◌, [], ◌∷◌, ◌++◌, Some, length, take, IfOk};
+ghost use Rattle.std.specs.Prelude.{OnOk, OnErr, IsErr};
 ghost use Rattle.std.specs.Io.KnownBytes.{WriteAppends};
 ghost use Rattle.std.specs.Option.{ForSome};
 ghost use Rattle.relay_base.specs.Counts.{Rose, one_more};
-ghost use Rattle.relay_base.specs.MemorySink.{
-  SinkState,
-  empty_sink,
-  PushFails,
-  TakesNone,
-  push_count,
-  after_push,
-  after_fault,
-};
+ghost use Rattle.relay_base.specs.MemorySink.{SinkState, empty_sink, PushFails, TakesNone};
+ghost use Rattle.relay_base.specs.MemorySink.{push_count, after_push, after_fault};
 
 use crate::bound::at_most;
 use crate::memory::Memory;

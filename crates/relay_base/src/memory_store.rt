@@ -1,39 +1,13 @@
 //! A store in memory.
-ghost use Rattle.std.specs.Prelude.{
-  ◌≡◌,
-  ◌<◌,
-  ◌≤◌,
-  ◌-◌,
-  ◌↔◌,
-  [],
-  ◌∷◌,
-  ◌++◌,
-  Some,
-  min,
-  length,
-  take,
-  drop,
-  IfOk,
-  OnOk,
-  OnErr,
-  IsErr,
-  IfSome,
-};
+ghost use Rattle.std.specs.Prelude.{◌≡◌, ◌<◌, ◌≤◌, ◌-◌, ◌↔◌, [], ◌∷◌, ◌++◌, Some, min, length};
+ghost use Rattle.std.specs.Prelude.{take, drop, IfOk, OnOk, OnErr, IsErr, IfSome};
 ghost use Rattle.std.specs.FinMap.{get, insert};
 ghost use Rattle.std.specs.Option.{ForSome};
-ghost use Rattle.relay_base.specs.Bound.{at_most};
 ghost use Rattle.relay_base.specs.Counts.{Rose, Grew, one_more};
-ghost use Rattle.relay_base.specs.Files.{files_of};
-ghost use Rattle.relay_base.specs.MemoryStore.{
-  StoreState,
-  state_code,
-  empty_store,
-  PullFails,
-  pull_count,
-  after_pull,
-  after_failed_pull,
-};
+ghost use Rattle.relay_base.specs.MemoryStore.{StoreState, state_code, empty_store, PullFails};
+ghost use Rattle.relay_base.specs.MemoryStore.{pull_count, after_pull, after_failed_pull};
 ghost use Rattle.relay_base.specs.Store.{IsPiece, SameCounts, NoneFell};
+ghost use Rattle.relay_base.specs.{Bound.at_most, Files.files_of};
 
 use crate::bound::at_most;
 use crate::memory::Memory;

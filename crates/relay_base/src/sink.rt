@@ -1,8 +1,7 @@
 //! A sink of bytes, and the put of a whole text.
 ghost use Rattle.std.specs.Prelude.{◌≡◌, ◌+◌, ◌<◌, ◌≤◌, ℕ, List, Option, length, IfOk, OnOk, OnErr};
 ghost use Rattle.std.specs.Io.KnownBytes.{Appends, WriteAppends};
-ghost use Rattle.relay_base.specs.Counts.{Rose, one_more};
-ghost use Rattle.relay_base.specs.Sink.{GrewByProper};
+ghost use Rattle.relay_base.specs.{Counts.Rose, Counts.one_more, Sink.GrewByProper};
 
 use thiserror::Error;
 

@@ -1,19 +1,6 @@
 //! A store of named bytes, and the fetch of a whole name.
-ghost use Rattle.std.specs.Prelude.{
-  ◌≡◌,
-  ◌+◌,
-  ◌≤◌,
-  ℕ,
-  List,
-  Option,
-  length,
-  IfOk,
-  IfErr,
-  IfSome,
-  OnOk,
-  OnErr,
-  IsErrOf,
-};
+ghost use Rattle.std.specs.Prelude.{◌≡◌, ◌+◌, ◌≤◌, ℕ, List, Option, length, IfOk, IfErr, IfSome};
+ghost use Rattle.std.specs.Prelude.{OnOk, OnErr, IsErrOf};
 ghost use Rattle.relay_base.specs.Counts.{Rose, Grew, one_more};
 ghost use Rattle.relay_base.specs.Store.{IsPiece, SameCounts, NoneFell, Explains, Counts};
 

@@ -4,10 +4,9 @@ use Rattle.std.proofs.Common.{⊎_elim, ◌⊎◌}
 use Rattle.std.proofs.lemmas.Bool.{cases_lt}
 use Rattle.std.proofs.lemmas.Bool.Decides.{Decides-like, same_from_decides}
 use Rattle.history.specs.Rails.{Rails, Ends, rails_delayed, must_of, may_of}
-use Rattle.history.specs.Comes.{Comes, AllCome, SomeComes}
+use Rattle.history.specs.{Comes.Comes, Comes.AllCome, Comes.SomeComes, Laws.HistoryLaws}
 use Rattle.simulator.specs.Quiet.{Keeps, EndKeeps, ArrivalKeeps}
 use Rattle.simulator.proofs.QuietLaws.{keeps_fewer}
-use Rattle.history.specs.Laws.{HistoryLaws}
 
 -- what c ticks ago was at t is so at the next tick
 pub record StepsOn {A : Type 0} (u : ℕ → A) (c t : ℕ) : Type 0 where

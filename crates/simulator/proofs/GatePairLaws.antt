@@ -2,20 +2,10 @@
 use Rattle.std.proofs.Common.{◌≡◌, ℕ, List, Some, refl, ◌∙◌, ap}
 use Rattle.std.specs.Prelude.{slice_get}
 use Rattle.line_model.specs.PairMean.{PairWorld, PairSignals, pair_mean}
-use Rattle.gate_net.specs.declared.gate.Gate.{Gate}
-use Rattle.gate_net.specs.declared.gate.Gate.TheVariants.{
-  Const,
-  Seen,
-  Loss,
-  Raw,
-  Not,
-  And,
-  Or,
-  Timer,
-  Seal,
-}
+use Rattle.gate_net.specs.declared.gate.Gate.TheVariants.{Const, Seen, Loss, Raw, Not, And, Or}
+use Rattle.gate_net.specs.declared.gate.Gate.TheVariants.{Timer, Seal}
 use Rattle.gate_net.specs.Laws.{AreGates}
-use Rattle.gate_net.specs.Formulas.{formula_of, kind_over}
+use Rattle.gate_net.specs.{declared.gate.Gate.Gate, Formulas.formula_of, Formulas.kind_over}
 use Rattle.simulator.specs.GatePairs.{gate_pairs, kind_pair, GatesHaveTheirKind}
 
 module _ (w : PairWorld) (keys : PairSignals) (gates : List Gate) where

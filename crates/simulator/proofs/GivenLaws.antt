@@ -1,23 +1,18 @@
 -- What a net is given from outside, from a tick on.
 use Rattle.std.proofs.Common.{◌≡◌, ℕ, zero, ◌+◌, ◌-◌, ◌<◌, ◌≤◌, List, length, Some, sym, ◌∙◌, ap}
 use Rattle.std.proofs.Common.{arith, subst, ⊎_elim, length-set}
-use Rattle.std.specs.Prelude.{slice_get, slice_set, option_map}
 use Rattle.std.proofs.lemmas.Option.{slice_get-map, slice_get_within, get_or_from_slice_get}
+use Rattle.std.specs.Prelude.{slice_get, slice_set, option_map}
 use Rattle.history.specs.Rails.{Ends}
-use Rattle.line_model.specs.declared.line.Line.{Line}
-use Rattle.line_model.specs.declared.line.Channel.{Channel}
-use Rattle.line_model.specs.declared.script.Script.{Script}
 use Rattle.line_model.specs.declared.script.SeenSpan.{SeenSpan}
-use Rattle.line_model.specs.Channels.{from_of}
 use Rattle.line_model.specs.Parameters.{terminal_count, channel_count, param_count, delay_param}
-use Rattle.line_model.specs.Choice.{pair_world_of}
+use Rattle.line_model.specs.{declared.line.Line.Line, declared.line.Channel.Channel}
+use Rattle.line_model.specs.{declared.script.Script.Script, Channels.from_of, Choice.pair_world_of}
 use Rattle.timing_box.specs.declared.step.Step.{Step}
 use Rattle.simulator.specs.declared.inputs.Delay.{Delay}
 use Rattle.simulator.specs.Inputs.{AreDelays, AreGiven, AreDelaysOf, IsWorldAt, CanReceive}
 use Rattle.simulator.specs.LaneBox.{ends_at, lane_box, lane_world}
-use Rattle.simulator.specs.ListLaws.{exists_at}
-use Rattle.simulator.specs.Quiet.{Keeps}
-use Rattle.simulator.specs.Runs.{AreDelayed}
+use Rattle.simulator.specs.{ListLaws.exists_at, Quiet.Keeps, Runs.AreDelayed}
 use Rattle.simulator.proofs.Lists.{at_set}
 
 -- who sends over a channel

@@ -1,9 +1,9 @@
 -- Loops that go one element further.
 use Rattle.std.proofs.Common.{◌≡◌, ℕ, ◌+◌, ◌<◌, ◌≤◌, List, Some, length, sym, subst, arith, ⊎_elim}
-use Rattle.std.specs.Prelude.{slice_get, get_or, max}
 use Rattle.std.proofs.Math.Nat.{max-le}
 use Rattle.std.proofs.lemmas.Option.{slice_get-get_or, slice_get_within}
 use Rattle.std.proofs.lemmas.Bool.{cases_lt}
+use Rattle.std.specs.Prelude.{slice_get, get_or, max}
 use Rattle.simulator.proofs.Lists.{one_value}
 
 -- the first n elements have it

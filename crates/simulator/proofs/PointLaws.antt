@@ -2,31 +2,14 @@
 use Rattle.std.proofs.Common.{◌≡◌, ℕ, ◌<◌, ◌≤◌, Bool, true, false, refl, sym, ◌∙◌, ap, subst, arith}
 use Rattle.history.specs.Rails.{Rails, Ends, Covers, RailsCover, IsPartOf, both, single, must_of}
 use Rattle.line_model.specs.declared.line.Line.{Line}
-use Rattle.line_model.specs.declared.script.Script.{Script}
 use Rattle.line_model.specs.Parameters.{terminal_count, channel_count, param_count}
 use Rattle.line_model.specs.Mean.{Signals, mean}
-use Rattle.line_model.specs.Choice.{
-  Choice,
-  Box,
-  IsIn,
-  IsWithin,
-  IsBoxWithin,
-  DelaysFromOne,
-  LeastFromOne,
-  point_box,
-  world_of,
-}
-use Rattle.line_model.specs.Logic.{key_tree, trip_tree}
-use Rattle.line_model.specs.Histories.{
-  History,
-  IsLineHistory,
-  PairHistory,
-  IsPairHistory,
-  IsBothRails,
-  CoversHistory,
-  CoversPairHistory,
-}
+use Rattle.line_model.specs.Choice.{Choice, Box, IsIn, IsWithin, IsBoxWithin, DelaysFromOne}
+use Rattle.line_model.specs.Choice.{LeastFromOne, point_box, world_of}
+use Rattle.line_model.specs.Histories.{History, IsLineHistory, PairHistory, IsPairHistory}
+use Rattle.line_model.specs.Histories.{IsBothRails, CoversHistory, CoversPairHistory}
 use Rattle.line_model.specs.Laws.{LineLaws}
+use Rattle.line_model.specs.{declared.script.Script.Script, Logic.key_tree, Logic.trip_tree}
 use Rattle.simulator.specs.Runs.{IsPoint, IsExactAt, must_history}
 
 -- rails that allow only the value, and that the value allows, are both the value

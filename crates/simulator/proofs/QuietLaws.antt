@@ -1,29 +1,18 @@
 -- Where every source of a change is quiet, every gate is.
-use Rattle.std.proofs.Common.{◌≡◌, ℕ, zero, suc, ◌+◌, ◌<◌, ◌≤◌, List, length, refl, sym}
-use Rattle.std.proofs.Common.{◌∙◌, ap, arith, ⊎_elim, subst}
+use Rattle.std.proofs.Common.{◌≡◌, ℕ, zero, suc, ◌+◌, ◌<◌, ◌≤◌, List, length, refl, sym, ◌∙◌, ap}
+use Rattle.std.proofs.Common.{arith, ⊎_elim, subst}
 use Rattle.std.proofs.lemmas.Bool.{cases_lt}
-use Rattle.history.specs.Rails.{Rails, Ends, both, rails_not, rails_and, rails_or, rails_delayed, rails_timed}
+use Rattle.history.specs.Rails.{Rails, Ends, both, rails_not, rails_and, rails_or, rails_delayed}
+use Rattle.history.specs.Rails.{rails_timed}
 use Rattle.timers.specs.Stretches.{ElementsInAStretch}
 use Rattle.line_model.specs.declared.line.Line.{Line}
-use Rattle.line_model.specs.Parameters.{channel_count}
-use Rattle.line_model.specs.PairMean.{PairWorld, PairSignals}
-use Rattle.gate_net.specs.declared.gate.Gate.{Gate}
-use Rattle.gate_net.specs.declared.gate.Gate.TheVariants.{
-  Const,
-  Seen,
-  Loss,
-  Raw,
-  Not,
-  And,
-  Or,
-  Timer,
-  Seal,
-}
+use Rattle.line_model.specs.{Parameters.channel_count, PairMean.PairWorld, PairMean.PairSignals}
+use Rattle.gate_net.specs.declared.gate.Gate.TheVariants.{Const, Seen, Loss, Raw, Not, And, Or}
+use Rattle.gate_net.specs.declared.gate.Gate.TheVariants.{Timer, Seal}
 use Rattle.gate_net.specs.Laws.{AreGates, HasArguments}
-use Rattle.gate_net.specs.Named.{NamedFrom, GateNames}
-use Rattle.simulator.specs.GatePairs.{GateSignals, kind_pair}
-use Rattle.simulator.specs.ListLaws.{exists_at}
+use Rattle.gate_net.specs.{declared.gate.Gate.Gate, Named.NamedFrom, Named.GateNames}
 use Rattle.simulator.specs.Quiet.{Keeps, SourcesKeep, AreGatePairs, TimerKeeps}
+use Rattle.simulator.specs.{GatePairs.GateSignals, GatePairs.kind_pair, ListLaws.exists_at}
 
 pub keeps_none : {A : Type 0} (u : ℕ → A) (t : ℕ) → Keeps u t 0
 keeps_none u t r low high = absurd (omega arith)

@@ -1,39 +1,12 @@
 -- Where no key and no trip changes there are no rows.
-use Rattle.std.proofs.Common.{
-  ◌≡◌,
-  ◌<◌,
-  ◌≤◌,
-  ◌++◌,
-  ℕ,
-  zero,
-  suc,
-  Bool,
-  true,
-  false,
-  List,
-  [],
-  refl,
-  sym,
-  ◌∙◌,
-  ap,
-  arith,
-  ⊎_elim,
-}
-use Rattle.std.specs.Prelude.{codes}
+use Rattle.std.proofs.Common.{◌≡◌, ◌<◌, ◌≤◌, ◌++◌, ℕ, zero, suc, Bool, true, false, List, [], refl}
+use Rattle.std.proofs.Common.{sym, ◌∙◌, ap, arith, ⊎_elim}
 use Rattle.std.proofs.lemmas.Bool.{cases_lt}
 use Rattle.std.proofs.lemmas.List.{append-nil}
-use Rattle.line_model.specs.declared.line.Line.{Line}
-use Rattle.line_model.specs.Parameters.{terminal_count}
-use Rattle.line_model.specs.Histories.{History}
-use Rattle.simulator.specs.PlayRows.{
-  change_row,
-  value_before,
-  signal_row,
-  each_below,
-  terminal_name,
-  terminal_rows,
-  tick_rows,
-}
+use Rattle.std.specs.Prelude.{codes}
+use Rattle.line_model.specs.{declared.line.Line.Line, Parameters.terminal_count, Histories.History}
+use Rattle.simulator.specs.PlayRows.{change_row, value_before, signal_row, each_below}
+use Rattle.simulator.specs.PlayRows.{terminal_name, terminal_rows, tick_rows}
 
 no_texts : (n : ℕ) (f : ℕ → List ℕ) → ((k : ℕ) → k < n → f k ≡ []) → each_below n f ≡ []
 no_texts zero f none = refl

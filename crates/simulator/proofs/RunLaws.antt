@@ -1,22 +1,15 @@
 -- From the values of all ticks to the interval history of the run's own keys.
 use Rattle.std.proofs.Common.{◌≡◌, ℕ, ◌*◌, ◌<◌, ◌≤◌, List, length, sym, ◌∙◌, ap, subst, arith}
 use Rattle.history.specs.Rails.{Rails, Covers}
-use Rattle.line_model.specs.declared.line.Line.{Line}
-use Rattle.line_model.specs.declared.script.Script.{Script}
-use Rattle.line_model.specs.Parameters.{terminal_count}
-use Rattle.line_model.specs.Names.{Names}
-use Rattle.line_model.specs.Tree.{Tree}
-use Rattle.line_model.specs.Mean.{mean}
 use Rattle.line_model.specs.PairMean.{PairWorld, PairSignals, pair_mean}
 use Rattle.line_model.specs.Choice.{Box, LeastFromOne, world_of, pair_world_of}
-use Rattle.line_model.specs.Logic.{key_tree}
 use Rattle.line_model.specs.Histories.{PairHistory, IsPairHistory}
-use Rattle.line_model.specs.Solution.{SameBefore, the_keys}
-use Rattle.line_model.specs.Laws.{LineLaws}
+use Rattle.line_model.specs.{declared.line.Line.Line, declared.script.Script.Script}
+use Rattle.line_model.specs.{Parameters.terminal_count, Names.Names, Tree.Tree, Mean.mean}
+use Rattle.line_model.specs.{Logic.key_tree, Solution.SameBefore, Solution.the_keys, Laws.LineLaws}
 use Rattle.gate_net.specs.declared.gate.GateId.{GateId}
-use Rattle.gate_net.specs.NetLaws.{GatesStandForTheirTrees}
-use Rattle.gate_net.specs.Formulas.{formula_of}
 use Rattle.gate_net.specs.NetOf.{NetOf, IsNet, IsNetOf, AreGatesOf, key_of, trip_of}
+use Rattle.gate_net.specs.{NetLaws.GatesStandForTheirTrees, Formulas.formula_of}
 use Rattle.simulator.specs.GatePairs.{GateSignals, gate_pairs, line_pairs}
 use Rattle.simulator.specs.Ticks.{ValuesTold}
 use Rattle.simulator.specs.WavesOf.{WavesOf, AreWaves, wave_pair, number_at, waves_history}

@@ -1,39 +1,18 @@
 -- Keys that are sent, and what is received of them.
-use Rattle.std.proofs.Common.{
-  ◌≡◌,
-  ℕ,
-  suc,
-  ◌+◌,
-  ◌≤◌,
-  List,
-  [],
-  ◌∷◌,
-  ◌++◌,
-  length,
-  ◌∙◌,
-  ap,
-  ⊎_elim,
-  arith,
-  ◌<◌,
-  length-append,
-}
-use Rattle.std.proofs.Common.{Some, subst, replicate, zero, sym, refl}
-use Rattle.std.specs.Prelude.{slice_get, option_map, map, get_or}
+use Rattle.std.proofs.Common.{◌≡◌, ℕ, suc, ◌+◌, ◌≤◌, List, [], ◌∷◌, ◌++◌, length, ◌∙◌, ap, ⊎_elim}
+use Rattle.std.proofs.Common.{arith, ◌<◌, length-append, Some, subst, replicate, zero, sym, refl}
 use Rattle.std.proofs.lemmas.Option.{slice_get-get_or, slice_get-map, get_or_from_slice_get}
 use Rattle.std.proofs.lemmas.List.{map-append, length-replicate, replicate_more}
+use Rattle.std.specs.Prelude.{slice_get, option_map, map, get_or}
 use Rattle.timers.specs.Stretches.{ElementsInAStretch}
 use Rattle.gate_net.specs.declared.gate.GateId.{GateId}
-use Rattle.simulator.specs.WavesOf.{number_at}
-use Rattle.simulator.specs.Ticks.{HasKeys, ValuesAgree}
-use Rattle.simulator.specs.GatePairs.{GateSignals}
+use Rattle.simulator.specs.Ticks.{HasKeys, ValuesAgree, AreFresh, AreSent, KeysSent, HasSent}
+use Rattle.simulator.specs.{WavesOf.number_at, GatePairs.GateSignals, ListLaws.at_push}
 use Rattle.history.specs.Rails.{Rails, Ends, rails_at, rails_delayed}
-use Rattle.history.specs.Recorded.{first_ticks}
-use Rattle.history.specs.Laws.{HistoryLaws}
+use Rattle.history.specs.{Recorded.first_ticks, Laws.HistoryLaws}
 use Rattle.tick_signal.specs.Lanes.{in_lane}
 use Rattle.channel.specs.SentKeys.{SentKeys}
 use Rattle.line_model.specs.PairMean.{PairSignals}
-use Rattle.simulator.specs.Ticks.{AreFresh, AreSent, KeysSent, HasSent}
-use Rattle.simulator.specs.ListLaws.{at_push}
 
 pub fresh_more : {V : Type 0} (n horizon : ℕ) (lines : List (SentKeys V)) (s : SentKeys V)
     → s ≡ record { keys = []; horizon = horizon } → AreFresh n horizon lines

@@ -1,35 +1,25 @@
 -- A stretch of ticks of a line's net.
-use Rattle.std.proofs.Common.{◌≡◌, ℕ, ◌+◌, ◌-◌, ◌<◌, ◌≤◌, List, length, Some, sym, ◌∙◌, ap, arith, subst}
+use Rattle.std.proofs.Common.{◌≡◌, ℕ, ◌+◌, ◌-◌, ◌<◌, ◌≤◌, List, length, Some, sym, ◌∙◌, ap, arith}
+use Rattle.std.proofs.Common.{subst}
 use Rattle.std.specs.Prelude.{slice_get}
 use Rattle.history.specs.Rails.{Rails, Ends}
 use Rattle.timers.specs.Stretches.{ElementsInAStretch}
 use Rattle.line_model.specs.declared.line.Line.{Line}
-use Rattle.line_model.specs.declared.script.Script.{Script}
-use Rattle.line_model.specs.declared.script.SeenSpan.{SeenSpan}
-use Rattle.line_model.specs.Channels.{from_of}
-use Rattle.line_model.specs.Parameters.{channel_count}
-use Rattle.line_model.specs.PairMean.{PairWorld, PairSignals}
 use Rattle.line_model.specs.Choice.{Box, LeastFromOne, pair_world_of}
-use Rattle.line_model.specs.Logic.{key_tree}
-use Rattle.line_model.specs.Solution.{the_keys}
-use Rattle.line_model.specs.Laws.{LineLaws}
+use Rattle.line_model.specs.{declared.script.Script.Script, declared.script.SeenSpan.SeenSpan}
+use Rattle.line_model.specs.{Channels.from_of, Parameters.channel_count, PairMean.PairWorld}
+use Rattle.line_model.specs.{PairMean.PairSignals, Logic.key_tree, Solution.the_keys, Laws.LineLaws}
 use Rattle.gate_net.specs.declared.gate.Gate.{Gate}
-use Rattle.gate_net.specs.declared.gate.GateId.{GateId}
-use Rattle.gate_net.specs.NetLaws.{GatesStandForTheirTrees}
 use Rattle.gate_net.specs.NetOf.{NetOf, IsNetOf, AreGatesOf, key_of}
+use Rattle.gate_net.specs.{declared.gate.GateId.GateId, NetLaws.GatesStandForTheirTrees}
 use Rattle.timing_box.specs.declared.step.Step.{Step}
 use Rattle.simulator.specs.declared.inputs.Delay.{Delay}
 use Rattle.simulator.specs.GatePairs.{GateSignals, line_pairs}
-use Rattle.simulator.specs.Inputs.{AreDelays, AreGiven}
 use Rattle.simulator.specs.LaneBox.{lane_box, lane_world}
 use Rattle.simulator.specs.Quiet.{Keeps, ArrivalKeeps, TimerKeeps, AreGatePairs}
-use Rattle.simulator.specs.Ticks.{ValuesAgree}
-use Rattle.simulator.specs.WavesOf.{number_at}
-use Rattle.simulator.proofs.GatePairLaws.{gate_pairs-kind}
-use Rattle.simulator.proofs.GivenLaws.{delay_keeps}
-use Rattle.simulator.proofs.InputLaws.{script_fewer}
-use Rattle.simulator.proofs.QuietLaws.{gates_keep}
-use Rattle.simulator.proofs.RunLaws.{key_pair}
+use Rattle.simulator.specs.{Inputs.AreDelays, Inputs.AreGiven, Ticks.ValuesAgree, WavesOf.number_at}
+use Rattle.simulator.proofs.{GatePairLaws.gate_pairs-kind, GivenLaws.delay_keeps}
+use Rattle.simulator.proofs.{InputLaws.script_fewer, QuietLaws.gates_keep, RunLaws.key_pair}
 
 pub keeps_one : {A : Type 0} (u : ℕ → A) (t : ℕ) → Keeps u t 1
 keeps_one u t r low high = let e : r ≡ t = omega arith in ap u e

@@ -1,29 +1,17 @@
 -- One tick of one gate.
-use Rattle.std.proofs.Common.{◌≡◌, ℕ, suc, ◌+◌, ◌<◌, List, [], ◌∷◌, ◌++◌, length, replicate, sym, ◌∙◌}
-use Rattle.std.proofs.Common.{ap, subst, arith}
-use Rattle.timers.specs.Ahead.{next_rails}
-use Rattle.timers.specs.Stretches.{StaysAt, ElementsInAStretch}
+use Rattle.std.proofs.Common.{◌≡◌, ℕ, suc, ◌+◌, ◌<◌, List, [], ◌∷◌, ◌++◌, length, replicate, sym}
+use Rattle.std.proofs.Common.{◌∙◌, ap, subst, arith}
+use Rattle.timers.specs.{Ahead.next_rails, Stretches.StaysAt, Stretches.ElementsInAStretch}
 use Rattle.simulator.specs.Quiet.{Keeps}
-use Rattle.history.specs.Rails.{
-  Rails,
-  Ends,
-  rails_at,
-  rails_delayed,
-  rails_timed,
-  rails_sealed,
-  both,
-}
-use Rattle.history.specs.Recorded.{first_ticks}
-use Rattle.history.specs.Laws.{RecordedTicksSuffice}
-use Rattle.line_model.specs.declared.script.Place.{Place}
-use Rattle.line_model.specs.declared.formula.Time.{Time}
-use Rattle.line_model.specs.PairMean.{PairWorld, PairSignals}
-use Rattle.gate_net.specs.declared.gate.GateId.{GateId}
-use Rattle.gate_net.specs.declared.gate.Gate.{Gate}
-use Rattle.gate_net.specs.declared.gate.Gate.TheVariants.{Seen, Loss, Raw, Timer, Seal}
-use Rattle.simulator.specs.declared.cell.Cell.{Cell}
-use Rattle.simulator.specs.GatePairs.{GateSignals, kind_pair}
 use Rattle.simulator.specs.CellStands.{TimerStands, SealStands, CellStands}
+use Rattle.simulator.specs.{declared.cell.Cell.Cell, GatePairs.GateSignals, GatePairs.kind_pair}
+use Rattle.history.specs.Rails.{Rails, Ends, rails_at, rails_delayed, rails_timed, rails_sealed}
+use Rattle.history.specs.Rails.{both}
+use Rattle.history.specs.{Recorded.first_ticks, Laws.RecordedTicksSuffice}
+use Rattle.line_model.specs.declared.script.Place.{Place}
+use Rattle.line_model.specs.{declared.formula.Time.Time, PairMean.PairWorld, PairMean.PairSignals}
+use Rattle.gate_net.specs.declared.gate.Gate.TheVariants.{Seen, Loss, Raw, Timer, Seal}
+use Rattle.gate_net.specs.{declared.gate.GateId.GateId, declared.gate.Gate.Gate}
 
 -- one more tick of a history
 ticks_more : (u : ℕ → Rails) (t : ℕ) (y : Rails) → y ≡ u t

@@ -1,28 +1,18 @@
 -- From what was kept to the interval history of the run's own keys.
 use Rattle.std.proofs.Common.{◌≡◌, ℕ, ◌<◌, List, length, sym, ◌∙◌, ap, arith}
 use Rattle.std.specs.Prelude.{slice_get}
-use Rattle.history.specs.Rails.{Rails, rails_at}
-use Rattle.history.specs.Recorded.{first_ticks}
-use Rattle.history.specs.Laws.{HistoryLaws}
-use Rattle.line_model.specs.Laws.{LineLaws}
-use Rattle.gate_net.specs.NetLaws.{GatesStandForTheirTrees}
-use Rattle.channel.specs.SentKeys.{SentKeys}
-use Rattle.line_model.specs.declared.line.Line.{Line}
+use Rattle.history.specs.{Rails.Rails, Rails.rails_at, Recorded.first_ticks, Laws.HistoryLaws}
 use Rattle.line_model.specs.declared.script.Script.{Script}
-use Rattle.line_model.specs.Parameters.{terminal_count}
-use Rattle.line_model.specs.Tree.{Tree}
 use Rattle.line_model.specs.PairMean.{PairWorld, PairSignals, pair_mean}
 use Rattle.line_model.specs.Choice.{Box, LeastFromOne, pair_world_of}
-use Rattle.line_model.specs.Logic.{key_tree}
 use Rattle.line_model.specs.Histories.{PairHistory, IsPairHistory}
-use Rattle.line_model.specs.Solution.{SameBefore, the_keys}
-use Rattle.gate_net.specs.Formulas.{formula_of}
-use Rattle.gate_net.specs.NetOf.{NetOf, IsNetOf, trip_of}
-use Rattle.simulator.specs.GatePairs.{gate_pairs, line_pairs}
-use Rattle.simulator.specs.Runs.{IsTheHistory}
-use Rattle.simulator.specs.ListLaws.{exists_at}
-use Rattle.simulator.specs.Ticks.{KeysSent, AreSent}
-use Rattle.simulator.specs.Tracks.{pair_of}
+use Rattle.line_model.specs.{Laws.LineLaws, declared.line.Line.Line, Parameters.terminal_count}
+use Rattle.line_model.specs.{Tree.Tree, Logic.key_tree, Solution.SameBefore, Solution.the_keys}
+use Rattle.gate_net.specs.NetLaws.{GatesStandForTheirTrees}
+use Rattle.gate_net.specs.{Formulas.formula_of, NetOf.NetOf, NetOf.IsNetOf, NetOf.trip_of}
+use Rattle.channel.specs.SentKeys.{SentKeys}
+use Rattle.simulator.specs.{GatePairs.gate_pairs, GatePairs.line_pairs, Runs.IsTheHistory}
+use Rattle.simulator.specs.{ListLaws.exists_at, Ticks.KeysSent, Ticks.AreSent, Tracks.pair_of}
 
 -- the pair of a tick that was kept
 pub kept_pair : {V : Type 0} (laws : HistoryLaws) (rails : V → ℕ → Rails) (lane : ℕ) (keys : PairSignals)

@@ -1,32 +1,13 @@
 -- The values of all ticks in one list.
-use Rattle.std.proofs.Common.{
-  ◌≡◌,
-  ℕ,
-  ◌+◌,
-  ◌*◌,
-  ◌%◌,
-  ◌/◌,
-  ◌<◌,
-  ◌≤◌,
-  List,
-  [],
-  ◌++◌,
-  length,
-  sym,
-  ◌∙◌,
-  ap,
-  subst,
-  arith,
-  ⊎_elim,
-}
+use Rattle.std.proofs.Common.{◌≡◌, ℕ, ◌+◌, ◌*◌, ◌%◌, ◌/◌, ◌<◌, ◌≤◌, List, [], ◌++◌, length, sym}
+use Rattle.std.proofs.Common.{◌∙◌, ap, subst, arith, ⊎_elim}
 use Rattle.std.proofs.lemmas.Nat.{mod-mul-add, div-mul-add, mul-add-lt}
 use Rattle.std.proofs.lemmas.Option.{slice_get_within}
 use Rattle.std.proofs.Math.Nat.{mul-le-mul_right}
 use Rattle.history.specs.Rails.{Rails}
 use Rattle.simulator.specs.GatePairs.{GateSignals}
-use Rattle.simulator.specs.Ticks.{ValuesAgree, ValuesTold}
 use Rattle.simulator.specs.WavesOf.{WavesOf, AreWaves, wave_pair, pair_in}
-use Rattle.simulator.specs.ListLaws.{exists_at}
+use Rattle.simulator.specs.{Ticks.ValuesAgree, Ticks.ValuesTold, ListLaws.exists_at}
 use Rattle.simulator.proofs.Lists.{at_append}
 
 -- one more tick has room below the horizon

@@ -1,38 +1,16 @@
 -- One tick, gate by gate.
-use Rattle.std.proofs.Common.{
-  ◌≡◌,
-  ◌≢◌,
-  ℕ,
-  suc,
-  ◌+◌,
-  List,
-  [],
-  ◌∷◌,
-  ◌++◌,
-  length,
-  Some,
-  sym,
-  ◌∙◌,
-  ap,
-  subst,
-  arith,
-  ⊎_elim,
-  length-set,
-}
+use Rattle.std.proofs.Common.{◌≡◌, ◌≢◌, ℕ, suc, ◌+◌, List, [], ◌∷◌, ◌++◌, length, Some, sym, ◌∙◌}
+use Rattle.std.proofs.Common.{ap, subst, arith, ⊎_elim, length-set, ◌≤◌, ◌<◌}
 use Rattle.std.specs.Prelude.{slice_get, slice_set}
 use Rattle.history.specs.Rails.{Rails, Ends}
 use Rattle.line_model.specs.PairMean.{PairWorld, PairSignals}
-use Rattle.gate_net.specs.declared.gate.Gate.{Gate}
-use Rattle.simulator.specs.declared.cell.Cell.{Cell}
-use Rattle.simulator.specs.GatePairs.{GateSignals, kind_pair}
-use Rattle.simulator.specs.CellStands.{HasCell, CellStands}
-use Rattle.simulator.specs.Ticks.{ValuesAgree, HaveCells, AreTold, CellsWalked, AllStand}
-use Rattle.simulator.specs.Ticks.{CellsBetween}
 use Rattle.gate_net.specs.declared.gate.Gate.TheVariants.{Const, Seen, Loss, Raw, Not, And, Or}
 use Rattle.gate_net.specs.declared.gate.Gate.TheVariants.{Timer, Seal}
-use Rattle.gate_net.specs.Laws.{HasArguments}
-use Rattle.std.proofs.Common.{◌≤◌, ◌<◌}
-use Rattle.simulator.specs.ListLaws.{at_push}
+use Rattle.gate_net.specs.{declared.gate.Gate.Gate, Laws.HasArguments}
+use Rattle.simulator.specs.GatePairs.{GateSignals, kind_pair}
+use Rattle.simulator.specs.{declared.cell.Cell.Cell, CellStands.HasCell, CellStands.CellStands}
+use Rattle.simulator.specs.{Ticks.ValuesAgree, Ticks.HaveCells, Ticks.AreTold, Ticks.CellsWalked}
+use Rattle.simulator.specs.{Ticks.AllStand, Ticks.CellsBetween, ListLaws.at_push}
 use Rattle.simulator.proofs.Lists.{at_set, one_value}
 
 -- one more element beside a list of gates, with what each is to have

@@ -1,14 +1,12 @@
 -- What the cells of timed gates stand for.
 use Rattle.std.specs.Prelude.{◌≡◌, ℕ, List}
-use Rattle.history.specs.Rails.{Rails, Ends}
-use Rattle.history.specs.Recorded.{first_ticks}
+use Rattle.history.specs.{Rails.Rails, Rails.Ends, Recorded.first_ticks}
 use Rattle.timers.specs.Seals.{SealStandsFor}
 use Rattle.line_model.specs.PairMean.{PairWorld}
 use Rattle.gate_net.specs.declared.gate.Gate.{Gate}
 use Rattle.gate_net.specs.declared.gate.Gate.TheVariants as gate
-use Rattle.simulator.specs.declared.cell.Cell.{Cell}
 use Rattle.simulator.specs.declared.cell.Cell.TheVariants.{Nothing, Timer, Seal}
-use Rattle.simulator.specs.GatePairs.{GateSignals}
+use Rattle.simulator.specs.{declared.cell.Cell.Cell, GatePairs.GateSignals}
 
 -- the cell is a timer's
 abbrev pub HasTimer : {T S P : Type 0} → Cell T S P → Type 0

@@ -1,36 +1,13 @@
 -- The pairs of a net's gates.
 use Rattle.std.specs.Prelude.{◌≡◌, ℕ, List, Some, slice_get}
-use Rattle.history.specs.Rails.{
-  Rails,
-  both,
-  rails_not,
-  rails_and,
-  rails_or,
-  rails_timed,
-  rails_sealed,
-  rails_delayed,
-}
-use Rattle.line_model.specs.declared.line.Line.{Line}
-use Rattle.line_model.specs.declared.script.Script.{Script}
+use Rattle.history.specs.Rails.{Rails, both, rails_not, rails_and, rails_or, rails_timed}
+use Rattle.history.specs.Rails.{rails_sealed, rails_delayed}
 use Rattle.line_model.specs.PairMean.{PairWorld, PairSignals, pair_mean}
-use Rattle.line_model.specs.Choice.{Box, pair_world_of}
-use Rattle.line_model.specs.Logic.{key_tree}
-use Rattle.line_model.specs.Solution.{the_keys}
-use Rattle.gate_net.specs.declared.gate.Gate.{Gate}
-use Rattle.gate_net.specs.declared.gate.Gate.TheVariants.{
-  Const,
-  Seen,
-  Loss,
-  Raw,
-  Not,
-  And,
-  Or,
-  Timer,
-  Seal,
-}
-use Rattle.gate_net.specs.Formulas.{formula_of}
-use Rattle.gate_net.specs.Laws.{AreGates}
-use Rattle.gate_net.specs.NetOf.{NetOf}
+use Rattle.line_model.specs.{declared.line.Line.Line, declared.script.Script.Script, Choice.Box}
+use Rattle.line_model.specs.{Choice.pair_world_of, Logic.key_tree, Solution.the_keys}
+use Rattle.gate_net.specs.declared.gate.Gate.TheVariants.{Const, Seen, Loss, Raw, Not, And, Or}
+use Rattle.gate_net.specs.declared.gate.Gate.TheVariants.{Timer, Seal}
+use Rattle.gate_net.specs.{declared.gate.Gate.Gate, Formulas.formula_of, Laws.AreGates, NetOf.NetOf}
 
 -- a pair for each gate at each tick
 abbrev pub GateSignals : Type 0

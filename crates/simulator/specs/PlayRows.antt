@@ -1,24 +1,8 @@
 -- The rows of one timing and script: a row for every change of every key and trip.
-use Rattle.std.specs.Prelude.{
-  ◌∷◌,
-  ◌++◌,
-  ℕ,
-  zero,
-  suc,
-  Bool,
-  true,
-  false,
-  List,
-  [],
-  map,
-  get_or,
-  codes,
-  decimal,
-}
+use Rattle.std.specs.Prelude.{◌∷◌, ◌++◌, ℕ, zero, suc, Bool, true, false, List, [], map, get_or}
+use Rattle.std.specs.Prelude.{codes, decimal}
 use Rattle.std.specs.List.{concat}
-use Rattle.line_model.specs.declared.line.Line.{Line}
-use Rattle.line_model.specs.Parameters.{terminal_count}
-use Rattle.line_model.specs.Histories.{History}
+use Rattle.line_model.specs.{declared.line.Line.Line, Parameters.terminal_count, Histories.History}
 
 abbrev pub level_word : Bool → List ℕ
 level_word true = codes "1"

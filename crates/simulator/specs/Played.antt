@@ -1,8 +1,7 @@
 -- A run at known numbers.
 use Rattle.std.specs.Prelude.{ℕ, Bool}
 use Rattle.history.specs.Rails.{Ends, single}
-use Rattle.tick_signal.specs.declared.level.Level.{Level}
-use Rattle.tick_signal.specs.Levels.{level_rails}
+use Rattle.tick_signal.specs.{declared.level.Level.Level, Levels.level_rails}
 use Rattle.line_model.specs.Histories.{History}
 use Rattle.simulator.specs.WavesOf.{WavesOf, wave_pair, waves_history}
 use Rattle.simulator.specs.Runs.{must_history}

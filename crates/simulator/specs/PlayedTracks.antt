@@ -1,16 +1,13 @@
 -- A run at known numbers.
-use Rattle.std.specs.Prelude.{◌≡◌, ◌<◌, ◌≤◌, ℕ, Bool, List, Option, Some, slice_get}
-use Rattle.std.specs.Prelude.{false, option_map}
+use Rattle.std.specs.Prelude.{◌≡◌, ◌<◌, ◌≤◌, ℕ, Bool, List, Option, Some, slice_get, false}
+use Rattle.std.specs.Prelude.{option_map}
 use Rattle.std.proofs.Common.{◌∙◌, ap}
 use Rattle.std.proofs.lemmas.Option.{slice_get-map, get_or_from_slice_get}
 use Rattle.history.specs.Rails.{both, rails_at, must_of}
-use Rattle.tick_signal.specs.declared.level.Level.{Level}
-use Rattle.tick_signal.specs.Lanes.{in_lane}
-use Rattle.tick_signal.specs.Levels.{level_rails}
+use Rattle.tick_signal.specs.{declared.level.Level.Level, Lanes.in_lane, Levels.level_rails}
 use Rattle.channel.specs.SentKeys.{SentKeys}
 use Rattle.line_model.specs.Histories.{History}
-use Rattle.simulator.specs.Runs.{must_history}
-use Rattle.simulator.specs.Tracks.{pair_of, tracks_history}
+use Rattle.simulator.specs.{Runs.must_history, Tracks.pair_of, Tracks.tracks_history}
 
 -- whether a signal is on at a tick
 abbrev pub is_on : SentKeys Level → ℕ → Bool

@@ -4,21 +4,11 @@ use Rattle.history.specs.Rails.{Rails, Ends, rails_delayed, rails_timed}
 use Rattle.history.specs.Recorded.{first_ticks}
 use Rattle.tick_signal.specs.Lanes.{in_lane}
 use Rattle.line_model.specs.declared.script.Place.{Place}
-use Rattle.line_model.specs.declared.script.SeenSpan.{SeenSpan}
-use Rattle.line_model.specs.Seen.{shows, loses, is_seen, is_lost}
-use Rattle.line_model.specs.PairMean.{PairWorld, PairSignals}
+use Rattle.line_model.specs.{declared.script.SeenSpan.SeenSpan, Seen.shows, Seen.loses}
+use Rattle.line_model.specs.{Seen.is_seen, Seen.is_lost, PairMean.PairWorld, PairMean.PairSignals}
 use Rattle.gate_net.specs.declared.gate.Gate.{Gate}
-use Rattle.gate_net.specs.declared.gate.Gate.TheVariants.{
-  Const,
-  Seen,
-  Loss,
-  Raw,
-  Not,
-  And,
-  Or,
-  Timer,
-  Seal,
-}
+use Rattle.gate_net.specs.declared.gate.Gate.TheVariants.{Const, Seen, Loss, Raw, Not, And, Or}
+use Rattle.gate_net.specs.declared.gate.Gate.TheVariants.{Timer, Seal}
 use Rattle.timing_box.specs.declared.step.Step.{Step}
 use Rattle.simulator.specs.GatePairs.{GateSignals, kind_pair}
 

@@ -2,22 +2,12 @@
 use Rattle.std.specs.Prelude.{◌≡◌, ◌<◌, ℕ, List, length}
 use Rattle.history.specs.Rails.{Rails, Ends, Covers, single}
 use Rattle.line_model.specs.declared.line.Line.{Line}
-use Rattle.line_model.specs.declared.script.Script.{Script}
 use Rattle.line_model.specs.Parameters.{param_count, channel_count}
-use Rattle.line_model.specs.Mean.{mean}
-use Rattle.line_model.specs.PairMean.{pair_mean}
 use Rattle.line_model.specs.Choice.{Choice, Box, IsWithin, LeastFromOne, world_of, pair_world_of}
-use Rattle.line_model.specs.Histories.{
-  History,
-  IsLineHistory,
-  PairHistory,
-  IsPairHistory,
-  IsSamePairHistory,
-  IsBothRails,
-  CoversHistory,
-}
-use Rattle.gate_net.specs.NetOf.{NetOf}
-use Rattle.gate_net.specs.Formulas.{formula_of}
+use Rattle.line_model.specs.Histories.{History, IsLineHistory, PairHistory, IsPairHistory}
+use Rattle.line_model.specs.Histories.{IsSamePairHistory, IsBothRails, CoversHistory}
+use Rattle.line_model.specs.{declared.script.Script.Script, Mean.mean, PairMean.pair_mean}
+use Rattle.gate_net.specs.{NetOf.NetOf, Formulas.formula_of}
 use Rattle.timing_box.specs.declared.step.Step.{Step}
 use Rattle.simulator.specs.LaneBox.{lane_box}
 use Rattle.simulator.specs.WavesOf.{WavesOf, wave_pair, waves_history}

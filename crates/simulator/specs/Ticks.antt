@@ -1,14 +1,12 @@
 -- What a run holds before and at a tick: cells, keys that were sent, and values.
 use Rattle.std.specs.Prelude.{◌≡◌, ◌<◌, ◌≤◌, ◌%◌, ◌/◌, ℕ, suc, List, [], Some, length, slice_get}
-use Rattle.history.specs.Rails.{Rails, Ends}
-use Rattle.history.specs.Recorded.{first_ticks}
+use Rattle.history.specs.{Rails.Rails, Rails.Ends, Recorded.first_ticks}
 use Rattle.tick_signal.specs.Lanes.{in_lane}
 use Rattle.channel.specs.SentKeys.{SentKeys}
 use Rattle.line_model.specs.PairMean.{PairWorld, PairSignals}
 use Rattle.gate_net.specs.declared.gate.Gate.{Gate}
-use Rattle.simulator.specs.declared.cell.Cell.{Cell}
 use Rattle.simulator.specs.CellStands.{HasCell, CellStands}
-use Rattle.simulator.specs.GatePairs.{GateSignals, kind_pair}
+use Rattle.simulator.specs.{declared.cell.Cell.Cell, GatePairs.GateSignals, GatePairs.kind_pair}
 
 -- ---- cells
 

@@ -3,19 +3,14 @@ use Rattle.std.specs.Prelude.{ℕ, List, Option, Some, None, slice_get, false}
 use Rattle.history.specs.Rails.{Rails, Ends, rails_at, both}
 use Rattle.tick_signal.specs.Lanes.{in_lane}
 use Rattle.channel.specs.SentKeys.{SentKeys}
-use Rattle.line_model.specs.declared.line.Line.{Line}
 use Rattle.line_model.specs.declared.script.Script.{Script}
-use Rattle.line_model.specs.PairMean.{PairWorld, PairSignals}
-use Rattle.line_model.specs.Logic.{key_tree}
-use Rattle.line_model.specs.Solution.{the_keys}
-use Rattle.line_model.specs.Histories.{PairHistory}
-use Rattle.gate_net.specs.declared.gate.Gate.{Gate}
-use Rattle.gate_net.specs.NetOf.{NetOf, trip_of}
+use Rattle.line_model.specs.{declared.line.Line.Line, PairMean.PairWorld, PairMean.PairSignals}
+use Rattle.line_model.specs.{Logic.key_tree, Solution.the_keys, Histories.PairHistory}
+use Rattle.gate_net.specs.{declared.gate.Gate.Gate, NetOf.NetOf, NetOf.trip_of}
 use Rattle.timing_box.specs.declared.step.Step.{Step}
 use Rattle.simulator.specs.GatePairs.{GateSignals, line_pairs}
 use Rattle.simulator.specs.LaneBox.{lane_box, lane_world}
-use Rattle.simulator.specs.declared.cell.Cell.{Cell}
-use Rattle.simulator.specs.Ticks.{KeysSent, AllStand}
+use Rattle.simulator.specs.{declared.cell.Cell.Cell, Ticks.KeysSent, Ticks.AllStand}
 
 -- in a lane, before tick t: the keys and the trips of the ticks before were kept, and the cells
 -- stand for them

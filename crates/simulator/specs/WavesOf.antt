@@ -1,24 +1,9 @@
 -- The values of a run, tick by tick.
-use Rattle.std.specs.Prelude.{
-  ◌≡◌,
-  ◌≤◌,
-  ◌+◌,
-  ◌*◌,
-  ℕ,
-  List,
-  Option,
-  Some,
-  None,
-  false,
-  length,
-  map,
-  get_or,
-  slice_get,
-}
+use Rattle.std.specs.Prelude.{◌≡◌, ◌≤◌, ◌+◌, ◌*◌, ℕ, List, Option, Some, None, false, length, map}
+use Rattle.std.specs.Prelude.{get_or, slice_get}
 use Rattle.history.specs.Rails.{Rails, both}
 use Rattle.line_model.specs.Histories.{PairHistory}
-use Rattle.gate_net.specs.declared.gate.GateId.{GateId}
-use Rattle.gate_net.specs.NetOf.{AreGatesOf}
+use Rattle.gate_net.specs.{declared.gate.GateId.GateId, NetOf.AreGatesOf}
 
 -- a value for each tick and, in it, for each gate; and the gates of each terminal's key and trip
 pub record WavesOf (V : Type 0) : Type 0 where

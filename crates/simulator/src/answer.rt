@@ -4,13 +4,11 @@ ghost use Rattle.std.specs.Prelude.{◌≡◌, ℕ, suc, ◌<◌, ◌≤◌, len
 ghost use Rattle.history.specs.Rails.{rails_delayed};
 ghost use Rattle.line_model.specs.Parameters.{terminal_count, channel_count};
 ghost use Rattle.line_model.specs.PairMean.{PairWorld, PairSignals};
-ghost use Rattle.gate_net.specs.Laws.{HasArguments};
-ghost use Rattle.gate_net.specs.Named.{GateNames};
+ghost use Rattle.gate_net.specs.{Laws.HasArguments, Named.GateNames};
 ghost use Rattle.simulator.specs.GatePairs.{GateSignals, kind_pair};
-ghost use Rattle.simulator.specs.CellStands.{HasCell, CellStands};
 ghost use Rattle.simulator.specs.Inputs.{AreDelaysOf, CanReceive, IsWorldAt};
-ghost use Rattle.simulator.specs.Quiet.{TimerKeeps};
 ghost use Rattle.simulator.specs.Ticks.{ValuesAgree, KeysSent, AreSent};
+ghost use Rattle.simulator.specs.{CellStands.HasCell, CellStands.CellStands, Quiet.TimerKeeps};
 
 use crate::cell::{Cell, seal_answer, timer_answer, timer_stays};
 use crate::inputs::Delay;

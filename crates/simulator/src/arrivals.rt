@@ -1,14 +1,12 @@
 //! For how long what arrives over the channels stays the same, if the keys are held on.
 
 ghost use Rattle.std.specs.Prelude.{◌≡◌, ℕ, suc, ◌<◌, ◌≤◌, length};
-ghost use Rattle.history.specs.Rails.{Rails};
-ghost use Rattle.history.specs.Recorded.{first_ticks};
+ghost use Rattle.history.specs.{Rails.Rails, Recorded.first_ticks};
 ghost use Rattle.tick_signal.specs.Lanes.{in_lane};
 ghost use Rattle.line_model.specs.Parameters.{terminal_count};
 ghost use Rattle.line_model.specs.PairMean.{PairWorld, PairSignals};
-ghost use Rattle.simulator.specs.Inputs.{AreDelaysOf, CanReceive};
-ghost use Rattle.simulator.specs.Quiet.{ArrivalKeeps, EndStays};
-ghost use Rattle.simulator.specs.Ticks.{KeysSent, AreSent};
+ghost use Rattle.simulator.specs.{Inputs.AreDelaysOf, Inputs.CanReceive, Quiet.ArrivalKeeps};
+ghost use Rattle.simulator.specs.{Quiet.EndStays, Ticks.KeysSent, Ticks.AreSent};
 
 use crate::inputs::Delay;
 use crate::lesser::lesser;

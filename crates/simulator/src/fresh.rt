@@ -2,14 +2,11 @@
 
 ghost use Rattle.std.specs.Prelude.{◌≡◌, ℕ, [], ◌<◌, ◌≤◌, length, IfOk};
 ghost use Rattle.line_model.specs.declared.formula.Time.{Time};
-ghost use Rattle.line_model.specs.Parameters.{param_count};
-ghost use Rattle.line_model.specs.PairMean.{PairWorld};
+ghost use Rattle.line_model.specs.{Parameters.param_count, PairMean.PairWorld};
 ghost use Rattle.gate_net.specs.Named.{GateNames, NamedFrom};
-ghost use Rattle.simulator.specs.LaneBox.{time_ends};
-ghost use Rattle.simulator.specs.GatePairs.{GateSignals};
-ghost use Rattle.simulator.specs.CellStands.{HasCell, CellStands};
-ghost use Rattle.simulator.specs.CellStands.{HasTimer, TimerStands};
+ghost use Rattle.simulator.specs.CellStands.{HasCell, CellStands, HasTimer, TimerStands};
 ghost use Rattle.simulator.specs.Ticks.{HaveCells, AllStand, AreFresh};
+ghost use Rattle.simulator.specs.{LaneBox.time_ends, GatePairs.GateSignals};
 
 use crate::cell::Cell;
 use crate::spans::time_span;

@@ -3,10 +3,8 @@
 ghost use Rattle.std.specs.Prelude.{◌≡◌, ℕ, suc, ◌<◌, ◌≤◌, ◌+◌, length};
 ghost use Rattle.line_model.specs.PairMean.{PairWorld};
 ghost use Rattle.gate_net.specs.Laws.{HasArguments};
-ghost use Rattle.simulator.specs.GatePairs.{GateSignals};
-ghost use Rattle.simulator.specs.CellStands.{HasCell, CellStands};
-ghost use Rattle.simulator.specs.Ticks.{HaveCells, AllStand, ValuesAgree};
-ghost use Rattle.simulator.specs.Quiet.{Keeps};
+ghost use Rattle.simulator.specs.{GatePairs.GateSignals, CellStands.HasCell, CellStands.CellStands};
+ghost use Rattle.simulator.specs.{Ticks.HaveCells, Ticks.AllStand, Ticks.ValuesAgree, Quiet.Keeps};
 
 use crate::cell::{Cell, hold_seal, hold_timer};
 use gate_net::{Gate, GateId, Net};

@@ -1,14 +1,12 @@
 //! A run.
 
 ghost use Rattle.std.specs.Prelude.{◌≡◌, ℕ, ◌<◌, length, IfOk, IsTrue};
-ghost use Rattle.line_model.specs.Parameters.{param_count};
-ghost use Rattle.line_model.specs.Choice.{Choice};
+ghost use Rattle.line_model.specs.{Parameters.param_count, Choice.Choice};
 ghost use Rattle.gate_net.specs.NetOf.{IsNetOf};
 ghost use Rattle.timing_box.specs.Timing.{ascend};
-ghost use Rattle.simulator.specs.LaneBox.{lane_box};
-ghost use Rattle.simulator.specs.WavesOf.{waves_history};
 ghost use Rattle.simulator.specs.Runs.{AreDelayed, AreWavesOf, HavePairs, IsTheHistory};
 ghost use Rattle.simulator.specs.Runs.{CoverChoices, IsPoint, IsExactAt};
+ghost use Rattle.simulator.specs.{LaneBox.lane_box, WavesOf.waves_history};
 
 use crate::ticks::run_ticks;
 use crate::waves::Waves;

@@ -1,10 +1,10 @@
 //! The values of some gates are kept.
 
-ghost use Rattle.std.specs.Prelude.{◌≡◌, ℕ, ◌<◌, ◌≤◌, ◌+◌, ◌++◌, length, replicate, slice_get, Some};
+ghost use Rattle.std.specs.Prelude.{◌≡◌, ℕ, ◌<◌, ◌≤◌, ◌+◌, ◌++◌, length, replicate, slice_get};
+ghost use Rattle.std.specs.Prelude.{Some};
 ghost use Rattle.line_model.specs.PairMean.{PairSignals};
 ghost use Rattle.gate_net.specs.NetOf.{AreGatesOf};
-ghost use Rattle.simulator.specs.WavesOf.{number_at};
-ghost use Rattle.simulator.specs.Ticks.{KeysSent, AreSent};
+ghost use Rattle.simulator.specs.{WavesOf.number_at, Ticks.KeysSent, Ticks.AreSent};
 
 use channel::Track;
 use gate_net::GateId;

@@ -1,8 +1,7 @@
 //! The spans of pickups and dropouts.
 
 ghost use Rattle.std.specs.Prelude.{◌≡◌, ℕ, ◌<◌, length};
-ghost use Rattle.line_model.specs.Parameters.{param_count};
-ghost use Rattle.line_model.specs.Names.{HasTime};
+ghost use Rattle.line_model.specs.{Parameters.param_count, Names.HasTime};
 ghost use Rattle.simulator.specs.LaneBox.{time_ends};
 
 use line_model::{Line, Time};

@@ -2,8 +2,7 @@
 
 ghost use Rattle.std.specs.Prelude.{◌≡◌, ◌≤◌, IsTrue};
 ghost use Rattle.timing_box.specs.Timing.{ascend, number_at};
-ghost use Rattle.simulator.specs.Steps.{is_passed, IsParted};
-ghost use Rattle.simulator.specs.Quiet.{NoStepIn};
+ghost use Rattle.simulator.specs.{Steps.is_passed, Steps.IsParted, Quiet.NoStepIn};
 
 use timing_box::Step;
 

@@ -6,11 +6,9 @@ ghost use Rattle.line_model.specs.PairMean.{PairWorld, PairSignals};
 ghost use Rattle.gate_net.specs.NetOf.{IsNet, IsNetOf, key_of};
 ghost use Rattle.timing_box.specs.Timing.{ascend};
 ghost use Rattle.simulator.specs.GatePairs.{GateSignals};
-ghost use Rattle.simulator.specs.Inputs.{AreDelays, AreGiven};
-ghost use Rattle.simulator.specs.Quiet.{Keeps};
-ghost use Rattle.simulator.specs.Runs.{AreDelayed};
 ghost use Rattle.simulator.specs.Ticks.{HaveCells, ValuesAgree, AreSent};
 ghost use Rattle.simulator.specs.Tracks.{LaneTracked, LineTracked, trips_of};
+ghost use Rattle.simulator.specs.{Inputs.AreDelays, Inputs.AreGiven, Quiet.Keeps, Runs.AreDelayed};
 
 use crate::arrivals::arrivals_stay;
 use crate::cell::Cell;

@@ -5,9 +5,7 @@ ghost use Rattle.line_model.specs.Parameters.{param_count};
 ghost use Rattle.gate_net.specs.NetOf.{IsNetOf};
 ghost use Rattle.timing_box.specs.Timing.{ascend};
 ghost use Rattle.simulator.specs.LaneBox.{lane_box};
-ghost use Rattle.simulator.specs.GatePairs.{line_pairs};
-ghost use Rattle.simulator.specs.Ticks.{ValuesTold};
-ghost use Rattle.simulator.specs.Runs.{AreDelayed};
+ghost use Rattle.simulator.specs.{GatePairs.line_pairs, Ticks.ValuesTold, Runs.AreDelayed};
 
 use crate::fresh::{fresh_cells, fresh_tracks};
 use crate::inputs::{fresh_inputs, turn};

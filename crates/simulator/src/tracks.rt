@@ -1,15 +1,13 @@
 //! A run from one tick at which some gate may change to the next.
 
 ghost use Rattle.std.specs.Prelude.{◌≡◌, ℕ, ◌<◌, ◌≤◌, length, vec_capacity, IfOk, IsTrue};
-ghost use Rattle.line_model.specs.Parameters.{param_count};
-ghost use Rattle.line_model.specs.Choice.{Choice};
+ghost use Rattle.line_model.specs.{Parameters.param_count, Choice.Choice};
 ghost use Rattle.gate_net.specs.NetOf.{IsNetOf};
 ghost use Rattle.timing_box.specs.Timing.{ascend};
 ghost use Rattle.simulator.specs.LaneBox.{lane_box};
-ghost use Rattle.simulator.specs.Inputs.{AreDelays, AreGiven};
 ghost use Rattle.simulator.specs.Runs.{AreDelayed, IsTheHistory, IsPoint, IsExactAt};
-ghost use Rattle.simulator.specs.Ticks.{HaveCells, AreSent};
-ghost use Rattle.simulator.specs.Tracks.{LineTracked, tracks_history};
+ghost use Rattle.simulator.specs.{Inputs.AreDelays, Inputs.AreGiven, Ticks.HaveCells};
+ghost use Rattle.simulator.specs.{Ticks.AreSent, Tracks.LineTracked, Tracks.tracks_history};
 
 use crate::cell::Cell;
 use crate::fresh::{fresh_cells, fresh_tracks};

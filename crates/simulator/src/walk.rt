@@ -3,12 +3,10 @@
 ghost use Rattle.std.specs.Prelude.{◌≡◌, ℕ, suc, ◌<◌, ◌≤◌, length, vec_capacity, slice_get, Some};
 ghost use Rattle.line_model.specs.Parameters.{terminal_count};
 ghost use Rattle.line_model.specs.PairMean.{PairWorld, PairSignals};
-ghost use Rattle.gate_net.specs.declared.gate.Gate.{Gate};
-ghost use Rattle.gate_net.specs.Named.{NamedFrom};
-ghost use Rattle.simulator.specs.GatePairs.{GateSignals};
+ghost use Rattle.gate_net.specs.{declared.gate.Gate.Gate, Named.NamedFrom};
 ghost use Rattle.simulator.specs.Inputs.{CanReceive, IsWorldAt};
-ghost use Rattle.simulator.specs.Quiet.{TimerKeeps};
 ghost use Rattle.simulator.specs.Ticks.{HaveCells, AllStand, ValuesAgree, AreSent, IsReady};
+ghost use Rattle.simulator.specs.{GatePairs.GateSignals, Quiet.TimerKeeps};
 
 use crate::answer::take_tick;
 use crate::cell::Cell;

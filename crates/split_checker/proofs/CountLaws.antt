@@ -1,17 +1,16 @@
 -- Counts grow result by result and script by script.
-use Rattle.std.proofs.Common.{◌≡◌, ◌<◌, ◌≤◌, ◌+◌, ◌++◌, ℕ, Bool, List, [], ◌∷◌, length, map, take, get_or}
-use Rattle.std.proofs.Common.{sym, ◌∙◌, ap, arith, Vec}
-use Rattle.std.specs.declared.alloc.Global.{Global}
-use Rattle.std.specs.List.{count_by}
+use Rattle.std.proofs.Common.{◌≡◌, ◌<◌, ◌≤◌, ◌+◌, ◌++◌, ℕ, Bool, List, [], ◌∷◌, length, map, take}
+use Rattle.std.proofs.Common.{get_or, sym, ◌∙◌, ap, arith, Vec}
 use Rattle.std.proofs.lemmas.List.{map-append, take_more, append-nil, length-map, length-take-le}
 use Rattle.std.proofs.lemmas.List.Sums.{sum_by-append, count_by-le-length}
 use Rattle.std.proofs.lemmas.Grind.{flat_map-append}
+use Rattle.std.specs.declared.alloc.Global.{Global}
+use Rattle.std.specs.List.{count_by}
 use Rattle.certificate.specs.Grammar.{Verdict}
 use Rattle.cert_checker.specs.declared.counts.Counts.{Counts}
 use Rattle.cert_checker.specs.Counts.{Adds, AreCounts, is_yes, is_no, is_undecided}
 use Rattle.split_text.specs.declared.claim.SplitClaim.{SplitClaim}
-use Rattle.split_text.specs.Grammar.{SplitResult}
-use Rattle.split_text.specs.Reading.{result_in, results_in}
+use Rattle.split_text.specs.{Grammar.SplitResult, Reading.result_in, Reading.results_in}
 use Rattle.split_checker.specs.Counts.{verdict_of, all_verdicts}
 
 -- the verdicts of claims that were read

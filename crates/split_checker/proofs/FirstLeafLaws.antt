@@ -1,12 +1,10 @@
 -- The first yes leaf that is not held, in a list of leaves and a longer one.
 use Rattle.std.proofs.Common.{◌≡◌, ◌+◌, ◌⊎◌, inl, inr, ⊎_elim, ℕ, zero, suc, List, [], ◌∷◌, ◌++◌}
 use Rattle.std.proofs.Common.{Some, length, ◌∙◌, ap, arith, IsTrue}
-use Rattle.std.specs.Prelude.{slice_get}
 use Rattle.std.proofs.lemmas.Option.{slice_get_within}
+use Rattle.std.specs.Prelude.{slice_get}
 use Rattle.line_model.specs.declared.line.Line.{Line}
-use Rattle.line_model.specs.declared.script.Script.{Script}
-use Rattle.line_model.specs.Choice.{Box}
-use Rattle.line_model.specs.HeldOver.{IsHeldOver}
+use Rattle.line_model.specs.{declared.script.Script.Script, Choice.Box, HeldOver.IsHeldOver}
 use Rattle.box_split.specs.Trees.{SplitTree, Yes, Undecided, Split}
 use Rattle.box_split.specs.Leaves.{Leaf, leaves, lower_half, upper_half, AreSound}
 use Rattle.split_checker.specs.FirstLeaf.{IsFirstNotHeld}

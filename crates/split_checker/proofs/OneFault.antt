@@ -1,34 +1,22 @@
 -- The results of a script have one first fault, and none where they are supported.
 use Rattle.std.proofs.Common.{◌≡◌, ◌≢◌, ◌<◌, ℕ, List, refl, sym, ◌∙◌, ap, subst}
-use Rattle.std.specs.Prelude.{slice_get}
 use Rattle.std.proofs.lemmas.Option.{same_Some, slice_get_within}
+use Rattle.std.specs.Prelude.{slice_get}
 use Rattle.line_model.specs.declared.line.Line.{Line}
-use Rattle.line_model.specs.declared.script.Script.{Script}
-use Rattle.line_model.specs.Choice.{declared_box}
+use Rattle.line_model.specs.{declared.script.Script.Script, Choice.declared_box}
 use Rattle.cert_checker.specs.declared.claim.ClaimFault.{ClaimFault}
 use Rattle.cert_checker.specs.declared.claim.ClaimFault.TheVariants as claim
 use Rattle.cert_checker.specs.Refutations.{IsRefutation}
 use Rattle.cert_checker.specs.Verdicts as verdicts
 use Rattle.box_split.specs.declared.node.Node.{Node}
-use Rattle.box_split.specs.Trees.{SplitTree}
-use Rattle.box_split.specs.Leaves.{leaves, AreSound}
+use Rattle.box_split.specs.{Trees.SplitTree, Leaves.leaves, Leaves.AreSound}
 use Rattle.split_text.specs.Grammar.{SplitResult, tree, fails}
 use Rattle.split_checker.specs.declared.fault.ResultFault.{ResultFault}
-use Rattle.split_checker.specs.declared.fault.ResultFault.TheVariants.{
-  NotHeld,
-  Outside,
-  Passes,
-  Memory,
-}
+use Rattle.split_checker.specs.declared.fault.ResultFault.TheVariants.{NotHeld, Outside, Passes}
+use Rattle.split_checker.specs.declared.fault.ResultFault.TheVariants.{Memory}
 use Rattle.split_checker.specs.FirstLeaf.{IsTreeHeld, IsTreeNotHeld, IsFirstNotHeld}
-use Rattle.split_checker.specs.Results.{
-  IsSupported,
-  IsTreeFault,
-  IsNoFault,
-  IsFaultOf,
-  AreSupported,
-  IsFirstFault,
-}
+use Rattle.split_checker.specs.Results.{IsSupported, IsTreeFault, IsNoFault, IsFaultOf}
+use Rattle.split_checker.specs.Results.{AreSupported, IsFirstFault}
 use Rattle.split_checker.proofs.FirstLeafLaws.{sound_held}
 use Rattle.split_checker.proofs.OneTree.{one_tree, same_number, leaf_once}
 

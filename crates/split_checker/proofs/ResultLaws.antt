@@ -1,23 +1,20 @@
 -- What a result is, from what was found of it.
-use Rattle.std.proofs.Common.{◌≡◌, ◌<◌, ◌≤◌, ◌+◌, ◌^◌, ◌&&◌, ℕ, zero, suc, Bool, List, length}
-use Rattle.std.proofs.Common.{refl, sym, ◌∙◌, ap, subst, arith, length-append, IsTrue}
-use Rattle.std.specs.List.{list_all}
+use Rattle.std.proofs.Common.{◌≡◌, ◌<◌, ◌≤◌, ◌+◌, ◌^◌, ◌&&◌, ℕ, zero, suc, Bool, List, length, refl}
+use Rattle.std.proofs.Common.{sym, ◌∙◌, ap, subst, arith, length-append, IsTrue}
 use Rattle.std.proofs.lemmas.List.Folds.{list_all-append}
+use Rattle.std.specs.List.{list_all}
 use Rattle.line_model.specs.declared.line.Line.{Line}
-use Rattle.line_model.specs.declared.script.Script.{Script}
-use Rattle.line_model.specs.Parameters.{terminal_count}
 use Rattle.line_model.specs.Choice.{Box, Choice, IsWithin, LeastFromOne, declared_box}
 use Rattle.line_model.specs.Histories.{History, IsLineHistory, Meets}
-use Rattle.box_split.specs.declared.node.Node.{Node}
+use Rattle.line_model.specs.{declared.script.Script.Script, Parameters.terminal_count}
 use Rattle.box_split.specs.Trees.{SplitTree, Yes, Undecided, Split, preorder, height, are_yes}
 use Rattle.box_split.specs.Trees.{is_decided}
-use Rattle.box_split.specs.Leaves.{leaves, AreSound}
+use Rattle.box_split.specs.{declared.node.Node.Node, Leaves.leaves, Leaves.AreSound}
 use Rattle.split_text.specs.Grammar.{SplitResult, tree, fails, AreTree}
 use Rattle.split_checker.specs.declared.fault.ResultFault.{ResultFault}
 use Rattle.split_checker.specs.declared.fault.ResultFault.TheVariants as wrong
-use Rattle.split_checker.specs.FirstLeaf.{IsFirstNotHeld}
-use Rattle.split_checker.specs.Walks.{IsWalkFault}
 use Rattle.split_checker.specs.Results.{IsSupported, IsTold, IsTreeFault}
+use Rattle.split_checker.specs.{FirstLeaf.IsFirstNotHeld, Walks.IsWalkFault}
 
 -- ---- few nodes
 

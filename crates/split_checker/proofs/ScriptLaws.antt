@@ -1,17 +1,14 @@
 -- The answer for a whole text, told script by script.
-use Rattle.std.proofs.Common.{◌≡◌, ℕ, ◌+◌, List, Some, length, sym, ◌∙◌, ap}
-use Rattle.std.proofs.Common.{subst, arith, ⊎_elim}
-use Rattle.std.specs.Prelude.{slice_get, Result, Ok, Err, IfOk}
+use Rattle.std.proofs.Common.{◌≡◌, ℕ, ◌+◌, List, Some, length, sym, ◌∙◌, ap, subst, arith, ⊎_elim}
 use Rattle.std.proofs.lemmas.Bool.{cases_lt}
-use Rattle.line_model.specs.declared.line.Line.{Line}
-use Rattle.line_model.specs.declared.script.Script.{Script}
+use Rattle.std.specs.Prelude.{slice_get, Result, Ok, Err, IfOk}
+use Rattle.line_model.specs.{declared.line.Line.Line, declared.script.Script.Script}
 use Rattle.cert_checker.specs.Check.{EachBelow}
 use Rattle.split_text.specs.Grammar.{SplitResult, IsSplitText}
 use Rattle.split_checker.specs.declared.fault.ResultFault.{ResultFault}
 use Rattle.split_checker.specs.declared.fault.ResultFault.TheVariants as wrong
-use Rattle.split_checker.specs.declared.fault.SplitFault.{SplitFault}
 use Rattle.split_checker.specs.Check.{IsScriptFault, IsSplitFault, IsSound, fault_in}
-use Rattle.split_checker.specs.Results.{AreTold}
+use Rattle.split_checker.specs.{declared.fault.SplitFault.SplitFault, Results.AreTold}
 
 -- the fault of a script, told with the script
 pub fault_told : (line : Line) (scripts : List Script) (bytes : List ℕ) (i : ℕ) (f : ResultFault)

@@ -1,20 +1,13 @@
 -- When a text of split trees is accepted, and its first fault where it is not.
 use Rattle.std.specs.Prelude.{◌≡◌, ℕ, List, Some, length, slice_get}
-use Rattle.line_model.specs.declared.line.Line.{Line}
-use Rattle.line_model.specs.declared.script.Script.{Script}
-use Rattle.cert_checker.specs.declared.counts.Counts.{Counts}
-use Rattle.cert_checker.specs.Check.{EachBelow}
+use Rattle.line_model.specs.{declared.line.Line.Line, declared.script.Script.Script}
+use Rattle.cert_checker.specs.{declared.counts.Counts.Counts, Check.EachBelow}
 use Rattle.split_text.specs.Grammar.{SplitResult, IsSplitText, LeavesGrammar}
 use Rattle.split_checker.specs.declared.fault.ResultFault.{ResultFault}
 use Rattle.split_checker.specs.declared.fault.ResultFault.TheVariants as wrong
 use Rattle.split_checker.specs.declared.fault.SplitFault.{SplitFault}
-use Rattle.split_checker.specs.declared.fault.SplitFault.TheVariants.{
-  Line as Line',
-  NotHeld,
-  Outside,
-  Passes,
-  Memory,
-}
+use Rattle.split_checker.specs.declared.fault.SplitFault.TheVariants.{Line as Line', NotHeld}
+use Rattle.split_checker.specs.declared.fault.SplitFault.TheVariants.{Outside, Passes, Memory}
 use Rattle.split_checker.specs.Counts.{CountResults}
 use Rattle.split_checker.specs.Results.{AreSupported, AreTold, IsFirstFault}
 

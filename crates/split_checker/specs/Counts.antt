@@ -2,10 +2,8 @@
 use Rattle.std.specs.Prelude.{Bool, List, map, if◌then◌else◌}
 use Rattle.std.specs.List.{flat_map, list_all}
 use Rattle.certificate.specs.Grammar.{Verdict, yes, no, undecided}
-use Rattle.cert_checker.specs.declared.counts.Counts.{Counts}
-use Rattle.cert_checker.specs.Counts.{AreCounts}
-use Rattle.box_split.specs.declared.node.Node.{Node}
-use Rattle.box_split.specs.Trees.{is_decided}
+use Rattle.cert_checker.specs.{declared.counts.Counts.Counts, Counts.AreCounts}
+use Rattle.box_split.specs.{declared.node.Node.Node, Trees.is_decided}
 use Rattle.split_text.specs.Grammar.{SplitResult, tree, fails}
 
 -- no leaf is undecided, so each is yes

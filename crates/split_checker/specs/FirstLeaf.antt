@@ -1,12 +1,9 @@
 -- Trees whose yes leaves are held, and the first yes leaf that is not.
 use Rattle.std.specs.Prelude.{◌≡◌, ◌<◌, ℕ, List, Some, slice_get, IsTrue}
-use Rattle.line_model.specs.declared.line.Line.{Line}
 use Rattle.line_model.specs.declared.script.Script.{Script}
-use Rattle.line_model.specs.HeldOver.{IsHeldOver}
-use Rattle.line_model.specs.Choice.{declared_box}
-use Rattle.box_split.specs.declared.node.Node.{Node}
+use Rattle.line_model.specs.{declared.line.Line.Line, HeldOver.IsHeldOver, Choice.declared_box}
 use Rattle.box_split.specs.Trees.{SplitTree, preorder}
-use Rattle.box_split.specs.Leaves.{Leaf, leaves, AreSound}
+use Rattle.box_split.specs.{declared.node.Node.Node, Leaves.Leaf, Leaves.leaves, Leaves.AreSound}
 
 -- Of all leaves, numbered from 0, this is the first that is yes where the rule of terminal k is not
 -- held over its box.

@@ -1,21 +1,15 @@
 -- When the results of a script are supported, and the first fault where they are not.
 use Rattle.std.specs.Prelude.{◌≡◌, ◌<◌, ℕ, List, Some, length, slice_get, IsTrue}
 use Rattle.line_model.specs.declared.line.Line.{Line}
-use Rattle.line_model.specs.declared.script.Script.{Script}
-use Rattle.line_model.specs.Choice.{Choice, IsInside}
 use Rattle.line_model.specs.Histories.{History, IsLineHistory, Meets}
+use Rattle.line_model.specs.{declared.script.Script.Script, Choice.Choice, Choice.IsInside}
 use Rattle.cert_checker.specs.Refutations.{IsRefutation, IsFirstOutside, IsMetInside}
 use Rattle.box_split.specs.declared.node.Node.{Node}
-use Rattle.split_checker.specs.Counts.{is_yes_tree}
-use Rattle.split_text.specs.Grammar.{SplitResult, tree, fails}
 use Rattle.split_checker.specs.declared.fault.ResultFault.{ResultFault}
-use Rattle.split_checker.specs.declared.fault.ResultFault.TheVariants.{
-  NotHeld,
-  Outside,
-  Passes,
-  Memory,
-}
-use Rattle.split_checker.specs.FirstLeaf.{IsTreeHeld, IsTreeNotHeld}
+use Rattle.split_checker.specs.declared.fault.ResultFault.TheVariants.{NotHeld, Outside, Passes}
+use Rattle.split_checker.specs.declared.fault.ResultFault.TheVariants.{Memory}
+use Rattle.split_checker.specs.{Counts.is_yes_tree, FirstLeaf.IsTreeHeld, FirstLeaf.IsTreeNotHeld}
+use Rattle.split_text.specs.Grammar.{SplitResult, tree, fails}
 
 -- ---- one result
 

@@ -1,18 +1,12 @@
 -- A walk through the nodes of a tree, as the code does it.
 use Rattle.std.specs.Prelude.{◌≡◌, ◌+◌, ◌++◌, ℕ, List, length}
-use Rattle.line_model.specs.declared.line.Line.{Line}
-use Rattle.line_model.specs.declared.script.Script.{Script}
-use Rattle.line_model.specs.Choice.{Box}
-use Rattle.box_split.specs.declared.node.Node.{Node}
-use Rattle.box_split.specs.Trees.{SplitTree, preorder}
-use Rattle.box_split.specs.Parts.{IsPart}
-use Rattle.line_model.specs.Choice.{declared_box}
-use Rattle.line_model.specs.HeldOver.{IsHeldOver}
+use Rattle.line_model.specs.{declared.line.Line.Line, declared.script.Script.Script, Choice.Box}
+use Rattle.line_model.specs.{Choice.declared_box, HeldOver.IsHeldOver}
 use Rattle.box_split.specs.Leaves.{leaves, Splits, AreSound}
+use Rattle.box_split.specs.{declared.node.Node.Node, Trees.SplitTree, Trees.preorder, Parts.IsPart}
 use Rattle.split_checker.specs.declared.fault.ResultFault.{ResultFault}
 use Rattle.split_checker.specs.declared.fault.ResultFault.TheVariants as wrong
-use Rattle.split_checker.specs.declared.tree.Passed.{Passed}
-use Rattle.split_checker.specs.FirstLeaf.{IsFirstNotHeld}
+use Rattle.split_checker.specs.{declared.tree.Passed.Passed, FirstLeaf.IsFirstNotHeld}
 
 -- the nodes begin with those of a tree that splits the box of which this is a part
 pub record BeginWithTree (part : Line) (nodes : List Node) : Type 0 where

@@ -3,8 +3,7 @@
 ghost use Rattle.std.specs.Prelude.{◌≡◌, ◌+◌, ◌≤◌, ◌∷◌, [], length, map};
 ghost use Rattle.std.specs.List.{All};
 ghost use Rattle.cert_checker.specs.Counts.{Adds};
-ghost use Rattle.split_text.specs.Grammar.{tree};
-ghost use Rattle.split_text.specs.Reading.{result_in, results_in};
+ghost use Rattle.split_text.specs.{Grammar.tree, Reading.result_in, Reading.results_in};
 ghost use Rattle.split_checker.specs.Counts.{is_yes_tree, verdict_of, CountResults};
 
 use box_split::Node;

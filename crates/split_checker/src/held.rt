@@ -2,11 +2,8 @@
 
 ghost use Rattle.std.specs.Prelude.{◌≡◌, ◌<◌, IfOk};
 ghost use Rattle.std.specs.Bool.{Decides};
-ghost use Rattle.line_model.specs.Choice.{declared_box};
-ghost use Rattle.line_model.specs.Fits.{Fits};
-ghost use Rattle.line_model.specs.HeldOver.{IsHeldOver};
-ghost use Rattle.line_model.specs.Parameters.{terminal_count};
-ghost use Rattle.line_model.specs.Rule.{Held, rule_of};
+ghost use Rattle.line_model.specs.{Choice.declared_box, Fits.Fits, HeldOver.IsHeldOver};
+ghost use Rattle.line_model.specs.{Parameters.terminal_count, Rule.Held, Rule.rule_of};
 ghost use Rattle.gate_net.specs.NetOf.{IsNetOf};
 ghost use Rattle.interval_wave.specs.PairWavesOf.{pair_history};
 

@@ -1,8 +1,7 @@
 //! The laws of acceptance.
 
 ghost use Rattle.std.specs.Prelude.{◌≡◌, ◌≢◌, ℕ, List};
-ghost use Rattle.line_model.specs.declared.line.Line.{Line};
-ghost use Rattle.line_model.specs.declared.script.Script.{Script};
+ghost use Rattle.line_model.specs.{declared.line.Line.Line, declared.script.Script.Script};
 ghost use Rattle.cert_checker.specs.declared.counts.Counts.{Counts};
 ghost use Rattle.split_checker.specs.declared.fault.SplitFault.{SplitFault};
 ghost use Rattle.split_checker.specs.Check.{IsAccepted, IsSplitFault};

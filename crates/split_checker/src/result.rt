@@ -1,8 +1,7 @@
 //! The check of what is said of a script.
 
 ghost use Rattle.std.specs.Prelude.{◌≡◌, ◌<◌, length, map, IfOk, MatchResult};
-ghost use Rattle.line_model.specs.Fits.{Fits};
-ghost use Rattle.line_model.specs.Parameters.{terminal_count, param_count};
+ghost use Rattle.line_model.specs.{Fits.Fits, Parameters.terminal_count, Parameters.param_count};
 ghost use Rattle.gate_net.specs.NetOf.{IsNetOf};
 ghost use Rattle.cert_checker.specs.Refutations.{IsRefutation};
 ghost use Rattle.split_text.specs.Grammar.{AreTree, IsSplitResult, HasOneEach};

@@ -1,16 +1,11 @@
 //! The check of a tree: a walk through its nodes, each leaf with its part of the box.
 
 ghost use Rattle.std.specs.Prelude.{◌≡◌, ◌≤◌, ◌<◌, ◌+◌, ◌++◌, ◌^◌, List, length, drop, MatchResult};
-ghost use Rattle.line_model.specs.declared.line.Line.{Line};
-ghost use Rattle.line_model.specs.Choice.{Box, declared_box};
-ghost use Rattle.line_model.specs.Fits.{Fits};
-ghost use Rattle.line_model.specs.HeldOver.{IsHeldOver};
-ghost use Rattle.line_model.specs.Parameters.{terminal_count};
+ghost use Rattle.line_model.specs.{declared.line.Line.Line, Choice.Box, Choice.declared_box};
+ghost use Rattle.line_model.specs.{Fits.Fits, HeldOver.IsHeldOver, Parameters.terminal_count};
 ghost use Rattle.gate_net.specs.NetOf.{IsNetOf};
 ghost use Rattle.box_split.specs.declared.node.Node.{Node};
-ghost use Rattle.box_split.specs.Leaves.{Splits};
-ghost use Rattle.box_split.specs.Parts.{IsPart};
-ghost use Rattle.box_split.specs.Trees.{SplitTree, preorder};
+ghost use Rattle.box_split.specs.{Leaves.Splits, Parts.IsPart, Trees.SplitTree, Trees.preorder};
 ghost use Rattle.split_checker.specs.Walks.{BeginWithTree, IsWalked, IsWalkFault, IsLeafFault};
 
 use crate::fault::ResultFault;

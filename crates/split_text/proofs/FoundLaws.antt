@@ -1,24 +1,18 @@
 -- What a search finds can be written.
 use Rattle.std.proofs.Common.{◌≤◌, ◌<◌, ◌^◌, ℕ, List, arith}
 use Rattle.std.proofs.lemmas.List.Elements.{All-from_get_or}
-use Rattle.line_model.specs.declared.line.Line.{Line}
 use Rattle.line_model.specs.declared.script.Script.{Script}
-use Rattle.line_model.specs.Parameters.{param_count}
-use Rattle.line_model.specs.Choice.{declared_box}
-use Rattle.timing_box.specs.Timing.{TimingValues}
-use Rattle.timing_box.specs.Inside.{IsTimingInside}
+use Rattle.line_model.specs.{declared.line.Line.Line, Parameters.param_count, Choice.declared_box}
+use Rattle.timing_box.specs.{Timing.TimingValues, Inside.IsTimingInside}
 use Rattle.certify_core.specs.Verdicts.{IsRefutation}
 use Rattle.certificate.specs.Grammar.{AreNumbers}
-use Rattle.box_split.specs.declared.node.Node.{Node}
-use Rattle.box_split.specs.declared.node.Outcome.{Outcome}
+use Rattle.box_split.specs.{declared.node.Node.Node, declared.node.Outcome.Outcome}
 use Rattle.box_split.specs.declared.node.Outcome.TheVariants as outcome
 use Rattle.box_split.specs.Trees.{SplitTree, height}
-use Rattle.box_split.specs.Leaves.{Splits, AreSound}
 use Rattle.box_split.specs.Search.{Tree, Fails, IsSearch}
-use Rattle.box_split.specs.Found.{IsFound, AreNodes}
-use Rattle.split_text.specs.Known.{Known}
+use Rattle.box_split.specs.{Leaves.Splits, Leaves.AreSound, Found.IsFound, Found.AreNodes}
 use Rattle.split_text.specs.Grammar.{AreTree, IsSplitResult}
-use Rattle.split_text.specs.Piece.{IsPrintable, written_as}
+use Rattle.split_text.specs.{Known.Known, Piece.IsPrintable, Piece.written_as}
 
 -- what is known of searches
 pub record Searches (line : Line) (script : Script) (k : ℕ) : Type 0 where

@@ -1,16 +1,14 @@
 -- Names stand in a line, and are short.
-use Rattle.std.proofs.Common.{◌≡◌, ◌≤◌, ◌+◌, ◌&&◌, ℕ, true, not, List, [], ◌∷◌, ◌++◌, length, map, get_or}
-use Rattle.std.proofs.Common.{zero, suc, refl, sym, ap, subst, arith, ne_eqb, length-append}
+use Rattle.std.proofs.Common.{◌≡◌, ◌≤◌, ◌+◌, ◌&&◌, ℕ, true, not, List, [], ◌∷◌, ◌++◌, length, map}
+use Rattle.std.proofs.Common.{get_or, zero, suc, refl, sym, ap, subst, arith, ne_eqb, length-append}
 use Rattle.std.proofs.Common.{inl, inr, Some, None}
-use Rattle.std.specs.Prelude.{nat_le, slice_get, Option}
-use Rattle.std.specs.List.{All, list_all}
 use Rattle.std.proofs.lemmas.Bool.{cases_eq}
 use Rattle.std.proofs.lemmas.Bool.Decides.{leb_tells}
 use Rattle.std.proofs.lemmas.List.Elements.{All-nil, All-cons}
-use Rattle.line_model.specs.declared.line.Line.{Line}
-use Rattle.line_model.specs.declared.line.Terminal.{Terminal}
-use Rattle.line_model.specs.declared.line.Channel.{Channel}
-use Rattle.line_model.specs.declared.line.Owner.{Owner}
+use Rattle.std.specs.Prelude.{nat_le, slice_get, Option}
+use Rattle.std.specs.List.{All, list_all}
+use Rattle.line_model.specs.{declared.line.Line.Line, declared.line.Terminal.Terminal}
+use Rattle.line_model.specs.{declared.line.Channel.Channel, declared.line.Owner.Owner}
 use Rattle.line_model.specs.declared.line.Owner.TheVariants as owner
 use Rattle.line_model.specs.declared.line.Setting.{Setting}
 use Rattle.line_model.specs.declared.line.Setting.TheVariants as setting
@@ -19,8 +17,7 @@ use Rattle.line_model.specs.ParamNames.{setting_text, name_at, channel_name, own
 use Rattle.line_model.specs.ParamNamesApart.{name_of_param}
 use Rattle.line_model.specs.Settings.{OwnedSetting, line_settings}
 use Rattle.text_lines.specs.Lines.{is_no_feed, is_one_line}
-use Rattle.text_lines.specs.LineLaws.{both_true}
-use Rattle.text_lines.specs.NamedLaws.{whole_append, whole_more}
+use Rattle.text_lines.specs.{LineLaws.both_true, NamedLaws.whole_append, NamedLaws.whole_more}
 use Rattle.certificate.specs.Grammar.{terminal_names}
 
 -- no byte is a line feed, and there are at most so many

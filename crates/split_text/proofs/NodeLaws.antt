@@ -1,25 +1,20 @@
 -- What a node's line can say, in a part of a box and in the box.
 use Rattle.std.proofs.Common.{◌≡◌, ◌≢◌, ◌<◌, ◌^◌, ◌∙◌, ℕ, List, false, Bool, sym, ap, decimal, refl}
 use Rattle.std.proofs.lemmas.Option.{same_Some}
-use Rattle.relay_base.specs.Number.{number_of}
-use Rattle.relay_base.specs.DecimalLaws.{number_of-decimal}
+use Rattle.relay_base.specs.{Number.number_of, DecimalLaws.number_of-decimal}
 use Rattle.text_lines.specs.NamedLaws.{one_text}
 use Rattle.std.specs.Prelude.{codes}
 use Rattle.std.specs.Bool.{Decides}
-use Rattle.line_model.specs.declared.line.Line.{Line}
-use Rattle.line_model.specs.Choice.{Box, declared_box}
+use Rattle.line_model.specs.{declared.line.Line.Line, Choice.Box, Choice.declared_box}
 use Rattle.box_split.specs.declared.node.Node.{Node}
 use Rattle.box_split.specs.declared.node.Node.TheVariants as node
 use Rattle.line_model.specs.ParamNamesApart.{name_of_param}
-use Rattle.box_split.specs.Leaves.{CanSplit}
-use Rattle.box_split.specs.Parts.{IsPart}
+use Rattle.line_model.specs.{Parameters.param_count, SetBounds.SameButParams}
+use Rattle.box_split.specs.{Leaves.CanSplit, Parts.IsPart}
 use Rattle.split_text.specs.Known.{Known}
 use Rattle.split_text.specs.Grammar.{Said, says_nothing, says_fails, says_node, MayStand, IsNode}
-use Rattle.split_text.specs.Grammar.{node_text, split_line, IsFixed, IsResult}
-use Rattle.split_text.specs.Grammar.{fails_text, deepest}
+use Rattle.split_text.specs.Grammar.{node_text, split_line, IsFixed, IsResult, fails_text, deepest}
 use Rattle.certificate.specs.Grammar.{AreNumbers}
-use Rattle.line_model.specs.Parameters.{param_count}
-use Rattle.line_model.specs.SetBounds.{SameButParams}
 
 pub may_in_box : Known → (line part : Line) (n : ℕ) (box : Box) (root : Node) → IsPart line box part
     → MayStand part n (declared_box part) root → MayStand line n box root

@@ -1,11 +1,10 @@
 -- Numbers are told by their text.
-use Rattle.std.proofs.Common.{◌≡◌, ◌<◌, ◌^◌, ℕ, true, List, [], ◌∷◌, drop, refl, ap, subst}
-use Rattle.std.proofs.Common.{arith, decimal}
-use Rattle.std.specs.List.{All, list_all}
+use Rattle.std.proofs.Common.{◌≡◌, ◌<◌, ◌^◌, ℕ, true, List, [], ◌∷◌, drop, refl, ap, subst, arith}
+use Rattle.std.proofs.Common.{decimal}
 use Rattle.std.proofs.lemmas.Fmt.{decimal_injective}
 use Rattle.std.proofs.lemmas.List.Elements.{All-head, All-tail}
-use Rattle.relay_base.specs.Number.{is_digit}
-use Rattle.relay_base.specs.DecimalLaws.{are_digits}
+use Rattle.std.specs.List.{All, list_all}
+use Rattle.relay_base.specs.{Number.is_digit, DecimalLaws.are_digits}
 use Rattle.certificate.specs.Grammar.{numbers_text}
 use Rattle.text_lines.specs.LineLaws.{both_true}
 use Rattle.split_text.proofs.Stretches.{Unmarked, BeginsMarked, fronts_tell}

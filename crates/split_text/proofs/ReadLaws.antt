@@ -1,12 +1,10 @@
 -- Lines of split trees, read one after another.
 use Rattle.std.proofs.Common.{◌≡◌, ℕ, ◌+◌, ◌<◌, List, ◌++◌, length, drop, get_or, subst, sym}
-use Rattle.std.specs.List.{flat_map}
 use Rattle.std.proofs.lemmas.List.{length-map}
-use Rattle.line_model.specs.declared.line.Line.{Line}
-use Rattle.line_model.specs.Parameters.{terminal_count}
-use Rattle.text_lines.specs.Lines.{Goes}
+use Rattle.std.specs.List.{flat_map}
+use Rattle.line_model.specs.{declared.line.Line.Line, Parameters.terminal_count}
 use Rattle.text_lines.specs.LineLaws.{leaves_later, goes_then}
-use Rattle.text_lines.specs.Reading.{left_as, next_places}
+use Rattle.text_lines.specs.{Lines.Goes, Reading.left_as, Reading.next_places}
 use Rattle.certificate.specs.Grammar.{terminal_names}
 use Rattle.split_text.specs.declared.fault.SplitTextFault.{SplitTextFault}
 use Rattle.split_text.specs.declared.fault.SplitTextFault.TheVariants as fault

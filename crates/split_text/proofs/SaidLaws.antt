@@ -1,13 +1,13 @@
 -- What all lines say tells the results.
 use Rattle.std.proofs.Common.{◌≡◌, ℕ, List, [], ◌∷◌, ◌++◌, length, map, drop, refl, sym, ◌∙◌, ap}
 use Rattle.std.proofs.Common.{arith, append_assoc}
-use Rattle.std.specs.List.{All, flat_map}
 use Rattle.std.proofs.lemmas.List.Elements.{All-head, All-tail}
+use Rattle.std.specs.List.{All, flat_map}
 use Rattle.line_model.specs.declared.line.Line.{Line}
 use Rattle.box_split.specs.declared.node.Node.{Node}
-use Rattle.split_text.specs.Grammar.{SplitResult, tree, fails, HasOneEach}
-use Rattle.split_text.specs.Grammar.{Said, says_nothing, says_fails, says_node, result_said, tree_said}
-use Rattle.split_text.specs.Grammar.{part_said, split_said}
+use Rattle.split_text.specs.Grammar.{SplitResult, tree, fails, HasOneEach, Said, says_nothing}
+use Rattle.split_text.specs.Grammar.{says_fails, says_node, result_said, tree_said, part_said}
+use Rattle.split_text.specs.Grammar.{split_said}
 use Rattle.split_text.proofs.Stretches.{Unmarked, BeginsMarked, fronts_tell}
 
 -- a line that says nothing begins the lines of a script or a terminal

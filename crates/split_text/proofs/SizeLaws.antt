@@ -1,27 +1,23 @@
 -- The text of split trees is short.
 use Rattle.std.proofs.Common.{◌≡◌, ◌≤◌, ◌<◌, ◌+◌, ◌*◌, ◌^◌, ℕ, zero, suc, refl, List, [], ◌∷◌, ◌++◌}
 use Rattle.std.proofs.Common.{length, ap, arith, decimal, length-append}
-use Rattle.std.specs.List.{All}
 use Rattle.std.proofs.Math.Nat.{le-max_left, le-max_right}
 use Rattle.std.proofs.lemmas.Fmt.{length-decimal-le}
 use Rattle.std.proofs.lemmas.List.Concat.{flat_map-append}
 use Rattle.std.proofs.lemmas.List.Elements.{All-head, All-tail}
-use Rattle.line_model.specs.declared.line.Line.{Line}
-use Rattle.line_model.specs.declared.script.Script.{Script}
-use Rattle.line_model.specs.Choice.{Box, declared_box}
-use Rattle.line_model.specs.Fits.{Fits}
-use Rattle.line_model.specs.ParamNamesApart.{name_of_param}
+use Rattle.std.specs.List.{All}
+use Rattle.line_model.specs.{declared.line.Line.Line, declared.script.Script.Script, Choice.Box}
+use Rattle.line_model.specs.{Choice.declared_box, Fits.Fits, ParamNamesApart.name_of_param}
 use Rattle.certificate.specs.Grammar.{numbers_text, script_text, end_text, terminal_names}
 use Rattle.certificate.specs.Text.{fed}
 use Rattle.box_split.specs.declared.node.Node.{Node}
 use Rattle.box_split.specs.declared.node.Node.TheVariants as node
 use Rattle.box_split.specs.Trees.{SplitTree, Yes, Undecided, Split, preorder, height}
 use Rattle.box_split.specs.Leaves.{Splits, lower_half, upper_half}
-use Rattle.split_text.specs.Known.{Known}
-use Rattle.split_text.specs.Grammar.{SplitResult, tree, fails, IsSplitResult, HasOneEach}
-use Rattle.split_text.specs.Grammar.{node_text, fails_text, tree_text, head_text, deepest}
-use Rattle.split_text.specs.Text.{nodes_text, result_text, trees_text, part_text, parts_text}
-use Rattle.split_text.specs.Text.{split_text}
+use Rattle.split_text.specs.Grammar.{SplitResult, tree, fails, IsSplitResult, HasOneEach, node_text}
+use Rattle.split_text.specs.Grammar.{fails_text, tree_text, head_text, deepest}
+use Rattle.split_text.specs.{Known.Known, Text.nodes_text, Text.result_text, Text.trees_text}
+use Rattle.split_text.specs.{Text.part_text, Text.parts_text, Text.split_text}
 use Rattle.split_text.proofs.NameLaws.{IsLineUpTo, name_stands, terminals_stand, param_stands}
 use Rattle.split_text.proofs.ReadLaws.{names_count}
 use Rattle.split_text.proofs.WrittenLaws.{IsLow, low_declared, low_lower, low_upper}

@@ -1,17 +1,15 @@
 -- A line says one thing, and what it says has one text.
-use Rattle.std.proofs.Common.{◌≡◌, ◌<◌, ◌^◌, ℕ, List, drop, get_or, refl, sym, ◌∙◌, ap}
-use Rattle.std.proofs.Common.{arith, decimal, inl, inr}
+use Rattle.std.proofs.Common.{◌≡◌, ◌<◌, ◌^◌, ℕ, List, drop, get_or, refl, sym, ◌∙◌, ap, arith}
+use Rattle.std.proofs.Common.{decimal, inl, inr}
 use Rattle.std.proofs.lemmas.Bool.{cases_order}
 use Rattle.line_model.specs.declared.line.Line.{Line}
-use Rattle.line_model.specs.Parameters.{param_count}
-use Rattle.line_model.specs.ParamNamesApart.{name_of_param}
-use Rattle.line_model.specs.Choice.{Box}
+use Rattle.line_model.specs.{Parameters.param_count, ParamNamesApart.name_of_param, Choice.Box}
 use Rattle.box_split.specs.declared.node.Node.{Node}
 use Rattle.box_split.specs.declared.node.Node.TheVariants as node
 use Rattle.split_text.specs.Known.{Known}
-use Rattle.split_text.specs.Grammar.{Place, fixed, result_over, node_over, Stands, deepest}
-use Rattle.split_text.specs.Grammar.{Said, says_nothing, says_fails, says_node, MayStand}
-use Rattle.split_text.specs.Grammar.{IsResult, node_text, fails_text, split_line}
+use Rattle.split_text.specs.Grammar.{Place, fixed, result_over, node_over, Stands, deepest, Said}
+use Rattle.split_text.specs.Grammar.{says_nothing, says_fails, says_node, MayStand, IsResult}
+use Rattle.split_text.specs.Grammar.{node_text, fails_text, split_line}
 use Rattle.split_text.proofs.NumberLaws.{IsSpace, no_space, one_number, one_row}
 use Rattle.split_text.proofs.Stretches.{backs_tell}
 

@@ -2,8 +2,7 @@
 use Rattle.std.proofs.Common.{◌≡◌, ◌-◌, ℕ, List, [], ◌∷◌, ◌++◌, map, refl, sym, ◌∙◌, ap, subst}
 use Rattle.std.proofs.Common.{arith, append_assoc}
 use Rattle.std.proofs.lemmas.List.{map-append}
-use Rattle.line_model.specs.declared.line.Line.{Line}
-use Rattle.line_model.specs.Choice.{Box}
+use Rattle.line_model.specs.{declared.line.Line.Line, Choice.Box}
 use Rattle.split_text.specs.declared.fault.SplitTextFault.{SplitTextFault}
 use Rattle.text_lines.specs.LineLaws.{goes_then}
 use Rattle.box_split.specs.declared.node.Node.{Node}

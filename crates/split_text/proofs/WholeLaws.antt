@@ -1,10 +1,9 @@
 -- What is printed in a line has no line feed.
 use Rattle.std.proofs.Common.{◌≡◌, ◌<◌, ◌^◌, ℕ, true, List, [], ◌∷◌, refl, arith, decimal}
+use Rattle.std.proofs.lemmas.List.Elements.{All-head, All-tail}
 use Rattle.std.specs.Prelude.{codes}
 use Rattle.std.specs.List.{All}
-use Rattle.std.proofs.lemmas.List.Elements.{All-head, All-tail}
-use Rattle.line_model.specs.declared.line.Line.{Line}
-use Rattle.line_model.specs.ParamNamesApart.{name_of_param}
+use Rattle.line_model.specs.{declared.line.Line.Line, ParamNamesApart.name_of_param}
 use Rattle.text_lines.specs.Lines.{is_one_line}
 use Rattle.text_lines.specs.NamedLaws.{whole_append, named_whole, decimal_whole}
 use Rattle.certificate.specs.Grammar.{numbers_text, spaced}

@@ -1,37 +1,32 @@
 -- The text of results is a text of split trees that says them.
-use Rattle.std.proofs.Common.{◌≡◌, ◌≤◌, ◌<◌, ◌-◌, ◌+◌, ◌^◌, ◌==◌, ℕ, Bool, true, false, cond, List, []}
-use Rattle.std.proofs.Common.{◌∷◌, ◌++◌, length, map, refl, sym, ◌∙◌, ap, subst, arith, append_assoc}
-use Rattle.std.specs.Prelude.{codes}
-use Rattle.std.specs.List.{All, flat_map}
+use Rattle.std.proofs.Common.{◌≡◌, ◌≤◌, ◌<◌, ◌-◌, ◌+◌, ◌^◌, ◌==◌, ℕ, Bool, true, false, cond, List}
+use Rattle.std.proofs.Common.{[], ◌∷◌, ◌++◌, length, map, refl, sym, ◌∙◌, ap, subst, arith}
+use Rattle.std.proofs.Common.{append_assoc}
 use Rattle.std.proofs.Math.Nat.{le-max_left, le-max_right}
 use Rattle.std.proofs.lemmas.List.{map-append}
 use Rattle.std.proofs.lemmas.List.Concat.{flat_map-append}
 use Rattle.std.proofs.lemmas.List.Elements.{All-head, All-tail}
+use Rattle.std.specs.Prelude.{codes}
+use Rattle.std.specs.List.{All, flat_map}
 use Rattle.history.specs.Rails.{Ends}
-use Rattle.line_model.specs.declared.line.Line.{Line}
-use Rattle.line_model.specs.declared.script.Script.{Script}
-use Rattle.line_model.specs.Parameters.{param_count}
-use Rattle.line_model.specs.Fits.{Fits}
-use Rattle.line_model.specs.Choice.{Box, declared_box}
+use Rattle.line_model.specs.{declared.line.Line.Line, declared.script.Script.Script}
+use Rattle.line_model.specs.{Parameters.param_count, Fits.Fits, Choice.Box, Choice.declared_box}
 use Rattle.certificate.specs.Grammar.{script_text, end_text, terminal_names, numbers_text}
 use Rattle.certificate.specs.Text.{fed}
 use Rattle.box_split.specs.declared.node.Node.{Node}
 use Rattle.box_split.specs.declared.node.Node.TheVariants as node
 use Rattle.box_split.specs.Trees.{SplitTree, Yes, Undecided, Split, preorder, height}
 use Rattle.box_split.specs.Leaves.{Splits, lower_half, upper_half}
-use Rattle.text_lines.specs.Lines.{Lines, is_one_line}
-use Rattle.text_lines.specs.NamedLaws.{whole_append}
-use Rattle.split_text.specs.Known.{Known}
+use Rattle.text_lines.specs.{Lines.Lines, Lines.is_one_line, NamedLaws.whole_append}
 use Rattle.split_text.specs.Grammar.{SplitResult, tree, fails, IsSplitResult, HasOneEach, deepest}
-use Rattle.split_text.specs.Grammar.{Place, fixed, result_over, node_over, Stands, opens}
-use Rattle.split_text.specs.Grammar.{Said, says_nothing, says_fails, says_node, node_text, fails_text}
-use Rattle.split_text.specs.Grammar.{head_text, tree_text, tree_places, part_places}
-use Rattle.split_text.specs.Grammar.{result_said, tree_said, part_said, IsSplitText}
-use Rattle.split_text.specs.Text.{nodes_text, result_text, trees_text, part_text, parts_text}
-use Rattle.split_text.specs.Text.{split_text}
+use Rattle.split_text.specs.Grammar.{Place, fixed, result_over, node_over, Stands, opens, Said}
+use Rattle.split_text.specs.Grammar.{says_nothing, says_fails, says_node, node_text, fails_text}
+use Rattle.split_text.specs.Grammar.{head_text, tree_text, tree_places, part_places, result_said}
+use Rattle.split_text.specs.Grammar.{tree_said, part_said, IsSplitText}
+use Rattle.split_text.specs.{Known.Known, Text.nodes_text, Text.result_text, Text.trees_text}
+use Rattle.split_text.specs.{Text.part_text, Text.parts_text, Text.split_text}
 use Rattle.split_text.proofs.NameLaws.{IsLineUpTo, name_stands, terminals_stand}
-use Rattle.split_text.proofs.ReadLaws.{names_count}
-use Rattle.split_text.proofs.WholeLaws.{numbers_whole, split_whole}
+use Rattle.split_text.proofs.{ReadLaws.names_count, WholeLaws.numbers_whole, WholeLaws.split_whole}
 
 -- lines of these places, and what is left
 abbrev Stood : Line → List Place → List Said → List ℕ → List Place → List ℕ → Type 0

@@ -2,13 +2,10 @@
 use Rattle.std.specs.Prelude.{◌≡◌, ◌≤◌, ◌<◌, ◌^◌, ◌++◌, ◌-◌, ℕ, List, [], ◌∷◌, length, map, codes}
 use Rattle.std.specs.Prelude.{decimal}
 use Rattle.std.specs.List.{All, flat_map}
-use Rattle.line_model.specs.declared.line.Line.{Line}
-use Rattle.line_model.specs.declared.script.Script.{Script}
 use Rattle.line_model.specs.Parameters.{terminal_count, param_count}
-use Rattle.line_model.specs.ParamNamesApart.{name_of_param}
-use Rattle.line_model.specs.Choice.{Box, declared_box}
-use Rattle.text_lines.specs.Lines.{Lines, LeavesAt}
-use Rattle.text_lines.specs.Named.{named}
+use Rattle.line_model.specs.{declared.line.Line.Line, declared.script.Script.Script}
+use Rattle.line_model.specs.{ParamNamesApart.name_of_param, Choice.Box, Choice.declared_box}
+use Rattle.text_lines.specs.{Lines.Lines, Lines.LeavesAt, Named.named}
 use Rattle.certificate.specs.Grammar.{AreNumbers, numbers_text, script_text, end_text}
 use Rattle.certificate.specs.Grammar.{terminal_names}
 use Rattle.box_split.specs.declared.node.Node.{Node}

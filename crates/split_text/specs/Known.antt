@@ -1,12 +1,9 @@
 -- The laws below that the proofs here rest on.
 use Rattle.std.specs.Prelude.{◌≡◌, ◌≤◌, ◌<◌, ◌↔◌, ℕ}
-use Rattle.line_model.specs.declared.line.Line.{Line}
 use Rattle.line_model.specs.Parameters.{param_count, declared_ends}
-use Rattle.line_model.specs.SetBounds.{SameButParams}
-use Rattle.line_model.specs.ParamNamesApart.{ParamNamesApart}
-use Rattle.line_model.specs.Choice.{Box, declared_box}
-use Rattle.box_split.specs.Leaves.{CanSplit}
-use Rattle.box_split.specs.Parts.{IsPart}
+use Rattle.line_model.specs.{declared.line.Line.Line, SetBounds.SameButParams}
+use Rattle.line_model.specs.{ParamNamesApart.ParamNamesApart, Choice.Box, Choice.declared_box}
+use Rattle.box_split.specs.{Leaves.CanSplit, Parts.IsPart}
 
 pub record Known : Type 0 where
   pub params : (line part : Line) → SameButParams line part → param_count part ≡ param_count line

@@ -1,19 +1,16 @@
 -- Split trees as they are read.
 use Rattle.std.specs.Prelude.{◌≡◌, ◌≤◌, ◌++◌, ℕ, List, ◌∷◌, map, Vec}
 use Rattle.std.specs.declared.alloc.Global.{Global}
-use Rattle.line_model.specs.declared.line.Line.{Line}
-use Rattle.line_model.specs.declared.script.Script.{Script}
-use Rattle.line_model.specs.Choice.{Box}
+use Rattle.line_model.specs.{declared.line.Line.Line, declared.script.Script.Script, Choice.Box}
 use Rattle.text_lines.specs.Lines.{Goes, LeavesAt}
 use Rattle.box_split.specs.declared.node.Node.{Node}
-use Rattle.box_split.specs.Trees.{SplitTree, preorder, height}
-use Rattle.box_split.specs.Leaves.{Splits}
+use Rattle.box_split.specs.{Trees.SplitTree, Trees.preorder, Trees.height, Leaves.Splits}
 use Rattle.split_text.specs.declared.claim.SplitClaim.{SplitClaim}
 use Rattle.split_text.specs.declared.claim.SplitClaim.TheVariants as claim
 use Rattle.split_text.specs.declared.fault.SplitTextFault.{SplitTextFault}
 use Rattle.split_text.specs.declared.fault.SplitTextFault.TheVariants as fault
-use Rattle.split_text.specs.Grammar.{SplitResult, tree, fails, Place, Said, says_node, Stands, opens}
-use Rattle.split_text.specs.Grammar.{below, split_places}
+use Rattle.split_text.specs.Grammar.{SplitResult, tree, fails, Place, Said, says_node, Stands}
+use Rattle.split_text.specs.Grammar.{opens, below, split_places}
 
 -- a result as the reader answers it, and those of a script
 abbrev pub result_in : SplitClaim → SplitResult

@@ -2,14 +2,13 @@
 use Rattle.std.specs.Prelude.{◌<◌, ◌++◌, ℕ, List, [], ◌∷◌}
 use Rattle.std.specs.List.{flat_map}
 use Rattle.line_model.specs.declared.line.Line.{Line}
-use Rattle.line_model.specs.declared.script.Script.{Script}
-use Rattle.line_model.specs.Parameters.{param_count}
+use Rattle.line_model.specs.{declared.script.Script.Script, Parameters.param_count}
 use Rattle.certificate.specs.Text.{fed}
 use Rattle.certificate.specs.Grammar.{script_text, end_text, terminal_names}
 use Rattle.box_split.specs.declared.node.Node.{Node}
 use Rattle.box_split.specs.declared.node.Node.TheVariants as node
-use Rattle.split_text.specs.Grammar.{SplitResult, tree, fails, head_text, tree_text}
-use Rattle.split_text.specs.Grammar.{node_text, fails_text}
+use Rattle.split_text.specs.Grammar.{SplitResult, tree, fails, head_text, tree_text, node_text}
+use Rattle.split_text.specs.Grammar.{fails_text}
 
 -- a split names a parameter of the line
 abbrev pub IsKnown : Line → Node → Type 0

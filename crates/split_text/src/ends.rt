@@ -1,8 +1,7 @@
 //! The first and the last line of the text of split trees.
 
 ghost use Rattle.std.specs.Prelude.{◌≡◌};
-ghost use Rattle.certificate.specs.Grammar.{end_text};
-ghost use Rattle.certificate.specs.Text.{fed};
+ghost use Rattle.certificate.specs.{Grammar.end_text, Text.fed};
 ghost use Rattle.split_text.specs.Grammar.{head_text};
 
 /// The first line, with its line feed.

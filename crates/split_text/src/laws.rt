@@ -2,12 +2,9 @@
 
 ghost use Rattle.std.specs.Prelude.{◌≡◌, ◌≤◌, ◌<◌, ◌+◌, ◌*◌, ◌++◌, [], ◌∷◌, ℕ, List, length};
 ghost use Rattle.std.specs.List.{All};
-ghost use Rattle.line_model.specs.declared.line.Line.{Line};
 ghost use Rattle.line_model.specs.declared.script.Script.{Script};
-ghost use Rattle.line_model.specs.Fits.{Fits};
-ghost use Rattle.line_model.specs.Parameters.{terminal_count};
-ghost use Rattle.box_split.specs.declared.node.Outcome.{Outcome};
-ghost use Rattle.box_split.specs.Found.{IsFound};
+ghost use Rattle.line_model.specs.{declared.line.Line.Line, Fits.Fits, Parameters.terminal_count};
+ghost use Rattle.box_split.specs.{declared.node.Outcome.Outcome, Found.IsFound};
 ghost use Rattle.split_text.specs.Grammar.{SplitResult, IsSplitResult, HasOneEach, IsSplitText};
 ghost use Rattle.split_text.specs.Grammar.{LeavesGrammar};
 ghost use Rattle.split_text.specs.Text.{part_text, parts_text, split_text};

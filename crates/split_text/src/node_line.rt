@@ -2,10 +2,8 @@
 
 ghost use Rattle.std.specs.Prelude.{◌≡◌, ◌≢◌, ◌<◌, ◌^◌, ℕ, decimal, MatchOption};
 ghost use Rattle.line_model.specs.Choice.{declared_box};
-ghost use Rattle.line_model.specs.Parameters.{param_count};
-ghost use Rattle.line_model.specs.ParamNamesApart.{name_of_param};
-ghost use Rattle.box_split.specs.Leaves.{CanSplit};
-ghost use Rattle.box_split.specs.declared.node.Node.{Node};
+ghost use Rattle.line_model.specs.{Parameters.param_count, ParamNamesApart.name_of_param};
+ghost use Rattle.box_split.specs.{Leaves.CanSplit, declared.node.Node.Node};
 ghost use Rattle.split_text.specs.Grammar.{MayStand, node_text, split_line};
 
 use box_split::{Node, can_split, middles_are_below_the_greatest_interval};

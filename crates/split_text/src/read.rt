@@ -4,9 +4,8 @@ ghost use Rattle.std.specs.Prelude.{◌≡◌, ◌≤◌, ◌≢◌, ◌++◌, [
 ghost use Rattle.std.specs.Prelude.{IfOk, MatchOption, MatchResult};
 ghost use Rattle.std.specs.Bool.{Decides};
 ghost use Rattle.std.specs.List.{All, flat_map};
-ghost use Rattle.line_model.specs.declared.line.Line.{Line};
 ghost use Rattle.line_model.specs.Parameters.{terminal_count, param_count};
-ghost use Rattle.line_model.specs.Choice.{declared_box};
+ghost use Rattle.line_model.specs.{declared.line.Line.Line, Choice.declared_box};
 ghost use Rattle.certificate.specs.Grammar.{AreNumbers, terminal_names};
 ghost use Rattle.split_text.specs.Grammar.{Place, fixed, result_over, says_nothing, fails_text};
 ghost use Rattle.split_text.specs.Grammar.{result_said, tree_said, part_said, tree_places};

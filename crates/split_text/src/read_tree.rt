@@ -1,8 +1,7 @@
 //! The lines of a tree, read one after another.
 
 ghost use Rattle.std.specs.Prelude.{◌≡◌, ◌++◌, [], ◌∷◌, List, MatchResult};
-ghost use Rattle.line_model.specs.SetBounds.{SameButParams};
-ghost use Rattle.line_model.specs.Choice.{Box, declared_box};
+ghost use Rattle.line_model.specs.{SetBounds.SameButParams, Choice.Box, Choice.declared_box};
 ghost use Rattle.text_lines.specs.Lines.{Goes};
 ghost use Rattle.box_split.specs.Parts.{IsPart};
 ghost use Rattle.split_text.specs.Grammar.{Place, node_over, says_node, MayStand, below, Stands};

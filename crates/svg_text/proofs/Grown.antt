@@ -1,21 +1,12 @@
 -- Content that grows piece by piece.
 use Rattle.std.proofs.Common.{◌≡◌, ◌++◌, ℕ, List, [], sym, subst, append_assoc}
 use Rattle.std.proofs.Math.Logic.{∥∥₁_elim, ∥∥₁_map}
-use Rattle.std.specs.Prelude.{IsTrue}
 use Rattle.std.proofs.lemmas.List.{append-nil}
+use Rattle.std.specs.Prelude.{IsTrue}
 use Rattle.svg_text.specs.declared.tag.Tag.{Tag}
-use Rattle.svg_text.specs.declared.attribute.Key.{Key}
-use Rattle.svg_text.specs.Escape.{escaped}
-use Rattle.svg_text.specs.Attributes.{keys_differ}
-use Rattle.svg_text.specs.Content.{
-  IsContent,
-  nothing,
-  words,
-  leaf,
-  element,
-  leaf_text,
-  element_text,
-}
+use Rattle.svg_text.specs.Content.{IsContent, nothing, words, leaf, element, leaf_text}
+use Rattle.svg_text.specs.Content.{element_text}
+use Rattle.svg_text.specs.{declared.attribute.Key.Key, Escape.escaped, Attributes.keys_differ}
 
 -- content behind content
 pub IsContent-append : {first second : List ℕ} → IsContent first → IsContent second

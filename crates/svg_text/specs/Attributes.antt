@@ -1,29 +1,12 @@
 -- The attributes of an element, and their text.
-use Rattle.std.specs.Prelude.{
-  ◌++◌,
-  ◌/◌,
-  ◌%◌,
-  ◌==◌,
-  ◌&&◌,
-  ℕ,
-  Bool,
-  true,
-  not,
-  List,
-  [],
-  ◌∷◌,
-  map,
-  codes,
-  decimal,
-}
+use Rattle.std.specs.Prelude.{◌++◌, ◌/◌, ◌%◌, ◌==◌, ◌&&◌, ℕ, Bool, true, not, List, [], ◌∷◌, map}
+use Rattle.std.specs.Prelude.{codes, decimal}
 use Rattle.std.specs.List.{flat_map, list_any}
 use Rattle.svg_text.specs.declared.attribute.Key.{Key}
 use Rattle.svg_text.specs.declared.attribute.Key.TheVariants as key
 use Rattle.svg_text.specs.declared.attribute.Value.{Value}
 use Rattle.svg_text.specs.declared.attribute.Value.TheVariants.{Words, Tenths}
-use Rattle.svg_text.specs.declared.attribute.Attribute.{Attribute}
-use Rattle.svg_text.specs.Names.{key_name}
-use Rattle.svg_text.specs.Escape.{escaped}
+use Rattle.svg_text.specs.{declared.attribute.Attribute.Attribute, Names.key_name, Escape.escaped}
 
 -- the words that an attribute is set to
 abbrev pub words_of : Value → List ℕ

@@ -1,11 +1,8 @@
 -- Well-formed content (XML 1.0, without references to entities, comments and the like): text and
 -- elements, each closed by its own name.
 use Rattle.std.specs.Prelude.{◌++◌, ℕ, List, [], codes, IsTrue}
-use Rattle.svg_text.specs.declared.tag.Tag.{Tag}
-use Rattle.svg_text.specs.declared.attribute.Key.{Key}
-use Rattle.svg_text.specs.Names.{tag_name}
-use Rattle.svg_text.specs.Escape.{escaped}
-use Rattle.svg_text.specs.Attributes.{attributes_text, keys_differ}
+use Rattle.svg_text.specs.{declared.tag.Tag.Tag, declared.attribute.Key.Key, Names.tag_name}
+use Rattle.svg_text.specs.{Escape.escaped, Attributes.attributes_text, Attributes.keys_differ}
 
 -- the start of an element, up to what closes it
 abbrev pub start_text : Tag → List (Key × List ℕ) → List ℕ

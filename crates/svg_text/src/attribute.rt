@@ -1,9 +1,8 @@
 // The attributes of an element.
 
 ghost use Rattle.std.specs.Prelude.{◌≡◌, ◌++◌, OnOk, IfOk};
-ghost use Rattle.svg_text.specs.Names.{key_name};
 ghost use Rattle.svg_text.specs.Attributes.{words_of, attribute_text, attributes_text, said};
-ghost use Rattle.svg_text.specs.Escape.{escaped};
+ghost use Rattle.svg_text.specs.{Names.key_name, Escape.escaped};
 
 use crate::escape::put_escaped;
 use itoa::Buffer;

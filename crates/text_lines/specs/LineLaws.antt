@@ -1,11 +1,11 @@
 -- Laws of lines of bytes, and of lines read one after another where they are expected.
-use Rattle.std.specs.Prelude.{◌≡◌, ◌&&◌, ℕ, ◌+◌, Bool, true, false, cond}
-use Rattle.std.specs.Prelude.{List, [], ◌∷◌, ◌++◌, length, take, drop, refl}
+use Rattle.std.specs.Prelude.{◌≡◌, ◌&&◌, ℕ, ◌+◌, Bool, true, false, cond, List, [], ◌∷◌, ◌++◌}
+use Rattle.std.specs.Prelude.{length, take, drop, refl}
+use Rattle.std.specs.List.{position_or_len, prefix_len}
 use Rattle.std.proofs.Common.{sym, ◌∙◌, ap, subst, arith, length-append}
 use Rattle.std.proofs.lemmas.List.{take_at, drop_at}
-use Rattle.std.specs.List.{position_or_len, prefix_len}
-use Rattle.text_lines.specs.Lines.{is_feed, is_no_feed, is_one_line, BeginsWith, Lines}
-use Rattle.text_lines.specs.Lines.{CannotGoOn, LeavesAt, Goes}
+use Rattle.text_lines.specs.Lines.{is_feed, is_no_feed, is_one_line, BeginsWith, Lines, CannotGoOn}
+use Rattle.text_lines.specs.Lines.{LeavesAt, Goes}
 
 pub both_true : (a b : Bool) → (a && b) ≡ true → (a ≡ true) × (b ≡ true)
 both_true true b h = (refl, h)

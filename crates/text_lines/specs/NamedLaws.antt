@@ -1,12 +1,11 @@
 -- Laws of starts of lines, and of texts with no line feed.
-use Rattle.std.specs.Prelude.{◌≡◌, ◌&&◌, ◌<◌, ◌+◌, ◌%◌, ◌^◌, ℕ, Bool, true, not, List, [], ◌∷◌, ◌++◌}
-use Rattle.std.specs.Prelude.{drop, decimal}
+use Rattle.std.specs.Prelude.{◌≡◌, ◌&&◌, ◌<◌, ◌+◌, ◌%◌, ◌^◌, ℕ, Bool, true, not, List, [], ◌∷◌}
+use Rattle.std.specs.Prelude.{◌++◌, drop, decimal}
 use Rattle.std.proofs.Common.{sym, ◌∙◌, ap, arith, ne_eqb}
 use Rattle.std.proofs.lemmas.Fmt.{decimal_by_steps}
 use Rattle.std.proofs.lemmas.List.{append_cancel_left}
 use Rattle.std.proofs.lemmas.List.Folds.{list_all-append}
-use Rattle.text_lines.specs.Lines.{is_no_feed, is_one_line}
-use Rattle.text_lines.specs.Named.{named}
+use Rattle.text_lines.specs.{Lines.is_no_feed, Lines.is_one_line, Named.named}
 
 -- ---- starts
 

@@ -1,6 +1,5 @@
 -- A text of lines can be read in one way alone, as far as it can be read.
-use Rattle.std.proofs.Common.{◌≡◌, ℕ, ◌+◌, List, [], ◌∷◌, ◌++◌, length, refl, sym, ◌∙◌, ap}
-use Rattle.std.proofs.Common.{subst}
+use Rattle.std.proofs.Common.{◌≡◌, ℕ, ◌+◌, List, [], ◌∷◌, ◌++◌, length, refl, sym, ◌∙◌, ap, subst}
 use Rattle.text_lines.specs.Lines.{BeginsWith, Lines, CannotGoOn, LeavesAt}
 use Rattle.text_lines.specs.LineLaws.{one_line, one_rest}
 

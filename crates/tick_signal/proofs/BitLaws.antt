@@ -1,12 +1,10 @@
 -- The bits of lanes.
 use Rattle.std.proofs.Common.{◌≡◌, ℕ, zero, suc, ◌-◌, ◌<◌, ◌^◌, true, false, not, ◌&&◌, ◌||◌, eqb}
 use Rattle.std.proofs.Common.{min, max, bit_and, bit_or, refl, ◌∙◌, ap, arith, w64, List, [], ◌∷◌}
-use Rattle.std.proofs.Common.{length, get_or}
-use Rattle.std.proofs.Common.{Bool, ◌≢◌}
+use Rattle.std.proofs.Common.{length, get_or, Bool, ◌≢◌}
 use Rattle.std.proofs.Math.Pow.{pow-lt}
-use Rattle.std.proofs.lemmas.Nat.Bits.{bit_at-pow_same, bit_at-pow_other}
-use Rattle.std.proofs.lemmas.Nat.Bits.{bit_at_and, bit_at_or, bit_at_not, bit_at-lt, bit_at_ones}
-use Rattle.std.proofs.lemmas.Nat.Bits.{bit_at-zero}
+use Rattle.std.proofs.lemmas.Nat.Bits.{bit_at-pow_same, bit_at-pow_other, bit_at_and, bit_at_or}
+use Rattle.std.proofs.lemmas.Nat.Bits.{bit_at_not, bit_at-lt, bit_at_ones, bit_at-zero}
 use Rattle.std.specs.Int.{bit_at}
 use Rattle.history.specs.Rails.{both, rails_and, rails_or, rails_not}
 use Rattle.tick_signal.specs.Bits.{bit_on, bit_rails}

@@ -7,8 +7,8 @@
 #![tactic(auto)]
 
 ghost use Rattle.std.specs.Prelude.{◌≡◌, ℕ, ◌<◌, ◌≤◌};
-ghost use Rattle.history.specs.Rails.{Rails, Ends, IsSound, single, both};
-ghost use Rattle.history.specs.Rails.{rails_not, rails_and, rails_or};
+ghost use Rattle.history.specs.Rails.{Rails, Ends, IsSound, single, both, rails_not, rails_and};
+ghost use Rattle.history.specs.Rails.{rails_or};
 ghost use Rattle.tick_signal.specs.Spans.{InOrderInEachLane};
 
 mod lanes;

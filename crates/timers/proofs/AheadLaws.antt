@@ -2,13 +2,11 @@
 use Rattle.std.proofs.Common.{◌≡◌, ℕ, zero, suc, ◌+◌, ◌-◌, ◌<◌, ◌≤◌, Bool, true, false, List, []}
 use Rattle.std.proofs.Common.{◌∷◌, ◌++◌, length, length-append, max, replicate, refl, sym, ◌∙◌, ap}
 use Rattle.std.proofs.Common.{subst, arith, inl, inr, ⊎_elim, ◌⊎◌, append_assoc}
-use Rattle.std.specs.Prelude.{nat_lt, if◌then◌else◌}
 use Rattle.std.proofs.lemmas.Bool.{cases_lt, false≢true}
 use Rattle.std.proofs.lemmas.Bool.Decides.{nat_tests}
 use Rattle.std.proofs.lemmas.List.{length-replicate, replicate_more}
-use Rattle.history.specs.Elements.{timed}
-use Rattle.history.specs.Recorded.{at}
-use Rattle.history.specs.Laws.{HistoryLaws}
+use Rattle.std.specs.Prelude.{nat_lt, if◌then◌else◌}
+use Rattle.history.specs.{Elements.timed, Recorded.at, Laws.HistoryLaws}
 use Rattle.timers.specs.Cells.{CellNumbers, AreBounded, RailStandsFor, fresh_numbers, numbers_after}
 use Rattle.timers.specs.Counts.{Counts, run_after, left_after, counts_after, counts, wait_of}
 use Rattle.timers.specs.Counts.{steady_of}

@@ -2,13 +2,12 @@
 use Rattle.std.proofs.Common.{◌≡◌, ℕ, zero, suc, ◌+◌, ◌-◌, ◌<◌, ◌≤◌, Bool, true, false, cond, List}
 use Rattle.std.proofs.Common.{[], ◌∷◌, ◌++◌, length, length-append, min, sym, ◌∙◌, ap, subst, arith}
 use Rattle.std.proofs.Common.{⊎_elim}
-use Rattle.std.specs.Prelude.{nat_lt}
 use Rattle.std.proofs.lemmas.Bool.{ltb-true, ltb-false, cases_lt, cases_Bool, false≢true}
 use Rattle.std.proofs.lemmas.Bool.Decides.{Decides-ltb, same_from_decides, Decides-like}
 use Rattle.std.proofs.lemmas.List.Sums.{fold-append}
+use Rattle.std.specs.Prelude.{nat_lt}
 use Rattle.history.specs.Elements.{Holds, IsTimed, timed}
-use Rattle.history.specs.Recorded.{at, first_ticks}
-use Rattle.history.specs.Laws.{HistoryLaws}
+use Rattle.history.specs.{Recorded.at, Recorded.first_ticks, Laws.HistoryLaws}
 use Rattle.timers.specs.Cells.{CellNumbers, RailStandsFor}
 use Rattle.timers.specs.Counts.{Counts, none, run_after, left_after, counts_after, counts}
 

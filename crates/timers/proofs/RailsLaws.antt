@@ -2,14 +2,12 @@
 use Rattle.std.proofs.Common.{◌≡◌, ℕ, zero, suc, ◌+◌, ◌<◌, ◌≤◌, ◌⊎◌, ⊎_elim, inl, inr, min}
 use Rattle.std.proofs.Common.{replicate, Bool, List, [], ◌∷◌, ◌++◌, length, map, refl, sym, ◌∙◌, ap}
 use Rattle.std.proofs.Common.{subst, arith}
-use Rattle.std.specs.Prelude.{false, nat_lt}
 use Rattle.std.proofs.lemmas.Bool.{cases_lt}
 use Rattle.std.proofs.lemmas.List.{map-append, length-map}
 use Rattle.std.proofs.Math.ListN.{get_or-map}
+use Rattle.std.specs.Prelude.{false, nat_lt}
 use Rattle.history.specs.Rails.{Rails, Ends, IsSound, both, must_of, may_of, rails_timed, rails_at}
-use Rattle.history.specs.Elements.{timed}
-use Rattle.history.specs.Recorded.{at}
-use Rattle.history.specs.Laws.{HistoryLaws}
+use Rattle.history.specs.{Elements.timed, Recorded.at, Laws.HistoryLaws}
 use Rattle.timers.specs.Counts.{steady_of}
 use Rattle.timers.specs.Cells.{CellNumbers, AreBounded, AreSound, RailStandsFor, RailsStandFor}
 use Rattle.timers.specs.Cells.{fresh_numbers, numbers_after}

@@ -2,11 +2,11 @@
 use Rattle.std.proofs.Common.{◌≡◌, ℕ, zero, suc, ◌+◌, ◌<◌, ◌≤◌, Bool, true, false, ◌&&◌, ◌||◌, ◌⊎◌}
 use Rattle.std.proofs.Common.{List, [], ◌∷◌, ◌++◌, length, replicate, refl, sym, ◌∙◌, ap, subst}
 use Rattle.std.proofs.Common.{arith, inl, inr, ⊎_elim, length-append, append_assoc}
-use Rattle.std.specs.Prelude.{IsTrue, Decides}
 use Rattle.std.proofs.lemmas.Bool.{cases_lt}
 use Rattle.std.proofs.lemmas.Bool.Decides.{Decides-like, Decides-and, Decides-or, same_from_decides}
 use Rattle.std.proofs.lemmas.List.{replicate_more, get_or_append_left}
 use Rattle.std.proofs.Math.Seq.{get_or-append_seam}
+use Rattle.std.specs.Prelude.{IsTrue, Decides}
 use Rattle.history.specs.Elements.{sealed, IsSealed}
 use Rattle.history.specs.Rails.{Rails, both, rails_or, rails_and, rails_sealed, rails_at}
 use Rattle.history.specs.Laws.{HistoryLaws}

@@ -4,12 +4,10 @@ use Rattle.std.proofs.Common.{length, replicate, sym, ◌∙◌, ap, arith, appe
 use Rattle.std.proofs.lemmas.Bool.{cases_lt}
 use Rattle.std.proofs.lemmas.Bool.Decides.{Decides-like, same_from_decides}
 use Rattle.std.proofs.lemmas.List.{append-nil, replicate_more}
-use Rattle.history.specs.Elements.{sealed, IsSealed}
-use Rattle.history.specs.Recorded.{first_ticks}
 use Rattle.history.specs.Rails.{Rails, Ends, rails_at, rails_timed, rails_sealed, must_of, may_of}
 use Rattle.history.specs.Laws.{HistoryLaws}
-use Rattle.timers.specs.Ahead.{next_rails}
-use Rattle.timers.specs.Stretches.{StaysAt, ElementsInAStretch}
+use Rattle.history.specs.{Elements.sealed, Elements.IsSealed, Recorded.first_ticks}
+use Rattle.timers.specs.{Ahead.next_rails, Stretches.StaysAt, Stretches.ElementsInAStretch}
 
 -- the ticks of a stretch more
 ticks_throughout : (u : ℕ → Rails) (x : Rails) (n m : ℕ) → StaysAt u x n m

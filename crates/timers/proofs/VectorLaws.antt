@@ -5,8 +5,7 @@ use Rattle.std.proofs.lemmas.Bool.{cases_lt, lt-ltb, le-ltb}
 use Rattle.std.proofs.lemmas.Bool.Decides.{nat_tests}
 use Rattle.std.proofs.Math.Nat.{max-le, le-max_left, le-max_right}
 use Rattle.std.specs.Prelude.{if◌then◌else◌, nat_lt, max}
-use Rattle.timers.specs.Counts.{steady_of}
-use Rattle.timers.specs.Cells.{AreBounded, numbers_of, fresh_numbers}
+use Rattle.timers.specs.{Counts.steady_of, Cells.AreBounded, Cells.numbers_of, Cells.fresh_numbers}
 
 -- a truth value as a number, and back
 pub bit_back : (b : Bool) → eqb (cond b 1 0) 1 ≡ b

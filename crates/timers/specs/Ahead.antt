@@ -1,8 +1,7 @@
 -- For how long the answers stay the same.
 use Rattle.std.specs.Prelude.{◌≡◌, ◌≢◌, ℕ, suc, ◌+◌, ◌<◌, ◌≤◌, Bool, List, ◌++◌, length, replicate}
 use Rattle.history.specs.Elements.{timed}
-use Rattle.history.specs.Recorded.{at}
-use Rattle.history.specs.Rails.{Rails, Ends, rails_timed, rails_at}
+use Rattle.history.specs.{Recorded.at, Rails.Rails, Rails.Ends, Rails.rails_timed, Rails.rails_at}
 
 -- the answer at the k-th of the next ticks, counted from 0, all with this input
 abbrev pub next_rails : Ends → Ends → List Rails → Rails → ℕ → Rails

@@ -1,7 +1,6 @@
 -- Vectors of 64 numbers, lane by lane.
 use Rattle.std.specs.Prelude.{◌≡◌, ℕ, ◌<◌, Bool, List, slice_index}
-use Rattle.timers.specs.Counts.{steady_of}
-use Rattle.timers.specs.Cells.{CellNumbers, AreBounded, numbers_of}
+use Rattle.timers.specs.{Counts.steady_of, Cells.CellNumbers, Cells.AreBounded, Cells.numbers_of}
 
 -- lane i of v holds f i
 abbrev pub HasLanes : List ℕ → (ℕ → ℕ) → Type 0

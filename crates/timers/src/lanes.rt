@@ -4,8 +4,8 @@
 ghost use Rattle.std.specs.Prelude.{◌≡◌, ℕ, ◌<◌, ◌≤◌, nat_lt, slice_index};
 ghost use Rattle.tick_signal.specs.Bits.{bit_on};
 ghost use Rattle.timers.specs.Cells.{fresh_numbers, numbers_after};
-ghost use Rattle.timers.specs.Vectors.{CellVectors, AreBoundedInEachLane};
-ghost use Rattle.timers.specs.Vectors.{vectors_of, numbers_in, steady_in};
+ghost use Rattle.timers.specs.Vectors.{CellVectors, AreBoundedInEachLane, vectors_of, numbers_in};
+ghost use Rattle.timers.specs.Vectors.{steady_in};
 
 use crate::Timed;
 use crate::vectors::{lasting, least_of, left_over, runs_after, splat, steady_for, ticks_of};
@@ -87,8 +87,7 @@ impl LaneCells {
 impl Timed for Lanes64 {
     ghost use Rattle.std.specs.Prelude.{slice_index};
     ghost use Rattle.history.specs.Rails.{single};
-    ghost use Rattle.timers.specs.Cells.{RailsStandFor};
-    ghost use Rattle.timers.specs.Vectors.{numbers_in};
+    ghost use Rattle.timers.specs.{Cells.RailsStandFor, Vectors.numbers_in};
 
     // Both rails of a lane are the same, and have the same numbers.
     type Cells = LaneCells;

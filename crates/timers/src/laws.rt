@@ -3,8 +3,7 @@
 
 ghost use Rattle.std.specs.Prelude.{◌≡◌, List, [], ◌∷◌, ◌++◌, length};
 ghost use Rattle.history.specs.Rails.{Rails, rails_sealed, rails_at};
-ghost use Rattle.timers.specs.Seals.{SealStandsFor};
-ghost use Rattle.timers.specs.Stretches.{ElementsInAStretch};
+ghost use Rattle.timers.specs.{Seals.SealStandsFor, Stretches.ElementsInAStretch};
 
 use history::laws::history_laws;
 

@@ -2,9 +2,8 @@
 #![tactic(auto)]
 
 ghost use Rattle.std.specs.Prelude.{◌≡◌, ◌≤◌, nat_lt};
-ghost use Rattle.timers.specs.Counts.{steady_of};
-ghost use Rattle.timers.specs.Cells.{CellNumbers, AreBounded, numbers_of, fresh_numbers};
-ghost use Rattle.timers.specs.Cells.{numbers_after};
+ghost use Rattle.timers.specs.{Counts.steady_of, Cells.CellNumbers, Cells.AreBounded};
+ghost use Rattle.timers.specs.{Cells.numbers_of, Cells.fresh_numbers, Cells.numbers_after};
 
 use std::marker::Model;
 

@@ -1,36 +1,15 @@
 -- Each candidate is inside.
-use Rattle.std.proofs.Common.{
-  ℕ,
-  ◌+◌,
-  ◌-◌,
-  ◌<◌,
-  ◌==◌,
-  Bool,
-  true,
-  false,
-  cond,
-  length,
-  ◌∙◌,
-  sym,
-  subst,
-  arith,
-}
-use Rattle.std.specs.Prelude.{nat_le}
-use Rattle.std.specs.List.{range_with_len}
+use Rattle.std.proofs.Common.{ℕ, ◌+◌, ◌-◌, ◌<◌, ◌==◌, Bool, true, false, cond, length, ◌∙◌, sym}
+use Rattle.std.proofs.Common.{subst, arith}
 use Rattle.std.proofs.lemmas.List.{length-map}
 use Rattle.std.proofs.lemmas.List.FromFn.{get_or-map-range_with_len, length-range_with_len}
 use Rattle.std.proofs.lemmas.List.Elements.{All-nil}
-use Rattle.line_model.specs.declared.line.Line.{Line}
-use Rattle.line_model.specs.Choice.{IsIn}
-use Rattle.line_model.specs.Intervals.{leasts}
+use Rattle.std.specs.Prelude.{nat_le}
+use Rattle.std.specs.List.{range_with_len}
 use Rattle.line_model.specs.Parameters.{param_count, declared_ends}
+use Rattle.line_model.specs.{declared.line.Line.Line, Choice.IsIn, Intervals.leasts}
 use Rattle.timing_box.specs.Inside.{IsStepInside, IsTimingInside}
-use Rattle.timing_box.specs.Candidates.{
-  free_count,
-  is_free_number,
-  candidate_value,
-  candidate,
-}
+use Rattle.timing_box.specs.Candidates.{free_count, is_free_number, candidate_value, candidate}
 
 either : (P : ℕ → Type 0) (b : Bool) (x y : ℕ) → P x → P y → P (cond b x y)
 either P true x y p q = p

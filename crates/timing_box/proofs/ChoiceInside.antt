@@ -1,32 +1,16 @@
 -- The choice of a timing inside is inside.
-use Rattle.std.proofs.Common.{
-  ◌&&◌,
-  ◌==◌,
-  ℕ,
-  Bool,
-  cond,
-  List,
-  [],
-  ◌∷◌,
-  get_or,
-  subst,
-  arith,
-  inl,
-  inr,
-}
-use Rattle.std.specs.Prelude.{nat_le}
-use Rattle.std.specs.List.{All}
+use Rattle.std.proofs.Common.{◌&&◌, ◌==◌, ℕ, Bool, cond, List, [], ◌∷◌, get_or, subst, arith, inl}
+use Rattle.std.proofs.Common.{inr}
 use Rattle.std.proofs.lemmas.Bool.{cases_Bool, cases_lt, eqb-true, and_parts}
 use Rattle.std.proofs.lemmas.List.{length-map, get_or_past}
 use Rattle.std.proofs.lemmas.List.Elements.{All-head, All-tail}
-use Rattle.line_model.specs.declared.line.Line.{Line}
+use Rattle.std.specs.Prelude.{nat_le}
+use Rattle.std.specs.List.{All}
 use Rattle.line_model.specs.Choice.{IsIn, IsInside, declared_box}
-use Rattle.line_model.specs.Intervals.{leasts, greatests}
 use Rattle.line_model.specs.Parameters.{param_count, delay_param, declared_ends}
-use Rattle.timing_box.specs.declared.step.Step.{Step}
-use Rattle.timing_box.specs.Inside.{IsStepInside, IsTimingInside}
-use Rattle.timing_box.specs.Timing.{TimingValues, number_at}
-use Rattle.timing_box.specs.Choice.{timing_choice}
+use Rattle.line_model.specs.{declared.line.Line.Line, Intervals.leasts, Intervals.greatests}
+use Rattle.timing_box.specs.{declared.step.Step.Step, Inside.IsStepInside, Inside.IsTimingInside}
+use Rattle.timing_box.specs.{Timing.TimingValues, Timing.number_at, Choice.timing_choice}
 
 -- whether the step has a say in the parameter's number at t
 abbrev says : Step ℕ → ℕ → ℕ → Bool

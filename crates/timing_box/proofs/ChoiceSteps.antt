@@ -1,58 +1,23 @@
 -- Each choice inside is a timing: its numbers, and a step for each delay and tick.
-use Rattle.std.proofs.Common.{
-  ◌≡◌,
-  ◌==◌,
-  ◌+◌,
-  ◌-◌,
-  ℕ,
-  zero,
-  suc,
-  ◌<◌,
-  ◌≤◌,
-  true,
-  List,
-  [],
-  ◌∷◌,
-  ◌++◌,
-  get_or,
-  map,
-  refl,
-  sym,
-  ◌∙◌,
-  subst,
-  arith,
-  ⊎_elim,
-  eq-eqb,
-}
-use Rattle.std.specs.Prelude.{IsTrue}
-use Rattle.std.specs.List.{All, Contains, range_with_len}
+use Rattle.std.proofs.Common.{◌≡◌, ◌==◌, ◌+◌, ◌-◌, ℕ, zero, suc, ◌<◌, ◌≤◌, true, List, [], ◌∷◌}
+use Rattle.std.proofs.Common.{◌++◌, get_or, map, refl, sym, ◌∙◌, subst, arith, ⊎_elim, eq-eqb}
 use Rattle.std.proofs.lemmas.Bool.{cases_lt, and_from}
 use Rattle.std.proofs.lemmas.List.{length-map}
 use Rattle.std.proofs.lemmas.List.FromFn.{get_or-map-range_with_len, length-range_with_len}
-use Rattle.std.proofs.lemmas.List.Elements.{
-  All-nil,
-  All-cons,
-  All-append,
-  Contains-append_left,
-  Contains-append_right,
-}
-use Rattle.line_model.specs.declared.line.Line.{Line}
+use Rattle.std.proofs.lemmas.List.Elements.{All-nil, All-cons, All-append, Contains-append_left}
+use Rattle.std.proofs.lemmas.List.Elements.{Contains-append_right}
+use Rattle.std.specs.Prelude.{IsTrue}
+use Rattle.std.specs.List.{All, Contains, range_with_len}
 use Rattle.line_model.specs.Parameters.{param_count, channel_count, delay_param, declared_ends}
-use Rattle.line_model.specs.Laws.{SettingsAreCounted}
 use Rattle.line_model.specs.Choice.{Choice, IsIn, IsInside, declared_box}
+use Rattle.line_model.specs.{declared.line.Line.Line, Laws.SettingsAreCounted}
 use Rattle.timing_box.specs.declared.step.Step.{Step}
-use Rattle.timing_box.specs.Delays.{is_delay}
-use Rattle.timing_box.specs.Inside.{IsStepInside, IsTimingInside}
 use Rattle.timing_box.specs.Timing.{TimingValues, comes_before, ascend, IsLatest}
 use Rattle.timing_box.specs.Choice.{timing_choice, IsSameChoice}
-use Rattle.timing_box.proofs.DelayLaws.{some_at}
-use Rattle.timing_box.proofs.DelayOrder.{delays_ascend}
-use Rattle.timing_box.proofs.LatestStep.{
-  before_by_param,
-  before_by_tick,
-  ascend-append,
-  number_at-latest,
-}
+use Rattle.timing_box.specs.{Delays.is_delay, Inside.IsStepInside, Inside.IsTimingInside}
+use Rattle.timing_box.proofs.LatestStep.{before_by_param, before_by_tick, ascend-append}
+use Rattle.timing_box.proofs.LatestStep.{number_at-latest}
+use Rattle.timing_box.proofs.{DelayLaws.some_at, DelayOrder.delays_ascend}
 
 -- ---- the steps of one delay
 

@@ -1,28 +1,11 @@
 -- A search among the channels.
-use Rattle.std.proofs.Common.{
-  ◌≡◌,
-  ◌||◌,
-  ℕ,
-  zero,
-  suc,
-  ◌<◌,
-  Bool,
-  true,
-  sym,
-  ap,
-  ◌∙◌,
-  inl,
-  inr,
-  arith,
-}
-use Rattle.std.proofs.Common.{◌==◌, ◌≤◌, get_or}
+use Rattle.std.proofs.Common.{◌≡◌, ◌||◌, ℕ, zero, suc, ◌<◌, Bool, true, sym, ap, ◌∙◌, inl, inr}
+use Rattle.std.proofs.Common.{arith, ◌==◌, ◌≤◌, get_or}
 use Rattle.std.proofs.lemmas.Bool.{cases_eq, cases_lt, cases_Bool, eqb-true, or_right}
 use Rattle.std.proofs.lemmas.List.{length-map, get_or_past}
 use Rattle.history.specs.Elements.{some_below}
-use Rattle.line_model.specs.declared.line.Line.{Line}
-use Rattle.line_model.specs.declared.line.Param.{Param}
-use Rattle.line_model.specs.Intervals.{leasts}
 use Rattle.line_model.specs.Parameters.{param_count, channel_count, delay_param}
+use Rattle.line_model.specs.{declared.line.Line.Line, declared.line.Param.Param, Intervals.leasts}
 use Rattle.timing_box.specs.Delays.{is_delay}
 
 -- a number that passes is some number below the end

@@ -1,29 +1,10 @@
 -- The names of the timings that are finished.
-use Rattle.std.proofs.Common.{
-  ◌≡◌,
-  ◌||◌,
-  ℕ,
-  ◌+◌,
-  ◌<◌,
-  ◌≤◌,
-  true,
-  false,
-  List,
-  [],
-  ◌∷◌,
-  ◌++◌,
-  length,
-  map,
-  Ok,
-  Err,
-  refl,
-  ap,
-  arith,
-}
-use Rattle.std.specs.Prelude.{nat_lt}
-use Rattle.std.specs.List.{list_any}
+use Rattle.std.proofs.Common.{◌≡◌, ◌||◌, ℕ, ◌+◌, ◌<◌, ◌≤◌, true, false, List, [], ◌∷◌, ◌++◌, length}
+use Rattle.std.proofs.Common.{map, Ok, Err, refl, ap, arith}
 use Rattle.std.proofs.lemmas.List.{length-map}
 use Rattle.std.proofs.lemmas.Bool.{lt-ltb, le-ltb}
+use Rattle.std.specs.Prelude.{nat_lt}
+use Rattle.std.specs.List.{list_any}
 use Rattle.line_model.specs.declared.line.Line.{Line}
 use Rattle.timing_box.specs.declared.fault.TimingFault.TheVariants as fault
 use Rattle.std.specs.Str.{bytes_eq}

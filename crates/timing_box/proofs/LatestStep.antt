@@ -1,59 +1,14 @@
 -- Over ascending steps the number of a parameter is that of its latest step.
-use Rattle.std.proofs.Common.{
-  ◌≡◌,
-  ◌&&◌,
-  ◌==◌,
-  ◌⊎◌,
-  ℕ,
-  zero,
-  suc,
-  ◌<◌,
-  ◌≤◌,
-  true,
-  cond,
-  List,
-  [],
-  ◌∷◌,
-  ◌++◌,
-  length,
-  get_or,
-  refl,
-  sym,
-  ap,
-  subst,
-  inl,
-  inr,
-  ◌∙◌,
-  arith,
-  ⊎_elim,
-  eq-eqb,
-}
+use Rattle.std.proofs.Common.{◌≡◌, ◌&&◌, ◌==◌, ◌⊎◌, ℕ, zero, suc, ◌<◌, ◌≤◌, true, cond, List, []}
+use Rattle.std.proofs.Common.{◌∷◌, ◌++◌, length, get_or, refl, sym, ap, subst, inl, inr, ◌∙◌, arith}
+use Rattle.std.proofs.Common.{⊎_elim, eq-eqb}
+use Rattle.std.proofs.lemmas.Bool.{cases_lt, ltb-true, lt-ltb, eqb-true, leb-true, le-leb, or_cases}
+use Rattle.std.proofs.lemmas.Bool.{or_left, or_right, and_parts, and_from, cond-true, cond-false}
+use Rattle.std.proofs.lemmas.Bool.{false_from_ne_true}
+use Rattle.std.proofs.lemmas.List.Elements.{All-nil, All-cons, All-head, All-tail, All-append}
+use Rattle.std.proofs.lemmas.List.Elements.{All-weaker}
 use Rattle.std.specs.Prelude.{nat_le, nat_lt}
 use Rattle.std.specs.List.{All}
-use Rattle.std.proofs.lemmas.Bool.{
-  cases_lt,
-  ltb-true,
-  lt-ltb,
-  eqb-true,
-  leb-true,
-  le-leb,
-  or_cases,
-  or_left,
-  or_right,
-  and_parts,
-  and_from,
-  cond-true,
-  cond-false,
-  false_from_ne_true,
-}
-use Rattle.std.proofs.lemmas.List.Elements.{
-  All-nil,
-  All-cons,
-  All-head,
-  All-tail,
-  All-append,
-  All-weaker,
-}
 use Rattle.timing_box.specs.declared.step.Step.{Step}
 use Rattle.timing_box.specs.Timing.{comes_before, ascend, number_at, IsLatest, HasNoStepBy}
 

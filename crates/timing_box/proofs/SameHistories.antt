@@ -1,39 +1,18 @@
 -- A history rests on the numbers of the choice and on its delays from tick 1 on.
-use Rattle.std.proofs.Common.{
-  ◌≡◌,
-  ◌&&◌,
-  ◌-◌,
-  ℕ,
-  zero,
-  suc,
-  ◌<◌,
-  ◌≤◌,
-  Bool,
-  false,
-  not,
-  refl,
-  sym,
-  ◌∙◌,
-  ap,
-  arith,
-}
-use Rattle.std.specs.Prelude.{◌||◌}
+use Rattle.std.proofs.Common.{◌≡◌, ◌&&◌, ◌-◌, ℕ, zero, suc, ◌<◌, ◌≤◌, Bool, false, not, refl, sym}
+use Rattle.std.proofs.Common.{◌∙◌, ap, arith}
 use Rattle.std.proofs.lemmas.Bool.{lt-leb}
-use Rattle.history.specs.Elements.{timed, delayed}
-use Rattle.history.specs.Laws.{ElementsReadThePast}
-use Rattle.line_model.specs.declared.line.Line.{Line}
+use Rattle.std.specs.Prelude.{◌||◌}
+use Rattle.history.specs.{Elements.timed, Elements.delayed, Laws.ElementsReadThePast}
 use Rattle.line_model.specs.declared.script.Script.{Script}
-use Rattle.line_model.specs.declared.formula.Time.{Time}
 use Rattle.line_model.specs.declared.formula.Time.TheVariants.{Zero, Param}
 use Rattle.line_model.specs.Channels.{from_of}
-use Rattle.line_model.specs.Names.{HasTime, Names}
 use Rattle.line_model.specs.Tree.{Tree, Const, Seen, Loss, Raw, Not, And, Or, Timer, Seal}
 use Rattle.line_model.specs.Mean.{World, Signals, mean}
-use Rattle.line_model.specs.Parameters.{channel_count}
 use Rattle.line_model.specs.Choice.{Choice, DelaysFromOne, time_by, world_of}
-use Rattle.line_model.specs.Logic.{key_tree, trip_tree}
-use Rattle.line_model.specs.Histories.{History, IsLineHistory}
-use Rattle.line_model.specs.Laws.{TreesNameTheLine}
+use Rattle.line_model.specs.{declared.line.Line.Line, declared.formula.Time.Time, Names.HasTime}
+use Rattle.line_model.specs.{Names.Names, Parameters.channel_count, Logic.key_tree, Logic.trip_tree}
+use Rattle.line_model.specs.{Histories.History, Histories.IsLineHistory, Laws.TreesNameTheLine}
 use Rattle.timing_box.specs.Choice.{IsSameChoice}
 
 -- nothing arrives at tick 0

@@ -1,94 +1,35 @@
 -- Each timing that was read is inside.
-use Rattle.std.proofs.Common.{
-  ◌≡◌,
-  ◌&&◌,
-  ℕ,
-  ◌+◌,
-  ◌<◌,
-  ◌≤◌,
-  Bool,
-  true,
-  false,
-  cond,
-  List,
-  [],
-  ◌∷◌,
-  ◌++◌,
-  length,
-  map,
-  Option,
-  Some,
-  None,
-  Result,
-  Ok,
-  Err,
-  subst,
-  ◌∙◌,
-  arith,
-  inl,
-  inr,
-}
+use Rattle.std.proofs.Common.{◌≡◌, ◌&&◌, ℕ, ◌+◌, ◌<◌, ◌≤◌, Bool, true, false, cond, List, [], ◌∷◌}
+use Rattle.std.proofs.Common.{◌++◌, length, map, Option, Some, None, Result, Ok, Err, subst, ◌∙◌}
+use Rattle.std.proofs.Common.{arith, inl, inr}
 use Rattle.std.proofs.lemmas.List.{length-map, length-set, get_or-set_same, get_or-set_other}
 use Rattle.std.proofs.lemmas.Bool.{ltb-true, leb-true, cases_eq, and_parts}
+use Rattle.std.proofs.lemmas.List.Elements.{All-nil, All-cons, All-push, All-append, All-head}
+use Rattle.std.proofs.lemmas.List.Elements.{All-tail}
 use Rattle.std.specs.Str.{bytes_eq}
 use Rattle.std.specs.Prelude.{Vec, IfOk, IfSome, nat_le, nat_lt}
 use Rattle.std.specs.declared.alloc.Global.{Global}
 use Rattle.std.specs.List.{All, before_first, after_first}
-use Rattle.std.proofs.lemmas.List.Elements.{
-  All-nil,
-  All-cons,
-  All-push,
-  All-append,
-  All-head,
-  All-tail,
-}
 use Rattle.relay_base.specs.Number.{number_of}
 use Rattle.line_model.specs.declared.line.Line.{Line}
-use Rattle.line_model.specs.Choice.{IsIn}
-use Rattle.line_model.specs.Parameters.{declared_ends}
-use Rattle.line_model.specs.Intervals.{leasts}
+use Rattle.line_model.specs.{Choice.IsIn, Parameters.declared_ends, Intervals.leasts}
 use Rattle.timing_box.specs.declared.fault.TimingFault.{TimingFault}
 use Rattle.timing_box.specs.declared.fault.TimingFault.TheVariants as fault
 use Rattle.timing_box.specs.declared.named.Named.{Named}
 use Rattle.timing_box.specs.declared.named.Named.TheVariants as named
 use Rattle.timing_box.specs.declared.timing.NamedTiming.{NamedTiming}
-use Rattle.timing_box.specs.Delays.{is_delay}
 use Rattle.timing_box.specs.SoFarInside.{IsInside, IsSoFar}
 use Rattle.timing_box.specs.Inside.{IsStepInside, IsTimingInside}
+use Rattle.timing_box.specs.SoFar.{NamedValues, OpenTiming, TimingsSoFar, values_of, all_timings}
+use Rattle.timing_box.specs.SoFar.{no_timings, one_or_none, closed, opened, with_row}
+use Rattle.timing_box.specs.Checks.{Opening, is_earlier, check_name, check_timing, after_latest}
+use Rattle.timing_box.specs.Checks.{param_named, is_at, step_at, number_or_step, named_in}
+use Rattle.timing_box.specs.Checks.{check_parameter, number_within, value_for, check_value}
+use Rattle.timing_box.specs.Checks.{check_once}
+use Rattle.timing_box.specs.Timings.{after_row, after_record}
+use Rattle.timing_box.specs.{Delays.is_delay, Gives.Gives, Row.Row, Row.row_in}
 use Rattle.csv_records.specs.CheckLaws.{choice_passed, passed, refusal_passed, same_ok, tested}
 use Rattle.csv_records.specs.Gives.{◌>>=◌}
-use Rattle.timing_box.specs.Gives.{Gives}
-use Rattle.timing_box.specs.Row.{Row, row_in}
-use Rattle.timing_box.specs.SoFar.{
-  NamedValues,
-  OpenTiming,
-  TimingsSoFar,
-  values_of,
-  all_timings,
-  no_timings,
-  one_or_none,
-  closed,
-  opened,
-  with_row,
-}
-use Rattle.timing_box.specs.Checks.{
-  Opening,
-  is_earlier,
-  check_name,
-  check_timing,
-  after_latest,
-  param_named,
-  is_at,
-  step_at,
-  number_or_step,
-  named_in,
-  check_parameter,
-  number_within,
-  value_for,
-  check_value,
-  check_once,
-}
-use Rattle.timing_box.specs.Timings.{after_row, after_record}
 use Rattle.timing_box.proofs.StepOrder.{All-with_step}
 
 pub none_so_far : (line : Line) → IsSoFar line no_timings

@@ -1,13 +1,8 @@
 -- The records of timings are read back as the timings.
-use Rattle.std.proofs.Common.{◌≡◌, ◌≢◌, ◌&&◌, ◌||◌, ◌==◌, ℕ, suc, ◌+◌, ◌<◌, ◌≤◌}
-use Rattle.std.proofs.Common.{true, false, cond, List, [], ◌∷◌, ◌++◌, length, map, get_or, take}
-use Rattle.std.proofs.Common.{drop, Option, Some, None, Ok, refl, sym, ap, ◌∙◌, subst, arith}
-use Rattle.std.proofs.Common.{append_assoc, length-append, inl, inr, ne_eqb}
-use Rattle.std.specs.Prelude.{nat_lt, nat_le, not, slice_set}
-use Rattle.std.specs.List.{All, list_any, flat_map, position_or_len, before_first}
-use Rattle.std.specs.List.{after_first, prefix_len}
-use Rattle.std.specs.Str.{bytes_eq}
-use Rattle.std.specs.Fmt.{decimal}
+use Rattle.std.proofs.Common.{◌≡◌, ◌≢◌, ◌&&◌, ◌||◌, ◌==◌, ℕ, suc, ◌+◌, ◌<◌, ◌≤◌, true, false, cond}
+use Rattle.std.proofs.Common.{List, [], ◌∷◌, ◌++◌, length, map, get_or, take, drop, Option, Some}
+use Rattle.std.proofs.Common.{None, Ok, refl, sym, ap, ◌∙◌, subst, arith, append_assoc}
+use Rattle.std.proofs.Common.{length-append, inl, inr, ne_eqb}
 use Rattle.std.proofs.lemmas.Bool.{lt-ltb, le-leb, cases_Bool, and_from, and_parts, or_parts}
 use Rattle.std.proofs.lemmas.Bool.Decides.{nat_tests}
 use Rattle.std.proofs.lemmas.List.{append-nil, length-map, get_or-map, set_at, take_at, drop_at}
@@ -15,61 +10,33 @@ use Rattle.std.proofs.lemmas.List.{drop-drop}
 use Rattle.std.proofs.lemmas.List.Folds.{list_any-append}
 use Rattle.std.proofs.lemmas.List.Concat.{flat_map-cons}
 use Rattle.std.proofs.lemmas.Slice.Eq.{bytes_eq-Decides}
-use Rattle.std.proofs.lemmas.List.Elements.{
-  All-nil,
-  All-cons,
-  All-push,
-  All-head,
-  All-tail,
-  All-get_or,
-  All-from_get_or,
-}
-use Rattle.relay_base.specs.Number.{number_of}
-use Rattle.relay_base.specs.DecimalLaws.{number_of-decimal}
-use Rattle.line_model.specs.declared.line.Line.{Line}
-use Rattle.line_model.specs.declared.line.Param.{Param}
-use Rattle.line_model.specs.Choice.{IsIn}
-use Rattle.line_model.specs.Intervals.{leasts}
+use Rattle.std.proofs.lemmas.List.Elements.{All-nil, All-cons, All-push, All-head, All-tail}
+use Rattle.std.proofs.lemmas.List.Elements.{All-get_or, All-from_get_or}
+use Rattle.std.specs.Prelude.{nat_lt, nat_le, not, slice_set}
+use Rattle.std.specs.List.{All, list_any, flat_map, position_or_len, before_first, after_first}
+use Rattle.std.specs.List.{prefix_len}
+use Rattle.std.specs.Str.{bytes_eq}
+use Rattle.std.specs.Fmt.{decimal}
+use Rattle.relay_base.specs.{Number.number_of, DecimalLaws.number_of-decimal}
 use Rattle.line_model.specs.Parameters.{param_count, declared_ends}
-use Rattle.line_model.specs.PlainNames.{is_plain_name}
 use Rattle.line_model.specs.ParamNamesApart.{name_of_param, has_no, ParamNamesApart}
-use Rattle.timing_box.specs.declared.step.Step.{Step}
-use Rattle.timing_box.specs.declared.named.Named.{Named}
+use Rattle.line_model.specs.{declared.line.Line.Line, declared.line.Param.Param, Choice.IsIn}
+use Rattle.line_model.specs.{Intervals.leasts, PlainNames.is_plain_name}
+use Rattle.timing_box.specs.{declared.step.Step.Step, declared.named.Named.Named}
 use Rattle.timing_box.specs.declared.named.Named.TheVariants as named
-use Rattle.timing_box.specs.Delays.{is_delay}
 use Rattle.timing_box.specs.Inside.{IsStepInside, IsTimingInside}
-use Rattle.timing_box.specs.Timing.{comes_before, ascend, with_step}
-use Rattle.csv_records.specs.Gives.{◌>>=◌}
-use Rattle.csv_records.specs.RecordFile.{after_header, after_records}
-use Rattle.timing_box.specs.SoFar.{
-  NamedValues,
-  OpenTiming,
-  TimingsSoFar,
-  all_timings,
-  no_timings,
-  one_or_none,
-  closed,
-  opened,
-  with_row,
-}
-use Rattle.timing_box.specs.Checks.{
-  is_at,
-  is_earlier,
-  after_latest,
-  check_timing,
-  named_in,
-  number_within,
-  param_named,
-  step_at,
-  step_named,
-  number_or_step,
-  value_for,
-}
+use Rattle.timing_box.specs.SoFar.{NamedValues, OpenTiming, TimingsSoFar, all_timings, no_timings}
+use Rattle.timing_box.specs.SoFar.{one_or_none, closed, opened, with_row}
+use Rattle.timing_box.specs.Checks.{is_at, is_earlier, after_latest, check_timing, named_in}
+use Rattle.timing_box.specs.Checks.{number_within, param_named, step_at, step_named, number_or_step}
+use Rattle.timing_box.specs.Checks.{value_for}
 use Rattle.timing_box.specs.Timings.{after_row, after_record, timing_file, timings_in}
-use Rattle.timing_box.specs.Printed.{name_record, number_records, step_record, timing_records, file_records, MayStand, AreOfOneFile}
+use Rattle.timing_box.specs.Printed.{name_record, number_records, step_record, timing_records}
+use Rattle.timing_box.specs.Printed.{file_records, MayStand, AreOfOneFile}
+use Rattle.timing_box.specs.{Delays.is_delay, Timing.comes_before, Timing.ascend, Timing.with_step}
+use Rattle.csv_records.specs.{Gives.◌>>=◌, RecordFile.after_header, RecordFile.after_records}
 use Rattle.timing_box.proofs.LatestStep.{all_after, ascend-tail}
-use Rattle.timing_box.proofs.StepOrder.{same_place}
-use Rattle.timing_box.proofs.DelayLaws.{delay_below}
+use Rattle.timing_box.proofs.{StepOrder.same_place, DelayLaws.delay_below}
 
 bytes_same : (bytes : List ℕ) → bytes_eq bytes bytes ≡ true
 bytes_same bytes = (bytes_eq-Decides bytes bytes).1 refl

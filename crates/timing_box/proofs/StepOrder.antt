@@ -1,28 +1,11 @@
 -- Steps stay in order where one is added.
-use Rattle.std.proofs.Common.{
-  ◌≡◌,
-  ◌&&◌,
-  ◌==◌,
-  ◌+◌,
-  ℕ,
-  suc,
-  Bool,
-  true,
-  false,
-  cond,
-  List,
-  [],
-  ◌∷◌,
-  refl,
-  ap,
-  ◌∙◌,
-  arith,
-}
-use Rattle.std.specs.Prelude.{not}
+use Rattle.std.proofs.Common.{◌≡◌, ◌&&◌, ◌==◌, ◌+◌, ℕ, suc, Bool, true, false, cond, List, [], ◌∷◌}
+use Rattle.std.proofs.Common.{refl, ap, ◌∙◌, arith}
 use Rattle.std.proofs.lemmas.Bool.{and_from, and_parts, or_parts}
 use Rattle.std.proofs.lemmas.Bool.Decides.{nat_tests}
-use Rattle.std.specs.List.{list_any, position_or_len, insert, All}
 use Rattle.std.proofs.lemmas.List.Elements.{All-cons, All-head, All-tail}
+use Rattle.std.specs.Prelude.{not}
+use Rattle.std.specs.List.{list_any, position_or_len, insert, All}
 use Rattle.timing_box.specs.declared.step.Step.{Step}
 use Rattle.timing_box.specs.Timing.{comes_before, ascend, with_step}
 

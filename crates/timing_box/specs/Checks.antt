@@ -1,33 +1,11 @@
 -- The checks of one record, each of them alone. n is the record's number; the header is record 1.
-use Rattle.std.specs.Prelude.{
-  ◌++◌,
-  ◌+◌,
-  ◌&&◌,
-  ◌==◌,
-  ℕ,
-  Bool,
-  true,
-  false,
-  List,
-  [],
-  ◌∷◌,
-  length,
-  nat_le,
-  nat_lt,
-  codes,
-  Option,
-  None,
-  Some,
-  Result,
-  Ok,
-  Err,
-  if◌then◌else◌,
-}
+use Rattle.std.specs.Prelude.{◌++◌, ◌+◌, ◌&&◌, ◌==◌, ℕ, Bool, true, false, List, [], ◌∷◌, length}
+use Rattle.std.specs.Prelude.{nat_le, nat_lt, codes, Option, None, Some, Result, Ok, Err}
+use Rattle.std.specs.Prelude.{if◌then◌else◌}
 use Rattle.std.specs.List.{list_any, position_from, before_first, after_first}
 use Rattle.std.specs.Str.{bytes_eq}
 use Rattle.line_model.specs.declared.line.Line.{Line}
-use Rattle.line_model.specs.PlainNames.{is_plain_name}
-use Rattle.line_model.specs.Parameters.{declared_ends}
+use Rattle.line_model.specs.{PlainNames.is_plain_name, Parameters.declared_ends}
 use Rattle.relay_base.specs.Number.{number_of}
 use Rattle.timing_box.specs.declared.fault.TimingFault.{TimingFault}
 use Rattle.timing_box.specs.declared.fault.TimingFault.TheVariants as fault

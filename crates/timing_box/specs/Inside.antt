@@ -2,11 +2,8 @@
 use Rattle.std.specs.Prelude.{◌≡◌, ◌≤◌, ◌<◌, ℕ, length, get_or, IsTrue}
 use Rattle.std.specs.List.{All}
 use Rattle.line_model.specs.declared.line.Line.{Line}
-use Rattle.line_model.specs.Parameters.{param_count, declared_ends}
-use Rattle.line_model.specs.Choice.{IsIn}
-use Rattle.timing_box.specs.declared.step.Step.{Step}
-use Rattle.timing_box.specs.Delays.{is_delay}
-use Rattle.timing_box.specs.Timing.{TimingValues}
+use Rattle.line_model.specs.{Parameters.param_count, Parameters.declared_ends, Choice.IsIn}
+use Rattle.timing_box.specs.{declared.step.Step.Step, Delays.is_delay, Timing.TimingValues}
 
 -- a step of a delay, within the run, with a number of its interval
 pub record IsStepInside (line : Line) (step : Step ℕ) : Type 0 where

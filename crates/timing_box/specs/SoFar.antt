@@ -1,29 +1,11 @@
 -- What the records of a file of timings have said so far.
-use Rattle.std.specs.Prelude.{
-  ◌≡◌,
-  ◌<◌,
-  ◌++◌,
-  ℕ,
-  List,
-  [],
-  ◌∷◌,
-  Option,
-  None,
-  Some,
-  option_map,
-  length,
-  map,
-  slice_set,
-}
-use Rattle.line_model.specs.declared.line.Line.{Line}
-use Rattle.line_model.specs.Intervals.{leasts}
-use Rattle.line_model.specs.Parameters.{param_count}
-use Rattle.timing_box.specs.declared.timing.NamedTiming.{NamedTiming}
-use Rattle.timing_box.specs.declared.named.Named.{Named}
+use Rattle.std.specs.Prelude.{◌≡◌, ◌<◌, ◌++◌, ℕ, List, [], ◌∷◌, Option, None, Some, option_map}
+use Rattle.std.specs.Prelude.{length, map, slice_set}
+use Rattle.line_model.specs.{declared.line.Line.Line, Intervals.leasts, Parameters.param_count}
+use Rattle.timing_box.specs.{declared.timing.NamedTiming.NamedTiming, declared.named.Named.Named}
 use Rattle.timing_box.specs.declared.named.Named.TheVariants as named
-use Rattle.timing_box.specs.declared.reading.Open.{Open}
 use Rattle.timing_box.specs.declared.reading.Reading.{Reading}
-use Rattle.timing_box.specs.Timing.{TimingValues, with_step}
+use Rattle.timing_box.specs.{declared.reading.Open.Open, Timing.TimingValues, Timing.with_step}
 
 -- a timing under its name
 pub record NamedValues : Type 0 where

@@ -2,8 +2,7 @@
 use Rattle.std.specs.Prelude.{IfSome}
 use Rattle.std.specs.List.{All}
 use Rattle.line_model.specs.declared.line.Line.{Line}
-use Rattle.timing_box.specs.Inside.{IsTimingInside}
-use Rattle.timing_box.specs.SoFar.{NamedValues, TimingsSoFar}
+use Rattle.timing_box.specs.{Inside.IsTimingInside, SoFar.NamedValues, SoFar.TimingsSoFar}
 
 abbrev pub IsInside : Line → NamedValues → Type 0
 IsInside line v = IsTimingInside line v.timing

@@ -1,21 +1,6 @@
 -- One number for each parameter of a line, and steps: from a tick on, a delay has another number.
-use Rattle.std.specs.Prelude.{
-  ◌≡◌,
-  ◌<◌,
-  ◌≤◌,
-  ◌&&◌,
-  ◌||◌,
-  ◌==◌,
-  ℕ,
-  Bool,
-  true,
-  List,
-  [],
-  ◌∷◌,
-  nat_le,
-  nat_lt,
-  if◌then◌else◌,
-}
+use Rattle.std.specs.Prelude.{◌≡◌, ◌<◌, ◌≤◌, ◌&&◌, ◌||◌, ◌==◌, ℕ, Bool, true, List, [], ◌∷◌, nat_le}
+use Rattle.std.specs.Prelude.{nat_lt, if◌then◌else◌}
 use Rattle.std.specs.List.{All, Contains}
 use Rattle.timing_box.specs.declared.step.Step.{Step}
 

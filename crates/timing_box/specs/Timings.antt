@@ -2,29 +2,14 @@
 use Rattle.std.specs.Prelude.{ℕ, List, Some, Result, Ok}
 use Rattle.line_model.specs.declared.line.Line.{Line}
 use Rattle.csv_records.specs.Gives.{◌>>=◌}
-use Rattle.csv_records.specs.RecordFile.{RecordFile, said_in}
-use Rattle.csv_records.specs.Records.{records_of}
+use Rattle.csv_records.specs.{RecordFile.RecordFile, RecordFile.said_in, Records.records_of}
 use Rattle.timing_box.specs.declared.fault.TimingFault.{TimingFault}
 use Rattle.timing_box.specs.declared.fault.TimingFault.TheVariants as fault
 use Rattle.timing_box.specs.Row.{Row, row_in}
-use Rattle.timing_box.specs.SoFar.{
-  NamedValues,
-  OpenTiming,
-  TimingsSoFar,
-  all_timings,
-  no_timings,
-  with_row,
-}
-use Rattle.timing_box.specs.Checks.{
-  is_header,
-  check_name,
-  check_timing,
-  named_in,
-  check_parameter,
-  value_for,
-  check_value,
-  check_once,
-}
+use Rattle.timing_box.specs.SoFar.{NamedValues, OpenTiming, TimingsSoFar, all_timings, no_timings}
+use Rattle.timing_box.specs.SoFar.{with_row}
+use Rattle.timing_box.specs.Checks.{is_header, check_name, check_timing, named_in, check_parameter}
+use Rattle.timing_box.specs.Checks.{value_for, check_value, check_once}
 
 -- what the row makes of its timing: its parameter, its value, and neither given before
 unfoldable pub after_row : Line → OpenTiming → ℕ → Row → Result OpenTiming TimingFault

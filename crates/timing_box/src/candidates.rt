@@ -3,12 +3,10 @@
 ghost use Rattle.std.specs.Prelude.{◌≡◌, ◌≤◌, ◌<◌, length};
 ghost use Rattle.std.specs.List.{count_by};
 ghost use Rattle.line_model.specs.Parameters.{param_count};
-ghost use Rattle.timing_box.specs.Candidates.{
-  is_free as is_free_param,
-  candidate_count as count_of_candidates,
-  candidate_value as value_of_candidate,
-  is_free_number,
-};
+ghost use Rattle.timing_box.specs.Candidates.{is_free as is_free_param};
+ghost use Rattle.timing_box.specs.Candidates.{candidate_count as count_of_candidates};
+ghost use Rattle.timing_box.specs.Candidates.{candidate_value as value_of_candidate};
+ghost use Rattle.timing_box.specs.Candidates.{is_free_number};
 
 use line_model::laws::parameters_are_numbered;
 use line_model::{Line, Param};

@@ -5,17 +5,8 @@ ghost use Rattle.std.specs.List.{list_any, position_or_len};
 ghost use Rattle.std.specs.Str.{bytes_eq};
 ghost use Rattle.line_model.specs.Parameters.{param_count};
 ghost use Rattle.timing_box.specs.SoFar.{open_of, IsNamedIn};
-ghost use Rattle.timing_box.specs.Checks.{
-  param_named,
-  is_at,
-  step_named,
-  named_in,
-  value_for,
-  number_within,
-  is_given as
-      is_given_in,
-  is_empty,
-};
+ghost use Rattle.timing_box.specs.Checks.{param_named, is_at, step_named, named_in, value_for};
+ghost use Rattle.timing_box.specs.Checks.{number_within, is_given as is_given_in, is_empty};
 
 use crate::delays::is_delay;
 use crate::fields::is;

@@ -3,9 +3,7 @@
 ghost use Rattle.std.specs.Prelude.{◌≡◌};
 ghost use Rattle.std.specs.Str.{bytes_eq};
 ghost use Rattle.csv.specs.Records.{fields_of};
-ghost use Rattle.timing_box.specs.Row.{row_in, row_of};
-ghost use Rattle.timing_box.specs.Gives.{Gives};
-ghost use Rattle.timing_box.specs.Checks.{is_header};
+ghost use Rattle.timing_box.specs.{Row.row_in, Row.row_of, Gives.Gives, Checks.is_header};
 
 use crate::fault::TimingFault;
 use csv::ByteRecord;

@@ -1,8 +1,7 @@
 // Whether a timing is inside the declared intervals.
 
 ghost use Rattle.std.specs.Prelude.{◌≡◌, ◌<◌, ◌↔◌, ℕ, length, get_or, IsTrue};
-ghost use Rattle.line_model.specs.Choice.{IsIn};
-ghost use Rattle.line_model.specs.Parameters.{param_count, declared_ends};
+ghost use Rattle.line_model.specs.{Choice.IsIn, Parameters.param_count, Parameters.declared_ends};
 ghost use Rattle.timing_box.specs.Inside.{IsStepInside, IsTimingInside};
 
 use crate::delays::is_delay;

@@ -2,19 +2,15 @@
 
 ghost use Rattle.std.specs.Prelude.{◌≡◌, ◌<◌, ◌↔◌, ℕ, List, [], ◌∷◌, IsTrue};
 ghost use Rattle.std.specs.List.{All};
-ghost use Rattle.line_model.specs.declared.line.Line.{Line};
-ghost use Rattle.line_model.specs.declared.script.Script.{Script};
-ghost use Rattle.line_model.specs.PlainNames.{is_plain_name};
-ghost use Rattle.line_model.specs.Choice.{Choice, DelaysFromOne, IsInside};
-ghost use Rattle.line_model.specs.Histories.{History, IsLineHistory};
-ghost use Rattle.timing_box.specs.declared.step.Step.{Step};
+ghost use Rattle.line_model.specs.{declared.line.Line.Line, declared.script.Script.Script};
+ghost use Rattle.line_model.specs.{PlainNames.is_plain_name, Choice.Choice, Choice.DelaysFromOne};
+ghost use Rattle.line_model.specs.{Choice.IsInside, Histories.History, Histories.IsLineHistory};
 ghost use Rattle.timing_box.specs.Timing.{TimingValues, ascend, number_at, IsLatest, HasNoStepBy};
 ghost use Rattle.timing_box.specs.Inside.{IsTimingInside};
 ghost use Rattle.timing_box.specs.Choice.{timing_choice, IsSameChoice};
 ghost use Rattle.timing_box.specs.Candidates.{candidate, candidate_count};
-ghost use Rattle.timing_box.specs.SoFar.{NamedValues};
-ghost use Rattle.timing_box.specs.Timings.{timings_in};
 ghost use Rattle.timing_box.specs.Printed.{MayStand, AreOfOneFile, file_records};
+ghost use Rattle.timing_box.specs.{declared.step.Step.Step, SoFar.NamedValues, Timings.timings_in};
 
 use history::element_laws::elements_read_the_past;
 use line_model::laws::{each_line_has_a_choice_inside, settings_are_counted, trees_name_the_line};

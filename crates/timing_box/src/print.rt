@@ -4,19 +4,10 @@ ghost use Rattle.std.specs.Prelude.{◌≡◌, ◌≤◌, ◌<◌, ◌∷◌, []
 ghost use Rattle.std.specs.List.{All};
 ghost use Rattle.csv.specs.Writing.{row_text, default_writer};
 ghost use Rattle.line_model.specs.Parameters.{param_count};
-ghost use Rattle.timing_box.specs.declared.step.Step.{Step};
-ghost use Rattle.timing_box.specs.SoFar.{values_of};
-ghost use Rattle.timing_box.specs.Timings.{timings_in};
-ghost use Rattle.timing_box.specs.Printed.{
-  number_record,
-  number_records,
-  step_record,
-  timing_records,
-  file_records,
-  records_text,
-  MayStand,
-  AreOfOneFile,
-};
+ghost use Rattle.timing_box.specs.Printed.{number_record, number_records, step_record};
+ghost use Rattle.timing_box.specs.Printed.{timing_records, file_records, records_text, MayStand};
+ghost use Rattle.timing_box.specs.Printed.{AreOfOneFile};
+ghost use Rattle.timing_box.specs.{declared.step.Step.Step, SoFar.values_of, Timings.timings_in};
 
 use crate::laws::timings_are_read_back;
 use crate::step::Step;

@@ -1,36 +1,13 @@
 // Reading a file of timings.
 
-ghost use Rattle.std.specs.Prelude.{
-  ◌≤◌,
-  ◌+◌,
-  IfOk,
-  IfSome,
-  IsFalse,
-  length,
-  map,
-};
+ghost use Rattle.std.specs.Prelude.{◌≤◌, ◌+◌, IfOk, IfSome, IsFalse, length, map};
 ghost use Rattle.std.specs.List.{All};
 ghost use Rattle.csv.specs.Records.{fields_of};
-ghost use Rattle.timing_box.specs.Inside.{IsTimingInside};
-ghost use Rattle.timing_box.specs.Gives.{Gives, is_memory};
-ghost use Rattle.timing_box.specs.Row.{row_of};
-ghost use Rattle.timing_box.specs.SoFar.{
-  values_of,
-  open_of,
-  so_far_of,
-  TimingsSoFar,
-  with_row as with_row_of,
-  IsFull,
-  IsNamedIn,
-};
-ghost use Rattle.timing_box.specs.SoFarInside.{IsSoFar};
-ghost use Rattle.timing_box.specs.Checks.{is_given as is_given_in};
-ghost use Rattle.timing_box.specs.Timings.{
-  timings_of,
-  timing_file,
-  after_record,
-  after_row,
-};
+ghost use Rattle.timing_box.specs.SoFar.{values_of, open_of, so_far_of, TimingsSoFar};
+ghost use Rattle.timing_box.specs.SoFar.{with_row as with_row_of, IsFull, IsNamedIn};
+ghost use Rattle.timing_box.specs.Timings.{timings_of, timing_file, after_record, after_row};
+ghost use Rattle.timing_box.specs.{Inside.IsTimingInside, Gives.Gives, Gives.is_memory, Row.row_of};
+ghost use Rattle.timing_box.specs.{SoFarInside.IsSoFar, Checks.is_given as is_given_in};
 
 use crate::check::{is_given, named, value};
 use crate::fault::TimingFault;

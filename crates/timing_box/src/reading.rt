@@ -1,21 +1,10 @@
 // The timings that the records so far say.
 
 ghost use Rattle.std.specs.Prelude.{◌≡◌, IsTrue, IfSome, IfOk, map, option_map};
-ghost use Rattle.line_model.specs.Intervals.{leasts};
-ghost use Rattle.line_model.specs.PlainNames.{is_plain_name};
-ghost use Rattle.timing_box.specs.Gives.{Gives};
-ghost use Rattle.timing_box.specs.SoFar.{
-  so_far_of,
-  no_timings,
-  all_timings,
-  values_of,
-  open_of,
-  opened,
-  closed as closed_of,
-  IsFull,
-};
-ghost use Rattle.timing_box.specs.Checks.{check_timing};
-ghost use Rattle.timing_box.specs.Opened.{opening_of};
+ghost use Rattle.line_model.specs.{Intervals.leasts, PlainNames.is_plain_name};
+ghost use Rattle.timing_box.specs.SoFar.{so_far_of, no_timings, all_timings, values_of, open_of};
+ghost use Rattle.timing_box.specs.SoFar.{opened, closed as closed_of, IsFull};
+ghost use Rattle.timing_box.specs.{Gives.Gives, Checks.check_timing, Opened.opening_of};
 
 use crate::check::is_any;
 use crate::fault::TimingFault;

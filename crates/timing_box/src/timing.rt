@@ -1,19 +1,7 @@
 // A timing.
 
-ghost use Rattle.std.specs.Prelude.{
-  ◌≡◌,
-  ◌<◌,
-  ◌≤◌,
-  ◌&&◌,
-  ◌==◌,
-  [],
-  length,
-  slice_set,
-  IsTrue,
-  IsFalse,
-  OnOk,
-  IfErr,
-};
+ghost use Rattle.std.specs.Prelude.{◌≡◌, ◌<◌, ◌≤◌, ◌&&◌, ◌==◌, [], length, slice_set, IsTrue};
+ghost use Rattle.std.specs.Prelude.{IsFalse, OnOk, IfErr};
 ghost use Rattle.std.specs.List.{list_any};
 
 use crate::fault::TimingFault;

@@ -1,9 +1,8 @@
 -- Stretches, one more at the end.
 use Rattle.std.proofs.Common.{◌≡◌, ◌++◌, ◌∷◌, ℕ, true, false, List, [], refl, sym, ◌∙◌, ap}
 use Rattle.history.specs.Rails.{Rails, must_of, may_of}
-use Rattle.tick_signal.specs.declared.tern.Tern.{Tern}
 use Rattle.tick_signal.specs.declared.tern.Tern.TheVariants.{Zero, One, Unknown}
-use Rattle.tick_signal.specs.Terns.{tern_rails}
+use Rattle.tick_signal.specs.{declared.tern.Tern.Tern, Terns.tern_rails}
 use Rattle.timing_diagram.specs.declared.stretch.Stretch.{Stretch}
 use Rattle.timing_diagram.specs.Stretches.{IsStretch, AreStretches}
 

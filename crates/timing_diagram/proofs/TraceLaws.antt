@@ -1,23 +1,15 @@
 -- The rows of a line are of what it has.
 use Rattle.std.proofs.Common.{◌<◌, ◌++◌, ◌∷◌, [], ℕ, Bool, true, false, List}
+use Rattle.std.proofs.lemmas.List.Elements.{All-nil, All-cons, All-append}
 use Rattle.std.specs.Prelude.{◌==◌, if◌then◌else◌}
 use Rattle.std.specs.List.{All}
-use Rattle.std.proofs.lemmas.List.Elements.{All-nil, All-cons, All-append}
-use Rattle.line_model.specs.declared.line.Line.{Line}
 use Rattle.line_model.specs.declared.script.Element.TheVariants.{Z1, Z2, Rv, Uv, Cur}
-use Rattle.line_model.specs.Channels.{to_of}
 use Rattle.line_model.specs.Parameters.{terminal_count, channel_count}
+use Rattle.line_model.specs.{declared.line.Line.Line, Channels.to_of}
 use Rattle.timing_diagram.specs.declared.trace.Trace.{Trace}
 use Rattle.timing_diagram.specs.declared.trace.Trace.TheVariants.{Lost, Key, Trip}
-use Rattle.timing_diagram.specs.Traces.{
-  IsTraceOf,
-  each_of,
-  loss_at,
-  seen_at,
-  seen_by,
-  traces_at,
-  traces_of,
-}
+use Rattle.timing_diagram.specs.Traces.{IsTraceOf, each_of, loss_at, seen_at, seen_by, traces_at}
+use Rattle.timing_diagram.specs.Traces.{traces_of}
 use Rattle.timing_diagram.proofs.Lists.{All-each_of}
 
 module _ (line : Line) where

@@ -2,9 +2,8 @@
 use Rattle.std.proofs.Common.{arith}
 use Rattle.std.proofs.lemmas.List.Elements.{All-weaker}
 use Rattle.timing_diagram.specs.declared.rows.Row.{Row}
-use Rattle.timing_diagram.specs.declared.stretch.Stretch.{Stretch}
-use Rattle.timing_diagram.specs.declared.window.Window.{Window}
 use Rattle.timing_diagram.specs.Windows.{IsChangeShown, IsShown, IsWider}
+use Rattle.timing_diagram.specs.{declared.stretch.Stretch.Stretch, declared.window.Window.Window}
 
 pub change_still_shown : (narrow wide : Window) → IsWider narrow wide → (s : Stretch)
     → IsChangeShown narrow s → IsChangeShown wide s

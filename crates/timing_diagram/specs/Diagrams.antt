@@ -2,17 +2,12 @@
 use Rattle.std.specs.Prelude.{◌≡◌, ℕ, map, IfSome}
 use Rattle.std.specs.List.{All}
 use Rattle.history.specs.Recorded.{first_ticks}
-use Rattle.line_model.specs.declared.line.Line.{Line}
-use Rattle.line_model.specs.declared.script.Script.{Script}
-use Rattle.line_model.specs.Histories.{PairHistory}
-use Rattle.line_model.specs.Parameters.{terminal_count}
-use Rattle.timing_diagram.specs.declared.diagram.Diagram.{Diagram}
-use Rattle.timing_diagram.specs.declared.rows.Row.{Row}
-use Rattle.timing_diagram.specs.declared.trace.Trace.{Trace}
-use Rattle.timing_diagram.specs.Stretches.{AreStretches}
-use Rattle.timing_diagram.specs.Times.{trip_times_of, is_begun}
-use Rattle.timing_diagram.specs.Traces.{traces_of, trace_pair}
-use Rattle.timing_diagram.specs.Windows.{Holds, IsShown}
+use Rattle.line_model.specs.{declared.line.Line.Line, declared.script.Script.Script}
+use Rattle.line_model.specs.{Histories.PairHistory, Parameters.terminal_count}
+use Rattle.timing_diagram.specs.{declared.diagram.Diagram.Diagram, declared.rows.Row.Row}
+use Rattle.timing_diagram.specs.{declared.trace.Trace.Trace, Stretches.AreStretches}
+use Rattle.timing_diagram.specs.{Times.trip_times_of, Times.is_begun, Traces.traces_of}
+use Rattle.timing_diagram.specs.{Traces.trace_pair, Windows.Holds, Windows.IsShown}
 use Rattle.wave_runs.specs.FirstTick.{first_on}
 use Rattle.timing_report.specs.Margin.{deadline_of}
 

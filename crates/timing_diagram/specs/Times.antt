@@ -5,8 +5,7 @@ use Rattle.history.specs.Rails.{Rails}
 use Rattle.line_model.specs.declared.script.Element.{Element}
 use Rattle.line_model.specs.declared.script.Element.TheVariants.{Z1, Z2, Rv, Uv, Cur}
 use Rattle.line_model.specs.declared.script.Script.{Script}
-use Rattle.line_model.specs.declared.script.SeenSpan.{SeenSpan}
-use Rattle.line_model.specs.declared.script.What.{What}
+use Rattle.line_model.specs.{declared.script.SeenSpan.SeenSpan, declared.script.What.What}
 use Rattle.line_model.specs.declared.script.What.TheVariants as what
 use Rattle.timing_diagram.specs.declared.times.TripTimes.{TripTimes}
 use Rattle.wave_runs.specs.FirstTick.{first_on}

@@ -2,8 +2,7 @@
 use Rattle.std.specs.Prelude.{◌<◌, ◌≤◌, ℕ}
 use Rattle.std.specs.List.{All}
 use Rattle.timing_diagram.specs.declared.rows.Row.{Row}
-use Rattle.timing_diagram.specs.declared.stretch.Stretch.{Stretch}
-use Rattle.timing_diagram.specs.declared.window.Window.{Window}
+use Rattle.timing_diagram.specs.{declared.stretch.Stretch.Stretch, declared.window.Window.Window}
 
 -- the tick is shown
 abbrev pub Holds : Window → ℕ → Type 0

@@ -2,13 +2,10 @@
 
 ghost use Rattle.std.specs.Prelude.{◌≡◌, ◌<◌, [], length, map, min, IfOk};
 ghost use Rattle.history.specs.Recorded.{first_ticks};
-ghost use Rattle.line_model.specs.Parameters.{terminal_count};
-ghost use Rattle.line_model.specs.Rule.{rule_of};
-ghost use Rattle.interval_wave.specs.PairWavesOf.{pair_history};
-ghost use Rattle.interval_wave.specs.Rules.{rule_named};
+ghost use Rattle.line_model.specs.{Parameters.terminal_count, Rule.rule_of};
+ghost use Rattle.interval_wave.specs.{PairWavesOf.pair_history, Rules.rule_named};
 ghost use Rattle.simulator.specs.Played.{played};
-ghost use Rattle.timing_diagram.specs.Diagrams.{IsDiagramOf};
-ghost use Rattle.timing_diagram.specs.Traces.{known_history};
+ghost use Rattle.timing_diagram.specs.{Diagrams.IsDiagramOf, Traces.known_history};
 
 use crate::marks::inception;
 use crate::rows::{Row, rows};

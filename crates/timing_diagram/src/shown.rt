@@ -4,8 +4,7 @@ ghost use Rattle.std.specs.Prelude.{◌≡◌, ◌<◌, ℕ, length, min};
 ghost use Rattle.line_model.specs.Histories.{PairHistory};
 ghost use Rattle.interval_wave.specs.PairWavesOf.{pair_history};
 ghost use Rattle.simulator.specs.Played.{played};
-ghost use Rattle.tick_signal.specs.Levels.{level_rails};
-ghost use Rattle.tick_signal.specs.Terns.{tern_rails};
+ghost use Rattle.tick_signal.specs.{Levels.level_rails, Terns.tern_rails};
 ghost use Rattle.timing_diagram.specs.Traces.{known_history};
 
 use interval_wave::PairWaves;

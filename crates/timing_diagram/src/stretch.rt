@@ -4,8 +4,7 @@ ghost use Rattle.std.specs.Prelude.{◌≡◌, ◌≢◌, ◌<◌, ◌≤◌, �
 ghost use Rattle.history.specs.Rails.{both};
 ghost use Rattle.line_model.specs.Parameters.{terminal_count};
 ghost use Rattle.tick_signal.specs.Terns.{tern_rails};
-ghost use Rattle.timing_diagram.specs.Stretches.{AreStretches};
-ghost use Rattle.timing_diagram.specs.Traces.{IsTraceOf, trace_pair};
+ghost use Rattle.timing_diagram.specs.{Stretches.AreStretches, Traces.IsTraceOf, Traces.trace_pair};
 
 use crate::shown::Shown;
 use crate::trace::Trace;

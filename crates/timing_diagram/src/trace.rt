@@ -3,14 +3,8 @@
 ghost use Rattle.std.specs.Prelude.{◌≡◌, ◌++◌, ◌<◌, OnOk, IfOk};
 ghost use Rattle.std.specs.List.{All};
 ghost use Rattle.line_model.specs.Parameters.{terminal_count, channel_count};
-ghost use Rattle.timing_diagram.specs.Traces.{
-  traces_of,
-  traces_at,
-  seen_at,
-  loss_at,
-  each_of,
-  IsTraceOf,
-};
+ghost use Rattle.timing_diagram.specs.Traces.{traces_of, traces_at, seen_at, loss_at, each_of};
+ghost use Rattle.timing_diagram.specs.Traces.{IsTraceOf};
 
 use line_model::{Element, Line, Memory, Place};
 use std::alloc::Global;

@@ -1,32 +1,13 @@
 -- The rows speak of the line's terminals and ticks alone.
-use Rattle.std.proofs.Common.{
-  ◌≡◌,
-  ◌<◌,
-  ◌≤◌,
-  ◌++◌,
-  ◌||◌,
-  ℕ,
-  zero,
-  suc,
-  Bool,
-  List,
-  Option,
-  refl,
-  sym,
-  ◌∙◌,
-  ap,
-  arith,
-}
+use Rattle.std.proofs.Common.{◌≡◌, ◌<◌, ◌≤◌, ◌++◌, ◌||◌, ℕ, zero, suc, Bool, List, Option, refl}
+use Rattle.std.proofs.Common.{sym, ◌∙◌, ap, arith}
 use Rattle.std.specs.Prelude.{codes}
-use Rattle.history.specs.Elements.{some_below}
-use Rattle.history.specs.Rails.{Rails, must_of, may_of}
+use Rattle.history.specs.{Elements.some_below, Rails.Rails, Rails.must_of, Rails.may_of}
 use Rattle.line_model.specs.declared.line.Line.{Line}
-use Rattle.line_model.specs.declared.script.Kind.{Kind}
 use Rattle.line_model.specs.declared.script.Kind.TheVariants.{Internal, External}
-use Rattle.line_model.specs.declared.script.Script.{Script}
-use Rattle.line_model.specs.Parameters.{terminal_count}
 use Rattle.line_model.specs.Histories.{PairHistory, IsSamePairHistory}
-use Rattle.line_model.specs.Rule.{Rule, rule_by}
+use Rattle.line_model.specs.{declared.script.Kind.Kind, declared.script.Script.Script}
+use Rattle.line_model.specs.{Parameters.terminal_count, Rule.Rule, Rule.rule_by}
 use Rattle.simulator.specs.PlayRows.{each_below}
 use Rattle.interval_wave.specs.Rules.{counted_ticks, rule_by_rails}
 use Rattle.timing_report.specs.ReportText.{fields_text, rule_word, row_text, script_rows}

@@ -3,14 +3,12 @@
 ghost use Rattle.std.specs.Prelude.{◌≡◌, ◌++◌, ◌<◌, OnOk, IfOk};
 ghost use Rattle.std.specs.List.{All};
 ghost use Rattle.line_model.specs.declared.script.Script.{Script};
-ghost use Rattle.line_model.specs.Parameters.{terminal_count};
-ghost use Rattle.line_model.specs.Choice.{declared_box};
-ghost use Rattle.line_model.specs.Fits.{Fits};
 ghost use Rattle.line_model.specs.Histories.{PairHistory, IsPairHistory};
+ghost use Rattle.line_model.specs.{Parameters.terminal_count, Choice.declared_box, Fits.Fits};
 ghost use Rattle.gate_net.specs.NetOf.{IsNetOf};
 ghost use Rattle.interval_wave.specs.PairWavesOf.{pair_history};
-ghost use Rattle.timing_report.specs.ReportText.{script_rows, report_text_of};
-ghost use Rattle.timing_report.specs.ReportText.{AreHistories, IsReportText};
+ghost use Rattle.timing_report.specs.ReportText.{script_rows, report_text_of, AreHistories};
+ghost use Rattle.timing_report.specs.ReportText.{IsReportText};
 
 use crate::rows::push_row;
 use gate_net::Net;

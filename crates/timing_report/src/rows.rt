@@ -2,12 +2,10 @@
 
 ghost use Rattle.std.specs.Prelude.{◌≡◌, ◌++◌, ◌<◌, ◌≤◌, OnOk, IfSome};
 ghost use Rattle.line_model.specs.Parameters.{terminal_count};
-ghost use Rattle.interval_wave.specs.PairWavesOf.{pair_history};
-ghost use Rattle.interval_wave.specs.Rules.{rule_named};
+ghost use Rattle.interval_wave.specs.{PairWavesOf.pair_history, Rules.rule_named};
 ghost use Rattle.timing_report.specs.ReportText.{kind_word as word_of_kind};
-ghost use Rattle.timing_report.specs.ReportText.{rule_word as word_of_rule};
-ghost use Rattle.timing_report.specs.ReportText.{field, tick_text, margin_text};
-ghost use Rattle.timing_report.specs.ReportText.{fields_text, row_text};
+ghost use Rattle.timing_report.specs.ReportText.{rule_word as word_of_rule, field, tick_text};
+ghost use Rattle.timing_report.specs.ReportText.{margin_text, fields_text, row_text};
 
 use crate::margins::{deadline, margin, margin_us};
 use interval_wave::{PairWaves, Rule, judge};

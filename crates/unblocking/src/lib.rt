@@ -7,13 +7,9 @@
 #![tactic(auto)]
 
 ghost use Rattle.std.specs.Prelude.{◌≡◌, ◌<◌, ◌≤◌, ◌+◌, length, IfOk};
-ghost use Rattle.line_model.specs.Parameters.{terminal_count};
-ghost use Rattle.line_model.specs.Unblocking.{all_open as all_open_tree};
-ghost use Rattle.gate_net.specs.Formulas.{Stands};
-ghost use Rattle.gate_net.specs.Growing.{Grows};
-ghost use Rattle.gate_net.specs.Named.{KeepsNames};
-ghost use Rattle.zones.specs.LocalGates.{AreLocal};
-ghost use Rattle.zones.specs.Outputs.{AreOutputs};
+ghost use Rattle.line_model.specs.{Parameters.terminal_count, Unblocking.all_open as all_open_tree};
+ghost use Rattle.gate_net.specs.{Formulas.Stands, Growing.Grows, Named.KeepsNames};
+ghost use Rattle.zones.specs.{LocalGates.AreLocal, Outputs.AreOutputs};
 
 mod window;
 

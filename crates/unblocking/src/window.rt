@@ -1,16 +1,11 @@
 // A channel whose window opens for a while when it is lost.
 
 ghost use Rattle.std.specs.Prelude.{◌<◌, ◌≤◌, ◌+◌, length, IfOk};
-ghost use Rattle.line_model.specs.Unblocking.{
-  guard_seen as guard_seen_tree,
-  late as late_tree,
-  unblocked as unblocked_tree,
-  locked_out as locked_out_tree,
-  open_from as open_from_tree,
-};
-ghost use Rattle.gate_net.specs.Formulas.{Stands};
-ghost use Rattle.gate_net.specs.Growing.{Grows};
-ghost use Rattle.gate_net.specs.Named.{KeepsNames};
+ghost use Rattle.line_model.specs.Unblocking.{guard_seen as guard_seen_tree, late as late_tree};
+ghost use Rattle.line_model.specs.Unblocking.{unblocked as unblocked_tree};
+ghost use Rattle.line_model.specs.Unblocking.{locked_out as locked_out_tree};
+ghost use Rattle.line_model.specs.Unblocking.{open_from as open_from_tree};
+ghost use Rattle.gate_net.specs.{Formulas.Stands, Growing.Grows, Named.KeepsNames};
 
 use gate_net::{GateId, NetBuilder};
 use line_model::{Line, Memory, Setting, Time};

@@ -1,19 +1,11 @@
 -- A dump speaks of the net's gates and the line's ticks alone.
-use Rattle.std.proofs.Common.{◌≡◌, ℕ, zero, suc, ◌-◌, ◌<◌, ◌≤◌, Bool, List, ◌++◌, length, refl, ◌∙◌, ap, arith}
+use Rattle.std.proofs.Common.{◌≡◌, ℕ, zero, suc, ◌-◌, ◌<◌, ◌≤◌, Bool, List, ◌++◌, length, refl, ◌∙◌}
+use Rattle.std.proofs.Common.{ap, arith}
 use Rattle.line_model.specs.declared.line.Line.{Line}
 use Rattle.gate_net.specs.NetOf.{NetOf}
 use Rattle.simulator.specs.PlayRows.{each_below}
-use Rattle.wave_picture.specs.Dump.{
-  GateLevels,
-  value_text,
-  change_text,
-  timed_text,
-  first_text,
-  next_text,
-  tick_text,
-  changes_text,
-  dump_text,
-}
+use Rattle.wave_picture.specs.Dump.{GateLevels, value_text, change_text, timed_text, first_text}
+use Rattle.wave_picture.specs.Dump.{next_text, tick_text, changes_text, dump_text}
 
 each_below-same : (n : ℕ) (f g : ℕ → List ℕ) → ((k : ℕ) → k < n → f k ≡ g k)
     → each_below n f ≡ each_below n g

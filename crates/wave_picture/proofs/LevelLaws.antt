@@ -1,18 +1,16 @@
 -- A run at a timing has the value of each gate's tree in the history at the timing's choice.
-use Rattle.std.proofs.Common.{◌≡◌, ℕ, ◌<◌, Bool, true, false, Option, Some, None, length, refl, sym, subst, arith}
+use Rattle.std.proofs.Common.{◌≡◌, ℕ, ◌<◌, Bool, true, false, Option, Some, None, length, refl, sym}
+use Rattle.std.proofs.Common.{subst, arith}
 use Rattle.std.specs.Prelude.{Result, Ok, Err, IfOk}
 use Rattle.history.specs.Rails.{Rails, Ends, Covers, single}
-use Rattle.tick_signal.specs.declared.level.Level.{Level}
 use Rattle.tick_signal.specs.declared.level.Level.TheVariants.{Off, On}
-use Rattle.tick_signal.specs.Levels.{level_rails}
+use Rattle.tick_signal.specs.{declared.level.Level.Level, Levels.level_rails}
 use Rattle.line_model.specs.declared.line.Line.{Line}
-use Rattle.line_model.specs.declared.script.Script.{Script}
-use Rattle.line_model.specs.Choice.{Choice, Box, IsIn, IsWithin}
-use Rattle.line_model.specs.Histories.{History, IsLineHistory}
+use Rattle.line_model.specs.{declared.script.Script.Script, Choice.Choice, Choice.Box, Choice.IsIn}
+use Rattle.line_model.specs.{Choice.IsWithin, Histories.History, Histories.IsLineHistory}
 use Rattle.gate_net.specs.NetOf.{NetOf}
 use Rattle.simulator.specs.WavesOf.{WavesOf, pair_in, wave_value}
-use Rattle.simulator.specs.Runs.{CoverChoices, IsPoint}
-use Rattle.simulator.specs.Played.{is_on}
+use Rattle.simulator.specs.{Runs.CoverChoices, Runs.IsPoint, Played.is_on}
 use Rattle.wave_picture.specs.GateValues.{gate_levels}
 
 pub if_ok_more : {T E : Type 0} (r : Result T E) (P Q : T → Type 0) → ((x : T) → P x → Q x)

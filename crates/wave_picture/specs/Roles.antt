@@ -1,33 +1,13 @@
 -- What each gate of a net is to a protection engineer.
-use Rattle.std.specs.Prelude.{
-  ◌==◌,
-  ℕ,
-  List,
-  Option,
-  Some,
-  None,
-  slice_get,
-  option_map,
-  nat_lt,
-  if◌then◌else◌,
-}
+use Rattle.std.specs.Prelude.{◌==◌, ℕ, List, Option, Some, None, slice_get, option_map, nat_lt}
+use Rattle.std.specs.Prelude.{if◌then◌else◌}
 use Rattle.line_model.specs.declared.line.Line.{Line}
-use Rattle.line_model.specs.declared.script.Place.{Place}
-use Rattle.line_model.specs.Channels.{to_of}
-use Rattle.line_model.specs.Parameters.{terminal_count}
+use Rattle.line_model.specs.{declared.script.Place.Place, Channels.to_of, Parameters.terminal_count}
 use Rattle.gate_net.specs.declared.gate.Gate.{Gate}
 use Rattle.gate_net.specs.declared.gate.Gate.TheVariants as gate
 use Rattle.wave_picture.specs.declared.roles.Role.{Role}
-use Rattle.wave_picture.specs.declared.roles.Role.TheVariants.{
-  Seen,
-  Timed,
-  Lost,
-  Raw,
-  Received,
-  Permission,
-  AnyReceived,
-  Step,
-}
+use Rattle.wave_picture.specs.declared.roles.Role.TheVariants.{Seen, Timed, Lost, Raw, Received}
+use Rattle.wave_picture.specs.declared.roles.Role.TheVariants.{Permission, AnyReceived, Step}
 
 -- what a gate shows of the script; the channel over which it arrives; the channel that it says to be
 -- lost

@@ -1,48 +1,18 @@
 -- The variables of a value change dump (IEEE 1364): one for each gate, and one more for each
 -- terminal's key and trip.
-use Rattle.std.specs.Prelude.{
-  ◌++◌,
-  ◌+◌,
-  ◌/◌,
-  ◌%◌,
-  ◌==◌,
-  ℕ,
-  Bool,
-  true,
-  false,
-  List,
-  [],
-  ◌∷◌,
-  Option,
-  Some,
-  None,
-  codes,
-  decimal,
-  length,
-  slice_get,
-}
-use Rattle.line_model.specs.declared.line.Line.{Line}
+use Rattle.std.specs.Prelude.{◌++◌, ◌+◌, ◌/◌, ◌%◌, ◌==◌, ℕ, Bool, true, false, List, [], ◌∷◌}
+use Rattle.std.specs.Prelude.{Option, Some, None, codes, decimal, length, slice_get}
 use Rattle.line_model.specs.declared.script.Element.{Element}
 use Rattle.line_model.specs.declared.script.Element.TheVariants.{Z1, Z2, Rv, Uv, Cur}
 use Rattle.line_model.specs.Channels.{from_of, to_of}
-use Rattle.line_model.specs.ParamNames.{name_at}
-use Rattle.line_model.specs.Parameters.{terminal_count}
+use Rattle.line_model.specs.{declared.line.Line.Line, ParamNames.name_at, Parameters.terminal_count}
 use Rattle.gate_net.specs.declared.gate.Gate.{Gate}
 use Rattle.gate_net.specs.declared.gate.Gate.TheVariants as gate
 use Rattle.gate_net.specs.NetOf.{NetOf, key_of, trip_of}
 use Rattle.simulator.specs.PlayRows.{each_below}
-use Rattle.wave_picture.specs.declared.roles.Role.{Role}
-use Rattle.wave_picture.specs.declared.roles.Role.TheVariants.{
-  Seen,
-  Timed,
-  Lost,
-  Raw,
-  Received,
-  Permission,
-  AnyReceived,
-  Step,
-}
-use Rattle.wave_picture.specs.Roles.{role_of, home_of}
+use Rattle.wave_picture.specs.declared.roles.Role.TheVariants.{Seen, Timed, Lost, Raw, Received}
+use Rattle.wave_picture.specs.declared.roles.Role.TheVariants.{Permission, AnyReceived, Step}
+use Rattle.wave_picture.specs.{declared.roles.Role.Role, Roles.role_of, Roles.home_of}
 
 -- the identifier code of gate i: two characters from `!` to `~`
 unfoldable pub code_of : ℕ → List ℕ

@@ -1,19 +1,9 @@
 // The changes of a value change dump.
 
 ghost use Rattle.std.specs.Prelude.{◌≡◌, ◌<◌, ◌≤◌, ◌+◌, ◌-◌, ◌++◌, OnOk};
-ghost use Rattle.simulator.specs.PlayRows.{level_word};
-ghost use Rattle.simulator.specs.Played.{is_on};
-ghost use Rattle.simulator.specs.PlayRows.{each_below};
-ghost use Rattle.wave_picture.specs.Dump.{
-  time_text,
-  value_text,
-  change_text,
-  first_text,
-  next_text,
-  timed_text,
-  tick_text,
-  changes_text,
-};
+ghost use Rattle.simulator.specs.{PlayRows.level_word, PlayRows.each_below, Played.is_on};
+ghost use Rattle.wave_picture.specs.Dump.{time_text, value_text, change_text, first_text};
+ghost use Rattle.wave_picture.specs.Dump.{next_text, timed_text, tick_text, changes_text};
 
 use crate::gates::on_at;
 use crate::put::{put, put_number};

@@ -3,10 +3,8 @@
 ghost use Rattle.std.specs.Prelude.{◌≡◌, ◌<◌, ℕ, length, IfOk};
 ghost use Rattle.line_model.specs.Histories.{History, IsLineHistory, IsSameHistory};
 ghost use Rattle.gate_net.specs.NetOf.{IsNetOf};
-ghost use Rattle.timing_box.specs.Inside.{IsTimingInside};
-ghost use Rattle.timing_box.specs.Choice.{timing_choice};
-ghost use Rattle.simulator.specs.Played.{is_on, played};
-ghost use Rattle.simulator.specs.Runs.{AreWavesOf};
+ghost use Rattle.timing_box.specs.{Inside.IsTimingInside, Choice.timing_choice};
+ghost use Rattle.simulator.specs.{Played.is_on, Played.played, Runs.AreWavesOf};
 ghost use Rattle.wave_picture.specs.GateValues.{gate_levels};
 
 use gate_net::Net;

@@ -5,8 +5,7 @@ ghost use Rattle.line_model.specs.Channels.{from_of, to_of};
 ghost use Rattle.wave_picture.specs.Roles.{role_of, seen_place, raw_channel, lost_channel};
 ghost use Rattle.wave_picture.specs.Roles.{denied_gate, received_over, received_at};
 ghost use Rattle.wave_picture.specs.Roles.{both_received_at, and_role, any_role, timed_role};
-ghost use Rattle.wave_picture.specs.Roles.{home_of, terminal_of};
-ghost use Rattle.wave_picture.specs.Roles.{same_number as number_of_both};
+ghost use Rattle.wave_picture.specs.Roles.{home_of, terminal_of, same_number as number_of_both};
 
 use crate::gates::find_gate;
 use gate_net::{Gate, GateId, Net};

@@ -1,26 +1,13 @@
 // The variables of a value change dump.
 
 ghost use Rattle.std.specs.Prelude.{◌≡◌, ◌<◌, ◌++◌, length, codes, OnOk};
-ghost use Rattle.line_model.specs.ParamNames.{name_at};
-ghost use Rattle.line_model.specs.Parameters.{terminal_count};
+ghost use Rattle.line_model.specs.{ParamNames.name_at, Parameters.terminal_count};
 ghost use Rattle.gate_net.specs.NetOf.{IsNetOf};
 ghost use Rattle.simulator.specs.PlayRows.{each_below};
-ghost use Rattle.wave_picture.specs.Variables.{
-  code_of,
-  element_text,
-  kind_text,
-  channel_text,
-  role_text,
-  step_text,
-  variable_head,
-  variable_text,
-  is_same_home,
-  variable_in,
-  variables_in,
-  scope_text,
-  terminal_scope,
-  declarations,
-};
+ghost use Rattle.wave_picture.specs.Variables.{code_of, element_text, kind_text, channel_text};
+ghost use Rattle.wave_picture.specs.Variables.{role_text, step_text, variable_head, variable_text};
+ghost use Rattle.wave_picture.specs.Variables.{is_same_home, variable_in, variables_in, scope_text};
+ghost use Rattle.wave_picture.specs.Variables.{terminal_scope, declarations};
 
 use crate::put::{put, put_number};
 use crate::roles::{Role, gate_role, home, receiver, sender};

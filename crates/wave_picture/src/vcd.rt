@@ -3,12 +3,9 @@
 ghost use Rattle.std.specs.Prelude.{◌≡◌, ◌++◌, IfOk, OnOk};
 ghost use Rattle.line_model.specs.Histories.{History, IsLineHistory};
 ghost use Rattle.gate_net.specs.NetOf.{IsNetOf};
-ghost use Rattle.timing_box.specs.Inside.{IsTimingInside};
-ghost use Rattle.timing_box.specs.Choice.{timing_choice};
-ghost use Rattle.simulator.specs.Played.{is_on};
-ghost use Rattle.simulator.specs.Runs.{AreWavesOf};
-ghost use Rattle.wave_picture.specs.Dump.{dump_text};
-ghost use Rattle.wave_picture.specs.GateValues.{gate_levels};
+ghost use Rattle.timing_box.specs.{Inside.IsTimingInside, Choice.timing_choice};
+ghost use Rattle.simulator.specs.{Played.is_on, Runs.AreWavesOf};
+ghost use Rattle.wave_picture.specs.{Dump.dump_text, GateValues.gate_levels};
 
 use crate::changes::{Extent, put_changes};
 use crate::play::play_waves;

@@ -1,16 +1,14 @@
 -- What comes of a wave through a delay of which the two ends are known.
-use Rattle.std.proofs.Common.{◌≡◌, ℕ, zero, suc, ◌+◌, ◌-◌, ◌≤◌, Bool, List, [], ◌∷◌}
-use Rattle.std.proofs.Common.{◌<◌, ◌∙◌, ap, arith, sym, refl, true, false, ⊎_elim}
-use Rattle.std.specs.Prelude.{IsTrue}
+use Rattle.std.proofs.Common.{◌≡◌, ℕ, zero, suc, ◌+◌, ◌-◌, ◌≤◌, Bool, List, [], ◌∷◌, ◌<◌, ◌∙◌, ap}
+use Rattle.std.proofs.Common.{arith, sym, refl, true, false, ⊎_elim}
 use Rattle.std.proofs.lemmas.Bool.{cases_lt}
 use Rattle.std.proofs.lemmas.Bool.Decides.{same_from_decides, Decides-like}
-use Rattle.history.specs.Comes.{AllCome, SomeComes}
-use Rattle.history.specs.Laws.{DelaysAreTheirFacts}
+use Rattle.std.specs.Prelude.{IsTrue}
 use Rattle.history.specs.Rails.{Rails, Ends, IsSound, rails_delayed, must_of, may_of}
+use Rattle.history.specs.{Comes.AllCome, Comes.SomeComes, Laws.DelaysAreTheirFacts}
 use Rattle.tick_signal.specs.Spans.{ends_of}
-use Rattle.tick_signal.specs.declared.tern.Tern.{Tern}
 use Rattle.tick_signal.specs.declared.tern.Tern.TheVariants.{Zero, One, Unknown}
-use Rattle.tick_signal.specs.Terns.{tern_rails, tern_sound}
+use Rattle.tick_signal.specs.{declared.tern.Tern.Tern, Terns.tern_rails, Terns.tern_sound}
 use Rattle.wave_runs.specs.Waves.{wave_at, ArrivesAlike}
 
 pub wave_sound : (wave : List Tern) (r : ℕ) → IsSound (wave_at wave r)

@@ -1,16 +1,13 @@
 -- Elements over a wave of which a stretch has one value.
 use Rattle.std.proofs.Common.{◌≡◌, ℕ, zero, suc, ◌+◌, ◌-◌, ◌<◌, ◌≤◌, Bool, List, [], ◌∷◌, ◌++◌}
-use Rattle.std.proofs.Common.{length}
-use Rattle.std.proofs.Common.{replicate, refl, sym, ◌∙◌, ap, arith, append_assoc, ⊎_elim}
+use Rattle.std.proofs.Common.{length, replicate, refl, sym, ◌∙◌, ap, arith, append_assoc, ⊎_elim}
 use Rattle.std.proofs.lemmas.Bool.{cases_lt}
 use Rattle.std.proofs.lemmas.Bool.Decides.{Decides-like, same_from_decides}
 use Rattle.std.proofs.lemmas.List.{append-nil, replicate_more}
-use Rattle.history.specs.Elements.{sealed, IsSealed}
-use Rattle.history.specs.Recorded.{first_ticks}
 use Rattle.history.specs.Rails.{Rails, Ends, rails_at, rails_timed, rails_sealed, must_of, may_of}
 use Rattle.history.specs.Laws.{HistoryLaws}
-use Rattle.timers.specs.Ahead.{next_rails}
-use Rattle.timers.specs.Seals.{last_seal, SealStandsFor}
+use Rattle.history.specs.{Elements.sealed, Elements.IsSealed, Recorded.first_ticks}
+use Rattle.timers.specs.{Ahead.next_rails, Seals.last_seal, Seals.SealStandsFor}
 
 -- the history has this value at each tick of the stretch
 abbrev pub StaysAt : (ℕ → Rails) → Rails → ℕ → ℕ → Type 0

@@ -1,10 +1,11 @@
 -- The first tick at which a signal is on.
-use Rattle.std.proofs.Common.{◌≡◌, ◌<◌, ◌≤◌, ℕ, Bool, true, false, List, length, Option, Some, None, sym, ◌∙◌, ap, arith, cond, ⊎_elim}
-use Rattle.std.specs.Prelude.{nat_lt, IsTrue, IsFalse}
-use Rattle.std.specs.List.{position_or_len}
+use Rattle.std.proofs.Common.{◌≡◌, ◌<◌, ◌≤◌, ℕ, Bool, true, false, List, length, Option, Some, None}
+use Rattle.std.proofs.Common.{sym, ◌∙◌, ap, arith, cond, ⊎_elim}
 use Rattle.std.proofs.lemmas.Bool.{cases_lt, lt-ltb, le-ltb}
 use Rattle.std.proofs.lemmas.List.Quantifiers.{position-Some}
 use Rattle.std.proofs.lemmas.List.Sums.{position_or_len_is, fails_before_first}
+use Rattle.std.specs.Prelude.{nat_lt, IsTrue, IsFalse}
+use Rattle.std.specs.List.{position_or_len}
 use Rattle.history.specs.Recorded.{first_ticks}
 use Rattle.history.specs.FirstTicks.{length-first_ticks, get_or-first_ticks}
 use Rattle.wave_runs.specs.FirstTick.{first_on}

@@ -1,14 +1,13 @@
 -- The text of a wave has no line feed.
-use Rattle.std.proofs.Common.{◌≡◌, ◌+◌, ◌<◌, ◌≤◌, ◌^◌, true, List, [], ◌∷◌, length, refl}
-use Rattle.std.proofs.Common.{ap, arith, decimal, length-append}
+use Rattle.std.proofs.Common.{◌≡◌, ◌+◌, ◌<◌, ◌≤◌, ◌^◌, true, List, [], ◌∷◌, length, refl, ap, arith}
+use Rattle.std.proofs.Common.{decimal, length-append}
 use Rattle.std.proofs.lemmas.List.{length-replicate}
 use Rattle.tick_signal.specs.declared.tern.Tern.{Tern}
 use Rattle.tick_signal.specs.declared.tern.Tern.TheVariants.{Zero, One, Unknown}
 use Rattle.text_lines.specs.Lines.{is_no_feed, is_one_line}
 use Rattle.text_lines.specs.NamedLaws.{whole_append, whole_more, decimal_whole}
-use Rattle.wave_runs.specs.declared.runs.Run.{Run}
-use Rattle.wave_runs.specs.Waves.{levels_of, ticks_of}
 use Rattle.wave_runs.specs.Text.{item_text, items_text, level_letter, runs_of, runs_text}
+use Rattle.wave_runs.specs.{declared.runs.Run.Run, Waves.levels_of, Waves.ticks_of}
 use Rattle.wave_runs.proofs.LongestRuns.{levels_of-runs_of}
 
 letter_whole : (level : Tern) → is_no_feed (level_letter level) ≡ true

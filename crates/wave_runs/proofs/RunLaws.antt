@@ -1,22 +1,20 @@
 -- Runs in a list, by their ends, and the values that they have.
 use Rattle.std.proofs.Common.{◌≡◌, ◌≢◌, ℕ, zero, suc, ◌+◌, ◌-◌, ◌<◌, ◌≤◌, List, [], ◌∷◌, ◌++◌}
 use Rattle.std.proofs.Common.{length, replicate, take, drop, get_or, refl, sym, ◌∙◌, ap, arith}
-use Rattle.std.proofs.Common.{append_assoc, length-append, set, subst, ⊎_elim}
-use Rattle.std.proofs.Common.{leb, leb-true, true, false}
+use Rattle.std.proofs.Common.{append_assoc, length-append, set, subst, ⊎_elim, leb, leb-true, true}
+use Rattle.std.proofs.Common.{false}
 use Rattle.std.proofs.lemmas.Bool.{cases_lt, leb-false}
-use Rattle.std.specs.Prelude.{slice_get, Some}
 use Rattle.std.proofs.lemmas.List.{take-append-drop, drop_more, length-replicate, get_or_default}
-use Rattle.std.proofs.lemmas.List.{append-nil, replicate-append-replicate, take_more}
-use Rattle.std.proofs.lemmas.List.{drop_all, set_at, length-take-le}
+use Rattle.std.proofs.lemmas.List.{append-nil, replicate-append-replicate, take_more, drop_all}
+use Rattle.std.proofs.lemmas.List.{set_at, length-take-le}
 use Rattle.std.proofs.lemmas.List.Concat.{flat_map-append}
 use Rattle.std.proofs.lemmas.List.Sorted.{IsPartitionedBy-leb}
+use Rattle.std.specs.Prelude.{slice_get, Some}
 use Rattle.std.specs.List.Sorted.{IsPartitionedBy, IsPartitionPoint}
-use Rattle.tick_signal.specs.declared.tern.Tern.{Tern}
-use Rattle.tick_signal.specs.declared.tern.Tern.TheVariants.{Zero}
-use Rattle.wave_runs.specs.declared.runs.Run.{Run}
+use Rattle.tick_signal.specs.{declared.tern.Tern.Tern, declared.tern.Tern.TheVariants.Zero}
 use Rattle.wave_runs.specs.declared.runs.Stretch.{Stretch}
-use Rattle.wave_runs.specs.Waves.{run_of, ticks_of, levels_of, runs_from, AreApart}
-use Rattle.wave_runs.specs.Waves.{HasThroughout, IsRunAt}
+use Rattle.wave_runs.specs.{declared.runs.Run.Run, Waves.run_of, Waves.ticks_of, Waves.levels_of}
+use Rattle.wave_runs.specs.{Waves.runs_from, Waves.AreApart, Waves.HasThroughout, Waves.IsRunAt}
 
 pub levels_round : (front : List Run) (run : Run) (rest : List Run)
     → levels_of (front ++ run ∷ rest) ≡ levels_of front ++ (ticks_of run ++ levels_of rest)

@@ -1,27 +1,24 @@
 -- Items in a row: written one by one, and read back.
-use Rattle.std.proofs.Common.{◌≡◌, ◌≢◌, ◌&&◌, ◌^◌, ℕ, ◌+◌, ◌<◌, ◌≤◌, Bool, true, false}
-use Rattle.std.proofs.Common.{List, [], ◌∷◌, ◌++◌, length, take, drop, get_or, Some, None}
-use Rattle.std.proofs.Common.{cond, not, refl, sym, ◌∙◌, ap, arith, append_assoc}
-use Rattle.std.proofs.Common.{length-append, subst}
-use Rattle.std.proofs.lemmas.List.{length-take-le, append-nil, take_at, drop_at}
-use Rattle.std.proofs.Common.{ne_eqb, inl, inr, decimal}
+use Rattle.std.proofs.Common.{◌≡◌, ◌≢◌, ◌&&◌, ◌^◌, ℕ, ◌+◌, ◌<◌, ◌≤◌, Bool, true, false, List, []}
+use Rattle.std.proofs.Common.{◌∷◌, ◌++◌, length, take, drop, get_or, Some, None, cond, not, refl}
+use Rattle.std.proofs.Common.{sym, ◌∙◌, ap, arith, append_assoc, length-append, subst, ne_eqb, inl}
+use Rattle.std.proofs.Common.{inr, decimal}
+use Rattle.std.proofs.lemmas.List.{length-take-le, append-nil, take_at, drop_at, drop-drop}
+use Rattle.std.proofs.lemmas.List.{length-replicate}
 use Rattle.std.proofs.lemmas.Bool.Decides.{leb_tells}
-use Rattle.std.proofs.lemmas.List.{drop-drop, length-replicate}
 use Rattle.std.proofs.lemmas.Option.{none-some, same_Some}
 use Rattle.std.specs.Prelude.{nat_le}
 use Rattle.std.specs.List.{list_all, prefix_len, position_or_len}
 use Rattle.relay_base.specs.Number.{is_digit, number_of}
+use Rattle.relay_base.specs.DecimalLaws.{are_digits, number_of-decimal}
 use Rattle.tick_signal.specs.declared.tern.Tern.{Tern}
 use Rattle.tick_signal.specs.declared.tern.Tern.TheVariants.{Zero, One, Unknown}
-use Rattle.wave_runs.specs.declared.runs.Run.{Run}
-use Rattle.wave_runs.specs.declared.runs.Stretch.{Stretch}
-use Rattle.wave_runs.specs.Waves.{levels_of, runs_from, AreApart}
-use Rattle.wave_runs.specs.Text.{gap, item_text, items_text, level_letter}
-use Rattle.wave_runs.specs.Text.{is_space, level_in, run_with, run_in}
-use Rattle.wave_runs.specs.Waves.{ticks_of, AreRunsOf}
-use Rattle.relay_base.specs.DecimalLaws.{are_digits, number_of-decimal}
-use Rattle.wave_runs.proofs.RunLaws.{levels_round, new_levels, length-levels, some_ticks}
-use Rattle.wave_runs.proofs.RunLaws.{run_to, end_from, one_run_more, length-runs_from}
+use Rattle.wave_runs.specs.Waves.{levels_of, runs_from, AreApart, ticks_of, AreRunsOf}
+use Rattle.wave_runs.specs.Text.{gap, item_text, items_text, level_letter, is_space, level_in}
+use Rattle.wave_runs.specs.Text.{run_with, run_in}
+use Rattle.wave_runs.specs.{declared.runs.Run.Run, declared.runs.Stretch.Stretch}
+use Rattle.wave_runs.proofs.RunLaws.{levels_round, new_levels, length-levels, some_ticks, run_to}
+use Rattle.wave_runs.proofs.RunLaws.{end_from, one_run_more, length-runs_from}
 
 -- one item more
 items_more : (runs : List Run) (run : Run)

@@ -1,14 +1,13 @@
 -- Waves that are made stretch by stretch.
-use Rattle.std.proofs.Common.{◌≡◌, ℕ, ◌+◌, ◌<◌, ◌≤◌, List, [], ◌++◌, length, map, replicate}
-use Rattle.std.proofs.Common.{refl, sym, ◌∙◌, ap, arith, length-append, ⊎_elim}
-use Rattle.std.specs.Prelude.{false, slice_get, Some, option_map}
+use Rattle.std.proofs.Common.{◌≡◌, ℕ, ◌+◌, ◌<◌, ◌≤◌, List, [], ◌++◌, length, map, replicate, refl}
+use Rattle.std.proofs.Common.{sym, ◌∙◌, ap, arith, length-append, ⊎_elim}
 use Rattle.std.proofs.lemmas.Bool.{cases_lt}
 use Rattle.std.proofs.lemmas.List.{append-nil, map-append, length-map, length-replicate}
 use Rattle.std.proofs.lemmas.List.{get_or_append_left}
 use Rattle.std.proofs.lemmas.Option.{slice_get-map, get_or_from_slice_get}
+use Rattle.std.specs.Prelude.{false, slice_get, Some, option_map}
 use Rattle.history.specs.Rails.{Rails, both, rails_at}
-use Rattle.tick_signal.specs.declared.tern.Tern.{Tern}
-use Rattle.tick_signal.specs.Terns.{tern_rails}
+use Rattle.tick_signal.specs.{declared.tern.Tern.Tern, Terns.tern_rails}
 use Rattle.wave_runs.specs.Waves.{HasThroughout, wave_at, IsWaveOf}
 use Rattle.wave_runs.proofs.RunLaws.{in_run}
 

@@ -1,8 +1,7 @@
 -- Laws of waves that proofs above cite.
 use Rattle.std.specs.Prelude.{◌≡◌, ◌+◌, ◌<◌, ◌≤◌, ◌++◌, ℕ, List, length, replicate}
 use Rattle.history.specs.Rails.{Rails}
-use Rattle.tick_signal.specs.declared.tern.Tern.{Tern}
-use Rattle.tick_signal.specs.Terns.{tern_rails}
+use Rattle.tick_signal.specs.{declared.tern.Tern.Tern, Terns.tern_rails}
 use Rattle.wave_runs.specs.Waves.{IsWaveOf}
 
 -- a wave with these rails at each tick, and then n ticks of a value that has them, is such a wave

@@ -3,10 +3,8 @@ use Rattle.std.specs.Prelude.{◌≡◌, ◌≢◌, ℕ, ◌+◌, ◌-◌, ◌<�
 use Rattle.std.specs.Prelude.{map, slice_get, get_or, Some}
 use Rattle.std.specs.List.{flat_map}
 use Rattle.history.specs.Rails.{Rails, rails_at}
-use Rattle.tick_signal.specs.declared.tern.Tern.{Tern}
-use Rattle.tick_signal.specs.Terns.{tern_rails}
-use Rattle.wave_runs.specs.declared.runs.Run.{Run}
-use Rattle.wave_runs.specs.declared.runs.Stretch.{Stretch}
+use Rattle.tick_signal.specs.{declared.tern.Tern.Tern, Terns.tern_rails}
+use Rattle.wave_runs.specs.{declared.runs.Run.Run, declared.runs.Stretch.Stretch}
 
 abbrev pub run_of : Tern → ℕ → Run
 run_of level ticks = record { level = level; ticks = ticks }

@@ -3,8 +3,8 @@
 
 ghost use Rattle.std.specs.Prelude.{◌≡◌, ◌<◌, ◌≤◌, ℕ, IsTrue, length};
 ghost use Rattle.tick_signal.specs.Terns.{tern_rails};
-ghost use Rattle.wave_runs.specs.Waves.{HasThroughout, IsRunAt, AreApart, AreRunsOf};
-ghost use Rattle.wave_runs.specs.Waves.{levels_of, runs_from, wave_at};
+ghost use Rattle.wave_runs.specs.Waves.{HasThroughout, IsRunAt, AreApart, AreRunsOf, levels_of};
+ghost use Rattle.wave_runs.specs.Waves.{runs_from, wave_at};
 
 use crate::runs::Stretch;
 use std::marker::Model;

@@ -2,8 +2,7 @@
 #![tactic(auto)]
 
 ghost use Rattle.std.specs.Prelude.{◌≡◌, ◌<◌, IfSome, length};
-ghost use Rattle.wave_runs.specs.FirstTick.{first_on};
-ghost use Rattle.wave_runs.specs.Waves.{wave_at};
+ghost use Rattle.wave_runs.specs.{FirstTick.first_on, Waves.wave_at};
 
 use crate::runs::Runs;
 use tick_signal::Signal;

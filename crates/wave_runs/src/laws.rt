@@ -3,9 +3,7 @@
 
 ghost use Rattle.std.specs.Prelude.{◌≡◌, ◌<◌, ◌≤◌, ◌↔◌, ℕ, Bool, List, IsTrue, IsFalse, length};
 ghost use Rattle.tick_signal.specs.declared.tern.Tern.{Tern};
-ghost use Rattle.wave_runs.specs.FirstTick.{first_on};
-ghost use Rattle.wave_runs.specs.Text.{runs_text};
-ghost use Rattle.wave_runs.specs.WaveLaws.{WavesGrow};
+ghost use Rattle.wave_runs.specs.{FirstTick.first_on, Text.runs_text, WaveLaws.WavesGrow};
 
 /// A text is that of at most one wave.
 pub fn texts_tell_waves()

@@ -2,11 +2,8 @@
 #![tactic(auto)]
 
 ghost use Rattle.std.specs.Prelude.{◌≡◌, ◌↔◌, ◌+◌, ◌<◌, ◌≤◌, ◌++◌, ℕ, List, IsTrue, length, IfOk};
-ghost use Rattle.history.specs.Comes.{AllCome, SomeComes};
-ghost use Rattle.history.specs.Rails.{rails_delayed};
-ghost use Rattle.tick_signal.specs.declared.tern.Tern.{Tern};
-ghost use Rattle.tick_signal.specs.Spans.{ends_of};
-ghost use Rattle.tick_signal.specs.Terns.{tern_rails};
+ghost use Rattle.history.specs.{Comes.AllCome, Comes.SomeComes, Rails.rails_delayed};
+ghost use Rattle.tick_signal.specs.{declared.tern.Tern.Tern, Spans.ends_of, Terns.tern_rails};
 ghost use Rattle.wave_runs.specs.Waves.{wave_at, IsWaveOf, IsSameUntil, ArrivesAlike};
 
 use crate::cursor::Cursor;

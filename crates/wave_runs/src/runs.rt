@@ -1,11 +1,10 @@
 //! A wave as runs.
 #![tactic(auto)]
 
-ghost use Rattle.std.specs.Prelude.{◌≡◌, ◌+◌, ◌-◌, ◌<◌, ◌≤◌, [], ◌++◌, length, replicate, slice_get};
-ghost use Rattle.std.specs.Prelude.{Some, IfOk, MatchResult};
+ghost use Rattle.std.specs.Prelude.{◌≡◌, ◌+◌, ◌-◌, ◌<◌, ◌≤◌, [], ◌++◌, length, replicate};
+ghost use Rattle.std.specs.Prelude.{slice_get, Some, IfOk, MatchResult};
 ghost use Rattle.tick_signal.specs.Terns.{tern_rails};
-ghost use Rattle.wave_runs.specs.Waves.{wave_at, AreApart, AreRunsOf, levels_of};
-ghost use Rattle.wave_runs.specs.Waves.{runs_from};
+ghost use Rattle.wave_runs.specs.Waves.{wave_at, AreApart, AreRunsOf, levels_of, runs_from};
 
 use crate::cursor::Cursor;
 use line_model::Memory;

@@ -1,8 +1,8 @@
 //! The text of a wave, both ways.
 #![tactic(auto)]
 
-ghost use Rattle.std.specs.Prelude.{◌≡◌, ◌≤◌, ◌<◌, ◌+◌, ◌++◌, List, length, take, drop};
-ghost use Rattle.std.specs.Prelude.{Some, IfOk, OnOk, MatchOption};
+ghost use Rattle.std.specs.Prelude.{◌≡◌, ◌≤◌, ◌<◌, ◌+◌, ◌++◌, List, length, take, drop, Some, IfOk};
+ghost use Rattle.std.specs.Prelude.{OnOk, MatchOption};
 ghost use Rattle.std.specs.List.{position_or_len};
 ghost use Rattle.tick_signal.specs.declared.tern.Tern.{Tern};
 ghost use Rattle.wave_runs.specs.declared.runs.Run.{Run};

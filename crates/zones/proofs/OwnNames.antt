@@ -1,19 +1,13 @@
 -- A line has the parameters and channels that its logic may name, also where a look-up finds none.
-use Rattle.std.proofs.Common.{◌≡◌, ℕ, zero, suc, ◌*◌, ◌-◌, ◌<◌, ◌≤◌, List, [], ◌∷◌, ◌++◌, length, Option, Some, None, refl, arith, length-append}
+use Rattle.std.proofs.Common.{◌≡◌, ℕ, zero, suc, ◌*◌, ◌-◌, ◌<◌, ◌≤◌, List, [], ◌∷◌, ◌++◌, length}
+use Rattle.std.proofs.Common.{Option, Some, None, refl, arith, length-append}
 use Rattle.std.specs.Prelude.{unwrap_or, IfSome}
-use Rattle.line_model.specs.declared.line.Line.{Line}
-use Rattle.line_model.specs.declared.line.Scheme.{Scheme}
-use Rattle.line_model.specs.declared.line.Terminal.{Terminal}
-use Rattle.line_model.specs.declared.line.Owner.{Owner}
-use Rattle.line_model.specs.declared.line.Setting.{Setting}
-use Rattle.line_model.specs.Settings.{
-  OwnedSetting,
-  line_settings,
-  settings_of_terminals,
-  settings_of_channels,
-}
+use Rattle.line_model.specs.Settings.{OwnedSetting, line_settings, settings_of_terminals}
+use Rattle.line_model.specs.Settings.{settings_of_channels}
 use Rattle.line_model.specs.Parameters.{param_number, param_count, terminal_count, channel_count}
-use Rattle.line_model.specs.Laws.{ParametersAreNumbered}
+use Rattle.line_model.specs.{declared.line.Line.Line, declared.line.Scheme.Scheme}
+use Rattle.line_model.specs.{declared.line.Terminal.Terminal, declared.line.Owner.Owner}
+use Rattle.line_model.specs.{declared.line.Setting.Setting, Laws.ParametersAreNumbered}
 
 -- a terminal has parameters
 some_settings : (s : Scheme) (k : ℕ) (ts : List Terminal) → 1 ≤ length ts

@@ -1,26 +1,10 @@
 -- Gates of the other terminals that are joined one after another.
-use Rattle.std.specs.Prelude.{
-  ◌≡◌,
-  ℕ,
-  ◌*◌,
-  ◌<◌,
-  List,
-  length,
-  Option,
-  Some,
-  None,
-  option_map,
-}
-use Rattle.std.proofs.Common.{refl, ap}
+use Rattle.std.specs.Prelude.{◌≡◌, ℕ, ◌*◌, ◌<◌, List, length, Option, Some, None, option_map}
 use Rattle.std.specs.Option.{ForSome}
-use Rattle.line_model.specs.declared.line.Line.{Line}
-use Rattle.line_model.specs.Tree.{Tree}
-use Rattle.line_model.specs.Received.{over_others}
-use Rattle.gate_net.specs.declared.gate.Gate.{Gate}
-use Rattle.gate_net.specs.declared.gate.GateId.{GateId}
-use Rattle.gate_net.specs.Formulas.{formula_of}
-use Rattle.gate_net.specs.Growing.{Grows}
-use Rattle.gate_net.specs.Named.{KeepsNames}
+use Rattle.std.proofs.Common.{refl, ap}
+use Rattle.line_model.specs.{declared.line.Line.Line, Tree.Tree, Received.over_others}
+use Rattle.gate_net.specs.{declared.gate.Gate.Gate, declared.gate.GateId.GateId}
+use Rattle.gate_net.specs.{Formulas.formula_of, Growing.Grows, Named.KeepsNames}
 
 -- the terminals below j other than k have been joined, with at most n gates for each
 pub record Gathers (line : Line) (op : Tree → Tree → Tree) (tree : ℕ → Tree) (k n : ℕ)

@@ -3,8 +3,7 @@ use Rattle.std.specs.Prelude.{ℕ, List}
 use Rattle.line_model.specs.declared.line.Line.{Line}
 use Rattle.line_model.specs.Elements.{zone1, zone2, reverse, undervoltage, current}
 use Rattle.line_model.specs.Permissive.{reversal_guard}
-use Rattle.gate_net.specs.declared.gate.Gate.{Gate}
-use Rattle.gate_net.specs.Formulas.{Stands}
+use Rattle.gate_net.specs.{declared.gate.Gate.Gate, Formulas.Stands}
 use Rattle.zones.specs.declared.elements.Local.{Local}
 
 -- each of the gates stands for terminal k's tree of its name

@@ -1,10 +1,8 @@
 -- What a scheme makes for a terminal.
 use Rattle.std.specs.Prelude.{ℕ, List}
 use Rattle.line_model.specs.declared.line.Line.{Line}
-use Rattle.line_model.specs.declared.line.Scheme.{Scheme}
-use Rattle.line_model.specs.Logic.{key_by, pilot_by}
-use Rattle.gate_net.specs.declared.gate.Gate.{Gate}
-use Rattle.gate_net.specs.Formulas.{Stands}
+use Rattle.line_model.specs.{declared.line.Scheme.Scheme, Logic.key_by, Logic.pilot_by}
+use Rattle.gate_net.specs.{declared.gate.Gate.Gate, Formulas.Stands}
 use Rattle.zones.specs.declared.outputs.Out.{Out}
 
 -- the gates stand for what terminal k sends and for what its pilot scheme trips on, by this scheme

@@ -2,18 +2,12 @@
 
 ghost use Rattle.std.specs.Prelude.{◌<◌, ◌≤◌, ◌+◌, length, IfOk};
 ghost use Rattle.line_model.specs.Parameters.{terminal_count};
-ghost use Rattle.line_model.specs.Elements.{
-  seen_timed as seen_timed_tree,
-  zone1 as zone1_tree,
-  zone2 as zone2_tree,
-  reverse as reverse_tree,
-  undervoltage as undervoltage_tree,
-  current as current_tree,
-};
+ghost use Rattle.line_model.specs.Elements.{seen_timed as seen_timed_tree, zone1 as zone1_tree};
+ghost use Rattle.line_model.specs.Elements.{zone2 as zone2_tree, reverse as reverse_tree};
+ghost use Rattle.line_model.specs.Elements.{undervoltage as undervoltage_tree};
+ghost use Rattle.line_model.specs.Elements.{current as current_tree};
 ghost use Rattle.line_model.specs.Permissive.{reversal_guard as reversal_guard_tree};
-ghost use Rattle.gate_net.specs.Formulas.{Stands};
-ghost use Rattle.gate_net.specs.Growing.{Grows};
-ghost use Rattle.gate_net.specs.Named.{KeepsNames};
+ghost use Rattle.gate_net.specs.{Formulas.Stands, Growing.Grows, Named.KeepsNames};
 ghost use Rattle.zones.specs.LocalGates.{AreLocal};
 
 use crate::times::{terminal_time, time_of};

@@ -1,15 +1,10 @@
 // What a terminal receives from the others.
 
 ghost use Rattle.std.specs.Prelude.{◌<◌, ◌≤◌, ◌+◌, length, IfOk};
-ghost use Rattle.line_model.specs.Parameters.{terminal_count};
-ghost use Rattle.line_model.specs.Received.{
-  received as received_tree,
-  any_received as any_received_tree,
-  all_received as all_received_tree,
-};
-ghost use Rattle.gate_net.specs.Formulas.{Stands};
-ghost use Rattle.gate_net.specs.Growing.{Grows};
-ghost use Rattle.gate_net.specs.Named.{KeepsNames};
+ghost use Rattle.line_model.specs.{Parameters.terminal_count, Received.received as received_tree};
+ghost use Rattle.line_model.specs.{Received.any_received as any_received_tree};
+ghost use Rattle.line_model.specs.{Received.all_received as all_received_tree};
+ghost use Rattle.gate_net.specs.{Formulas.Stands, Growing.Grows, Named.KeepsNames};
 
 use crate::joining::{and_before, or_before, or_never};
 use crate::times::channel_to;

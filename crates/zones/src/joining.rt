@@ -2,11 +2,9 @@
 
 ghost use Rattle.std.specs.Prelude.{◌<◌, ◌≤◌, ◌+◌, length, IfOk, option_map, unwrap_or, false};
 ghost use Rattle.std.specs.Option.{ForSome};
-ghost use Rattle.line_model.specs.Tree.{Not, And, Or, Const};
-ghost use Rattle.line_model.specs.Received.{joined};
+ghost use Rattle.line_model.specs.{Tree.Not, Tree.And, Tree.Or, Tree.Const, Received.joined};
 ghost use Rattle.gate_net.specs.Formulas.{formula_of, Stands};
-ghost use Rattle.gate_net.specs.Growing.{Grows};
-ghost use Rattle.gate_net.specs.Named.{KeepsNames};
+ghost use Rattle.gate_net.specs.{Growing.Grows, Named.KeepsNames};
 
 use gate_net::{GateId, NetBuilder};
 use line_model::{Line, Memory};

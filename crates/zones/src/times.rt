@@ -1,12 +1,10 @@
 // The line's parameters and channels, as gates name them.
 
 ghost use Rattle.std.specs.Prelude.{◌≡◌, ◌<◌};
-ghost use Rattle.line_model.specs.Names.{HasTime};
 ghost use Rattle.line_model.specs.Parameters.{terminal_count, channel_count, IsOwner};
-ghost use Rattle.line_model.specs.Elements.{setting_of};
-ghost use Rattle.line_model.specs.Permissive.{terminal_setting};
 ghost use Rattle.line_model.specs.Received.{channel_to as channel_number_to};
 ghost use Rattle.line_model.specs.Unblocking.{channel_setting};
+ghost use Rattle.line_model.specs.{Names.HasTime, Elements.setting_of, Permissive.terminal_setting};
 
 use line_model::laws::parameters_are_numbered;
 use line_model::{Line, Owner, Setting, Time};

@@ -1,8 +1,6 @@
 use Rattle.std.specs.List.{All}
-use Rattle.line_model.specs.declared.line.Line.{Line}
-use Rattle.line_model.specs.Fits.{Fits}
-use Rattle.bench.specs.BenchLine.{IsBenchLine}
-use Rattle.bench.specs.BenchScripts.{AreBenchScripts}
+use Rattle.line_model.specs.{declared.line.Line.Line, Fits.Fits}
+use Rattle.bench.specs.{BenchLine.IsBenchLine, BenchScripts.AreBenchScripts}
 use Rattle.bench.proofs.scripts.bench_scripts.Given as goal
 
 abbrev pub invariant-loop-before : goal.invariant-loop-before

@@ -1,8 +1,7 @@
 use Rattle.std.proofs.Common.{◌≤◌, ◌<◌, ℕ, List, length, map, take, sym, ◌∙◌, ap, arith, subst}
 use Rattle.std.proofs.lemmas.List.{take_all, length-map}
-use Rattle.certificate.specs.declared.claim.Claim.{Claim}
-use Rattle.certificate.specs.declared.claim.ScriptClaims.{ScriptClaims}
 use Rattle.certificate.specs.Grammar.{Verdict, verdict_in, claims_in}
+use Rattle.certificate.specs.{declared.claim.Claim.Claim, declared.claim.ScriptClaims.ScriptClaims}
 use Rattle.cert_checker.specs.Counts.{Adds, AreCounts, all_verdicts, is_yes, is_no, is_undecided}
 use Rattle.cert_checker.proofs.CountLaws.{adds_scripts, first_scripts, adds_few, few_verdicts}
 use Rattle.cert_checker.proofs.counts.counts_of.Goals as goal

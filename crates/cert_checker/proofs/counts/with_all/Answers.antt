@@ -1,7 +1,6 @@
 use Rattle.std.proofs.Common.{◌≤◌, ◌<◌, ◌∷◌, [], ℕ, List, length, map, take, arith, subst}
 use Rattle.std.proofs.lemmas.List.{take_all}
-use Rattle.certificate.specs.declared.claim.Claim.{Claim}
-use Rattle.certificate.specs.Grammar.{Verdict, verdict_in}
+use Rattle.certificate.specs.{declared.claim.Claim.Claim, Grammar.Verdict, Grammar.verdict_in}
 use Rattle.cert_checker.specs.Counts.{Adds, is_yes, is_no, is_undecided}
 use Rattle.cert_checker.proofs.CountLaws.{adds_then, first_verdicts, adds_few, few_first}
 use Rattle.cert_checker.proofs.counts.with_all.Goals as goal

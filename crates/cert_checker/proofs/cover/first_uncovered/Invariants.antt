@@ -1,7 +1,6 @@
 use Rattle.std.proofs.Common.{ℕ, ◌<◌}
 use Rattle.line_model.specs.declared.script.Script.{Script}
-use Rattle.cert_checker.specs.Claims.{AreGateWaves, pairs_of}
-use Rattle.cert_checker.specs.Verdicts.{IsKeyCovered}
+use Rattle.cert_checker.specs.{Claims.AreGateWaves, Claims.pairs_of, Verdicts.IsKeyCovered}
 use Rattle.cert_checker.proofs.cover.first_uncovered.Given as goal
 
 abbrev pub invariant-loop-k : goal.invariant-loop-k

@@ -2,8 +2,7 @@ use Rattle.std.proofs.Common.{◌≡◌, ℕ, List, [], length, IfOk, sym, ◌�
 use Rattle.std.specs.Prelude.{get_or}
 use Rattle.history.specs.Rails.{rails_sealed}
 use Rattle.tick_signal.specs.declared.tern.Tern.{Tern}
-use Rattle.gate_net.specs.declared.gate.Gate.{Gate}
-use Rattle.gate_net.specs.Laws.{HasArguments}
+use Rattle.gate_net.specs.{declared.gate.Gate.Gate, Laws.HasArguments}
 use Rattle.simulator.specs.GatePairs.{kind_pair}
 use Rattle.wave_runs.specs.Waves.{IsWaveOf, wave_at}
 use Rattle.cert_checker.specs.Claims.{pairs_of, declared_world}

@@ -2,8 +2,7 @@ use Rattle.std.proofs.Common.{◌<◌, ℕ, Bool, length, sym, ◌∙◌, ap, ar
 use Rattle.std.proofs.lemmas.Bool.{cases_lt}
 use Rattle.history.specs.Rails.{must_of}
 use Rattle.wave_runs.specs.Waves.{wave_at}
-use Rattle.cert_checker.proofs.Firsts.{not_both, along}
-use Rattle.cert_checker.proofs.HeldRules.{off_by}
+use Rattle.cert_checker.proofs.{Firsts.not_both, Firsts.along, HeldRules.off_by}
 use Rattle.cert_checker.proofs.held.must_come.Goals as goal
 
 pub stretch-value-requires : goal.stretch-value-requires

@@ -1,6 +1,5 @@
 use Rattle.cert_checker.specs.Refutations.{steady_timing, choice_of}
-use Rattle.cert_checker.proofs.OneFault.{no_once}
-use Rattle.cert_checker.proofs.Refusal.{no_refused}
+use Rattle.cert_checker.proofs.{OneFault.no_once, Refusal.no_refused}
 use Rattle.cert_checker.proofs.laws.a_no_has_one_fault.Goals as goal
 
 pub returns-clause-one : goal.returns-clause-one

@@ -1,13 +1,11 @@
-use Rattle.std.proofs.Common.{◌≡◌, ◌++◌, ◌∷◌, ℕ, List, [], length, ap, arith, subst}
-use Rattle.std.proofs.Common.{length-append}
+use Rattle.std.proofs.Common.{◌≡◌, ◌++◌, ◌∷◌, ℕ, List, [], length, ap, arith, subst, length-append}
 use Rattle.tick_signal.specs.declared.tern.Tern.{Tern}
 use Rattle.line_model.specs.PairMean.{PairWorld, PairSignals, pair_mean}
 use Rattle.gate_net.specs.Formulas.{formula_of}
 use Rattle.simulator.specs.GatePairs.{kind_pair}
 use Rattle.wave_runs.specs.Waves.{IsWaveOf}
 use Rattle.cert_checker.specs.Claims.{pairs_of, declared_world}
-use Rattle.cert_checker.proofs.Waves.{with_wave}
-use Rattle.cert_checker.proofs.GateLaws.{tree_wave}
+use Rattle.cert_checker.proofs.{Waves.with_wave, GateLaws.tree_wave}
 use Rattle.cert_checker.proofs.net_waves.gate_waves.Goals as goal
 
 pub loop-i-preserved : goal.loop-i-preserved

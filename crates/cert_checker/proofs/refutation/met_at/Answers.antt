@@ -1,14 +1,10 @@
 use Rattle.std.proofs.Common.{◌≡◌, ℕ, Bool, List, [], Some, sym, ◌∙◌, arith, subst}
-use Rattle.std.specs.Prelude.{slice_get, MatchOption}
 use Rattle.std.proofs.lemmas.Option.{slice_get_read}
-use Rattle.line_model.specs.Parameters.{terminal_count}
-use Rattle.line_model.specs.Histories.{MeetsBy}
-use Rattle.timing_box.specs.Timing.{TimingValues}
-use Rattle.timing_box.specs.Choice.{timing_choice}
-use Rattle.simulator.specs.LaneBox.{lane_box}
-use Rattle.simulator.specs.Played.{ends_of_tick}
+use Rattle.std.specs.Prelude.{slice_get, MatchOption}
+use Rattle.line_model.specs.{Parameters.terminal_count, Histories.MeetsBy}
+use Rattle.timing_box.specs.{Timing.TimingValues, Choice.timing_choice}
 use Rattle.simulator.specs.PlayedTracks.{played, shown_is}
-use Rattle.simulator.specs.Runs.{AreDelayed, IsPoint}
+use Rattle.simulator.specs.{LaneBox.lane_box, Played.ends_of_tick, Runs.AreDelayed, Runs.IsPoint}
 use Rattle.cert_checker.specs.Refutations.{steady_timing, choice_of, IsMetAt}
 use Rattle.cert_checker.proofs.Refutations.{told_by_one}
 use Rattle.cert_checker.proofs.refutation.met_at.Goals as goal

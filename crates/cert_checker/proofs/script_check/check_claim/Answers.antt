@@ -1,12 +1,10 @@
 use Rattle.std.proofs.Common.{ℕ, refl, sym, subst}
 use Rattle.line_model.specs.Rule.{IsHeld}
 use Rattle.wave_runs.specs.Waves.{wave_at}
-use Rattle.certificate.specs.declared.claim.Claim.{Claim}
-use Rattle.certificate.specs.Grammar.{verdict_in}
+use Rattle.certificate.specs.{declared.claim.Claim.Claim, Grammar.verdict_in}
 use Rattle.cert_checker.specs.declared.claim.ClaimFault.TheVariants.{NotHeld}
 use Rattle.cert_checker.specs.Verdicts.{IsSupported, IsFaultOf}
-use Rattle.cert_checker.proofs.Firsts.{not_both}
-use Rattle.cert_checker.proofs.HeldRules.{held_same}
+use Rattle.cert_checker.proofs.{Firsts.not_both, HeldRules.held_same}
 use Rattle.cert_checker.proofs.script_check.check_claim.Goals as goal
 
 pub returns-then-is_held : goal.returns-then-is_held

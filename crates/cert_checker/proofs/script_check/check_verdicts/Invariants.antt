@@ -2,8 +2,7 @@ use Rattle.std.proofs.Common.{◌≡◌, ◌<◌, ℕ, Some, map}
 use Rattle.std.specs.Prelude.{slice_get}
 use Rattle.line_model.specs.PairMean.{PairSignals}
 use Rattle.certificate.specs.Grammar.{Verdict, verdict_in}
-use Rattle.cert_checker.specs.Claims.{AreGateWaves}
-use Rattle.cert_checker.specs.Verdicts.{IsSupported, derived_trip}
+use Rattle.cert_checker.specs.{Claims.AreGateWaves, Verdicts.IsSupported, Verdicts.derived_trip}
 use Rattle.cert_checker.proofs.script_check.check_verdicts.Given as goal
 
 abbrev pub invariant-loop-i : goal.invariant-loop-i

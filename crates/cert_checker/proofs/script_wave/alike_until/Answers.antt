@@ -1,7 +1,7 @@
 use Rattle.std.proofs.Common.{◌<◌, List, length, arith, subst}
-use Rattle.std.specs.List.{All}
 use Rattle.std.proofs.lemmas.List.{take_all}
 use Rattle.std.proofs.lemmas.List.Elements.{All-nil}
+use Rattle.std.specs.List.{All}
 use Rattle.line_model.specs.declared.script.SeenSpan.{SeenSpan}
 use Rattle.cert_checker.specs.Stretches.{ShowsAlike}
 use Rattle.cert_checker.proofs.StretchLaws.{one_span_more}

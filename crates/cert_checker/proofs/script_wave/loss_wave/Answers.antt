@@ -1,14 +1,13 @@
-use Rattle.std.proofs.Common.{◌≡◌, ◌≤◌, ◌<◌, ◌-◌, ◌+◌, ℕ, Bool, List, length, arith, ap, sym, ◌∙◌, subst}
+use Rattle.std.proofs.Common.{◌≡◌, ◌≤◌, ◌<◌, ◌-◌, ◌+◌, ℕ, Bool, List, length, arith, ap, sym, ◌∙◌}
+use Rattle.std.proofs.Common.{subst}
 use Rattle.std.specs.List.{All}
 use Rattle.history.specs.Rails.{Rails, both}
 use Rattle.tick_signal.specs.declared.tern.Tern.{Tern}
 use Rattle.line_model.specs.declared.script.SeenSpan.{SeenSpan}
-use Rattle.line_model.specs.declared.script.What.TheVariants.{Loss}
-use Rattle.line_model.specs.Seen.{is_lost}
+use Rattle.line_model.specs.{declared.script.What.TheVariants.Loss, Seen.is_lost}
 use Rattle.wave_runs.specs.Waves.{IsWaveOf}
 use Rattle.cert_checker.specs.Stretches.{ShowsAlike}
-use Rattle.cert_checker.proofs.StretchLaws.{lost_alike}
-use Rattle.cert_checker.proofs.Waves.{at_none}
+use Rattle.cert_checker.proofs.{StretchLaws.lost_alike, Waves.at_none}
 use Rattle.cert_checker.proofs.script_wave.loss_wave.Goals as goal
 
 pub stretches-init : goal.stretches-init

@@ -1,13 +1,10 @@
 use Rattle.std.proofs.Common.{◌≡◌, ◌<◌, ◌≤◌, ℕ, List, Some, length, map, refl, sym, arith, subst}
-use Rattle.std.specs.Prelude.{slice_get}
 use Rattle.std.proofs.lemmas.Option.{slice_get_read}
-use Rattle.line_model.specs.declared.script.Script.{Script}
-use Rattle.line_model.specs.Fits.{Fits}
+use Rattle.std.specs.Prelude.{slice_get}
+use Rattle.line_model.specs.{declared.script.Script.Script, Fits.Fits}
 use Rattle.certificate.specs.declared.claim.ScriptClaims.{ScriptClaims}
-use Rattle.certificate.specs.Grammar.{claims_in}
-use Rattle.certificate.specs.Text.{CanBeWritten}
-use Rattle.cert_checker.specs.Check.{IsCheckFault}
-use Rattle.cert_checker.specs.Verdicts.{AreAccepted, AreSound}
+use Rattle.certificate.specs.{Grammar.claims_in, Text.CanBeWritten}
+use Rattle.cert_checker.specs.{Check.IsCheckFault, Verdicts.AreAccepted, Verdicts.AreSound}
 use Rattle.cert_checker.proofs.MapLaws.{each_mapped, slice_mapped}
 use Rattle.cert_checker.proofs.Told.{told, one_script}
 use Rattle.cert_checker.proofs.whole.check_scripts.Goals as goal

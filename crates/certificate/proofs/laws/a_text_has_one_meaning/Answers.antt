@@ -1,7 +1,6 @@
 use Rattle.std.proofs.Common.{[], sym, ◌∙◌}
 use Rattle.certificate.specs.Grammar.{Stands, opens_none, certificate_places, certificate_said}
-use Rattle.certificate.proofs.ClaimLaws.{claims_told}
-use Rattle.certificate.proofs.StandsLaws.{stands_once}
+use Rattle.certificate.proofs.{ClaimLaws.claims_told, StandsLaws.stands_once}
 use Rattle.text_lines.specs.OneReading.{same_reading}
 use Rattle.certificate.proofs.laws.a_text_has_one_meaning.Goals as goal
 

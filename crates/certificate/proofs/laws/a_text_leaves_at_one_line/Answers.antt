@@ -1,6 +1,5 @@
 use Rattle.certificate.specs.Grammar.{Stands, opens_none, certificate_places, certificate_said}
-use Rattle.certificate.proofs.FewLines.{leaves_early}
-use Rattle.certificate.proofs.StandsLaws.{stands_once}
+use Rattle.certificate.proofs.{FewLines.leaves_early, StandsLaws.stands_once}
 use Rattle.text_lines.specs.OneReading.{same_number, not_whole}
 use Rattle.certificate.proofs.laws.a_text_leaves_at_one_line.Goals as goal
 

@@ -2,9 +2,7 @@ use Rattle.std.proofs.Common.{◌≡◌, List, ℕ, sym, ◌∙◌, ap}
 use Rattle.std.specs.Prelude.{codes}
 use Rattle.tick_signal.specs.declared.tern.Tern.{Tern}
 use Rattle.wave_runs.specs.Text.{IsTextOf, runs_text}
-use Rattle.text_lines.specs.Named.{named}
-use Rattle.text_lines.specs.AnswerLaws.{map_read}
-use Rattle.text_lines.specs.NamedLaws.{one_text}
+use Rattle.text_lines.specs.{Named.named, AnswerLaws.map_read, NamedLaws.one_text}
 use Rattle.certificate.proofs.read.key_in.Goals as goal
 
 pub returns-in-Some : goal.returns-in-Some

@@ -1,15 +1,13 @@
 use Rattle.std.proofs.Common.{List, ℕ, [], ◌∷◌, ◌++◌, map, ◌∙◌, subst}
-use Rattle.std.specs.List.{flat_map}
 use Rattle.std.proofs.lemmas.List.{length-map}
 use Rattle.std.proofs.lemmas.Result.{err_from_is_err_and}
+use Rattle.std.specs.List.{flat_map}
 use Rattle.certificate.specs.declared.claim.CertificateFault.TheVariants.{Line}
-use Rattle.text_lines.specs.Lines.{Lines}
 use Rattle.certificate.specs.Grammar.{Place, Said, Stands, opens_none, part_places, part_said}
-use Rattle.certificate.specs.Grammar.{claims_in}
-use Rattle.certificate.specs.Grammar.{says_nothing, fixed, end_text, certificate_places}
+use Rattle.certificate.specs.Grammar.{claims_in, says_nothing, fixed, end_text, certificate_places}
 use Rattle.certificate.specs.Grammar.{certificate_said}
 use Rattle.text_lines.specs.LineLaws.{leaves_later, leaves_here, goes_then}
-use Rattle.text_lines.specs.Reading.{none_left, some_left}
+use Rattle.text_lines.specs.{Lines.Lines, Reading.none_left, Reading.some_left}
 use Rattle.certificate.proofs.ReadLaws.{later_fault, fault_from}
 use Rattle.certificate.proofs.read.read_certificate.Goals as goal
 

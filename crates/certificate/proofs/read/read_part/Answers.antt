@@ -1,13 +1,11 @@
 use Rattle.std.proofs.Common.{List, ℕ, [], ◌∷◌, ◌++◌, map, ◌∙◌, append_assoc}
 use Rattle.std.proofs.lemmas.List.{length-map}
 use Rattle.std.proofs.lemmas.Result.{err_from_is_err_and}
-use Rattle.certificate.specs.Grammar.{Place, Verdict, key_of, verdict_of, says_key}
-use Rattle.certificate.specs.Grammar.{says_verdict}
-use Rattle.certificate.specs.Grammar.{says_nothing, terminal_names, verdict_in, part_places}
-use Rattle.text_lines.specs.LineLaws.{goes_then}
-use Rattle.text_lines.specs.Reading.{left_as}
+use Rattle.certificate.specs.Grammar.{Place, Verdict, key_of, verdict_of, says_key, says_verdict}
+use Rattle.certificate.specs.Grammar.{says_nothing, terminal_names, verdict_in, part_places, Stands}
+use Rattle.certificate.specs.Grammar.{opens_none}
+use Rattle.text_lines.specs.{LineLaws.goes_then, Reading.left_as}
 use Rattle.certificate.proofs.ReadLaws.{later_fault}
-use Rattle.certificate.specs.Grammar.{Stands, opens_none}
 use Rattle.certificate.proofs.read.read_part.Goals as goal
 
 pub returns-in_err-take_script : goal.returns-in_err-take_script

@@ -1,17 +1,17 @@
-use Rattle.std.proofs.Common.{◌≡◌, ◌+◌, List, ℕ, [], ◌∷◌, ◌++◌, length, map, drop}
-use Rattle.std.proofs.Common.{sym, ◌∙◌, ap, arith, length-append}
-use Rattle.std.specs.List.{flat_map}
+use Rattle.std.proofs.Common.{◌≡◌, ◌+◌, List, ℕ, [], ◌∷◌, ◌++◌, length, map, drop, sym, ◌∙◌, ap}
+use Rattle.std.proofs.Common.{arith, length-append}
 use Rattle.std.proofs.lemmas.List.{map-append}
 use Rattle.std.proofs.lemmas.List.Elements.{All-nil, All-same, All-push}
 use Rattle.std.proofs.lemmas.Result.{err_from_is_err_and}
+use Rattle.std.specs.List.{flat_map}
 use Rattle.line_model.specs.declared.script.Script.{Script}
 use Rattle.certificate.specs.declared.claim.ScriptClaims.{ScriptClaims}
-use Rattle.certificate.specs.Grammar.{Place, Said, part_places, part_said, claims_in}
-use Rattle.certificate.specs.Grammar.{HasOneEach}
-use Rattle.text_lines.specs.LineLaws.{goes_then}
-use Rattle.text_lines.specs.Reading.{left_as, said_as, none_read, next_places, all_parts, parts_more}
-use Rattle.certificate.proofs.ReadLaws.{later_fault}
+use Rattle.certificate.specs.Grammar.{Place, Said, part_places, part_said, claims_in, HasOneEach}
 use Rattle.certificate.specs.Grammar.{Stands, opens_none}
+use Rattle.text_lines.specs.LineLaws.{goes_then}
+use Rattle.text_lines.specs.Reading.{left_as, said_as, none_read, next_places, all_parts}
+use Rattle.text_lines.specs.Reading.{parts_more}
+use Rattle.certificate.proofs.ReadLaws.{later_fault}
 use Rattle.certificate.proofs.read.read_parts.Goals as goal
 
 pub loop-i-init : goal.loop-i-init

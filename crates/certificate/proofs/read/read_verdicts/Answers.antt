@@ -1,15 +1,13 @@
-use Rattle.std.proofs.Common.{◌≡◌, ◌<◌, ◌+◌, List, ℕ, [], ◌∷◌, ◌++◌, length, map, drop}
-use Rattle.std.proofs.Common.{sym, ◌∙◌, ap}
-use Rattle.std.proofs.Common.{subst, arith, length-append}
+use Rattle.std.proofs.Common.{◌≡◌, ◌<◌, ◌+◌, List, ℕ, [], ◌∷◌, ◌++◌, length, map, drop, sym, ◌∙◌}
+use Rattle.std.proofs.Common.{ap, subst, arith, length-append}
 use Rattle.std.proofs.lemmas.List.{map-append}
 use Rattle.std.proofs.lemmas.Result.{err_from_is_err_and}
 use Rattle.line_model.specs.Parameters.{terminal_count}
 use Rattle.certificate.specs.declared.claim.Claim.{Claim}
-use Rattle.certificate.specs.Grammar.{Place, Said, verdict_of, says_verdict}
-use Rattle.certificate.specs.Grammar.{terminal_names, verdict_in}
+use Rattle.certificate.specs.Grammar.{Place, Said, verdict_of, says_verdict, terminal_names}
+use Rattle.certificate.specs.Grammar.{verdict_in, Stands, opens_none}
 use Rattle.text_lines.specs.Reading.{none_read, one_place, all_read, said_more}
 use Rattle.certificate.proofs.ReadLaws.{GoesOn, fault_there, names_count}
-use Rattle.certificate.specs.Grammar.{Stands, opens_none}
 use Rattle.certificate.proofs.read.read_verdicts.Goals as goal
 
 pub loop-k-init : goal.loop-k-init

@@ -1,10 +1,8 @@
 use Rattle.std.proofs.Common.{◌≡◌, ◌≢◌, List, ℕ, sym, ◌∙◌, ap}
 use Rattle.std.specs.Prelude.{codes}
 use Rattle.certificate.specs.declared.claim.Claim.{Claim}
-use Rattle.text_lines.specs.Named.{named}
 use Rattle.certificate.specs.Grammar.{Verdict, HasNumbers, verdict_words, verdict_in}
-use Rattle.text_lines.specs.AnswerLaws.{map_read}
-use Rattle.text_lines.specs.NamedLaws.{one_text}
+use Rattle.text_lines.specs.{Named.named, AnswerLaws.map_read, NamedLaws.one_text}
 use Rattle.certificate.proofs.read.verdict_in.Goals as goal
 
 pub returns-in-Some : goal.returns-in-Some

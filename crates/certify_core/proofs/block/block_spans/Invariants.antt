@@ -1,5 +1,4 @@
-use Rattle.certify_core.specs.OneEach.{OneEach}
-use Rattle.certify_core.specs.Candidates.{IsBlockSpan}
+use Rattle.certify_core.specs.{OneEach.OneEach, Candidates.IsBlockSpan}
 use Rattle.certify_core.proofs.block.block_spans.Given as goal
 
 abbrev pub invariant-loop-param : goal.invariant-loop-param

@@ -1,6 +1,5 @@
 use Rattle.std.proofs.Common.{ℕ, sym, ◌∙◌, subst}
-use Rattle.timing_box.specs.Choice.{timing_choice}
-use Rattle.timing_box.specs.Candidates.{candidate}
+use Rattle.timing_box.specs.{Choice.timing_choice, Candidates.candidate}
 use Rattle.simulator.specs.Ticks.{AreSent}
 use Rattle.certify_core.specs.Candidates.{candidate_in, AreBlockSpans}
 use Rattle.certify_core.proofs.BlockLaws.{block_point, block_delayed}

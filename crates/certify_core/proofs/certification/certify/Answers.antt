@@ -1,13 +1,11 @@
 use Rattle.std.proofs.Common.{◌≡◌, ℕ, ◌<◌, List, Some, map, refl, sym, ◌∙◌, ap, subst, arith}
-use Rattle.std.specs.Prelude.{slice_get}
 use Rattle.std.proofs.lemmas.Option.{slice_get_within}
-use Rattle.line_model.specs.Parameters.{terminal_count}
+use Rattle.std.specs.Prelude.{slice_get}
 use Rattle.line_model.specs.Choice.{Choice, DelaysFromOne, IsInside, declared_box}
 use Rattle.line_model.specs.Histories.{PairHistory, IsPairHistory}
-use Rattle.line_model.specs.Rule.{Broken, rule_of}
+use Rattle.line_model.specs.{Parameters.terminal_count, Rule.Broken, Rule.rule_of}
 use Rattle.timing_box.specs.Timing.{TimingValues}
-use Rattle.timing_box.specs.Choice.{timing_choice}
-use Rattle.timing_box.specs.Candidates.{candidate, candidate_count}
+use Rattle.timing_box.specs.{Choice.timing_choice, Candidates.candidate, Candidates.candidate_count}
 use Rattle.interval_wave.specs.PairWavesOf.{pair_history}
 use Rattle.simulator.specs.ListLaws.{exists_at}
 use Rattle.certify_core.specs.declared.verdict.Verdict.{Verdict}
@@ -16,18 +14,9 @@ use Rattle.certify_core.specs.declared.standing.Standing.{Standing}
 use Rattle.certify_core.specs.Verdicts.{PassesAt, IsRefuted, IsOpen, IsRefutation, AreVerdicts}
 use Rattle.certify_core.specs.Standings.{verdict_as}
 use Rattle.certify_core.proofs.FailingLaws.{same_meets}
-use Rattle.certify_core.proofs.VerdictLaws.{
-  verdicts_at_end,
-  standing_of_line,
-  broken_first,
-  only_unknown,
-  rule_same,
-  keys_same,
-  verdicts_same,
-  deadline_early,
-  printable_keys,
-  printable_verdicts,
-}
+use Rattle.certify_core.proofs.VerdictLaws.{verdicts_at_end, standing_of_line, broken_first}
+use Rattle.certify_core.proofs.VerdictLaws.{only_unknown, rule_same, keys_same, verdicts_same}
+use Rattle.certify_core.proofs.VerdictLaws.{deadline_early, printable_keys, printable_verdicts}
 use Rattle.certify_core.proofs.certification.certify.Goals as goal
 
 pub verdicts-requires : goal.verdicts-requires

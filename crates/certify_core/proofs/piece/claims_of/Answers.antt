@@ -1,9 +1,7 @@
 use Rattle.std.proofs.Common.{◌<◌, List, length, map, ◌∙◌, ap, arith}
 use Rattle.std.proofs.lemmas.List.{take_all}
-use Rattle.certificate.specs.declared.claim.Claim.{Claim}
-use Rattle.certificate.specs.Grammar.{verdict_in}
-use Rattle.certify_core.specs.declared.verdict.Verdict.{Verdict}
-use Rattle.certify_core.specs.Piece.{written_as}
+use Rattle.certificate.specs.{declared.claim.Claim.Claim, Grammar.verdict_in}
+use Rattle.certify_core.specs.{declared.verdict.Verdict.Verdict, Piece.written_as}
 use Rattle.certify_core.proofs.ListLaws.{one_mapped_more}
 use Rattle.certify_core.proofs.piece.claims_of.Goals as goal
 

@@ -1,6 +1,5 @@
 use Rattle.std.proofs.Common.{ℕ, ◌+◌, List, [], ◌∷◌, length, length-append, ◌∙◌, ap, arith}
-use Rattle.certify_core.specs.declared.standing.Standing.{Standing}
-use Rattle.certify_core.specs.Standings.{IsStanding}
+use Rattle.certify_core.specs.{declared.standing.Standing.Standing, Standings.IsStanding}
 use Rattle.certify_core.proofs.ListLaws.{one_more, all_there}
 use Rattle.certify_core.proofs.standing.after_block.Goals as goal
 

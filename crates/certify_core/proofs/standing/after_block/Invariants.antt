@@ -1,7 +1,6 @@
 use Rattle.std.proofs.Common.{◌≡◌, ◌+◌, length}
 use Rattle.line_model.specs.Histories.{PairHistory}
-use Rattle.certify_core.specs.OneEach.{OneEach}
-use Rattle.certify_core.specs.Standings.{IsStanding, AllStand}
+use Rattle.certify_core.specs.{OneEach.OneEach, Standings.IsStanding, Standings.AllStand}
 use Rattle.certify_core.proofs.standing.after_block.Given as goal
 
 abbrev pub invariant-loop-k : goal.invariant-loop-k

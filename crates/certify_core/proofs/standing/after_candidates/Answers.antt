@@ -1,8 +1,7 @@
 use Rattle.std.proofs.Common.{List, Some, sym, ◌∙◌, ap, subst, arith}
 use Rattle.std.specs.Prelude.{slice_get}
 use Rattle.timing_box.specs.Candidates.{candidate_count}
-use Rattle.certify_core.specs.declared.standing.Standing.{Standing}
-use Rattle.certify_core.specs.Standings.{AllStand}
+use Rattle.certify_core.specs.{declared.standing.Standing.Standing, Standings.AllStand}
 use Rattle.certify_core.proofs.BlockLaws.{few_candidates}
 use Rattle.certify_core.proofs.StandingLaws.{stands_on, stands_at_end}
 use Rattle.certify_core.proofs.standing.after_candidates.Goals as goal

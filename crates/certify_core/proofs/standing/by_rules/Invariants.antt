@@ -1,6 +1,5 @@
 use Rattle.interval_wave.specs.PairWavesOf.{pair_history}
-use Rattle.certify_core.specs.OneEach.{OneEach}
-use Rattle.certify_core.specs.Standings.{IsStanding}
+use Rattle.certify_core.specs.{OneEach.OneEach, Standings.IsStanding}
 use Rattle.certify_core.proofs.standing.by_rules.Given as goal
 
 abbrev pub invariant-loop-k : goal.invariant-loop-k

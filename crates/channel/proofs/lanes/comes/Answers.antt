@@ -1,8 +1,7 @@
 use Rattle.std.proofs.Common.{◌≤◌, ◌<◌, ◌-◌, ◌∙◌, sym, ap, length, arith}
 use Rattle.std.proofs.lemmas.Bool.{lt-leb}
 use Rattle.history.specs.Rails.{both, rails_at}
-use Rattle.tick_signal.specs.Bits.{bit_rails}
-use Rattle.tick_signal.specs.Lanes.{in_lane}
+use Rattle.tick_signal.specs.{Bits.bit_rails, Lanes.in_lane}
 use Rattle.channel.proofs.SentLaws.{rails_at-in_lane}
 use Rattle.channel.proofs.lanes.comes.Goals as goal
 

@@ -1,19 +1,10 @@
 use Rattle.std.proofs.Common.{◌++◌, ap, ◌∙◌}
 use Rattle.std.proofs.lemmas.Result.{err_from_is_err_and}
-use Rattle.commands.specs.Answers.{status_by}
-use Rattle.commands.specs.Certify.{
-  certificate_end,
-  certificate_head,
-  is_no,
-  is_undecided,
-  some_verdict,
-}
-use Rattle.commands.specs.PartWrites.{parts_text}
-use Rattle.commands.specs.SinkLaws.{grew_both}
-use Rattle.commands.specs.Sinks.{sink_view}
-use Rattle.commands.proofs.Counts.{none_fell_same}
+use Rattle.commands.specs.{Answers.status_by, Certify.certificate_end, Certify.certificate_head}
+use Rattle.commands.specs.{Certify.is_no, Certify.is_undecided, Certify.some_verdict}
+use Rattle.commands.specs.{PartWrites.parts_text, SinkLaws.grew_both, Sinks.sink_view}
 use Rattle.commands.proofs.Parts.{certificate_of, certificate_stops, parts_exist}
-use Rattle.commands.proofs.Writing.{stops_more, stops_then}
+use Rattle.commands.proofs.{Counts.none_fell_same, Writing.stops_more, Writing.stops_then}
 use Rattle.commands.proofs.certify.certify.Goals as goal
 
 -- the head stops

@@ -1,6 +1,6 @@
 use Rattle.std.proofs.Common.{ap, ◌∙◌}
-use Rattle.std.specs.List.{list_any}
 use Rattle.std.proofs.lemmas.Result.{err_from_is_err_and}
+use Rattle.std.specs.List.{list_any}
 use Rattle.line_model.specs.Choice.{declared_box}
 use Rattle.commands.specs.Certify.{is_no, is_undecided}
 use Rattle.commands.proofs.Parts.{part_said}

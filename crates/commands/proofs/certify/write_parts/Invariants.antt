@@ -1,7 +1,6 @@
 use Rattle.std.proofs.Common.{Ok, take}
 use Rattle.engine.specs.Calls.{AskedVerdicts, NoneFell}
-use Rattle.commands.specs.PartWrites.{WritesParts}
-use Rattle.commands.specs.Sinks.{sink_view}
+use Rattle.commands.specs.{PartWrites.WritesParts, Sinks.sink_view}
 use Rattle.commands.proofs.certify.write_parts.Given as goal
 
 abbrev pub invariant-loop-script : goal.invariant-loop-script

@@ -2,8 +2,7 @@ use Rattle.std.proofs.Common.{map, refl}
 use Rattle.std.proofs.lemmas.List.{length-map}
 use Rattle.std.proofs.lemmas.List.Elements.{All-map}
 use Rattle.std.proofs.lemmas.Result.{err_from_is_err_and}
-use Rattle.timing_box.specs.Inside.{IsTimingInside}
-use Rattle.timing_box.specs.SoFar.{NamedValues, values_of}
+use Rattle.timing_box.specs.{Inside.IsTimingInside, SoFar.NamedValues, SoFar.values_of}
 use Rattle.commands.specs.declared.done.Done.TheVariants.{Good}
 use Rattle.commands.proofs.play.play.Goals as goal
 

@@ -1,6 +1,5 @@
 use Rattle.std.proofs.lemmas.Result.{err_from_is_err_and}
-use Rattle.commands.specs.Play.{play_header}
-use Rattle.commands.specs.Sinks.{sink_view}
+use Rattle.commands.specs.{Play.play_header, Sinks.sink_view}
 use Rattle.commands.proofs.Writing.{stops_more, writes_then}
 use Rattle.commands.proofs.play.write_play.Goals as goal
 

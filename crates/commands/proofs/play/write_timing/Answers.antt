@@ -2,8 +2,7 @@ use Rattle.std.proofs.Common.{sym}
 use Rattle.std.proofs.lemmas.Result.{err_from_is_err_and}
 use Rattle.timing_box.specs.SoFar.{values_of}
 use Rattle.commands.specs.Play.{IsRunText}
-use Rattle.commands.proofs.Counts.{grew_once}
-use Rattle.commands.proofs.Pieces.{written_more, written_stops}
+use Rattle.commands.proofs.{Counts.grew_once, Pieces.written_more, Pieces.written_stops}
 use Rattle.commands.proofs.play.write_timing.Goals as goal
 
 pub returns-in_err-write_run : goal.returns-in_err-write_run

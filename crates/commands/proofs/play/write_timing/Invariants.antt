@@ -1,8 +1,7 @@
 use Rattle.std.proofs.Common.{ℕ, List}
 use Rattle.engine.specs.Calls.{AskedPlays}
 use Rattle.timing_box.specs.SoFar.{values_of}
-use Rattle.commands.specs.Play.{IsRunText, IsTimingText}
-use Rattle.commands.specs.Sinks.{sink_view}
+use Rattle.commands.specs.{Play.IsRunText, Play.IsTimingText, Sinks.sink_view}
 use Rattle.commands.proofs.Pieces.{Written}
 use Rattle.commands.proofs.play.write_timing.Given as goal
 

@@ -3,8 +3,7 @@ use Rattle.std.proofs.lemmas.List.{get_or-map, length-map}
 use Rattle.std.proofs.lemmas.Result.{err_from_is_err_and}
 use Rattle.timing_box.specs.SoFar.{values_of}
 use Rattle.commands.specs.Play.{IsTimingText}
-use Rattle.commands.proofs.Counts.{grew_round}
-use Rattle.commands.proofs.Pieces.{written_more, written_stops}
+use Rattle.commands.proofs.{Counts.grew_round, Pieces.written_more, Pieces.written_stops}
 use Rattle.commands.proofs.play.write_timings.Goals as goal
 
 pub returns-in_err-write_timing : goal.returns-in_err-write_timing

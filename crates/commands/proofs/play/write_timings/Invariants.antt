@@ -1,8 +1,7 @@
 use Rattle.std.proofs.Common.{ℕ, ◌*◌, List, length, map}
 use Rattle.engine.specs.Calls.{AskedPlays}
 use Rattle.timing_box.specs.SoFar.{values_of}
-use Rattle.commands.specs.Play.{IsTimingText, Pieces}
-use Rattle.commands.specs.Sinks.{sink_view}
+use Rattle.commands.specs.{Play.IsTimingText, Play.Pieces, Sinks.sink_view}
 use Rattle.commands.proofs.Pieces.{Written}
 use Rattle.commands.proofs.play.write_timings.Given as goal
 

@@ -1,7 +1,6 @@
 use Rattle.std.proofs.Common.{◌++◌, map, refl, ap, ◌∙◌}
 use Rattle.std.specs.List.{list_any}
-use Rattle.split_text.specs.Piece.{written_as}
-use Rattle.split_text.specs.Text.{part_text}
+use Rattle.split_text.specs.{Piece.written_as, Text.part_text}
 use Rattle.commands.specs.Split.{is_fails, is_open}
 use Rattle.commands.proofs.Searched.{any_map}
 use Rattle.commands.proofs.split.push_part.Goals as goal

@@ -1,7 +1,6 @@
 use Rattle.std.proofs.Common.{◌≡◌, ◌∷◌, ◌∙◌, length, sym, ap, arith}
 use Rattle.csv.specs.Records.{fields_of}
-use Rattle.csv_records.specs.Left.{left_of}
-use Rattle.csv_records.specs.Records.{records_of}
+use Rattle.csv_records.specs.{Left.left_of, Records.records_of}
 use Rattle.csv_records.proofs.AllRecords.{few_records}
 use Rattle.csv_records.proofs.read.read_file.Goals as goal
 

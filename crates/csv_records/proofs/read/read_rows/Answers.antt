@@ -1,8 +1,7 @@
 use Rattle.std.proofs.Common.{◌<◌, ◌∙◌, length, sym, ap, arith}
 use Rattle.std.proofs.lemmas.Result.{err_from_is_err_and}
 use Rattle.csv.specs.Records.{fields_of}
-use Rattle.csv_records.specs.Left.{left_of}
-use Rattle.csv_records.specs.RecordFile.{after_header}
+use Rattle.csv_records.specs.{Left.left_of, RecordFile.after_header}
 use Rattle.csv_records.proofs.Folds.{no_more_records, record_fails, record_passes, some_records}
 use Rattle.csv_records.proofs.read.read_rows.Goals as goal
 

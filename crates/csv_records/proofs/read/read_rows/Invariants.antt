@@ -1,6 +1,5 @@
 use Rattle.std.proofs.Common.{◌≡◌, ◌+◌, ◌≤◌, length}
-use Rattle.csv_records.specs.Left.{IsReading, left_of}
-use Rattle.csv_records.specs.RecordFile.{after_records}
+use Rattle.csv_records.specs.{Left.IsReading, Left.left_of, RecordFile.after_records}
 use Rattle.csv_records.proofs.read.read_rows.Given as goal
 
 abbrev pub invariant-rows : goal.invariant-rows

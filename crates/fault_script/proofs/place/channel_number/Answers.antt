@@ -1,6 +1,6 @@
 use Rattle.std.proofs.Common.{◌<◌, List, length, get_or, ap, arith}
-use Rattle.line_model.specs.declared.line.Channel.{Channel}
 use Rattle.std.proofs.lemmas.List.{get_or-map}
+use Rattle.line_model.specs.declared.line.Channel.{Channel}
 use Rattle.fault_script.proofs.place.channel_number.Goals as goal
 
 pub channel_name-name-requires-clause-from : goal.channel_name-name-requires-clause-from

@@ -1,6 +1,5 @@
 use Rattle.std.proofs.Common.{◌≡◌, map, take}
-use Rattle.fault_script.specs.Values.{values_of}
-use Rattle.fault_script.specs.Printed.{file_records, records_text}
+use Rattle.fault_script.specs.{Values.values_of, Printed.file_records, Printed.records_text}
 use Rattle.fault_script.proofs.print.print_scripts.Given as goal
 
 abbrev pub invariant-loop-script : goal.invariant-loop-script

@@ -1,10 +1,8 @@
 use Rattle.std.proofs.Common.{Ok, arith}
 use Rattle.std.proofs.lemmas.Result.{IfOk-weaker, err_from_is_err_and}
-use Rattle.csv_records.specs.CheckLaws.{fails_first}
-use Rattle.csv_records.specs.RecordFile.{said_of}
-use Rattle.fault_script.specs.Gives.{is_memory}
+use Rattle.csv_records.specs.{CheckLaws.fails_first, RecordFile.said_of}
 use Rattle.fault_script.specs.Scripts.{script_file, scripts_in}
-use Rattle.fault_script.specs.Values.{all_scripts, so_far_of}
+use Rattle.fault_script.specs.{Gives.is_memory, Values.all_scripts, Values.so_far_of}
 use Rattle.fault_script.proofs.SoFar.{given_good, is_small, none_so_far, record_so_far}
 use Rattle.fault_script.proofs.read.read_scripts.Goals as goal
 

@@ -1,5 +1,4 @@
-use Rattle.gate_net.proofs.Standing.{formula_of-gate}
-use Rattle.gate_net.proofs.Names.{formula_names}
+use Rattle.gate_net.proofs.{Standing.formula_of-gate, Names.formula_names}
 use Rattle.gate_net.proofs.laws.gates_stand_for_their_trees.Goals as goal
 
 pub returns : goal.returns

@@ -1,5 +1,4 @@
-use Rattle.history.proofs.DelayLaws.{delayed_covers}
-use Rattle.history.proofs.WiderLaws.{rails_delayed-wider}
+use Rattle.history.proofs.{DelayLaws.delayed_covers, WiderLaws.rails_delayed-wider}
 use Rattle.history.proofs.delay_laws.delays_cover.Goals as goal
 
 pub returns : goal.returns

@@ -1,7 +1,6 @@
 use Rattle.std.proofs.Common.{◌∙◌, sym}
 use Rattle.history.specs.Recorded.{at}
-use Rattle.history.proofs.DelayLaws.{delayed_at}
-use Rattle.history.proofs.PlainLaws.{delayed_early}
+use Rattle.history.proofs.{DelayLaws.delayed_at, PlainLaws.delayed_early}
 use Rattle.history.proofs.plain.delayed_at.Goals as goal
 
 pub returns-then-delay-tick : goal.returns-then-delay-tick

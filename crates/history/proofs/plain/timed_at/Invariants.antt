@@ -1,6 +1,5 @@
 use Rattle.std.proofs.Common.{ℕ, ◌-◌, ◌≤◌, ◌<◌}
-use Rattle.history.specs.Elements.{Holds}
-use Rattle.history.specs.Recorded.{at}
+use Rattle.history.specs.{Elements.Holds, Recorded.at}
 use Rattle.history.proofs.plain.timed_at.Given as goal
 
 abbrev pub invariant-loop-start : goal.invariant-loop-start

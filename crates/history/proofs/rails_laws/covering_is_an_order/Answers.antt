@@ -1,10 +1,5 @@
-use Rattle.history.proofs.WiderLaws.{
-  covers_itself,
-  covers_on,
-  covers_value_on,
-  covers_both,
-  both_covered,
-}
+use Rattle.history.proofs.WiderLaws.{covers_itself, covers_on, covers_value_on, covers_both}
+use Rattle.history.proofs.WiderLaws.{both_covered}
 use Rattle.history.proofs.rails_laws.covering_is_an_order.Goals as goal
 
 pub returns : goal.returns

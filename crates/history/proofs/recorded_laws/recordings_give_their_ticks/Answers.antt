@@ -1,6 +1,5 @@
 use Rattle.history.specs.FirstTicks.{length-first_ticks}
-use Rattle.history.proofs.RailsBridge.{rails_at-first_ticks}
-use Rattle.history.proofs.RecordedLaws.{first_ticks-at}
+use Rattle.history.proofs.{RailsBridge.rails_at-first_ticks, RecordedLaws.first_ticks-at}
 use Rattle.history.proofs.recorded_laws.recordings_give_their_ticks.Goals as goal
 
 pub returns : goal.returns

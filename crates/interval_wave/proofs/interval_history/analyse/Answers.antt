@@ -1,13 +1,10 @@
 use Rattle.std.proofs.Common.{◌≡◌, ℕ, List, length, sym, ◌∙◌, ap, subst, arith}
 use Rattle.std.specs.Prelude.{slice_get}
-use Rattle.tick_signal.specs.declared.tern.Tern.{Tern}
-use Rattle.tick_signal.specs.Terns.{tern_rails}
+use Rattle.tick_signal.specs.{declared.tern.Tern.Tern, Terns.tern_rails}
 use Rattle.channel.specs.SentKeys.{SentKeys}
-use Rattle.line_model.specs.Parameters.{terminal_count}
-use Rattle.line_model.specs.Choice.{Box, declared_box}
 use Rattle.line_model.specs.Histories.{PairHistory, IsPairHistory}
-use Rattle.simulator.specs.Ticks.{AreSent}
-use Rattle.simulator.specs.Tracks.{tracks_history}
+use Rattle.line_model.specs.{Parameters.terminal_count, Choice.Box, Choice.declared_box}
+use Rattle.simulator.specs.{Ticks.AreSent, Tracks.tracks_history}
 use Rattle.interval_wave.specs.PairWavesOf.{PairWavesOf, AreWavesOf, track_pairs, pair_history}
 use Rattle.interval_wave.specs.Spans.{declared_spans}
 use Rattle.interval_wave.proofs.ToldHistory.{told_history, are_long}

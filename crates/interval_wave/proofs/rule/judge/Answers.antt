@@ -1,6 +1,5 @@
 use Rattle.std.proofs.Common.{◌≡◌, ◌≤◌, ℕ, sym, ◌∙◌, ap, arith}
-use Rattle.history.specs.Elements.{some_below}
-use Rattle.history.specs.Rails.{Rails}
+use Rattle.history.specs.{Elements.some_below, Rails.Rails}
 use Rattle.line_model.specs.Rule.{rule_by}
 use Rattle.interval_wave.specs.PairWavesOf.{pair_at, pair_history}
 use Rattle.interval_wave.specs.Rules.{rule_named, counted_ticks, rule_by_rails}

@@ -1,6 +1,6 @@
 use Rattle.std.proofs.Common.{◌≡◌, Some, length, refl}
-use Rattle.std.specs.Prelude.{slice_get}
 use Rattle.std.proofs.lemmas.Option.{slice_get_read}
+use Rattle.std.specs.Prelude.{slice_get}
 use Rattle.interval_wave.proofs.TrackLaws.{of_track, one_more}
 use Rattle.interval_wave.proofs.track_waves.track_waves.Goals as goal
 

@@ -1,21 +1,8 @@
-use Rattle.std.proofs.Common.{
-  ◌≡◌,
-  ◌≤◌,
-  ◌+◌,
-  [],
-  ◌∷◌,
-  ◌++◌,
-  length,
-  length-append,
-  ap,
-  sym,
-  ◌∙◌,
-  arith,
-}
+use Rattle.std.proofs.Common.{◌≡◌, ◌≤◌, ◌+◌, [], ◌∷◌, ◌++◌, length, length-append, ap, sym, ◌∙◌}
+use Rattle.std.proofs.Common.{arith}
 use Rattle.std.proofs.lemmas.Result.{err_from_is_err_and}
 use Rattle.std.proofs.lemmas.List.{drop_all}
-use Rattle.line_file.specs.Lines.{LineValues, values_of}
-use Rattle.line_file.specs.ChannelTables.{channels_at}
+use Rattle.line_file.specs.{Lines.LineValues, Lines.values_of, ChannelTables.channels_at}
 use Rattle.line_file.proofs.Readings.{fails_ends}
 use Rattle.line_file.proofs.ChannelSteps.{channels_at-more, channel_at-ok}
 use Rattle.line_file.proofs.ChannelPairs.{channels_few, channels_more}

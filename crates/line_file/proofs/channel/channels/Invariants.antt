@@ -1,8 +1,7 @@
 use Rattle.std.proofs.Common.{◌≡◌, drop, length}
 use Rattle.toml.specs.View.{items_view}
 use Rattle.line_model.specs.Channels.{AreChannelsBelow}
-use Rattle.line_file.specs.Lines.{values_of}
-use Rattle.line_file.specs.ChannelTables.{channels_at}
+use Rattle.line_file.specs.{Lines.values_of, ChannelTables.channels_at}
 use Rattle.line_file.proofs.channel.channels.Given as goal
 
 abbrev pub invariant-loop-i : goal.invariant-loop-i

@@ -1,11 +1,8 @@
 use Rattle.std.proofs.Common.{◌≡◌, true, false, ◌≤◌, string_bytes, refl, arith}
 use Rattle.std.proofs.lemmas.Str.{IsUtf8-string_bytes}
-use Rattle.toml.specs.Data.{members_depth, members_have_valid_dates}
-use Rattle.toml.specs.View.{table_view}
+use Rattle.toml.specs.{Data.members_depth, Data.members_have_valid_dates, View.table_view}
 use Rattle.line_file.specs.Canonical.{canonical_in}
-use Rattle.line_file.proofs.Dates.{canonical_dated}
-use Rattle.line_file.proofs.Depths.{canonical_depth}
-use Rattle.line_file.proofs.Documents.{document_read}
+use Rattle.line_file.proofs.{Dates.canonical_dated, Depths.canonical_depth, Documents.document_read}
 use Rattle.line_file.proofs.print.print.Goals as goal
 
 pub returns-in-Ok-clause-table : goal.returns-in-Ok-clause-table

@@ -1,7 +1,6 @@
 use Rattle.std.proofs.Common.{ap, sym}
 use Rattle.line_file.specs.Lines.{LineValues, values_of}
-use Rattle.line_file.proofs.LineLaws.{made_values}
-use Rattle.line_file.proofs.Binds.{ok_of}
+use Rattle.line_file.proofs.{LineLaws.made_values, Binds.ok_of}
 use Rattle.line_file.proofs.read.made.Goals as goal
 
 pub returns : goal.returns

@@ -1,12 +1,7 @@
 use Rattle.std.proofs.Common.{◌≤◌, length, ap, sym, ◌∙◌, arith}
 use Rattle.line_file.specs.Lines.{values_of}
-use Rattle.line_file.proofs.LineLaws.{
-  start_kept,
-  terminals_kept,
-  between,
-  channels_kept,
-  makes_line,
-}
+use Rattle.line_file.proofs.LineLaws.{start_kept, terminals_kept, between, channels_kept}
+use Rattle.line_file.proofs.LineLaws.{makes_line}
 use Rattle.line_file.proofs.read.read_table.Goals as goal
 
 pub returns-clause-makes : goal.returns-clause-makes

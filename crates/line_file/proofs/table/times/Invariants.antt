@@ -1,6 +1,5 @@
 use Rattle.std.proofs.Common.{◌≡◌, drop, map}
-use Rattle.toml.specs.Data.{no_members}
-use Rattle.toml.specs.View.{table_view}
+use Rattle.toml.specs.{Data.no_members, View.table_view}
 use Rattle.line_file.specs.Canonical.{put_all, setting_pair}
 use Rattle.line_file.proofs.Puts.{keyed}
 use Rattle.line_file.proofs.table.times.Given as goal

@@ -1,11 +1,9 @@
 use Rattle.std.proofs.Common.{◌≡◌, ◌++◌, [], ◌∷◌, length-append, ap, sym, ◌∙◌, arith}
 use Rattle.std.proofs.lemmas.Result.{err_from_is_err_and}
 use Rattle.std.proofs.lemmas.List.{drop_all}
-use Rattle.line_file.specs.Lines.{LineValues, values_of}
-use Rattle.line_file.specs.TerminalTables.{terminals_at}
+use Rattle.line_file.specs.{Lines.LineValues, Lines.values_of, TerminalTables.terminals_at}
 use Rattle.line_file.proofs.Readings.{fails_ends}
-use Rattle.line_file.proofs.TerminalSteps.{terminals_more}
-use Rattle.line_file.proofs.TerminalLaws.{terminal_at-ok}
+use Rattle.line_file.proofs.{TerminalSteps.terminals_more, TerminalLaws.terminal_at-ok}
 use Rattle.line_file.proofs.terminal.terminals.Goals as goal
 
 pub returns-in_err-terminal-clause-values : goal.returns-in_err-terminal-clause-values

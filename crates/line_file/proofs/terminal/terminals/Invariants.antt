@@ -1,7 +1,6 @@
 use Rattle.std.proofs.Common.{◌≡◌, ◌+◌, drop, length}
 use Rattle.toml.specs.View.{items_view}
-use Rattle.line_file.specs.Lines.{values_of}
-use Rattle.line_file.specs.TerminalTables.{terminals_at}
+use Rattle.line_file.specs.{Lines.values_of, TerminalTables.terminals_at}
 use Rattle.line_file.proofs.terminal.terminals.Given as goal
 
 abbrev pub invariant-loop-i : goal.invariant-loop-i

@@ -3,8 +3,7 @@ use Rattle.std.proofs.lemmas.Result.{err_from_is_err_and}
 use Rattle.std.proofs.lemmas.List.{drop_all}
 use Rattle.toml.specs.View.{table_view}
 use Rattle.line_file.specs.Times.{times_at}
-use Rattle.line_file.proofs.Readings.{fails_is}
-use Rattle.line_file.proofs.TimesSteps.{times_more}
+use Rattle.line_file.proofs.{Readings.fails_is, TimesSteps.times_more}
 use Rattle.line_file.proofs.times.times.Goals as goal
 
 pub returns-in_err-interval : goal.returns-in_err-interval

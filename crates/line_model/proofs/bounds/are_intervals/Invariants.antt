@@ -1,6 +1,5 @@
 use Rattle.std.proofs.Common.{ℕ, ◌<◌}
-use Rattle.line_model.specs.Intervals.{IsInterval}
-use Rattle.line_model.specs.Making.{least_ends, greatest_ends}
+use Rattle.line_model.specs.{Intervals.IsInterval, Making.least_ends, Making.greatest_ends}
 use Rattle.line_model.proofs.bounds.are_intervals.Given as goal
 
 abbrev pub invariant-loop-i : goal.invariant-loop-i

@@ -1,25 +1,9 @@
-use Rattle.std.proofs.Common.{
-  ◌≡◌,
-  ◌&&◌,
-  ◌==◌,
-  ◌+◌,
-  true,
-  false,
-  length,
-  take,
-  get_or,
-  Some,
-  sym,
-  ap,
-  ◌∙◌,
-  arith,
-  eq-eqb,
-}
+use Rattle.std.proofs.Common.{◌≡◌, ◌&&◌, ◌==◌, ◌+◌, true, false, length, take, get_or, Some, sym}
+use Rattle.std.proofs.Common.{ap, ◌∙◌, arith, eq-eqb}
 use Rattle.std.proofs.Math.Seq.{take-length}
 use Rattle.std.specs.List.{list_any}
-use Rattle.line_model.specs.declared.line.Channel.{Channel}
-use Rattle.line_model.specs.Channels.{is_pair}
 use Rattle.line_model.specs.FirstPositions.{position_from-first, position_from-none}
+use Rattle.line_model.specs.{declared.line.Channel.Channel, Channels.is_pair}
 use Rattle.line_model.proofs.channels.find_channel.Goals as goal
 
 pub returns-then-channel-to : goal.returns-then-channel-to

@@ -1,4 +1,5 @@
-use Rattle.line_model.proofs.HeldLaws.{held_of, held_inside, held_same_box, held_same_line, held_meets}
+use Rattle.line_model.proofs.HeldLaws.{held_of, held_inside, held_same_box, held_same_line}
+use Rattle.line_model.proofs.HeldLaws.{held_meets}
 use Rattle.line_model.proofs.interval_laws.the_rule_over_a_box.Goals as goal
 
 pub returns : goal.returns

@@ -1,8 +1,6 @@
-use Rattle.line_model.proofs.Numbers.{length-line_settings}
-use Rattle.line_model.proofs.Counts.{few_params}
-use Rattle.line_model.proofs.DeclaredLaws.{delay_within}
-use Rattle.line_model.proofs.OwnSettings.{number_within}
 use Rattle.line_model.proofs.Positions.{terminal_number, channel_number_of}
+use Rattle.line_model.proofs.{Numbers.length-line_settings, Counts.few_params}
+use Rattle.line_model.proofs.{DeclaredLaws.delay_within, OwnSettings.number_within}
 use Rattle.line_model.proofs.laws.parameters_are_numbered.Goals as goal
 
 pub returns : goal.returns

@@ -1,11 +1,5 @@
-use Rattle.line_model.proofs.RuleLaws.{
-  rule_held,
-  held_rule,
-  rule_broken,
-  broken_rule,
-  rule_unknown,
-  unknown_rule,
-}
+use Rattle.line_model.proofs.RuleLaws.{rule_held, held_rule, rule_broken, broken_rule, rule_unknown}
+use Rattle.line_model.proofs.RuleLaws.{unknown_rule}
 use Rattle.line_model.proofs.laws.the_rule_is_exact.Goals as goal
 
 pub returns : goal.returns

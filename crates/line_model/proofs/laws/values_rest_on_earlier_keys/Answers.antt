@@ -1,9 +1,7 @@
-use Rattle.line_model.specs.Choice.{world_of, pair_world_of}
+use Rattle.line_model.specs.{Choice.world_of, Choice.pair_world_of, Logic.key_tree}
 use Rattle.line_model.proofs.PairLaws.{pair_mean-past, the_keys-solve}
-use Rattle.line_model.specs.Logic.{key_tree}
-use Rattle.line_model.proofs.HistoryLaws.{keys_named}
-use Rattle.line_model.proofs.PlainLaws.{mean-past}
 use Rattle.line_model.proofs.WorldLaws.{world_delayed, pair_world_delayed}
+use Rattle.line_model.proofs.{HistoryLaws.keys_named, PlainLaws.mean-past}
 use Rattle.line_model.proofs.laws.values_rest_on_earlier_keys.Goals as goal
 
 pub returns : goal.returns

@@ -1,6 +1,5 @@
 use Rattle.std.proofs.Common.{◌<◌, sym, subst, arith}
-use Rattle.line_model.specs.Parameters.{terminal_count}
-use Rattle.line_model.specs.Names.{Names}
+use Rattle.line_model.specs.{Parameters.terminal_count, Names.Names}
 use Rattle.line_model.proofs.LogicNames.{names_key_tree, names_trip_tree}
 use Rattle.line_model.proofs.logic_tests.values_on_worked_ticks.Goals as goal
 

@@ -3,19 +3,10 @@ use Rattle.std.proofs.lemmas.Bool.{lt-leb}
 use Rattle.std.specs.Prelude.{nat_le}
 use Rattle.history.specs.Elements.{every_below, timed}
 use Rattle.line_model.specs.declared.formula.Formula.{Formula}
-use Rattle.line_model.specs.declared.formula.Time.{Time}
-use Rattle.line_model.specs.Mean.{mean}
 use Rattle.line_model.specs.Choice.{world_of, steady_choice, time_by}
-use Rattle.line_model.specs.Keys.{value_of}
-use Rattle.line_model.proofs.BelowTests.{
-  every_below-fails,
-  every_after-start,
-  every_after-fails,
-  timed_yes,
-  timed_no,
-  sealed_yes,
-  sealed_no,
-}
+use Rattle.line_model.specs.{declared.formula.Time.Time, Mean.mean, Keys.value_of}
+use Rattle.line_model.proofs.BelowTests.{every_below-fails, every_after-start, every_after-fails}
+use Rattle.line_model.proofs.BelowTests.{timed_yes, timed_no, sealed_yes, sealed_no}
 use Rattle.line_model.proofs.mean.+value.Goals as goal
 
 pub is_held-returns-then-not-value : goal.is_held-returns-then-not-value

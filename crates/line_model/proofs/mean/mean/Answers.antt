@@ -1,6 +1,5 @@
 use Rattle.std.proofs.Common.{◌∙◌}
-use Rattle.line_model.specs.Keys.{histories}
-use Rattle.line_model.specs.Tree.{tree_of}
+use Rattle.line_model.specs.{Keys.histories, Tree.tree_of}
 use Rattle.line_model.proofs.WorldLaws.{value_past}
 use Rattle.line_model.proofs.mean.mean.Goals as goal
 

@@ -1,7 +1,6 @@
 use Rattle.std.proofs.Common.{◌<◌, ◌≤◌, ℕ, length, sym, ap, ◌∙◌, arith}
 use Rattle.history.specs.Elements.{delayed}
-use Rattle.line_model.specs.Channels.{from_of}
-use Rattle.line_model.specs.Keys.{histories, key_at}
+use Rattle.line_model.specs.{Channels.from_of, Keys.histories, Keys.key_at}
 use Rattle.line_model.proofs.KeyReads.{from_of-is, sender, sent_long, raw_is}
 use Rattle.line_model.proofs.mean.raw.Goals as goal
 

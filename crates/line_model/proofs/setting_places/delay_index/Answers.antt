@@ -1,5 +1,4 @@
-use Rattle.line_model.proofs.Positions.{delay_number_is}
-use Rattle.line_model.proofs.Counts.{channel_within}
+use Rattle.line_model.proofs.{Positions.delay_number_is, Counts.channel_within}
 use Rattle.line_model.proofs.setting_places.delay_index.Goals as goal
 
 pub returns-clause-number : goal.returns-clause-number

@@ -1,8 +1,6 @@
 use Rattle.std.proofs.Common.{◌≡◌}
 use Rattle.std.specs.Prelude.{option_map}
-use Rattle.line_model.specs.Tree.{tree_of, And}
-use Rattle.line_model.specs.Received.{over_others}
-use Rattle.line_model.specs.Unblocking.{open_from}
+use Rattle.line_model.specs.{Tree.tree_of, Tree.And, Received.over_others, Unblocking.open_from}
 use Rattle.line_model.proofs.unblocking.all_open.Given as goal
 
 abbrev pub invariant-loop-j : goal.invariant-loop-j

@@ -1,22 +1,16 @@
-use Rattle.std.proofs.Common.{◌≡◌, ◌≤◌, ◌<◌, ℕ, List, Option, Some, None, subst, arith}
-use Rattle.std.proofs.Common.{⊎_elim}
-use Rattle.std.specs.Prelude.{MatchOption, slice_get}
-use Rattle.std.specs.List.{All}
+use Rattle.std.proofs.Common.{◌≡◌, ◌≤◌, ◌<◌, ℕ, List, Option, Some, None, subst, arith, ⊎_elim}
 use Rattle.std.proofs.lemmas.Bool.{cases_lt}
 use Rattle.std.proofs.lemmas.Result.{IfOk-weaker}
+use Rattle.std.specs.Prelude.{MatchOption, slice_get}
+use Rattle.std.specs.List.{All}
 use Rattle.line_model.specs.declared.line.Line.{Line}
-use Rattle.line_model.specs.declared.script.Script.{Script}
 use Rattle.line_model.specs.Parameters.{terminal_count, declared_ends}
-use Rattle.line_model.specs.Choice.{Choice, IsWithin}
-use Rattle.line_model.specs.Fits.{Fits}
-use Rattle.line_model.specs.Histories.{History, IsLineHistory, Meets}
-use Rattle.margin_search.specs.Known.{Known}
-use Rattle.margin_search.specs.declared.upper_end.Lost.{Lost}
-use Rattle.margin_search.specs.declared.upper_end.UpperEnd.{UpperEnd}
-use Rattle.margin_search.specs.Raised.{raised}
-use Rattle.margin_search.specs.Lost.{IsLoss}
+use Rattle.line_model.specs.{declared.script.Script.Script, Choice.Choice, Choice.IsWithin}
+use Rattle.line_model.specs.{Fits.Fits, Histories.History, Histories.IsLineHistory, Histories.Meets}
 use Rattle.margin_search.specs.Margin.{IsHeldTo, IsLostAt, IsMargin, HasNoMargin, IsBracket}
 use Rattle.margin_search.specs.Margin.{IsUpperEnd, IsLostAbove, IsLostAtLeast}
+use Rattle.margin_search.specs.{Known.Known, declared.upper_end.Lost.Lost}
+use Rattle.margin_search.specs.{declared.upper_end.UpperEnd.UpperEnd, Raised.raised, Lost.IsLoss}
 use Rattle.margin_search.proofs.MarginLaws.{held_met, none_held, lost_not_held}
 use Rattle.margin_search.proofs.searching.margin.Goals as goal
 

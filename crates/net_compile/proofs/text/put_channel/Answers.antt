@@ -1,20 +1,7 @@
-use Rattle.std.proofs.Common.{
-  ◌≡◌,
-  ◌<◌,
-  ◌++◌,
-  List,
-  ℕ,
-  Some,
-  length,
-  refl,
-  sym,
-  ap,
-  ◌∙◌,
-  subst,
-  append_assoc,
-}
-use Rattle.std.specs.Prelude.{OnOk, slice_get}
+use Rattle.std.proofs.Common.{◌≡◌, ◌<◌, ◌++◌, List, ℕ, Some, length, refl, sym, ap, ◌∙◌, subst}
+use Rattle.std.proofs.Common.{append_assoc}
 use Rattle.std.proofs.lemmas.Option.{slice_get_read}
+use Rattle.std.specs.Prelude.{OnOk, slice_get}
 use Rattle.line_model.specs.Parameters.{channel_count}
 use Rattle.line_model.specs.ParamNames.{channel_name, pair_name}
 use Rattle.net_compile.specs.NetText.{channel_text}

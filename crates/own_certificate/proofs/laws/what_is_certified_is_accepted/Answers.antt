@@ -1,14 +1,8 @@
 use Rattle.std.proofs.Common.{subst, List}
-use Rattle.certificate.specs.Grammar.{Claims}
-use Rattle.certificate.specs.Text.{certificate_text}
+use Rattle.certificate.specs.{Grammar.Claims, Text.certificate_text}
 use Rattle.cert_checker.specs.Counts.{AreCounts, all_verdicts}
-use Rattle.own_certificate.proofs.Certificates.{
-  is_certificate,
-  no_fault,
-  script_accepted,
-  text_accepted,
-  written,
-}
+use Rattle.own_certificate.proofs.Certificates.{is_certificate, no_fault, script_accepted}
+use Rattle.own_certificate.proofs.Certificates.{text_accepted, written}
 use Rattle.own_certificate.proofs.laws.what_is_certified_is_accepted.Goals as goal
 
 pub returns : goal.returns

@@ -1,6 +1,5 @@
 use Rattle.own_splits.specs.Known.{LinesKnown}
-use Rattle.own_splits.proofs.OneSearch.{search_once}
-use Rattle.own_splits.proofs.OneOutcome.{outcome_once, parts_once}
+use Rattle.own_splits.proofs.{OneSearch.search_once, OneOutcome.outcome_once, OneOutcome.parts_once}
 use Rattle.own_splits.proofs.laws.each_search_has_one_outcome.Goals as goal
 
 pub returns : goal.returns

@@ -1,29 +1,18 @@
 use Rattle.std.proofs.Common.{Err, List, sym, ℕ}
-use Rattle.std.specs.Prelude.{⊤}
 use Rattle.std.proofs.lemmas.Result.{err_from_is_err_and}
+use Rattle.std.specs.Prelude.{⊤}
 use Rattle.engine.specs.Calls.{Calls}
-use Rattle.line_model.specs.declared.line.Line.{Line}
-use Rattle.line_model.specs.declared.script.Script.{Script}
+use Rattle.line_model.specs.{declared.line.Line.Line, declared.script.Script.Script}
 use Rattle.timing_box.specs.Checks.{param_named}
 use Rattle.pilot_core.specs.CallAnswers.{CallAnswers, done_with, refuses}
-use Rattle.pilot_core.specs.Commands.{asks}
-use Rattle.commands.specs.Margin.{margin_answer}
-use Rattle.pilot_core.specs.Reading.{of_parameter}
-use Rattle.commands.specs.Sinks.{sink_view}
+use Rattle.pilot_core.specs.{Commands.asks, Reading.of_parameter}
+use Rattle.commands.specs.{Margin.margin_answer, Sinks.sink_view}
 use Rattle.pilot_core.specs.Work as work
 use Rattle.pilot_core.specs.declared.refusal.Refusal.TheVariants as refusal
 use Rattle.pilot_core.specs.declared.stop.Stop.TheVariants as stop
-use Rattle.pilot_core.proofs.Reading.{
-  no_memory,
-  parameter_found,
-  parameter_stops,
-  study_read,
-  study_stops,
-  works_of_parameter,
-  works_of_study,
-}
-use Rattle.pilot_core.proofs.Results.{if_ok}
-use Rattle.pilot_core.proofs.Written.{works_of_said}
+use Rattle.pilot_core.proofs.Reading.{no_memory, parameter_found, parameter_stops, study_read}
+use Rattle.pilot_core.proofs.Reading.{study_stops, works_of_parameter, works_of_study}
+use Rattle.pilot_core.proofs.{Results.if_ok, Written.works_of_said}
 use Rattle.pilot_core.proofs.dispatch.margin_of.Goals as goal
 
 -- the answers over a line and scripts

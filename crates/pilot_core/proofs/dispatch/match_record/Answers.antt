@@ -1,8 +1,7 @@
 use Rattle.std.proofs.Common.{map}
 use Rattle.std.proofs.lemmas.Result.{err_from_is_err_and}
 use Rattle.record_match.specs.Waves.{records_said, seen_values}
-use Rattle.commands.specs.Match.{match_answer}
-use Rattle.commands.specs.Sinks.{sink_view}
+use Rattle.commands.specs.{Match.match_answer, Sinks.sink_view}
 use Rattle.pilot_core.specs.CallAnswers.{done_with}
 use Rattle.pilot_core.proofs.Reading.{no_memory, record_stops, works_of_record}
 use Rattle.pilot_core.proofs.Written.{works_of_said}

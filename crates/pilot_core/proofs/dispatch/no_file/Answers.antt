@@ -1,9 +1,6 @@
 use Rattle.std.proofs.lemmas.Result.{err_from_is_err_and}
-use Rattle.commands.specs.Bench.{bench_answer}
-use Rattle.commands.specs.Sinks.{sink_view}
-use Rattle.pilot_core.proofs.Reading.{no_memory}
-use Rattle.pilot_core.proofs.Results.{if_ok}
-use Rattle.pilot_core.proofs.Written.{works_of_said}
+use Rattle.commands.specs.{Bench.bench_answer, Sinks.sink_view}
+use Rattle.pilot_core.proofs.{Reading.no_memory, Results.if_ok, Written.works_of_said}
 use Rattle.pilot_core.proofs.dispatch.no_file.Goals as goal
 
 pub returns-in_err-said-clause-works : goal.returns-in_err-said-clause-works

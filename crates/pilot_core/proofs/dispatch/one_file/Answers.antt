@@ -4,11 +4,9 @@ use Rattle.line_model.specs.declared.line.Line.{Line}
 use Rattle.line_file.specs.LineFiles.{line_of}
 use Rattle.commands.specs.Sinks.{sink_view}
 use Rattle.pilot_core.specs.CallAnswers.{done_with}
-use Rattle.pilot_core.specs.Commands.{answer, asks}
-use Rattle.pilot_core.specs.Reading.{work_of_one}
+use Rattle.pilot_core.specs.{Commands.answer, Commands.asks, Reading.work_of_one}
 use Rattle.pilot_core.proofs.Reading.{asks_of_one, line_read, line_stops, no_memory, works_of_line}
-use Rattle.pilot_core.proofs.Results.{if_ok}
-use Rattle.pilot_core.proofs.Written.{works_of_said}
+use Rattle.pilot_core.proofs.{Results.if_ok, Written.works_of_said}
 use Rattle.pilot_core.proofs.dispatch.one_file.Goals as goal
 
 pub returns-in_err-line-clause-works : goal.returns-in_err-line-clause-works

@@ -2,14 +2,11 @@ use Rattle.std.proofs.Common.{map}
 use Rattle.std.proofs.lemmas.List.Elements.{All-map}
 use Rattle.std.proofs.lemmas.Result.{err_from_is_err_and}
 use Rattle.timing_box.specs.Inside.{IsTimingInside}
-use Rattle.timing_box.specs.SoFar.{NamedValues, values_of}
-use Rattle.timing_box.specs.Timings.{timings_of}
-use Rattle.commands.specs.Play.{play_answer, play_asks}
-use Rattle.commands.specs.Sinks.{sink_view}
+use Rattle.timing_box.specs.{SoFar.NamedValues, SoFar.values_of, Timings.timings_of}
+use Rattle.commands.specs.{Play.play_answer, Play.play_asks, Sinks.sink_view}
 use Rattle.pilot_core.specs.CallAnswers.{done_with}
 use Rattle.pilot_core.proofs.Reading.{timings_read, timings_stop, works_of_timings}
-use Rattle.pilot_core.proofs.Results.{on_done}
-use Rattle.pilot_core.proofs.Written.{works_of_written}
+use Rattle.pilot_core.proofs.{Results.on_done, Written.works_of_written}
 use Rattle.pilot_core.proofs.dispatch.play_timings.Goals as goal
 
 pub returns-in_err-timings-clause-works : goal.returns-in_err-timings-clause-works

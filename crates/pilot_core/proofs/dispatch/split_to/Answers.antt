@@ -1,17 +1,13 @@
 use Rattle.std.proofs.Common.{List}
-use Rattle.std.specs.Prelude.{⊤}
 use Rattle.std.proofs.lemmas.Result.{err_from_is_err_and}
+use Rattle.std.specs.Prelude.{⊤}
 use Rattle.engine.specs.Calls.{Calls}
-use Rattle.line_model.specs.declared.line.Line.{Line}
-use Rattle.line_model.specs.declared.script.Script.{Script}
-use Rattle.commands.specs.Sinks.{sink_view}
-use Rattle.commands.specs.Split.{split_answer}
-use Rattle.pilot_core.specs.CallAnswers.{done_with}
-use Rattle.pilot_core.specs.Commands.{asks}
+use Rattle.line_model.specs.{declared.line.Line.Line, declared.script.Script.Script}
+use Rattle.commands.specs.{Sinks.sink_view, Split.split_answer}
+use Rattle.pilot_core.specs.{CallAnswers.done_with, Commands.asks}
 use Rattle.pilot_core.specs.Work as work
 use Rattle.pilot_core.proofs.Reading.{no_memory, study_read, study_stops, works_of_study}
-use Rattle.pilot_core.proofs.Results.{if_ok}
-use Rattle.pilot_core.proofs.Written.{works_of_said}
+use Rattle.pilot_core.proofs.{Results.if_ok, Written.works_of_said}
 use Rattle.pilot_core.proofs.dispatch.split_to.Goals as goal
 
 pub returns-in_err-study-clause-works : goal.returns-in_err-study-clause-works

@@ -1,23 +1,13 @@
 use Rattle.std.proofs.Common.{List}
 use Rattle.std.proofs.lemmas.Result.{err_from_is_err_and}
-use Rattle.line_model.specs.declared.line.Line.{Line}
-use Rattle.line_model.specs.declared.script.Script.{Script}
+use Rattle.line_model.specs.{declared.line.Line.Line, declared.script.Script.Script}
 use Rattle.record_match.specs.Waves.{records_said}
-use Rattle.commands.specs.Check.{check_answer}
-use Rattle.commands.specs.Recheck.{recheck_answer}
-use Rattle.commands.specs.Sinks.{sink_view}
-use Rattle.pilot_core.specs.Call.{answer_by, asks_by}
-use Rattle.pilot_core.specs.Reading.{third_file}
+use Rattle.commands.specs.{Check.check_answer, Recheck.recheck_answer, Sinks.sink_view}
+use Rattle.pilot_core.specs.{Call.answer_by, Call.asks_by, Reading.third_file}
 use Rattle.pilot_core.specs.declared.words.ThreeFiles.TheVariants as three
-use Rattle.pilot_core.proofs.Reading.{
-  asks_of_record,
-  no_memory,
-  study_read,
-  study_stops,
-  works_of_study,
-}
-use Rattle.pilot_core.proofs.Results.{if_ok, on_ok}
-use Rattle.pilot_core.proofs.Written.{works_of_said}
+use Rattle.pilot_core.proofs.Reading.{asks_of_record, no_memory, study_read, study_stops}
+use Rattle.pilot_core.proofs.Reading.{works_of_study}
+use Rattle.pilot_core.proofs.{Results.if_ok, Results.on_ok, Written.works_of_said}
 use Rattle.pilot_core.proofs.dispatch.three_files.Goals as goal
 
 pub returns-in_err-study-clause-works : goal.returns-in_err-study-clause-works

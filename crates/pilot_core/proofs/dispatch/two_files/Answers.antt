@@ -1,13 +1,9 @@
 use Rattle.std.proofs.lemmas.Result.{err_from_is_err_and}
 use Rattle.std.proofs.Common.{List}
-use Rattle.line_model.specs.declared.line.Line.{Line}
-use Rattle.line_model.specs.declared.script.Script.{Script}
-use Rattle.commands.specs.Certify.{certify_answer}
-use Rattle.commands.specs.Report.{report_answer}
-use Rattle.commands.specs.Sinks.{sink_view}
+use Rattle.line_model.specs.{declared.line.Line.Line, declared.script.Script.Script}
+use Rattle.commands.specs.{Certify.certify_answer, Report.report_answer, Sinks.sink_view}
 use Rattle.pilot_core.specs.CallAnswers.{done_with}
-use Rattle.pilot_core.specs.Commands.{answer, asks}
-use Rattle.pilot_core.specs.Reading.{work_of_two}
+use Rattle.pilot_core.specs.{Commands.answer, Commands.asks, Reading.work_of_two}
 use Rattle.pilot_core.specs.declared.words.TwoFiles.TheVariants as two
 use Rattle.pilot_core.proofs.Reading.{no_memory, study_read, study_stops, works_of_study}
 use Rattle.pilot_core.proofs.Results.{if_ok, on_done}

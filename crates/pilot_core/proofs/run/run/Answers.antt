@@ -1,9 +1,6 @@
-use Rattle.pilot_core.specs.Call.{answer_by}
-use Rattle.pilot_core.specs.Reading.{over_files}
+use Rattle.pilot_core.specs.{Call.answer_by, Reading.over_files, Words.bench}
 use Rattle.commands.specs.Sinks.{sink_view}
-use Rattle.pilot_core.specs.Words.{bench}
-use Rattle.pilot_core.proofs.Fetching.{ends_of_works}
-use Rattle.pilot_core.proofs.Results.{on_ok}
+use Rattle.pilot_core.proofs.{Fetching.ends_of_works, Results.on_ok}
 use Rattle.pilot_core.proofs.run.run.Goals as goal
 use Rattle.std.proofs.Common.{refl}
 

@@ -1,11 +1,9 @@
 use Rattle.engine.specs.Calls.{Calls}
 use Rattle.pilot_core.specs.Call.{answer_by, asks_by}
-use Rattle.pilot_core.specs.Reading.{over_files}
+use Rattle.pilot_core.specs.{Reading.over_files, Words.named, Words.one_file}
 use Rattle.commands.specs.Sinks.{sink_view}
-use Rattle.pilot_core.specs.Words.{named, one_file}
 use Rattle.pilot_core.specs.declared.stop.File.TheVariants as file
-use Rattle.pilot_core.proofs.Fetching.{ends_of_one, told_one}
-use Rattle.pilot_core.proofs.Results.{on_ok}
+use Rattle.pilot_core.proofs.{Fetching.ends_of_one, Fetching.told_one, Results.on_ok}
 use Rattle.pilot_core.proofs.run.run_one.Goals as goal
 
 pub returns-clause-asked : goal.returns-clause-asked

@@ -1,11 +1,9 @@
 use Rattle.engine.specs.Calls.{Calls}
 use Rattle.pilot_core.specs.Call.{answer_by, asks_by}
-use Rattle.pilot_core.specs.Reading.{over_files}
+use Rattle.pilot_core.specs.{Reading.over_files, Words.named, Words.split}
 use Rattle.commands.specs.Sinks.{sink_view}
-use Rattle.pilot_core.specs.Words.{named, split}
 use Rattle.pilot_core.specs.declared.stop.File.TheVariants as file
-use Rattle.pilot_core.proofs.Fetching.{ends_of_two, told_two}
-use Rattle.pilot_core.proofs.Results.{on_ok}
+use Rattle.pilot_core.proofs.{Fetching.ends_of_two, Fetching.told_two, Results.on_ok}
 use Rattle.pilot_core.proofs.run.run_split.Goals as goal
 
 pub returns-clause-asked : goal.returns-clause-asked

@@ -1,10 +1,8 @@
 use Rattle.pilot_core.specs.Call.{answer_by, asks_by}
-use Rattle.pilot_core.specs.Reading.{over_files}
+use Rattle.pilot_core.specs.{Reading.over_files, Words.named, Words.own_file, Words.three_files}
 use Rattle.commands.specs.Sinks.{sink_view}
-use Rattle.pilot_core.specs.Words.{named, own_file, three_files}
 use Rattle.pilot_core.specs.declared.stop.File.TheVariants as file
-use Rattle.pilot_core.proofs.Fetching.{ends_of_three, told_three}
-use Rattle.pilot_core.proofs.Results.{on_ok}
+use Rattle.pilot_core.proofs.{Fetching.ends_of_three, Fetching.told_three, Results.on_ok}
 use Rattle.pilot_core.proofs.run.run_three.Goals as goal
 
 pub returns-clause-asked : goal.returns-clause-asked

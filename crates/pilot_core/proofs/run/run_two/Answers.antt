@@ -1,10 +1,8 @@
 use Rattle.pilot_core.specs.Call.{answer_by, asks_by}
-use Rattle.pilot_core.specs.Reading.{over_files}
+use Rattle.pilot_core.specs.{Reading.over_files, Words.named, Words.two_files}
 use Rattle.commands.specs.Sinks.{sink_view}
-use Rattle.pilot_core.specs.Words.{named, two_files}
 use Rattle.pilot_core.specs.declared.stop.File.TheVariants as file
-use Rattle.pilot_core.proofs.Fetching.{ends_of_two, told_two}
-use Rattle.pilot_core.proofs.Results.{on_ok}
+use Rattle.pilot_core.proofs.{Fetching.ends_of_two, Fetching.told_two, Results.on_ok}
 use Rattle.pilot_core.proofs.run.run_two.Goals as goal
 
 pub returns-clause-asked : goal.returns-clause-asked

@@ -1,8 +1,7 @@
 use Rattle.std.proofs.Common.{Ok, Err, map, string_bytes}
-use Rattle.commands.specs.Sinks.{sink_view}
+use Rattle.commands.specs.{Sinks.sink_view, SinkLaws.grew_none}
 use Rattle.pilot_core.specs.Words.{command_of}
 use Rattle.pilot_core.proofs.Closing.{closed_done, closed_stopped, unwritten}
-use Rattle.commands.specs.SinkLaws.{grew_none}
 use Rattle.pilot_core.proofs.top.pilot.Goals as goal
 
 pub returns-in-Ok-clause-clauses : goal.returns-in-Ok-clause-clauses

@@ -2,9 +2,7 @@ use Rattle.std.proofs.Common.{◌+◌, ◌<◌, ◌||◌, ℕ, Bool, length, Lis
 use Rattle.std.proofs.Common.{get_or, sym, ◌∙◌, ap, subst}
 use Rattle.std.proofs.lemmas.List.{map-append, take_more}
 use Rattle.record_match.specs.declared.seen.Seen.{Seen}
-use Rattle.record_match.specs.Answer.{Head}
-use Rattle.record_match.specs.Seen.{AreSeen}
-use Rattle.record_match.specs.Waves.{SeenValues, seen_values}
+use Rattle.record_match.specs.{Answer.Head, Seen.AreSeen, Waves.SeenValues, Waves.seen_values}
 use Rattle.record_match.proofs.AnswerLaws.{answer_more, answer_none}
 use Rattle.record_match.proofs.answer.match_answer.Goals as goal
 

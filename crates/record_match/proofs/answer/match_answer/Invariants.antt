@@ -1,6 +1,5 @@
 use Rattle.std.proofs.Common.{map, take}
-use Rattle.record_match.specs.Answer.{IsMatchAnswer}
-use Rattle.record_match.specs.Waves.{seen_values}
+use Rattle.record_match.specs.{Answer.IsMatchAnswer, Waves.seen_values}
 use Rattle.record_match.proofs.answer.match_answer.Given as goal
 
 abbrev pub invariant-loop-seen : goal.invariant-loop-seen

@@ -1,6 +1,5 @@
 use Rattle.std.proofs.Common.{◌≡◌, ◌+◌, ◌-◌, ℕ, false, take, sym, ◌∙◌, ap, arith}
-use Rattle.record_match.specs.declared.change.Change.{Change}
-use Rattle.record_match.specs.Heads.{level_after}
+use Rattle.record_match.specs.{declared.change.Change.Change, Heads.level_after}
 use Rattle.record_match.proofs.LevelLaws.{level_after-other, level_after-own}
 use Rattle.record_match.proofs.check.level_after.Goals as goal
 

@@ -1,11 +1,9 @@
 use Rattle.std.proofs.Common.{Ok, arith}
 use Rattle.std.proofs.lemmas.List.Elements.{All-nil}
 use Rattle.std.proofs.lemmas.Result.{err_from_is_err_and}
-use Rattle.csv_records.specs.CheckLaws.{fails_first}
-use Rattle.csv_records.specs.RecordFile.{said_of}
-use Rattle.record_match.specs.Gives.{is_memory}
+use Rattle.csv_records.specs.{CheckLaws.fails_first, RecordFile.said_of}
 use Rattle.record_match.specs.Heads.{IsNamed, all_heads, so_far_of}
-use Rattle.record_match.specs.Records.{heads_in, seen_file}
+use Rattle.record_match.specs.{Gives.is_memory, Records.heads_in, Records.seen_file}
 use Rattle.record_match.proofs.NamedLaws.{given_named, record_named}
 use Rattle.record_match.proofs.read.read_heads.Goals as goal
 

@@ -1,12 +1,8 @@
 use Rattle.std.proofs.Common.{◌∙◌, ℕ, List, sym, subst, arith}
-use Rattle.line_model.specs.Choice.{Choice}
-use Rattle.line_model.specs.Histories.{IsSameHistory}
-use Rattle.timing_box.specs.declared.step.Step.{Step}
-use Rattle.timing_box.specs.Timing.{TimingValues}
-use Rattle.timing_box.specs.Choice.{timing_choice}
+use Rattle.line_model.specs.{Choice.Choice, Histories.IsSameHistory}
+use Rattle.timing_box.specs.{declared.step.Step.Step, Timing.TimingValues, Choice.timing_choice}
 use Rattle.simulator.specs.LaneBox.{lane_box}
-use Rattle.simulator.specs.Played.{played, ends_of_tick}
-use Rattle.simulator.specs.Runs.{AreDelayed, IsPoint}
+use Rattle.simulator.specs.{Played.played, Played.ends_of_tick, Runs.AreDelayed, Runs.IsPoint}
 use Rattle.record_match.proofs.replay.gives.Goals as goal
 
 pub run-requires-clause-delayed : goal.run-requires-clause-delayed

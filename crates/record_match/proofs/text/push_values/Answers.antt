@@ -1,8 +1,8 @@
 use Rattle.std.proofs.Common.{◌≡◌, ◌++◌, ◌+◌, List, ℕ, map, take, get_or, sym, ◌∙◌, ap, arith}
 use Rattle.std.proofs.Common.{append_assoc, length, ◌<◌, ◌∷◌, []}
-use Rattle.std.specs.List.{concat}
 use Rattle.std.proofs.lemmas.List.{append-nil, map-append, take_more}
 use Rattle.std.proofs.lemmas.List.Folds.{concat-append}
+use Rattle.std.specs.List.{concat}
 use Rattle.record_match.specs.MatchText.{spaced}
 use Rattle.record_match.proofs.text.push_values.Goals as goal
 

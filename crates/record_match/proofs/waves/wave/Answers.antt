@@ -1,9 +1,8 @@
 use Rattle.std.proofs.Common.{◌≡◌, false, length, ℕ, List, ◌∷◌, [], ◌++◌, map, sym, ◌∙◌, ap, arith}
-use Rattle.std.specs.List.{range_with_len}
 use Rattle.std.proofs.lemmas.List.FromFn.{map-range_with_len_more, length-map-range_with_len}
+use Rattle.std.specs.List.{range_with_len}
 use Rattle.tick_signal.specs.declared.tern.Tern.{Tern}
-use Rattle.record_match.specs.declared.change.Change.{Change}
-use Rattle.record_match.specs.Waves.{known_level, tern_by}
+use Rattle.record_match.specs.{declared.change.Change.Change, Waves.known_level, Waves.tern_by}
 use Rattle.record_match.proofs.LevelLaws.{level_by-own}
 use Rattle.record_match.proofs.waves.wave.Goals as goal
 

@@ -1,6 +1,5 @@
 use Rattle.std.proofs.Common.{◌≡◌, ◌+◌, ◌≤◌, ◌<◌, ◌++◌, IfSome, length, drop}
-use Rattle.relay_base.specs.Counts.{Grew}
-use Rattle.relay_base.specs.Store.{SameCounts}
+use Rattle.relay_base.specs.{Counts.Grew, Store.SameCounts}
 use Rattle.relay_base.proofs.store.fetch.Given as goal
 
 abbrev pub invariant-loop-turn : goal.invariant-loop-turn

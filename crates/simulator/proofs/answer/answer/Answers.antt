@@ -1,14 +1,7 @@
 use Rattle.std.proofs.Common.{◌≡◌, ◌∙◌, subst, false}
 use Rattle.history.specs.Rails.{both}
-use Rattle.simulator.proofs.TickLaws.{
-  seen_pair,
-  loss_pair,
-  raw_pair,
-  timer_stands,
-  timer_pair,
-  seal_stands,
-  seal_pair,
-}
+use Rattle.simulator.proofs.TickLaws.{seen_pair, loss_pair, raw_pair, timer_stands, timer_pair}
+use Rattle.simulator.proofs.TickLaws.{seal_stands, seal_pair}
 use Rattle.simulator.proofs.answer.answer.Goals as goal
 
 pub returns-in-Seen-clause-answers : goal.returns-in-Seen-clause-answers

@@ -1,9 +1,7 @@
 use Rattle.std.proofs.Common.{◌≤◌, sym, subst, arith}
 use Rattle.history.specs.Recorded.{first_ticks}
-use Rattle.simulator.specs.CellStands.{CellStands}
-use Rattle.simulator.specs.Quiet.{TimerKeeps}
-use Rattle.simulator.proofs.QuietLaws.{timer_fewer, timer_one}
-use Rattle.simulator.proofs.TickLaws.{timer_keeps}
+use Rattle.simulator.specs.{CellStands.CellStands, Quiet.TimerKeeps}
+use Rattle.simulator.proofs.{QuietLaws.timer_fewer, QuietLaws.timer_one, TickLaws.timer_keeps}
 use Rattle.simulator.proofs.answer.gate_stays.Goals as goal
 
 pub returns-then-limit-eq1-clause-keeps : goal.returns-then-limit-eq1-clause-keeps

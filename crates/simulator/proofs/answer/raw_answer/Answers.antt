@@ -1,6 +1,6 @@
 use Rattle.std.proofs.Common.{◌≡◌, ◌<◌, ◌≤◌, ℕ, Some, refl, sym, ◌∙◌, ap, arith, length}
-use Rattle.std.specs.Prelude.{slice_get}
 use Rattle.std.proofs.lemmas.Option.{slice_get_read}
+use Rattle.std.specs.Prelude.{slice_get}
 use Rattle.history.specs.Rails.{rails_delayed}
 use Rattle.tick_signal.specs.Lanes.{in_lane}
 use Rattle.simulator.proofs.SendLaws.{received-is}

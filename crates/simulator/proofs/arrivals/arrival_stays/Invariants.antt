@@ -1,6 +1,5 @@
 use Rattle.std.proofs.Common.{◌≡◌, ℕ, suc, ◌≤◌, ◌<◌}
-use Rattle.history.specs.Rails.{Rails}
-use Rattle.history.specs.Recorded.{first_ticks}
+use Rattle.history.specs.{Rails.Rails, Recorded.first_ticks}
 use Rattle.tick_signal.specs.Lanes.{in_lane}
 use Rattle.simulator.specs.Quiet.{ArrivalKeeps, EndStays}
 use Rattle.simulator.proofs.arrivals.arrival_stays.Given as goal

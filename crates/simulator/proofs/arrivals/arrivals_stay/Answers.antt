@@ -1,6 +1,7 @@
-use Rattle.std.proofs.Common.{◌≡◌, ◌<◌, ◌≤◌, ℕ, Some, refl, sym, ap, length, arith, subst, below_more}
-use Rattle.std.specs.Prelude.{slice_get}
+use Rattle.std.proofs.Common.{◌≡◌, ◌<◌, ◌≤◌, ℕ, Some, refl, sym, ap, length, arith, subst}
+use Rattle.std.proofs.Common.{below_more}
 use Rattle.std.proofs.lemmas.Option.{slice_get_read}
+use Rattle.std.specs.Prelude.{slice_get}
 use Rattle.simulator.specs.Quiet.{ArrivalKeeps}
 use Rattle.simulator.proofs.DelayLaws.{arrival_fewer}
 use Rattle.simulator.proofs.arrivals.arrivals_stay.Goals as goal

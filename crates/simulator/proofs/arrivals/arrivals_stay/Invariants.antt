@@ -1,8 +1,6 @@
 use Rattle.std.proofs.Common.{ℕ, suc, ◌≤◌, ◌<◌}
 use Rattle.line_model.specs.PairMean.{PairWorld, PairSignals}
-use Rattle.simulator.specs.Inputs.{AreDelaysOf}
-use Rattle.simulator.specs.Quiet.{ArrivalKeeps}
-use Rattle.simulator.specs.Ticks.{KeysSent}
+use Rattle.simulator.specs.{Inputs.AreDelaysOf, Quiet.ArrivalKeeps, Ticks.KeysSent}
 use Rattle.simulator.proofs.arrivals.arrivals_stay.Given as goal
 
 abbrev pub invariant-loop-channel : goal.invariant-loop-channel

@@ -1,12 +1,9 @@
 use Rattle.std.proofs.Common.{◌≡◌, ℕ, ◌<◌, length, Some}
 use Rattle.std.specs.Prelude.{slice_get}
-use Rattle.line_model.specs.declared.formula.Time.{Time}
-use Rattle.line_model.specs.PairMean.{PairWorld}
+use Rattle.line_model.specs.{declared.formula.Time.Time, PairMean.PairWorld}
 use Rattle.gate_net.specs.declared.gate.Gate.{Gate}
 use Rattle.simulator.specs.LaneBox.{time_ends}
-use Rattle.simulator.specs.GatePairs.{GateSignals}
-use Rattle.simulator.specs.CellStands.{HasCell}
-use Rattle.simulator.specs.Ticks.{AllStand}
+use Rattle.simulator.specs.{GatePairs.GateSignals, CellStands.HasCell, Ticks.AllStand}
 use Rattle.simulator.proofs.fresh.fresh_cells.Given as goal
 
 abbrev pub invariant-loop-i : goal.invariant-loop-i

@@ -1,8 +1,7 @@
 use Rattle.std.proofs.Common.{◌≡◌, ◌<◌, Some, length, refl, subst}
-use Rattle.std.specs.Prelude.{slice_get}
 use Rattle.std.proofs.lemmas.Option.{slice_get_read}
+use Rattle.std.specs.Prelude.{slice_get, false}
 use Rattle.history.specs.Rails.{both}
-use Rattle.std.specs.Prelude.{false}
 use Rattle.gate_net.specs.Laws.{HasArguments}
 use Rattle.simulator.proofs.TickLaws.{timer_held, seal_held}
 use Rattle.simulator.proofs.hold.hold.Goals as goal

@@ -1,6 +1,6 @@
 use Rattle.std.proofs.Common.{◌≡◌, ◌<◌, ◌≤◌, ◌+◌, suc, Some, length, refl, sym, arith}
-use Rattle.std.specs.Prelude.{slice_get}
 use Rattle.std.proofs.lemmas.Option.{slice_get_read, slice_get_within}
+use Rattle.std.specs.Prelude.{slice_get}
 use Rattle.simulator.proofs.WalkLaws.{have_more, more_arguments, between_none, between_more}
 use Rattle.simulator.proofs.hold.hold_all.Goals as goal
 

@@ -1,8 +1,7 @@
 use Rattle.std.proofs.Common.{ℕ, suc, ◌<◌, ◌+◌, length}
 use Rattle.line_model.specs.PairMean.{PairWorld}
-use Rattle.simulator.specs.GatePairs.{GateSignals}
 use Rattle.simulator.specs.Ticks.{HaveCells, AllStand, CellsBetween, ValuesAgree}
-use Rattle.simulator.specs.Quiet.{Keeps}
+use Rattle.simulator.specs.{GatePairs.GateSignals, Quiet.Keeps}
 use Rattle.simulator.proofs.hold.hold_all.Given as goal
 
 abbrev pub invariant-loop-i : goal.invariant-loop-i

@@ -1,7 +1,6 @@
 use Rattle.std.proofs.Common.{◌≡◌, ℕ, ◌<◌, length, Some}
 use Rattle.std.specs.Prelude.{slice_get}
-use Rattle.line_model.specs.Channels.{from_of}
-use Rattle.line_model.specs.Parameters.{delay_param, param_count}
+use Rattle.line_model.specs.{Channels.from_of, Parameters.delay_param, Parameters.param_count}
 use Rattle.simulator.specs.declared.inputs.Delay.{Delay}
 use Rattle.simulator.proofs.inputs.fresh_delays.Given as goal
 

@@ -1,6 +1,6 @@
 use Rattle.std.proofs.Common.{◌≡◌, ◌<◌, ◌≤◌, Some, refl, sym, ◌∙◌, ap, length}
-use Rattle.std.specs.Prelude.{slice_get, option_map}
 use Rattle.std.proofs.lemmas.Option.{slice_get_read}
+use Rattle.std.specs.Prelude.{slice_get, option_map}
 use Rattle.timing_box.specs.Timing.{number_at}
 use Rattle.simulator.specs.LaneBox.{ends_in}
 use Rattle.simulator.proofs.InputLaws.{number_keeps}

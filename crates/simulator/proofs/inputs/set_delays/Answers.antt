@@ -1,11 +1,9 @@
 use Rattle.std.proofs.Common.{◌≡◌, ℕ, ◌<◌, ◌≤◌, ◌+◌, length, Some, sym, subst, arith, ⊎_elim, refl}
-use Rattle.std.specs.Prelude.{slice_get}
 use Rattle.std.proofs.lemmas.Option.{slice_get_read, slice_get_within}
+use Rattle.std.specs.Prelude.{slice_get}
 use Rattle.line_model.specs.Parameters.{channel_count}
 use Rattle.simulator.specs.Inputs.{DelayHolds}
-use Rattle.simulator.proofs.GivenLaws.{span_set}
-use Rattle.simulator.proofs.Lists.{at_set}
-use Rattle.simulator.proofs.Loops.{first_all}
+use Rattle.simulator.proofs.{GivenLaws.span_set, Lists.at_set, Loops.first_all}
 use Rattle.simulator.proofs.inputs.set_delays.Goals as goal
 
 pub set_delay-still-requires-clause-exists : goal.set_delay-still-requires-clause-exists

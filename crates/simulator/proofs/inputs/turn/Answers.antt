@@ -1,6 +1,5 @@
 use Rattle.std.proofs.Common.{◌≡◌, ◌≤◌, ◌<◌, ◌+◌, ◌-◌, ℕ, arith, subst, sym}
-use Rattle.simulator.specs.Inputs.{ShowTheSame}
-use Rattle.simulator.specs.Quiet.{ScriptKeeps}
+use Rattle.simulator.specs.{Inputs.ShowTheSame, Quiet.ScriptKeeps}
 use Rattle.simulator.proofs.InputLaws.{script_fewer}
 use Rattle.simulator.proofs.inputs.turn.Goals as goal
 

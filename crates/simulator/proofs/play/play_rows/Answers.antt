@@ -1,17 +1,11 @@
 use Rattle.std.proofs.Common.{◌≡◌, ℕ, List, ◌++◌, length, sym, ◌∙◌, ap, arith, subst}
 use Rattle.std.specs.Prelude.{IsTrue}
-use Rattle.line_model.specs.Choice.{Choice}
-use Rattle.line_model.specs.Histories.{History, IsSameHistory}
+use Rattle.line_model.specs.{Choice.Choice, Histories.History, Histories.IsSameHistory}
 use Rattle.timing_box.specs.declared.step.Step.{Step}
-use Rattle.timing_box.specs.Timing.{TimingValues, ascend}
-use Rattle.timing_box.specs.Choice.{timing_choice}
-use Rattle.simulator.specs.LaneBox.{lane_box}
-use Rattle.simulator.specs.PlayRows.{run_rows}
+use Rattle.timing_box.specs.{Timing.TimingValues, Timing.ascend, Choice.timing_choice}
 use Rattle.simulator.specs.Played.{ends_of_tick}
-use Rattle.simulator.specs.Ticks.{AreSent}
-use Rattle.simulator.specs.PlayedTracks.{played}
-use Rattle.simulator.specs.RowLaws.{run_rows-same}
-use Rattle.simulator.specs.Runs.{AreDelayed, IsPoint}
+use Rattle.simulator.specs.{LaneBox.lane_box, PlayRows.run_rows, Ticks.AreSent, PlayedTracks.played}
+use Rattle.simulator.specs.{RowLaws.run_rows-same, Runs.AreDelayed, Runs.IsPoint}
 use Rattle.simulator.proofs.play.play_rows.Goals as goal
 
 pub run_tracks-requires-clause-spans : goal.run_tracks-requires-clause-spans

@@ -1,6 +1,5 @@
 use Rattle.std.proofs.Common.{◌≡◌, ◌-◌, ◌≤◌, ◌++◌}
-use Rattle.simulator.specs.PlayRows.{each_below, tick_rows}
-use Rattle.simulator.specs.PlayedTracks.{played}
+use Rattle.simulator.specs.{PlayRows.each_below, PlayRows.tick_rows, PlayedTracks.played}
 use Rattle.simulator.proofs.play.push_run.Given as goal
 
 abbrev pub invariant-changes : goal.invariant-changes

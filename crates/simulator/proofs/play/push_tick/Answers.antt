@@ -1,6 +1,6 @@
 use Rattle.std.proofs.Common.{◌≡◌, ◌<◌, ◌++◌, ℕ, Bool, Some, length, refl, sym, ◌∙◌, ap, arith}
-use Rattle.std.specs.Prelude.{slice_get, codes}
 use Rattle.std.proofs.lemmas.Option.{slice_get_read}
+use Rattle.std.specs.Prelude.{slice_get, codes}
 use Rattle.line_model.specs.Parameters.{terminal_count}
 use Rattle.simulator.specs.PlayRows.{terminal_name, signal_row, terminal_rows}
 use Rattle.simulator.specs.RowLaws.{texts_more}

@@ -1,6 +1,5 @@
 use Rattle.std.proofs.Common.{◌≡◌, ◌++◌}
-use Rattle.simulator.specs.PlayRows.{each_below, terminal_rows}
-use Rattle.simulator.specs.PlayedTracks.{played}
+use Rattle.simulator.specs.{PlayRows.each_below, PlayRows.terminal_rows, PlayedTracks.played}
 use Rattle.simulator.proofs.play.push_tick.Given as goal
 
 abbrev pub invariant-loop-k : goal.invariant-loop-k

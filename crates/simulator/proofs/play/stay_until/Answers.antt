@@ -1,7 +1,7 @@
 use Rattle.std.proofs.Common.{◌≡◌, ℕ, Some, ⊎_elim, sym, ◌∙◌, ap, subst, arith}
-use Rattle.std.specs.Prelude.{slice_get}
 use Rattle.std.proofs.lemmas.Bool.{cases_lt}
 use Rattle.std.proofs.lemmas.Option.{get_or_from_slice_get}
+use Rattle.std.specs.Prelude.{slice_get}
 use Rattle.history.specs.Rails.{must_of}
 use Rattle.tick_signal.specs.declared.level.Level.{Level}
 use Rattle.channel.specs.SentKeys.{SentKeys}

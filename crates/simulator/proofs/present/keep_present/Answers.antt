@@ -1,8 +1,7 @@
 use Rattle.std.proofs.Common.{◌≤◌, arith, sym, subst, length, take}
-use Rattle.std.specs.Prelude.{vec_capacity}
 use Rattle.std.proofs.lemmas.List.{take_more, take_all}
-use Rattle.simulator.specs.Inputs.{ShowTheSame}
-use Rattle.simulator.specs.Quiet.{SpanKeeps}
+use Rattle.std.specs.Prelude.{vec_capacity}
+use Rattle.simulator.specs.{Inputs.ShowTheSame, Quiet.SpanKeeps}
 use Rattle.simulator.proofs.Loops.{first_read, first_all}
 use Rattle.simulator.proofs.InputLaws.{span_fewer, all_fewer, script_keeps, shown_until}
 use Rattle.simulator.proofs.present.keep_present.Goals as goal

@@ -1,7 +1,6 @@
 use Rattle.std.proofs.Common.{◌≤◌, length, take}
 use Rattle.std.specs.Prelude.{vec_capacity}
-use Rattle.simulator.specs.Inputs.{ShowTheSame}
-use Rattle.simulator.specs.Quiet.{SpanKeeps, AllKeep}
+use Rattle.simulator.specs.{Inputs.ShowTheSame, Quiet.SpanKeeps, Quiet.AllKeep}
 use Rattle.simulator.proofs.Loops.{FirstHave}
 use Rattle.simulator.proofs.present.keep_present.Given as goal
 

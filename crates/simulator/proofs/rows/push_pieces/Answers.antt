@@ -1,20 +1,5 @@
-use Rattle.std.proofs.Common.{
-  ◌≡◌,
-  ◌++◌,
-  List,
-  ℕ,
-  Bor,
-  [],
-  map,
-  take,
-  sym,
-  ◌∙◌,
-  ap,
-  arith,
-  append_assoc,
-  get_or,
-  ◌+◌,
-}
+use Rattle.std.proofs.Common.{◌≡◌, ◌++◌, List, ℕ, Bor, [], map, take, sym, ◌∙◌, ap, arith}
+use Rattle.std.proofs.Common.{append_assoc, get_or, ◌+◌}
 use Rattle.std.specs.List.{concat}
 use Rattle.simulator.specs.RowLaws.{one_piece_more}
 use Rattle.simulator.proofs.rows.push_pieces.Goals as goal

@@ -1,10 +1,7 @@
 use Rattle.std.proofs.Common.{◌≡◌, ◌*◌, length, refl, sym, ◌∙◌, ap, subst}
 use Rattle.line_model.specs.Choice.{Box}
-use Rattle.simulator.specs.LaneBox.{lane_box}
-use Rattle.simulator.specs.GatePairs.{line_pairs}
-use Rattle.simulator.specs.Ticks.{ValuesTold}
-use Rattle.simulator.specs.WavesOf.{WavesOf, AreWaves}
-use Rattle.simulator.specs.Runs.{AreWavesOf}
+use Rattle.simulator.specs.{LaneBox.lane_box, GatePairs.line_pairs, Ticks.ValuesTold}
+use Rattle.simulator.specs.{WavesOf.WavesOf, WavesOf.AreWaves, Runs.AreWavesOf}
 use Rattle.simulator.proofs.RunLaws.{made_waves, run_pairs, own_history, run_history, run_covers}
 use Rattle.simulator.proofs.PointLaws.{exact_at}
 use Rattle.simulator.proofs.run_net.run.Goals as goal

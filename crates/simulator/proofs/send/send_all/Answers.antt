@@ -1,10 +1,9 @@
 use Rattle.std.proofs.Common.{◌≡◌, ℕ, ◌<◌, ◌≤◌, ◌+◌, Some, length, refl, sym, ◌∙◌, ap, arith, subst}
 use Rattle.std.proofs.Common.{length-set}
-use Rattle.std.specs.Prelude.{slice_get, get_or}
 use Rattle.std.proofs.lemmas.Option.{slice_get_read, slice_get_within}
-use Rattle.simulator.specs.WavesOf.{number_at}
+use Rattle.std.specs.Prelude.{slice_get, get_or}
+use Rattle.simulator.specs.{WavesOf.number_at, Ticks.HasKeys, Ticks.HasSent}
 use Rattle.simulator.proofs.Lists.{part_more}
-use Rattle.simulator.specs.Ticks.{HasKeys, HasSent}
 use Rattle.simulator.proofs.SendLaws.{keys_for, sent_for, number_read}
 use Rattle.simulator.proofs.send.send_all.Goals as goal
 

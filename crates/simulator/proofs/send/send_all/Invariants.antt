@@ -1,9 +1,8 @@
 use Rattle.std.proofs.Common.{◌≡◌, ℕ, ◌<◌, ◌≤◌, ◌+◌, length, Some}
 use Rattle.std.specs.Prelude.{slice_get}
 use Rattle.line_model.specs.PairMean.{PairSignals}
-use Rattle.simulator.specs.Ticks.{PartDone}
+use Rattle.simulator.specs.Ticks.{PartDone, HasKeys, HasSent, KeysSent}
 use Rattle.simulator.specs.WavesOf.{number_at}
-use Rattle.simulator.specs.Ticks.{HasKeys, HasSent, KeysSent}
 use Rattle.simulator.proofs.send.send_all.Given as goal
 
 abbrev pub invariant-loop-k : goal.invariant-loop-k

@@ -1,6 +1,6 @@
 use Rattle.std.proofs.Common.{◌≡◌, ◌≢◌, ◌≤◌, ◌<◌, ◌+◌, Some, refl, arith, length}
-use Rattle.std.specs.Prelude.{slice_get}
 use Rattle.std.proofs.lemmas.Option.{slice_get_read}
+use Rattle.std.specs.Prelude.{slice_get}
 use Rattle.simulator.proofs.SearchLaws.{all_ascend, next_comes}
 use Rattle.simulator.proofs.steps.steps_stay.Goals as goal
 

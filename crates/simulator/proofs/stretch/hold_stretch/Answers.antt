@@ -1,9 +1,7 @@
 use Rattle.std.proofs.Common.{◌≡◌, ℕ, suc, ◌+◌, ◌<◌, ◌≤◌, Some, length, sym, ◌∙◌, arith, subst}
 use Rattle.std.specs.Prelude.{slice_get}
 use Rattle.gate_net.specs.NetOf.{AreGatesOf}
-use Rattle.simulator.specs.WavesOf.{number_at}
-use Rattle.simulator.specs.Ticks.{AllStand}
-use Rattle.simulator.specs.Tracks.{trips_of}
+use Rattle.simulator.specs.{WavesOf.number_at, Ticks.AllStand, Tracks.trips_of}
 use Rattle.simulator.proofs.StretchLaws.{held_values}
 use Rattle.simulator.proofs.stretch.hold_stretch.Goals as goal
 

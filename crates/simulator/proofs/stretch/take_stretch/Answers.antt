@@ -1,20 +1,16 @@
-use Rattle.std.proofs.Common.{◌≡◌, ℕ, suc, ◌+◌, ◌-◌, ◌<◌, ◌≤◌, Some, length, sym, ◌∙◌, ap, arith, subst}
+use Rattle.std.proofs.Common.{◌≡◌, ℕ, suc, ◌+◌, ◌-◌, ◌<◌, ◌≤◌, Some, length, sym, ◌∙◌, ap, arith}
+use Rattle.std.proofs.Common.{subst}
 use Rattle.std.specs.Prelude.{slice_get}
-use Rattle.line_model.specs.Parameters.{terminal_count}
 use Rattle.line_model.specs.PairMean.{PairWorld, PairSignals}
-use Rattle.line_model.specs.Logic.{key_tree}
-use Rattle.line_model.specs.Solution.{the_keys}
+use Rattle.line_model.specs.{Parameters.terminal_count, Logic.key_tree, Solution.the_keys}
 use Rattle.simulator.specs.GatePairs.{GateSignals, line_pairs}
-use Rattle.simulator.specs.LaneBox.{lane_box, lane_world}
-use Rattle.simulator.specs.WavesOf.{number_at}
-use Rattle.simulator.proofs.GatePairLaws.{gate_pairs-kind}
 use Rattle.simulator.specs.Inputs.{AreDelaysOf, CanReceive, IsWorldAt}
 use Rattle.simulator.specs.Ticks.{AreSent, KeysSent, AllStand, ValuesAgree, IsReady}
-use Rattle.simulator.proofs.GivenLaws.{can_receive, given_later, world_at}
-use Rattle.simulator.specs.Quiet.{Keeps}
 use Rattle.simulator.specs.Tracks.{LaneTracked, trips_of}
-use Rattle.simulator.proofs.QuietLaws.{timer_fewer}
+use Rattle.simulator.specs.{LaneBox.lane_box, LaneBox.lane_world, WavesOf.number_at, Quiet.Keeps}
+use Rattle.simulator.proofs.GivenLaws.{can_receive, given_later, world_at}
 use Rattle.simulator.proofs.StretchLaws.{held_values, keeps_one, key_is, stretch_keeps}
+use Rattle.simulator.proofs.{GatePairLaws.gate_pairs-kind, QuietLaws.timer_fewer}
 use Rattle.simulator.proofs.stretch.take_stretch.Goals as goal
 
 pub walk-timers-requires-clause-delays : goal.walk-timers-requires-clause-delays

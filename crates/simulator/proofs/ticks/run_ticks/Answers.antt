@@ -1,37 +1,17 @@
-use Rattle.std.proofs.Common.{
-  ◌≡◌,
-  ℕ,
-  suc,
-  ◌<◌,
-  ◌≤◌,
-  ◌+◌,
-  ◌*◌,
-  ◌++◌,
-  refl,
-  sym,
-  ◌∙◌,
-  ap,
-  arith,
-  length,
-  length-append,
-  subst,
-}
+use Rattle.std.proofs.Common.{◌≡◌, ℕ, suc, ◌<◌, ◌≤◌, ◌+◌, ◌*◌, ◌++◌, refl, sym, ◌∙◌, ap, arith}
+use Rattle.std.proofs.Common.{length, length-append, subst}
 use Rattle.std.specs.Prelude.{vec_capacity}
-use Rattle.line_model.specs.Parameters.{terminal_count}
-use Rattle.line_model.specs.PairMean.{PairWorld, PairSignals}
-use Rattle.line_model.specs.Choice.{Box, pair_world_of}
-use Rattle.line_model.specs.Logic.{key_tree}
-use Rattle.line_model.specs.Solution.{the_keys}
+use Rattle.line_model.specs.{Parameters.terminal_count, PairMean.PairWorld, PairMean.PairSignals}
+use Rattle.line_model.specs.{Choice.Box, Choice.pair_world_of, Logic.key_tree, Solution.the_keys}
 use Rattle.gate_net.specs.NetOf.{key_of, AreGatesOf}
-use Rattle.simulator.specs.LaneBox.{lane_box, lane_world}
 use Rattle.simulator.specs.GatePairs.{GateSignals, line_pairs}
-use Rattle.simulator.specs.Ticks.{IsReady, AreTold, AreSent, KeysSent, ValuesAgree, ValuesTold, LaneStands}
-use Rattle.simulator.specs.Inputs.{AreGiven, CanReceive, IsWorldAt}
+use Rattle.simulator.specs.{LaneBox.lane_box, LaneBox.lane_world, Ticks.IsReady, Ticks.AreTold}
+use Rattle.simulator.specs.{Ticks.AreSent, Ticks.KeysSent, Ticks.ValuesAgree, Ticks.ValuesTold}
+use Rattle.simulator.specs.{Ticks.LaneStands, Inputs.AreGiven, Inputs.CanReceive, Inputs.IsWorldAt}
 use Rattle.simulator.proofs.GivenLaws.{given_none, given_later, can_receive, world_at}
-use Rattle.simulator.proofs.GatePairLaws.{gate_pairs-kind}
 use Rattle.simulator.proofs.SendLaws.{none_sent, fresh_sent, one_tick_sent}
 use Rattle.simulator.proofs.ValueLaws.{tick_fits, values_none, values_more}
-use Rattle.simulator.proofs.RunLaws.{key_pair}
+use Rattle.simulator.proofs.{GatePairLaws.gate_pairs-kind, RunLaws.key_pair}
 use Rattle.simulator.proofs.ticks.run_ticks.Goals as goal
 
 pub loop-t-init : goal.loop-t-init

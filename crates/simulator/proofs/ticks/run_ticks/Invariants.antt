@@ -1,12 +1,8 @@
 use Rattle.std.proofs.Common.{◌≡◌, ℕ, ◌<◌, ◌≤◌, ◌*◌, length}
 use Rattle.std.specs.Prelude.{vec_capacity}
-use Rattle.line_model.specs.Parameters.{terminal_count}
-use Rattle.line_model.specs.Logic.{key_tree}
-use Rattle.line_model.specs.Solution.{the_keys}
-use Rattle.simulator.specs.Inputs.{AreDelays, AreGiven}
-use Rattle.simulator.specs.LaneBox.{lane_box, lane_world}
-use Rattle.simulator.specs.GatePairs.{line_pairs}
-use Rattle.simulator.specs.Ticks.{HaveCells, AreSent, LaneStands}
+use Rattle.line_model.specs.{Parameters.terminal_count, Logic.key_tree, Solution.the_keys}
+use Rattle.simulator.specs.{Inputs.AreDelays, Inputs.AreGiven, LaneBox.lane_box, LaneBox.lane_world}
+use Rattle.simulator.specs.{GatePairs.line_pairs, Ticks.HaveCells, Ticks.AreSent, Ticks.LaneStands}
 use Rattle.simulator.proofs.ticks.run_ticks.Given as goal
 
 abbrev pub invariant-loop-t : goal.invariant-loop-t

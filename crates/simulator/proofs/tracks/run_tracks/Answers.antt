@@ -1,17 +1,11 @@
 use Rattle.std.proofs.Common.{ℕ, ◌<◌, length, refl, sym, ◌∙◌, ap, subst}
 use Rattle.line_model.specs.PairMean.{PairWorld, PairSignals}
-use Rattle.line_model.specs.Logic.{key_tree}
-use Rattle.line_model.specs.Solution.{the_keys}
-use Rattle.line_model.specs.Choice.{pair_world_of}
+use Rattle.line_model.specs.{Logic.key_tree, Solution.the_keys, Choice.pair_world_of}
 use Rattle.simulator.specs.GatePairs.{GateSignals, line_pairs}
-use Rattle.simulator.specs.LaneBox.{lane_box, lane_world}
-use Rattle.simulator.proofs.PointLaws.{exact_at}
-use Rattle.simulator.specs.Ticks.{AreSent}
 use Rattle.simulator.specs.Tracks.{tracks_history, trips_of, LineTracked}
-use Rattle.simulator.proofs.SendLaws.{fresh_sent, none_sent}
-use Rattle.simulator.proofs.TrackLaws.{kept_pair, kept_history}
-use Rattle.simulator.proofs.GivenLaws.{given_none}
-use Rattle.simulator.specs.Inputs.{AreGiven}
+use Rattle.simulator.specs.{LaneBox.lane_box, LaneBox.lane_world, Ticks.AreSent, Inputs.AreGiven}
+use Rattle.simulator.proofs.{PointLaws.exact_at, SendLaws.fresh_sent, SendLaws.none_sent}
+use Rattle.simulator.proofs.{TrackLaws.kept_pair, TrackLaws.kept_history, GivenLaws.given_none}
 use Rattle.simulator.proofs.tracks.run_tracks.Goals as goal
 
 pub take_all-requires-clause-keys : goal.take_all-requires-clause-keys

@@ -1,6 +1,5 @@
 use Rattle.std.proofs.Common.{◌≡◌, ◌≤◌, length, arith, subst, ℕ}
-use Rattle.simulator.specs.Ticks.{AreSent}
-use Rattle.simulator.specs.Tracks.{LineTracked}
+use Rattle.simulator.specs.{Ticks.AreSent, Tracks.LineTracked}
 use Rattle.simulator.proofs.tracks.take_all.Goals as goal
 
 pub loop-t-init : goal.loop-t-init

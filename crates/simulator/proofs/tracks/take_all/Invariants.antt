@@ -1,8 +1,7 @@
 use Rattle.std.proofs.Common.{ℕ, ◌-◌, ◌<◌, ◌≤◌, length}
 use Rattle.std.specs.Prelude.{vec_capacity}
 use Rattle.simulator.specs.Inputs.{AreDelays, AreGiven}
-use Rattle.simulator.specs.Ticks.{HaveCells, AreSent}
-use Rattle.simulator.specs.Tracks.{LineTracked}
+use Rattle.simulator.specs.{Ticks.HaveCells, Ticks.AreSent, Tracks.LineTracked}
 use Rattle.simulator.proofs.tracks.take_all.Given as goal
 
 abbrev pub invariant-loop-t : goal.invariant-loop-t

@@ -1,31 +1,11 @@
-use Rattle.std.proofs.Common.{
-  ◌≡◌,
-  ℕ,
-  ◌<◌,
-  ◌≤◌,
-  ◌+◌,
-  ◌++◌,
-  ◌∷◌,
-  [],
-  Some,
-  refl,
-  sym,
-  ◌∙◌,
-  ap,
-  arith,
-  length,
-  length-append,
-  subst,
-  below_more,
-}
-use Rattle.std.specs.Prelude.{slice_get, vec_capacity}
+use Rattle.std.proofs.Common.{◌≡◌, ℕ, ◌<◌, ◌≤◌, ◌+◌, ◌++◌, ◌∷◌, [], Some, refl, sym, ◌∙◌, ap, arith}
+use Rattle.std.proofs.Common.{length, length-append, subst, below_more}
 use Rattle.std.proofs.lemmas.Option.{slice_get_within, slice_get_read}
-use Rattle.simulator.specs.Ticks.{ValuesAgree}
+use Rattle.std.specs.Prelude.{slice_get, vec_capacity}
+use Rattle.simulator.specs.{Ticks.ValuesAgree, Quiet.TimerKeeps}
 use Rattle.simulator.proofs.WalkLaws.{have_more, walked_more, walked_none, agree_none}
+use Rattle.simulator.proofs.{Lists.one_value, QuietLaws.timer_fewer}
 use Rattle.gate_net.specs.declared.gate.Gate.{Gate}
-use Rattle.simulator.specs.Quiet.{TimerKeeps}
-use Rattle.simulator.proofs.Lists.{one_value}
-use Rattle.simulator.proofs.QuietLaws.{timer_fewer}
 use Rattle.simulator.proofs.walk.walk.Goals as goal
 
 pub loop-i-init : goal.loop-i-init

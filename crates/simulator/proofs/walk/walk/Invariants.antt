@@ -2,10 +2,8 @@ use Rattle.std.proofs.Common.{◌≡◌, ℕ, ◌<◌, ◌≤◌, length}
 use Rattle.std.specs.Prelude.{vec_capacity, slice_get, Some}
 use Rattle.line_model.specs.PairMean.{PairWorld, PairSignals}
 use Rattle.gate_net.specs.declared.gate.Gate.{Gate}
-use Rattle.simulator.specs.GatePairs.{GateSignals}
-use Rattle.simulator.specs.Inputs.{IsWorldAt}
-use Rattle.simulator.specs.Quiet.{TimerKeeps}
 use Rattle.simulator.specs.Ticks.{HaveCells, CellsWalked, ValuesAgree, IsReady}
+use Rattle.simulator.specs.{GatePairs.GateSignals, Inputs.IsWorldAt, Quiet.TimerKeeps}
 use Rattle.simulator.proofs.walk.walk.Given as goal
 
 abbrev pub invariant-loop-i : goal.invariant-loop-i

@@ -1,20 +1,13 @@
 use Rattle.std.proofs.Common.{◌≤◌, ◌<◌, ℕ, List, length, map, take, arith, subst, Vec}
-use Rattle.std.specs.declared.alloc.Global.{Global}
 use Rattle.std.proofs.lemmas.List.{take_all, length-map}
+use Rattle.std.specs.declared.alloc.Global.{Global}
 use Rattle.certificate.specs.Grammar.{Verdict}
 use Rattle.cert_checker.specs.Counts.{Adds, AreCounts, is_yes, is_no, is_undecided}
 use Rattle.split_text.specs.declared.claim.SplitClaim.{SplitClaim}
-use Rattle.split_text.specs.Grammar.{SplitResult}
-use Rattle.split_text.specs.Reading.{result_in, results_in}
+use Rattle.split_text.specs.{Grammar.SplitResult, Reading.result_in, Reading.results_in}
 use Rattle.split_checker.specs.Counts.{all_verdicts, CountResults}
-use Rattle.split_checker.proofs.ListLaws.{each_mapped}
-use Rattle.split_checker.proofs.CountLaws.{
-  verdicts_in,
-  counts_then,
-  parts_more,
-  adds_few,
-  few_verdicts,
-}
+use Rattle.split_checker.proofs.{ListLaws.each_mapped, CountLaws.verdicts_in, CountLaws.counts_then}
+use Rattle.split_checker.proofs.{CountLaws.parts_more, CountLaws.adds_few, CountLaws.few_verdicts}
 use Rattle.split_checker.proofs.counts.counts_of.Goals as goal
 
 -- what is said of one of the scripts has few results

@@ -2,8 +2,7 @@ use Rattle.std.proofs.Common.{◌≤◌, ◌<◌, ◌∷◌, [], ℕ, List, leng
 use Rattle.std.proofs.lemmas.List.{take_all}
 use Rattle.certificate.specs.Grammar.{Verdict}
 use Rattle.cert_checker.specs.Counts.{Adds, is_yes, is_no, is_undecided}
-use Rattle.split_text.specs.declared.claim.SplitClaim.{SplitClaim}
-use Rattle.split_text.specs.Reading.{result_in}
+use Rattle.split_text.specs.{declared.claim.SplitClaim.SplitClaim, Reading.result_in}
 use Rattle.split_checker.specs.Counts.{verdict_of}
 use Rattle.split_checker.proofs.CountLaws.{verdicts_in, adds_then, claims_more, adds_few, few_first}
 use Rattle.split_checker.proofs.counts.with_all.Goals as goal

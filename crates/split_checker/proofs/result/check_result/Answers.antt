@@ -1,8 +1,7 @@
 use Rattle.std.proofs.Common.{ℕ, List, sym, subst, MatchResult}
 use Rattle.box_split.specs.declared.node.Node.{Node}
 use Rattle.cert_checker.specs.Refutations.{IsRefutation}
-use Rattle.split_text.specs.declared.claim.SplitClaim.{SplitClaim}
-use Rattle.split_text.specs.Reading.{result_in}
+use Rattle.split_text.specs.{declared.claim.SplitClaim.SplitClaim, Reading.result_in}
 use Rattle.split_checker.specs.FirstLeaf.{IsTreeHeld}
 use Rattle.split_checker.specs.Results.{IsSupported, IsFaultOf, IsTreeFault, IsNoFault}
 use Rattle.split_checker.proofs.result.check_result.Goals as goal

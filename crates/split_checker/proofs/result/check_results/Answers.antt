@@ -2,8 +2,7 @@ use Rattle.std.proofs.Common.{ℕ, ◌<◌, List, length, map, arith}
 use Rattle.std.proofs.lemmas.List.{length-map}
 use Rattle.std.proofs.lemmas.Result.{err_from_is_err_and}
 use Rattle.split_text.specs.declared.claim.SplitClaim.{SplitClaim}
-use Rattle.split_text.specs.Grammar.{SplitResult, IsSplitResult}
-use Rattle.split_text.specs.Reading.{result_in}
+use Rattle.split_text.specs.{Grammar.SplitResult, Grammar.IsSplitResult, Reading.result_in}
 use Rattle.split_checker.specs.Results.{IsSupported}
 use Rattle.split_checker.proofs.ListLaws.{each_mapped, slice_mapped, one_more}
 use Rattle.split_checker.proofs.ResultLaws.{supported_told}

@@ -3,8 +3,7 @@ use Rattle.std.proofs.lemmas.List.{append-nil}
 use Rattle.std.proofs.lemmas.Result.{err_from_is_err_and}
 use Rattle.line_model.specs.Choice.{declared_box}
 use Rattle.box_split.specs.Trees.{preorder}
-use Rattle.split_checker.proofs.ResultLaws.{tree_few, whole_fault}
-use Rattle.split_checker.proofs.WalkLaws.{same_line}
+use Rattle.split_checker.proofs.{ResultLaws.tree_few, ResultLaws.whole_fault, WalkLaws.same_line}
 use Rattle.split_checker.proofs.result.check_tree.Goals as goal
 
 pub walk-requires-clause-few : goal.walk-requires-clause-few

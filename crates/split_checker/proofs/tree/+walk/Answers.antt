@@ -6,9 +6,10 @@ use Rattle.box_split.specs.declared.node.Node.TheVariants as node
 use Rattle.box_split.specs.Trees.{SplitTree, Split, preorder}
 use Rattle.box_split.specs.Leaves.{lower_half, upper_half}
 use Rattle.split_checker.specs.declared.fault.ResultFault.{ResultFault}
-use Rattle.split_checker.specs.declared.tree.Passed.{Passed}
-use Rattle.split_checker.specs.Walks.{IsWalked, IsWalkFault}
-use Rattle.split_checker.proofs.WalkLaws.{root_at, within, split_next, few_leaves, walked_yes, walked_undecided, walked_split, fault_leaf, fault_first, fault_second, same_line}
+use Rattle.split_checker.specs.{declared.tree.Passed.Passed, Walks.IsWalked, Walks.IsWalkFault}
+use Rattle.split_checker.proofs.WalkLaws.{root_at, within, split_next, few_leaves, walked_yes}
+use Rattle.split_checker.proofs.WalkLaws.{walked_undecided, walked_split, fault_leaf, fault_first}
+use Rattle.split_checker.proofs.WalkLaws.{fault_second, same_line}
 use Rattle.split_checker.proofs.tree.+walk.Goals as goal
 
 -- ---- the node

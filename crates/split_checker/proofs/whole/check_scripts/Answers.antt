@@ -1,15 +1,13 @@
-use Rattle.std.proofs.Common.{◌≡◌, ◌<◌, ◌≤◌, ℕ, List, Some, length, map, refl, sym, arith, subst, Vec}
+use Rattle.std.proofs.Common.{◌≡◌, ◌<◌, ◌≤◌, ℕ, List, Some, length, map, refl, sym, arith, subst}
+use Rattle.std.proofs.Common.{Vec}
+use Rattle.std.proofs.lemmas.Option.{slice_get_read}
 use Rattle.std.specs.Prelude.{slice_get}
 use Rattle.std.specs.declared.alloc.Global.{Global}
-use Rattle.std.proofs.lemmas.Option.{slice_get_read}
-use Rattle.line_model.specs.declared.script.Script.{Script}
-use Rattle.line_model.specs.Fits.{Fits}
+use Rattle.line_model.specs.{declared.script.Script.Script, Fits.Fits}
 use Rattle.split_text.specs.declared.claim.SplitClaim.{SplitClaim}
-use Rattle.split_text.specs.Grammar.{HasOneEach}
-use Rattle.split_text.specs.Reading.{result_in, results_in}
-use Rattle.split_checker.specs.declared.fault.ResultFault.{ResultFault}
-use Rattle.split_checker.specs.Check.{IsSplitFault}
+use Rattle.split_text.specs.{Grammar.HasOneEach, Reading.result_in, Reading.results_in}
 use Rattle.split_checker.specs.Results.{AreSupported, AreTold, IsFirstFault}
+use Rattle.split_checker.specs.{declared.fault.ResultFault.ResultFault, Check.IsSplitFault}
 use Rattle.split_checker.proofs.ListLaws.{each_mapped, slice_mapped}
 use Rattle.split_checker.proofs.ScriptLaws.{fault_told, one_script}
 use Rattle.split_checker.proofs.whole.check_scripts.Goals as goal

@@ -1,9 +1,8 @@
 use Rattle.std.proofs.Common.{List, map, sym, ◌∙◌, subst, Vec}
-use Rattle.std.specs.declared.alloc.Global.{Global}
 use Rattle.std.proofs.lemmas.List.{length-map}
+use Rattle.std.specs.declared.alloc.Global.{Global}
 use Rattle.split_text.specs.declared.claim.SplitClaim.{SplitClaim}
-use Rattle.split_text.specs.Grammar.{IsSplitText}
-use Rattle.split_text.specs.Reading.{results_in}
+use Rattle.split_text.specs.{Grammar.IsSplitText, Reading.results_in}
 use Rattle.split_checker.proofs.ScriptLaws.{sound_told}
 use Rattle.split_checker.proofs.whole.check_split.Goals as goal
 

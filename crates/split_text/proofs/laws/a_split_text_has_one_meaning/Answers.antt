@@ -1,8 +1,7 @@
 use Rattle.std.proofs.Common.{[], sym, ◌∙◌}
 use Rattle.text_lines.specs.OneReading.{same_reading}
 use Rattle.split_text.specs.Grammar.{Stands, opens, split_places, split_said}
-use Rattle.split_text.proofs.SaidLaws.{said_tells}
-use Rattle.split_text.proofs.StandsLaws.{stands_once}
+use Rattle.split_text.proofs.{SaidLaws.said_tells, StandsLaws.stands_once}
 use Rattle.split_text.proofs.laws.a_split_text_has_one_meaning.Goals as goal
 
 pub returns : goal.returns

@@ -1,7 +1,6 @@
 use Rattle.text_lines.specs.OneReading.{same_number, not_whole}
 use Rattle.split_text.specs.Grammar.{Stands, opens, split_places, split_said}
-use Rattle.split_text.proofs.FewLines.{leaves_early}
-use Rattle.split_text.proofs.StandsLaws.{stands_once}
+use Rattle.split_text.proofs.{FewLines.leaves_early, StandsLaws.stands_once}
 use Rattle.split_text.proofs.laws.a_split_text_leaves_at_one_line.Goals as goal
 
 pub returns-clause-one : goal.returns-clause-one

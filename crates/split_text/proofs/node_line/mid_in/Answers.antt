@@ -1,8 +1,6 @@
 use Rattle.std.proofs.Common.{◌≡◌, ◌≢◌, ◌<◌, ◌^◌, ℕ, List, sym, ◌∙◌, ap, decimal}
 use Rattle.std.specs.Prelude.{codes}
-use Rattle.text_lines.specs.Named.{named}
-use Rattle.text_lines.specs.AnswerLaws.{map_option}
-use Rattle.text_lines.specs.NamedLaws.{one_text}
+use Rattle.text_lines.specs.{Named.named, AnswerLaws.map_option, NamedLaws.one_text}
 use Rattle.split_text.proofs.node_line.mid_in.Goals as goal
 
 pub returns-in_err-text : goal.returns-in_err-text

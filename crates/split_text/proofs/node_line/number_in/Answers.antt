@@ -1,7 +1,6 @@
 use Rattle.std.proofs.Common.{◌≡◌, true, false, sym, ◌∙◌, ap, decimal}
 use Rattle.std.proofs.lemmas.Option.{same_Some, none-some}
-use Rattle.relay_base.specs.Number.{number_of}
-use Rattle.relay_base.specs.DecimalLaws.{number_of-decimal}
+use Rattle.relay_base.specs.{Number.number_of, DecimalLaws.number_of-decimal}
 use Rattle.split_text.proofs.node_line.number_in.Goals as goal
 
 pub returns-in_err-n : goal.returns-in_err-n

@@ -1,7 +1,6 @@
 use Rattle.std.proofs.Common.{◌≡◌, ◌≢◌, ◌∙◌, ℕ, List, true, false, below_more, arith, subst, sym}
-use Rattle.line_model.specs.Choice.{declared_box}
+use Rattle.line_model.specs.{Choice.declared_box, ParamNamesApart.name_of_param}
 use Rattle.box_split.specs.Leaves.{CanSplit}
-use Rattle.line_model.specs.ParamNamesApart.{name_of_param}
 use Rattle.split_text.specs.Grammar.{split_line}
 use Rattle.split_text.proofs.NodeLaws.{one_mid}
 use Rattle.split_text.proofs.node_line.split_in.Goals as goal

@@ -1,12 +1,9 @@
-use Rattle.std.proofs.Common.{◌≡◌, ◌++◌, ◌<◌, ℕ, List, [], length, map, take, get_or, sym, ◌∙◌}
-use Rattle.std.proofs.Common.{ap, arith}
+use Rattle.std.proofs.Common.{◌≡◌, ◌++◌, ◌<◌, ℕ, List, [], length, map, take, get_or, sym, ◌∙◌, ap}
+use Rattle.std.proofs.Common.{arith}
 use Rattle.line_model.specs.Parameters.{terminal_count}
-use Rattle.certificate.specs.Grammar.{script_text, terminal_names}
-use Rattle.certificate.specs.Text.{fed}
+use Rattle.certificate.specs.{Grammar.script_text, Grammar.terminal_names, Text.fed}
 use Rattle.box_split.specs.declared.node.Outcome.{Outcome}
-use Rattle.split_text.specs.Grammar.{tree_text}
-use Rattle.split_text.specs.Text.{result_text, trees_text}
-use Rattle.split_text.specs.Piece.{written_as}
+use Rattle.split_text.specs.{Grammar.tree_text, Text.result_text, Text.trees_text, Piece.written_as}
 use Rattle.split_text.proofs.PrintLaws.{one_more_tree, all_trees, tree_added}
 use Rattle.split_text.proofs.ReadLaws.{names_count}
 use Rattle.split_text.proofs.piece.split_piece.Goals as goal

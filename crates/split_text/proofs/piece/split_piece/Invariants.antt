@@ -1,8 +1,6 @@
 use Rattle.std.proofs.Common.{◌≡◌, ◌++◌, map, take}
-use Rattle.certificate.specs.Grammar.{script_text, terminal_names}
-use Rattle.certificate.specs.Text.{fed}
-use Rattle.split_text.specs.Text.{trees_text}
-use Rattle.split_text.specs.Piece.{written_as}
+use Rattle.certificate.specs.{Grammar.script_text, Grammar.terminal_names, Text.fed}
+use Rattle.split_text.specs.{Text.trees_text, Piece.written_as}
 use Rattle.split_text.proofs.piece.split_piece.Given as goal
 
 -- the script's line and the trees of the first terminals

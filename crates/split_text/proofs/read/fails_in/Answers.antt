@@ -1,6 +1,6 @@
 use Rattle.std.proofs.Common.{◌≡◌, ◌≢◌, ◌++◌, List, ℕ, sym, ◌∙◌, ap, subst}
-use Rattle.std.specs.Prelude.{codes}
 use Rattle.std.proofs.lemmas.List.{append_cancel_left}
+use Rattle.std.specs.Prelude.{codes}
 use Rattle.certificate.specs.Grammar.{AreNumbers, numbers_text}
 use Rattle.text_lines.specs.AnswerLaws.{map_read}
 use Rattle.line_model.specs.Parameters.{param_count}

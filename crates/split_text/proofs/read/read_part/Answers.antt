@@ -1,6 +1,6 @@
 use Rattle.std.proofs.Common.{[], ◌∷◌, ◌++◌, ℕ, List}
-use Rattle.std.specs.List.{flat_map}
 use Rattle.std.proofs.lemmas.Result.{err_from_is_err_and, MatchResult-weaker}
+use Rattle.std.specs.List.{flat_map}
 use Rattle.certificate.specs.Grammar.{terminal_names}
 use Rattle.text_lines.specs.LineLaws.{goes_then}
 use Rattle.split_text.specs.Grammar.{Place, Stands, opens, says_nothing, tree_places, tree_said}

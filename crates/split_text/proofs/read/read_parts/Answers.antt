@@ -1,16 +1,15 @@
-use Rattle.std.proofs.Common.{◌≡◌, ◌<◌, ◌+◌, List, ℕ, [], ◌∷◌, ◌++◌, length, map, drop}
-use Rattle.std.proofs.Common.{sym, ◌∙◌, ap, arith, length-append}
-use Rattle.std.specs.Prelude.{Vec}
-use Rattle.std.specs.declared.alloc.Global.{Global}
-use Rattle.std.specs.List.{flat_map}
+use Rattle.std.proofs.Common.{◌≡◌, ◌<◌, ◌+◌, List, ℕ, [], ◌∷◌, ◌++◌, length, map, drop, sym, ◌∙◌}
+use Rattle.std.proofs.Common.{ap, arith, length-append}
 use Rattle.std.proofs.lemmas.List.{map-append}
 use Rattle.std.proofs.lemmas.List.Elements.{All-nil, All-same, All-push}
 use Rattle.std.proofs.lemmas.Result.{err_from_is_err_and}
+use Rattle.std.specs.Prelude.{Vec}
+use Rattle.std.specs.declared.alloc.Global.{Global}
+use Rattle.std.specs.List.{flat_map}
 use Rattle.line_model.specs.declared.script.Script.{Script}
 use Rattle.text_lines.specs.Reading.{left_as, said_as, none_read, all_parts, parts_more}
-use Rattle.split_text.specs.declared.claim.SplitClaim.{SplitClaim}
 use Rattle.split_text.specs.Grammar.{Place, Said, Stands, opens, part_places, part_said, HasOneEach}
-use Rattle.split_text.specs.Reading.{results_in}
+use Rattle.split_text.specs.{declared.claim.SplitClaim.SplitClaim, Reading.results_in}
 use Rattle.split_text.proofs.ReadLaws.{fault_there, one_stretch}
 use Rattle.split_text.proofs.read.read_parts.Goals as goal
 

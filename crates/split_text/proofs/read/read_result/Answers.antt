@@ -1,14 +1,11 @@
 use Rattle.std.proofs.Common.{◌≡◌, List, [], ◌∷◌, ◌++◌, map, sym, ◌∙◌, ap}
 use Rattle.std.proofs.lemmas.Result.{err_from_is_err_and}
 use Rattle.line_model.specs.Choice.{Box, declared_box}
-use Rattle.box_split.specs.declared.node.Node.{Node}
-use Rattle.box_split.specs.Trees.{preorder}
-use Rattle.text_lines.specs.LineLaws.{goes_one, refused}
-use Rattle.text_lines.specs.Reading.{said_as}
+use Rattle.box_split.specs.{declared.node.Node.Node, Trees.preorder}
+use Rattle.text_lines.specs.{LineLaws.goes_one, LineLaws.refused, Reading.said_as}
 use Rattle.split_text.specs.Grammar.{Stands, opens, result_over, says_node, says_fails, below}
 use Rattle.split_text.proofs.NodeLaws.{not_result, same_line}
-use Rattle.split_text.proofs.ReadLaws.{later_fault}
-use Rattle.split_text.proofs.TreeLaws.{whole_tree}
+use Rattle.split_text.proofs.{ReadLaws.later_fault, TreeLaws.whole_tree}
 use Rattle.split_text.proofs.read.read_result.Goals as goal
 
 pub returns-in-Some-2 : goal.returns-in-Some-2

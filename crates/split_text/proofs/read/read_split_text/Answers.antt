@@ -1,15 +1,13 @@
 use Rattle.std.proofs.Common.{List, ℕ, [], ◌∷◌, ◌++◌, map, ◌∙◌, subst}
-use Rattle.std.specs.List.{flat_map}
 use Rattle.std.proofs.lemmas.List.{length-map}
 use Rattle.std.proofs.lemmas.Result.{err_from_is_err_and}
-use Rattle.split_text.specs.declared.fault.SplitTextFault.TheVariants.{Line}
-use Rattle.text_lines.specs.Lines.{Lines}
-use Rattle.certificate.specs.Grammar.{end_text}
+use Rattle.std.specs.List.{flat_map}
 use Rattle.split_text.specs.Grammar.{Place, Said, Stands, opens, part_places, part_said}
 use Rattle.split_text.specs.Grammar.{says_nothing, fixed, split_places, split_said}
-use Rattle.split_text.specs.Reading.{results_in}
+use Rattle.split_text.specs.{declared.fault.SplitTextFault.TheVariants.Line, Reading.results_in}
 use Rattle.text_lines.specs.LineLaws.{leaves_later, leaves_here, goes_then}
-use Rattle.text_lines.specs.Reading.{none_left, some_left}
+use Rattle.text_lines.specs.{Lines.Lines, Reading.none_left, Reading.some_left}
+use Rattle.certificate.specs.Grammar.{end_text}
 use Rattle.split_text.proofs.ReadLaws.{later_fault, fault_from}
 use Rattle.split_text.proofs.read.read_split_text.Goals as goal
 

@@ -1,16 +1,15 @@
-use Rattle.std.proofs.Common.{◌≡◌, ◌<◌, ◌+◌, List, ℕ, [], ◌∷◌, ◌++◌, length, map, drop}
-use Rattle.std.proofs.Common.{sym, ◌∙◌, ap, arith, length-append}
-use Rattle.std.specs.List.{flat_map}
+use Rattle.std.proofs.Common.{◌≡◌, ◌<◌, ◌+◌, List, ℕ, [], ◌∷◌, ◌++◌, length, map, drop, sym, ◌∙◌}
+use Rattle.std.proofs.Common.{ap, arith, length-append}
 use Rattle.std.proofs.lemmas.List.{map-append, length-map}
 use Rattle.std.proofs.lemmas.List.Elements.{All-nil, All-same, All-push}
 use Rattle.std.proofs.lemmas.Result.{err_from_is_err_and}
+use Rattle.std.specs.List.{flat_map}
 use Rattle.line_model.specs.Parameters.{terminal_count}
 use Rattle.certificate.specs.Grammar.{terminal_names}
 use Rattle.text_lines.specs.Reading.{left_as, said_as, none_read, all_parts, parts_more}
-use Rattle.split_text.specs.declared.claim.SplitClaim.{SplitClaim}
 use Rattle.split_text.specs.Grammar.{Place, Said, Stands, opens, tree_places, tree_said}
 use Rattle.split_text.specs.Grammar.{IsSplitResult}
-use Rattle.split_text.specs.Reading.{result_in}
+use Rattle.split_text.specs.{declared.claim.SplitClaim.SplitClaim, Reading.result_in}
 use Rattle.split_text.proofs.ReadLaws.{names_count, fault_there, one_stretch}
 use Rattle.split_text.proofs.read.read_trees.Goals as goal
 

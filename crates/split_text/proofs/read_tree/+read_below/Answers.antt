@@ -2,13 +2,11 @@ use Rattle.std.proofs.Common.{◌-◌, ℕ, List, [], ◌∷◌, ◌++◌, map, 
 use Rattle.std.proofs.lemmas.Result.{err_from_is_err_and, MatchResult-weaker}
 use Rattle.line_model.specs.Choice.{Box, declared_box}
 use Rattle.box_split.specs.declared.node.Node.{Node}
-use Rattle.box_split.specs.Trees.{preorder}
-use Rattle.box_split.specs.Leaves.{lower_half, upper_half}
+use Rattle.box_split.specs.{Trees.preorder, Leaves.lower_half, Leaves.upper_half}
 use Rattle.split_text.specs.Grammar.{Place, node_over, says_node, below}
-use Rattle.split_text.proofs.ReadLaws.{later_fault}
-use Rattle.split_text.proofs.TreeLaws.{split_can, halves_fault, whole_tree}
-use Rattle.split_text.proofs.TreeLaws.{below_yes, below_undecided, below_split}
-use Rattle.split_text.proofs.NodeLaws.{may_in_box}
+use Rattle.split_text.proofs.TreeLaws.{split_can, halves_fault, whole_tree, below_yes}
+use Rattle.split_text.proofs.TreeLaws.{below_undecided, below_split}
+use Rattle.split_text.proofs.{ReadLaws.later_fault, NodeLaws.may_in_box}
 use Rattle.split_text.proofs.read_tree.+read_below.Goals as goal
 
 pub next_node-requires : goal.next_node-requires

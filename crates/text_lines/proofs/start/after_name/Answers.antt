@@ -1,7 +1,6 @@
 use Rattle.std.proofs.Common.{◌≡◌, ◌≢◌, List, ℕ, ◌∷◌, ◌++◌, ◌∙◌, ap, refl}
 use Rattle.std.specs.Borrow.{Bor}
-use Rattle.text_lines.specs.AnswerLaws.{map_option}
-use Rattle.text_lines.specs.NamedLaws.{after_word, after_space}
+use Rattle.text_lines.specs.{AnswerLaws.map_option, NamedLaws.after_word, NamedLaws.after_space}
 use Rattle.text_lines.proofs.start.after_name.Goals as goal
 
 pub returns-in_err-rest : goal.returns-in_err-rest

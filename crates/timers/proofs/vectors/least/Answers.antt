@@ -1,7 +1,6 @@
 use Rattle.std.proofs.Common.{false, cond, ltb, get_or, ap, ◌∙◌, arith, w16}
 use lib.Lanes.{zip2, sel_l}
-use Rattle.std.proofs.lemmas.Simd.{tops_compared, length-zip2, get_or-sel_l}
-use Rattle.std.proofs.lemmas.Simd.{get_or-zip2}
+use Rattle.std.proofs.lemmas.Simd.{tops_compared, length-zip2, get_or-sel_l, get_or-zip2}
 use Rattle.timers.proofs.VectorLaws.{lesser}
 use Rattle.timers.proofs.vectors.least.Goals as goal
 

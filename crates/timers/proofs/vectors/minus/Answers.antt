@@ -1,5 +1,5 @@
-use Rattle.std.proofs.Common.{◌≡◌, ◌-◌, ◌+◌, ◌%◌, ◌^◌, ℕ, false, cond, ltb, length, get_or, ap}
-use Rattle.std.proofs.Common.{◌∙◌, arith, w16, Fits}
+use Rattle.std.proofs.Common.{◌≡◌, ◌-◌, ◌+◌, ◌%◌, ◌^◌, ℕ, false, cond, ltb, length, get_or, ap, ◌∙◌}
+use Rattle.std.proofs.Common.{arith, w16, Fits}
 use lib.Lanes.{zip2, sel_l}
 use Rattle.std.proofs.lemmas.Simd.{tops_compared, length-zip2, length-sel_l, get_or-sel_l}
 use Rattle.std.proofs.lemmas.Simd.{get_or-zip2, Each1-get_or}

@@ -1,8 +1,6 @@
 use Rattle.std.proofs.Common.{[], ◌∷◌, arith}
 use Rattle.std.proofs.lemmas.List.Elements.{All-nil, All-cons}
-use Rattle.timing_box.specs.Timing.{TimingValues}
-use Rattle.timing_box.specs.SoFar.{NamedValues}
-use Rattle.timing_box.specs.Printed.{MayStand}
+use Rattle.timing_box.specs.{Timing.TimingValues, SoFar.NamedValues, Printed.MayStand}
 use Rattle.timing_box.proofs.ChoiceSteps.{timing_of, timing_ascends, timing_inside, timing_same}
 use Rattle.timing_box.proofs.Standing.{records_stand}
 use Rattle.timing_box.proofs.laws.timings_are_read_back.Goals as goal

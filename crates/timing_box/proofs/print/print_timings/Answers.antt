@@ -4,8 +4,7 @@ use Rattle.std.proofs.lemmas.List.Elements.{All-get_or}
 use Rattle.std.specs.List.{All}
 use Rattle.line_model.specs.declared.line.Line.{Line}
 use Rattle.timing_box.specs.declared.timing.NamedTiming.{NamedTiming}
-use Rattle.timing_box.specs.SoFar.{values_of}
-use Rattle.timing_box.specs.Printed.{MayStand}
+use Rattle.timing_box.specs.{SoFar.values_of, Printed.MayStand}
 use Rattle.timing_box.proofs.DelayLaws.{delay_below}
 use Rattle.timing_box.proofs.print.print_timings.Goals as goal
 

@@ -1,6 +1,5 @@
 use Rattle.std.proofs.Common.{◌≡◌, map, take}
-use Rattle.timing_box.specs.SoFar.{values_of}
-use Rattle.timing_box.specs.Printed.{file_records, records_text}
+use Rattle.timing_box.specs.{SoFar.values_of, Printed.file_records, Printed.records_text}
 use Rattle.timing_box.proofs.print.print_timings.Given as goal
 
 abbrev pub invariant-loop-timing : goal.invariant-loop-timing

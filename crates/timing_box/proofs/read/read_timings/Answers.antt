@@ -1,10 +1,8 @@
 use Rattle.std.proofs.Common.{Ok, arith}
 use Rattle.std.proofs.lemmas.Result.{err_from_is_err_and}
-use Rattle.csv_records.specs.CheckLaws.{fails_first}
-use Rattle.csv_records.specs.RecordFile.{said_of}
-use Rattle.timing_box.specs.Gives.{is_memory}
+use Rattle.csv_records.specs.{CheckLaws.fails_first, RecordFile.said_of}
 use Rattle.timing_box.specs.SoFar.{all_timings, so_far_of}
-use Rattle.timing_box.specs.Timings.{timing_file, timings_in}
+use Rattle.timing_box.specs.{Gives.is_memory, Timings.timing_file, Timings.timings_in}
 use Rattle.timing_box.proofs.SoFarInside.{given_inside, none_so_far, record_so_far}
 use Rattle.timing_box.proofs.read.read_timings.Goals as goal
 

@@ -1,26 +1,11 @@
-use Rattle.std.proofs.Common.{
-  ◌≡◌,
-  ◌∙◌,
-  ◌++◌,
-  ℕ,
-  List,
-  [],
-  ◌∷◌,
-  map,
-  Ok,
-  true,
-  false,
-  sym,
-  ap,
-  arith,
-}
+use Rattle.std.proofs.Common.{◌≡◌, ◌∙◌, ◌++◌, ℕ, List, [], ◌∷◌, map, Ok, true, false, sym, ap}
+use Rattle.std.proofs.Common.{arith}
 use Rattle.std.proofs.lemmas.List.{map-append}
 use Rattle.line_model.specs.declared.line.Line.{Line}
 use Rattle.std.specs.List.{list_any}
 use Rattle.std.specs.Str.{bytes_eq}
-use Rattle.timing_box.specs.declared.timing.NamedTiming.{NamedTiming}
 use Rattle.timing_box.specs.SoFar.{values_of, open_of, closed, opened}
-use Rattle.timing_box.specs.Checks.{Opening}
+use Rattle.timing_box.specs.{declared.timing.NamedTiming.NamedTiming, Checks.Opening}
 use Rattle.csv_records.specs.CheckLaws.{same_ok}
 use Rattle.timing_box.proofs.Earlier.{out_of_order, too_many, opens, opening_same}
 use Rattle.timing_box.proofs.reading.opened_by.Goals as goal

@@ -1,8 +1,7 @@
 use Rattle.std.proofs.Common.{ℕ, List, refl, sym, subst, ◌∙◌, arith}
 use Rattle.history.specs.Rails.{Rails}
 use Rattle.timing_diagram.specs.declared.stretch.Stretch.{Stretch}
-use Rattle.timing_diagram.specs.Stretches.{IsStretch, AreStretches}
-use Rattle.timing_diagram.specs.Traces.{trace_pair}
+use Rattle.timing_diagram.specs.{Stretches.IsStretch, Stretches.AreStretches, Traces.trace_pair}
 use Rattle.timing_diagram.proofs.StretchLaws.{AreStretches-push}
 use Rattle.timing_diagram.proofs.stretch.stretches.Goals as goal
 

@@ -1,6 +1,5 @@
 use Rattle.std.proofs.Common.{◌≡◌, ◌≢◌, ◌<◌, ◌≤◌, ◌-◌, ℕ, suc}
-use Rattle.timing_diagram.specs.Stretches.{AreStretches}
-use Rattle.timing_diagram.specs.Traces.{trace_pair}
+use Rattle.timing_diagram.specs.{Stretches.AreStretches, Traces.trace_pair}
 use Rattle.timing_diagram.proofs.stretch.stretches.Given as goal
 
 abbrev pub invariant-loop-from : goal.invariant-loop-from

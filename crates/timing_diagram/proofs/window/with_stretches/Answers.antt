@@ -1,8 +1,7 @@
 use Rattle.std.proofs.Common.{take, arith}
 use Rattle.std.proofs.lemmas.List.Elements.{All-more, All-weaker}
 use Rattle.tick_signal.specs.declared.tern.Tern.TheVariants.{Zero}
-use Rattle.timing_diagram.specs.declared.stretch.Stretch.{Stretch}
-use Rattle.timing_diagram.specs.Windows.{IsChangeShown}
+use Rattle.timing_diagram.specs.{declared.stretch.Stretch.Stretch, Windows.IsChangeShown}
 use Rattle.timing_diagram.proofs.WindowLaws.{change_still_shown}
 use Rattle.timing_diagram.proofs.window.with_stretches.Goals as goal
 

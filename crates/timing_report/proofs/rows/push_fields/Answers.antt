@@ -1,6 +1,6 @@
 use Rattle.std.proofs.Common.{◌≡◌, [], Some, refl, sym, ◌∙◌, ap}
-use Rattle.std.specs.Prelude.{slice_get, option_map}
 use Rattle.std.proofs.lemmas.Option.{slice_get_read, slice_get-map, get_or_from_slice_get}
+use Rattle.std.specs.Prelude.{slice_get, option_map}
 use Rattle.line_model.specs.declared.line.Terminal.{Terminal}
 use Rattle.simulator.specs.PlayRows.{terminal_name}
 use Rattle.timing_report.specs.Margin.{deadline_of, margin_of, margin_us_of}

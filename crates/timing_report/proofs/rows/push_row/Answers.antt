@@ -2,12 +2,10 @@ use Rattle.std.proofs.Common.{◌++◌, ℕ, List, refl, ◌∙◌, ap}
 use Rattle.std.specs.Prelude.{codes}
 use Rattle.history.specs.Rails.{Rails}
 use Rattle.line_model.specs.Rule.{rule_by}
-use Rattle.interval_wave.specs.PairWavesOf.{pair_at}
-use Rattle.interval_wave.specs.Rules.{rule_named}
+use Rattle.interval_wave.specs.{PairWavesOf.pair_at, Rules.rule_named}
 use Rattle.wave_runs.specs.FirstTick.{first_on}
 use Rattle.timing_report.specs.ReportText.{rule_word}
-use Rattle.timing_report.proofs.SameRows.{row_with-same}
-use Rattle.timing_report.proofs.Texts.{grown}
+use Rattle.timing_report.proofs.{SameRows.row_with-same, Texts.grown}
 use Rattle.timing_report.proofs.rows.push_row.Goals as goal
 
 pub returns : goal.returns

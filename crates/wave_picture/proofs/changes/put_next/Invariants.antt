@@ -1,6 +1,5 @@
 use Rattle.std.proofs.Common.{◌≡◌, ◌++◌}
-use Rattle.simulator.specs.Played.{is_on}
-use Rattle.simulator.specs.PlayRows.{each_below}
+use Rattle.simulator.specs.{Played.is_on, PlayRows.each_below}
 use Rattle.wave_picture.specs.Dump.{next_text}
 use Rattle.wave_picture.proofs.changes.put_next.Given as goal
 

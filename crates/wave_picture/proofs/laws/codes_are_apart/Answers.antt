@@ -1,7 +1,6 @@
 use Rattle.std.proofs.Common.{◌≡◌, ◌+◌, ◌/◌, ◌%◌, [], ◌∷◌, arith}
 use Rattle.std.proofs.lemmas.List.Elements.{All-nil, All-cons}
-use Rattle.wave_picture.specs.Variables.{code_of}
-use Rattle.wave_picture.specs.Codes.{IsPrintable}
+use Rattle.wave_picture.specs.{Variables.code_of, Codes.IsPrintable}
 use Rattle.wave_picture.proofs.laws.codes_are_apart.Goals as goal
 
 pub returns-clause-printable : goal.returns-clause-printable

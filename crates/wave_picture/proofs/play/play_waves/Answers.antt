@@ -1,13 +1,10 @@
 use Rattle.std.proofs.Common.{◌≡◌, ℕ, List, length, sym, ◌∙◌, ap, arith, subst}
 use Rattle.std.specs.Prelude.{IsTrue}
-use Rattle.line_model.specs.declared.line.Line.{Line}
-use Rattle.line_model.specs.Choice.{Choice}
+use Rattle.line_model.specs.{declared.line.Line.Line, Choice.Choice}
 use Rattle.timing_box.specs.declared.step.Step.{Step}
-use Rattle.timing_box.specs.Timing.{TimingValues, ascend}
-use Rattle.timing_box.specs.Choice.{timing_choice}
+use Rattle.timing_box.specs.{Timing.TimingValues, Timing.ascend, Choice.timing_choice}
 use Rattle.simulator.specs.LaneBox.{lane_box}
-use Rattle.simulator.specs.Played.{ends_of_tick, played}
-use Rattle.simulator.specs.Runs.{AreDelayed, IsPoint}
+use Rattle.simulator.specs.{Played.ends_of_tick, Played.played, Runs.AreDelayed, Runs.IsPoint}
 use Rattle.wave_picture.proofs.LevelLaws.{if_ok_more, levels_are}
 use Rattle.wave_picture.proofs.play.play_waves.Goals as goal
 

@@ -1,8 +1,7 @@
 use Rattle.std.proofs.Common.{◌≡◌, ◌++◌, ℕ, List, length, ◌∙◌, ap}
 use Rattle.std.specs.Prelude.{codes}
 use Rattle.simulator.specs.Played.{is_on}
-use Rattle.wave_picture.specs.Variables.{declarations}
-use Rattle.wave_picture.specs.Dump.{changes_text, dump_text}
+use Rattle.wave_picture.specs.{Variables.declarations, Dump.changes_text, Dump.dump_text}
 use Rattle.wave_picture.proofs.vcd.value_change_dump.Goals as goal
 
 -- one piece more at the end of a text that is known

@@ -3,8 +3,7 @@ use Rattle.line_model.specs.Choice.{Choice}
 use Rattle.timing_box.specs.Choice.{timing_choice}
 use Rattle.simulator.specs.Played.{is_on}
 use Rattle.wave_picture.specs.GateValues.{gate_levels}
-use Rattle.wave_picture.proofs.DumpLaws.{dump_text-same}
-use Rattle.wave_picture.proofs.LevelLaws.{if_ok_more}
+use Rattle.wave_picture.proofs.{DumpLaws.dump_text-same, LevelLaws.if_ok_more}
 use Rattle.wave_picture.proofs.vcd.vcd_text.Goals as goal
 
 pub returns : goal.returns

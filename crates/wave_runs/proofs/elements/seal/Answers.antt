@@ -1,8 +1,6 @@
 use Rattle.std.proofs.Common.{◌≡◌, ◌-◌, ◌≤◌, ℕ, List, length, sym, ◌∙◌, ap, arith}
-use Rattle.history.specs.Rails.{Rails, rails_sealed}
-use Rattle.history.specs.Recorded.{first_ticks}
-use Rattle.tick_signal.specs.declared.tern.Tern.{Tern}
-use Rattle.tick_signal.specs.Terns.{tern_rails}
+use Rattle.history.specs.{Rails.Rails, Rails.rails_sealed, Recorded.first_ticks}
+use Rattle.tick_signal.specs.{declared.tern.Tern.Tern, Terns.tern_rails}
 use Rattle.timers.specs.Seals.{last_seal}
 use Rattle.wave_runs.specs.Waves.{wave_at}
 use Rattle.wave_runs.proofs.WaveLaws.{ticks_more, longer, rails_along, new_length}

@@ -1,6 +1,5 @@
 use Rattle.std.proofs.Common.{◌≡◌, ◌-◌, ◌≤◌, length}
-use Rattle.history.specs.Rails.{rails_timed}
-use Rattle.history.specs.Recorded.{first_ticks}
+use Rattle.history.specs.{Rails.rails_timed, Recorded.first_ticks}
 use Rattle.timers.specs.Cells.{RailsStandFor}
 use Rattle.wave_runs.specs.Waves.{wave_at, IsWaveOf}
 use Rattle.wave_runs.proofs.elements.timer.Given as goal

@@ -1,7 +1,6 @@
 use Rattle.std.proofs.Common.{◌≡◌, ◌-◌, ℕ, List, length, sym, ◌∙◌, ap, arith}
 use Rattle.history.specs.Rails.{Rails, rails_and}
-use Rattle.tick_signal.specs.declared.tern.Tern.{Tern}
-use Rattle.tick_signal.specs.Terns.{tern_rails}
+use Rattle.tick_signal.specs.{declared.tern.Tern.Tern, Terns.tern_rails}
 use Rattle.wave_runs.specs.Waves.{wave_at}
 use Rattle.wave_runs.proofs.WaveLaws.{ticks_more, longer, rails_along}
 use Rattle.wave_runs.proofs.gates.and.Goals as goal

@@ -1,8 +1,6 @@
 use Rattle.std.proofs.Common.{◌≡◌, length, sym, ◌∙◌, ap, arith}
-use Rattle.wave_runs.specs.Waves.{levels_of}
-use Rattle.wave_runs.specs.Text.{runs_of}
-use Rattle.wave_runs.proofs.LongestRuns.{levels_of-runs_of}
-use Rattle.wave_runs.proofs.TextLaws.{items_tell}
+use Rattle.wave_runs.specs.{Waves.levels_of, Text.runs_of}
+use Rattle.wave_runs.proofs.{LongestRuns.levels_of-runs_of, TextLaws.items_tell}
 use Rattle.wave_runs.proofs.laws.texts_tell_waves.Goals as goal
 
 pub returns : goal.returns

@@ -2,8 +2,7 @@ use Rattle.std.proofs.Common.{◌+◌, ◌≤◌, ℕ, Bool, ⊎_elim, refl, sym
 use Rattle.std.proofs.lemmas.Bool.{cases_lt}
 use Rattle.history.specs.Rails.{may_of}
 use Rattle.wave_runs.specs.Waves.{wave_at}
-use Rattle.wave_runs.proofs.WaveLaws.{rails_along}
-use Rattle.wave_runs.proofs.DelayLaws.{comes}
+use Rattle.wave_runs.proofs.{WaveLaws.rails_along, DelayLaws.comes}
 use Rattle.wave_runs.proofs.received.may_come.Goals as goal
 
 pub stretch-input-requires : goal.stretch-input-requires

@@ -1,9 +1,9 @@
-use Rattle.std.proofs.Common.{◌≡◌, ◌+◌, ◌≤◌, ℕ, Bool, true, false, ⊎_elim, sym, ◌∙◌, ap, arith, length}
+use Rattle.std.proofs.Common.{◌≡◌, ◌+◌, ◌≤◌, ℕ, Bool, true, false, ⊎_elim, sym, ◌∙◌, ap, arith}
+use Rattle.std.proofs.Common.{length}
 use Rattle.std.proofs.lemmas.Bool.{cases_lt}
 use Rattle.history.specs.Rails.{must_of}
 use Rattle.wave_runs.specs.Waves.{wave_at}
-use Rattle.wave_runs.proofs.WaveLaws.{rails_along}
-use Rattle.wave_runs.proofs.DelayLaws.{came}
+use Rattle.wave_runs.proofs.{WaveLaws.rails_along, DelayLaws.came}
 use Rattle.wave_runs.proofs.received.must_come.Goals as goal
 
 pub stretch-input-requires : goal.stretch-input-requires

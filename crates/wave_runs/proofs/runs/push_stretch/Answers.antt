@@ -7,10 +7,8 @@ use Rattle.wave_runs.specs.declared.runs.Stretch.{Stretch}
 use Rattle.wave_runs.specs.Waves.{levels_of, runs_from, AreApart}
 use Rattle.wave_runs.proofs.RunLaws.{Appends, last_grows, first_stretch, next_stretch, ticks_in}
 use Rattle.wave_runs.proofs.runs.push_stretch.Goals as goal
-use Rattle.wave_runs.proofs.runs.push_stretch.Goals.{
-  else-count-gt0-via-then-count-gt0+else-eq,
-  else-count-gt0-via-else-count-gt0,
-}
+use Rattle.wave_runs.proofs.runs.push_stretch.Goals.{else-count-gt0-via-then-count-gt0+else-eq}
+use Rattle.wave_runs.proofs.runs.push_stretch.Goals.{else-count-gt0-via-else-count-gt0}
 
 pub returns-then-eq : goal.returns-then-eq
 returns-then-eq c =

@@ -2,8 +2,7 @@ use Rattle.std.proofs.Common.{◌++◌, List, ℕ, take, get_or, sym, ◌∙◌,
 use Rattle.std.proofs.lemmas.List.{take_more}
 use Rattle.tick_signal.specs.declared.tern.Tern.TheVariants.{Zero}
 use Rattle.wave_runs.specs.declared.runs.Stretch.{Stretch}
-use Rattle.wave_runs.specs.Waves.{runs_from}
-use Rattle.wave_runs.specs.Text.{gap, item_text, items_text}
+use Rattle.wave_runs.specs.{Waves.runs_from, Text.gap, Text.item_text, Text.items_text}
 use Rattle.wave_runs.proofs.RunLaws.{run_to, end_from, ends_before, end_from-push}
 use Rattle.wave_runs.proofs.TextLaws.{one_item_more}
 use Rattle.wave_runs.proofs.text.print_items.Goals as goal

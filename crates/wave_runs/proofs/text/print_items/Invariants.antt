@@ -1,6 +1,5 @@
 use Rattle.std.proofs.Common.{◌≡◌, take}
-use Rattle.wave_runs.specs.Waves.{runs_from}
-use Rattle.wave_runs.specs.Text.{items_text}
+use Rattle.wave_runs.specs.{Waves.runs_from, Text.items_text}
 use Rattle.wave_runs.proofs.RunLaws.{end_from}
 use Rattle.wave_runs.proofs.text.print_items.Given as goal
 

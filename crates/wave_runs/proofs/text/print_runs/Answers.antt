@@ -1,6 +1,5 @@
 use Rattle.std.proofs.Common.{◌≡◌, length}
-use Rattle.wave_runs.specs.Waves.{runs_from}
-use Rattle.wave_runs.specs.Text.{items_text, runs_text}
+use Rattle.wave_runs.specs.{Waves.runs_from, Text.items_text, Text.runs_text}
 use Rattle.wave_runs.proofs.LongestRuns.{items_are_text}
 use Rattle.wave_runs.proofs.text.print_runs.Goals as goal
 

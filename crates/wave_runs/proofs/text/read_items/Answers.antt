@@ -1,16 +1,13 @@
-use Rattle.std.proofs.Common.{◌≡◌, ◌≤◌, ◌+◌, ◌++◌, List, ℕ, Some, length, sym, drop}
-use Rattle.std.proofs.Common.{◌∙◌, ap, arith, subst, length-append}
+use Rattle.std.proofs.Common.{◌≡◌, ◌≤◌, ◌+◌, ◌++◌, List, ℕ, Some, length, sym, drop, ◌∙◌, ap, arith}
+use Rattle.std.proofs.Common.{subst, length-append}
 use Rattle.std.proofs.lemmas.List.{length-replicate}
 use Rattle.tick_signal.specs.declared.tern.Tern.{Tern}
-use Rattle.wave_runs.specs.declared.runs.Run.{Run}
-use Rattle.wave_runs.specs.Waves.{ticks_of}
+use Rattle.wave_runs.specs.{declared.runs.Run.Run, Waves.ticks_of}
 use Rattle.wave_runs.proofs.TextLaws.{ReadsOn, reads_first, reads_run, reads_none, reads_last}
 use Rattle.wave_runs.proofs.TextLaws.{reads_more}
 use Rattle.wave_runs.proofs.text.read_items.Goals as goal
-use Rattle.wave_runs.proofs.text.read_items.Goals.{
-  then-run-lt1-via-then-run-lt1,
-  then-run-lt1-via-else-run-lt1+then-run-horizon,
-}
+use Rattle.wave_runs.proofs.text.read_items.Goals.{then-run-lt1-via-then-run-lt1}
+use Rattle.wave_runs.proofs.text.read_items.Goals.{then-run-lt1-via-else-run-lt1+then-run-horizon}
 
 pub items-init : goal.items-init
 items-init c = record {

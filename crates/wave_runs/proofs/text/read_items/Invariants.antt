@@ -1,7 +1,5 @@
 use Rattle.std.proofs.Common.{◌≡◌, ◌≤◌, List, length}
-use Rattle.wave_runs.specs.declared.runs.Run.{Run}
-use Rattle.wave_runs.specs.Waves.{AreRunsOf}
-use Rattle.wave_runs.specs.Text.{items_text}
+use Rattle.wave_runs.specs.{declared.runs.Run.Run, Waves.AreRunsOf, Text.items_text}
 use Rattle.wave_runs.proofs.TextLaws.{ReadsOn}
 use Rattle.wave_runs.proofs.text.read_items.Given as goal
 

@@ -1,14 +1,12 @@
-use Rattle.std.proofs.Common.{◌≡◌, List, [], ◌∷◌, ℕ, true, length, eqb, eq-eqb, refl, sym, ◌∙◌}
-use Rattle.std.proofs.Common.{ap, arith}
-use Rattle.std.specs.Cmp.Lexicographic.{pointwise}
+use Rattle.std.proofs.Common.{◌≡◌, List, [], ◌∷◌, ℕ, true, length, eqb, eq-eqb, refl, sym, ◌∙◌, ap}
+use Rattle.std.proofs.Common.{arith}
 use Rattle.std.proofs.lemmas.Option.{none-some, same_Some}
+use Rattle.std.specs.Cmp.Lexicographic.{pointwise}
 use Rattle.wave_runs.specs.Text.{runs_of, runs_text}
 use Rattle.wave_runs.proofs.LongestRuns.{are_runs, levels_of-runs_of}
 use Rattle.wave_runs.proofs.text.read_runs.Goals as goal
-use Rattle.wave_runs.proofs.text.read_runs.Goals.{
-  else-len-horizon-via-then-len-horizon+else-eq,
-  else-len-horizon-via-else-len-horizon,
-}
+use Rattle.wave_runs.proofs.text.read_runs.Goals.{else-len-horizon-via-then-len-horizon+else-eq}
+use Rattle.wave_runs.proofs.text.read_runs.Goals.{else-len-horizon-via-else-len-horizon}
 
 equal_bytes : (bytes : List ℕ) → pointwise eqb bytes bytes ≡ true
 equal_bytes [] = refl

@@ -1,5 +1,4 @@
-use Rattle.line_model.specs.Tree.{And}
-use Rattle.line_model.specs.Received.{received}
+use Rattle.line_model.specs.{Tree.And, Received.received}
 use Rattle.zones.specs.Gathering.{Gathers}
 use Rattle.zones.proofs.from_others.all_received.Given as goal
 

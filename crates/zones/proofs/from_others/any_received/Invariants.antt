@@ -1,5 +1,4 @@
-use Rattle.line_model.specs.Tree.{Or}
-use Rattle.line_model.specs.Received.{received}
+use Rattle.line_model.specs.{Tree.Or, Received.received}
 use Rattle.zones.specs.Gathering.{Gathers}
 use Rattle.zones.proofs.from_others.any_received.Given as goal
 

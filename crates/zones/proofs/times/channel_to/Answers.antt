@@ -1,6 +1,5 @@
 use Rattle.std.proofs.Common.{◌≡◌, ℕ, ◌<◌, subst, sym}
-use Rattle.line_model.specs.Channels.{from_of, to_of}
-use Rattle.line_model.specs.Parameters.{channel_count}
+use Rattle.line_model.specs.{Channels.from_of, Channels.to_of, Parameters.channel_count}
 use Rattle.zones.proofs.OwnNames.{channel_there}
 use Rattle.zones.proofs.times.channel_to.Goals as goal
 

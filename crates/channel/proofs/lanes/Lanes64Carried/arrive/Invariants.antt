@@ -1,7 +1,6 @@
 use Rattle.std.proofs.Common.{◌≡◌, ℕ, ◌<◌, length, slice_index}
 use Rattle.history.specs.Rails.{single, rails_at, rails_delayed}
-use Rattle.tick_signal.specs.Bits.{bit_rails}
-use Rattle.tick_signal.specs.Lanes.{in_lane}
+use Rattle.tick_signal.specs.{Bits.bit_rails, Lanes.in_lane}
 use Rattle.channel.proofs.lanes.Lanes64Carried.arrive.Given as goal
 
 -- the lanes so far have what is received in them

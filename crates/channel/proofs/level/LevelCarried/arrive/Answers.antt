@@ -1,7 +1,6 @@
 use Rattle.std.proofs.Common.{◌≡◌, ◌≤◌, ◌<◌, ◌-◌, ◌∙◌, sym, ap, length, arith, ℕ, subst}
 use Rattle.history.specs.Rails.{rails_at}
-use Rattle.tick_signal.specs.Lanes.{in_lane}
-use Rattle.tick_signal.specs.Levels.{level_rails}
+use Rattle.tick_signal.specs.{Lanes.in_lane, Levels.level_rails}
 use Rattle.channel.proofs.SentLaws.{rails_at-in_lane}
 use Rattle.channel.proofs.level.LevelCarried.arrive.Goals as goal
 

@@ -1,9 +1,7 @@
 use Rattle.std.proofs.Common.{◌≡◌, ◌∙◌, sym, ap, length, ℕ, Bool}
 use Rattle.std.proofs.lemmas.Bool.Decides.{same_from_decides}
 use Rattle.history.specs.Rails.{Ends, rails_at, rails_delayed}
-use Rattle.tick_signal.specs.Lanes.{in_lane}
-use Rattle.tick_signal.specs.Spans.{ends_of}
-use Rattle.tick_signal.specs.Terns.{tern_rails}
+use Rattle.tick_signal.specs.{Lanes.in_lane, Spans.ends_of, Terns.tern_rails}
 use Rattle.channel.proofs.SentLaws.{sent_sound}
 use Rattle.channel.proofs.tern.TernCarried.arrive.Goals as goal
 

@@ -1,8 +1,7 @@
-use Rattle.std.proofs.Common.{◌≡◌, ◌++◌, ◌∷◌, [], ◌⊎◌, ℕ, length, sym, subst, suc, ◌+◌, ◌-◌}
-use Rattle.std.proofs.Common.{◌≤◌, arith, ap, ◌∙◌, replicate}
+use Rattle.std.proofs.Common.{◌≡◌, ◌++◌, ◌∷◌, [], ◌⊎◌, ℕ, length, sym, subst, suc, ◌+◌, ◌-◌, ◌≤◌}
+use Rattle.std.proofs.Common.{arith, ap, ◌∙◌, replicate}
 use Rattle.std.specs.Prelude.{vec_capacity}
-use Rattle.channel.specs.SentKeys.{SentKeys}
-use Rattle.channel.specs.Tracks.{IsLast}
+use Rattle.channel.specs.{SentKeys.SentKeys, Tracks.IsLast}
 use Rattle.channel.proofs.TrackLaws.{track_filled}
 use Rattle.channel.proofs.track.Track.push.Goals as goal
 

@@ -1,8 +1,7 @@
 use Rattle.std.proofs.Common.{length, subst, rules}
 use Rattle.history.specs.Rails.{rails_at}
 use Rattle.tick_signal.specs.Lanes.{in_lane}
-use Rattle.channel.specs.SentKeys.{SentKeys}
-use Rattle.channel.specs.Tracks.{StaysUntil, IsNextAfter}
+use Rattle.channel.specs.{SentKeys.SentKeys, Tracks.StaysUntil, Tracks.IsNextAfter}
 use Rattle.channel.proofs.TrackLaws.{stays}
 use Rattle.channel.proofs.track.Track.stays_until.Goals as goal
 

@@ -1,11 +1,8 @@
 use Rattle.std.proofs.Common.{◌≡◌, Some, true, sym, ap, ◌∙◌, subst}
 use Rattle.std.specs.Prelude.{slice_get}
-use Rattle.gate_net.specs.declared.gate.Gate.{Gate}
-use Rattle.gate_net.specs.Laws.{AreGates}
-use Rattle.gate_net.specs.Growing.{Grows}
-use Rattle.gate_net.proofs.Equal.{gate_eq, gate_eq-same}
+use Rattle.gate_net.specs.{declared.gate.Gate.Gate, Laws.AreGates, Growing.Grows}
 use Rattle.gate_net.proofs.Adding.{Inserts, gates_more, grows_more, names_more, adds}
-use Rattle.gate_net.proofs.Standing.{stands}
+use Rattle.gate_net.proofs.{Equal.gate_eq, Equal.gate_eq-same, Standing.stands}
 use Rattle.gate_net.proofs.builder.NetBuilder.add.Goals as goal
 
 -- what the set's insertion says, over the gates as the caller sees them

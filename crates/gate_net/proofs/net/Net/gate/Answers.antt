@@ -1,6 +1,6 @@
 use Rattle.std.proofs.Common.{◌≡◌, ◌<◌, Some, length, refl, sym, subst}
-use Rattle.std.specs.Prelude.{slice_get}
 use Rattle.std.proofs.lemmas.Option.{slice_get_read}
+use Rattle.std.specs.Prelude.{slice_get}
 use Rattle.gate_net.specs.NetOf.{NetOf, IsNet}
 use Rattle.gate_net.proofs.Standing.{formula_of-gate}
 use Rattle.gate_net.proofs.net.Net.gate.Goals as goal

@@ -1,8 +1,7 @@
 use Rattle.std.proofs.Common.{ℕ, ◌<◌, length, ◌∙◌, ap, subst, arith}
 use Rattle.std.specs.Prelude.{IfSome}
 use Rattle.history.specs.Rails.{Rails, may_of}
-use Rattle.wave_runs.specs.FirstTick.{first_on, first_on-same}
-use Rattle.wave_runs.specs.Waves.{wave_at}
+use Rattle.wave_runs.specs.{FirstTick.first_on, FirstTick.first_on-same, Waves.wave_at}
 use Rattle.interval_wave.specs.PairWavesOf.{pair_at}
 use Rattle.interval_wave.proofs.pair_waves.PairWaves.first_may.Goals as goal
 

@@ -1,6 +1,6 @@
 use Rattle.std.proofs.Common.{◌≡◌, List, Some, length, refl, ◌∙◌, ap, arith}
-use Rattle.std.specs.Prelude.{slice_get}
 use Rattle.std.proofs.lemmas.Option.{slice_get_read}
+use Rattle.std.specs.Prelude.{slice_get}
 use Rattle.history.specs.Rails.{Rails, rails_at}
 use Rattle.interval_wave.specs.PairWavesOf.{PairWavesOf, pair_at}
 use Rattle.interval_wave.proofs.ToldHistory.{wave_pairs}

@@ -1,10 +1,8 @@
 use Rattle.std.proofs.Common.{arith, refl, inl, inr, rules}
 use Rattle.relay_base.specs.MemorySink.{PushFails}
 use Rattle.relay_base.proofs.memory_sink.MemorySinkSink.push.Goals as goal
-use Rattle.relay_base.proofs.memory_sink.MemorySinkSink.push.Goals.{
-  then-room-eq0-via-then-room-eq0,
-  then-room-eq0-via-else-room-eq0+then-contains,
-}
+use Rattle.relay_base.proofs.memory_sink.MemorySinkSink.push.Goals.{then-room-eq0-via-then-room-eq0}
+use Rattle.relay_base.proofs.memory_sink.MemorySinkSink.push.Goals.{then-room-eq0-via-else-room-eq0+then-contains}
 
 pub returns-then-room-eq0-clause-exact : goal.returns-then-room-eq0-clause-exact
 returns-then-room-eq0-clause-exact c =

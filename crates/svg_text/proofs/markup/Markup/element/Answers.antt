@@ -1,6 +1,5 @@
 use Rattle.std.proofs.Common.{ℕ, List, ◌∙◌, ap}
-use Rattle.svg_text.specs.Attributes.{said}
-use Rattle.svg_text.specs.Content.{element_text}
+use Rattle.svg_text.specs.{Attributes.said, Content.element_text}
 use Rattle.svg_text.proofs.Grown.{made_of_element}
 use Rattle.svg_text.proofs.markup.Markup.element.Goals as goal
 

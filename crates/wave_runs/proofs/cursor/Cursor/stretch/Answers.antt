@@ -1,5 +1,4 @@
-use Rattle.wave_runs.proofs.RunLaws.{run_inside, run_level}
-use Rattle.wave_runs.proofs.WaveLaws.{rails_in}
+use Rattle.wave_runs.proofs.{RunLaws.run_inside, RunLaws.run_level, WaveLaws.rails_in}
 use Rattle.wave_runs.proofs.cursor.Cursor.stretch.Goals as goal
 
 pub returns-clause-inside : goal.returns-clause-inside
