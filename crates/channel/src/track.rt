@@ -137,9 +137,8 @@ fn fill_within<V: Copy>(list: &mut Vec<V>, value: V, count: u32)
     ensures items { list.new.items ≡ list.old.items ++ replicate count value }
     ensures room { vec_capacity list.old ≤ vec_capacity list.new }
 {
-    for _ in 0..count {
-        list.push(value).unwrap();
-    }
+    let len = list.len() + count as usize;
+    list.resize(len, value).unwrap();
 }
 
 // The first of the changes after t, or the bound where there is none.
