@@ -1,4 +1,4 @@
-// The first scripts of the bench.
+//! The first scripts of the bench.
 
 ghost use Rattle.std.specs.Prelude.{◌≤◌, IfOk};
 ghost use Rattle.std.specs.List.{All};

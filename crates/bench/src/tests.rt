@@ -1,3 +1,5 @@
+//! The line and the scripts that need no file.
+
 use super::*;
 use line_model::Kind;
 use std::test::Fail;

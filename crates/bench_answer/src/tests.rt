@@ -1,3 +1,5 @@
+//! The text of a bench.
+
 use super::*;
 use cert_checker::Counts;
 use std::test::Fail;

@@ -1,4 +1,4 @@
-// The two lines of the bench.
+//! The two lines of the bench.
 
 ghost use Rattle.std.specs.Prelude.{◌≡◌, ◌++◌, IfOk, OnOk};
 ghost use Rattle.bench_answer.specs.BenchText.{told, scripts_line, accepted_line};

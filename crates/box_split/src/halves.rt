@@ -1,4 +1,4 @@
-// The two halves of a line.
+//! The two halves of a line.
 
 ghost use Rattle.std.specs.Prelude.{◌+◌, IfOk};
 ghost use Rattle.line_model.specs.{Parameters.declared_ends, WithBounds.IsWithBounds};

@@ -1,4 +1,4 @@
-// What the proofs here rest on.
+//! What the proofs here rest on.
 
 ghost use Rattle.box_split.specs.Known.{Known};
 

@@ -1,4 +1,4 @@
-// The laws of splits.
+//! The laws of splits.
 
 ghost use Rattle.std.specs.Prelude.{◌≤◌, ◌<◌, ◌↔◌, ℕ, IsTrue};
 ghost use Rattle.line_model.specs.Histories.{History, IsLineHistory, Meets};

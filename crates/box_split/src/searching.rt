@@ -1,4 +1,4 @@
-// The search.
+//! The search.
 
 ghost use Rattle.std.specs.Prelude.{◌≡◌, ◌≤◌, ◌<◌, IfOk};
 ghost use Rattle.line_model.specs.Choice.{Choice, IsInside};

@@ -1,4 +1,4 @@
-// The parameter that a line is split at.
+//! The parameter that a line is split at.
 
 ghost use Rattle.std.specs.Prelude.{◌≡◌, ◌≤◌, ◌<◌, ◌+◌, ◌-◌};
 ghost use Rattle.line_model.specs.Parameters.{param_count, declared_ends};

@@ -1,4 +1,4 @@
-// The fields of a record.
+//! The fields of a record.
 
 ghost use Rattle.std.specs.Prelude.{◌≡◌, ◌≢◌, ◌<◌, [], ◌∷◌, MatchOption, Some, length};
 ghost use Rattle.csv.specs.Records.{fields_of, field_at};

@@ -1,4 +1,4 @@
-// Want of memory.
+//! Want of memory.
 
 /// Memory ran out.
 #[derive(Clone, Copy, Debug, PartialEq, Eq)]

@@ -1,4 +1,4 @@
-// Reading a file of records.
+//! Reading a file of records.
 
 ghost use Rattle.std.specs.Prelude.{◌≡◌, ◌≤◌, ◌<◌, ◌+◌, ◌-◌, ◌^◌, ℕ, List, Ok, IfOk, IsTrue};
 ghost use Rattle.std.specs.Prelude.{MatchResult, length};

@@ -1,4 +1,4 @@
-// What a reader of a file of records tells.
+//! What a reader of a file of records tells.
 
 ghost use Rattle.std.specs.Prelude.{◌≡◌, ℕ, Bool, IsTrue};
 ghost use Rattle.csv.specs.Records.{fields_of};

@@ -1,4 +1,4 @@
-// The records of a text one after another, as the csv reader reaches them.
+//! The records of a text one after another, as the csv reader reaches them.
 
 ghost use Rattle.std.specs.Prelude.{◌≡◌, IfOk, true};
 ghost use Rattle.csv.specs.{Reading.stops_reader, Records.fields_of};

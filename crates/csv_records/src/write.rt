@@ -1,4 +1,4 @@
-// Records written.
+//! Records written.
 
 ghost use Rattle.std.specs.Prelude.{◌≡◌, ◌++◌, IfOk, OnOk, map};
 ghost use Rattle.csv.specs.Writing.{row_text, default_writer};

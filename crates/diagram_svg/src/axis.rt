@@ -1,4 +1,4 @@
-// The time axis.
+//! The time axis.
 
 ghost use Rattle.std.specs.Prelude.{◌≤◌};
 

@@ -1,4 +1,4 @@
-// A diagram as a drawing.
+//! A diagram as a drawing.
 
 use crate::axis::{AXIS_HEIGHT, axis};
 use crate::legend::{LEGEND_HEIGHT, legend};

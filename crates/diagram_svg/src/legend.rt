@@ -1,4 +1,4 @@
-// What the bars are, and what is not shown.
+//! What the bars are, and what is not shown.
 
 use crate::shape::{label, rectangle};
 use crate::words::Words;

@@ -1,4 +1,4 @@
-// The inception and the deadline.
+//! The inception and the deadline.
 
 use crate::scale::x_of;
 use crate::shape::{label, line};

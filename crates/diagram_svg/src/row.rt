@@ -1,4 +1,4 @@
-// A row of a diagram.
+//! A row of a diagram.
 
 ghost use Rattle.std.specs.Prelude.{◌≤◌};
 

@@ -1,4 +1,4 @@
-// The time axis: where a tick lies, and which ticks are labelled. Lengths are tenths of a pixel.
+//! The time axis: where a tick lies, and which ticks are labelled. Lengths are tenths of a pixel.
 
 ghost use Rattle.std.specs.Prelude.{◌≤◌};
 

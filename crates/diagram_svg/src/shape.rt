@@ -1,4 +1,4 @@
-// The shapes that a drawing is made of. Lengths are tenths of a pixel; a class is one of the style.
+//! The shapes that a drawing is made of. Lengths are tenths of a pixel; a class is one of the style.
 
 use crate::words::Words;
 use line_model::Memory;

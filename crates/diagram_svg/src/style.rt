@@ -1,4 +1,4 @@
-// The look of a drawing.
+//! The look of a drawing.
 
 use crate::shape::{ended, rectangle};
 use line_model::Memory;

@@ -1,4 +1,4 @@
-// Milliseconds, and the distance of labels.
+//! Milliseconds, and the distance of labels.
 
 use crate::scale::label_step;
 use crate::words::Words;

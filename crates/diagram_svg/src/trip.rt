@@ -1,4 +1,4 @@
-// What is written at a trip: its first ticks, the margin and the rule.
+//! What is written at a trip: its first ticks, the margin and the rule.
 
 use crate::scale::{RIGHT, x_of};
 use crate::shape::{label, line};

@@ -1,4 +1,4 @@
-// Words of labels, piece by piece.
+//! Words of labels, piece by piece.
 
 use itoa::Buffer;
 use line_model::Memory;

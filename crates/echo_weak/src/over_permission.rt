@@ -1,4 +1,4 @@
-// What a terminal sends and trips on, over a permission.
+//! What a terminal sends and trips on, over a permission.
 
 ghost use Rattle.std.specs.Prelude.{◌<◌, ◌≤◌, ◌+◌, length, IfOk};
 ghost use Rattle.line_model.specs.{Parameters.terminal_count, Permissive.echo as echo_tree};

@@ -1,4 +1,4 @@
-// A weak terminal: it echoes a permission that it receives, and trips by it at a low voltage.
+//! A weak terminal: it echoes a permission that it receives, and trips by it at a low voltage.
 
 ghost use Rattle.std.specs.Prelude.{◌<◌, ◌≤◌, ◌+◌, length, IfOk};
 ghost use Rattle.line_model.specs.Parameters.{terminal_count};

@@ -1,4 +1,4 @@
-// The checks of one record, each of them alone.
+//! The checks of one record, each of them alone.
 
 ghost use Rattle.std.specs.Prelude.{◌≡◌, ◌<◌, ◌↔◌, IsTrue, length, option_map};
 ghost use Rattle.std.specs.List.{list_any};

@@ -1,4 +1,4 @@
-// Why a file of scripts is refused.
+//! Why a file of scripts is refused.
 
 use csv_records::Memory;
 use std::alloc::{AllocError, AllocFailed};

@@ -1,4 +1,4 @@
-// What the item of a record says.
+//! What the item of a record says.
 
 ghost use Rattle.std.specs.Prelude.{◌≡◌};
 ghost use Rattle.std.specs.Str.{bytes_eq};

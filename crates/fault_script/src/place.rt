@@ -1,4 +1,4 @@
-// Terminals and channels by their names.
+//! Terminals and channels by their names.
 
 ghost use Rattle.std.specs.Prelude.{◌≡◌};
 ghost use Rattle.fault_script.specs.Places.{terminal_named, channel_named};

@@ -1,4 +1,4 @@
-// Printing scripts as a file.
+//! Printing scripts as a file.
 
 ghost use Rattle.std.specs.Prelude.{◌≡◌, ◌∷◌, [], ◌++◌, IfOk, OnOk, map, IsTrue};
 ghost use Rattle.std.specs.List.{All};

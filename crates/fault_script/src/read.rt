@@ -1,4 +1,4 @@
-// Reading a file of scripts.
+//! Reading a file of scripts.
 
 ghost use Rattle.std.specs.Prelude.{◌≡◌, IfOk, IsTrue, map};
 ghost use Rattle.std.specs.List.{All};

@@ -1,4 +1,4 @@
-// The scripts that the records so far say.
+//! The scripts that the records so far say.
 
 ghost use Rattle.std.specs.Prelude.{◌≡◌, map};
 ghost use Rattle.fault_script.specs.Gives.{Gives};

@@ -1,3 +1,5 @@
+//! Scripts files: what they say, how they are printed, and what is refused.
+
 use super::*;
 use line_model::{
     Bounds, Channel, Element, Kind, Line, Name, Place, Scheme, Script, SeenSpan, Terminal, What,

@@ -1,4 +1,4 @@
-// A net while it is built.
+//! A net while it is built.
 
 ghost use Rattle.std.specs.Prelude.{◌≡◌, ◌<◌, ◌≤◌, [], length, IfOk, OnErr};
 ghost use Rattle.line_model.specs.declared.line.Line.{Line};

@@ -1,4 +1,4 @@
-// One gate of a net.
+//! One gate of a net.
 
 use line_model::{Place, Time};
 

@@ -1,4 +1,4 @@
-// A finished net.
+//! A finished net.
 
 ghost use Rattle.std.specs.Prelude.{◌≡◌, ◌<◌, ◌≤◌, Some, length, slice_get};
 ghost use Rattle.gate_net.specs.Formulas.{formula_of, kind_over};

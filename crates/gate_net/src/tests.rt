@@ -1,3 +1,5 @@
+//! Nets built by hand: equal gates are one.
+
 use super::*;
 use line_model::{Element, Place, Time};
 use std::test::Fail;

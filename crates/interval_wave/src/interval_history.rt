@@ -1,4 +1,4 @@
-// The interval history of the declared intervals.
+//! The interval history of the declared intervals.
 
 ghost use Rattle.std.specs.Prelude.{◌≡◌, IfOk};
 ghost use Rattle.line_model.specs.Parameters.{terminal_count};

@@ -1,4 +1,4 @@
-// The pairs of keys and trips.
+//! The pairs of keys and trips.
 
 ghost use Rattle.std.specs.Prelude.{◌≡◌, ◌<◌, IfSome, length};
 ghost use Rattle.tick_signal.specs.Terns.{tern_rails};

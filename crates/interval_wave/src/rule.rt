@@ -1,4 +1,4 @@
-// The rule of an obligation.
+//! The rule of an obligation.
 
 ghost use Rattle.std.specs.Prelude.{◌≡◌, ◌<◌, ◌≤◌, ℕ, Bool};
 ghost use Rattle.history.specs.Elements.{some_below};

@@ -1,4 +1,4 @@
-// The declared intervals as spans.
+//! The declared intervals as spans.
 
 ghost use Rattle.std.specs.Prelude.{◌≡◌, IfOk};
 ghost use Rattle.interval_wave.specs.Spans.{declared_spans as spans_of};

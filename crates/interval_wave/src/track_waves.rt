@@ -1,4 +1,4 @@
-// The tracks of a run as waves.
+//! The tracks of a run as waves.
 
 ghost use Rattle.std.specs.Prelude.{◌≡◌, ◌≤◌, ℕ, length, slice_get, IfOk};
 ghost use Rattle.tick_signal.specs.declared.tern.Tern.{Tern};

@@ -1,4 +1,4 @@
-// The blocking scheme, as formulas.
+//! The blocking scheme, as formulas.
 
 ghost use Rattle.std.specs.Prelude.{◌≡◌, ◌<◌, IfOk};
 ghost use Rattle.line_model.specs.Parameters.{terminal_count};

@@ -1,4 +1,4 @@
-// The intervals of a line's parameters.
+//! The intervals of a line's parameters.
 
 ghost use Rattle.std.specs.Prelude.{◌≡◌, ◌≤◌, ◌<◌, ◌↔◌, length, IsTrue, get_or};
 ghost use Rattle.line_model.specs.Settings.{line_settings};

@@ -1,4 +1,4 @@
-// One more gate on top of formulas.
+//! One more gate on top of formulas.
 
 ghost use Rattle.std.specs.Prelude.{◌≡◌, IfOk};
 ghost use Rattle.line_model.specs.Tree.{tree_of, Not, And, Or, Timer, Seal};

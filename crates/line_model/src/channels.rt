@@ -1,4 +1,4 @@
-// The channel between two terminals, and whether each pair has one.
+//! The channel between two terminals, and whether each pair has one.
 
 ghost use Rattle.std.specs.Prelude.{◌≡◌, ◌≤◌, ◌<◌, ◌*◌, ◌-◌, ◌↔◌, length, IsTrue, slice_index_or};
 ghost use Rattle.line_model.specs.Channels.{channel_number, AreChannels, IsChannel};

@@ -1,4 +1,4 @@
-// Copies of a line.
+//! Copies of a line.
 
 ghost use Rattle.std.specs.Prelude.{◌≤◌, ◌<◌, IfOk};
 ghost use Rattle.line_model.specs.Parameters.{param_count};

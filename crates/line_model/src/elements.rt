@@ -1,4 +1,4 @@
-// What a terminal sees for itself, as formulas.
+//! What a terminal sees for itself, as formulas.
 
 ghost use Rattle.std.specs.Prelude.{◌≡◌, ◌<◌, IfOk};
 ghost use Rattle.line_model.specs.Tree.{tree_of};

@@ -1,4 +1,4 @@
-// Formulas, which stand for trees.
+//! Formulas, which stand for trees.
 
 use crate::script::Place;
 

@@ -1,4 +1,4 @@
-// A line: its terminals, its channels and the intervals of its parameters.
+//! A line: its terminals, its channels and the intervals of its parameters.
 
 ghost use Rattle.std.specs.Prelude.{◌≡◌, ◌≤◌, length, map, IsTrue};
 ghost use Rattle.line_model.specs.Terminals.{are_plain_names, NamesDiffer, flags_fit};

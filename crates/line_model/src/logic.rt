@@ -1,4 +1,4 @@
-// What each terminal sends and trips on, by the line's scheme.
+//! What each terminal sends and trips on, by the line's scheme.
 
 ghost use Rattle.std.specs.Prelude.{◌≡◌, ◌<◌, IfOk};
 ghost use Rattle.line_model.specs.Logic.{pilot_by, key_tree, set_tree, trip_tree};

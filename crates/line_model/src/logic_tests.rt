@@ -1,4 +1,4 @@
-// The written logic of every scheme, and values on worked ticks.
+//! The written logic of every scheme, and values on worked ticks.
 
 ghost use Rattle.std.specs.Prelude.{IsTrue};
 ghost use Rattle.line_model.specs.Tree.{tree_of};

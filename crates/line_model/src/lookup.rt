@@ -1,4 +1,4 @@
-// The number of a parameter and of a channel.
+//! The number of a parameter and of a channel.
 
 ghost use Rattle.std.specs.Prelude.{◌≡◌, ◌≢◌, ◌≤◌, ◌<◌, ◌+◌, ◌↔◌, length, IsSome, IfSome, IsTrue};
 ghost use Rattle.std.specs.Prelude.{option_map};

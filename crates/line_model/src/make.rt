@@ -1,4 +1,4 @@
-// Making a line of its terminals, channels and intervals.
+//! Making a line of its terminals, channels and intervals.
 
 ghost use Rattle.std.specs.Prelude.{◌≤◌, ◌↔◌, IsTrue, IfOk};
 ghost use Rattle.line_model.specs.Making.{MakesLine, IsMadeOf};

@@ -1,4 +1,4 @@
-// The value of a formula at a tick, straight from its definition.
+//! The value of a formula at a tick, straight from its definition.
 
 ghost use Rattle.std.specs.Prelude.{◌≡◌, ◌≤◌, ◌<◌, ◌+◌, ◌-◌, ◌||◌, nat_le, get_or};
 ghost use Rattle.history.specs.Elements.{every_below, timed as timed_at, delayed};

@@ -1,4 +1,4 @@
-// Names of 1 to 64 bytes.
+//! Names of 1 to 64 bytes.
 
 ghost use Rattle.std.specs.Prelude.{◌≡◌, ◌≤◌, ◌<◌, ◌↔◌, length, IsSome, IfSome};
 ghost use Rattle.std.specs.List.{list_all};

@@ -1,4 +1,4 @@
-// The names of a line's parameters, in order.
+//! The names of a line's parameters, in order.
 
 ghost use Rattle.std.specs.Prelude.{◌≡◌, ◌≤◌, ◌<◌, ◌++◌, ◌+◌, take, length, map, IsTrue, OnOk};
 ghost use Rattle.std.specs.Prelude.{IfOk};

@@ -1,4 +1,4 @@
-// Parameters of given names and intervals.
+//! Parameters of given names and intervals.
 
 ghost use Rattle.std.specs.Prelude.{◌≡◌, length, IfOk};
 ghost use Rattle.line_model.specs.Making.{AreParams};

@@ -1,4 +1,4 @@
-// Permission schemes, as formulas: current reversal guard, echo, weak infeed, key and trip.
+//! Permission schemes, as formulas: current reversal guard, echo, weak infeed, key and trip.
 
 ghost use Rattle.std.specs.Prelude.{◌≡◌, ◌<◌, IfOk};
 ghost use Rattle.line_model.specs.Tree.{tree_of};

@@ -1,4 +1,4 @@
-// What a terminal receives from the others, as formulas.
+//! What a terminal receives from the others, as formulas.
 
 ghost use Rattle.std.specs.Prelude.{◌≡◌, ◌<◌, IfOk};
 ghost use Rattle.line_model.specs.Parameters.{terminal_count};

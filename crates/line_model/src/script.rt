@@ -1,4 +1,4 @@
-// Scripts: what each terminal sees and which channels are lost, and when.
+//! Scripts: what each terminal sees and which channels are lost, and when.
 
 ghost use Rattle.std.specs.Prelude.{◌≡◌};
 ghost use Rattle.line_model.specs.Seen.{is_seen, is_lost, shows, loses};

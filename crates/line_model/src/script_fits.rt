@@ -1,4 +1,4 @@
-// Whether a script fits a line.
+//! Whether a script fits a line.
 
 ghost use Rattle.std.specs.Prelude.{◌≡◌, ◌↔◌, IsTrue};
 ghost use Rattle.std.specs.List.{list_all};

@@ -1,4 +1,4 @@
-// How many settings a terminal and a channel have, and the place of each.
+//! How many settings a terminal and a channel have, and the place of each.
 
 ghost use Rattle.std.specs.Prelude.{◌≡◌, ◌≤◌, ◌<◌, length, IfSome};
 ghost use Rattle.line_model.specs.Settings.{terminal_settings, channel_settings, guard_settings};

@@ -1,4 +1,4 @@
-// The settings of a terminal and of a channel, in order, and how they are written.
+//! The settings of a terminal and of a channel, in order, and how they are written.
 
 ghost use Rattle.std.specs.Prelude.{◌≡◌, ◌≤◌, [], ◌∷◌, ◌++◌, length, OnOk, IfOk};
 ghost use Rattle.line_model.specs.Settings.{terminal_settings, channel_settings};

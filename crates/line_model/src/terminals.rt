@@ -1,4 +1,4 @@
-// Whether terminals may stand in a line.
+//! Whether terminals may stand in a line.
 
 ghost use Rattle.std.specs.Prelude.{◌≡◌, ◌↔◌, length, IsTrue};
 ghost use Rattle.std.specs.List.{list_all};

@@ -1,4 +1,4 @@
-// Worked lines and scripts, by tables.
+//! Worked lines and scripts, by tables.
 
 use crate::bounds::Bounds;
 use crate::line::{Channel, Line, Owner, Scheme, Setting, Terminal};

@@ -1,4 +1,4 @@
-// Schemes that trip on any received signal, as formulas: underreach permission and transfer trip.
+//! Schemes that trip on any received signal, as formulas: underreach permission and transfer trip.
 
 ghost use Rattle.std.specs.Prelude.{◌≡◌, ◌<◌, IfOk};
 ghost use Rattle.line_model.specs.Parameters.{terminal_count};

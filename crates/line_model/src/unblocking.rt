@@ -1,4 +1,4 @@
-// Channels that open for a while when they are lost, as formulas.
+//! Channels that open for a while when they are lost, as formulas.
 
 ghost use Rattle.std.specs.Prelude.{◌≡◌, ◌≢◌, ◌<◌, IfOk};
 ghost use Rattle.line_model.specs.Unblocking.{channel_setting as channel_setting_time};

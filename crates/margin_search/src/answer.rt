@@ -1,4 +1,4 @@
-// What is answered of a parameter.
+//! What is answered of a parameter.
 
 ghost use Rattle.std.specs.Prelude.{◌≤◌, ◌<◌, length, IfOk};
 ghost use Rattle.std.specs.List.{All};

@@ -1,4 +1,4 @@
-// The declared interval of a parameter.
+//! The declared interval of a parameter.
 
 ghost use Rattle.std.specs.Prelude.{◌≡◌, ◌<◌};
 ghost use Rattle.line_model.specs.Parameters.{param_count, declared_ends};

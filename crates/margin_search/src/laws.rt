@@ -1,4 +1,4 @@
-// The laws of margins.
+//! The laws of margins.
 
 ghost use Rattle.std.specs.Prelude.{◌≡◌, ◌≤◌, ◌<◌, ℕ, List, Some, slice_get};
 ghost use Rattle.std.specs.List.{All};

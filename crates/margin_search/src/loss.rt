@@ -1,4 +1,4 @@
-// The first obligation whose rule is not held.
+//! The first obligation whose rule is not held.
 
 ghost use Rattle.std.specs.Prelude.{◌≡◌, ◌≤◌, ◌<◌, length, IsTrue, IfOk, MatchOption};
 ghost use Rattle.std.specs.List.{All};

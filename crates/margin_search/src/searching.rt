@@ -1,4 +1,4 @@
-// The search for the margin.
+//! The search for the margin.
 
 ghost use Rattle.std.specs.Prelude.{◌≡◌, ◌≤◌, ◌<◌, ℕ, Some, length, slice_get, IfOk};
 ghost use Rattle.std.specs.List.{All};

@@ -1,3 +1,5 @@
+//! The text of a margin.
+
 use super::*;
 use line_model::{Bounds, Channel, Kind, Line, Name, Scheme, Script, Terminal, makes_line};
 use std::alloc::Global;

@@ -1,4 +1,4 @@
-// The line of a margin.
+//! The line of a margin.
 
 ghost use Rattle.std.specs.Prelude.{◌≡◌, ◌++◌, ◌<◌, length, OnOk, IfOk, IfSome, decimal};
 ghost use Rattle.line_model.specs.Parameters.{terminal_count, param_count, declared_ends};

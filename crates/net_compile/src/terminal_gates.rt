@@ -1,4 +1,4 @@
-// The gates of one terminal.
+//! The gates of one terminal.
 
 ghost use Rattle.std.specs.Prelude.{◌<◌, ◌≤◌, ◌+◌, length, IfOk};
 ghost use Rattle.line_model.specs.Parameters.{terminal_count};

@@ -1,4 +1,4 @@
-// The net text of each scheme, read back.
+//! The net text of each scheme, read back.
 
 use crate::{compile, net_text};
 use line_model::{

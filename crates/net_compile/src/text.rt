@@ -1,4 +1,4 @@
-// The text of a net.
+//! The text of a net.
 
 ghost use Rattle.std.specs.Prelude.{◌≡◌, ◌<◌, ◌++◌, codes, decimal, length, IfOk, OnOk};
 ghost use Rattle.line_model.specs.Parameters.{terminal_count, channel_count};

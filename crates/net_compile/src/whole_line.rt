@@ -1,4 +1,4 @@
-// The net of a whole line.
+//! The net of a whole line.
 
 ghost use Rattle.std.specs.Prelude.{IfOk};
 ghost use Rattle.gate_net.specs.NetOf.{IsNetOf};

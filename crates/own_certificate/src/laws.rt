@@ -1,4 +1,4 @@
-// The laws of the program's own certificate.
+//! The laws of the program's own certificate.
 
 ghost use Rattle.std.specs.Prelude.{◌≡◌, ◌∷◌, ◌++◌, [], List, length};
 ghost use Rattle.std.specs.List.{All};

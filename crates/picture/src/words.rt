@@ -1,4 +1,4 @@
-// The words of the program.
+//! The words of the program.
 
 use clap::{Arg, ArgMatches, Command};
 use picture_core::{Ask, Picture};

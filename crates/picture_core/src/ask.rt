@@ -1,4 +1,4 @@
-// What picture is asked for.
+//! What picture is asked for.
 
 /// A picture of a script of two files, of the first where none is named.
 #[derive(Clone, Copy)]

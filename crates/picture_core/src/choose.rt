@@ -1,4 +1,4 @@
-// Scripts and timings by their names.
+//! Scripts and timings by their names.
 
 ghost use Rattle.std.specs.Prelude.{◌≡◌, ◌<◌, length, IfSome};
 ghost use Rattle.std.specs.Option.{option_copied};

@@ -1,4 +1,4 @@
-// Why there is no picture.
+//! Why there is no picture.
 
 ghost use Rattle.std.specs.Prelude.{◌≤◌};
 

@@ -1,4 +1,4 @@
-// The texts of pictures.
+//! The texts of pictures.
 
 ghost use Rattle.std.specs.Prelude.{IfOk};
 ghost use Rattle.gate_net.specs.NetOf.{IsNetOf};

@@ -1,4 +1,4 @@
-// What is asked for, over the bytes of its files.
+//! What is asked for, over the bytes of its files.
 
 ghost use Rattle.std.specs.Prelude.{◌≤◌, length};
 

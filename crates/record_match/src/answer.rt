@@ -1,4 +1,4 @@
-// What is answered of the records of a file.
+//! What is answered of the records of a file.
 
 ghost use Rattle.std.specs.Prelude.{◌≡◌, ◌<◌, ◌||◌, length, map, slice_get, IfOk, Some};
 ghost use Rattle.std.specs.List.{All};

@@ -1,4 +1,4 @@
-// The checks of one record, each of them alone.
+//! The checks of one record, each of them alone.
 
 ghost use Rattle.std.specs.Prelude.{◌≡◌, ◌==◌, option_map, false, length, ◌≤◌};
 ghost use Rattle.std.specs.List.{list_any};

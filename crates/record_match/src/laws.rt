@@ -1,4 +1,4 @@
-// The law of records.
+//! The law of records.
 
 ghost use Rattle.std.specs.Prelude.{◌≡◌, ◌<◌, ℕ, Bool};
 ghost use Rattle.line_model.specs.Histories.{History, IsLineHistory, IsSameHistory};

@@ -1,4 +1,4 @@
-// Whether a timing gives a record.
+//! Whether a timing gives a record.
 
 ghost use Rattle.std.specs.Prelude.{◌≡◌, ◌<◌, ◌↔◌, ℕ, length, IsTrue, IfOk};
 ghost use Rattle.line_model.specs.Parameters.{terminal_count, param_count};

@@ -1,4 +1,4 @@
-// What is settled of a record.
+//! What is settled of a record.
 
 ghost use Rattle.std.specs.Prelude.{◌≡◌, ℕ, Bool, IfOk};
 ghost use Rattle.tick_signal.specs.declared.tern.Tern.{Tern};

@@ -1,4 +1,4 @@
-// The waves of a record.
+//! The waves of a record.
 
 ghost use Rattle.std.specs.Prelude.{◌≡◌, ◌≤◌, Ok, false, filter, IfOk};
 ghost use Rattle.record_match.specs.Gives.{Gives};

@@ -1,3 +1,5 @@
+//! Numbers, stores and sinks in memory, fetches and puts, and the faults among them.
+
 use super::*;
 use std::alloc::Global;
 use std::io::Write;

@@ -1,4 +1,4 @@
-// The attributes of an element.
+//! The attributes of an element.
 
 ghost use Rattle.std.specs.Prelude.{◌≡◌, ◌++◌, OnOk, IfOk};
 ghost use Rattle.svg_text.specs.Attributes.{words_of, attribute_text, attributes_text, said};

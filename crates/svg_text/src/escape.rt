@@ -1,4 +1,4 @@
-// Text in which nothing can be taken for markup.
+//! Text in which nothing can be taken for markup.
 
 ghost use Rattle.std.specs.Prelude.{◌≡◌, ◌++◌, OnOk};
 ghost use Rattle.svg_text.specs.Escape.{escape, escaped};

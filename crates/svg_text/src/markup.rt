@@ -1,4 +1,4 @@
-// Markup that is well formed.
+//! Markup that is well formed.
 
 ghost use Rattle.std.specs.Prelude.{◌≡◌, ◌++◌, [], IfOk, OnOk, IsTrue};
 ghost use Rattle.svg_text.specs.Attributes.{keys_differ, said};

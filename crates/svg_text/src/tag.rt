@@ -1,4 +1,4 @@
-// The elements of a drawing.
+//! The elements of a drawing.
 
 ghost use Rattle.std.specs.Prelude.{◌≡◌};
 ghost use Rattle.svg_text.specs.Names.{tag_name};

@@ -1,4 +1,4 @@
-// Escaped text, numbers and elements.
+//! Escaped text, numbers and elements.
 
 use crate::{Key, Markup, Tag, tenths, words};
 use std::test::Fail;

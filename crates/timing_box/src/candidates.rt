@@ -1,4 +1,4 @@
-// The candidate timings.
+//! The candidate timings.
 
 ghost use Rattle.std.specs.Prelude.{◌≡◌, ◌≤◌, ◌<◌, length};
 ghost use Rattle.std.specs.List.{count_by};

@@ -1,4 +1,4 @@
-// The checks of one record, each of them alone.
+//! The checks of one record, each of them alone.
 
 ghost use Rattle.std.specs.Prelude.{◌≡◌, ◌≤◌, ◌<◌, ◌+◌, ◌&&◌, ◌==◌, Some, length, drop, IfSome};
 ghost use Rattle.std.specs.List.{list_any, position_or_len};

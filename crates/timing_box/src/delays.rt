@@ -1,4 +1,4 @@
-// Which parameters are delays.
+//! Which parameters are delays.
 
 ghost use Rattle.std.specs.Prelude.{◌≡◌, ◌<◌, length};
 ghost use Rattle.line_model.specs.Parameters.{delay_param};

@@ -1,4 +1,4 @@
-// Why a file of timings is refused.
+//! Why a file of timings is refused.
 
 use csv_records::Memory;
 use std::alloc::{AllocError, AllocFailed};

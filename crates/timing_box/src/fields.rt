@@ -1,4 +1,4 @@
-// The fields of a record.
+//! The fields of a record.
 
 ghost use Rattle.std.specs.Prelude.{◌≡◌};
 ghost use Rattle.std.specs.Str.{bytes_eq};

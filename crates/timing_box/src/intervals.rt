@@ -1,4 +1,4 @@
-// Whether a timing is inside the declared intervals.
+//! Whether a timing is inside the declared intervals.
 
 ghost use Rattle.std.specs.Prelude.{◌≡◌, ◌<◌, ◌↔◌, ℕ, length, get_or, IsTrue};
 ghost use Rattle.line_model.specs.{Choice.IsIn, Parameters.param_count, Parameters.declared_ends};

@@ -1,4 +1,4 @@
-// The laws of timings.
+//! The laws of timings.
 
 ghost use Rattle.std.specs.Prelude.{◌≡◌, ◌<◌, ◌↔◌, ℕ, List, [], ◌∷◌, IsTrue};
 ghost use Rattle.std.specs.List.{All};

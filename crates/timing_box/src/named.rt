@@ -1,4 +1,4 @@
-// What the parameter field of a record names.
+//! What the parameter field of a record names.
 
 /// Nothing, a parameter by its number, or the step of a delay with its tick.
 #[derive(Clone, Copy, PartialEq, Eq)]

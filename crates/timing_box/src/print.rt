@@ -1,4 +1,4 @@
-// Printing timings as a file.
+//! Printing timings as a file.
 
 ghost use Rattle.std.specs.Prelude.{◌≡◌, ◌≤◌, ◌<◌, ◌∷◌, [], ◌++◌, ℕ, Ok, length, IfOk, OnOk, map};
 ghost use Rattle.std.specs.List.{All};

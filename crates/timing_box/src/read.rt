@@ -1,4 +1,4 @@
-// Reading a file of timings.
+//! Reading a file of timings.
 
 ghost use Rattle.std.specs.Prelude.{◌≤◌, ◌+◌, IfOk, IfSome, IsFalse, length, map};
 ghost use Rattle.std.specs.List.{All};

@@ -1,4 +1,4 @@
-// The timings that the records so far say.
+//! The timings that the records so far say.
 
 ghost use Rattle.std.specs.Prelude.{◌≡◌, IsTrue, IfSome, IfOk, map, option_map};
 ghost use Rattle.line_model.specs.{Intervals.leasts, PlainNames.is_plain_name};

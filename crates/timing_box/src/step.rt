@@ -1,4 +1,4 @@
-// A step of a delay.
+//! A step of a delay.
 
 /// From tick `from` on the delay with this number among the parameters has this value.
 #[derive(Clone, Copy)]

@@ -1,3 +1,5 @@
+//! Timings files: what they say, and what is refused.
+
 use super::*;
 use line_model::{Bounds, Channel, Line, Name, Scheme, Terminal, is_plain, makes_line};
 use std::alloc::Global;

@@ -1,4 +1,4 @@
-// A timing.
+//! A timing.
 
 ghost use Rattle.std.specs.Prelude.{◌≡◌, ◌<◌, ◌≤◌, ◌&&◌, ◌==◌, [], length, slice_set, IsTrue};
 ghost use Rattle.std.specs.Prelude.{IsFalse, OnOk, IfErr};

@@ -1,4 +1,4 @@
-// Diagrams of a play, and of every choice at once.
+//! Diagrams of a play, and of every choice at once.
 
 ghost use Rattle.std.specs.Prelude.{◌≡◌, ◌<◌, [], length, map, min, IfOk};
 ghost use Rattle.history.specs.Recorded.{first_ticks};

@@ -1,4 +1,4 @@
-// The inception of a fault.
+//! The inception of a fault.
 
 ghost use Rattle.std.specs.Prelude.{◌≡◌};
 ghost use Rattle.timing_diagram.specs.Times.{is_begun, shows_fault, is_of_fault};

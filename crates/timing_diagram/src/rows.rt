@@ -1,4 +1,4 @@
-// The rows of a diagram.
+//! The rows of a diagram.
 
 ghost use Rattle.std.specs.Prelude.{◌≡◌, map, IfOk};
 ghost use Rattle.std.specs.List.{All};

@@ -1,4 +1,4 @@
-// The keys and trips that a diagram shows.
+//! The keys and trips that a diagram shows.
 
 ghost use Rattle.std.specs.Prelude.{◌≡◌, ◌<◌, ℕ, length, min};
 ghost use Rattle.line_model.specs.Histories.{PairHistory};

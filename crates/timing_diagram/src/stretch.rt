@@ -1,4 +1,4 @@
-// Stretches of one value.
+//! Stretches of one value.
 
 ghost use Rattle.std.specs.Prelude.{◌≡◌, ◌≢◌, ◌<◌, ◌≤◌, ℕ, IfOk};
 ghost use Rattle.history.specs.Rails.{both};

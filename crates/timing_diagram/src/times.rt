@@ -1,4 +1,4 @@
-// The first ticks of trips, and the margin to the deadline.
+//! The first ticks of trips, and the margin to the deadline.
 
 ghost use Rattle.std.specs.Prelude.{◌≡◌, ◌<◌, IfOk};
 ghost use Rattle.history.specs.Recorded.{first_ticks};

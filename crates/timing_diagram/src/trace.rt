@@ -1,4 +1,4 @@
-// What the rows of a diagram are of.
+//! What the rows of a diagram are of.
 
 ghost use Rattle.std.specs.Prelude.{◌≡◌, ◌++◌, ◌<◌, OnOk, IfOk};
 ghost use Rattle.std.specs.List.{All};

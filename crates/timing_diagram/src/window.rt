@@ -1,4 +1,4 @@
-// The ticks that are worth looking at.
+//! The ticks that are worth looking at.
 
 ghost use Rattle.std.specs.Prelude.{◌≡◌, ◌≤◌, ◌<◌, IfSome};
 ghost use Rattle.std.specs.List.{All};

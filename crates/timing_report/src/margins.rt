@@ -1,4 +1,4 @@
-// The margin between the tick by which a trip must have come and the deadline.
+//! The margin between the tick by which a trip must have come and the deadline.
 
 ghost use Rattle.std.specs.Prelude.{◌≡◌, ◌≤◌, IfSome};
 ghost use Rattle.timing_report.specs.Margin.{deadline_of, margin_of, margin_us_of};

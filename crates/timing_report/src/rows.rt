@@ -1,4 +1,4 @@
-// The rows of a report, as text.
+//! The rows of a report, as text.
 
 ghost use Rattle.std.specs.Prelude.{◌≡◌, ◌++◌, ◌<◌, ◌≤◌, OnOk, IfSome};
 ghost use Rattle.line_model.specs.Parameters.{terminal_count};

@@ -1,4 +1,4 @@
-// A channel whose window opens for a while when it is lost.
+//! A channel whose window opens for a while when it is lost.
 
 ghost use Rattle.std.specs.Prelude.{◌<◌, ◌≤◌, ◌+◌, length, IfOk};
 ghost use Rattle.line_model.specs.Unblocking.{guard_seen as guard_seen_tree, late as late_tree};

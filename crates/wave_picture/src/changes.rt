@@ -1,4 +1,4 @@
-// The changes of a value change dump.
+//! The changes of a value change dump.
 
 ghost use Rattle.std.specs.Prelude.{◌≡◌, ◌<◌, ◌≤◌, ◌+◌, ◌-◌, ◌++◌, OnOk};
 ghost use Rattle.simulator.specs.{PlayRows.level_word, PlayRows.each_below, Played.is_on};

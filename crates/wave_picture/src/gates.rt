@@ -1,4 +1,4 @@
-// Gates by their numbers, and their values.
+//! Gates by their numbers, and their values.
 
 ghost use Rattle.std.specs.Prelude.{◌≡◌, ◌<◌, slice_get};
 ghost use Rattle.simulator.specs.Played.{is_on};

@@ -1,4 +1,4 @@
-// The run of a timing over a script.
+//! The run of a timing over a script.
 
 ghost use Rattle.std.specs.Prelude.{◌≡◌, ◌<◌, ℕ, length, IfOk};
 ghost use Rattle.line_model.specs.Histories.{History, IsLineHistory, IsSameHistory};

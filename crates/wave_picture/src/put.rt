@@ -1,4 +1,4 @@
-// Bytes and numbers at the end of a text.
+//! Bytes and numbers at the end of a text.
 
 ghost use Rattle.std.specs.Prelude.{◌≡◌, ◌++◌, decimal, OnOk};
 

@@ -1,4 +1,4 @@
-// What a gate is to a protection engineer.
+//! What a gate is to a protection engineer.
 
 ghost use Rattle.std.specs.Prelude.{◌≡◌, slice_get};
 ghost use Rattle.line_model.specs.Channels.{from_of, to_of};

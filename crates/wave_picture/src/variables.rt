@@ -1,4 +1,4 @@
-// The variables of a value change dump.
+//! The variables of a value change dump.
 
 ghost use Rattle.std.specs.Prelude.{◌≡◌, ◌<◌, ◌++◌, length, codes, OnOk};
 ghost use Rattle.line_model.specs.{ParamNames.name_at, Parameters.terminal_count};

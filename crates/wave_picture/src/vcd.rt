@@ -1,4 +1,4 @@
-// A run as a value change dump.
+//! A run as a value change dump.
 
 ghost use Rattle.std.specs.Prelude.{◌≡◌, ◌++◌, IfOk, OnOk};
 ghost use Rattle.line_model.specs.Histories.{History, IsLineHistory};

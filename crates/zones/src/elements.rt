@@ -1,4 +1,4 @@
-// A terminal's own elements and its guard against current reversal.
+//! A terminal's own elements and its guard against current reversal.
 
 ghost use Rattle.std.specs.Prelude.{◌<◌, ◌≤◌, ◌+◌, length, IfOk};
 ghost use Rattle.line_model.specs.Parameters.{terminal_count};

@@ -1,4 +1,4 @@
-// What a terminal receives from the others.
+//! What a terminal receives from the others.
 
 ghost use Rattle.std.specs.Prelude.{◌<◌, ◌≤◌, ◌+◌, length, IfOk};
 ghost use Rattle.line_model.specs.{Parameters.terminal_count, Received.received as received_tree};

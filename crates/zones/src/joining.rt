@@ -1,4 +1,4 @@
-// Gates that join others.
+//! Gates that join others.
 
 ghost use Rattle.std.specs.Prelude.{◌<◌, ◌≤◌, ◌+◌, length, IfOk, option_map, unwrap_or, false};
 ghost use Rattle.std.specs.Option.{ForSome};

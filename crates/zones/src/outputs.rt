@@ -1,4 +1,4 @@
-// What a scheme makes for a terminal.
+//! What a scheme makes for a terminal.
 
 use gate_net::GateId;
 

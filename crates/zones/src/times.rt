@@ -1,4 +1,4 @@
-// The line's parameters and channels, as gates name them.
+//! The line's parameters and channels, as gates name them.
 
 ghost use Rattle.std.specs.Prelude.{◌≡◌, ◌<◌};
 ghost use Rattle.line_model.specs.Parameters.{terminal_count, channel_count, IsOwner};
