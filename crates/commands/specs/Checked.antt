@@ -1,8 +1,8 @@
 -- The lines that tell what a check of a text found.
-use Rattle.std.specs.Prelude.{◌∷◌, ℕ, List, [], Option, None, Some, codes, decimal, slice_get}
+use Rattle.std.specs.Prelude.{[], ◌∷◌, ℕ, List, codes, decimal}
 use Rattle.std.specs.List.{concat}
-use Rattle.line_model.specs.{declared.line.Line.Line, declared.line.Param.Param}
-use Rattle.line_model.specs.{declared.line.Terminal.Terminal, declared.script.Script.Script}
+use Rattle.line_model.specs.NamesByNumber.{terminal_name, parameter_name, script_name}
+use Rattle.line_model.specs.{declared.line.Line.Line, declared.script.Script.Script}
 use Rattle.cert_checker.specs.declared.counts.Counts.{Counts}
 
 -- `accepted Y N U`
@@ -11,23 +11,11 @@ accepted_pieces counts =
     codes "accepted " ∷ decimal counts.yes ∷ codes " " ∷ decimal counts.no ∷ codes " "
     ∷ decimal counts.undecided ∷ codes "\n" ∷ []
 
-abbrev pub script_name : Option Script → List ℕ
-script_name None = []
-script_name (Some script) = script.name
-
-abbrev pub terminal_name : Option Terminal → List ℕ
-terminal_name None = []
-terminal_name (Some terminal) = terminal.name
-
-abbrev pub param_name : Option Param → List ℕ
-param_name None = []
-param_name (Some param) = param.name
-
 -- where a fault is: ` SCRIPT TERMINAL`
 abbrev pub place : Line → List Script → ℕ → ℕ → List ℕ
 place line scripts i k =
-    concat (codes " " ∷ script_name (slice_get scripts i) ∷ codes " "
-    ∷ terminal_name (slice_get line.terminals.items k) ∷ [])
+    concat (codes " " ∷ script_name scripts i ∷ codes " "
+    ∷ terminal_name line k ∷ [])
 
 -- `rejected Line N`
 abbrev pub line_pieces : ℕ → List (List ℕ)
@@ -37,7 +25,7 @@ line_pieces n = codes "rejected Line " ∷ decimal n ∷ codes "\n" ∷ []
 abbrev pub outside_pieces : Line → List Script → ℕ → ℕ → ℕ → ℕ → List (List ℕ)
 outside_pieces line scripts i k p value =
     codes "rejected Outside" ∷ place line scripts i k ∷ codes " "
-    ∷ param_name (slice_get line.params.items p) ∷ codes " " ∷ decimal value ∷ codes "\n" ∷ []
+    ∷ parameter_name line p ∷ codes " " ∷ decimal value ∷ codes "\n" ∷ []
 
 -- `rejected Passes SCRIPT TERMINAL TICK`
 abbrev pub passes_pieces : Line → List Script → ℕ → ℕ → ℕ → List (List ℕ)

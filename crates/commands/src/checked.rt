@@ -1,17 +1,17 @@
 //! The lines that tell what a check of a text found. Scripts, terminals and parameters are told by
 //! their names.
-ghost use Rattle.std.specs.Prelude.{◌≡◌, IfOk, slice_get};
+ghost use Rattle.std.specs.Prelude.{◌≡◌, IfOk};
 ghost use Rattle.std.specs.List.{concat};
 ghost use Rattle.commands.specs.Checked.{accepted_pieces, line_pieces, outside_pieces};
-ghost use Rattle.commands.specs.Checked.{param_name as name_of_param, passes_pieces};
-ghost use Rattle.commands.specs.Checked.{place as place_of, script_name as name_of_script};
-ghost use Rattle.commands.specs.Checked.{terminal_name as name_of_terminal};
+ghost use Rattle.commands.specs.Checked.{passes_pieces, place as place_of};
+ghost use Rattle.line_model.specs.NamesByNumber.{script_name as name_of_script};
+ghost use Rattle.line_model.specs.NamesByNumber.{terminal_name as name_of_terminal};
 
 use crate::study::Study;
 use crate::text::text_of;
 use cert_checker::Counts;
 use itoa::Buffer;
-use line_model::{Line, Memory, Script};
+use line_model::{Memory, name_of_parameter, name_of_script, name_of_terminal};
 use std::alloc::Global;
 
 /// The counts of a text that is accepted.
@@ -56,7 +56,7 @@ pub fn rejected_outside(
 {
     let mut digits = Buffer::new();
     let place = place(alloc, study, script, terminal)?;
-    let param = param_name(&study.line, param);
+    let param = name_of_parameter(&study.line, param);
     let value = digits.format(value).as_bytes();
     text_of(
         alloc,
@@ -97,34 +97,7 @@ pub fn place(alloc: Global, study: &Study, script: u32, terminal: u32) -> Result
     ensures { IfOk result (λ text. text.items
         ≡ place_of study.now.line study.now.scripts.items script terminal) }
 {
-    let script = script_name(study.scripts.as_slice(), script);
-    let terminal = terminal_name(&study.line, terminal);
+    let script = name_of_script(study.scripts.as_slice(), script);
+    let terminal = name_of_terminal(&study.line, terminal);
     text_of(alloc, &[b" ", script, b" ", terminal])
-}
-
-fn script_name(scripts: &[Script], script: u32) -> &[u8]
-    ensures { result.now ≡ name_of_script (slice_get scripts.now script) }
-{
-    match scripts.get(script as usize) {
-        Some(script) => script.name.bytes(),
-        None => b"",
-    }
-}
-
-fn terminal_name(line: &Line, terminal: u32) -> &[u8]
-    ensures { result.now ≡ name_of_terminal (slice_get line.now.terminals.items terminal) }
-{
-    match line.terminals.get(terminal as usize) {
-        Some(terminal) => terminal.name.bytes(),
-        None => b"",
-    }
-}
-
-fn param_name(line: &Line, param: u32) -> &[u8]
-    ensures { result.now ≡ name_of_param (slice_get line.now.params.items param) }
-{
-    match line.params.get(param as usize) {
-        Some(param) => param.name.bytes(),
-        None => b"",
-    }
 }

@@ -1,17 +1,17 @@
 -- The records that are printed stand for the scripts.
-use Rattle.std.proofs.Common.{◌≡◌, ◌&&◌, ℕ, suc, ◌+◌, ◌<◌, ◌≤◌, Bool, true, false, cond, List, []}
-use Rattle.std.proofs.Common.{◌∷◌, ◌++◌, length, map, get_or, Some, None, Ok, refl, sym, ap, ◌∙◌}
-use Rattle.std.proofs.Common.{◌≢◌, ◌||◌, arith, append_assoc, length-append, inl, inr}
+use Rattle.std.specs.Prelude.{[], nat_lt, nat_le, option_map}
+use Rattle.std.specs.List.{list_all, flat_map, All}
+use Rattle.std.specs.Str.{bytes_eq}
+use Rattle.std.specs.Fmt.{decimal}
+use Rattle.std.proofs.Common.{◌≡◌, ◌&&◌, ℕ, suc, ◌+◌, ◌<◌, ◌≤◌, Bool, true, false, cond, List, ◌∷◌}
+use Rattle.std.proofs.Common.{◌++◌, length, map, get_or, Some, None, Ok, refl, sym, ap, ◌∙◌, ◌≢◌}
+use Rattle.std.proofs.Common.{◌||◌, arith, append_assoc, length-append, inl, inr}
 use Rattle.std.proofs.lemmas.Bool.{lt-ltb, ltb-true, leb-true, eqb-true, cases_Bool}
 use Rattle.std.proofs.lemmas.List.{append-nil, get_or-map}
 use Rattle.std.proofs.lemmas.List.Folds.{list_any-append}
 use Rattle.std.proofs.lemmas.List.Elements.{All-nil, All-cons, All-head, All-tail, All-get_or}
 use Rattle.std.proofs.lemmas.List.Elements.{All-from_get_or}
 use Rattle.std.proofs.lemmas.List.Concat.{flat_map-cons}
-use Rattle.std.specs.Prelude.{nat_lt, nat_le, option_map}
-use Rattle.std.specs.List.{list_all, flat_map, All}
-use Rattle.std.specs.Str.{bytes_eq}
-use Rattle.std.specs.Fmt.{decimal}
 use Rattle.relay_base.specs.Number.{number_of}
 use Rattle.line_model.specs.declared.script.Element.{Element}
 use Rattle.line_model.specs.declared.script.Element.TheVariants.{Z1, Z2, Rv, Uv, Cur}
@@ -21,22 +21,20 @@ use Rattle.line_model.specs.{declared.line.Line.Line, declared.line.Terminal.Ter
 use Rattle.line_model.specs.{declared.line.Channel.Channel, declared.script.Kind.Kind}
 use Rattle.line_model.specs.declared.script.What.TheVariants as what
 use Rattle.line_model.specs.Fits.{Fits, exists_in, span_fits, deadline_fits}
-use Rattle.line_model.specs.{declared.script.SeenSpan.SeenSpan, PlainNames.is_plain_name}
-use Rattle.line_model.specs.{ParamNames.channel_name, declared.script.Script.Script}
+use Rattle.line_model.specs.declared.script.SeenSpan.{SeenSpan}
+use Rattle.line_model.specs.{PlainNames.is_plain_name, ParamNames.channel_name}
+use Rattle.line_model.specs.{declared.script.Script.Script, NamesByNumber.element_text}
 use Rattle.fault_script.specs.declared.item.Item.TheVariants.{Head, Seen, Lost}
-use Rattle.fault_script.specs.Row.{Row}
 use Rattle.fault_script.specs.Values.{ScriptValues, ScriptsSoFar, AreOfOneFile, values_of}
 use Rattle.fault_script.specs.Values.{all_scripts, no_scripts, with_head}
-use Rattle.fault_script.specs.Checks.{item_of, is_head, is_taken, what_at, deadline_of}
-use Rattle.fault_script.specs.Checks.{below_horizon}
 use Rattle.fault_script.specs.Scripts.{after_head, after_row, after_item, after_record, script_file}
 use Rattle.fault_script.specs.Scripts.{scripts_in}
-use Rattle.fault_script.specs.Printed.{kind_text, deadline_text, head_record, element_text}
-use Rattle.fault_script.specs.Printed.{item_text, place_text, row_record, script_records}
-use Rattle.fault_script.specs.Printed.{file_records}
-use Rattle.fault_script.specs.{declared.item.Item.Item, Places.channel_named, SoFar.ValuesFit}
-use Rattle.csv_records.specs.Gives.{◌>>=◌}
-use Rattle.csv_records.specs.RecordFile.{after_header, after_records, said_in}
+use Rattle.fault_script.specs.Printed.{kind_text, deadline_text, head_record, item_text, place_text}
+use Rattle.fault_script.specs.Printed.{row_record, script_records, file_records}
+use Rattle.fault_script.specs.{Checks.item_of, Checks.is_head, Checks.is_taken, Checks.what_at}
+use Rattle.fault_script.specs.{Checks.deadline_of, Checks.below_horizon, declared.item.Item.Item}
+use Rattle.fault_script.specs.{Row.Row, Places.channel_named, SoFar.ValuesFit}
+use Rattle.csv_records.specs.{Gives.◌>>=◌, RecordFile.after_header, RecordFile.after_records}
 use Rattle.relay_base.specs.DecimalLaws.{number_of-decimal}
 use Rattle.fault_script.proofs.Naming.{bytes_same, bytes_are, terminal_found, channel_found}
 use Rattle.fault_script.proofs.Naming.{slice_get-at}

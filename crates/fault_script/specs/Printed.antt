@@ -1,16 +1,15 @@
 -- The records that stand for scripts, and their text.
-use Rattle.std.specs.Prelude.{ℕ, List, [], ◌∷◌, map, codes, slice_get}
+use Rattle.std.specs.Prelude.{[], ℕ, List, ◌∷◌, map, codes, slice_get}
 use Rattle.std.specs.List.{flat_map}
 use Rattle.std.specs.Fmt.{decimal}
 use Rattle.csv.specs.Writing.{row_text, default_writer}
 use Rattle.line_model.specs.declared.script.Element.{Element}
-use Rattle.line_model.specs.declared.script.Element.TheVariants.{Z1, Z2, Rv, Uv, Cur}
-use Rattle.line_model.specs.declared.script.Kind.{Kind}
 use Rattle.line_model.specs.declared.script.Kind.TheVariants.{Internal, External}
-use Rattle.line_model.specs.{declared.line.Line.Line, declared.script.What.What}
+use Rattle.line_model.specs.declared.line.Line.{Line}
+use Rattle.line_model.specs.{declared.script.Kind.Kind, declared.script.What.What}
 use Rattle.line_model.specs.declared.script.What.TheVariants as what
-use Rattle.line_model.specs.declared.script.SeenSpan.{SeenSpan}
 use Rattle.line_model.specs.ParamNames.{name_at, channel_name}
+use Rattle.line_model.specs.{declared.script.SeenSpan.SeenSpan, NamesByNumber.element_text}
 use Rattle.fault_script.specs.Values.{ScriptValues}
 
 abbrev pub header_record : List (List ℕ)
@@ -28,13 +27,6 @@ deadline_text External deadline = []
 
 abbrev pub head_record : ScriptValues → List (List ℕ)
 head_record s = s.name ∷ kind_text s.kind ∷ [] ∷ deadline_text s.kind s.deadline ∷ [] ∷ []
-
-abbrev pub element_text : Element → List ℕ
-element_text Z1 = codes "z1"
-element_text Z2 = codes "z2"
-element_text Rv = codes "rv"
-element_text Uv = codes "uv"
-element_text Cur = codes "cur"
 
 abbrev pub item_text : What → List ℕ
 item_text (what.Element place) = element_text place.element

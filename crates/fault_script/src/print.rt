@@ -1,17 +1,17 @@
 //! Printing scripts as a file.
 
-ghost use Rattle.std.specs.Prelude.{◌≡◌, ◌∷◌, [], ◌++◌, IfOk, OnOk, map, IsTrue};
+ghost use Rattle.std.specs.Prelude.{[], ◌≡◌, ◌∷◌, ◌++◌, IfOk, OnOk, map, IsTrue};
 ghost use Rattle.std.specs.List.{All};
 ghost use Rattle.std.specs.Fmt.{decimal};
 ghost use Rattle.csv.specs.Writing.{row_text, default_writer};
 ghost use Rattle.line_model.specs.Fits.{Fits, exists_in};
 ghost use Rattle.fault_script.specs.Values.{values_of, AreOfOneFile};
-ghost use Rattle.fault_script.specs.Printed.{element_text, head_record, row_record, script_records};
-ghost use Rattle.fault_script.specs.Printed.{file_records, records_text};
+ghost use Rattle.fault_script.specs.Printed.{head_record, row_record, script_records, file_records};
+ghost use Rattle.fault_script.specs.Printed.{records_text};
 ghost use Rattle.fault_script.specs.Scripts.{scripts_in};
 
 use itoa::Buffer;
-use line_model::{Element, Kind, Line, Memory, Script, SeenSpan, What, channel_name};
+use line_model::{Kind, Line, Memory, Script, SeenSpan, What, channel_name, element_word};
 use std::alloc::Global;
 
 /// The file of these scripts: the header and each script's records.
@@ -87,7 +87,7 @@ fn push_row(
     match span.what {
         What::Element(place) => {
             let terminal = &line.terminals[place.terminal as usize];
-            let item = element_name(place.element);
+            let item = element_word(place.element);
             push_fields(alloc, text, name, item, terminal.name.bytes(), span)
         }
         What::Loss(channel) => {
@@ -113,18 +113,6 @@ fn push_fields(
     let mut to = Buffer::new();
     let to = to.format(span.to).as_bytes();
     push_record(alloc, text, name, item, place, from, to)
-}
-
-fn element_name(element: Element) -> &'static [u8]
-    ensures { result.now ≡ element_text element }
-{
-    match element {
-        Element::Z1 => b"z1",
-        Element::Z2 => b"z2",
-        Element::Rv => b"rv",
-        Element::Uv => b"uv",
-        Element::Cur => b"cur",
-    }
 }
 
 // A record of five fields.

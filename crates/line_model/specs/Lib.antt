@@ -6,6 +6,7 @@ pub mod Channels
 pub mod Settings
 pub mod Places
 pub mod ParamNames
+pub mod NamesByNumber
 pub mod Intervals
 pub mod Parameters
 pub mod SetBounds

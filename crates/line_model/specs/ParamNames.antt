@@ -1,5 +1,5 @@
 -- The names of a line's parameters: the owner, a dot and the setting.
-use Rattle.std.specs.Prelude.{◌++◌, ℕ, zero, suc, List, [], ◌∷◌, Option, Some, None, codes, map}
+use Rattle.std.specs.Prelude.{[], ◌++◌, ℕ, List, ◌∷◌, Option, Some, None, codes, map, get_or}
 use Rattle.std.specs.Prelude.{slice_get}
 use Rattle.std.specs.List.{flat_map}
 use Rattle.line_model.specs.{declared.line.Scheme.Scheme, declared.line.Terminal.Terminal}
@@ -41,9 +41,7 @@ setting_text UnblockRestore = codes "unblock.restore"
 
 -- the name of terminal k
 abbrev pub name_at : List Terminal → ℕ → List ℕ
-name_at [] k = []
-name_at (t ∷ ts) zero = t.name
-name_at (t ∷ ts) (suc k) = name_at ts k
+name_at ts k = get_or (map (λ t. t.name) ts) k []
 
 -- the name of a channel: the sender's, `>` and the receiver's
 abbrev pub pair_name : List Terminal → Channel → List ℕ

@@ -1,15 +1,13 @@
 //! The line of a margin.
 
 ghost use Rattle.std.specs.Prelude.{◌≡◌, ◌++◌, ◌<◌, length, OnOk, IfOk, IfSome, decimal};
-ghost use Rattle.line_model.specs.Parameters.{terminal_count, param_count, declared_ends};
+ghost use Rattle.line_model.specs.Parameters.{terminal_count, param_count};
 ghost use Rattle.margin_search.specs.MarginText.{greatest_words, lost_words, margin_line};
-ghost use Rattle.margin_search.specs.MarginText.{param_name, script_name};
-ghost use Rattle.simulator.specs.PlayRows.{terminal_name};
 
 use crate::declared::greatest;
 use crate::upper_end::{Lost, UpperEnd};
 use itoa::Buffer;
-use line_model::{Line, Memory, Script};
+use line_model::{Line, Memory, Script, name_of_parameter, name_of_script, name_of_terminal};
 use std::alloc::Global;
 
 /// The line of a parameter's margin: `margin PARAMETER V declared G` with `lost SCRIPT TERMINAL` or
@@ -27,7 +25,7 @@ pub fn margin_text(
     ensures { IfOk result (λ text. text.items ≡ margin_line line.now scripts.now param margin.now) }
 {
     let mut text = Vec::from_slice(alloc, b"margin ")?;
-    text.extend_from_slice(name_of(line, param))?;
+    text.extend_from_slice(name_of_parameter(line, param))?;
     text.extend_from_slice(b" ")?;
     push_greatest(&mut text, margin.greatest)?;
     text.extend_from_slice(b" declared ")?;
@@ -35,13 +33,6 @@ pub fn margin_text(
     push_lost(&mut text, line, scripts, margin.lost)?;
     text.extend_from_slice(b"\n")?;
     Ok(text)
-}
-
-fn name_of(line: &Line, param: u32) -> &[u8]
-    requires { param < param_count line.now }
-    ensures { result.now ≡ param_name line.now param }
-{
-    line.params[param as usize].name.bytes()
 }
 
 // Appends the margin, or `none`.
@@ -79,9 +70,9 @@ fn push_lost(
     match lost {
         Some(lost) => {
             text.extend_from_slice(b" lost ")?;
-            text.extend_from_slice(script_at(scripts, lost.script))?;
+            text.extend_from_slice(name_of_script(scripts, lost.script))?;
             text.extend_from_slice(b" ")?;
-            text.extend_from_slice(terminal_at(line, lost.terminal))?;
+            text.extend_from_slice(name_of_terminal(line, lost.terminal))?;
             Ok(())
         }
         None => {
@@ -89,18 +80,4 @@ fn push_lost(
             Ok(())
         }
     }
-}
-
-fn script_at(scripts: &[Script], number: u32) -> &[u8]
-    requires { number < length scripts.now }
-    ensures { result.now ≡ script_name scripts.now number }
-{
-    scripts[number as usize].name.bytes()
-}
-
-fn terminal_at(line: &Line, number: u32) -> &[u8]
-    requires { number < terminal_count line.now }
-    ensures { result.now ≡ terminal_name line.now number }
-{
-    line.terminals[number as usize].name.bytes()
 }

@@ -1,10 +1,9 @@
 -- The text of a net.
-use Rattle.std.specs.Prelude.{◌++◌, ℕ, zero, suc, Bool, true, false, List, [], ◌∷◌, Option, Some}
-use Rattle.std.specs.Prelude.{None, codes, decimal, length, map, get_or, slice_get}
-use Rattle.line_model.specs.declared.script.Element.{Element}
-use Rattle.line_model.specs.declared.script.Element.TheVariants.{Z1, Z2, Rv, Uv, Cur}
+use Rattle.std.specs.Prelude.{[], ◌++◌, ℕ, zero, suc, Bool, true, false, List, ◌∷◌, Option, Some}
+use Rattle.std.specs.Prelude.{None, codes, decimal, length, slice_get}
 use Rattle.line_model.specs.declared.formula.Time.TheVariants.{Zero, Param}
 use Rattle.line_model.specs.ParamNames.{name_at, channel_name}
+use Rattle.line_model.specs.NamesByNumber.{element_text, parameter_name}
 use Rattle.line_model.specs.{declared.line.Line.Line, declared.script.Place.Place}
 use Rattle.line_model.specs.{declared.formula.Time.Time, Parameters.terminal_count}
 use Rattle.gate_net.specs.declared.gate.Gate.TheVariants.{Const, Seen, Loss, Raw, Not, And, Or}
@@ -17,13 +16,6 @@ abbrev pub truth_text : Bool → List ℕ
 truth_text true = codes "true"
 truth_text false = codes "false"
 
-abbrev pub element_text : Element → List ℕ
-element_text Z1 = codes "z1"
-element_text Z2 = codes "z2"
-element_text Rv = codes "rv"
-element_text Uv = codes "uv"
-element_text Cur = codes "cur"
-
 -- an element of a terminal, as `A.z2`
 abbrev pub place_text : Line → Place → List ℕ
 place_text line p = name_at line.terminals.items p.terminal ++ (46 ∷ element_text p.element)
@@ -35,7 +27,7 @@ channel_text line c = channel_name line.terminals.items (slice_get line.channels
 -- a time: the name of its parameter, or `0`
 abbrev pub time_text : Line → Time → List ℕ
 time_text line Zero = codes "0"
-time_text line (Param i) = get_or (map (λ p. p.name) line.params.items) i []
+time_text line (Param i) = parameter_name line i
 
 -- two gates, with a space between
 abbrev pub pair_text : GateId → GateId → List ℕ

@@ -4,13 +4,13 @@ ghost use Rattle.std.specs.Prelude.{◌≡◌, ◌<◌, ◌++◌, codes, decimal
 ghost use Rattle.line_model.specs.Parameters.{terminal_count, channel_count};
 ghost use Rattle.line_model.specs.{Names.HasTime, ParamNames.name_at};
 ghost use Rattle.gate_net.specs.{NetOf.IsNetOf, Named.GateNames};
-ghost use Rattle.net_compile.specs.NetText.{truth_text, element_text, place_text, channel_text};
-ghost use Rattle.net_compile.specs.NetText.{time_text, pair_text, gate_text, gate_line, end_line};
+ghost use Rattle.net_compile.specs.NetText.{truth_text, place_text, channel_text, time_text};
+ghost use Rattle.net_compile.specs.NetText.{pair_text, gate_text, gate_line, end_line};
 ghost use Rattle.net_compile.specs.NetText.{terminal_lines, lines_below, net_text_of};
 
 use gate_net::{Gate, GateId, Net};
 use itoa::Buffer;
-use line_model::{Element, Line, Memory, Place, Time, channel_name};
+use line_model::{Line, Memory, Place, Time, channel_name, element_word};
 use std::alloc::Global;
 
 /// The text of a net: the number of its gates, a line for each gate, and for each terminal the
@@ -120,18 +120,6 @@ fn put_place(text: &mut Vec<u8>, line: &Line, place: Place) -> Result<(), Memory
     put_terminal_name(text, line, place.terminal)?;
     put(text, b".")?;
     put(text, element_word(place.element))
-}
-
-fn element_word(element: Element) -> &'static [u8]
-    ensures { result.now ≡ element_text element }
-{
-    match element {
-        Element::Z1 => b"z1",
-        Element::Z2 => b"z2",
-        Element::Rv => b"rv",
-        Element::Uv => b"uv",
-        Element::Cur => b"cur",
-    }
 }
 
 fn put_channel(text: &mut Vec<u8>, word: &[u8], line: &Line, channel: u32) -> Result<(), Memory>

@@ -1,12 +1,13 @@
 -- Where no key and no trip changes there are no rows.
-use Rattle.std.proofs.Common.{◌≡◌, ◌<◌, ◌≤◌, ◌++◌, ℕ, zero, suc, Bool, true, false, List, [], refl}
-use Rattle.std.proofs.Common.{sym, ◌∙◌, ap, arith, ⊎_elim}
+use Rattle.std.specs.Prelude.{[], codes}
+use Rattle.std.proofs.Common.{◌≡◌, ◌<◌, ◌≤◌, ◌++◌, ℕ, zero, suc, Bool, true, false, List, refl, sym}
+use Rattle.std.proofs.Common.{◌∙◌, ap, arith, ⊎_elim}
 use Rattle.std.proofs.lemmas.Bool.{cases_lt}
 use Rattle.std.proofs.lemmas.List.{append-nil}
-use Rattle.std.specs.Prelude.{codes}
+use Rattle.line_model.specs.NamesByNumber.{terminal_name}
 use Rattle.line_model.specs.{declared.line.Line.Line, Parameters.terminal_count, Histories.History}
 use Rattle.simulator.specs.PlayRows.{change_row, value_before, signal_row, each_below}
-use Rattle.simulator.specs.PlayRows.{terminal_name, terminal_rows, tick_rows}
+use Rattle.simulator.specs.PlayRows.{terminal_rows, tick_rows}
 
 no_texts : (n : ℕ) (f : ℕ → List ℕ) → ((k : ℕ) → k < n → f k ≡ []) → each_below n f ≡ []
 no_texts zero f none = refl

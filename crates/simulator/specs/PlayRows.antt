@@ -1,6 +1,5 @@
 -- The rows of one timing and script: a row for every change of every key and trip.
-use Rattle.std.specs.Prelude.{◌∷◌, ◌++◌, ℕ, zero, suc, Bool, true, false, List, [], map, get_or}
-use Rattle.std.specs.Prelude.{codes, decimal}
+use Rattle.std.specs.Prelude.{[], ◌∷◌, ◌++◌, ℕ, zero, suc, Bool, true, false, List, codes, decimal}
 use Rattle.std.specs.List.{concat}
 use Rattle.line_model.specs.{declared.line.Line.Line, Parameters.terminal_count, Histories.History}
 
@@ -42,9 +41,6 @@ signal_row timing script t terminal signal values =
 abbrev pub each_below : ℕ → (ℕ → List ℕ) → List ℕ
 each_below zero text = []
 each_below (suc n) text = each_below n text ++ text n
-
-abbrev pub terminal_name : Line → ℕ → List ℕ
-terminal_name line k = get_or (map (λ terminal. terminal.name) line.terminals.items) k []
 
 -- the rows of one tick and terminal, the key's before the trip's
 abbrev pub terminal_rows : List ℕ → List ℕ → Line → History → ℕ → ℕ → List ℕ

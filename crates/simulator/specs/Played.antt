@@ -2,9 +2,8 @@
 use Rattle.std.specs.Prelude.{ℕ, Bool}
 use Rattle.history.specs.Rails.{Ends, single}
 use Rattle.tick_signal.specs.{declared.level.Level.Level, Levels.level_rails}
-use Rattle.line_model.specs.Histories.{History}
+use Rattle.line_model.specs.Histories.{History, must_history}
 use Rattle.simulator.specs.WavesOf.{WavesOf, wave_pair, waves_history}
-use Rattle.simulator.specs.Runs.{must_history}
 
 -- the ends of a tick, whatever the lane
 abbrev pub ends_of_tick : ℕ → ℕ → Ends

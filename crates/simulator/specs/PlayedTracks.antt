@@ -6,8 +6,8 @@ use Rattle.std.proofs.lemmas.Option.{slice_get-map, get_or_from_slice_get}
 use Rattle.history.specs.Rails.{both, rails_at, must_of}
 use Rattle.tick_signal.specs.{declared.level.Level.Level, Lanes.in_lane, Levels.level_rails}
 use Rattle.channel.specs.SentKeys.{SentKeys}
-use Rattle.line_model.specs.Histories.{History}
-use Rattle.simulator.specs.{Runs.must_history, Tracks.pair_of, Tracks.tracks_history}
+use Rattle.line_model.specs.Histories.{History, must_history}
+use Rattle.simulator.specs.Tracks.{pair_of, tracks_history}
 
 -- whether a signal is on at a tick
 abbrev pub is_on : SentKeys Level → ℕ → Bool

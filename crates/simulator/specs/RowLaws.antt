@@ -1,14 +1,14 @@
 -- Texts that grow row by row.
-use Rattle.std.proofs.Common.{◌≡◌, ℕ, zero, suc, ◌+◌, ◌<◌, ◌≤◌, Bool, List, [], ◌∷◌, ◌++◌, length}
+use Rattle.std.proofs.Common.{[], ◌≡◌, ℕ, zero, suc, ◌+◌, ◌<◌, ◌≤◌, Bool, List, ◌∷◌, ◌++◌, length}
 use Rattle.std.proofs.Common.{get_or, take, map, refl, ◌∙◌, ap, arith, append_assoc}
 use Rattle.std.proofs.lemmas.List.{append-nil, map_more}
 use Rattle.std.proofs.lemmas.List.Folds.{concat-append}
 use Rattle.std.specs.List.{concat}
 use Rattle.std.specs.Prelude.{codes}
-use Rattle.line_model.specs.declared.line.Line.{Line}
-use Rattle.line_model.specs.{Parameters.terminal_count, Histories.History, Histories.IsSameHistory}
+use Rattle.line_model.specs.{declared.line.Line.Line, Parameters.terminal_count, Histories.History}
+use Rattle.line_model.specs.{Histories.IsSameHistory, NamesByNumber.terminal_name}
 use Rattle.simulator.specs.PlayRows.{change_row, value_before, signal_row, each_below}
-use Rattle.simulator.specs.PlayRows.{terminal_name, terminal_rows, tick_rows, run_rows}
+use Rattle.simulator.specs.PlayRows.{terminal_rows, tick_rows, run_rows}
 
 -- the text of the first pieces, and of one more
 pub one_piece_more : {X : Type 0} (f : X → List ℕ) (xs : List X) (i : ℕ) (d : X) → i < length xs

@@ -1,12 +1,12 @@
 -- What a run is: in each lane the interval history over the lane's box, gate by gate.
 use Rattle.std.specs.Prelude.{◌≡◌, ◌<◌, ℕ, List, length}
 use Rattle.history.specs.Rails.{Rails, Ends, Covers, single}
-use Rattle.line_model.specs.declared.line.Line.{Line}
 use Rattle.line_model.specs.Parameters.{param_count, channel_count}
 use Rattle.line_model.specs.Choice.{Choice, Box, IsWithin, LeastFromOne, world_of, pair_world_of}
 use Rattle.line_model.specs.Histories.{History, IsLineHistory, PairHistory, IsPairHistory}
 use Rattle.line_model.specs.Histories.{IsSamePairHistory, IsBothRails, CoversHistory}
-use Rattle.line_model.specs.{declared.script.Script.Script, Mean.mean, PairMean.pair_mean}
+use Rattle.line_model.specs.declared.script.Script.{Script}
+use Rattle.line_model.specs.{declared.line.Line.Line, Mean.mean, PairMean.pair_mean}
 use Rattle.gate_net.specs.{NetOf.NetOf, Formulas.formula_of}
 use Rattle.timing_box.specs.declared.step.Step.{Step}
 use Rattle.simulator.specs.LaneBox.{lane_box}
@@ -57,10 +57,6 @@ pub record IsPoint (line : Line) (box : Box) (choice : Choice) : Type 0 where
   pub numbers : (i : ℕ) → i < param_count line → box.ends i ≡ single (choice.number i)
   pub delays : (c t : ℕ) → c < channel_count line → t < line.horizon
       → box.delay c t ≡ single (choice.delay c t)
-
--- the must rails of an interval history
-abbrev pub must_history : PairHistory → History
-must_history w = record { key = λ k t. (w.key k t).must; trip = λ k t. (w.trip k t).must }
 
 -- w is, on both rails, the history at the choice
 pub record IsExactAt (line : Line) (script : Script) (choice : Choice) (w : PairHistory)

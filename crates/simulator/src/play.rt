@@ -3,11 +3,11 @@
 ghost use Rattle.std.specs.Prelude.{◌≡◌, ℕ, ◌<◌, ◌≤◌, ◌++◌, length, slice_get, codes, OnOk, IfOk};
 ghost use Rattle.tick_signal.specs.declared.level.Level.{Level};
 ghost use Rattle.channel.specs.SentKeys.{SentKeys};
-ghost use Rattle.line_model.specs.Parameters.{terminal_count};
 ghost use Rattle.line_model.specs.Histories.{History, IsLineHistory};
+ghost use Rattle.line_model.specs.{Parameters.terminal_count, NamesByNumber.terminal_name};
 ghost use Rattle.gate_net.specs.NetOf.{IsNetOf};
 ghost use Rattle.timing_box.specs.{Inside.IsTimingInside, Choice.timing_choice};
-ghost use Rattle.simulator.specs.PlayRows.{terminal_name, signal_row, tick_rows, run_rows};
+ghost use Rattle.simulator.specs.PlayRows.{signal_row, tick_rows, run_rows};
 ghost use Rattle.simulator.specs.Ticks.{AreSent};
 ghost use Rattle.simulator.specs.PlayedTracks.{is_on, played, StaysOn};
 

@@ -1,10 +1,8 @@
 -- The variables of a value change dump (IEEE 1364): one for each gate, and one more for each
 -- terminal's key and trip.
-use Rattle.std.specs.Prelude.{◌++◌, ◌+◌, ◌/◌, ◌%◌, ◌==◌, ℕ, Bool, true, false, List, [], ◌∷◌}
+use Rattle.std.specs.Prelude.{[], ◌++◌, ◌+◌, ◌/◌, ◌%◌, ◌==◌, ℕ, Bool, true, false, List, ◌∷◌}
 use Rattle.std.specs.Prelude.{Option, Some, None, codes, decimal, length, slice_get}
-use Rattle.line_model.specs.declared.script.Element.{Element}
-use Rattle.line_model.specs.declared.script.Element.TheVariants.{Z1, Z2, Rv, Uv, Cur}
-use Rattle.line_model.specs.Channels.{from_of, to_of}
+use Rattle.line_model.specs.{Channels.from_of, Channels.to_of, NamesByNumber.element_text}
 use Rattle.line_model.specs.{declared.line.Line.Line, ParamNames.name_at, Parameters.terminal_count}
 use Rattle.gate_net.specs.declared.gate.Gate.{Gate}
 use Rattle.gate_net.specs.declared.gate.Gate.TheVariants as gate
@@ -19,13 +17,6 @@ unfoldable pub code_of : ℕ → List ℕ
 code_of i = (33 + i / 94) ∷ ((33 + i % 94) ∷ [])
 
 -- ---- names
-
-abbrev pub element_text : Element → List ℕ
-element_text Z1 = codes "z1"
-element_text Z2 = codes "z2"
-element_text Rv = codes "rv"
-element_text Uv = codes "uv"
-element_text Cur = codes "cur"
 
 abbrev pub kind_text : Gate → List ℕ
 kind_text (gate.Const v) = codes "const"

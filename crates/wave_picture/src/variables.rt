@@ -1,18 +1,18 @@
 //! The variables of a value change dump.
 
-ghost use Rattle.std.specs.Prelude.{◌≡◌, ◌<◌, ◌++◌, length, codes, OnOk};
+ghost use Rattle.std.specs.Prelude.{◌≡◌, ◌<◌, ◌++◌, length, OnOk};
 ghost use Rattle.line_model.specs.{ParamNames.name_at, Parameters.terminal_count};
 ghost use Rattle.gate_net.specs.NetOf.{IsNetOf};
 ghost use Rattle.simulator.specs.PlayRows.{each_below};
-ghost use Rattle.wave_picture.specs.Variables.{code_of, element_text, kind_text, channel_text};
-ghost use Rattle.wave_picture.specs.Variables.{role_text, step_text, variable_head, variable_text};
-ghost use Rattle.wave_picture.specs.Variables.{is_same_home, variable_in, variables_in, scope_text};
+ghost use Rattle.wave_picture.specs.Variables.{code_of, kind_text, channel_text, role_text};
+ghost use Rattle.wave_picture.specs.Variables.{step_text, variable_head, variable_text};
+ghost use Rattle.wave_picture.specs.Variables.{is_same_home, variable_in, variables_in};
 ghost use Rattle.wave_picture.specs.Variables.{terminal_scope, declarations};
 
 use crate::put::{put, put_number};
 use crate::roles::{Role, gate_role, home, receiver, sender};
 use gate_net::{Gate, GateId, Net};
-use line_model::{Element, Line, Memory};
+use line_model::{Line, Memory, element_word};
 
 /// Appends all declarations.
 #[tactic(auto, unfolding(crate::specs::Variables::declarations))]
@@ -207,18 +207,6 @@ fn put_name(text: &mut Vec<u8>, line: &Line, k: u32) -> Result<(), Memory>
         put(text, line.terminals[k as usize].name.bytes())
     } else {
         Ok(())
-    }
-}
-
-fn element_word(element: Element) -> &'static [u8]
-    ensures { result.now ≡ element_text element }
-{
-    match element {
-        Element::Z1 => b"z1",
-        Element::Z2 => b"z2",
-        Element::Rv => b"rv",
-        Element::Uv => b"uv",
-        Element::Cur => b"cur",
     }
 }
 

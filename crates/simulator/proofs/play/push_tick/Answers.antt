@@ -1,10 +1,9 @@
-use Rattle.std.proofs.Common.{◌≡◌, ◌<◌, ◌++◌, ℕ, Bool, Some, length, refl, sym, ◌∙◌, ap, arith}
+use Rattle.std.proofs.Common.{◌≡◌, ◌<◌, ◌++◌, ℕ, Bool, Some, refl, sym, ◌∙◌, ap, arith}
 use Rattle.std.proofs.lemmas.Option.{slice_get_read}
 use Rattle.std.specs.Prelude.{slice_get, codes}
-use Rattle.line_model.specs.Parameters.{terminal_count}
-use Rattle.simulator.specs.PlayRows.{terminal_name, signal_row, terminal_rows}
-use Rattle.simulator.specs.RowLaws.{texts_more}
+use Rattle.line_model.specs.{Parameters.terminal_count, NamesByNumber.terminal_name}
 use Rattle.simulator.specs.PlayedTracks.{is_on, is_shown, shown_is, played}
+use Rattle.simulator.specs.{PlayRows.signal_row, PlayRows.terminal_rows, RowLaws.texts_more}
 use Rattle.simulator.proofs.TrackRows.{all_ticks}
 use Rattle.simulator.proofs.play.push_tick.Goals as goal
 
