@@ -13,7 +13,6 @@ use tick_signal::Signal;
 
 mod lanes;
 mod level;
-mod memory;
 mod same;
 mod tern;
 mod track;

@@ -9,8 +9,8 @@ ghost use Rattle.channel.specs.SentKeys.{SentKeys};
 ghost use Rattle.channel.specs.Tracks.{IsLast, IsNextAfter, StaysUntil, AreAscending};
 
 use crate::Carried;
-use crate::memory::Memory;
 use crate::same::is_same;
+use memory::Memory;
 use std::alloc::Global;
 use std::marker::Model;
 use tick_signal::Signal;

@@ -5,7 +5,6 @@
 #![tactic(auto)]
 
 mod fields;
-mod memory;
 mod read;
 mod reader;
 mod rows;

@@ -4,8 +4,8 @@ ghost use Rattle.std.specs.Prelude.{◌≡◌, IfOk, true};
 ghost use Rattle.csv.specs.{Reading.stops_reader, Records.fields_of};
 ghost use Rattle.csv_records.specs.{Records.records_of, Left.IsReading, Left.NextRow, Left.left_of};
 
-use crate::memory::Memory;
 use csv::{ByteRecord, ErrorKind, Reader, ReaderBuilder};
+use memory::Memory;
 use std::alloc::Global;
 
 /// Before the first record of the bytes.

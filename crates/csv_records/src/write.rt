@@ -3,8 +3,8 @@
 ghost use Rattle.std.specs.Prelude.{◌≡◌, ◌++◌, IfOk, OnOk, map};
 ghost use Rattle.csv.specs.Writing.{row_text, default_writer};
 
-use crate::memory::Memory;
 use csv::WriterBuilder;
+use memory::Memory;
 use std::alloc::Global;
 
 /// Appends a record of these fields, as a CSV writer with the default settings writes it.

@@ -128,5 +128,5 @@ fn push_record<'a>(
     ensures { OnOk result (text.new.items ≡ text.old.items ++ row_text default_writer
         (name.now ∷ item.now ∷ place.now ∷ from.now ∷ to.now ∷ [])) }
 {
-    csv_records::push_record(alloc, text, &[name, item, place, from, to]).map_err(|_| Memory)
+    csv_records::push_record(alloc, text, &[name, item, place, from, to])
 }

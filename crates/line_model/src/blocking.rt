@@ -9,9 +9,9 @@ use crate::build::{and, not, timer};
 use crate::elements::{reverse, zone2};
 use crate::formula::{Formula, Time};
 use crate::line::{Line, Setting};
-use crate::memory::Memory;
 use crate::permissive::terminal_setting;
 use crate::received::any_received;
+use memory::Memory;
 use std::alloc::Global;
 
 #[tactic(auto, unfolding(crate::specs::Logic::blocking_key))]

@@ -4,7 +4,7 @@ ghost use Rattle.std.specs.Prelude.{◌≡◌, IfOk};
 ghost use Rattle.line_model.specs.Tree.{tree_of, Not, And, Or, Timer, Seal};
 
 use crate::formula::{Formula, Time};
-use crate::memory::Memory;
+use memory::Memory;
 use std::alloc::Global;
 
 pub fn not(alloc: Global, x: Formula) -> Result<Formula, Memory>

@@ -5,7 +5,7 @@ ghost use Rattle.line_model.specs.Parameters.{param_count};
 ghost use Rattle.line_model.specs.{SetBounds.IsDelayAt, WithBounds.IsWithBounds, SameLine.SameLine};
 
 use crate::line::Line;
-use crate::memory::Memory;
+use memory::Memory;
 use std::alloc::Global;
 
 impl Line {

@@ -12,8 +12,8 @@ ghost use Rattle.line_model.specs.Elements.{current as current_tree};
 use crate::build::timer;
 use crate::formula::{Formula, Time};
 use crate::line::{Line, Owner, Setting};
-use crate::memory::Memory;
 use crate::script::{Element, Place};
+use memory::Memory;
 use std::alloc::Global;
 
 /// Whether the terminal is guarded against current reversal.

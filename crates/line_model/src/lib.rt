@@ -16,7 +16,6 @@ mod logic;
 mod lookup;
 mod make;
 pub mod mean;
-mod memory;
 mod name;
 pub mod name_laws;
 mod names;

@@ -9,9 +9,9 @@ use crate::build::{or, seal};
 use crate::elements::{current, zone1};
 use crate::formula::Formula;
 use crate::line::{Channel, Line, Scheme};
-use crate::memory::Memory;
 use crate::permissive::{permissive_key, permissive_pilot};
 use crate::transfer::{transfer_pilot, underreach_pilot};
+use memory::Memory;
 use std::alloc::Global;
 
 /// The formula of what a terminal sends.

@@ -6,10 +6,10 @@ ghost use Rattle.line_model.specs.Making.{MakesLine, IsMadeOf};
 use crate::bounds::{Bounds, are_bounds};
 use crate::channels::are_channels;
 use crate::line::{Channel, Line, Scheme, Terminal};
-use crate::memory::Memory;
 use crate::param_names::param_names;
 use crate::params::params_of;
 use crate::terminals::are_terminals;
+use memory::Memory;
 use std::alloc::Global;
 
 impl Line {

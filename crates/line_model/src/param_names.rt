@@ -8,9 +8,9 @@ ghost use Rattle.line_model.specs.ParamNames.{channel_names};
 ghost use Rattle.line_model.specs.{Terminals.are_plain_names, Channels.AreChannels};
 
 use crate::line::{Channel, Scheme, Setting, Terminal};
-use crate::memory::Memory;
 use crate::name::Name;
 use crate::settings::{settings_of_channel, settings_of_terminal};
+use memory::Memory;
 use std::alloc::Global;
 
 /// The name of each parameter.

@@ -5,8 +5,8 @@ ghost use Rattle.line_model.specs.Making.{AreParams};
 
 use crate::bounds::Bounds;
 use crate::line::Param;
-use crate::memory::Memory;
 use crate::name::Name;
+use memory::Memory;
 use std::alloc::Global;
 
 /// The parameters of these names, each with the interval at its place.

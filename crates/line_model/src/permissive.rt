@@ -18,9 +18,9 @@ use crate::elements::{
 };
 use crate::formula::{Formula, Time};
 use crate::line::{Line, Owner, Scheme, Setting};
-use crate::memory::Memory;
 use crate::received::all_received;
 use crate::unblocking::all_open;
+use memory::Memory;
 use std::alloc::Global;
 
 #[tactic(auto, unfolding(crate::specs::Permissive::permission))]

@@ -11,7 +11,7 @@ use crate::build::{and, not, or};
 use crate::channels::find_channel;
 use crate::formula::Formula;
 use crate::line::Line;
-use crate::memory::Memory;
+use memory::Memory;
 use std::alloc::Global;
 
 // The number of the channel to terminal `k` from terminal `j`; 0 if there is none.

@@ -5,7 +5,7 @@ ghost use Rattle.line_model.specs.Settings.{terminal_settings, channel_settings}
 ghost use Rattle.line_model.specs.ParamNames.{setting_text};
 
 use crate::line::{Scheme, Setting, Terminal};
-use crate::memory::Memory;
+use memory::Memory;
 use std::alloc::Global;
 
 impl Setting {

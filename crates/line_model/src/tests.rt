@@ -3,11 +3,11 @@
 use crate::bounds::Bounds;
 use crate::line::{Channel, Line, Owner, Scheme, Setting, Terminal};
 use crate::make::makes_line;
-use crate::memory::Memory;
 use crate::name::{Name, is_plain};
 use crate::script::{Element, Kind, Place, Script, SeenSpan, What, loss, seen};
 use crate::script_fits::fits;
 use crate::setting_places::param_count;
+use memory::Memory;
 use std::alloc::Global;
 use std::process::Abort;
 use std::test::Fail;

@@ -9,9 +9,9 @@ use crate::build::{and, timer};
 use crate::elements::zone2;
 use crate::formula::{Formula, Time};
 use crate::line::{Line, Setting};
-use crate::memory::Memory;
 use crate::permissive::terminal_setting;
 use crate::received::any_received;
+use memory::Memory;
 use std::alloc::Global;
 
 #[tactic(auto, unfolding(crate::specs::Logic::underreach_pilot))]

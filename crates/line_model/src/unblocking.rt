@@ -13,8 +13,8 @@ use crate::build::{and, not, or, seal, timer};
 use crate::elements::time_of;
 use crate::formula::{Formula, Time};
 use crate::line::{Line, Owner, Setting};
-use crate::memory::Memory;
 use crate::received::{channel_to, received};
+use memory::Memory;
 use std::alloc::Global;
 
 // A setting of the channel to terminal `k` from terminal `j`.

@@ -3,7 +3,6 @@
 
 mod bound;
 mod file_store;
-mod memory;
 mod memory_sink;
 mod memory_store;
 mod numbers;

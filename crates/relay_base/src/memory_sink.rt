@@ -8,8 +8,8 @@ ghost use Rattle.relay_base.specs.MemorySink.{SinkState, empty_sink, PushFails, 
 ghost use Rattle.relay_base.specs.MemorySink.{push_count, after_push, after_fault};
 
 use crate::bound::at_most;
-use crate::memory::Memory;
 use crate::sink::{Sink, SinkFailed};
+use memory::Memory;
 use std::alloc::Global;
 use std::marker::Model;
 

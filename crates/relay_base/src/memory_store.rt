@@ -10,8 +10,8 @@ ghost use Rattle.relay_base.specs.Store.{IsPiece, SameCounts, NoneFell};
 ghost use Rattle.relay_base.specs.{Bound.at_most, Files.files_of};
 
 use crate::bound::at_most;
-use crate::memory::Memory;
 use crate::store::{Store, StoreFailed};
+use memory::Memory;
 use std::alloc::Global;
 use std::collections::BTreeMap;
 use std::marker::Model;

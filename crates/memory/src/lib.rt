@@ -1,17 +1,20 @@
-//! Want of memory.
+//! The one answer of a call for which memory ran out.
+#![tactic(auto)]
 
 ghost use Rattle.std.specs.Prelude.{◌≡◌};
 
 use std::alloc::{AllocError, AllocFailed};
+use thiserror::Error;
 
 /// Memory ran out. Nothing else is answered by it.
-#[derive(Clone, Copy, PartialEq, Eq, Debug)]
+#[derive(Clone, Copy, Debug, PartialEq, Eq, Error)]
+#[error("out of memory")]
 pub struct Memory;
 
 impl From<AllocError> for Memory {
     ghost from_gives = { λ _ m. m ≡ record {} };
 
-    fn from(_failed: AllocError) -> Memory {
+    fn from(_failed: AllocError) -> Self {
         Memory
     }
 }
@@ -19,7 +22,7 @@ impl From<AllocError> for Memory {
 impl<T: Drop> From<AllocFailed<T>> for Memory {
     ghost from_gives = { λ _ m. m ≡ record {} };
 
-    fn from(_failed: AllocFailed<T>) -> Memory {
+    fn from(_failed: AllocFailed<T>) -> Self {
         Memory
     }
 }

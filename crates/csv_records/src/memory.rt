@@ -1,5 +1,0 @@
-//! Want of memory.
-
-/// Memory ran out.
-#[derive(Clone, Copy, Debug, PartialEq, Eq)]
-pub struct Memory;
