@@ -2,6 +2,7 @@
 use Rattle.std.specs.Prelude.{[], ◌∷◌, ◌++◌, ℕ, zero, suc, Bool, true, false, List, codes, decimal}
 use Rattle.std.specs.List.{concat}
 use Rattle.line_model.specs.{declared.line.Line.Line, Parameters.terminal_count, Histories.History}
+use Rattle.line_model.specs.NamesByNumber.{terminal_name}
 
 abbrev pub level_word : Bool → List ℕ
 level_word true = codes "1"

@@ -7,6 +7,7 @@ use Rattle.line_model.specs.Histories.{History, IsLineHistory, PairHistory, IsPa
 use Rattle.line_model.specs.Histories.{IsSamePairHistory, IsBothRails, CoversHistory}
 use Rattle.line_model.specs.declared.script.Script.{Script}
 use Rattle.line_model.specs.{declared.line.Line.Line, Mean.mean, PairMean.pair_mean}
+use Rattle.line_model.specs.Histories.{must_history}
 use Rattle.gate_net.specs.{NetOf.NetOf, Formulas.formula_of}
 use Rattle.timing_box.specs.declared.step.Step.{Step}
 use Rattle.simulator.specs.LaneBox.{lane_box}

@@ -32,8 +32,8 @@ returns-in-Element c =
     let there : exists_in line (what.Element c.in-Element.place) ≡ true =
     ap (exists_in line) (sym c.in-Element.is) ∙ c.requires in
     let below = ltb-true c.in-Element.place.terminal (length line.terminals.items) there in
-    let item : item_text c.args.span.what ≡ c.element_name-item.result.now =
-    ap item_text c.in-Element.is ∙ sym c.element_name-item.ensures in
+    let item : item_text c.args.span.what ≡ c.element_word-item.result.now =
+    ap item_text c.in-Element.is ∙ sym c.element_word-item.ensures in
     let place : place_text line c.args.span.what ≡ c.bytes.result.now =
     ap (place_text line) c.in-Element.is
     ∙ name_of-got line.terminals.items c.in-Element.place.terminal c.index-terminal.result.now
