@@ -1,1 +1,2 @@
 pub mod CursorLaws
+mod WholeLaws

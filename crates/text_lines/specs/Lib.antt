@@ -4,4 +4,6 @@ pub mod LineLaws
 pub mod NamedLaws
 pub mod Reading
 pub mod OneReading
+pub mod Grammar
+pub mod ReadLaws
 pub mod AnswerLaws

@@ -1,8 +1,12 @@
 //! A text, line by line.
 
-ghost use Rattle.std.specs.Prelude.{◌≡◌, ◌≤◌, ◌<◌, ◌+◌, ◌^◌, List, ℕ, length, MatchOption};
+ghost use Rattle.std.specs.Prelude.{◌≡◌, ◌≤◌, ◌<◌, ◌+◌, ◌++◌, ◌^◌, List, ℕ, length, MatchOption};
+ghost use Rattle.std.specs.Prelude.{MatchResult};
 ghost use Rattle.std.specs.List.{position_or_len};
 ghost use Rattle.text_lines.specs.Lines.{BeginsWith, is_feed};
+
+use crate::fault::TextFault;
+use crate::start::is_named;
 
 /// What is left of a text of lines, and the number of the line that comes next. Lines are counted
 /// from 1 and end with a line feed.
@@ -42,6 +46,36 @@ impl<'a> LineCursor<'a> {
         self.rest = &self.rest[end + 1..];
         self.number += 1;
         Some(line)
+    }
+
+    /// Takes the next line, which is to be this text.
+    pub fn take(&mut self, text: &[u8]) -> Result<(), TextFault>
+        ensures { MatchResult result
+            (λ _. BeginsWith self.old.rest.now text.now self.new.rest.now
+            × (self.new.number ≡ self.old.number + 1))
+            (λ fault. (fault ≡ TextFault.Line self.old.number)
+            × ((rest : List ℕ) → ¬ BeginsWith self.old.rest.now text.now rest)) }
+    {
+        self.take_named(b"", text)
+    }
+
+    /// Takes the next line, which is to be the start and then the name.
+    pub fn take_named(&mut self, start: &[u8], name: &[u8]) -> Result<(), TextFault>
+        ensures { MatchResult result
+            (λ _. BeginsWith self.old.rest.now (start.now ++ name.now) self.new.rest.now
+            × (self.new.number ≡ self.old.number + 1))
+            (λ fault. (fault ≡ TextFault.Line self.old.number)
+            × ((rest : List ℕ) → ¬ BeginsWith self.old.rest.now (start.now ++ name.now) rest)) }
+    {
+        let number = self.number;
+        let Some(line) = self.next_line() else {
+            return Err(TextFault::Line(number));
+        };
+        if is_named(line, start, name) {
+            Ok(())
+        } else {
+            Err(TextFault::Line(number))
+        }
     }
 }
 

@@ -7,7 +7,13 @@
 #![tactic(auto)]
 
 mod cursor;
+mod fault;
+mod part;
 mod start;
+mod whole;
 
 pub use cursor::LineCursor;
+pub use fault::TextFault;
+pub use part::{PartReader, read_each};
 pub use start::{after, after_name, is};
+pub use whole::{TextReader, read_text};

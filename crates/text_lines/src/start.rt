@@ -20,6 +20,16 @@ pub fn is(bytes: &[u8], text: &[u8]) -> bool
     bytes == text
 }
 
+/// Whether it is the start and then the name.
+pub(crate) fn is_named(bytes: &[u8], start: &[u8], name: &[u8]) -> bool
+    ensures { Decides result (bytes.now ≡ start.now ++ name.now) }
+{
+    match after(bytes, start) {
+        Some(rest) => is(rest, name),
+        None => false,
+    }
+}
+
 /// What follows the word and the name, each with its space, if the text begins with them.
 pub fn after_name<'a>(text: &'a [u8], word: &[u8], name: &[u8]) -> Option<&'a [u8]>
     ensures { MatchOption result

@@ -1,0 +1,113 @@
+-- Laws of lines that are read where more are expected after them, and of their faults.
+use Rattle.std.proofs.Common.{◌≡◌, ℕ, ◌+◌, ◌<◌, List, [], ◌∷◌, ◌++◌, ◌∙◌, length, drop, get_or, map}
+use Rattle.std.proofs.Common.{refl, sym, ap, subst}
+use Rattle.std.proofs.lemmas.List.Concat.{flat_map_single}
+use Rattle.std.specs.List.{flat_map}
+use Rattle.text_lines.specs.declared.fault.TextFault.{TextFault}
+use Rattle.text_lines.specs.declared.fault.TextFault.TheVariants as fault
+use Rattle.text_lines.specs.Lines.{BeginsWith, Goes}
+use Rattle.text_lines.specs.Grammar.{Grammar, Reads, IsFault}
+use Rattle.text_lines.specs.LineLaws.{goes_one, goes_then, leaves_later, leaves_here}
+use Rattle.text_lines.specs.Reading.{left_as, next_places}
+
+module _ {K M : Type 0} (g : Grammar K M) where
+  -- a fault after some lines
+  pub later_fault : (places : List K) (said : List M) (text : List ℕ) (a : ℕ) (mid : List K)
+      (at : List ℕ) (b : ℕ) (f : TextFault) → Goes g.stands g.opens places said text a mid at b
+      → IsFault g mid at b f → IsFault g places text a f
+  later_fault places said text a mid at b (fault.Line n) goes is =
+      leaves_later g.stands g.opens places said text a mid at b n goes is
+  later_fault places said text a mid at b fault.Memory goes is = tt
+
+  -- a fault from the start of a text on
+  pub fault_from : (places : List K) (text bytes : List ℕ) (a b : ℕ) (f : TextFault)
+      → text ≡ bytes → a ≡ b → IsFault g places text a f
+      → IsFault g places bytes b f
+  fault_from places text bytes a b f same first is =
+      let P : List ℕ → Type 0 = λ t. IsFault g places t a f in
+      let Q : ℕ → Type 0 = λ n. IsFault g places bytes n f in
+      subst Q first (subst P same is)
+
+  -- the line of one text was taken
+  pub taken : (line : List ℕ) (later : List K) (text rest : List ℕ) (a b : ℕ)
+      → BeginsWith text line rest → b ≡ a + 1
+      → Goes g.stands g.opens (g.fixed line ∷ later) (g.nothing ∷ []) text a later rest b
+  taken line later text rest a b begins next =
+      left_as g.stands g.opens (g.fixed line ∷ later) (g.nothing ∷ []) text a
+      (g.opens (g.fixed line) g.nothing ++ later) later rest b
+      (ap (λ l. l ++ later) (g.opens_none line))
+      (goes_one g.stands g.opens (g.fixed line) later g.nothing text line rest a b begins
+      (g.there line) next)
+
+  -- it was not there
+  pub not_taken : (line : List ℕ) (later : List K) (text : List ℕ) (a : ℕ) (f : TextFault)
+      → f ≡ fault.Line a → ((rest : List ℕ) → ¬ (BeginsWith text line rest))
+      → IsFault g (g.fixed line ∷ later) text a f
+  not_taken line later text a f is never =
+      let P : TextFault → Type 0 = λ f. IsFault g (g.fixed line ∷ later) text a f in
+      subst P (sym is) (leaves_here g.stands g.opens (g.fixed line ∷ later) text a
+      (λ m other rest begins stood.
+      let Q : List ℕ → Type 0 = λ l. BeginsWith text l rest in
+      never rest (subst Q (g.alone line other m stood) begins)))
+
+  -- ---- lines of each of several
+
+  module _ {X : Type 0} (of : X → List K) (xs : List X) (k : ℕ) (x : X) (inside : k < length xs)
+      (is : x ≡ get_or xs k x) where
+    at_next : (later : List K) → flat_map of (drop k xs) ++ later
+        ≡ of x ++ (flat_map of (drop (k + 1) xs) ++ later)
+    at_next later =
+        next_places of xs k x later inside
+        ∙ ap (λ y. of y ++ (flat_map of (drop (k + 1) xs) ++ later)) (sym is)
+
+    -- a fault in the lines of the next
+    pub fault_there : (places later : List K) (said : List M) (text : List ℕ) (a : ℕ)
+        (at : List ℕ) (b : ℕ) (f : TextFault)
+        → Goes g.stands g.opens places said text a (flat_map of (drop k xs) ++ later) at b
+        → IsFault g (of x ++ (flat_map of (drop (k + 1) xs) ++ later)) at b f
+        → IsFault g places text a f
+    fault_there places later said text a at b f before fails =
+        let P : List K → Type 0 = λ l. IsFault g l at b f in
+        later_fault places said text a (flat_map of (drop k xs) ++ later) at b f before
+        (subst P (sym (at_next later)) fails)
+
+    -- the lines of one more
+    pub one_stretch : (places later : List K) (said more : List M) (text : List ℕ) (a : ℕ)
+        (at : List ℕ) (b : ℕ) (rest : List ℕ) (c : ℕ)
+        → Goes g.stands g.opens places said text a (flat_map of (drop k xs) ++ later) at b
+        → Goes g.stands g.opens (of x ++ (flat_map of (drop (k + 1) xs) ++ later)) more
+        at b (flat_map of (drop (k + 1) xs) ++ later) rest c
+        → Goes g.stands g.opens places (said ++ more) text a
+        (flat_map of (drop (k + 1) xs) ++ later) rest c
+    one_stretch places later said more text a at b rest c before next =
+        goes_then g.stands g.opens places said text a
+        (of x ++ (flat_map of (drop (k + 1) xs) ++ later)) at b more
+        (flat_map of (drop (k + 1) xs) ++ later) rest c
+        (left_as g.stands g.opens places said text a (flat_map of (drop k xs) ++ later)
+        (of x ++ (flat_map of (drop (k + 1) xs) ++ later)) at b (at_next later) before) next
+
+  -- ---- one line for each of several
+
+  module _ {X Y : Type 0} (place : Y → K) (name : X → Y) (xs : List X) where
+    each_place : (ys : List X)
+        → flat_map (λ y. place (name y) ∷ []) ys ≡ map place (map name ys)
+    each_place [] = refl
+    each_place (y ∷ ys) = ap (λ l. place (name y) ∷ l) (each_place ys)
+
+    pub each_line : {V : Type 0} (says : V → M) (vs : List V) (later : List K) (text : List ℕ) (a : ℕ)
+        (rest : List ℕ) (b : ℕ)
+        → Reads g (flat_map (λ x. place (name x) ∷ []) xs) (flat_map (λ v. says v ∷ []) vs) later
+        text a rest b
+        → Reads g (map place (map name xs)) (map says vs) later text a rest b
+    each_line says vs later text a rest b read =
+        let P : List K → Type 0 = λ places. Reads g places (map says vs) later text a rest b in
+        let Q : List M → Type 0 = λ said. Reads g (flat_map (λ x. place (name x) ∷ []) xs) said
+        later text a rest b in
+        subst P (each_place xs) (subst Q (flat_map_single says vs) read)
+
+    pub each_fault : (later : List K) (text : List ℕ) (a : ℕ) (f : TextFault)
+        → IsFault g (flat_map (λ x. place (name x) ∷ []) xs ++ later) text a f
+        → IsFault g (map place (map name xs) ++ later) text a f
+    each_fault later text a f fails =
+        let P : List K → Type 0 = λ places. IsFault g (places ++ later) text a f in
+        subst P (each_place xs) fails
