@@ -10,9 +10,9 @@ use Rattle.std.proofs.lemmas.Slice.Eq.{bytes_eq-Decides}
 use Rattle.std.specs.Str.{bytes_eq}
 use Rattle.std.specs.List.{list_any, position_from}
 use Rattle.toml.specs.{Data.string, Data.table, Data.Members, Data.get_member, View.items_of}
-use Rattle.line_model.specs.declared.line.Line.{Line}
 use Rattle.line_model.specs.declared.line.Scheme.TheVariants.{Pott, Putt, Dcb, Dcub, Dtt}
-use Rattle.line_model.specs.{declared.line.Scheme.Scheme, declared.line.Terminal.Terminal}
+use Rattle.line_model.specs.declared.line.Scheme.{Scheme}
+use Rattle.line_model.specs.{declared.line.Line.Line, declared.line.Terminal.Terminal}
 use Rattle.line_model.specs.{declared.line.Channel.Channel, declared.line.Owner.Owner}
 use Rattle.line_model.specs.declared.line.Owner.TheVariants as owner
 use Rattle.line_model.specs.declared.line.Setting.TheVariants.{Delay, UnblockPickup, UnblockWindow}
@@ -22,21 +22,19 @@ use Rattle.line_model.specs.FirstPositions.{is_some-position, position_from-firs
 use Rattle.line_model.specs.{declared.line.Setting.Setting, Channels.is_pair, Channels.from_of}
 use Rattle.line_model.specs.{Channels.to_of, ParamNames.name_at, Places.channel_place}
 use Rattle.line_model.specs.{Intervals.leasts, Intervals.delay_number_of, Laws.LineLaws}
-use Rattle.line_file.specs.Paths.{joined, item_path}
-use Rattle.line_file.specs.Times.{time_at, required_times}
 use Rattle.line_file.specs.LineFiles.{two_pairs, three_pairs, pairs_of, all_joined, whole}
 use Rattle.line_file.specs.ChannelTables.{channel_keys, terminal_called, from_at, to_at, ends_at}
 use Rattle.line_file.specs.ChannelTables.{receiver_times, channel_at, channels_at}
 use Rattle.line_file.specs.Canonical.{put_all, table_of, time_data, times_data, unblock_settings}
 use Rattle.line_file.specs.Canonical.{interval_of, setting_interval, receiver_pairs}
 use Rattle.line_file.specs.Canonical.{channel_members, channels_data}
+use Rattle.line_file.specs.{Paths.joined, Paths.item_path, Times.time_at, Times.required_times}
 use Rattle.line_file.specs.{Keys.all_known, Keys.text_at, Lines.LineValues, Lines.line_values}
-use Rattle.line_file.proofs.Binds.{ok_of}
 use Rattle.line_file.proofs.TimesBack.{time_back, unblock_back}
 use Rattle.line_file.proofs.ParamPlaces.{intervals, length-intervals, take_next, times_at_place}
 use Rattle.line_file.proofs.ParamPlaces.{interval_at}
-use Rattle.line_file.proofs.TerminalCounts.{name_at-is}
-use Rattle.line_file.proofs.{TimeLaws.IsTime, TerminalBack.read_terminals, TerminalBack.new_name}
+use Rattle.line_file.proofs.TerminalBack.{read_terminals, new_name}
+use Rattle.line_file.proofs.{Binds.ok_of, TerminalCounts.name_at-is, TimeLaws.IsTime}
 
 -- the settings of the terminals, and those of each channel
 abbrev pub terminal_count : Line → ℕ

@@ -8,9 +8,8 @@ use Rattle.std.specs.List.{list_any}
 use Rattle.toml.specs.Data.{Data, Members}
 use Rattle.toml.specs.{View.view, View.items_view, declared.value.Value.Value}
 use Rattle.toml.proofs.Views.{items_view-drop}
-use Rattle.line_model.specs.declared.line.Terminal.{Terminal}
 use Rattle.line_model.specs.declared.line.Scheme.TheVariants.{Pott, Putt, Dcb, Dcub, Dtt}
-use Rattle.line_model.specs.Channels.{is_pair}
+use Rattle.line_model.specs.{declared.line.Terminal.Terminal, Channels.is_pair}
 use Rattle.line_model.specs.{declared.line.Channel.Channel, declared.bounds.Bounds.Bounds}
 use Rattle.line_model.specs.{declared.line.Scheme.Scheme, Settings.channel_settings}
 use Rattle.line_model.specs.{Making.least_ends, FirstPositions.position_within}

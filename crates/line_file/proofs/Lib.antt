@@ -12,6 +12,7 @@ pub mod WholePairs
 pub mod LineLaws
 pub mod Puts
 pub mod PlainTexts
+pub mod PairLaws
 pub mod Depths
 pub mod TimesBack
 pub mod TerminalHolds

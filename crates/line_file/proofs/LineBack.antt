@@ -9,10 +9,10 @@ use Rattle.line_model.specs.{declared.line.Line.Line, declared.line.Scheme.Schem
 use Rattle.line_file.specs.Keys.{document_of, all_known, number_at, text_at, array_at}
 use Rattle.line_file.specs.Lines.{LineValues, line_values, scheme_named, scheme_of, zone1_trip_of}
 use Rattle.line_file.specs.Lines.{head_of, two_or_three, terminal_items, channel_items}
-use Rattle.line_file.specs.TerminalTables.{terminals_at}
 use Rattle.line_file.specs.LineFiles.{top_keys, line_in, line_of}
 use Rattle.line_file.specs.Canonical.{terminals_data, channels_data, scheme_text, canonical_in}
-use Rattle.line_file.specs.{Times.units_per_tick, ChannelTables.channels_at}
+use Rattle.line_file.specs.Times.{units_per_tick}
+use Rattle.line_file.specs.{TerminalTables.terminals_at, ChannelTables.channels_at}
 use Rattle.line_file.proofs.Binds.{ok_of}
 use Rattle.line_file.proofs.TerminalBack.{read_terminals, terminals_back}
 use Rattle.line_file.proofs.ChannelBack.{read_channels, channels_back, between_back, whole_back}

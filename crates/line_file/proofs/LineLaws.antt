@@ -13,11 +13,10 @@ use Rattle.std.proofs.lemmas.List.{map-append, length-map}
 use Rattle.std.proofs.lemmas.List.Folds.{list_all-append, list_any_at}
 use Rattle.std.proofs.lemmas.Slice.Eq.{bytes_eq-Decides}
 use Rattle.toml.specs.Data.{Items, no_items, item}
-use Rattle.line_model.specs.declared.bounds.Bounds.{Bounds}
 use Rattle.line_model.specs.declared.line.Scheme.TheVariants.{Pott, Putt, Dcb, Dcub, Dtt}
-use Rattle.line_model.specs.declared.line.Terminal.{Terminal}
 use Rattle.line_model.specs.Settings.{OwnedSetting, owned_by, terminal_settings, channel_settings}
 use Rattle.line_model.specs.Settings.{settings_of_terminals}
+use Rattle.line_model.specs.{declared.bounds.Bounds.Bounds, declared.line.Terminal.Terminal}
 use Rattle.line_model.specs.{declared.line.Scheme.Scheme, declared.line.Param.Param}
 use Rattle.line_model.specs.{declared.line.Line.Line, PlainNames.is_plain_name, Terminals.names_of}
 use Rattle.line_model.specs.{Terminals.are_plain_names, Terminals.NamesDiffer, Terminals.has_flags}

@@ -3,9 +3,9 @@ use Rattle.std.proofs.Common.{◌≡◌, ◌+◌, ◌<◌, ◌≤◌, ◌++◌, 
 use Rattle.std.proofs.Common.{get_or, Option, Some, refl, sym, ap, ◌∙◌, arith, length-append}
 use Rattle.std.proofs.lemmas.List.{take_more, length-map}
 use Rattle.std.specs.Prelude.{option_map, unwrap_or}
-use Rattle.line_model.specs.declared.bounds.Bounds.{Bounds}
 use Rattle.line_model.specs.Settings.{owned_by, terminal_settings, settings_of_terminals}
-use Rattle.line_model.specs.{declared.line.Line.Line, declared.line.Param.Param}
+use Rattle.line_model.specs.declared.line.Line.{Line}
+use Rattle.line_model.specs.{declared.bounds.Bounds.Bounds, declared.line.Param.Param}
 use Rattle.line_model.specs.{declared.line.Scheme.Scheme, declared.line.Terminal.Terminal}
 use Rattle.line_model.specs.{declared.line.Owner.Owner, declared.line.Setting.Setting}
 use Rattle.line_model.specs.{Intervals.leasts, Intervals.greatests, Parameters.param_number}

@@ -1,14 +1,13 @@
 -- What the printed table of a terminal holds under each key.
 use Rattle.std.proofs.Common.{◌≡◌, ◌||◌, ℕ, Bool, true, false, not, List, [], ◌∷◌, Option, Some}
-use Rattle.std.proofs.Common.{None, Ok, refl, codes}
+use Rattle.std.proofs.Common.{None, Ok, refl, ap, codes, map, get_or}
 use Rattle.toml.specs.Data.{Data, string, Members, get_member}
-use Rattle.line_model.specs.declared.line.Line.{Line}
 use Rattle.line_model.specs.declared.line.Scheme.TheVariants.{Pott, Putt, Dcb, Dcub, Dtt}
 use Rattle.line_model.specs.declared.line.Setting.TheVariants.{Z1Pickup, Z1Dropout, Z2Pickup}
 use Rattle.line_model.specs.declared.line.Setting.TheVariants.{Z2Dropout, RvPickup, RvDropout}
 use Rattle.line_model.specs.declared.line.Setting.TheVariants.{UvPickup, UvDropout, ReversalPickup}
 use Rattle.line_model.specs.declared.line.Setting.TheVariants.{ReversalDropout}
-use Rattle.line_model.specs.Terminals.{has_flags}
+use Rattle.line_model.specs.{declared.line.Line.Line, Terminals.has_flags}
 use Rattle.line_model.specs.{declared.line.Scheme.Scheme, declared.line.Owner.Owner}
 use Rattle.line_file.specs.Canonical.{put_all, table_of, times_data, timer_settings, echo_settings}
 use Rattle.line_file.specs.Canonical.{block_settings, transfer_settings, element_pairs, guard_pairs}
@@ -66,160 +65,62 @@ module _ (unit : ℕ) (line : Line) (o : Owner) (name : List ℕ) where
     pub block_is : get_member (codes "block") (members s g w) ≡ block_value s
     pub transfer_is : get_member (codes "transfer") (members s g w) ≡ transfer_value s
 
+  -- what is found under each key
+  abbrev pub keys : List (List ℕ)
+  keys =
+      codes "name" ∷ codes "z1" ∷ codes "z2" ∷ codes "rv" ∷ codes "uv" ∷ codes "reversal"
+      ∷ codes "echo" ∷ codes "block" ∷ codes "transfer" ∷ []
+
+  abbrev pub found : Scheme → Bool → Bool → List (Option Data)
+  found s g w =
+      Some (string name)
+      ∷ Some (times_data unit line o (timer_settings Z1Pickup Z1Dropout))
+      ∷ Some (times_data unit line o (timer_settings Z2Pickup Z2Dropout))
+      ∷ Some (times_data unit line o (timer_settings RvPickup RvDropout))
+      ∷ Some (times_data unit line o (timer_settings UvPickup UvDropout))
+      ∷ guard_value g ∷ weak_value w ∷ block_value s ∷ transfer_value s ∷ []
+
   -- by the scheme and the flags that it lets
+  all_found :
+      (path : List ℕ) (s : Scheme) (g w : Bool) → has_flags s || not (w || g) ≡ true
+      → (all_known path (terminal_keys s) (members s g w) ≡ Ok tt)
+      × (map (λ key. get_member key (members s g w)) keys ≡ found s g w)
+  unfolding all_known
+  all_found path Pott true true h = (refl, refl)
+  all_found path Pott true false h = (refl, refl)
+  all_found path Pott false true h = (refl, refl)
+  all_found path Pott false false h = (refl, refl)
+  all_found path Dcub true true h = (refl, refl)
+  all_found path Dcub true false h = (refl, refl)
+  all_found path Dcub false true h = (refl, refl)
+  all_found path Dcub false false h = (refl, refl)
+  all_found path Putt false false h = (refl, refl)
+  all_found path Putt true true h = absurd (cc)
+  all_found path Putt true false h = absurd (cc)
+  all_found path Putt false true h = absurd (cc)
+  all_found path Dcb false false h = (refl, refl)
+  all_found path Dcb true true h = absurd (cc)
+  all_found path Dcb true false h = absurd (cc)
+  all_found path Dcb false true h = absurd (cc)
+  all_found path Dtt false false h = (refl, refl)
+  all_found path Dtt true true h = absurd (cc)
+  all_found path Dtt true false h = absurd (cc)
+  all_found path Dtt false true h = absurd (cc)
+
   pub holds :
       (path : List ℕ) (s : Scheme) (g w : Bool) → has_flags s || not (w || g) ≡ true
       → Holds path s g w
-  unfolding all_known
-  holds path Pott true true h =
+  holds path s g w h =
+      let all = all_found path s g w h in
       record {
-        known = refl;
-        name_is = refl;
-        z1_is = refl;
-        z2_is = refl;
-        rv_is = refl;
-        uv_is = refl;
-        reversal_is = refl;
-        echo_is = refl;
-        block_is = refl;
-        transfer_is = refl;
+        known = all.0;
+        name_is = ap (λ l. get_or l 0 None) all.1;
+        z1_is = ap (λ l. get_or l 1 None) all.1;
+        z2_is = ap (λ l. get_or l 2 None) all.1;
+        rv_is = ap (λ l. get_or l 3 None) all.1;
+        uv_is = ap (λ l. get_or l 4 None) all.1;
+        reversal_is = ap (λ l. get_or l 5 None) all.1;
+        echo_is = ap (λ l. get_or l 6 None) all.1;
+        block_is = ap (λ l. get_or l 7 None) all.1;
+        transfer_is = ap (λ l. get_or l 8 None) all.1;
       }
-  holds path Pott true false h =
-      record {
-        known = refl;
-        name_is = refl;
-        z1_is = refl;
-        z2_is = refl;
-        rv_is = refl;
-        uv_is = refl;
-        reversal_is = refl;
-        echo_is = refl;
-        block_is = refl;
-        transfer_is = refl;
-      }
-  holds path Pott false true h =
-      record {
-        known = refl;
-        name_is = refl;
-        z1_is = refl;
-        z2_is = refl;
-        rv_is = refl;
-        uv_is = refl;
-        reversal_is = refl;
-        echo_is = refl;
-        block_is = refl;
-        transfer_is = refl;
-      }
-  holds path Pott false false h =
-      record {
-        known = refl;
-        name_is = refl;
-        z1_is = refl;
-        z2_is = refl;
-        rv_is = refl;
-        uv_is = refl;
-        reversal_is = refl;
-        echo_is = refl;
-        block_is = refl;
-        transfer_is = refl;
-      }
-  holds path Dcub true true h =
-      record {
-        known = refl;
-        name_is = refl;
-        z1_is = refl;
-        z2_is = refl;
-        rv_is = refl;
-        uv_is = refl;
-        reversal_is = refl;
-        echo_is = refl;
-        block_is = refl;
-        transfer_is = refl;
-      }
-  holds path Dcub true false h =
-      record {
-        known = refl;
-        name_is = refl;
-        z1_is = refl;
-        z2_is = refl;
-        rv_is = refl;
-        uv_is = refl;
-        reversal_is = refl;
-        echo_is = refl;
-        block_is = refl;
-        transfer_is = refl;
-      }
-  holds path Dcub false true h =
-      record {
-        known = refl;
-        name_is = refl;
-        z1_is = refl;
-        z2_is = refl;
-        rv_is = refl;
-        uv_is = refl;
-        reversal_is = refl;
-        echo_is = refl;
-        block_is = refl;
-        transfer_is = refl;
-      }
-  holds path Dcub false false h =
-      record {
-        known = refl;
-        name_is = refl;
-        z1_is = refl;
-        z2_is = refl;
-        rv_is = refl;
-        uv_is = refl;
-        reversal_is = refl;
-        echo_is = refl;
-        block_is = refl;
-        transfer_is = refl;
-      }
-  holds path Putt false false h =
-      record {
-        known = refl;
-        name_is = refl;
-        z1_is = refl;
-        z2_is = refl;
-        rv_is = refl;
-        uv_is = refl;
-        reversal_is = refl;
-        echo_is = refl;
-        block_is = refl;
-        transfer_is = refl;
-      }
-  holds path Putt true false h = absurd (cc)
-  holds path Putt true true h = absurd (cc)
-  holds path Putt false true h = absurd (cc)
-  holds path Dcb false false h =
-      record {
-        known = refl;
-        name_is = refl;
-        z1_is = refl;
-        z2_is = refl;
-        rv_is = refl;
-        uv_is = refl;
-        reversal_is = refl;
-        echo_is = refl;
-        block_is = refl;
-        transfer_is = refl;
-      }
-  holds path Dcb true false h = absurd (cc)
-  holds path Dcb true true h = absurd (cc)
-  holds path Dcb false true h = absurd (cc)
-  holds path Dtt false false h =
-      record {
-        known = refl;
-        name_is = refl;
-        z1_is = refl;
-        z2_is = refl;
-        rv_is = refl;
-        uv_is = refl;
-        reversal_is = refl;
-        echo_is = refl;
-        block_is = refl;
-        transfer_is = refl;
-      }
-  holds path Dtt true false h = absurd (cc)
-  holds path Dtt true true h = absurd (cc)
-  holds path Dtt false true h = absurd (cc)

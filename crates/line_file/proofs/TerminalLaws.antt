@@ -6,11 +6,11 @@ use Rattle.std.specs.Prelude.{IsTrue, is_some}
 use Rattle.std.specs.Str.{bytes_eq}
 use Rattle.std.specs.List.{list_any}
 use Rattle.toml.specs.Data.{Data, Members, get_member}
-use Rattle.line_model.specs.declared.bounds.Bounds.{Bounds}
 use Rattle.line_model.specs.declared.line.Scheme.TheVariants.{Pott, Putt, Dcb, Dcub, Dtt}
 use Rattle.line_model.specs.Settings.{guard_settings, weak_settings, scheme_settings}
 use Rattle.line_model.specs.Settings.{terminal_settings}
-use Rattle.line_model.specs.{declared.line.Scheme.Scheme, declared.line.Terminal.Terminal}
+use Rattle.line_model.specs.declared.line.Scheme.{Scheme}
+use Rattle.line_model.specs.{declared.bounds.Bounds.Bounds, declared.line.Terminal.Terminal}
 use Rattle.line_model.specs.{PlainNames.is_plain_name, Terminals.has_flags, Terminals.has_no_flag}
 use Rattle.line_file.specs.TerminalTables.{timer_keys, echo_keys, block_keys, transfer_keys}
 use Rattle.line_file.specs.TerminalTables.{terminal_keys, name_at, no_times, element_times}

@@ -4,12 +4,11 @@ use Rattle.std.proofs.Common.{mul-le-mul_right}
 use Rattle.std.proofs.Math.Nat.{mul-div_left}
 use Rattle.std.proofs.lemmas.Bool.{le-leb}
 use Rattle.std.proofs.lemmas.Nat.{div-mul-add}
-use Rattle.line_model.specs.declared.bounds.Bounds.{Bounds}
-use Rattle.line_model.specs.declared.line.Setting.{Setting}
 use Rattle.line_model.specs.declared.line.Setting.TheVariants.{EchoBlock, EchoPickup, EchoPulse}
 use Rattle.line_model.specs.declared.line.Setting.TheVariants.{BlockCarry, BlockCoord}
 use Rattle.line_model.specs.declared.line.Setting.TheVariants.{TransferSecurity, UnblockPickup}
 use Rattle.line_model.specs.declared.line.Setting.TheVariants.{UnblockWindow, UnblockRestore}
+use Rattle.line_model.specs.{declared.bounds.Bounds.Bounds, declared.line.Setting.Setting}
 use Rattle.line_model.specs.{declared.line.Line.Line, declared.line.Owner.Owner}
 use Rattle.line_file.specs.Keys.{all_known}
 use Rattle.line_file.specs.Times.{time_in, time_at, times_at, times_in}

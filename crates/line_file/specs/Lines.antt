@@ -3,9 +3,8 @@ use Rattle.std.specs.Prelude.{ℕ, Bool, List, [], Result, Ok, Err, codes, map, 
 use Rattle.std.specs.Prelude.{if◌then◌else◌}
 use Rattle.std.specs.Str.{bytes_eq}
 use Rattle.toml.specs.Data.{Members, Items, no_items, item, get_member}
-use Rattle.line_model.specs.declared.bounds.Bounds.{Bounds}
 use Rattle.line_model.specs.declared.line.Scheme.TheVariants.{Pott, Putt, Dcb, Dcub, Dtt}
-use Rattle.line_model.specs.declared.line.Line.{Line}
+use Rattle.line_model.specs.{declared.bounds.Bounds.Bounds, declared.line.Line.Line}
 use Rattle.line_model.specs.{declared.line.Scheme.Scheme, declared.line.Param.Param}
 use Rattle.line_model.specs.{declared.line.Terminal.Terminal, declared.line.Channel.Channel}
 use Rattle.line_file.specs.{declared.draft.Draft.Draft, declared.fault.LineFault.LineFault}
