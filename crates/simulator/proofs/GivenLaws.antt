@@ -10,7 +10,8 @@ use Rattle.line_model.specs.{declared.line.Line.Line, declared.line.Channel.Chan
 use Rattle.line_model.specs.{declared.script.Script.Script, Channels.from_of, Choice.pair_world_of}
 use Rattle.timing_box.specs.declared.step.Step.{Step}
 use Rattle.simulator.specs.declared.inputs.Delay.{Delay}
-use Rattle.simulator.specs.Inputs.{AreDelays, AreGiven, AreDelaysOf, IsWorldAt, CanReceive}
+use Rattle.simulator.specs.Inputs.{AreDelays, DelaysHold, AreDelaysOf, IsWorldAt, CanReceive}
+use Rattle.simulator.specs.Shown.{ShowTheSame, ShownSpans, AreShown, not_over}
 use Rattle.simulator.specs.LaneBox.{ends_at, lane_box, lane_world}
 use Rattle.simulator.specs.{ListLaws.exists_at, Quiet.Keeps, Runs.AreDelayed}
 use Rattle.simulator.proofs.Lists.{at_set}
@@ -43,52 +44,59 @@ span_set {S} line delays c old new at from param are =
           (subst (λ (k : ℕ). k < param_count line) (sym param) (are.there c old at)) are.there;
     }
 
-module _ {S : Type 0} (ends : S → ℕ → Ends) (line : Line) (script : Script) (spans : List S)
-    (steps : List (Step S)) where
-  abbrev Given : List SeenSpan → List (Delay S) → ℕ → ℕ → Type 0
-  Given present delays t until = AreGiven ends line script spans steps present delays t until
-
+module _ (all : List SeenSpan) (shown : ShownSpans) where
   -- nothing before it is looked up
-  pub given_none : (present : List SeenSpan) (delays : List (Delay S)) → Given present delays 0 0
-  given_none present delays = record {
+  pub shown_none : ((r : ℕ) → ShowTheSame r (not_over shown) all) → AreShown all shown 0 0
+  shown_none same = record {
+    left = λ r low. same r;
     shown = λ r low high. absurd (omega arith);
-    script_keeps = record {
+    keeps = record {
       seen = λ p r low high. absurd (omega arith);
       lost = λ c r low high. absurd (omega arith);
     };
-    held = λ c d at lane r low high. absurd (omega arith);
   }
 
-  pub given_later : (present : List SeenSpan) (delays : List (Delay S)) (t s until : ℕ) → t ≤ s
-      → Given present delays t until → Given present delays s until
-  given_later present delays t s until le given = record {
-    shown = λ r low high. given.shown r (omega arith) high;
-    script_keeps = record {
-      seen = λ p r low high. given.script_keeps.seen p r (omega arith) (omega arith)
-          ∙ sym (given.script_keeps.seen p s (omega arith) (omega arith));
-      lost = λ c r low high. given.script_keeps.lost c r (omega arith) (omega arith)
-          ∙ sym (given.script_keeps.lost c s (omega arith) (omega arith));
+  pub shown_later : (t s until : ℕ) → t ≤ s → AreShown all shown t until → AreShown all shown s until
+  shown_later t s until le are = record {
+    left = λ r low. are.left r (omega arith);
+    shown = λ r low high. are.shown r (omega arith) high;
+    keeps = record {
+      seen = λ p r low high. are.keeps.seen p r (omega arith) (omega arith)
+          ∙ sym (are.keeps.seen p s (omega arith) (omega arith));
+      lost = λ c r low high. are.keeps.lost c r (omega arith) (omega arith)
+          ∙ sym (are.keeps.lost c s (omega arith) (omega arith));
     };
-    held = λ c d at lane r low high. given.held c d at lane r (omega arith) high;
   }
 
-  module _ (lane : ℕ) (present : List SeenSpan) (delays : List (Delay S)) (t until : ℕ)
-      (are : AreDelays line delays) (given : Given present delays t until) where
+module _ {S : Type 0} (ends : S → ℕ → Ends) (spans : List S) (steps : List (Step S))
+    (delays : List (Delay S)) where
+  pub held_none : DelaysHold ends spans steps delays 0 0
+  held_none c d at lane r low high = absurd (omega arith)
+
+  pub held_later : (t s until : ℕ) → t ≤ s → DelaysHold ends spans steps delays t until
+      → DelaysHold ends spans steps delays s until
+  held_later t s until le held c d at lane r low high = held c d at lane r (omega arith) high
+
+module _ {S : Type 0} (ends : S → ℕ → Ends) (line : Line) (spans : List S) (steps : List (Step S))
+    where
+  module _ (lane : ℕ) (delays : List (Delay S)) (t until : ℕ) (are : AreDelays line delays)
+      (held : DelaysHold ends spans steps delays t until) where
     -- the span of a channel's delay
     span_at : (c r : ℕ) (d : Delay S) → slice_get delays c ≡ Some d → t ≤ r → r < until
         → ends d.span lane ≡ ends_at ends lane spans steps (delay_param line c) r
     span_at c r d at low high =
-        given.held c d at lane r low high
+        held c d at lane r low high
         ∙ ap (λ (p : ℕ). ends_at ends lane spans steps p r) (are.param c d at)
 
-    pub world_at : t < until
-        → IsWorldAt ends lane present delays (lane_world ends line script spans steps lane) t
+    pub world_at : (script : Script) (shown : ShownSpans)
+        → AreShown script.spans.items shown t until → t < until
+        → IsWorldAt ends lane shown.present delays (lane_world ends line script spans steps lane) t
     unfolding pair_world_of lane_box
-    world_at early =
-        let shown = given.shown t (omega arith) early in
+    world_at script shown given early =
+        let now = given.shown t (omega arith) early in
         record {
-          seen = shown.seen;
-          lost = shown.lost;
+          seen = now.seen;
+          lost = now.lost;
           channels = record {
             from = are.from;
             delay = λ c d at. span_at c t d at (omega arith) early;
@@ -102,11 +110,11 @@ module _ {S : Type 0} (ends : S → ℕ → Ends) (line : Line) (script : Script
         let (d, at) = exists_at delays c there in
         sym (span_at c r d at low (omega arith)) ∙ span_at c t d at (omega arith) (omega arith)
 
-  pub can_receive : (lanes : ℕ) (present : List SeenSpan) (delays : List (Delay S)) (t until : ℕ)
-      → AreDelays line delays → Given present delays t until → t < until → t < line.horizon
+  pub can_receive : (lanes : ℕ) (delays : List (Delay S)) (t until : ℕ) → AreDelays line delays
+      → DelaysHold ends spans steps delays t until → t < until → t < line.horizon
       → AreDelayed lanes ends line spans steps → CanReceive lanes ends line delays
   unfolding lane_box
-  can_receive lanes present delays t until are given early inside delayed =
+  can_receive lanes delays t until are held early inside delayed =
       let channel : (c : ℕ) (d : Delay S) → slice_get delays c ≡ Some d → c < channel_count line =
       λ c d at. subst (λ (m : ℕ). c < m) are.count (slice_get_within delays c d at) in
       record {
@@ -116,6 +124,6 @@ module _ {S : Type 0} (ends : S → ℕ → Ends) (line : Line) (script : Script
             (line.pairs_once.from c (channel c d at));
         later = λ c d at lane below.
             subst (λ (e : Ends). 1 ≤ e.least)
-            (sym (span_at lane present delays t until are given c t d at (omega arith) early))
+            (sym (span_at lane delays t until are held c t d at (omega arith) early))
             (delayed lane below c t (channel c d at) inside);
       }

@@ -9,7 +9,6 @@ use Rattle.line_model.specs.declared.script.SeenSpan.{SeenSpan}
 use Rattle.line_model.specs.Seen.{is_of_place, is_of_loss, shows, loses}
 use Rattle.timing_box.specs.{declared.step.Step.Step, Timing.number_at}
 use Rattle.simulator.specs.Quiet.{Keeps, ScriptKeeps, SpanKeeps, AllKeep, NoStepIn}
-use Rattle.simulator.specs.{Inputs.ShowTheSame, ListLaws.at_push}
 
 Decides-le : (a b : ℕ) → Decides (nat_le a b) (a ≤ b)
 Decides-le a b = (leb-true a b, le-leb a b)
@@ -92,21 +91,3 @@ script_fewer spans t m n le keeps = record {
   seen = λ p r low high. keeps.seen p r low (omega arith);
   lost = λ c r low high. keeps.lost c r low (omega arith);
 }
-
-pub all_fewer : (t m n : ℕ) (spans : List SeenSpan) → m ≤ n → AllKeep t n spans → AllKeep t m spans
-all_fewer t m n spans le all i s at = span_fewer s t m n le (all i s at)
-
-pub all_more : (t n : ℕ) (spans : List SeenSpan) (x : SeenSpan) → AllKeep t n spans
-    → SpanKeeps t n x → AllKeep t n (spans ++ x ∷ [])
-all_more t n spans x all now i s at =
-    ⊎_elim (λ h. all i s h) (λ p. subst (SpanKeeps t n) (sym p.1) now) (at_push spans x s i at)
-
--- the spans that hold tick t show the same as all for as long as both stay
-pub shown_until : (spans all : List SeenSpan) (t n : ℕ) → 1 ≤ n → ShowTheSame t spans all
-    → AllKeep t n spans → ScriptKeeps all t n → (r : ℕ) → t ≤ r → r < t + n → ShowTheSame r spans all
-shown_until spans all t n some same each whole r low high =
-    let part : ScriptKeeps spans t n = script_keeps spans t n each in
-    record {
-      seen = λ p. part.seen p r low high ∙ same.seen p ∙ sym (whole.seen p r low high);
-      lost = λ c. part.lost c r low high ∙ same.lost c ∙ sym (whole.lost c r low high);
-    }

@@ -3,7 +3,7 @@ pub mod Loops
 pub mod GatePairLaws
 pub mod SearchLaws
 pub mod InputLaws
-pub mod PresentLaws
+pub mod ShownLaws
 pub mod GivenLaws
 pub mod TickLaws
 pub mod WalkLaws

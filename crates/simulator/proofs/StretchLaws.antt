@@ -17,7 +17,8 @@ use Rattle.simulator.specs.declared.inputs.Delay.{Delay}
 use Rattle.simulator.specs.GatePairs.{GateSignals, line_pairs}
 use Rattle.simulator.specs.LaneBox.{lane_box, lane_world}
 use Rattle.simulator.specs.Quiet.{Keeps, ArrivalKeeps, TimerKeeps, AreGatePairs}
-use Rattle.simulator.specs.{Inputs.AreDelays, Inputs.AreGiven, Ticks.ValuesAgree, WavesOf.number_at}
+use Rattle.simulator.specs.{Inputs.AreDelays, Inputs.DelaysHold, Ticks.ValuesAgree, WavesOf.number_at}
+use Rattle.simulator.specs.Shown.{ShownSpans, AreShown}
 use Rattle.simulator.proofs.{GatePairLaws.gate_pairs-kind, GivenLaws.delay_keeps}
 use Rattle.simulator.proofs.{InputLaws.script_fewer, QuietLaws.gates_keep, RunLaws.key_pair}
 
@@ -70,24 +71,24 @@ module _ {S : Type 0} (laws : LineLaws) (trees : GatesStandForTheirTrees)
       (subst (λ (n : ℕ). k < n) of_line.terminals kn) lt)
 
   -- every gate keeps its value through the stretch
-  pub stretch_keeps : (present : List SeenSpan) (delays : List (Delay S)) (t until n : ℕ)
-      → AreDelays line delays → AreGiven ends line script spans steps present delays t until
+  pub stretch_keeps : (shown : ShownSpans) (delays : List (Delay S)) (t until n : ℕ)
+      → AreDelays line delays → AreShown script.spans.items shown t until
+      → DelaysHold ends spans steps delays t until
       → 1 ≤ n → t + n ≤ until → t + n ≤ line.horizon
       → ((c : ℕ) → c < length delays
       → ArrivalKeeps (keys (world.from c)) (world.delay c t) t n)
       → ((i : ℕ) (g : Gate) → slice_get net.gates i ≡ Some g → TimerKeeps world pairs t n g)
       → (i : ℕ) → i < length net.gates → Keeps (pairs i) t n
   unfolding pair_world_of lane_box
-  stretch_keeps present delays t until n are given some over fits arrivals timers i inside =
-      let shown = script_fewer script.spans.items t n (until - t) (omega arith)
-      given.script_keeps in
+  stretch_keeps shown delays t until n are given held some over fits arrivals timers i inside =
+      let keeps = script_fewer script.spans.items t n (until - t) (omega arith) given.keeps in
       gates_keep stretch line world keys pairs t n net.gates of_line.laws.gates of_line.named
       are_pairs
       (record {
-        seen = shown.seen;
-        lost = shown.lost;
-        delays = λ c lt. delay_keeps ends line script spans steps lane present delays t until are
-            given n some over c lt;
+        seen = keeps.seen;
+        lost = keeps.lost;
+        delays = λ c lt. delay_keeps ends line spans steps lane delays t until are held n some over
+            c lt;
         arrivals = λ c lt. arrivals c (subst (λ (m : ℕ). c < m) (sym are.count) lt);
         timers = timers;
       })

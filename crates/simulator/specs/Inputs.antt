@@ -1,17 +1,12 @@
 -- What a net is given from outside: what its script shows and loses, and its delays.
-use Rattle.std.specs.Prelude.{◌≡◌, ◌<◌, ◌≤◌, ◌-◌, ℕ, List, Some, length, slice_get}
+use Rattle.std.specs.Prelude.{◌≡◌, ◌<◌, ◌≤◌, ℕ, List, Some, length, slice_get}
 use Rattle.history.specs.Rails.{Ends}
 use Rattle.line_model.specs.Parameters.{terminal_count, channel_count, param_count, delay_param}
 use Rattle.line_model.specs.{declared.line.Line.Line, declared.script.Script.Script}
 use Rattle.line_model.specs.{declared.script.Place.Place, declared.script.SeenSpan.SeenSpan}
 use Rattle.line_model.specs.{Channels.from_of, PairMean.PairWorld, Seen.is_seen, Seen.is_lost}
 use Rattle.timing_box.specs.declared.step.Step.{Step}
-use Rattle.simulator.specs.{declared.inputs.Delay.Delay, LaneBox.ends_at, Quiet.ScriptKeeps}
-
--- at tick t the spans show and lose the same as all
-pub record ShowTheSame (t : ℕ) (spans all : List SeenSpan) : Type 0 where
-  pub seen : (p : Place) → is_seen spans p t ≡ is_seen all p t
-  pub lost : (c : ℕ) → is_lost spans c t ≡ is_lost all c t
+use Rattle.simulator.specs.{declared.inputs.Delay.Delay, LaneBox.ends_at}
 
 -- a delay for each channel of the line, with who sends and with its parameter
 pub record AreDelays {S : Type 0} (line : Line) (delays : List (Delay S)) : Type 0 where
@@ -32,15 +27,6 @@ abbrev pub DelaysHold : {S : Type 0} → (S → ℕ → Ends) → List S → Lis
     → List (Delay S) → ℕ → ℕ → Type 0
 DelaysHold ends spans steps delays t until =
     (c : ℕ) (d : Delay _) → slice_get delays c ≡ Some d → DelayHolds ends spans steps d t until
-
--- from tick t until a tick the present spans show and lose the same as all, which stays the same,
--- and each delay has its span
-pub record AreGiven {S : Type 0} (ends : S → ℕ → Ends) (line : Line) (script : Script)
-    (spans : List S) (steps : List (Step S)) (present : List SeenSpan) (delays : List (Delay S))
-    (t until : ℕ) : Type 0 where
-  pub shown : (r : ℕ) → t ≤ r → r < until → ShowTheSame r present script.spans.items
-  pub script_keeps : ScriptKeeps script.spans.items t (until - t)
-  pub held : DelaysHold ends spans steps delays t until
 
 -- in a lane, at tick t, the delays are those of the world
 pub record AreDelaysOf {S : Type 0} (ends : S → ℕ → Ends) (lane : ℕ) (delays : List (Delay S))

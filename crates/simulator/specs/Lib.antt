@@ -10,6 +10,7 @@ pub mod Played
 pub mod ListLaws
 pub mod RowLaws
 pub mod Quiet
+pub mod Shown
 pub mod Inputs
 pub mod Tracks
 pub mod PlayedTracks

@@ -1,14 +1,16 @@
 //! What a net is given at a tick: what its script shows and loses, and its delays.
 
-ghost use Rattle.std.specs.Prelude.{◌≡◌, ℕ, ◌<◌, ◌≤◌, ◌+◌, length, vec_capacity, IfOk, IsTrue};
+ghost use Rattle.std.specs.Prelude.{◌≡◌, ℕ, ◌<◌, ◌≤◌, ◌+◌, List, length, IfOk, IsTrue};
 ghost use Rattle.line_model.specs.Parameters.{channel_count, param_count, delay_param};
 ghost use Rattle.timing_box.specs.Timing.{ascend};
-ghost use Rattle.simulator.specs.Inputs.{AreDelays, AreGiven, DelayHolds, DelaysHold};
+ghost use Rattle.simulator.specs.Inputs.{AreDelays, DelayHolds, DelaysHold};
+ghost use Rattle.simulator.specs.Shown.{ShowTheSame, AreShown, not_over};
+ghost use Rattle.line_model.specs.declared.script.SeenSpan.{SeenSpan};
 
 use crate::lesser::lesser;
-use crate::present::keep_present;
+use crate::shown::Shown;
 use crate::steps::{steps_stay, value_at};
-use line_model::{Line, Memory, Script, SeenSpan};
+use line_model::{Line, Memory, Script};
 use std::alloc::Global;
 use tick_signal::Signal;
 use timing_box::Step;
@@ -21,11 +23,11 @@ pub struct Delay<P: Copy> {
     pub span: P,
 }
 
-/// The spans of the script that hold a tick, the delay of each channel at it, and the first tick
-/// at which either may differ.
+/// What the script shows at a tick, the delay of each channel at it, and the first tick at which
+/// either may differ.
 #[derive(Drop)]
 pub struct Inputs<P: Copy> {
-    pub present: Vec<SeenSpan>,
+    pub shown: Shown,
     pub delays: Vec<Delay<P>>,
     pub until: u32,
 }
@@ -38,15 +40,15 @@ pub fn fresh_inputs<V: Signal>(
     spans: &[V::Span],
 ) -> Result<Inputs<V::Span>, Memory>
     requires spans { length spans.now ≡ param_count line.now }
-    ensures room { IfOk result (λ inputs.
-        length script.now.spans.items ≤ vec_capacity inputs.present) }
+    ensures shown { IfOk result (λ inputs. (r : ℕ) →
+        ShowTheSame r (not_over inputs.shown) script.now.spans.items) }
     ensures delays { IfOk result (λ inputs. AreDelays line.now inputs.delays.items) }
     ensures over { IfOk result (λ inputs. inputs.until ≡ 0) }
 {
-    let present = Vec::with_capacity(alloc, script.spans.len())?;
+    let shown = Shown::new(alloc, script)?;
     let delays = fresh_delays::<V>(alloc, line, spans)?;
     Ok(Inputs {
-        present,
+        shown,
         delays,
         until: 0,
     })
@@ -76,7 +78,6 @@ fn fresh_delays<V: Signal>(
 /// Looks up what is given from this tick on, if that of the tick before is over.
 pub fn turn<V: Signal>(
     line: &Line,
-    script: &Script,
     spans: &[V::Span],
     steps: &[Step<V::Span>],
     inputs: &mut Inputs<V::Span>,
@@ -85,20 +86,21 @@ pub fn turn<V: Signal>(
     requires spans { length spans.now ≡ param_count line.now }
     requires ascending { IsTrue (ascend steps.now) }
     requires early { t < 4000 }
-    requires room { length script.now.spans.items ≤ vec_capacity inputs.old.present }
     requires delays { AreDelays line.now inputs.old.delays.items }
-    requires given { AreGiven V.ends line.now script.now spans.now steps.now
-        inputs.old.present.items inputs.old.delays.items t inputs.old.until }
+    requires held { DelaysHold V.ends spans.now steps.now inputs.old.delays.items t
+        inputs.old.until }
     ensures later { t < inputs.new.until }
-    ensures room { length script.now.spans.items ≤ vec_capacity inputs.new.present }
     ensures delays { AreDelays line.now inputs.new.delays.items }
-    ensures given { AreGiven V.ends line.now script.now spans.now steps.now
-        inputs.new.present.items inputs.new.delays.items t inputs.new.until }
+    ensures held { DelaysHold V.ends spans.now steps.now inputs.new.delays.items t
+        inputs.new.until }
+    // Of whichever spans it was shown before, it is now.
+    ensures shown { (all : List SeenSpan) → AreShown all inputs.old.shown t inputs.old.until →
+        AreShown all inputs.new.shown t inputs.new.until }
 {
     if t < inputs.until {
         return;
     }
-    let shown = keep_present(&script.spans, t, &mut inputs.present);
+    let shown = inputs.shown.turn(t);
     let still = set_delays::<V>(line, spans, steps, &mut inputs.delays, t);
     inputs.until = t + lesser(shown, still);
 }

@@ -19,6 +19,7 @@ mod present;
 mod rows;
 mod run_net;
 mod send;
+mod shown;
 mod spans;
 mod steps;
 mod stretch;

@@ -1,6 +1,6 @@
 //! One stretch of ticks through which no gate changes.
 
-ghost use Rattle.std.specs.Prelude.{◌≡◌, ℕ, suc, ◌<◌, ◌≤◌, ◌+◌, length, vec_capacity, IsTrue};
+ghost use Rattle.std.specs.Prelude.{◌≡◌, ℕ, suc, ◌<◌, ◌≤◌, ◌+◌, List, length, vec_capacity, IsTrue};
 ghost use Rattle.line_model.specs.Parameters.{param_count};
 ghost use Rattle.line_model.specs.PairMean.{PairWorld, PairSignals};
 ghost use Rattle.gate_net.specs.NetOf.{IsNet, IsNetOf, key_of};
@@ -8,7 +8,9 @@ ghost use Rattle.timing_box.specs.Timing.{ascend};
 ghost use Rattle.simulator.specs.GatePairs.{GateSignals};
 ghost use Rattle.simulator.specs.Ticks.{HaveCells, ValuesAgree, AreSent};
 ghost use Rattle.simulator.specs.Tracks.{LaneTracked, LineTracked, trips_of};
-ghost use Rattle.simulator.specs.{Inputs.AreDelays, Inputs.AreGiven, Quiet.Keeps, Runs.AreDelayed};
+ghost use Rattle.simulator.specs.{Inputs.AreDelays, Inputs.DelaysHold, Shown.AreShown};
+ghost use Rattle.simulator.specs.{Quiet.Keeps, Runs.AreDelayed};
+ghost use Rattle.line_model.specs.declared.script.{SeenSpan.SeenSpan, Script.Script};
 
 use crate::arrivals::arrivals_stay;
 use crate::cell::Cell;
@@ -21,7 +23,7 @@ use channel::{Carried, Track};
 use gate_net::Net;
 use gate_net::laws::gates_stand_for_their_trees;
 use line_model::laws::line_laws;
-use line_model::{Line, Script};
+use line_model::Line;
 use tick_signal::Signal;
 use timers::{SealCell, Timed, elements_stay_in_a_stretch};
 use timing_box::Step;
@@ -36,7 +38,6 @@ pub fn take_stretch<V: Timed + Carried>(
     keys: &mut Vec<Track<V>>,
     trips: &mut Vec<Track<V>>,
     line: &Line,
-    script: &Script,
     spans: &[V::Span],
     steps: &[Step<V::Span>],
     t: u32,
@@ -48,41 +49,43 @@ pub fn take_stretch<V: Timed + Carried>(
     requires delayed { AreDelayed V.LANES V.ends line.now spans.now steps.now }
     requires tick { t < line.now.horizon }
     requires room { length net.now.gates ≤ vec_capacity column.old }
-    requires shown { length script.now.spans.items ≤ vec_capacity inputs.old.present }
     requires delays { AreDelays line.now inputs.old.delays.items }
-    requires given { AreGiven V.ends line.now script.now spans.now steps.now
-        inputs.old.present.items inputs.old.delays.items t inputs.old.until }
+    requires held { DelaysHold V.ends spans.now steps.now inputs.old.delays.items t
+        inputs.old.until }
     requires cells { HaveCells net.now.gates cells.old.items }
     requires keys { AreSent (length net.now.keys) line.now.horizon t keys.old.items }
     requires trips { AreSent (length net.now.trips) line.now.horizon t trips.old.items }
     ensures some { 1 ≤ result }
     ensures fits { t + result ≤ line.now.horizon }
     ensures room { length net.now.gates ≤ vec_capacity column.new }
-    ensures shown { length script.now.spans.items ≤ vec_capacity inputs.new.present }
     ensures delays { AreDelays line.now inputs.new.delays.items }
-    ensures given { AreGiven V.ends line.now script.now spans.now steps.now
-        inputs.new.present.items inputs.new.delays.items (t + result) inputs.new.until }
+    ensures held { DelaysHold V.ends spans.now steps.now inputs.new.delays.items (t + result)
+        inputs.new.until }
+    ensures shown { (all : List SeenSpan) → AreShown all inputs.old.shown t inputs.old.until →
+        AreShown all inputs.new.shown (t + result) inputs.new.until }
     ensures cells { HaveCells net.now.gates cells.new.items }
     ensures keys { AreSent (length net.now.keys) line.now.horizon (t + result) keys.new.items }
     ensures trips { AreSent (length net.now.trips) line.now.horizon (t + result) trips.new.items }
-    ensures stands { ((lane : ℕ) → lane < V.LANES →
-        LineTracked V.stands_for V.ends V.rails line.now script.now spans.now steps.now net.now lane
+    ensures stands { (script : Script) →
+        AreShown script.spans.items inputs.old.shown t inputs.old.until →
+        ((lane : ℕ) → lane < V.LANES →
+        LineTracked V.stands_for V.ends V.rails line.now script spans.now steps.now net.now lane
         t keys.old.items trips.old.items cells.old.items) →
         (lane : ℕ) → lane < V.LANES →
-        LineTracked V.stands_for V.ends V.rails line.now script.now spans.now steps.now net.now lane
+        LineTracked V.stands_for V.ends V.rails line.now script spans.now steps.now net.now lane
         (t + result) keys.new.items trips.new.items cells.new.items }
 {
     line_laws();
     gates_stand_for_their_trees();
     elements_stay_in_a_stretch();
-    turn::<V>(line, script, spans, steps, inputs, t);
+    turn::<V>(line, spans, steps, inputs, t);
     let limit = stretch_limit(ahead, inputs.until, line.horizon, t);
     let timers = walk::<V>(
         net,
         cells,
         column,
         line,
-        inputs.present.as_slice(),
+        inputs.shown.present(),
         inputs.delays.as_slice(),
         keys.as_slice(),
         t,

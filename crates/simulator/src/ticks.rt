@@ -51,13 +51,13 @@ pub fn run_ticks<V: Timed + Carried>(
     let mut column: Vec<V> = Vec::with_capacity(alloc, width)?;
     let mut values: Vec<V> = Vec::with_capacity(alloc, line.horizon as usize * width)?;
     for t in 0..line.horizon {
-        turn::<V>(line, script, spans, steps, &mut inputs, t);
+        turn::<V>(line, spans, steps, &mut inputs, t);
         walk::<V>(
             net,
             &mut cells,
             &mut column,
             line,
-            &inputs.present,
+            inputs.shown.present(),
             &inputs.delays,
             sent.as_slice(),
             t,

@@ -1,12 +1,14 @@
 //! A run from one tick at which some gate may change to the next.
 
-ghost use Rattle.std.specs.Prelude.{◌≡◌, ℕ, ◌<◌, ◌≤◌, length, vec_capacity, IfOk, IsTrue};
+ghost use Rattle.std.specs.Prelude.{◌≡◌, ℕ, ◌<◌, ◌≤◌, List, length, vec_capacity, IfOk, IsTrue};
 ghost use Rattle.line_model.specs.{Parameters.param_count, Choice.Choice};
 ghost use Rattle.gate_net.specs.NetOf.{IsNetOf};
 ghost use Rattle.timing_box.specs.Timing.{ascend};
 ghost use Rattle.simulator.specs.LaneBox.{lane_box};
 ghost use Rattle.simulator.specs.Runs.{AreDelayed, IsTheHistory, IsPoint, IsExactAt};
-ghost use Rattle.simulator.specs.{Inputs.AreDelays, Inputs.AreGiven, Ticks.HaveCells};
+ghost use Rattle.simulator.specs.{Inputs.AreDelays, Inputs.DelaysHold, Shown.AreShown};
+ghost use Rattle.simulator.specs.Ticks.{HaveCells};
+ghost use Rattle.line_model.specs.declared.script.{SeenSpan.SeenSpan, Script.Script};
 ghost use Rattle.simulator.specs.{Ticks.AreSent, Tracks.LineTracked, Tracks.tracks_history};
 
 use crate::cell::Cell;
@@ -77,7 +79,6 @@ pub fn run_tracks<V: Timed + Carried>(
         &mut keys,
         &mut trips,
         line,
-        script,
         spans,
         steps,
     );
@@ -93,7 +94,6 @@ fn take_all<V: Timed + Carried>(
     keys: &mut Vec<Track<V>>,
     trips: &mut Vec<Track<V>>,
     line: &Line,
-    script: &Script,
     spans: &[V::Span],
     steps: &[Step<V::Span>],
 )
@@ -102,20 +102,21 @@ fn take_all<V: Timed + Carried>(
     requires ascending { IsTrue (ascend steps.now) }
     requires delayed { AreDelayed V.LANES V.ends line.now spans.now steps.now }
     requires room { length net.now.gates ≤ vec_capacity column.old }
-    requires shown { length script.now.spans.items ≤ vec_capacity inputs.old.present }
     requires delays { AreDelays line.now inputs.old.delays.items }
-    requires given { AreGiven V.ends line.now script.now spans.now steps.now
-        inputs.old.present.items inputs.old.delays.items 0 inputs.old.until }
+    requires held { DelaysHold V.ends spans.now steps.now inputs.old.delays.items 0
+        inputs.old.until }
     requires cells { HaveCells net.now.gates cells.old.items }
     requires keys { AreSent (length net.now.keys) line.now.horizon 0 keys.old.items }
     requires trips { AreSent (length net.now.trips) line.now.horizon 0 trips.old.items }
     ensures keys { AreSent (length net.now.keys) line.now.horizon line.now.horizon keys.new.items }
     ensures trips { AreSent (length net.now.trips) line.now.horizon line.now.horizon trips.new.items }
-    ensures stands { ((lane : ℕ) → lane < V.LANES →
-        LineTracked V.stands_for V.ends V.rails line.now script.now spans.now steps.now net.now lane
+    ensures stands { (script : Script) →
+        AreShown script.spans.items inputs.old.shown 0 inputs.old.until →
+        ((lane : ℕ) → lane < V.LANES →
+        LineTracked V.stands_for V.ends V.rails line.now script spans.now steps.now net.now lane
         0 keys.old.items trips.old.items cells.old.items) →
         (lane : ℕ) → lane < V.LANES →
-        LineTracked V.stands_for V.ends V.rails line.now script.now spans.now steps.now net.now lane
+        LineTracked V.stands_for V.ends V.rails line.now script spans.now steps.now net.now lane
         line.now.horizon keys.new.items trips.new.items cells.new.items }
 {
     let mut t = 0;
@@ -123,7 +124,7 @@ fn take_all<V: Timed + Carried>(
     while t < line.horizon {
         let ahead = next_look <= t;
         let stays = take_stretch::<V>(
-            net, cells, column, inputs, keys, trips, line, script, spans, steps, t, ahead,
+            net, cells, column, inputs, keys, trips, line, spans, steps, t, ahead,
         );
         t += stays;
         next_look = look_again(next_look, ahead, stays, t);

@@ -1,24 +1,30 @@
 use Rattle.std.proofs.Common.{◌≡◌, ◌≤◌, ◌<◌, ◌+◌, ◌-◌, ℕ, arith, subst, sym}
-use Rattle.simulator.specs.{Inputs.ShowTheSame, Quiet.ScriptKeeps}
+use Rattle.simulator.specs.{Shown.not_over, Quiet.ScriptKeeps}
 use Rattle.simulator.proofs.InputLaws.{script_fewer}
+use Rattle.simulator.proofs.ShownLaws.{same_trans, keeps_alike}
 use Rattle.simulator.proofs.inputs.turn.Goals as goal
 
-pub returns-clause-given : goal.returns-clause-given
-returns-clause-given g c =
+pub returns-clause-held : goal.returns-clause-held
+returns-clause-held g c =
+    let less : c.lesser.result ≤ c.set_delays-still.result = c.lesser.ensures.second in
+    λ i d at lane r low high.
+    c.set_delays-still.ensures.hold i d at lane r low (omega (arith, high, less))
+
+pub returns-clause-shown : goal.returns-clause-shown
+returns-clause-shown g c = λ all before.
     let t = c.args.t in
     let n = c.lesser.result in
-    let all = c.args.script.now.spans.items in
-    let less : n ≤ c.keep_present-shown.result = c.lesser.ensures.first in
-    let fewer : n ≤ c.set_delays-still.result = c.lesser.ensures.second in
+    let old = not_over c.args.inputs.now.shown in
+    let turned = c.turn-shown.ensures in
+    let less : n ≤ c.turn-shown.result = c.lesser.ensures.first in
+    let some : 1 ≤ c.turn-shown.result = turned.some in
     let ticks : t + n - t ≡ n = omega arith in
     record {
-      shown = λ r low high.
-          subst (ShowTheSame r c.keep_present-shown.new.present.items) c.deref.ensures.value
-          (c.keep_present-shown.ensures.same r low (omega (arith, high, less)));
-      script_keeps = subst (ScriptKeeps all t) (sym ticks)
-          (script_fewer all t n c.keep_present-shown.result less
-          (subst (λ l. ScriptKeeps l t c.keep_present-shown.result) c.deref.ensures.value
-          c.keep_present-shown.ensures.keeps));
-      held = λ i d at lane r low high.
-          c.set_delays-still.ensures.hold i d at lane r low (omega (arith, high, fewer));
+      left = λ r low. same_trans r _ old all (turned.left r low) (before.left r low);
+      shown = λ r low high. same_trans r _ old all
+          (turned.shown r low (omega (arith, high, less))) (before.left r low);
+      keeps = subst (ScriptKeeps all t) (sym ticks)
+          (script_fewer all t n c.turn-shown.result less
+          (keeps_alike old all t c.turn-shown.result some (λ r low high. before.left r low)
+          turned.keeps));
     }

@@ -8,7 +8,8 @@ use Rattle.simulator.specs.Inputs.{AreDelaysOf, CanReceive, IsWorldAt}
 use Rattle.simulator.specs.Ticks.{AreSent, KeysSent, AllStand, ValuesAgree, IsReady}
 use Rattle.simulator.specs.Tracks.{LaneTracked, trips_of}
 use Rattle.simulator.specs.{LaneBox.lane_box, LaneBox.lane_world, WavesOf.number_at, Quiet.Keeps}
-use Rattle.simulator.proofs.GivenLaws.{can_receive, given_later, world_at}
+use Rattle.simulator.specs.Shown.{AreShown}
+use Rattle.simulator.proofs.GivenLaws.{can_receive, held_later, shown_later, world_at}
 use Rattle.simulator.proofs.StretchLaws.{held_values, keeps_one, key_is, stretch_keeps}
 use Rattle.simulator.proofs.{GatePairLaws.gate_pairs-kind, QuietLaws.timer_fewer}
 use Rattle.simulator.proofs.stretch.take_stretch.Goals as goal
@@ -17,21 +18,19 @@ pub walk-timers-requires-clause-delays : goal.walk-timers-requires-clause-delays
 walk-timers-requires-clause-delays g c =
     let line = c.args.line.now in
     let inputs = c.turn.new.inputs in
-    subst (CanReceive g.V.Signal.LANES g.V.Signal.ends line) (sym c.as_slice-2.ensures.value)
-    (can_receive g.V.Signal.ends line c.args.script.now c.args.spans.now c.args.steps.now
-    g.V.Signal.LANES inputs.present.items inputs.delays.items c.args.t inputs.until
-    c.turn.ensures.delays c.turn.ensures.given c.turn.ensures.later c.requires.tick
-    c.requires.delayed)
+    subst (CanReceive g.V.Signal.LANES g.V.Signal.ends line) (sym c.as_slice.ensures.value)
+    (can_receive g.V.Signal.ends line c.args.spans.now c.args.steps.now g.V.Signal.LANES
+    inputs.delays.items c.args.t inputs.until c.turn.ensures.delays c.turn.ensures.held
+    c.turn.ensures.later c.requires.tick c.requires.delayed)
 
 pub arrivals_stay-stays-requires-clause-delays : goal.arrivals_stay-stays-requires-clause-delays
 arrivals_stay-stays-requires-clause-delays g c =
     let line = c.args.line.now in
     let inputs = c.turn.new.inputs in
     subst (CanReceive g.V.Signal.LANES g.V.Signal.ends line) (sym c.deref.ensures.value)
-    (can_receive g.V.Signal.ends line c.args.script.now c.args.spans.now c.args.steps.now
-    g.V.Signal.LANES inputs.present.items inputs.delays.items c.args.t inputs.until
-    c.turn.ensures.delays c.turn.ensures.given c.turn.ensures.later c.requires.tick
-    c.requires.delayed)
+    (can_receive g.V.Signal.ends line c.args.spans.now c.args.steps.now g.V.Signal.LANES
+    inputs.delays.items c.args.t inputs.until c.turn.ensures.delays c.turn.ensures.held
+    c.turn.ensures.later c.requires.tick c.requires.delayed)
 
 pub arrivals_stay-stays-requires-clause-sent : goal.arrivals_stay-stays-requires-clause-sent
 arrivals_stay-stays-requires-clause-sent g c =
@@ -42,16 +41,21 @@ arrivals_stay-stays-requires-clause-sent g c =
     let n : length c.key_gates.result.now ≡ terminal_count line =
     ap length c.key_gates.ensures ∙ c.requires.of_line.terminals in
     subst (λ l. AreSent (terminal_count line) line.horizon (suc t) l)
-    (sym c.as_slice-6.ensures.value)
+    (sym c.as_slice-5.ensures.value)
     (subst (λ (m : ℕ). AreSent (terminal_count line) line.horizon m tracks) next
     (subst (λ (m : ℕ). AreSent m line.horizon (t + 1) tracks) n c.send_all.ensures.count))
 
-pub returns-clause-given : goal.returns-clause-given
-returns-clause-given g c =
+pub returns-clause-held : goal.returns-clause-held
+returns-clause-held g c =
     let inputs = c.turn.new.inputs in
-    given_later g.V.Signal.ends c.args.line.now c.args.script.now c.args.spans.now
-    c.args.steps.now inputs.present.items inputs.delays.items c.args.t
-    (c.args.t + c.arrivals_stay-stays.result) inputs.until (omega arith) c.turn.ensures.given
+    held_later g.V.Signal.ends c.args.spans.now c.args.steps.now inputs.delays.items c.args.t
+    (c.args.t + c.arrivals_stay-stays.result) inputs.until (omega arith) c.turn.ensures.held
+
+pub returns-clause-shown : goal.returns-clause-shown
+returns-clause-shown g c = λ all before.
+    let inputs = c.turn.new.inputs in
+    shown_later all inputs.shown c.args.t (c.args.t + c.arrivals_stay-stays.result) inputs.until
+    (omega arith) (c.turn.ensures.shown all before)
 
 pub returns-clause-keys : goal.returns-clause-keys
 returns-clause-keys g c =
@@ -70,10 +74,9 @@ returns-clause-trips g c =
     c.hold_stretch.new.trips.items) last c.hold_stretch.ensures.trips
 
 pub returns-clause-stands : goal.returns-clause-stands
-returns-clause-stands g c = λ all lane inside.
+returns-clause-stands g c = λ script before all lane inside.
     let t = c.args.t in
     let line = c.args.line.now in
-    let script = c.args.script.now in
     let spans = c.args.spans.now in
     let steps = c.args.steps.now in
     let net = c.args.net.now in
@@ -86,28 +89,30 @@ returns-clause-stands g c = λ all lane inside.
     let u : ℕ → GateSignals = λ l. line_pairs line script (lane_box ends line spans steps l) net in
     let trip : PairSignals = trips_of net (u lane) in
     let inputs = c.turn.new.inputs in
+    let shown : AreShown script.spans.items inputs.shown t inputs.until =
+    c.turn.ensures.shown script.spans.items before in
     let ready : (l : ℕ) → l < g.V.Signal.LANES
     → IsReady g.V.Timed.stands_for ends rails l (w l) (key l) (u l) t net.gates
-    c.as_slice-3.result.now c.args.cells.now.items =
+    c.as_slice-2.result.now c.args.cells.now.items =
     λ l il. record {
       told = λ i gate at. gate_pairs-kind c.gates_stand_for_their_trees.ensures.kinds (w l) (key l)
           net.gates i gate t of_line.laws.gates at;
-      sent = subst (KeysSent rails l (key l) t) (sym c.as_slice-3.ensures.value)
+      sent = subst (KeysSent rails l (key l) t) (sym c.as_slice-2.ensures.value)
           (all l il).keys_kept;
       stand = (all l il).stand;
     } in
-    let world : (l : ℕ) → IsWorldAt ends l c.as_slice.result.now c.as_slice-2.result.now (w l) t =
-    λ l. subst (λ x. IsWorldAt ends l x c.as_slice-2.result.now (w l) t)
+    let world : (l : ℕ) → IsWorldAt ends l c.present.result.now c.as_slice.result.now (w l) t =
+    λ l. subst (λ x. IsWorldAt ends l x c.as_slice.result.now (w l) t)
+    (sym c.present.ensures)
+    (subst (λ x. IsWorldAt ends l inputs.shown.present x (w l) t)
     (sym c.as_slice.ensures.value)
-    (subst (λ x. IsWorldAt ends l inputs.present.items x (w l) t)
-    (sym c.as_slice-2.ensures.value)
-    (world_at ends line script spans steps l inputs.present.items inputs.delays.items t
-    inputs.until c.turn.ensures.delays c.turn.ensures.given c.turn.ensures.later)) in
+    (world_at ends line spans steps l inputs.delays.items t inputs.until c.turn.ensures.delays
+    c.turn.ensures.held script inputs.shown shown c.turn.ensures.later)) in
     let agree : ValuesAgree rails lane (u lane) t c.walk-timers.new.column.items =
     c.walk-timers.ensures.answers lane (w lane) (key lane) (u lane) inside (world lane)
     (ready lane inside) in
-    let agree' : ValuesAgree rails lane (u lane) t c.as_slice-7.result.now =
-    subst (ValuesAgree rails lane (u lane) t) (sym c.as_slice-7.ensures.value) agree in
+    let agree' : ValuesAgree rails lane (u lane) t c.as_slice-6.result.now =
+    subst (ValuesAgree rails lane (u lane) t) (sym c.as_slice-6.ensures.value) agree in
     let some : 1 ≤ n = c.arrivals_stay-stays.ensures.some in
     let limited : n ≤ c.walk-timers.result = c.arrivals_stay-stays.ensures.limited in
     let first : c.walk-timers.result ≤ c.stretch_limit-limit.result =
@@ -131,8 +136,8 @@ returns-clause-stands g c = λ all lane inside.
     (λ k x kn at r low high.
     let kn' : k < length net.keys = subst (λ ids. k < length ids) c.key_gates.ensures kn in
     let at' : slice_get c.walk-timers.new.column.items (number_at net.keys k) ≡ Some x =
-    subst (λ l. slice_get l (number_at net.keys k) ≡ Some x) c.as_slice-4.ensures.value
-    (subst (λ ids. slice_get c.as_slice-4.result.now (number_at ids k) ≡ Some x)
+    subst (λ l. slice_get l (number_at net.keys k) ≡ Some x) c.as_slice-3.ensures.value
+    (subst (λ ids. slice_get c.as_slice-3.result.now (number_at ids k) ≡ Some x)
     c.key_gates.ensures at) in
     is k r kn' (omega arith)
     ∙ held_values rails lane (u lane) t 1 (length net.gates) c.walk-timers.new.column.items
@@ -143,14 +148,14 @@ returns-clause-stands g c = λ all lane inside.
     (λ k x kn at r low high.
     let kn' : k < length net.trips = subst (λ ids. k < length ids) c.trip_gates.ensures kn in
     let at' : slice_get c.walk-timers.new.column.items (number_at net.trips k) ≡ Some x =
-    subst (λ l. slice_get l (number_at net.trips k) ≡ Some x) c.as_slice-5.ensures.value
-    (subst (λ ids. slice_get c.as_slice-5.result.now (number_at ids k) ≡ Some x)
+    subst (λ l. slice_get l (number_at net.trips k) ≡ Some x) c.as_slice-4.ensures.value
+    (subst (λ ids. slice_get c.as_slice-4.result.now (number_at ids k) ≡ Some x)
     c.trip_gates.ensures at) in
     held_values rails lane (u lane) t 1 (length net.gates) c.walk-timers.new.column.items
     net.trips of_line.laws.trips agree one k x kn' at' r low high)
     (all lane inside).trips_kept in
-    let held : KeysSent rails lane (key lane) (suc t) c.as_slice-6.result.now =
-    subst (KeysSent rails lane (key lane) (suc t)) (sym c.as_slice-6.ensures.value)
+    let held : KeysSent rails lane (key lane) (suc t) c.as_slice-5.result.now =
+    subst (KeysSent rails lane (key lane) (suc t)) (sym c.as_slice-5.ensures.value)
     (subst (λ (m : ℕ). KeysSent rails lane (key lane) m c.send_all.new.tracks.items) next kept) in
     let stand : AllStand g.V.Timed.stands_for ends rails lane (w lane) (u lane) (t + 1) net.gates
     c.walk-timers.new.cells.items =
@@ -160,13 +165,14 @@ returns-clause-stands g c = λ all lane inside.
     (ready lane inside)) in
     let delays : AreDelaysOf ends lane c.deref.result.now (w lane) t =
     subst (λ x. AreDelaysOf ends lane x (w lane) t) (sym c.deref.ensures.value)
-    (world_at ends line script spans steps lane inputs.present.items inputs.delays.items t
-    inputs.until c.turn.ensures.delays c.turn.ensures.given c.turn.ensures.later).channels in
+    (world_at ends line spans steps lane inputs.delays.items t inputs.until
+    c.turn.ensures.delays c.turn.ensures.held script inputs.shown shown
+    c.turn.ensures.later).channels in
     let keeps : (i : ℕ) → i < length net.gates → Keeps (u lane i) t n =
     λ i lt. stretch_keeps c.line_laws.ensures c.gates_stand_for_their_trees.ensures
     c.elements_stay_in_a_stretch.ensures ends line script spans steps lane net of_line d
-    inputs.present.items inputs.delays.items t inputs.until n c.turn.ensures.delays
-    c.turn.ensures.given some (omega arith) fits
+    inputs.shown inputs.delays.items t inputs.until n c.turn.ensures.delays shown
+    c.turn.ensures.held some (omega arith) fits
     (λ channel below. c.arrivals_stay-stays.ensures.keeps lane (w lane) (key lane) inside delays
     held channel (subst (λ x. channel < length x) (sym c.deref.ensures.value) below))
     (λ j gate at. timer_fewer (w lane) (u lane) t n c.walk-timers.result gate limited

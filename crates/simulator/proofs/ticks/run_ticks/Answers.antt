@@ -7,8 +7,10 @@ use Rattle.gate_net.specs.NetOf.{key_of, AreGatesOf}
 use Rattle.simulator.specs.GatePairs.{GateSignals, line_pairs}
 use Rattle.simulator.specs.{LaneBox.lane_box, LaneBox.lane_world, Ticks.IsReady, Ticks.AreTold}
 use Rattle.simulator.specs.{Ticks.AreSent, Ticks.KeysSent, Ticks.ValuesAgree, Ticks.ValuesTold}
-use Rattle.simulator.specs.{Ticks.LaneStands, Inputs.AreGiven, Inputs.CanReceive, Inputs.IsWorldAt}
-use Rattle.simulator.proofs.GivenLaws.{given_none, given_later, can_receive, world_at}
+use Rattle.simulator.specs.{Ticks.LaneStands, Inputs.DelaysHold, Inputs.CanReceive, Inputs.IsWorldAt}
+use Rattle.simulator.specs.Shown.{AreShown}
+use Rattle.simulator.proofs.GivenLaws.{held_none, held_later, shown_none, shown_later}
+use Rattle.simulator.proofs.GivenLaws.{can_receive, world_at}
 use Rattle.simulator.proofs.SendLaws.{none_sent, fresh_sent, one_tick_sent}
 use Rattle.simulator.proofs.ValueLaws.{tick_fits, values_none, values_more}
 use Rattle.simulator.proofs.{GatePairLaws.gate_pairs-kind, RunLaws.key_pair}
@@ -34,13 +36,15 @@ loop-t-init g c =
       count = omega (arith, ap length c.in_ok-values.ensures.items);
       column_room = omega (arith, column, width);
       values_room = omega (arith, whole);
-      shown_room = c.in_ok-inputs.ensures.room;
       delays = c.in_ok-inputs.ensures.delays;
-      given = subst (λ (m : ℕ). AreGiven g.V.Signal.ends line c.args.script.now c.args.spans.now
-          c.args.steps.now c.in_ok-inputs.inputs.present.items
-          c.in_ok-inputs.inputs.delays.items 0 m) (sym c.in_ok-inputs.ensures.over)
-          (given_none g.V.Signal.ends line c.args.script.now c.args.spans.now c.args.steps.now
-          c.in_ok-inputs.inputs.present.items c.in_ok-inputs.inputs.delays.items);
+      held = subst (DelaysHold g.V.Signal.ends c.args.spans.now c.args.steps.now
+          c.in_ok-inputs.inputs.delays.items 0) (sym c.in_ok-inputs.ensures.over)
+          (held_none g.V.Signal.ends c.args.spans.now c.args.steps.now
+          c.in_ok-inputs.inputs.delays.items);
+      shown = subst (AreShown c.args.script.now.spans.items c.in_ok-inputs.inputs.shown 0)
+          (sym c.in_ok-inputs.ensures.over)
+          (shown_none c.args.script.now.spans.items c.in_ok-inputs.inputs.shown
+          c.in_ok-inputs.ensures.shown);
       cells = c.in_ok-cells.ensures.shape;
       sent = subst (λ (m : ℕ). AreSent m line.horizon 0 c.in_ok-sent.sent.items) all
           (fresh_sent count line.horizon c.in_ok-sent.sent.items c.in_ok-sent.ensures);
@@ -63,11 +67,10 @@ pub walk-requires-clause-delays : goal.walk-requires-clause-delays
 walk-requires-clause-delays g c =
     let line = c.args.line.now in
     let inputs = c.turn.new.inputs in
-    subst (CanReceive g.V.Signal.LANES g.V.Signal.ends line) (sym c.deref-in-loop-t.ensures.value)
-    (can_receive g.V.Signal.ends line c.args.script.now c.args.spans.now c.args.steps.now
-    g.V.Signal.LANES inputs.present.items inputs.delays.items c.loop-t.t inputs.until
-    c.turn.ensures.delays c.turn.ensures.given c.turn.ensures.later c.loop-t-test.true
-    c.requires.delayed)
+    subst (CanReceive g.V.Signal.LANES g.V.Signal.ends line) (sym c.deref.ensures.value)
+    (can_receive g.V.Signal.ends line c.args.spans.now c.args.steps.now g.V.Signal.LANES
+    inputs.delays.items c.loop-t.t inputs.until c.turn.ensures.delays c.turn.ensures.held
+    c.turn.ensures.later c.loop-t-test.true c.requires.delayed)
 
 pub send_all-requires-clause-gates : goal.send_all-requires-clause-gates
 send_all-requires-clause-gates g c =
@@ -105,10 +108,11 @@ loop-t-preserved g c =
       count = ap length pushed ∙ length-append values column ∙ longer;
       column_room = c.walk.ensures.room;
       values_room = omega (arith, room, more);
-      shown_room = c.turn.ensures.room;
       delays = c.turn.ensures.delays;
-      given = given_later ends line script spans steps inputs.present.items inputs.delays.items t
-          (t + 1) inputs.until (omega arith) c.turn.ensures.given;
+      held = held_later ends spans steps inputs.delays.items t (t + 1) inputs.until (omega arith)
+          c.turn.ensures.held;
+      shown = shown_later script.spans.items inputs.shown t (t + 1) inputs.until (omega arith)
+          (c.turn.ensures.shown script.spans.items c.loop-t.invariant.shown);
       cells = c.walk.ensures.cells;
       sent =
           subst (λ (m : ℕ). AreSent m line.horizon (t + 1) c.send_all.new.tracks.items)
@@ -128,13 +132,15 @@ loop-t-preserved g c =
           let ready : IsReady g.V.Timed.stands_for ends rails lane w keys u t net.gates
           c.as_slice.result.now c.loop-t.cells.items =
           record { told = told; sent = sent; stand = before.cells_stand } in
-          let world : IsWorldAt ends lane c.deref.result.now c.deref-in-loop-t.result.now w t =
-          subst (λ l. IsWorldAt ends lane l c.deref-in-loop-t.result.now w t)
+          let world : IsWorldAt ends lane c.present.result.now c.deref.result.now w t =
+          subst (λ l. IsWorldAt ends lane l c.deref.result.now w t)
+          (sym c.present.ensures)
+          (subst (λ l. IsWorldAt ends lane inputs.shown.present l w t)
           (sym c.deref.ensures.value)
-          (subst (λ l. IsWorldAt ends lane inputs.present.items l w t)
-          (sym c.deref-in-loop-t.ensures.value)
-          (world_at ends line script spans steps lane inputs.present.items inputs.delays.items t
-          inputs.until c.turn.ensures.delays c.turn.ensures.given c.turn.ensures.later)) in
+          (world_at ends line spans steps lane inputs.delays.items t inputs.until
+          c.turn.ensures.delays c.turn.ensures.held script inputs.shown
+          (c.turn.ensures.shown script.spans.items c.loop-t.invariant.shown)
+          c.turn.ensures.later)) in
           let agree : ValuesAgree rails lane u t column =
           c.walk.ensures.answers lane w keys u inside world ready in
           let agree' : ValuesAgree rails lane u t c.as_slice-in-loop-t.result.now =

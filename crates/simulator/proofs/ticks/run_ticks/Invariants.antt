@@ -1,7 +1,8 @@
 use Rattle.std.proofs.Common.{◌≡◌, ℕ, ◌<◌, ◌≤◌, ◌*◌, length}
 use Rattle.std.specs.Prelude.{vec_capacity}
 use Rattle.line_model.specs.{Parameters.terminal_count, Logic.key_tree, Solution.the_keys}
-use Rattle.simulator.specs.{Inputs.AreDelays, Inputs.AreGiven, LaneBox.lane_box, LaneBox.lane_world}
+use Rattle.simulator.specs.{Inputs.AreDelays, Inputs.DelaysHold, Shown.AreShown}
+use Rattle.simulator.specs.{LaneBox.lane_box, LaneBox.lane_world}
 use Rattle.simulator.specs.{GatePairs.line_pairs, Ticks.HaveCells, Ticks.AreSent, Ticks.LaneStands}
 use Rattle.simulator.proofs.ticks.run_ticks.Given as goal
 
@@ -14,10 +15,9 @@ invariant-loop-t g l =
       count : length l.values.items ≡ l.t * length gates;
       column_room : length gates ≤ vec_capacity l.column;
       values_room : l.line.horizon * length gates ≤ vec_capacity l.values;
-      shown_room : length l.script.spans.items ≤ vec_capacity l.inputs.present;
       delays : AreDelays l.line l.inputs.delays.items;
-      given : AreGiven g.V.Signal.ends l.line l.script l.spans l.steps l.inputs.present.items
-          l.inputs.delays.items l.t l.inputs.until;
+      held : DelaysHold g.V.Signal.ends l.spans l.steps l.inputs.delays.items l.t l.inputs.until;
+      shown : AreShown l.script.spans.items l.inputs.shown l.t l.inputs.until;
       cells : HaveCells gates l.cells.items;
       sent : AreSent (terminal_count l.line) l.line.horizon l.t l.sent.items;
       lanes : (lane : ℕ) → lane < g.V.Signal.LANES →

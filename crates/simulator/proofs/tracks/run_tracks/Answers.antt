@@ -3,9 +3,11 @@ use Rattle.line_model.specs.PairMean.{PairWorld, PairSignals}
 use Rattle.line_model.specs.{Logic.key_tree, Solution.the_keys, Choice.pair_world_of}
 use Rattle.simulator.specs.GatePairs.{GateSignals, line_pairs}
 use Rattle.simulator.specs.Tracks.{tracks_history, trips_of, LineTracked}
-use Rattle.simulator.specs.{LaneBox.lane_box, LaneBox.lane_world, Ticks.AreSent, Inputs.AreGiven}
+use Rattle.simulator.specs.{LaneBox.lane_box, LaneBox.lane_world, Ticks.AreSent}
+use Rattle.simulator.specs.{Inputs.DelaysHold, Shown.AreShown}
 use Rattle.simulator.proofs.{PointLaws.exact_at, SendLaws.fresh_sent, SendLaws.none_sent}
-use Rattle.simulator.proofs.{TrackLaws.kept_pair, TrackLaws.kept_history, GivenLaws.given_none}
+use Rattle.simulator.proofs.{TrackLaws.kept_pair, TrackLaws.kept_history}
+use Rattle.simulator.proofs.GivenLaws.{held_none, shown_none}
 use Rattle.simulator.proofs.tracks.run_tracks.Goals as goal
 
 pub take_all-requires-clause-keys : goal.take_all-requires-clause-keys
@@ -22,14 +24,12 @@ take_all-requires-clause-trips g c =
     subst (λ (m : ℕ). AreSent m h 0 c.in_ok-trips.trips.items) (ap length c.trip_gates.ensures)
     (fresh_sent n h c.in_ok-trips.trips.items c.in_ok-trips.ensures)
 
-pub take_all-requires-clause-given : goal.take_all-requires-clause-given
-take_all-requires-clause-given g c =
-    let inputs = c.in_ok-inputs.inputs in
-    subst (λ (m : ℕ). AreGiven g.V.Signal.ends c.args.line.now c.args.script.now c.args.spans.now
-    c.args.steps.now inputs.present.items inputs.delays.items 0 m)
+pub take_all-requires-clause-held : goal.take_all-requires-clause-held
+take_all-requires-clause-held g c =
+    let delays = c.in_ok-inputs.inputs.delays.items in
+    subst (DelaysHold g.V.Signal.ends c.args.spans.now c.args.steps.now delays 0)
     (sym c.in_ok-inputs.ensures.over)
-    (given_none g.V.Signal.ends c.args.line.now c.args.script.now c.args.spans.now
-    c.args.steps.now inputs.present.items inputs.delays.items)
+    (held_none g.V.Signal.ends c.args.spans.now c.args.steps.now delays)
 
 pub returns-clause-history : goal.returns-clause-history
 unfolding pair_world_of lane_box
@@ -48,7 +48,10 @@ returns-clause-history g c = λ lane inside.
     let u : ℕ → GateSignals = λ l. line_pairs line script (lane_box ends line spans steps l) net in
     let stands : LineTracked g.V.Timed.stands_for ends rails line script spans steps net lane h
     c.take_all.new.keys.items c.take_all.new.trips.items c.take_all.new.cells.items =
-    c.take_all.ensures.stands
+    c.take_all.ensures.stands script
+    (subst (AreShown script.spans.items c.in_ok-inputs.inputs.shown 0)
+    (sym c.in_ok-inputs.ensures.over)
+    (shown_none script.spans.items c.in_ok-inputs.inputs.shown c.in_ok-inputs.ensures.shown))
     (λ l il. record {
       keys_kept = none_sent rails l (length c.key_gates.result.now) h (key l)
           c.in_ok-keys.keys.items c.in_ok-keys.ensures;
