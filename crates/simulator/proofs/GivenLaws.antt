@@ -9,11 +9,10 @@ use Rattle.line_model.specs.Parameters.{terminal_count, channel_count, param_cou
 use Rattle.line_model.specs.{declared.line.Line.Line, declared.line.Channel.Channel}
 use Rattle.line_model.specs.{declared.script.Script.Script, Channels.from_of, Choice.pair_world_of}
 use Rattle.timing_box.specs.declared.step.Step.{Step}
-use Rattle.simulator.specs.declared.inputs.Delay.{Delay}
 use Rattle.simulator.specs.Inputs.{AreDelays, DelaysHold, AreDelaysOf, IsWorldAt, CanReceive}
 use Rattle.simulator.specs.Shown.{ShowTheSame, ShownSpans, AreShown, not_over}
-use Rattle.simulator.specs.LaneBox.{ends_at, lane_box, lane_world}
-use Rattle.simulator.specs.{ListLaws.exists_at, Quiet.Keeps, Runs.AreDelayed}
+use Rattle.simulator.specs.{declared.inputs.Delay.Delay, LaneBox.ends_at, LaneBox.lane_box}
+use Rattle.simulator.specs.{LaneBox.lane_world, ListLaws.exists_at, Quiet.Keeps, Runs.AreDelayed}
 use Rattle.simulator.proofs.Lists.{at_set}
 
 -- who sends over a channel
@@ -78,52 +77,52 @@ module _ {S : Type 0} (ends : S → ℕ → Ends) (spans : List S) (steps : List
   held_later t s until le held c d at lane r low high = held c d at lane r (omega arith) high
 
 module _ {S : Type 0} (ends : S → ℕ → Ends) (line : Line) (spans : List S) (steps : List (Step S))
-    where
-  module _ (lane : ℕ) (delays : List (Delay S)) (t until : ℕ) (are : AreDelays line delays)
-      (held : DelaysHold ends spans steps delays t until) where
-    -- the span of a channel's delay
-    span_at : (c r : ℕ) (d : Delay S) → slice_get delays c ≡ Some d → t ≤ r → r < until
-        → ends d.span lane ≡ ends_at ends lane spans steps (delay_param line c) r
-    span_at c r d at low high =
-        held c d at lane r low high
-        ∙ ap (λ (p : ℕ). ends_at ends lane spans steps p r) (are.param c d at)
+  where
+    module _ (lane : ℕ) (delays : List (Delay S)) (t until : ℕ) (are : AreDelays line delays)
+        (held : DelaysHold ends spans steps delays t until) where
+      -- the span of a channel's delay
+      span_at : (c r : ℕ) (d : Delay S) → slice_get delays c ≡ Some d → t ≤ r → r < until
+          → ends d.span lane ≡ ends_at ends lane spans steps (delay_param line c) r
+      span_at c r d at low high =
+          held c d at lane r low high
+          ∙ ap (λ (p : ℕ). ends_at ends lane spans steps p r) (are.param c d at)
 
-    pub world_at : (script : Script) (shown : ShownSpans)
-        → AreShown script.spans.items shown t until → t < until
-        → IsWorldAt ends lane shown.present delays (lane_world ends line script spans steps lane) t
-    unfolding pair_world_of lane_box
-    world_at script shown given early =
-        let now = given.shown t (omega arith) early in
+      pub world_at : (script : Script) (shown : ShownSpans)
+          → AreShown script.spans.items shown t until → t < until
+          → IsWorldAt ends lane shown.present delays (lane_world ends line script spans steps lane) t
+      unfolding pair_world_of lane_box
+      world_at script shown given early =
+          let now = given.shown t (omega arith) early in
+          record {
+            seen = now.seen;
+            lost = now.lost;
+            channels = record {
+              from = are.from;
+              delay = λ c d at. span_at c t d at (omega arith) early;
+            };
+          }
+
+      pub delay_keeps : (n : ℕ) → 1 ≤ n → t + n ≤ until → (c : ℕ) → c < channel_count line
+          → Keeps (λ r. ends_at ends lane spans steps (delay_param line c) r) t n
+      delay_keeps n some over c lt r low high =
+          let there : c < length delays = subst (λ (m : ℕ). c < m) (sym are.count) lt in
+          let (d, at) = exists_at delays c there in
+          sym (span_at c r d at low (omega arith)) ∙ span_at c t d at (omega arith) (omega arith)
+
+    pub can_receive : (lanes : ℕ) (delays : List (Delay S)) (t until : ℕ) → AreDelays line delays
+        → DelaysHold ends spans steps delays t until → t < until → t < line.horizon
+        → AreDelayed lanes ends line spans steps → CanReceive lanes ends line delays
+    unfolding lane_box
+    can_receive lanes delays t until are held early inside delayed =
+        let channel : (c : ℕ) (d : Delay S) → slice_get delays c ≡ Some d → c < channel_count line =
+        λ c d at. subst (λ (m : ℕ). c < m) are.count (slice_get_within delays c d at) in
         record {
-          seen = now.seen;
-          lost = now.lost;
-          channels = record {
-            from = are.from;
-            delay = λ c d at. span_at c t d at (omega arith) early;
-          };
+          count = are.count;
+          from = λ c d at.
+              subst (λ (k : ℕ). k < terminal_count line) (sym (are.from c d at))
+              (line.pairs_once.from c (channel c d at));
+          later = λ c d at lane below.
+              subst (λ (e : Ends). 1 ≤ e.least)
+              (sym (span_at lane delays t until are held c t d at (omega arith) early))
+              (delayed lane below c t (channel c d at) inside);
         }
-
-    pub delay_keeps : (n : ℕ) → 1 ≤ n → t + n ≤ until → (c : ℕ) → c < channel_count line
-        → Keeps (λ r. ends_at ends lane spans steps (delay_param line c) r) t n
-    delay_keeps n some over c lt r low high =
-        let there : c < length delays = subst (λ (m : ℕ). c < m) (sym are.count) lt in
-        let (d, at) = exists_at delays c there in
-        sym (span_at c r d at low (omega arith)) ∙ span_at c t d at (omega arith) (omega arith)
-
-  pub can_receive : (lanes : ℕ) (delays : List (Delay S)) (t until : ℕ) → AreDelays line delays
-      → DelaysHold ends spans steps delays t until → t < until → t < line.horizon
-      → AreDelayed lanes ends line spans steps → CanReceive lanes ends line delays
-  unfolding lane_box
-  can_receive lanes delays t until are held early inside delayed =
-      let channel : (c : ℕ) (d : Delay S) → slice_get delays c ≡ Some d → c < channel_count line =
-      λ c d at. subst (λ (m : ℕ). c < m) are.count (slice_get_within delays c d at) in
-      record {
-        count = are.count;
-        from = λ c d at.
-            subst (λ (k : ℕ). k < terminal_count line) (sym (are.from c d at))
-            (line.pairs_once.from c (channel c d at));
-        later = λ c d at lane below.
-            subst (λ (e : Ends). 1 ≤ e.least)
-            (sym (span_at lane delays t until are held c t d at (omega arith) early))
-            (delayed lane below c t (channel c d at) inside);
-      }

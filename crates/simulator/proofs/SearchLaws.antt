@@ -7,8 +7,8 @@ use Rattle.std.proofs.lemmas.List.{take-append-drop}
 use Rattle.std.proofs.lemmas.Bool.Decides.{Decides-or, Decides-and, Decides-ltb, Decides-eqb}
 use Rattle.std.specs.Prelude.{slice_get, nat_le, nat_lt, ◌==◌, Decides}
 use Rattle.timing_box.specs.declared.step.Step.{Step}
-use Rattle.timing_box.specs.Timing.{ascend, comes_before, number_at}
-use Rattle.simulator.specs.Steps.{is_passed, IsParted}
+use Rattle.timing_box.specs.Timing.{ascend, comes_before, number_at, is_passed}
+use Rattle.simulator.specs.Steps.{IsParted}
 
 -- a step comes before another one: it is of an earlier parameter, or of the same one and from an
 -- earlier tick

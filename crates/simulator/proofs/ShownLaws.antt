@@ -1,7 +1,7 @@
 -- Spans that are present, that begin later, and that are over.
-use Rattle.std.proofs.Common.{◌≡◌, ℕ, suc, ◌+◌, ◌<◌, ◌≤◌, List, [], ◌∷◌, ◌++◌, Some, length, drop, get_or}
-use Rattle.std.proofs.Common.{Bool, true, false, ◌&&◌, ◌||◌, refl, sym, ◌∙◌, ap, arith, subst}
-use Rattle.std.proofs.Common.{length-drop, append_assoc}
+use Rattle.std.proofs.Common.{◌≡◌, ℕ, suc, ◌+◌, ◌<◌, ◌≤◌, List, [], ◌∷◌, ◌++◌, Some, length, drop}
+use Rattle.std.proofs.Common.{get_or, Bool, true, false, ◌&&◌, ◌||◌, refl, sym, ◌∙◌, ap, arith}
+use Rattle.std.proofs.Common.{subst, length-drop, append_assoc}
 use Rattle.std.proofs.Math.Seq.{drop-cons}
 use Rattle.std.proofs.lemmas.Bool.{lt-leb, lt-ltb, ltb-true}
 use Rattle.std.proofs.lemmas.List.{get_or-drop}
@@ -119,21 +119,21 @@ none_of test (s ∷ spans) each =
     ∙ none_of test spans (λ i x at. each (suc i) x at)
 
 module _ (present later : List SeenSpan) (r n : ℕ) (early : r < n) (begin : BeginFrom n later)
-    where
-  test_present : (test : SeenSpan → Bool)
-      → ((s : SeenSpan) → r < s.from → test s ≡ false)
-      → list_any test present ≡ list_any test (present ++ later)
-  test_present test off =
-      sym (list_any-append test present later
-      ∙ ap (λ (b : Bool). list_any test present || b)
-      (none_of test later (λ i s at. let from : n ≤ s.from = begin i s at in off s (omega arith)))
-      ∙ or_false (list_any test present))
+  where
+    test_present : (test : SeenSpan → Bool)
+        → ((s : SeenSpan) → r < s.from → test s ≡ false)
+        → list_any test present ≡ list_any test (present ++ later)
+    test_present test off =
+        sym (list_any-append test present later
+        ∙ ap (λ (b : Bool). list_any test present || b)
+        (none_of test later (λ i s at. let from : n ≤ s.from = begin i s at in off s (omega arith)))
+        ∙ or_false (list_any test present))
 
-  pub same_present : ShowTheSame r present (present ++ later)
-  same_present = record {
-    seen = λ p. test_present (shows p r) (λ s. not_begun s (is_of_place p s.what) r);
-    lost = λ c. test_present (loses c r) (λ s. not_begun s (is_of_loss c s.what) r);
-  }
+    pub same_present : ShowTheSame r present (present ++ later)
+    same_present = record {
+      seen = λ p. test_present (shows p r) (λ s. not_begun s (is_of_place p s.what) r);
+      lost = λ c. test_present (loses c r) (λ s. not_begun s (is_of_loss c s.what) r);
+    }
 
 -- ---- those that begin now
 

@@ -14,11 +14,10 @@ use Rattle.gate_net.specs.NetOf.{NetOf, IsNetOf, AreGatesOf, key_of}
 use Rattle.gate_net.specs.{declared.gate.GateId.GateId, NetLaws.GatesStandForTheirTrees}
 use Rattle.timing_box.specs.declared.step.Step.{Step}
 use Rattle.simulator.specs.declared.inputs.Delay.{Delay}
-use Rattle.simulator.specs.GatePairs.{GateSignals, line_pairs}
-use Rattle.simulator.specs.LaneBox.{lane_box, lane_world}
 use Rattle.simulator.specs.Quiet.{Keeps, ArrivalKeeps, TimerKeeps, AreGatePairs}
-use Rattle.simulator.specs.{Inputs.AreDelays, Inputs.DelaysHold, Ticks.ValuesAgree, WavesOf.number_at}
-use Rattle.simulator.specs.Shown.{ShownSpans, AreShown}
+use Rattle.simulator.specs.{GatePairs.GateSignals, GatePairs.line_pairs, LaneBox.lane_box}
+use Rattle.simulator.specs.{LaneBox.lane_world, Inputs.AreDelays, Inputs.DelaysHold}
+use Rattle.simulator.specs.{Ticks.ValuesAgree, WavesOf.number_at, Shown.ShownSpans, Shown.AreShown}
 use Rattle.simulator.proofs.{GatePairLaws.gate_pairs-kind, GivenLaws.delay_keeps}
 use Rattle.simulator.proofs.{InputLaws.script_fewer, QuietLaws.gates_keep, RunLaws.key_pair}
 

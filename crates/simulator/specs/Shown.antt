@@ -1,8 +1,8 @@
 -- The spans of a script that hold a tick, and those that begin later.
 use Rattle.std.specs.Prelude.{◌≡◌, ◌<◌, ◌≤◌, ◌-◌, ◌++◌, ℕ, List, Some, length, slice_get}
 use Rattle.std.specs.List.Sorted.{IsNonDecreasingBy}
-use Rattle.line_model.specs.{declared.script.Place.Place, declared.script.SeenSpan.SeenSpan}
-use Rattle.line_model.specs.{Seen.is_seen, Seen.is_lost}
+use Rattle.line_model.specs.declared.script.Place.{Place}
+use Rattle.line_model.specs.{declared.script.SeenSpan.SeenSpan, Seen.is_seen, Seen.is_lost}
 use Rattle.simulator.specs.Quiet.{ScriptKeeps}
 
 -- at tick t the spans show and lose the same as all

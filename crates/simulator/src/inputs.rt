@@ -2,10 +2,10 @@
 
 ghost use Rattle.std.specs.Prelude.{◌≡◌, ℕ, ◌<◌, ◌≤◌, ◌+◌, List, length, IfOk, IsTrue};
 ghost use Rattle.line_model.specs.Parameters.{channel_count, param_count, delay_param};
+ghost use Rattle.line_model.specs.declared.script.SeenSpan.{SeenSpan};
 ghost use Rattle.timing_box.specs.Timing.{ascend};
 ghost use Rattle.simulator.specs.Inputs.{AreDelays, DelayHolds, DelaysHold};
 ghost use Rattle.simulator.specs.Shown.{ShowTheSame, AreShown, not_over};
-ghost use Rattle.line_model.specs.declared.script.SeenSpan.{SeenSpan};
 
 use crate::lesser::lesser;
 use crate::shown::Shown;

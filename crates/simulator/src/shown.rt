@@ -1,7 +1,7 @@
 //! What a script shows, tick after tick. Its spans are looked through once for a run.
 
-ghost use Rattle.std.specs.Prelude.{◌≡◌, ℕ, ◌<◌, ◌≤◌, ◌+◌, ◌++◌, length, drop, Some, IfOk};
-ghost use Rattle.std.specs.Prelude.{nat_lt, slice_get, vec_capacity};
+ghost use Rattle.std.specs.Prelude.{◌≡◌, ℕ, ◌<◌, ◌≤◌, ◌+◌, ◌++◌, length, drop, Some, IfOk, nat_lt};
+ghost use Rattle.std.specs.Prelude.{slice_get, vec_capacity};
 ghost use Rattle.std.specs.List.{filter};
 ghost use Rattle.std.specs.List.Sorted.{IsPermutation, IsNonDecreasingBy};
 ghost use Rattle.line_model.specs.declared.script.SeenSpan.{SeenSpan};

@@ -1,8 +1,8 @@
 //! Delays that change at ticks.
 
 ghost use Rattle.std.specs.Prelude.{◌≡◌, ◌≤◌, IsTrue};
-ghost use Rattle.timing_box.specs.Timing.{ascend, number_at};
-ghost use Rattle.simulator.specs.{Steps.is_passed, Steps.IsParted, Quiet.NoStepIn};
+ghost use Rattle.timing_box.specs.Timing.{ascend, is_passed, number_at};
+ghost use Rattle.simulator.specs.{Steps.IsParted, Quiet.NoStepIn};
 
 use timing_box::Step;
 

@@ -3,14 +3,13 @@
 ghost use Rattle.std.specs.Prelude.{◌≡◌, ℕ, suc, ◌<◌, ◌≤◌, ◌+◌, List, length, vec_capacity, IsTrue};
 ghost use Rattle.line_model.specs.Parameters.{param_count};
 ghost use Rattle.line_model.specs.PairMean.{PairWorld, PairSignals};
+ghost use Rattle.line_model.specs.declared.script.{SeenSpan.SeenSpan, Script.Script};
 ghost use Rattle.gate_net.specs.NetOf.{IsNet, IsNetOf, key_of};
 ghost use Rattle.timing_box.specs.Timing.{ascend};
-ghost use Rattle.simulator.specs.GatePairs.{GateSignals};
 ghost use Rattle.simulator.specs.Ticks.{HaveCells, ValuesAgree, AreSent};
 ghost use Rattle.simulator.specs.Tracks.{LaneTracked, LineTracked, trips_of};
-ghost use Rattle.simulator.specs.{Inputs.AreDelays, Inputs.DelaysHold, Shown.AreShown};
-ghost use Rattle.simulator.specs.{Quiet.Keeps, Runs.AreDelayed};
-ghost use Rattle.line_model.specs.declared.script.{SeenSpan.SeenSpan, Script.Script};
+ghost use Rattle.simulator.specs.{GatePairs.GateSignals, Inputs.AreDelays, Inputs.DelaysHold};
+ghost use Rattle.simulator.specs.{Shown.AreShown, Quiet.Keeps, Runs.AreDelayed};
 
 use crate::arrivals::arrivals_stay;
 use crate::cell::Cell;
@@ -22,8 +21,8 @@ use crate::walk::walk;
 use channel::{Carried, Track};
 use gate_net::Net;
 use gate_net::laws::gates_stand_for_their_trees;
-use line_model::laws::line_laws;
 use line_model::Line;
+use line_model::laws::line_laws;
 use tick_signal::Signal;
 use timers::{SealCell, Timed, elements_stay_in_a_stretch};
 use timing_box::Step;

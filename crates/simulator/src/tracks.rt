@@ -1,15 +1,14 @@
 //! A run from one tick at which some gate may change to the next.
 
 ghost use Rattle.std.specs.Prelude.{◌≡◌, ℕ, ◌<◌, ◌≤◌, List, length, vec_capacity, IfOk, IsTrue};
+ghost use Rattle.line_model.specs.declared.script.{SeenSpan.SeenSpan, Script.Script};
 ghost use Rattle.line_model.specs.{Parameters.param_count, Choice.Choice};
 ghost use Rattle.gate_net.specs.NetOf.{IsNetOf};
 ghost use Rattle.timing_box.specs.Timing.{ascend};
-ghost use Rattle.simulator.specs.LaneBox.{lane_box};
 ghost use Rattle.simulator.specs.Runs.{AreDelayed, IsTheHistory, IsPoint, IsExactAt};
-ghost use Rattle.simulator.specs.{Inputs.AreDelays, Inputs.DelaysHold, Shown.AreShown};
-ghost use Rattle.simulator.specs.Ticks.{HaveCells};
-ghost use Rattle.line_model.specs.declared.script.{SeenSpan.SeenSpan, Script.Script};
-ghost use Rattle.simulator.specs.{Ticks.AreSent, Tracks.LineTracked, Tracks.tracks_history};
+ghost use Rattle.simulator.specs.Inputs.{AreDelays, DelaysHold};
+ghost use Rattle.simulator.specs.Tracks.{LineTracked, tracks_history};
+ghost use Rattle.simulator.specs.{LaneBox.lane_box, Shown.AreShown, Ticks.HaveCells, Ticks.AreSent};
 
 use crate::cell::Cell;
 use crate::fresh::{fresh_cells, fresh_tracks};

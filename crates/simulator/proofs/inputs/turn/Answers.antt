@@ -1,7 +1,6 @@
 use Rattle.std.proofs.Common.{◌≡◌, ◌≤◌, ◌<◌, ◌+◌, ◌-◌, ℕ, arith, subst, sym}
 use Rattle.simulator.specs.{Shown.not_over, Quiet.ScriptKeeps}
-use Rattle.simulator.proofs.InputLaws.{script_fewer}
-use Rattle.simulator.proofs.ShownLaws.{same_trans, keeps_alike}
+use Rattle.simulator.proofs.{InputLaws.script_fewer, ShownLaws.same_trans, ShownLaws.keeps_alike}
 use Rattle.simulator.proofs.inputs.turn.Goals as goal
 
 pub returns-clause-held : goal.returns-clause-held

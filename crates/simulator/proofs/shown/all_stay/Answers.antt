@@ -1,7 +1,6 @@
 use Rattle.std.proofs.Common.{◌≤◌, arith}
 use Rattle.simulator.specs.Quiet.{SpanKeeps}
-use Rattle.simulator.proofs.Loops.{first_read, first_all}
-use Rattle.simulator.proofs.InputLaws.{span_fewer}
+use Rattle.simulator.proofs.{Loops.first_read, Loops.first_all, InputLaws.span_fewer}
 use Rattle.simulator.proofs.shown.all_stay.Goals as goal
 
 pub loop-span-preserved : goal.loop-span-preserved

@@ -6,9 +6,8 @@ use Rattle.line_model.specs.{Parameters.terminal_count, Logic.key_tree, Solution
 use Rattle.simulator.specs.GatePairs.{GateSignals, line_pairs}
 use Rattle.simulator.specs.Inputs.{AreDelaysOf, CanReceive, IsWorldAt}
 use Rattle.simulator.specs.Ticks.{AreSent, KeysSent, AllStand, ValuesAgree, IsReady}
-use Rattle.simulator.specs.Tracks.{LaneTracked, trips_of}
-use Rattle.simulator.specs.{LaneBox.lane_box, LaneBox.lane_world, WavesOf.number_at, Quiet.Keeps}
-use Rattle.simulator.specs.Shown.{AreShown}
+use Rattle.simulator.specs.{Tracks.LaneTracked, Tracks.trips_of, LaneBox.lane_box}
+use Rattle.simulator.specs.{LaneBox.lane_world, WavesOf.number_at, Quiet.Keeps, Shown.AreShown}
 use Rattle.simulator.proofs.GivenLaws.{can_receive, held_later, shown_later, world_at}
 use Rattle.simulator.proofs.StretchLaws.{held_values, keeps_one, key_is, stretch_keeps}
 use Rattle.simulator.proofs.{GatePairLaws.gate_pairs-kind, QuietLaws.timer_fewer}

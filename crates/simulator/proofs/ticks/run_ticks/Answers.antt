@@ -4,13 +4,12 @@ use Rattle.std.specs.Prelude.{vec_capacity}
 use Rattle.line_model.specs.{Parameters.terminal_count, PairMean.PairWorld, PairMean.PairSignals}
 use Rattle.line_model.specs.{Choice.Box, Choice.pair_world_of, Logic.key_tree, Solution.the_keys}
 use Rattle.gate_net.specs.NetOf.{key_of, AreGatesOf}
-use Rattle.simulator.specs.GatePairs.{GateSignals, line_pairs}
-use Rattle.simulator.specs.{LaneBox.lane_box, LaneBox.lane_world, Ticks.IsReady, Ticks.AreTold}
-use Rattle.simulator.specs.{Ticks.AreSent, Ticks.KeysSent, Ticks.ValuesAgree, Ticks.ValuesTold}
-use Rattle.simulator.specs.{Ticks.LaneStands, Inputs.DelaysHold, Inputs.CanReceive, Inputs.IsWorldAt}
-use Rattle.simulator.specs.Shown.{AreShown}
-use Rattle.simulator.proofs.GivenLaws.{held_none, held_later, shown_none, shown_later}
-use Rattle.simulator.proofs.GivenLaws.{can_receive, world_at}
+use Rattle.simulator.specs.{GatePairs.GateSignals, GatePairs.line_pairs, LaneBox.lane_box}
+use Rattle.simulator.specs.{LaneBox.lane_world, Ticks.IsReady, Ticks.AreTold, Ticks.AreSent}
+use Rattle.simulator.specs.{Ticks.KeysSent, Ticks.ValuesAgree, Ticks.ValuesTold, Ticks.LaneStands}
+use Rattle.simulator.specs.{Inputs.DelaysHold, Inputs.CanReceive, Inputs.IsWorldAt, Shown.AreShown}
+use Rattle.simulator.proofs.GivenLaws.{held_none, held_later, shown_none, shown_later, can_receive}
+use Rattle.simulator.proofs.GivenLaws.{world_at}
 use Rattle.simulator.proofs.SendLaws.{none_sent, fresh_sent, one_tick_sent}
 use Rattle.simulator.proofs.ValueLaws.{tick_fits, values_none, values_more}
 use Rattle.simulator.proofs.{GatePairLaws.gate_pairs-kind, RunLaws.key_pair}

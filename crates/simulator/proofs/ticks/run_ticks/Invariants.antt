@@ -1,8 +1,8 @@
 use Rattle.std.proofs.Common.{◌≡◌, ℕ, ◌<◌, ◌≤◌, ◌*◌, length}
 use Rattle.std.specs.Prelude.{vec_capacity}
 use Rattle.line_model.specs.{Parameters.terminal_count, Logic.key_tree, Solution.the_keys}
-use Rattle.simulator.specs.{Inputs.AreDelays, Inputs.DelaysHold, Shown.AreShown}
-use Rattle.simulator.specs.{LaneBox.lane_box, LaneBox.lane_world}
+use Rattle.simulator.specs.Inputs.{AreDelays, DelaysHold}
+use Rattle.simulator.specs.{Shown.AreShown, LaneBox.lane_box, LaneBox.lane_world}
 use Rattle.simulator.specs.{GatePairs.line_pairs, Ticks.HaveCells, Ticks.AreSent, Ticks.LaneStands}
 use Rattle.simulator.proofs.ticks.run_ticks.Given as goal
 

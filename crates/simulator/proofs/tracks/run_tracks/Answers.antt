@@ -1,13 +1,12 @@
 use Rattle.std.proofs.Common.{ℕ, ◌<◌, length, refl, sym, ◌∙◌, ap, subst}
 use Rattle.line_model.specs.PairMean.{PairWorld, PairSignals}
 use Rattle.line_model.specs.{Logic.key_tree, Solution.the_keys, Choice.pair_world_of}
-use Rattle.simulator.specs.GatePairs.{GateSignals, line_pairs}
 use Rattle.simulator.specs.Tracks.{tracks_history, trips_of, LineTracked}
-use Rattle.simulator.specs.{LaneBox.lane_box, LaneBox.lane_world, Ticks.AreSent}
-use Rattle.simulator.specs.{Inputs.DelaysHold, Shown.AreShown}
-use Rattle.simulator.proofs.{PointLaws.exact_at, SendLaws.fresh_sent, SendLaws.none_sent}
-use Rattle.simulator.proofs.{TrackLaws.kept_pair, TrackLaws.kept_history}
-use Rattle.simulator.proofs.GivenLaws.{held_none, shown_none}
+use Rattle.simulator.specs.{GatePairs.GateSignals, GatePairs.line_pairs, LaneBox.lane_box}
+use Rattle.simulator.specs.{LaneBox.lane_world, Ticks.AreSent, Inputs.DelaysHold, Shown.AreShown}
+use Rattle.simulator.proofs.PointLaws.{exact_at}
+use Rattle.simulator.proofs.{SendLaws.fresh_sent, SendLaws.none_sent, TrackLaws.kept_pair}
+use Rattle.simulator.proofs.{TrackLaws.kept_history, GivenLaws.held_none, GivenLaws.shown_none}
 use Rattle.simulator.proofs.tracks.run_tracks.Goals as goal
 
 pub take_all-requires-clause-keys : goal.take_all-requires-clause-keys

@@ -1,8 +1,8 @@
 use Rattle.std.proofs.Common.{ℕ, List, ◌-◌, ◌<◌, ◌≤◌, length}
 use Rattle.std.specs.Prelude.{vec_capacity}
 use Rattle.line_model.specs.declared.script.{SeenSpan.SeenSpan, Script.Script}
-use Rattle.simulator.specs.{Inputs.AreDelays, Inputs.DelaysHold, Shown.AreShown}
-use Rattle.simulator.specs.{Ticks.HaveCells, Ticks.AreSent, Tracks.LineTracked}
+use Rattle.simulator.specs.Inputs.{AreDelays, DelaysHold}
+use Rattle.simulator.specs.{Shown.AreShown, Ticks.HaveCells, Ticks.AreSent, Tracks.LineTracked}
 use Rattle.simulator.proofs.tracks.take_all.Given as goal
 
 abbrev pub invariant-loop-t : goal.invariant-loop-t
