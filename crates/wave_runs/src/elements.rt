@@ -10,7 +10,7 @@ use history::laws::history_laws;
 use line_model::Memory;
 use std::alloc::Global;
 use tick_signal::{Tern, Within};
-use timers::{SealCell, Timed, a_seal_is_its_last_answer};
+use timers::{SealCell, Timed, a_seal_is_its_last_answer, elements_stay_in_a_stretch};
 
 /// The timed element over a wave, tick by tick. It goes from one tick at which its answer may
 /// change to the next.
@@ -19,6 +19,7 @@ pub fn timer(alloc: Global, a: &Runs, pickup: Within, dropout: Within) -> Result
         IsWaveOf wave (length a.now) (λ t. rails_timed (wave_at a.now) pickup dropout t)) }
 {
     history_laws();
+    elements_stay_in_a_stretch();
     let mut wave = Runs::new(alloc);
     let mut inputs = a.cursor();
     let mut cells = Tern::fresh(pickup, dropout);
@@ -62,6 +63,7 @@ pub fn seal(alloc: Global, set: &Runs, hold: &Runs) -> Result<Runs, Memory>
 {
     history_laws();
     a_seal_is_its_last_answer();
+    elements_stay_in_a_stretch();
     let mut wave = Runs::new(alloc);
     let mut sets = set.cursor();
     let mut holds = hold.cursor();

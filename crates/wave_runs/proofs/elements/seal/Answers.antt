@@ -1,11 +1,10 @@
 use Rattle.std.proofs.Common.{◌≡◌, ◌-◌, ◌≤◌, ℕ, List, length, sym, ◌∙◌, ap, arith}
 use Rattle.history.specs.{Rails.Rails, Rails.rails_sealed, Recorded.first_ticks}
 use Rattle.tick_signal.specs.{declared.tern.Tern.Tern, Terns.tern_rails}
-use Rattle.timers.specs.Seals.{last_seal}
+use Rattle.timers.specs.{Seals.last_seal, Stretches.StaysAt}
 use Rattle.wave_runs.specs.Waves.{wave_at}
 use Rattle.wave_runs.proofs.WaveLaws.{ticks_more, longer, rails_along, new_length}
-use Rattle.wave_runs.proofs.ElementLaws.{StaysAt, seal_stands, seal_answer, sealed_in}
-use Rattle.wave_runs.proofs.ElementLaws.{kept_to_the_end}
+use Rattle.wave_runs.proofs.ElementLaws.{seal_stands, seal_answer, kept_to_the_end}
 use Rattle.wave_runs.proofs.elements.seal.Goals as goal
 
 pub stretch-first-requires : goal.stretch-first-requires
@@ -56,7 +55,9 @@ stretches-preserved c =
           (omega (arith, c.min.ensures, ap length sets));
       values = ticks_more wave new answer m (rails_sealed u v) c.stretches.invariant.values
           c.in_ok-push.ensures
-          (λ k low high. now ∙ sym (sealed_in c.history_laws.ensures u v x y n m k stays keeps low high));
-      last = kept_to_the_end c.history_laws.ensures u v x y (tern_rails c.tick-answer.new.self) n m stays keeps some kept
+          (λ k low high. now ∙ sym (c.elements_stay_in_a_stretch.ensures.sealed u v x y n m k
+          stays keeps low high));
+      last = kept_to_the_end c.history_laws.ensures c.elements_stay_in_a_stretch.ensures u v x y
+          (tern_rails c.tick-answer.new.self) n m stays keeps some kept
           ∙ ap (last_seal u v) (sym (new_length wave new answer m c.in_ok-push.ensures));
     }

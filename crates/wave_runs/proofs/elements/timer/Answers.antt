@@ -1,10 +1,10 @@
 use Rattle.std.proofs.Common.{◌≡◌, ◌+◌, ℕ, List, length, sym, ◌∙◌, ap, arith, subst}
 use Rattle.history.specs.{Rails.Rails, Rails.Ends, Rails.rails_timed, Recorded.first_ticks}
 use Rattle.tick_signal.specs.{declared.tern.Tern.Tern, Terns.tern_rails}
-use Rattle.timers.specs.Cells.{RailsStandFor}
+use Rattle.timers.specs.{Cells.RailsStandFor, Stretches.StaysAt}
 use Rattle.wave_runs.specs.Waves.{wave_at}
 use Rattle.wave_runs.proofs.WaveLaws.{ticks_more, longer, rails_along, new_length}
-use Rattle.wave_runs.proofs.ElementLaws.{StaysAt, ticks_throughout, timed_in}
+use Rattle.wave_runs.proofs.ElementLaws.{timed_in}
 use Rattle.wave_runs.proofs.elements.timer.Goals as goal
 
 pub stretch-input-requires : goal.stretch-input-requires
@@ -69,11 +69,12 @@ stretches-preserved c =
           (omega (arith, c.min-count.ensures, ap length inputs));
       values = ticks_more wave new answer m (rails_timed u p d) c.stretches.invariant.values
           c.in_ok-push.ensures
-          (timed_in c.history_laws.ensures u p d x (tern_rails answer) n m stays
+          (timed_in c.history_laws.ensures c.elements_stay_in_a_stretch.ensures u p d x
+          (tern_rails answer) n m stays
           (λ i inside. steady.same 0 i (omega arith) (omega (arith, c.min-count.ensures)))
           (c.first_answer-answer.ensures.timed p d 0 (first_ticks u n) (omega arith)
           c.stretches.invariant.stand));
-      stand = subst P (ticks_throughout u x n m stays ∙ ticks)
+      stand = subst P (c.elements_stay_in_a_stretch.ensures.recorded u x n m stays ∙ ticks)
           (c.first_answer-answer.ensures.stands p d 0 (first_ticks u n) (omega arith)
           c.stretches.invariant.stand);
     }

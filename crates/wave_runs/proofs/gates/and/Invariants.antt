@@ -1,15 +1,10 @@
-use Rattle.std.proofs.Common.{◌≡◌, ◌-◌, ◌≤◌, length}
+use Rattle.std.proofs.Common.{◌-◌, length}
 use Rattle.history.specs.Rails.{rails_and}
-use Rattle.wave_runs.specs.Waves.{wave_at, IsWaveOf}
+use Rattle.wave_runs.proofs.WaveLaws.{AreCombined}
 use Rattle.wave_runs.proofs.gates.and.Given as goal
 
 abbrev pub invariant-stretches : goal.invariant-stretches
-invariant-stretches l = record {
-  firsts : l.firsts ≡ l.a;
-  seconds : l.seconds ≡ l.b;
-  short : length l.wave ≤ length l.a;
-  values : IsWaveOf l.wave (length l.wave) (λ t. rails_and (wave_at l.a t) (wave_at l.b t));
-}
+invariant-stretches l = AreCombined rails_and l.a l.b l.firsts l.seconds l.wave
 
 abbrev pub decreases-stretches : goal.decreases-stretches
 decreases-stretches l = length l.a - length l.wave
