@@ -2,58 +2,21 @@ use Rattle.std.proofs.Common.{◌∙◌}
 use Rattle.line_model.proofs.Copying as copying
 use Rattle.line_model.proofs.line.Line.copy.Goals as goal
 
-pub invariant_of-result-clause-two_or_three : goal.invariant_of-result-clause-two_or_three
-invariant_of-result-clause-two_or_three c =
-    copying.two_or_three c.args.self.now _ _ _
-    (c.in_ok-terminals.ensures.items ∙ c.deref.ensures.value)
-    (c.in_ok-channels.ensures.items ∙ c.deref-2.ensures.value)
-    (c.in_ok-params.ensures.items ∙ c.deref-3.ensures.value)
-
-pub invariant_of-result-clause-plain_names : goal.invariant_of-result-clause-plain_names
-invariant_of-result-clause-plain_names c =
-    copying.plain_names c.args.self.now _ _ _
-    (c.in_ok-terminals.ensures.items ∙ c.deref.ensures.value)
-    (c.in_ok-channels.ensures.items ∙ c.deref-2.ensures.value)
-    (c.in_ok-params.ensures.items ∙ c.deref-3.ensures.value)
-
-pub invariant_of-result-clause-names_once : goal.invariant_of-result-clause-names_once
-invariant_of-result-clause-names_once c =
-    copying.names_once c.args.self.now _ _ _
-    (c.in_ok-terminals.ensures.items ∙ c.deref.ensures.value)
-    (c.in_ok-channels.ensures.items ∙ c.deref-2.ensures.value)
-    (c.in_ok-params.ensures.items ∙ c.deref-3.ensures.value)
-
-pub invariant_of-result-clause-flags_by_scheme : goal.invariant_of-result-clause-flags_by_scheme
-invariant_of-result-clause-flags_by_scheme c =
-    copying.flags_by_scheme c.args.self.now _ _ _
-    (c.in_ok-terminals.ensures.items ∙ c.deref.ensures.value)
-    (c.in_ok-channels.ensures.items ∙ c.deref-2.ensures.value)
-    (c.in_ok-params.ensures.items ∙ c.deref-3.ensures.value)
-
-pub invariant_of-result-clause-pairs_once : goal.invariant_of-result-clause-pairs_once
-invariant_of-result-clause-pairs_once c =
-    copying.pairs_once c.args.self.now _ _ _
-    (c.in_ok-terminals.ensures.items ∙ c.deref.ensures.value)
-    (c.in_ok-channels.ensures.items ∙ c.deref-2.ensures.value)
-    (c.in_ok-params.ensures.items ∙ c.deref-3.ensures.value)
-
-pub invariant_of-result-clause-param_names : goal.invariant_of-result-clause-param_names
-invariant_of-result-clause-param_names c =
-    copying.param_names c.args.self.now _ _ _
-    (c.in_ok-terminals.ensures.items ∙ c.deref.ensures.value)
-    (c.in_ok-channels.ensures.items ∙ c.deref-2.ensures.value)
-    (c.in_ok-params.ensures.items ∙ c.deref-3.ensures.value)
-
-pub invariant_of-result-clause-ends_in_range : goal.invariant_of-result-clause-ends_in_range
-invariant_of-result-clause-ends_in_range c =
-    copying.ends_in_range c.args.self.now _ _ _
-    (c.in_ok-terminals.ensures.items ∙ c.deref.ensures.value)
-    (c.in_ok-channels.ensures.items ∙ c.deref-2.ensures.value)
-    (c.in_ok-params.ensures.items ∙ c.deref-3.ensures.value)
-
-pub invariant_of-result-clause-delays_from_one : goal.invariant_of-result-clause-delays_from_one
-invariant_of-result-clause-delays_from_one c =
-    copying.delays_from_one c.args.self.now _ _ _
-    (c.in_ok-terminals.ensures.items ∙ c.deref.ensures.value)
-    (c.in_ok-channels.ensures.items ∙ c.deref-2.ensures.value)
-    (c.in_ok-params.ensures.items ∙ c.deref-3.ensures.value)
+pub invariant_of-result : goal.invariant_of-result
+invariant_of-result c =
+    let line = c.args.self.now in
+    let terminals = c.in_ok-terminals.ensures.items ∙ c.deref.ensures.value in
+    let channels = c.in_ok-channels.ensures.items ∙ c.deref-2.ensures.value in
+    let params = c.in_ok-params.ensures.items ∙ c.deref-3.ensures.value in
+    record {
+      tick_in_range = line.tick_in_range;
+      horizon_in_range = line.horizon_in_range;
+      two_or_three = copying.two_or_three line _ _ _ terminals channels params;
+      plain_names = copying.plain_names line _ _ _ terminals channels params;
+      names_once = copying.names_once line _ _ _ terminals channels params;
+      flags_by_scheme = copying.flags_by_scheme line _ _ _ terminals channels params;
+      pairs_once = copying.pairs_once line _ _ _ terminals channels params;
+      param_names = copying.param_names line _ _ _ terminals channels params;
+      ends_in_range = copying.ends_in_range line _ _ _ terminals channels params;
+      delays_from_one = copying.delays_from_one line _ _ _ terminals channels params;
+    }
