@@ -13,12 +13,13 @@ use crate::counts::{Counts, counts_of};
 use crate::fault::{CheckFault, in_script};
 use crate::script_check::check_claims;
 use certificate::{
-    CertificateFault, ScriptClaims, a_text_has_one_meaning, a_text_leaves_at_one_line,
-    certificates_can_be_written, read_certificate,
+    ScriptClaims, a_text_has_one_meaning, a_text_leaves_at_one_line, certificates_can_be_written,
+    read_certificate,
 };
 use gate_net::Net;
 use line_model::{Line, Script};
 use std::alloc::Global;
+use text_lines::TextFault;
 
 /// Checks a certificate of the scripts, and counts its verdicts. The error is the first fault: the
 /// first line that leaves the grammar; else, script by script, the first key that does not cover and
@@ -48,15 +49,15 @@ pub fn check(
 }
 
 // The fault of the text. A certificate of these scripts has few lines, so the number fits.
-fn of_text(line: &Line, scripts: &[Script], cert: &[u8], fault: CertificateFault) -> CheckFault
+fn of_text(line: &Line, scripts: &[Script], cert: &[u8], fault: TextFault) -> CheckFault
     requires few { length scripts.now ≤ 64 }
     requires leaves { IsCertificateFault line.now scripts.now cert.now fault }
     ensures { IsCheckFault line.now scripts.now cert.now result }
 {
     a_text_leaves_at_one_line();
     match fault {
-        CertificateFault::Line(number) => CheckFault::Line(number as u32),
-        CertificateFault::Memory => CheckFault::Memory,
+        TextFault::Line(number) => CheckFault::Line(number as u32),
+        TextFault::Memory => CheckFault::Memory,
     }
 }
 

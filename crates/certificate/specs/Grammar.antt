@@ -1,15 +1,15 @@
 -- The text of a certificate: the lines that one of a line's scripts has, and what each can say.
 use Rattle.std.specs.Prelude.{◌≡◌, ◌<◌, ◌^◌, ◌++◌, ℕ, List, [], ◌∷◌, length, map, codes, decimal}
+use Rattle.std.specs.Prelude.{refl}
 use Rattle.std.specs.List.{All, flat_map}
 use Rattle.tick_signal.specs.declared.tern.Tern.{Tern}
 use Rattle.line_model.specs.Parameters.{terminal_count, param_count}
 use Rattle.line_model.specs.{declared.line.Line.Line, declared.script.Script.Script}
 use Rattle.wave_runs.specs.Text.{runs_text}
-use Rattle.text_lines.specs.{Lines.Lines, Lines.LeavesAt, Lines.Goes, Named.named}
+use Rattle.text_lines.specs.{Lines.Lines, Lines.LeavesAt, Named.named, Grammar.Grammar}
+use Rattle.text_lines.specs.{Grammar.IsFault, declared.fault.TextFault.TextFault}
 use Rattle.certificate.specs.declared.claim.Claim.TheVariants.{Yes, No, Undecided}
-use Rattle.certificate.specs.declared.claim.CertificateFault.{CertificateFault}
 use Rattle.certificate.specs.{declared.claim.Claim.Claim, declared.claim.ScriptClaims.ScriptClaims}
-use Rattle.certificate.specs.declared.claim.CertificateFault.TheVariants as fault
 
 -- ---- what a certificate says
 
@@ -128,6 +128,22 @@ Stands line (verdict_of name) said bytes = IsVerdict line name said bytes
 abbrev pub opens_none : Place → Said → List Place
 opens_none place said = []
 
+pub only_text : (text line : List ℕ) (said : Said) → IsFixed text said line → line ≡ text
+only_text text line says_nothing is = is
+only_text text line (says_key w) is = absurd is
+only_text text line (says_verdict v) is = absurd is
+
+abbrev pub grammar_of : Line → Grammar Place Said
+grammar_of line = record {
+  stands = λ place said bytes. Stands line place said bytes;
+  opens = λ place said. opens_none place said;
+  fixed = λ text. fixed text;
+  nothing = says_nothing;
+  there = λ text. refl;
+  alone = λ text line said is. only_text text line said is;
+  opens_none = λ text. refl;
+}
+
 -- ---- a whole certificate
 
 -- what its lines say of a script, one after another
@@ -170,18 +186,7 @@ claims_in claims = record {
   verdicts = map verdict_in claims.verdicts.items;
 }
 
--- lines of these places were read, which say this, where others are expected after them
-abbrev pub Reads : Line → List Place → List Said → List Place → List ℕ → ℕ → List ℕ → ℕ → Type 0
-Reads line places said later text first rest next =
-    Goes (Stands line) opens_none (places ++ later) said text first later rest next
-
--- the fault, where these places are expected; want of memory says nothing
-abbrev pub IsFault : Line → List Place → List ℕ → ℕ → CertificateFault → Type 0
-IsFault line places text first (fault.Line n) =
-    LeavesAt (Stands line) opens_none places text first n
-IsFault line places text first fault.Memory = Unit {0}
-
 -- the fault of a whole text: the first line that leaves the grammar
-abbrev pub IsCertificateFault : Line → List Script → List ℕ → CertificateFault → Type 0
+abbrev pub IsCertificateFault : Line → List Script → List ℕ → TextFault → Type 0
 IsCertificateFault line scripts bytes f =
-    IsFault line (certificate_places line scripts) bytes 1 f
+    IsFault (grammar_of line) (certificate_places line scripts) bytes 1 f

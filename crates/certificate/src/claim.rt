@@ -1,9 +1,5 @@
-//! What a certificate claims, and what can be wrong with its text.
+//! What a certificate claims.
 
-ghost use Rattle.std.specs.Prelude.{◌≡◌};
-
-use line_model::Memory;
-use std::alloc::AllocFailed;
 use wave_runs::Runs;
 
 /// A written verdict of an obligation, which is a script at a terminal: each choice of delays
@@ -21,34 +17,4 @@ pub enum Claim {
 pub struct ScriptClaims {
     pub keys: Vec<Runs>,
     pub verdicts: Vec<Claim>,
-}
-
-/// Why a text is no certificate of the scripts.
-#[derive(Clone, Copy, PartialEq, Eq, Debug)]
-pub enum CertificateFault {
-    /// The first line, counted from 1, that leaves the grammar. Lines end after each line feed; one
-    /// that is missing, or has no line feed, is the line after the last.
-    Line(usize),
-    /// Memory ran out. Nothing else is answered by it.
-    Memory,
-}
-
-impl From<Memory> for CertificateFault {
-    ghost use Rattle.certificate.specs.declared.claim.CertificateFault.{CertificateFault};
-
-    ghost from_gives = { λ _ fault. fault ≡ CertificateFault.Memory };
-
-    fn from(_memory: Memory) -> CertificateFault {
-        CertificateFault::Memory
-    }
-}
-
-impl<T: Drop> From<AllocFailed<T>> for CertificateFault {
-    ghost use Rattle.certificate.specs.declared.claim.CertificateFault.{CertificateFault};
-
-    ghost from_gives = { λ _ fault. fault ≡ CertificateFault.Memory };
-
-    fn from(_failed: AllocFailed<T>) -> CertificateFault {
-        CertificateFault::Memory
-    }
 }

@@ -10,7 +10,7 @@ mod print;
 mod read;
 mod words;
 
-pub use claim::{CertificateFault, Claim, ScriptClaims};
+pub use claim::{Claim, ScriptClaims};
 pub use ends::{CERT_END, CERT_HEAD, a_certificate_is_its_parts};
 pub use laws::{
     a_text_has_one_meaning, a_text_leaves_at_one_line, certificates_can_be_written,

@@ -5,6 +5,7 @@ use super::*;
 use line_model::{Bounds, Channel, Kind, Line, Name, Scheme, Script, Terminal, makes_line};
 use std::alloc::Global;
 use std::test::Fail;
+use text_lines::TextFault;
 
 const LINES: [&[u8]; 7] = [
     b"pilot-cert 1",
@@ -80,8 +81,8 @@ fn leaves_at(alloc: Global, text: &[u8]) -> Result<Option<usize>, Fail> {
     let scripts = one_script(alloc)?;
     match read_certificate(alloc, &line, &scripts, text) {
         Ok(_) => Ok(None),
-        Err(CertificateFault::Line(number)) => Ok(Some(number)),
-        Err(CertificateFault::Memory) => Err("no memory")?,
+        Err(TextFault::Line(number)) => Ok(Some(number)),
+        Err(TextFault::Memory) => Err("no memory")?,
     }
 }
 

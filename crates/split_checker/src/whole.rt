@@ -17,10 +17,10 @@ use cert_checker::Counts;
 use gate_net::Net;
 use line_model::{Line, Script};
 use split_text::{
-    SplitClaim, SplitTextFault, a_split_text_has_one_meaning, a_split_text_leaves_at_one_line,
-    read_split_text,
+    SplitClaim, a_split_text_has_one_meaning, a_split_text_leaves_at_one_line, read_split_text,
 };
 use std::alloc::Global;
+use text_lines::TextFault;
 
 /// Checks the split trees of the scripts, and counts what each obligation comes to: `no` where its
 /// result is a `no`, yes where each leaf of its tree is yes, else undecided. The error is the first
@@ -51,15 +51,15 @@ pub fn check_split(
 }
 
 // The fault of the text. Split trees of these scripts have few lines, so the number fits.
-fn of_text(line: &Line, scripts: &[Script], cert: &[u8], fault: SplitTextFault) -> SplitFault
+fn of_text(line: &Line, scripts: &[Script], cert: &[u8], fault: TextFault) -> SplitFault
     requires few { length scripts.now ≤ 64 }
     requires leaves { IsSplitTextFault line.now scripts.now cert.now fault }
     ensures { IsSplitFault line.now scripts.now cert.now result }
 {
     a_split_text_leaves_at_one_line();
     match fault {
-        SplitTextFault::Line(number) => SplitFault::Line(number as u32),
-        SplitTextFault::Memory => SplitFault::Memory,
+        TextFault::Line(number) => SplitFault::Line(number as u32),
+        TextFault::Memory => SplitFault::Memory,
     }
 }
 

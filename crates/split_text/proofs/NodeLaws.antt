@@ -13,7 +13,7 @@ use Rattle.line_model.specs.{Parameters.param_count, SetBounds.SameButParams}
 use Rattle.box_split.specs.{Leaves.CanSplit, Parts.IsPart}
 use Rattle.split_text.specs.Known.{Known}
 use Rattle.split_text.specs.Grammar.{Said, says_nothing, says_fails, says_node, MayStand, IsNode}
-use Rattle.split_text.specs.Grammar.{node_text, split_line, IsFixed, IsResult, fails_text, deepest}
+use Rattle.split_text.specs.Grammar.{node_text, split_line, IsResult, fails_text, deepest}
 use Rattle.certificate.specs.Grammar.{AreNumbers}
 
 pub may_in_box : Known → (line part : Line) (n : ℕ) (box : Box) (root : Node) → IsPart line box part
@@ -57,12 +57,6 @@ no_node line part n bytes a b x y da db never node.Yes may is = (let t = da.1 is
 no_node line part n bytes a b x y da db never node.Undecided may is = (let t = db.1 is in cc)
 no_node line part n bytes a b x y da db never (node.Split param mid) may is =
     never param mid may.left may.can is
-
-pub not_fixed : (text bytes : List ℕ) (r : Bool) → Decides r (bytes ≡ text) → r ≡ false
-    → (said : Said) → ¬ (IsFixed text said bytes)
-not_fixed text bytes r tells is says_nothing same = (let t = tells.1 same in cc)
-not_fixed text bytes r tells is (says_fails numbers) same = same
-not_fixed text bytes r tells is (says_node root) same = same
 
 -- a split's line tells its middle
 pub one_mid : (name : List ℕ) (mid other : ℕ) → mid < 2 ^ 32 → other < 2 ^ 32

@@ -3,15 +3,15 @@ use Rattle.std.proofs.Common.{◌≡◌, ◌-◌, ℕ, List, [], ◌∷◌, ◌+
 use Rattle.std.proofs.Common.{arith, append_assoc}
 use Rattle.std.proofs.lemmas.List.{map-append}
 use Rattle.line_model.specs.{declared.line.Line.Line, Choice.Box}
-use Rattle.split_text.specs.declared.fault.SplitTextFault.{SplitTextFault}
-use Rattle.text_lines.specs.LineLaws.{goes_then}
+use Rattle.text_lines.specs.declared.fault.TextFault.{TextFault}
+use Rattle.text_lines.specs.{LineLaws.goes_then, Grammar.IsFault}
 use Rattle.box_split.specs.declared.node.Node.{Node}
 use Rattle.box_split.specs.declared.node.Node.TheVariants as node
 use Rattle.box_split.specs.Trees.{Yes, Undecided, Split, preorder}
 use Rattle.box_split.specs.Leaves.{lower_half, upper_half}
-use Rattle.split_text.specs.Reading.{IsBelow, IsFault}
+use Rattle.split_text.specs.Reading.{IsBelow, IsOver}
 use Rattle.split_text.specs.Grammar.{Place, node_over, Said, says_node, Stands, opens, below}
-use Rattle.split_text.specs.Grammar.{MayStand, MaySplit}
+use Rattle.split_text.specs.Grammar.{MayStand, MaySplit, grammar_of}
 use Rattle.split_text.proofs.ReadLaws.{GoesOn}
 
 -- what a split that can stand says, of a root that is one
@@ -23,13 +23,13 @@ split_can line n box root param mid is may =
 
 -- below a split, a tree over each half is expected
 pub halves_fault : (line : Line) (n : ℕ) (box : Box) (root : Node) (param mid : ℕ)
-    (later : List Place) (text : List ℕ) (a : ℕ) (f : SplitTextFault)
+    (later : List Place) (text : List ℕ) (a : ℕ) (f : TextFault)
     → root ≡ node.Split param mid
-    → IsFault line (node_over (n - 1) (lower_half box param mid)
+    → IsFault (grammar_of line) (node_over (n - 1) (lower_half box param mid)
     ∷ (node_over (n - 1) (upper_half box param mid) ∷ later)) text a f
-    → IsFault line (below n box root ++ later) text a f
+    → IsFault (grammar_of line) (below n box root ++ later) text a f
 halves_fault line n box root param mid later text a f is h =
-    subst (λ (r : Node). IsFault line (below n box r ++ later) text a f) (sym is) h
+    subst (λ (r : Node). IsFault (grammar_of line) (below n box r ++ later) text a f) (sym is) h
 
 -- a leaf has nothing below it
 pub below_yes : (line : Line) (n : ℕ) (box : Box) (root : Node) (old new : List Node)
@@ -73,45 +73,32 @@ whole_tree line n box root old new places text a at b later rest c g is =
     (below n box root ++ later) at b (map says_node is.more) later rest c g is.reads)
 
 pub below_split : (line : Line) (n : ℕ) (box : Box) (root : Node) (param mid : ℕ)
-    (first second : Node) (old one two three : List Node) (later : List Place)
-    (text : List ℕ) (a : ℕ) (t1 : List ℕ) (a1 : ℕ) (t2 : List ℕ) (a2 : ℕ) (t3 : List ℕ) (a3 : ℕ)
-    (t4 : List ℕ) (a4 : ℕ) → root ≡ node.Split param mid → MaySplit line n box param mid
-    → one ≡ old ++ root ∷ []
-    → GoesOn line (node_over (n - 1) (lower_half box param mid)
-    ∷ (node_over (n - 1) (upper_half box param mid) ∷ later)) (says_node first ∷ []) text a
-    (below (n - 1) (lower_half box param mid) first
-    ++ (node_over (n - 1) (upper_half box param mid) ∷ later)) t1 a1
-    → IsBelow line (n - 1) (lower_half box param mid) first one two t1 a1
-    (node_over (n - 1) (upper_half box param mid) ∷ later) t2 a2
-    → GoesOn line (node_over (n - 1) (upper_half box param mid) ∷ later) (says_node second ∷ [])
-    t2 a2 (below (n - 1) (upper_half box param mid) second ++ later) t3 a3
-    → IsBelow line (n - 1) (upper_half box param mid) second two three t3 a3 later t4 a4
-    → IsBelow line n box root old three text a later t4 a4
-below_split line n box root param mid first second old one two three later text a t1 a1 t2 a2
-    t3 a3 t4 a4 is can added g1 b1 g2 b2 =
-    let lower : Box = lower_half box param mid in
-    let upper : Box = upper_half box param mid in
-    let rest : List Place = node_over (n - 1) upper ∷ later in
-    let places : List Place = node_over (n - 1) lower ∷ rest in
-    let pre : List Node = preorder b1.tree in
-    let post : List Node = preorder b2.tree in
-    let one_read = whole_tree line (n - 1) lower first one two places text a t1 a1 rest t2 a2 g1 b1
-    in
-    let two_read = whole_tree line (n - 1) upper second two three rest t2 a2 t3 a3 later t4 a4 g2 b2
-    in
-    let P : List Said → Type 0 = λ l. GoesOn line places l text a later t4 a4 in
-    subst (λ (r : Node). IsBelow line n box r old three text a later t4 a4) (sym is) (record {
-      tree = Split param mid b1.tree b2.tree;
+    (old one two three : List Node) (later : List Place) (text : List ℕ) (a : ℕ)
+    (at : List ℕ) (b : ℕ) (rest : List ℕ) (c : ℕ)
+    → root ≡ node.Split param mid → MaySplit line n box param mid → one ≡ old ++ root ∷ []
+    → IsOver line (n - 1) (lower_half box param mid) one two text a
+    (node_over (n - 1) (upper_half box param mid) ∷ later) at b
+    → IsOver line (n - 1) (upper_half box param mid) two three at b later rest c
+    → IsBelow line n box root old three text a later rest c
+below_split line n box root param mid old one two three later text a at b rest c is can added lower
+    upper =
+    let pre : List Node = preorder lower.tree in
+    let post : List Node = preorder upper.tree in
+    let last : List Place = node_over (n - 1) (upper_half box param mid) ∷ later in
+    let places : List Place = node_over (n - 1) (lower_half box param mid) ∷ last in
+    let P : List Said → Type 0 = λ l. GoesOn line places l text a later rest c in
+    subst (λ (r : Node). IsBelow line n box r old three text a later rest c) (sym is) (record {
+      tree = Split param mid lower.tree upper.tree;
       more = pre ++ post;
       is = refl;
-      nodes = b2.nodes ∙ ap (λ (l : List Node). l ++ post)
-          (b1.nodes ∙ ap (λ (l : List Node). l ++ pre)
+      nodes = upper.nodes ∙ ap (λ (l : List Node). l ++ post)
+          (lower.nodes ∙ ap (λ (l : List Node). l ++ pre)
           (added ∙ ap (λ (r : Node). old ++ r ∷ []) is))
           ∙ append_assoc (old ++ node.Split param mid ∷ []) pre post
           ∙ append_assoc old (node.Split param mid ∷ []) (pre ++ post);
-      splits = (can.can, (b1.splits, b2.splits));
-      low = (let a = b1.low in let b = b2.low in let some = can.left in grind arith);
+      splits = (can.can, (lower.splits, upper.splits));
+      low = (let x = lower.low in let y = upper.low in let some = can.left in grind arith);
       reads = subst P (sym (map-append says_node pre post))
-          (goes_then (Stands line) opens places (map says_node pre) text a rest t2 a2
-          (map says_node post) later t4 a4 one_read two_read);
+          (goes_then (Stands line) opens places (map says_node pre) text a last at b
+          (map says_node post) later rest c lower.reads upper.reads);
     })

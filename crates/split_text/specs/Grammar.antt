@@ -1,11 +1,11 @@
 -- The text of split trees: the lines that one of a line's scripts has, and what each can say.
 use Rattle.std.specs.Prelude.{◌≡◌, ◌≤◌, ◌<◌, ◌^◌, ◌++◌, ◌-◌, ℕ, List, [], ◌∷◌, length, map, codes}
-use Rattle.std.specs.Prelude.{decimal}
+use Rattle.std.specs.Prelude.{decimal, refl}
 use Rattle.std.specs.List.{All, flat_map}
 use Rattle.line_model.specs.Parameters.{terminal_count, param_count}
 use Rattle.line_model.specs.{declared.line.Line.Line, declared.script.Script.Script}
 use Rattle.line_model.specs.{ParamNamesApart.name_of_param, Choice.Box, Choice.declared_box}
-use Rattle.text_lines.specs.{Lines.Lines, Lines.LeavesAt, Named.named}
+use Rattle.text_lines.specs.{Lines.Lines, Lines.LeavesAt, Named.named, Grammar.Grammar}
 use Rattle.certificate.specs.Grammar.{AreNumbers, numbers_text, script_text, end_text}
 use Rattle.certificate.specs.Grammar.{terminal_names}
 use Rattle.box_split.specs.declared.node.Node.{Node}
@@ -150,6 +150,22 @@ abbrev pub opens : Place → Said → List Place
 opens (fixed text) said = []
 opens (result_over box) said = below_said deepest box said
 opens (node_over n box) said = below_said n box said
+
+pub only_text : (text line : List ℕ) (said : Said) → IsFixed text said line → line ≡ text
+only_text text line says_nothing is = is
+only_text text line (says_fails numbers) is = absurd is
+only_text text line (says_node node) is = absurd is
+
+abbrev pub grammar_of : Line → Grammar Place Said
+grammar_of line = record {
+  stands = λ place said bytes. Stands line place said bytes;
+  opens = λ place said. opens place said;
+  fixed = λ text. fixed text;
+  nothing = says_nothing;
+  there = λ text. refl;
+  alone = λ text line said is. only_text text line said is;
+  opens_none = λ text. refl;
+}
 
 -- ---- a whole text
 

@@ -4,7 +4,6 @@
 
 mod claim;
 mod ends;
-mod fault;
 mod known;
 mod laws;
 mod node_line;
@@ -15,7 +14,6 @@ mod read_tree;
 
 pub use claim::SplitClaim;
 pub use ends::{SPLIT_END, SPLIT_HEAD, a_split_text_has_a_head_and_an_end};
-pub use fault::SplitTextFault;
 pub use laws::{
     a_split_text_grows_by_parts, a_split_text_has_one_meaning, a_split_text_is_short,
     a_split_text_leaves_at_one_line, printed_results_are_a_split_text, split_results_have_one_text,

@@ -2,19 +2,18 @@
 
 ghost use Rattle.std.specs.Prelude.{◌≡◌, ◌++◌, [], ◌∷◌, List, MatchResult};
 ghost use Rattle.line_model.specs.{SetBounds.SameButParams, Choice.Box, Choice.declared_box};
-ghost use Rattle.text_lines.specs.Lines.{Goes};
+ghost use Rattle.text_lines.specs.{Lines.Goes, Grammar.IsFault};
 ghost use Rattle.box_split.specs.Parts.{IsPart};
 ghost use Rattle.split_text.specs.Grammar.{Place, node_over, says_node, MayStand, below, Stands};
-ghost use Rattle.split_text.specs.Grammar.{opens};
-ghost use Rattle.split_text.specs.Reading.{IsBelow, IsFault};
+ghost use Rattle.split_text.specs.Grammar.{opens, grammar_of};
+ghost use Rattle.split_text.specs.Reading.{IsBelow, IsOver};
 
-use crate::fault::SplitTextFault;
 use crate::known::laws_below;
 use crate::node_line::node_in;
 use box_split::{Node, lower_part, upper_part};
 use line_model::Line;
 use std::alloc::Global;
-use text_lines::LineCursor;
+use text_lines::{LineCursor, TextFault};
 
 // Takes the line of a node over a part of the box, with at most `depth` splits above one another.
 fn next_node(
@@ -22,28 +21,51 @@ fn next_node(
     part: &Line,
     depth: u32,
     lines: &mut LineCursor<'_>,
-) -> Result<Node, SplitTextFault>
+) -> Result<Node, TextFault>
     requires { SameButParams line.now part.now }
     ensures { (box : Box) (later : List Place) → IsPart line.now box part.now → MatchResult result
         (λ node. MayStand part.now depth (declared_box part.now) node
         × Goes (Stands line.now) opens (node_over depth box ∷ later) (says_node node ∷ [])
         lines.old.rest.now lines.old.number (below depth box node ++ later)
         lines.new.rest.now lines.new.number)
-        (λ fault. IsFault line.now (node_over depth box ∷ later) lines.old.rest.now
+        (λ fault. IsFault (grammar_of line.now) (node_over depth box ∷ later) lines.old.rest.now
         lines.old.number fault) }
 {
     laws_below();
     let number = lines.number;
     let Some(bytes) = lines.next_line() else {
-        return Err(SplitTextFault::Line(number));
+        return Err(TextFault::Line(number));
     };
     match node_in(line, part, depth, bytes) {
         Some(node) => Ok(node),
-        None => Err(SplitTextFault::Line(number)),
+        None => Err(TextFault::Line(number)),
     }
 }
 
+// Adds the nodes of a tree over a part of the box, whose lines come next.
+#[cycle(tree)]
+fn read_half(
+    alloc: Global,
+    line: &Line,
+    part: &Line,
+    depth: u32,
+    lines: &mut LineCursor<'_>,
+    nodes: &mut Vec<Node>,
+) -> Result<(), TextFault>
+    requires { SameButParams line.now part.now }
+    ensures { (box : Box) (later : List Place) → IsPart line.now box part.now → MatchResult result
+        (λ _. IsOver line.now depth box nodes.old.items nodes.new.items lines.old.rest.now
+        lines.old.number later lines.new.rest.now lines.new.number)
+        (λ fault. IsFault (grammar_of line.now) (node_over depth box ∷ later) lines.old.rest.now
+        lines.old.number fault) }
+{
+    laws_below();
+    let root = next_node(line, part, depth, lines)?;
+    read_below(alloc, line, part, depth, root, lines, nodes)
+}
+
 /// Adds a node, which was read over this part of the box, and reads the lines below it.
+#[cycle(tree)]
 pub(crate) fn read_below(
     alloc: Global,
     line: &Line,
@@ -52,13 +74,13 @@ pub(crate) fn read_below(
     root: Node,
     lines: &mut LineCursor<'_>,
     nodes: &mut Vec<Node>,
-) -> Result<(), SplitTextFault>
+) -> Result<(), TextFault>
     requires part { SameButParams line.now part.now }
     requires root { MayStand part.now depth (declared_box part.now) root }
     ensures { (box : Box) (later : List Place) → IsPart line.now box part.now → MatchResult result
         (λ _. IsBelow line.now depth box root nodes.old.items nodes.new.items lines.old.rest.now
         lines.old.number later lines.new.rest.now lines.new.number)
-        (λ fault. IsFault line.now (below depth box root ++ later) lines.old.rest.now
+        (λ fault. IsFault (grammar_of line.now) (below depth box root ++ later) lines.old.rest.now
         lines.old.number fault) }
 {
     laws_below();
@@ -66,11 +88,9 @@ pub(crate) fn read_below(
     match root {
         Node::Split { param, mid } => {
             let half = lower_part(alloc, part, param, mid)?;
-            let first = next_node(line, &half, depth - 1, lines)?;
-            read_below(alloc, line, &half, depth - 1, first, lines, nodes)?;
+            read_half(alloc, line, &half, depth - 1, lines, nodes)?;
             let other = upper_part(alloc, part, param, mid)?;
-            let second = next_node(line, &other, depth - 1, lines)?;
-            read_below(alloc, line, &other, depth - 1, second, lines, nodes)
+            read_half(alloc, line, &other, depth - 1, lines, nodes)
         }
         Node::Yes => Ok(()),
         Node::Undecided => Ok(()),

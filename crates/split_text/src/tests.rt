@@ -6,6 +6,7 @@ use box_split::Node;
 use line_model::{Bounds, Channel, Kind, Line, Name, Scheme, Script, Terminal, makes_line};
 use std::alloc::Global;
 use std::test::Fail;
+use text_lines::TextFault;
 
 const LINES: [&[u8]; 11] = [
     b"pilot-split 1",
@@ -85,8 +86,8 @@ fn leaves_at(alloc: Global, text: &[u8]) -> Result<Option<usize>, Fail> {
     let scripts = one_script(alloc)?;
     match read_split_text(alloc, &line, &scripts, text) {
         Ok(_) => Ok(None),
-        Err(SplitTextFault::Line(number)) => Ok(Some(number)),
-        Err(SplitTextFault::Memory) => Err("no memory")?,
+        Err(TextFault::Line(number)) => Ok(Some(number)),
+        Err(TextFault::Memory) => Err("no memory")?,
     }
 }
 

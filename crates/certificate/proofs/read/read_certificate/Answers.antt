@@ -1,125 +1,15 @@
-use Rattle.std.proofs.Common.{List, ℕ, [], ◌∷◌, ◌++◌, map, ◌∙◌, subst}
+use Rattle.std.proofs.Common.{◌∙◌}
 use Rattle.std.proofs.lemmas.List.{length-map}
-use Rattle.std.proofs.lemmas.Result.{err_from_is_err_and}
-use Rattle.std.specs.List.{flat_map}
-use Rattle.certificate.specs.declared.claim.CertificateFault.TheVariants.{Line}
-use Rattle.certificate.specs.Grammar.{Place, Said, Stands, opens_none, part_places, part_said}
-use Rattle.certificate.specs.Grammar.{claims_in, says_nothing, fixed, end_text, certificate_places}
-use Rattle.certificate.specs.Grammar.{certificate_said}
-use Rattle.text_lines.specs.LineLaws.{leaves_later, leaves_here, goes_then}
-use Rattle.text_lines.specs.{Lines.Lines, Reading.none_left, Reading.some_left}
-use Rattle.certificate.proofs.ReadLaws.{later_fault, fault_from}
+use Rattle.std.proofs.lemmas.Result.{MatchResult-weaker}
+use Rattle.certificate.specs.Grammar.{claims_in}
 use Rattle.certificate.proofs.read.read_certificate.Goals as goal
 
-pub returns-in_err-take_line : goal.returns-in_err-take_line
-returns-in_err-take_line c =
-    let p = err_from_is_err_and c.from_residual.result c.from_residual.ensures.1 in
-    let line = c.args.line.now in
-    let parts : List Place = flat_map (part_places line) c.args.scripts.now in
-    let last : List Place = fixed end_text ∷ [] in
-    let places : List Place = certificate_places line c.args.scripts.now in
-    let text : List ℕ = c.new-lines.result.rest.now in
-    let a : ℕ = c.new-lines.result.number in
-    rw (p.1, p.2) (fault_from line places text c.args.bytes.now a 1 c.in_err-take_line.field-0.0
-    c.new-lines.ensures.all c.new-lines.ensures.first (c.in_err-take_line.ensures line (parts ++
-    last)))
-
-pub returns-in_err-claims : goal.returns-in_err-claims
-returns-in_err-claims c =
-    let p = err_from_is_err_and c.from_residual-in_err-claims.result
-    c.from_residual-in_err-claims.ensures.1 in
-    let line = c.args.line.now in
-    let parts : List Place = flat_map (part_places line) c.args.scripts.now in
-    let last : List Place = fixed end_text ∷ [] in
-    let places : List Place = certificate_places line c.args.scripts.now in
-    let text : List ℕ = c.new-lines.result.rest.now in
-    let a : ℕ = c.new-lines.result.number in
-    let one = c.in_ok-take_line.ensures line (parts ++ last) in
-    rw (p.1, p.2) (fault_from line places text c.args.bytes.now a 1 c.in_err-claims.field-0.0
-    c.new-lines.ensures.all c.new-lines.ensures.first
-    (later_fault line places (says_nothing ∷ []) text a (parts ++ last)
-    c.take_line.new.lines.rest.now c.take_line.new.lines.number c.in_err-claims.field-0.0 one
-    (c.in_err-claims.ensures last)))
-
-pub returns-in_err-take_line-2 : goal.returns-in_err-take_line-2
-returns-in_err-take_line-2 c =
-    let p = err_from_is_err_and c.from_residual-in_err-take_line-2.result
-    c.from_residual-in_err-take_line-2.ensures.1 in
-    let line = c.args.line.now in
-    let parts : List Place = flat_map (part_places line) c.args.scripts.now in
-    let last : List Place = fixed end_text ∷ [] in
-    let places : List Place = certificate_places line c.args.scripts.now in
-    let text : List ℕ = c.new-lines.result.rest.now in
-    let a : ℕ = c.new-lines.result.number in
-    let one = c.in_ok-take_line.ensures line (parts ++ last) in
-    let said : List Said = flat_map part_said (map claims_in c.in_ok-claims.claims.items) in
-    let two = goes_then (Stands line) opens_none places (says_nothing ∷ []) text a (parts ++ last)
-    c.take_line.new.lines.rest.now c.take_line.new.lines.number said last
-    c.read_parts.new.lines.rest.now c.read_parts.new.lines.number one
-    (c.in_ok-claims.ensures last).2 in
-    rw (p.1, p.2) (fault_from line places text c.args.bytes.now a 1 c.in_err-take_line-2.field-0.0
-    c.new-lines.ensures.all c.new-lines.ensures.first
-    (later_fault line places (says_nothing ∷ said) text a last
-    c.read_parts.new.lines.rest.now c.read_parts.new.lines.number c.in_err-take_line-2.field-0.0
-    two (c.in_err-take_line-2.ensures line [])))
-
-pub returns-then-is_empty : goal.returns-then-is_empty
-returns-then-is_empty c =
-    let line = c.args.line.now in
-    let parts : List Place = flat_map (part_places line) c.args.scripts.now in
-    let last : List Place = fixed end_text ∷ [] in
-    let places : List Place = certificate_places line c.args.scripts.now in
-    let text : List ℕ = c.new-lines.result.rest.now in
-    let a : ℕ = c.new-lines.result.number in
-    let one = c.in_ok-take_line.ensures line (parts ++ last) in
-    let said : List Said = flat_map part_said (map claims_in c.in_ok-claims.claims.items) in
-    let two = goes_then (Stands line) opens_none places (says_nothing ∷ []) text a (parts ++ last)
-    c.take_line.new.lines.rest.now c.take_line.new.lines.number said last
-    c.read_parts.new.lines.rest.now c.read_parts.new.lines.number one
-    (c.in_ok-claims.ensures last).2 in
-    let three = goes_then (Stands line) opens_none places (says_nothing ∷ said) text a last
-    c.read_parts.new.lines.rest.now c.read_parts.new.lines.number (says_nothing ∷ []) []
-    c.take_line-2.new.lines.rest.now c.take_line-2.new.lines.number two
-    (c.in_ok-take_line-2.ensures line []) in
-    let P : List ℕ → Type 0 = λ t. Lines (Stands line) opens_none places
-    (certificate_said (map claims_in c.in_ok-claims.claims.items)) t []
-    c.take_line-2.new.lines.rest.now in
-    let Q : List ℕ → Type 0 = λ r. Lines (Stands line) opens_none places
-    (certificate_said (map claims_in c.in_ok-claims.claims.items)) c.args.bytes.now [] r in
-    record {
-      many = length-map c.in_ok-claims.claims.items (λ x. claims_in x)
-          ∙ (c.in_ok-claims.ensures last).0;
-      each = (c.in_ok-claims.ensures last).1;
-      lines = subst Q (none_left c.is_empty.result c.take_line-2.new.lines.rest.now
-          c.is_empty.ensures c.if-is_empty.true) (subst P c.new-lines.ensures.all three.lines);
-    }
-
-pub returns-else-is_empty : goal.returns-else-is_empty
-returns-else-is_empty c =
-    let line = c.args.line.now in
-    let parts : List Place = flat_map (part_places line) c.args.scripts.now in
-    let last : List Place = fixed end_text ∷ [] in
-    let places : List Place = certificate_places line c.args.scripts.now in
-    let text : List ℕ = c.new-lines.result.rest.now in
-    let a : ℕ = c.new-lines.result.number in
-    let one = c.in_ok-take_line.ensures line (parts ++ last) in
-    let said : List Said = flat_map part_said (map claims_in c.in_ok-claims.claims.items) in
-    let two = goes_then (Stands line) opens_none places (says_nothing ∷ []) text a (parts ++ last)
-    c.take_line.new.lines.rest.now c.take_line.new.lines.number said last
-    c.read_parts.new.lines.rest.now c.read_parts.new.lines.number one
-    (c.in_ok-claims.ensures last).2 in
-    let three = goes_then (Stands line) opens_none places (says_nothing ∷ said) text a last
-    c.read_parts.new.lines.rest.now c.read_parts.new.lines.number (says_nothing ∷ []) []
-    c.take_line-2.new.lines.rest.now c.take_line-2.new.lines.number two
-    (c.in_ok-take_line-2.ensures line []) in
-    fault_from line places text c.args.bytes.now a 1 (Line c.take_line-2.new.lines.number)
-    c.new-lines.ensures.all
-    c.new-lines.ensures.first
-    (leaves_later (Stands line) opens_none places (says_nothing ∷ (said ++ says_nothing ∷ [])) text
-    a []
-    c.take_line-2.new.lines.rest.now c.take_line-2.new.lines.number
-    c.take_line-2.new.lines.number three
-    (leaves_here (Stands line) opens_none [] c.take_line-2.new.lines.rest.now
-    c.take_line-2.new.lines.number
-    (some_left c.is_empty.result c.take_line-2.new.lines.rest.now c.is_empty.ensures
-    c.if-is_empty.false)))
+pub returns : goal.returns
+returns c =
+    MatchResult-weaker c.read_text.result c.read_text.ensures
+    (λ claims is. record {
+      many = length-map claims.items (λ x. claims_in x) ∙ is.0;
+      each = is.1;
+      lines = is.2;
+    })
+    (λ fault is. is)

@@ -2,10 +2,11 @@ use Rattle.std.proofs.Common.{◌≡◌, List, [], ◌∷◌, ◌++◌, map, sym
 use Rattle.std.proofs.lemmas.Result.{err_from_is_err_and}
 use Rattle.line_model.specs.Choice.{Box, declared_box}
 use Rattle.box_split.specs.{declared.node.Node.Node, Trees.preorder}
-use Rattle.text_lines.specs.{LineLaws.goes_one, LineLaws.refused, Reading.said_as}
+use Rattle.text_lines.specs.LineLaws.{goes_one, refused}
+use Rattle.text_lines.specs.{Reading.said_as, ReadLaws.later_fault}
 use Rattle.split_text.specs.Grammar.{Stands, opens, result_over, says_node, says_fails, below}
-use Rattle.split_text.proofs.NodeLaws.{not_result, same_line}
-use Rattle.split_text.proofs.{ReadLaws.later_fault, TreeLaws.whole_tree}
+use Rattle.split_text.specs.Grammar.{grammar_of}
+use Rattle.split_text.proofs.{NodeLaws.not_result, NodeLaws.same_line, TreeLaws.whole_tree}
 use Rattle.split_text.proofs.read.read_result.Goals as goal
 
 pub returns-in-Some-2 : goal.returns-in-Some-2
@@ -40,7 +41,7 @@ returns-in_err-read_below c =
     c.args.lines.now.rest.now c.in-Some.bytes.now c.next_line.new.self.rest.now
     c.args.lines.now.number c.next_line.new.self.number c.in-Some.ensures.0
     c.in-Some-node_in.ensures c.in-Some.ensures.1 in
-    later_fault line (result_over box ∷ later) (says_node root ∷ []) c.args.lines.now.rest.now
+    later_fault (grammar_of line) (result_over box ∷ later) (says_node root ∷ []) c.args.lines.now.rest.now
     c.args.lines.now.number (below 8 box root ++ later) c.next_line.new.self.rest.now
     c.next_line.new.self.number c.in_err-read_below.field-0.0 one
     (c.in_err-read_below.ensures box later (c.laws_below.ensures.own line line (same_line line))))
