@@ -1,51 +1,19 @@
--- The rule that is held, by the tests of the trip.
-use Rattle.std.proofs.Common.{◌≡◌, ℕ, ◌+◌, ◌<◌, ◌≤◌, Bool, true, false, not, refl, sym, ◌∙◌, ap}
-use Rattle.std.proofs.Common.{arith, subst}
-use Rattle.std.specs.Prelude.{IsTrue, IsFalse}
+-- The rule that is held.
+use Rattle.std.proofs.Common.{◌≡◌, ℕ, ◌<◌, ◌≤◌, Bool, true, false, not, refl, arith, subst, Option}
+use Rattle.std.proofs.Common.{Some, None}
+use Rattle.std.specs.Option.{is_some}
 use Rattle.std.specs.Bool.{Decides}
-use Rattle.history.specs.{Elements.some_below, Laws.TestsAreTheirFacts, Rails.Rails}
+use Rattle.std.specs.Prelude.{IsTrue, IsFalse}
+use Rattle.history.specs.Rails.{Rails}
 use Rattle.line_model.specs.declared.script.Kind.TheVariants.{Internal, External}
 use Rattle.line_model.specs.{declared.script.Kind.Kind, Rule.IsHeld}
-use Rattle.cert_checker.proofs.Firsts.{not_both}
 
-pub off_by : (b : Bool) → (b ≡ true → ⊥) → b ≡ false
-off_by true never = absurd (never refl)
-off_by false never = refl
-
-on_by : (b : Bool) → not b ≡ true → b ≡ false
-on_by true on = cc
-on_by false on = refl
-
-pub internal_held : TestsAreTheirFacts → (kind : Kind) (deadline horizon : ℕ) (trip : ℕ → Rails)
-    (b : Bool) → kind ≡ Internal → b ≡ some_below (λ t. (trip t).must) (deadline + 1)
-    → Decides b (IsHeld kind deadline horizon trip)
-internal_held tests Internal deadline horizon trip b is test =
-    let some = tests.some (λ t. (trip t).must) (deadline + 1) in (
-      λ on.
-          let found = some.0 (sym test ∙ on) in
-          let below : found.0 < deadline + 1 = found.1 in
-          (found.0, omega (arith, below), found.2),
-      λ held.
-          let early : held.0 ≤ deadline = held.1 in
-          test ∙ some.1 (held.0, omega (arith, early), held.2),
-    )
-internal_held tests External deadline horizon trip b is test = absurd (cc)
-
-pub external_held : TestsAreTheirFacts → (kind : Kind) (deadline horizon : ℕ) (trip : ℕ → Rails)
-    (b : Bool) (n : ℕ) → kind ≡ External → n ≡ horizon
-    → b ≡ some_below (λ t. (trip t).may) n → Decides (not b) (IsHeld kind deadline horizon trip)
-external_held tests Internal deadline horizon trip b n is all test = absurd (cc)
-external_held tests External deadline horizon trip b n is all test =
-    let some = tests.some (λ t. (trip t).may) n in (
-      λ off t early.
-          off_by (trip t).may (λ on. not_both b (on_by b off)
-          (test ∙ some.1 (t, omega (arith, early, all), on))),
-      λ held.
-          ap not (off_by b (λ on.
-          let found = some.0 (sym test ∙ on) in
-          let below : found.0 < n = found.1 in
-          not_both (trip found.0).may (held found.0 (omega (arith, below, all))) found.2)),
-    )
+-- whether there is none
+pub none_told : (o : Option ℕ) (none : Bool) → is_some o ≡ not none → Decides none (o ≡ None)
+none_told None true tells = (λ yes. refl, λ is. refl)
+none_told None false tells = absurd (cc)
+none_told (Some n) true tells = absurd (cc)
+none_told (Some n) false tells = (λ yes. absurd (cc), λ is. absurd (cc))
 
 -- what is held rests on the ticks of the run alone
 pub held_same : (kind : Kind) (deadline horizon : ℕ) (u v : ℕ → Rails) → deadline < horizon

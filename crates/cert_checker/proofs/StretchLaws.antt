@@ -1,16 +1,15 @@
 -- What a script shows over a stretch of ticks without a change.
 use Rattle.std.proofs.Common.{◌≡◌, ◌&&◌, ◌||◌, ℕ, ◌+◌, ◌≤◌, ◌<◌, Bool, List, [], ◌∷◌, ◌++◌, length}
-use Rattle.std.proofs.Common.{take, get_or, true, false, refl, ◌∙◌, ap, arith}
+use Rattle.std.proofs.Common.{take, get_or, true, false, refl, sym, ◌∙◌, ap, arith}
 use Rattle.std.proofs.lemmas.Bool.Decides.{nat_tests}
 use Rattle.std.proofs.lemmas.List.{take_more}
 use Rattle.std.proofs.lemmas.List.Elements.{All-head, All-tail, All-push, All-weaker, All-same}
-use Rattle.std.specs.Prelude.{IsTrue}
+use Rattle.std.specs.Prelude.{IsTrue, nat_le, nat_lt}
 use Rattle.std.specs.List.{All}
 use Rattle.line_model.specs.declared.script.SeenSpan.{SeenSpan}
 use Rattle.line_model.specs.declared.script.What.TheVariants.{Element, Loss}
-use Rattle.line_model.specs.Seen.{shows, loses, is_seen, is_lost, is_of_place, is_of_loss}
-use Rattle.line_model.specs.{declared.script.Place.Place, declared.script.What.What}
-use Rattle.cert_checker.specs.Stretches.{HoldsAlike, ShowsAlike}
+use Rattle.line_model.specs.declared.script.What.{What}
+use Rattle.cert_checker.specs.Stretches.{HoldsAlike, ShowsAlike, is_of, holds}
 
 -- ---- one span
 
@@ -50,26 +49,27 @@ of_this : (of b c : Bool) → (IsTrue of → b ≡ c) → (of && b) ≡ (of && c
 of_this true b c same = same refl
 of_this false b c same = refl
 
-pub seen_alike : (spans : List SeenSpan) (place : Place) (t end k : ℕ)
-    → All (ShowsAlike (Element place) t end) spans → t ≤ k → k < end
-    → is_seen spans place k ≡ is_seen spans place t
-seen_alike [] place t end k alike low high = refl
-seen_alike (span ∷ spans) place t end k alike low high =
-    ap (λ (b : Bool). b || is_seen spans place k)
-    (of_this (is_of_place place span.what) _ _
-    (λ of. All-head (ShowsAlike (Element place) t end) span spans alike of k low high))
-    ∙ ap (λ (b : Bool). shows place t span || b)
-    (seen_alike spans place t end k
-    (All-tail (ShowsAlike (Element place) t end) span spans alike) low high)
+-- what a span has at a tick
+span_holds : What → ℕ → SeenSpan → Bool
+span_holds what t span = is_of what span.what && (nat_le span.from t && nat_lt t span.to)
 
-pub lost_alike : (spans : List SeenSpan) (channel t end k : ℕ)
-    → All (ShowsAlike (Loss channel) t end) spans → t ≤ k → k < end
-    → is_lost spans channel k ≡ is_lost spans channel t
-lost_alike [] channel t end k alike low high = refl
-lost_alike (span ∷ spans) channel t end k alike low high =
-    ap (λ (b : Bool). b || is_lost spans channel k)
-    (of_this (is_of_loss channel span.what) _ _
-    (λ of. All-head (ShowsAlike (Loss channel) t end) span spans alike of k low high))
-    ∙ ap (λ (b : Bool). loses channel t span || b)
-    (lost_alike spans channel t end k
-    (All-tail (ShowsAlike (Loss channel) t end) span spans alike) low high)
+holds_more : (span : SeenSpan) (spans : List SeenSpan) (what : What) (t : ℕ)
+    → holds (span ∷ spans) what t ≡ (span_holds what t span || holds spans what t)
+unfolding span_holds
+holds_more span spans (Element place) t = refl
+holds_more span spans (Loss channel) t = refl
+
+pub holds_alike : (spans : List SeenSpan) (what : What) (t end k : ℕ)
+    → All (ShowsAlike what t end) spans → t ≤ k → k < end
+    → holds spans what k ≡ holds spans what t
+unfolding span_holds
+holds_alike [] (Element place) t end k alike low high = refl
+holds_alike [] (Loss channel) t end k alike low high = refl
+holds_alike (span ∷ spans) what t end k alike low high =
+    holds_more span spans what k
+    ∙ ap (λ (b : Bool). b || holds spans what k)
+    (of_this (is_of what span.what) _ _
+    (λ of. All-head (ShowsAlike what t end) span spans alike of k low high))
+    ∙ ap (λ (b : Bool). span_holds what t span || b)
+    (holds_alike spans what t end k (All-tail (ShowsAlike what t end) span spans alike) low high)
+    ∙ sym (holds_more span spans what t)

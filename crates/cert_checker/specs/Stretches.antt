@@ -1,8 +1,9 @@
 -- Stretches of ticks over which a script shows the same.
-use Rattle.std.specs.Prelude.{◌≡◌, ◌≤◌, ◌<◌, ◌&&◌, ℕ, Bool, IsTrue, nat_le, nat_lt}
+use Rattle.std.specs.Prelude.{◌≡◌, ◌≤◌, ◌<◌, ◌&&◌, ℕ, Bool, List, IsTrue, nat_le, nat_lt}
 use Rattle.line_model.specs.declared.script.SeenSpan.{SeenSpan}
 use Rattle.line_model.specs.declared.script.What.TheVariants.{Element, Loss}
-use Rattle.line_model.specs.{declared.script.What.What, Seen.is_of_place, Seen.is_of_loss}
+use Rattle.line_model.specs.declared.script.What.{What}
+use Rattle.line_model.specs.Seen.{is_of_place, is_of_loss, is_seen, is_lost}
 
 -- from t on until `end` a span holds each tick, or none
 abbrev pub HoldsAlike : ℕ → ℕ → SeenSpan → Type 0
@@ -17,3 +18,8 @@ is_of (Loss channel) what = is_of_loss channel what
 -- the same of a span of this alone
 abbrev pub ShowsAlike : What → ℕ → ℕ → SeenSpan → Type 0
 ShowsAlike what t end span = IsTrue (is_of what span.what) → HoldsAlike t end span
+
+-- the element is seen, or the channel lost, at a tick
+abbrev pub holds : List SeenSpan → What → ℕ → Bool
+holds spans (Element place) t = is_seen spans place t
+holds spans (Loss channel) t = is_lost spans channel t

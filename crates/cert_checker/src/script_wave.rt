@@ -5,7 +5,7 @@ ghost use Rattle.std.specs.List.{All};
 ghost use Rattle.history.specs.Rails.{both};
 ghost use Rattle.line_model.specs.Seen.{is_seen, is_lost};
 ghost use Rattle.wave_runs.specs.Waves.{IsWaveOf};
-ghost use Rattle.cert_checker.specs.Stretches.{ShowsAlike, is_of};
+ghost use Rattle.cert_checker.specs.Stretches.{ShowsAlike, is_of, holds};
 
 use line_model::{Memory, Place, Script, SeenSpan, What, loss, seen};
 use std::alloc::Global;
@@ -30,14 +30,7 @@ pub fn seen_wave(alloc: Global, script: &Script, place: Place, horizon: u32) -> 
     ensures { IfOk result (λ wave.
         IsWaveOf wave horizon (λ t. both (is_seen script.now.spans.items place t))) }
 {
-    waves_grow();
-    let mut wave = Runs::new(alloc);
-    'stretches: while wave.len() < horizon {
-        let t = wave.len();
-        let end = alike_until(script.spans.as_slice(), What::Element(place), t, horizon);
-        wave.push(Tern::known(seen(script, place, t)), end - t)?;
-    }
-    Ok(wave)
+    wave_of(alloc, script, What::Element(place), horizon)
 }
 
 /// When the script has the channel lost.
@@ -46,14 +39,33 @@ pub fn loss_wave(alloc: Global, script: &Script, channel: u32, horizon: u32) -> 
     ensures { IfOk result (λ wave.
         IsWaveOf wave horizon (λ t. both (is_lost script.now.spans.items channel t))) }
 {
+    wave_of(alloc, script, What::Loss(channel), horizon)
+}
+
+// When the script has this.
+fn wave_of(alloc: Global, script: &Script, what: What, horizon: u32) -> Result<Runs, Memory>
+    requires { horizon ≤ 4000 }
+    ensures { IfOk result (λ wave.
+        IsWaveOf wave horizon (λ t. both (holds script.now.spans.items what t))) }
+{
     waves_grow();
     let mut wave = Runs::new(alloc);
     'stretches: while wave.len() < horizon {
         let t = wave.len();
-        let end = alike_until(script.spans.as_slice(), What::Loss(channel), t, horizon);
-        wave.push(Tern::known(loss(script, channel, t)), end - t)?;
+        let end = alike_until(script.spans.as_slice(), what, t, horizon);
+        wave.push(Tern::known(holds(script, what, t)), end - t)?;
     }
     Ok(wave)
+}
+
+// Whether the script has this at a tick.
+fn holds(script: &Script, what: What, t: u32) -> bool
+    ensures { result ≡ holds script.now.spans.items what t }
+{
+    match what {
+        What::Element(place) => seen(script, place, t),
+        What::Loss(channel) => loss(script, channel, t),
+    }
 }
 
 // Until when no span of this begins or ends after that tick.

@@ -1,7 +1,7 @@
-use Rattle.std.proofs.Common.{◌≡◌, Bool, sym, ◌∙◌, ap, arith, ⊎_elim}
+use Rattle.std.proofs.Common.{sym, ◌∙◌, ap, arith, ⊎_elim}
 use Rattle.std.proofs.lemmas.Bool.{cases_lt}
 use Rattle.history.specs.Rails.{must_of}
-use Rattle.simulator.specs.PlayedTracks.{is_on, on_is}
+use Rattle.simulator.specs.PlayedTracks.{on_is}
 use Rattle.cert_checker.proofs.refutation.first_trip.Goals as goal
 
 pub returns-then-must : goal.returns-then-must

@@ -4,11 +4,10 @@ use Rattle.std.specs.List.{All}
 use Rattle.history.specs.Rails.{Rails, both}
 use Rattle.tick_signal.specs.declared.tern.Tern.{Tern}
 use Rattle.line_model.specs.declared.script.SeenSpan.{SeenSpan}
-use Rattle.line_model.specs.{declared.script.What.TheVariants.Element, Seen.is_seen}
 use Rattle.wave_runs.specs.Waves.{IsWaveOf}
-use Rattle.cert_checker.specs.Stretches.{ShowsAlike}
-use Rattle.cert_checker.proofs.{StretchLaws.seen_alike, Waves.at_none}
-use Rattle.cert_checker.proofs.script_wave.seen_wave.Goals as goal
+use Rattle.cert_checker.specs.Stretches.{ShowsAlike, holds}
+use Rattle.cert_checker.proofs.{StretchLaws.holds_alike, Waves.at_none}
+use Rattle.cert_checker.proofs.script_wave.wave_of.Goals as goal
 
 pub stretches-init : goal.stretches-init
 stretches-init c = record {
@@ -19,14 +18,14 @@ stretches-init c = record {
 pub stretches-preserved : goal.stretches-preserved
 stretches-preserved c =
     let spans : List SeenSpan = c.args.script.now.spans.items in
-    let value : ℕ → Rails = λ k. both (is_seen spans c.args.place k) in
+    let value : ℕ → Rails = λ k. both (holds spans c.args.what k) in
     let wave : List Tern = c.stretches.wave in
     let t : ℕ = c.len-t.result in
     let end : ℕ = c.alike_until-end.result in
     let here : t ≡ length wave = c.len-t.ensures.length in
     let later : t < end = c.alike_until-end.ensures.later in
     let inside : end ≤ c.args.horizon = c.alike_until-end.ensures.inside in
-    let Q : List SeenSpan → Type 0 = λ l. All (ShowsAlike (Element c.args.place) t end) l in
+    let Q : List SeenSpan → Type 0 = λ l. All (ShowsAlike c.args.what t end) l in
     let alike : Q spans = subst Q c.as_slice.ensures.value c.alike_until-end.ensures.alike in
     let long : length c.push.new.self ≡ length wave + (end - t) =
     c.waves_grow.ensures.long wave c.push.new.self c.known.result (end - t)
@@ -36,15 +35,15 @@ stretches-preserved c =
       values = c.waves_grow.ensures.ticks wave c.push.new.self c.known.result (end - t) value
           c.stretches.invariant.values c.in_ok-push.ensures
           (λ k low high. c.known.ensures 0 (omega arith)
-          ∙ ap (λ (b : Bool). both b) (c.seen.ensures
-          ∙ sym (seen_alike spans c.args.place t end k alike (omega (arith, low, here))
+          ∙ ap (λ (b : Bool). both b) (c.holds.ensures
+          ∙ sym (holds_alike spans c.args.what t end k alike (omega (arith, low, here))
           (omega (arith, high, here, later)))));
     }
 
 pub returns : goal.returns
 returns c =
     let spans : List SeenSpan = c.args.script.now.spans.items in
-    let value : ℕ → Rails = λ k. both (is_seen spans c.args.place k) in
+    let value : ℕ → Rails = λ k. both (holds spans c.args.what k) in
     let P : ℕ → Type 0 = λ n. IsWaveOf c.stretches.wave n value in
     let all : length c.stretches.wave ≡ c.args.horizon = omega (arith, c.stretches.invariant.short) in
     subst P all c.stretches.invariant.values
