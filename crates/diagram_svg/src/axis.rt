@@ -23,9 +23,9 @@ pub fn axis(
     bottom: u32,
 ) -> Result<Markup, Memory> {
     let mut drawn = units(alloc, bottom)?;
-    let step = label_step(window);
+    let step = label_step(window, of.tick_us);
     let start = window.first.div_ceil(step);
-    for i in 0..16_u32 {
+    for i in 0..32_u32 {
         let t = start.saturating_add(i).saturating_mul(step);
         if t >= window.first && t <= window.last {
             drawn = drawn.and(&round_tick(alloc, of, window, t, top, bottom)?)?;
@@ -40,9 +40,10 @@ pub fn axis(
     Ok(drawn)
 }
 
-// What the two rows of numbers are.
+// What the two rows of numbers are, at the left of the longest number that may stand at the axis's
+// left end.
 fn units(alloc: Global, bottom: u32) -> Result<Markup, Memory> {
-    let x = LEFT - 100;
+    let x = LEFT - 520;
     let tick = Words::new(alloc).word(b"tick")?;
     let ms = Words::new(alloc).word(b"ms")?;
     let tick = label(alloc, b"end", (x, bottom.saturating_add(170)), &tick)?;
@@ -70,8 +71,8 @@ fn round_tick(
 
 // Two slanted strokes through the foot of the axis.
 fn cut(alloc: Global, x: u32, bottom: u32) -> Result<Markup, Memory>
-    requires high { x ≤ 9200 }
-    requires low { 1900 ≤ x }
+    requires high { x ≤ 7500 }
+    requires low { 2000 ≤ x }
 {
     let (upper, lower) = (bottom.saturating_sub(50), bottom.saturating_add(50));
     let first = line(alloc, b"margin", (x - 50, lower), (x - 10, upper))?;

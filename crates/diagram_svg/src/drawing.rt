@@ -20,8 +20,8 @@ pub enum Subject {
     EveryChoice,
 }
 
-// Where the rows begin: below the heading and the labels of the marks.
-const TOP: u32 = 760;
+// Where the rows begin: below the heading and the words of the marks.
+const TOP: u32 = 600;
 
 /// The drawing of a diagram, as a whole SVG document.
 pub fn draw(
@@ -44,9 +44,8 @@ pub fn draw(
         .and(&rectangle(alloc, b"paper", (0, 0), (10000, height))?)?
         .and(&label(alloc, b"heading", (140, 260), &heading)?)?
         .and(&scaled)?
-        .and(&drawn.bars)?
+        .and(&drawn.rows)?
         .and(&marked)?
-        .and(&drawn.labels)?
         .and(&below)?;
     document(alloc, height / 10, &inside)
 }
@@ -102,29 +101,23 @@ fn scheme_name(scheme: Scheme) -> &'static [u8] {
     }
 }
 
-// The rows, what is written at the trips, which lies over the marks, and where the rows end.
+// The rows with what is written at them, and where they end.
 #[derive(Drop)]
 struct Drawn {
-    bars: Markup,
-    labels: Markup,
+    rows: Markup,
     bottom: u32,
 }
 
 fn rows(alloc: Global, line: &Line, diagram: &Diagram) -> Result<Drawn, Memory> {
-    let mut bars = Markup::new(alloc);
-    let mut labels = Markup::new(alloc);
+    let mut rows = Markup::new(alloc);
     let mut y = TOP;
     for row in &diagram.rows {
         let base = y.saturating_add(height_above(row));
-        bars = bars.and(&block(alloc, line, diagram, row, base)?)?;
-        labels = labels.and(&label_of(alloc, line, diagram, row, base)?)?;
+        rows = rows.and(&block(alloc, line, diagram, row, base)?)?;
+        rows = rows.and(&label_of(alloc, line, diagram, row, base)?)?;
         y = base.saturating_add(height_below(row));
     }
-    Ok(Drawn {
-        bars,
-        labels,
-        bottom: y,
-    })
+    Ok(Drawn { rows, bottom: y })
 }
 
 // What is written at a row: at a terminal's first its name, at its trip the times.
@@ -161,8 +154,7 @@ fn height_above(row: &Row) -> u32 {
 fn room_above(trace: Trace) -> u32 {
     match trace {
         Trace::Seen(_) | Trace::Lost(_) => 190,
-        Trace::Key(_) => 250,
-        Trace::Trip(_) => 360,
+        Trace::Key(_) | Trace::Trip(_) => 250,
     }
 }
 

@@ -1,5 +1,9 @@
 //! The inception and the deadline.
 
+ghost use Rattle.std.specs.Prelude.{◌≡◌, ◌++◌, IfOk, option_map};
+ghost use Rattle.diagram_svg.specs.Marks.{deadline_of, inception_of, view_of};
+ghost use Rattle.diagram_svg.specs.Words.{said, tick_said};
+
 use crate::scale::x_of;
 use crate::shape::{label, line};
 use crate::words::Words;
@@ -8,11 +12,36 @@ use std::alloc::Global;
 use svg_text::Markup;
 use timing_diagram::Diagram;
 
-// Where a label that begins there would leave the drawing.
-const NEAR_RIGHT: u32 = 8200;
+// A tick that is marked by a line: where the line stands, and what is said of it.
+#[derive(Drop)]
+struct Mark {
+    x: u32,
+    said: Words,
+}
+
+// How a mark looks: its line, and its words at the right and at the left of it.
+#[derive(Clone, Copy)]
+struct Look {
+    line: &'static [u8],
+    right: &'static [u8],
+    left: &'static [u8],
+}
+
+const INCEPTION: Look = Look {
+    line: b"inception",
+    right: b"quiet",
+    left: b"quiet-end",
+};
+
+const DEADLINE: Look = Look {
+    line: b"deadline",
+    right: b"due",
+    left: b"due-end",
+};
 
 /// The line of the inception, at the beginning of its tick, and that of the deadline, at the end
-/// of its tick. Their labels stand on lines of their own above the rows.
+/// of its tick. Their words stand side by side above the rows: those of the earlier line end at
+/// it, those of the later one begin at it, so neither meets the other or a line.
 pub fn marks(
     alloc: Global,
     of: &Line,
@@ -20,47 +49,88 @@ pub fn marks(
     top: u32,
     bottom: u32,
 ) -> Result<Markup, Memory> {
+    let inception = inception_mark(alloc, of, diagram)?;
+    let deadline = deadline_mark(alloc, of, diagram)?;
     let mut drawn = Markup::new(alloc);
-    if let Some(t) = diagram.inception {
-        let said = Words::new(alloc).word(b"fault ")?;
-        let x = x_of(diagram.window, t);
-        let said = at_tick(said, of, t)?;
-        let upper = top.saturating_sub(330);
-        drawn = drawn.and(&line(alloc, b"inception", (x, upper), (x, bottom))?)?;
-        drawn = drawn.and(&flag(alloc, b"quiet", b"quiet-end", x, upper, &said)?)?;
+    if let Some(mark) = &inception {
+        let is_earlier = match &deadline {
+            Some(other) => mark.x <= other.x,
+            None => false,
+        };
+        drawn = drawn.and(&flagged(alloc, INCEPTION, mark, is_earlier, top, bottom)?)?;
     }
-    if let Some(t) = diagram.deadline {
-        let said = Words::new(alloc).word(b"deadline ")?;
-        let x = x_of(diagram.window, t.saturating_add(1));
-        let said = at_tick(said, of, t)?;
-        let upper = top.saturating_sub(170);
-        drawn = drawn.and(&line(alloc, b"deadline", (x, upper), (x, bottom))?)?;
-        drawn = drawn.and(&flag(alloc, b"due", b"due-end", x, upper, &said)?)?;
+    if let Some(mark) = &deadline {
+        let is_earlier = match &inception {
+            Some(other) => mark.x < other.x,
+            None => false,
+        };
+        drawn = drawn.and(&flagged(alloc, DEADLINE, mark, is_earlier, top, bottom)?)?;
     }
     Ok(drawn)
 }
 
+// The mark of the inception.
+fn inception_mark(alloc: Global, of: &Line, diagram: &Diagram) -> Result<Option<Mark>, Memory>
+    ensures { IfOk result (λ mark.
+        option_map view_of mark ≡ inception_of of.now diagram.now) }
+{
+    let Some(t) = diagram.inception else {
+        return Ok(None);
+    };
+    let said = at_tick(Words::new(alloc).word(b"fault ")?, of, t)?;
+    Ok(Some(Mark {
+        x: x_of(diagram.window, t),
+        said,
+    }))
+}
+
+// The mark of the deadline.
+fn deadline_mark(alloc: Global, of: &Line, diagram: &Diagram) -> Result<Option<Mark>, Memory>
+    ensures { IfOk result (λ mark.
+        option_map view_of mark ≡ deadline_of of.now diagram.now) }
+{
+    let Some(t) = diagram.deadline else {
+        return Ok(None);
+    };
+    let said = at_tick(Words::new(alloc).word(b"deadline ")?, of, t)?;
+    Ok(Some(Mark {
+        x: x_of(diagram.window, t.saturating_add(1)),
+        said,
+    }))
+}
+
 // And a tick, with its milliseconds.
-fn at_tick(said: Words, of: &Line, t: u32) -> Result<Words, Memory> {
-    said.number(t as u64)?
+fn at_tick(words: Words, of: &Line, t: u32) -> Result<Words, Memory>
+    ensures { IfOk result (λ all. said all ≡ said words ++ tick_said of.now.tick_us t) }
+{
+    words
+        .number(t as u64)?
         .word(b" (")?
         .milliseconds((t as u64).saturating_mul(of.tick_us as u64))?
         .word(b" ms)")
 }
 
-// Words beside the upper end of a line, at its right, or at its left where that leaves the drawing.
-fn flag(
+// A mark's line, and its words beside the upper end of it: at its left or at its right.
+fn flagged(
     alloc: Global,
-    right: &[u8],
-    left: &[u8],
-    x: u32,
-    upper: u32,
-    said: &Words,
+    look: Look,
+    mark: &Mark,
+    is_left: bool,
+    top: u32,
+    bottom: u32,
 ) -> Result<Markup, Memory> {
+    let upper = top.saturating_sub(170);
     let y = upper.saturating_add(100);
-    if x > NEAR_RIGHT {
-        label(alloc, left, (x.saturating_sub(50), y), said)
+    let drawn = line(alloc, look.line, (mark.x, upper), (mark.x, bottom))?;
+    let words = if is_left {
+        label(alloc, look.left, (mark.x.saturating_sub(50), y), &mark.said)?
     } else {
-        label(alloc, right, (x.saturating_add(50), y), said)
-    }
+        label(
+            alloc,
+            look.right,
+            (mark.x.saturating_add(50), y),
+            &mark.said,
+        )?
+    };
+    Ok(drawn.and(&words)?)
 }

@@ -1,22 +1,27 @@
 //! The time axis: where a tick lies, and which ticks are labelled. Lengths are tenths of a pixel.
 
-ghost use Rattle.std.specs.Prelude.{◌≤◌};
+ghost use Rattle.std.specs.Prelude.{◌≡◌, ◌≤◌, ◌+◌, ◌-◌};
+ghost use Rattle.diagram_svg.specs.Scale.{place_of};
 
+use itoa::Buffer;
 use timing_diagram::Window;
 
-/// The left end of the time axis.
-pub const LEFT: u32 = 1900;
+/// The left end of the time axis. At its left stand names alone.
+pub const LEFT: u32 = 2000;
 
-/// The right end of the time axis.
-pub const RIGHT: u32 = 9200;
+/// The right end of the time axis. At its right stands what is said of a trip.
+pub const RIGHT: u32 = 7500;
 
-// The least distance between two labels.
-const APART: u64 = 600;
+// How much of a line a letter of a label takes at most, and the room between two labels.
+const LETTER: u64 = 80;
+
+const ROOM: u64 = 160;
 
 /// Where tick t begins; ticks that are not shown lie at the axis's ends.
 pub fn x_of(window: Window, t: u32) -> u32
-    ensures low { 1900 ≤ result }
-    ensures high { result ≤ 9200 }
+    ensures is { result ≡ place_of window t }
+    ensures low { 2000 ≤ result }
+    ensures high { result ≤ 7500 }
 {
     let width = (RIGHT - LEFT) as u64;
     let past = t.saturating_sub(window.first) as u64;
@@ -26,6 +31,7 @@ pub fn x_of(window: Window, t: u32) -> u32
 
 /// How many ticks are shown, at least 1.
 pub fn ticks_shown(window: Window) -> u64
+    ensures is { result ≡ window.last - window.first + 1 }
     ensures some { 1 ≤ result }
     ensures few { result ≤ 4294967296 }
 {
@@ -33,16 +39,31 @@ pub fn ticks_shown(window: Window) -> u64
 }
 
 /// How many ticks lie from one label to the next: a round number, at which labels have room.
-pub fn label_step(window: Window) -> u32
+pub fn label_step(window: Window, tick_us: u32) -> u32
     ensures { 1 ≤ result }
 {
     let shown = ticks_shown(window);
     let width = (RIGHT - LEFT) as u64;
+    let apart = longest_label(window, tick_us)
+        .saturating_mul(LETTER)
+        .saturating_add(ROOM);
     let steps: [u32; 12] = [1, 2, 5, 10, 20, 50, 100, 200, 500, 1000, 2000, 5000];
     for step in steps {
-        if step > 0 && step as u64 * width >= APART * shown {
+        if step > 0 && step as u64 * width >= apart.saturating_mul(shown) {
             return step;
         }
     }
     10000
+}
+
+// How many letters the milliseconds of a tick that is shown have at most: with parts of a
+// millisecond a point and three digits more. The tick's own number has no more.
+fn longest_label(window: Window, tick_us: u32) -> u64 {
+    let last = (window.last as u64).saturating_mul(tick_us as u64);
+    let digits = Buffer::new().format(last / 1000).len() as u64;
+    if tick_us % 1000 == 0 {
+        digits
+    } else {
+        digits.saturating_add(4)
+    }
 }

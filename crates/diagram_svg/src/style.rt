@@ -15,8 +15,6 @@ text { font: 12px sans-serif; fill: #1b2733 }
 .quiet { fill: #5d6873 }
 .quiet-end { fill: #5d6873; text-anchor: end }
 .quiet-middle { fill: #5d6873; text-anchor: middle }
-.small { font-size: 11px; stroke: white; stroke-width: 3px; paint-order: stroke }
-.small-end { font-size: 11px; stroke: white; stroke-width: 3px; paint-order: stroke; text-anchor: end }
 .due { fill: #a93226 }
 .due-end { fill: #a93226; text-anchor: end }
 .held { fill: #1e7b3a; font-weight: bold }

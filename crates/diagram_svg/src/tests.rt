@@ -27,16 +27,17 @@ fn milliseconds(rt: HostRuntime) -> Result<(), Fail> {
 
 #[test]
 fn label_steps(rt: HostRuntime) -> Result<(), Fail> {
-    let rows: [(u32, u32, u32); 6] = [
-        (0, 9, 1),
-        (0, 29, 5),
-        (0, 119, 10),
-        (3, 109, 10),
-        (900, 1099, 20),
-        (0, 3999, 500),
+    let rows: [(u32, u32, u32, u32); 7] = [
+        (0, 9, 1000, 1),
+        (0, 29, 1000, 2),
+        (0, 119, 1000, 10),
+        (3, 109, 1000, 10),
+        (900, 1099, 1000, 20),
+        (0, 3999, 1000, 500),
+        (0, 3999, 999_999, 1000),
     ];
-    for (first, last, wanted) in rows {
-        assert_eq!(rt; label_step(Window { first, last }), wanted);
+    for (first, last, tick_us, wanted) in rows {
+        assert_eq!(rt; label_step(Window { first, last }, tick_us), wanted);
     }
     Ok(())
 }

@@ -1,0 +1,4 @@
+pub mod Words
+pub mod Said
+pub mod Scale
+pub mod Marks
