@@ -10,3 +10,4 @@ pub mod ChannelTables
 pub mod LineFiles
 pub mod Canonical
 pub mod LeastUnknown
+pub mod Owners

@@ -2,14 +2,13 @@
 
 ghost use Rattle.std.specs.Prelude.{◌≡◌, ◌<◌, ◌≤◌, true, pos, IfOk, OnOk, map, length};
 ghost use Rattle.toml.specs.{Data.table, Data.string, Data.integer, View.view, View.table_view};
-ghost use Rattle.line_model.specs.PlainNames.{is_plain_name};
-ghost use Rattle.line_model.specs.{Parameters.IsOwner, ParamNames.name_at};
+ghost use Rattle.line_model.specs.{PlainNames.is_plain_name, ParamNames.name_at};
 ghost use Rattle.line_model.specs.declared.line.Owner.TheVariants as owner;
 ghost use Rattle.line_file.specs.Canonical.{put_member, put_all, terminal_members, terminals_data};
-ghost use Rattle.line_file.specs.Canonical.{receiver_pairs, channel_members, channels_data};
-ghost use Rattle.line_file.specs.Canonical.{scheme_text, head_pairs, canonical_in};
+ghost use Rattle.line_file.specs.Canonical.{channel_members, channels_data, scheme_text};
+ghost use Rattle.line_file.specs.Canonical.{head_pairs, canonical_in};
 
-use crate::table::{put, put_by_scheme, put_elements, put_guard, put_times, put_weak, time};
+use crate::table::{OwnerTimes, put};
 use line_model::{Channel, Line, Memory, Name, Owner, Scheme, Setting, Terminal};
 use std::alloc::Global;
 use toml::{Table, Value};
@@ -54,13 +53,18 @@ fn terminal_table(
     requires plain { is_plain_name terminal.name ≡ true }
     ensures { IfOk result (λ v. view v ≡ table (terminal_members unit line.now k terminal)) }
 {
-    let owner = Owner::Terminal(k);
+    let times = OwnerTimes {
+        alloc,
+        unit,
+        line,
+        owner: Owner::Terminal(k),
+    };
     let mut table = Table::new(alloc);
     put_text(alloc, &mut table, "name", text_of(&terminal.name))?;
-    put_elements(alloc, unit, line, owner, &mut table)?;
-    put_guard(alloc, unit, line, owner, terminal.guard, &mut table)?;
-    put_weak(alloc, unit, line, owner, terminal.weak, &mut table)?;
-    put_by_scheme(alloc, unit, line, owner, &mut table)?;
+    times.put_elements(&mut table)?;
+    times.put_guard(terminal.guard, &mut table)?;
+    times.put_weak(terminal.weak, &mut table)?;
+    times.put_by_scheme(&mut table)?;
     Ok(Value::Table(table))
 }
 
@@ -75,34 +79,6 @@ fn terminal_tables(alloc: Global, unit: u32, line: &Line) -> Result<Vec<Value>, 
         tables.push(table)?;
     }
     Ok(tables)
-}
-
-// What a channel has besides by the scheme.
-fn put_receiver(
-    alloc: Global,
-    unit: u32,
-    line: &Line,
-    owner: Owner,
-    table: &mut Table,
-) -> Result<(), Memory>
-    requires owner { IsOwner line.now owner }
-    requires few { unit ≤ 1000000 }
-    ensures { OnOk result
-        (table_view table.new
-        ≡ put_all (receiver_pairs unit line.now owner line.now.scheme)
-        (table_view table.old)) }
-{
-    match line.scheme {
-        Scheme::Dcub => {
-            let settings = [
-                ("pickup", Setting::UnblockPickup),
-                ("window", Setting::UnblockWindow),
-                ("restore", Setting::UnblockRestore),
-            ];
-            put_times(alloc, unit, line, owner, "unblock", &settings, table)
-        }
-        Scheme::Pott | Scheme::Putt | Scheme::Dcb | Scheme::Dtt => Ok(()),
-    }
 }
 
 // The name of a terminal as a text.
@@ -127,13 +103,17 @@ fn channel_table(
     requires to { channel.to < length line.now.terminals.items }
     ensures { IfOk result (λ v. view v ≡ table (channel_members unit line.now c channel)) }
 {
-    let owner = Owner::Channel(c);
+    let times = OwnerTimes {
+        alloc,
+        unit,
+        line,
+        owner: Owner::Channel(c),
+    };
     let mut table = Table::new(alloc);
     put_text(alloc, &mut table, "from", name_of(line, channel.from))?;
     put_text(alloc, &mut table, "to", name_of(line, channel.to))?;
-    let delay = time(alloc, unit, line, owner, Setting::Delay)?;
-    put(alloc, &mut table, "delay", delay)?;
-    put_receiver(alloc, unit, line, owner, &mut table)?;
+    put(alloc, &mut table, "delay", times.time(Setting::Delay)?)?;
+    times.put_receiver(&mut table)?;
     Ok(Value::Table(table))
 }
 

@@ -1,5 +1,5 @@
 use Rattle.toml.proofs.Views.{view-Array}
-use Rattle.line_file.proofs.table.time.Goals as goal
+use Rattle.line_file.proofs.table.OwnerTimes.time.Goals as goal
 
 pub returns : goal.returns
 returns c =
