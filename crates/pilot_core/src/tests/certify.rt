@@ -26,12 +26,17 @@ fn the_second_block_of_candidates(rt: HostRuntime) -> Result<(), Fail> {
     run_rows(&rt, rt.alloc(), SECOND_BLOCK)
 }
 
+// A certificate of the first line and its fault.
+const CERTIFIED: Row<'static> = Row {
+    words: CERTIFY,
+    line: POTT,
+    scripts: FAULT,
+    ..ROW
+};
+
 const PERMISSIVE: &[Row<'static>] = &[
     Row {
         what: "no tick to spare",
-        words: CERTIFY,
-        line: POTT,
-        scripts: FAULT,
         out: "pilot-cert 1
 script F1
 key A 0:12 ?:2 1:87 ?:2 0:17
@@ -40,13 +45,10 @@ verdict A yes
 verdict B yes
 end
 ",
-        ..ROW
+        ..CERTIFIED
     },
     Row {
         what: "a deadline that the slowest choice misses",
-        words: CERTIFY,
-        line: POTT,
-        scripts: FAULT,
         edit: (",19,", ",18,"),
         status: Status::SomeNo,
         out: "pilot-cert 1
@@ -57,13 +59,11 @@ verdict A no 0 0 4 3 0 0 0 0 0 0 4 3 0 0 0 0 5 5
 verdict B no 0 0 4 3 0 0 0 0 0 0 4 3 0 0 0 0 5 5
 end
 ",
-        ..ROW
+        ..CERTIFIED
     },
     Row {
         what: "a deadline that every choice misses",
-        words: CERTIFY,
-        line: POTT,
-        scripts: FAULT_TOO_EARLY,
+        edit: (",19,", ",14,"),
         status: Status::SomeNo,
         out: "pilot-cert 1
 script F1
@@ -73,12 +73,10 @@ verdict A no 0 0 2 1 0 0 0 0 0 0 2 1 0 0 0 0 3 3
 verdict B no 0 0 2 1 0 0 0 0 0 0 2 1 0 0 0 0 3 3
 end
 ",
-        ..ROW
+        ..CERTIFIED
     },
     Row {
         what: "an external fault",
-        words: CERTIFY,
-        line: POTT,
         scripts: BEHIND_B,
         out: "pilot-cert 1
 script X1
@@ -88,12 +86,10 @@ verdict A yes
 verdict B yes
 end
 ",
-        ..ROW
+        ..CERTIFIED
     },
     Row {
         what: "a channel that is lost for the whole run",
-        words: CERTIFY,
-        line: POTT,
         scripts: FAULT_UNHEARD,
         status: Status::SomeNo,
         out: "pilot-cert 1
@@ -104,14 +100,13 @@ verdict A no 0 0 2 1 0 0 0 0 0 0 2 1 0 0 0 0 3 3
 verdict B yes
 end
 ",
-        ..ROW
+        ..CERTIFIED
     },
 ];
 
 const SCHEME_BY_SCHEME: &[Row<'static>] = &[
     Row {
         what: "blocking, coordinated",
-        words: CERTIFY,
         line: DCB,
         scripts: BEHIND_B,
         out: "pilot-cert 1
@@ -122,11 +117,10 @@ verdict A yes
 verdict B yes
 end
 ",
-        ..ROW
+        ..CERTIFIED
     },
     Row {
         what: "a coordination delay too short by one tick",
-        words: CERTIFY,
         line: DCB,
         scripts: BEHIND_B,
         edit: ("coord = 5", "coord = 4"),
@@ -139,11 +133,10 @@ verdict A no 0 0 2 3 2 3 0 0 0 4 0 0 4 3 2 3 0 0 0 4 5 5
 verdict B yes
 end
 ",
-        ..ROW
+        ..CERTIFIED
     },
     Row {
         what: "a blocking signal that is lost",
-        words: CERTIFY,
         line: DCB,
         scripts: BEHIND_B_UNHEARD,
         status: Status::SomeNo,
@@ -155,11 +148,10 @@ verdict A no 0 0 2 1 1 1 0 0 0 5 0 0 2 1 1 1 0 0 0 5 3 3
 verdict B yes
 end
 ",
-        ..ROW
+        ..CERTIFIED
     },
     Row {
         what: "a weak end whose echo is short",
-        words: CERTIFY,
         line: WEAK_END,
         scripts: WEAK_FAULT,
         status: Status::SomeUndecided,
@@ -171,11 +163,10 @@ verdict A undecided
 verdict B yes
 end
 ",
-        ..ROW
+        ..CERTIFIED
     },
     Row {
         what: "a weak end whose echo is long enough",
-        words: CERTIFY,
         line: WEAK_END,
         scripts: WEAK_FAULT,
         edit: ("pulse = 3", "pulse = 8"),
@@ -187,11 +178,10 @@ verdict A yes
 verdict B yes
 end
 ",
-        ..ROW
+        ..CERTIFIED
     },
     Row {
         what: "a current reversal",
-        words: CERTIFY,
         line: GUARDED,
         scripts: REVERSAL,
         out: "pilot-cert 1
@@ -202,11 +192,10 @@ verdict A yes
 verdict B yes
 end
 ",
-        ..ROW
+        ..CERTIFIED
     },
     Row {
         what: "three terminals, one of them unheard",
-        words: CERTIFY,
         line: THREE_TERMINALS,
         scripts: THREE_ENDS,
         status: Status::SomeNo,
@@ -220,11 +209,10 @@ verdict B no 2 1 2 1 0 0 0 0 2 1 2 1 0 0 0 0 2 1 2 1 0 0 0 0 3 3 3 3 3 3
 verdict C yes
 end
 ",
-        ..ROW
+        ..CERTIFIED
     },
     Row {
         what: "the same, underreaching",
-        words: CERTIFY,
         line: THREE_TERMINALS,
         scripts: THREE_ENDS,
         edit: ("pott", "putt"),
@@ -238,11 +226,10 @@ verdict B yes
 verdict C yes
 end
 ",
-        ..ROW
+        ..CERTIFIED
     },
     Row {
         what: "a transferred trip",
-        words: CERTIFY,
         line: DTT,
         scripts: TRANSFERRED,
         out: "pilot-cert 1
@@ -253,11 +240,10 @@ verdict A yes
 verdict B yes
 end
 ",
-        ..ROW
+        ..CERTIFIED
     },
     Row {
         what: "a current reversal, with a guard that ends a tick too early",
-        words: CERTIFY,
         line: GUARDED,
         scripts: REVERSAL,
         edit: (
@@ -273,14 +259,13 @@ verdict A yes
 verdict B no 0 0 4 3 2 3 0 0 2 6 0 0 4 3 2 1 0 0 2 6 5 5
 end
 ",
-        ..ROW
+        ..CERTIFIED
     },
 ];
 
 const AT_THE_EDGES: &[Row<'static>] = &[
     Row {
         what: "quarters of a millisecond",
-        words: CERTIFY,
         line: REALISTIC,
         scripts: REALISTIC_FAULT,
         out: "pilot-cert 1
@@ -291,11 +276,10 @@ verdict A yes
 verdict B yes
 end
 ",
-        ..ROW
+        ..CERTIFIED
     },
     Row {
         what: "one tick",
-        words: CERTIFY,
         line: ONE_TICK,
         scripts: AT_ONCE,
         status: Status::SomeNo,
@@ -307,12 +291,10 @@ verdict A no 0 0 0 0 0 0 0 0 0 0 0 0 0 0 0 0 3 3
 verdict B no 0 0 0 0 0 0 0 0 0 0 0 0 0 0 0 0 3 3
 end
 ",
-        ..ROW
+        ..CERTIFIED
     },
     Row {
         what: "two scripts, where a no of one is the status of both",
-        words: CERTIFY,
-        line: POTT,
         scripts: "script,item,place,from,to
 N1,external,,,
 N2,internal,,10,
@@ -331,11 +313,10 @@ verdict A no 0 0 2 1 0 0 0 0 0 0 2 1 0 0 0 0 3 3
 verdict B no 0 0 2 1 0 0 0 0 0 0 2 1 0 0 0 0 3 3
 end
 ",
-        ..ROW
+        ..CERTIFIED
     },
     Row {
         what: "echoes that ring to the horizon",
-        words: CERTIFY,
         line: BOTH_WEAK,
         scripts: FLICKER,
         out: "pilot-cert 1
@@ -346,12 +327,10 @@ verdict A yes
 verdict B yes
 end
 ",
-        ..ROW
+        ..CERTIFIED
     },
     Row {
         what: "nothing seen to the longest horizon",
-        words: CERTIFY,
-        line: POTT,
         scripts: "script,item,place,from,to
 Q1,external,,,
 ",
@@ -364,13 +343,11 @@ verdict A yes
 verdict B yes
 end
 ",
-        ..ROW
+        ..CERTIFIED
     },
     Row {
         what: "times in microseconds",
-        words: CERTIFY,
         line: MICROSECONDS,
-        scripts: FAULT,
         out: "pilot-cert 1
 script F1
 key A 0:12 ?:2 1:87 ?:2 0:17
@@ -379,7 +356,7 @@ verdict A yes
 verdict B yes
 end
 ",
-        ..ROW
+        ..CERTIFIED
     },
     Row {
         what: "a line that is refused",

@@ -147,84 +147,76 @@ verdict B yes
 end
 ";
 
+// A row of the first line and its fault: a certificate that stands, and one that lies.
+const ACCEPTED: Row<'static> = Row {
+    words: CHECK,
+    line: POTT,
+    scripts: FAULT,
+    third: FIRST,
+    ..ROW
+};
+
+const REJECTED: Row<'static> = Row {
+    status: Status::Rejected,
+    ..ACCEPTED
+};
+
+// The same with two scripts.
+const REJECTED_OF_TWO: Row<'static> = Row {
+    scripts: FAULT_AND_EXTERNAL,
+    third: TWO,
+    ..REJECTED
+};
+
 // What the claimed keys have to cover.
 const KEYS: &[Row<'static>] = &[
     Row {
         what: "what is certified",
-        words: CHECK,
-        line: POTT,
-        scripts: FAULT,
-        third: FIRST,
         out: "accepted 2 0 0\n",
-        ..ROW
+        ..ACCEPTED
     },
     Row {
         what: "a key a tick early",
-        words: CHECK,
-        line: POTT,
-        scripts: FAULT,
-        third: FIRST,
         edit: (
             "key A 0:12 ?:2 1:87 ?:2 0:17",
             "key A 0:12 ?:1 1:88 ?:2 0:17",
         ),
-        status: Status::Rejected,
         out: "rejected NotCovered F1 A 13 claimed 1 derived ?\n",
-        ..ROW
+        ..REJECTED
     },
     Row {
         what: "a key that never comes",
-        words: CHECK,
-        line: POTT,
-        scripts: FAULT,
-        third: FIRST,
         edit: ("key B 0:12 ?:2 1:87 ?:2 0:17", "key B 0:120"),
-        status: Status::Rejected,
         out: "rejected NotCovered F1 B 12 claimed 0 derived ?\n",
-        ..ROW
+        ..REJECTED
     },
     Row {
         what: "a key too loose",
-        words: CHECK,
-        line: POTT,
-        scripts: FAULT,
-        third: FIRST,
         edit: (
             "key A 0:12 ?:2 1:87 ?:2 0:17",
             "key A 0:11 ?:4 1:86 ?:2 0:17",
         ),
-        status: Status::Rejected,
         out: "rejected NotHeld F1 B\n",
-        ..ROW
+        ..REJECTED
     },
     Row {
         what: "a key too loose, and nothing said of the other terminal",
-        words: CHECK,
-        line: POTT,
-        scripts: FAULT,
         third: LOOSE,
         out: "accepted 1 0 1\n",
-        ..ROW
+        ..ACCEPTED
     },
     Row {
         what: "nothing known",
-        words: CHECK,
-        line: POTT,
-        scripts: FAULT,
         third: NOTHING_KNOWN,
         out: "accepted 0 0 2\n",
-        ..ROW
+        ..ACCEPTED
     },
     Row {
         what: "a yes where nothing is known",
-        words: CHECK,
-        line: POTT,
-        scripts: FAULT,
         third: NOTHING_KNOWN,
         edit: ("verdict A undecided", "verdict A yes"),
-        status: Status::Rejected,
         out: "rejected NotHeld F1 A\n",
-        ..ROW
+        ..REJECTED
     },
 ];
 
@@ -232,94 +224,67 @@ const KEYS: &[Row<'static>] = &[
 const VERDICTS: &[Row<'static>] = &[
     Row {
         what: "the slowest choice, which misses the deadline",
-        words: CHECK,
-        line: POTT,
-        scripts: FAULT,
         third: SLOWEST,
         edit: (",19,", ",18,"),
         out: "accepted 0 2 0\n",
-        ..ROW
+        ..ACCEPTED
     },
     Row {
         what: "the slowest choice, which meets the deadline",
-        words: CHECK,
-        line: POTT,
-        scripts: FAULT,
         third: SLOWEST,
-        status: Status::Rejected,
         out: "rejected Passes F1 A 19\n",
-        ..ROW
+        ..REJECTED
     },
     Row {
         what: "a number above its interval",
-        words: CHECK,
-        line: POTT,
-        scripts: FAULT,
         third: ABOVE,
         edit: (",19,", ",18,"),
-        status: Status::Rejected,
         out: "rejected Outside F1 B B>A.delay 6\n",
-        ..ROW
+        ..REJECTED
     },
     Row {
         what: "the fastest choice",
-        words: CHECK,
-        line: POTT,
-        scripts: FAULT,
         third: FASTEST,
         edit: (",19,", ",18,"),
-        status: Status::Rejected,
         out: "rejected Passes F1 A 15\n",
-        ..ROW
+        ..REJECTED
     },
     Row {
         what: "the greatest number",
-        words: CHECK,
-        line: POTT,
-        scripts: FAULT,
-        third: FIRST,
         edit: (
             "verdict A yes",
             "verdict A no 4294967295 0 0 0 0 0 0 0 0 0 0 0 0 0 0 0 0 0",
         ),
-        status: Status::Rejected,
         out: "rejected Outside F1 A A.z1.pickup 4294967295\n",
-        ..ROW
+        ..REJECTED
     },
     Row {
         what: "a choice that passes an external fault",
-        words: CHECK,
-        line: POTT,
         scripts: BEHIND_B,
         third: EXTERNAL,
         edit: (
             "verdict A yes",
             "verdict A no 0 0 2 1 0 0 0 0 0 0 2 1 0 0 0 0 3 3",
         ),
-        status: Status::Rejected,
         out: "rejected Passes X1 A 120\n",
-        ..ROW
+        ..REJECTED
     },
     Row {
         what: "weak ends that never key",
-        words: CHECK,
         line: BOTH_WEAK,
         scripts: FLICKER,
         third: NEVER_KEYED,
-        status: Status::Rejected,
         out: "rejected NotCovered R1 A 10 claimed 0 derived 1\n",
-        ..ROW
+        ..REJECTED
     },
     Row {
         what: "a weak end that never echoes",
-        words: CHECK,
         line: BOTH_WEAK,
         scripts: FLICKER,
         third: NEVER_KEYED,
         edit: ("key A 0:30", "key A 0:10 1:2 0:18"),
-        status: Status::Rejected,
         out: "rejected NotCovered R1 B 13 claimed 0 derived 1\n",
-        ..ROW
+        ..REJECTED
     },
 ];
 
@@ -327,96 +292,57 @@ const VERDICTS: &[Row<'static>] = &[
 const LINES: &[Row<'static>] = &[
     Row {
         what: "an empty file",
-        words: CHECK,
-        line: POTT,
-        scripts: FAULT,
         third: "",
-        status: Status::Rejected,
         out: "rejected Line 1\n",
-        ..ROW
+        ..REJECTED
     },
     Row {
         what: "another version",
-        words: CHECK,
-        line: POTT,
-        scripts: FAULT,
-        third: FIRST,
         edit: ("pilot-cert 1", "pilot-cert 2"),
-        status: Status::Rejected,
         out: "rejected Line 1\n",
-        ..ROW
+        ..REJECTED
     },
     Row {
         what: "carriage returns",
-        words: CHECK,
-        line: POTT,
-        scripts: FAULT,
-        third: FIRST,
         edit: ("\n", "\r\n"),
-        status: Status::Rejected,
         out: "rejected Line 1\n",
-        ..ROW
+        ..REJECTED
     },
     Row {
         what: "another script",
-        words: CHECK,
-        line: POTT,
-        scripts: FAULT,
-        third: FIRST,
         edit: ("script F1", "script F2"),
-        status: Status::Rejected,
         out: "rejected Line 2\n",
-        ..ROW
+        ..REJECTED
     },
     Row {
         what: "a wave too short",
-        words: CHECK,
-        line: POTT,
-        scripts: FAULT,
-        third: FIRST,
         edit: (
             "key A 0:12 ?:2 1:87 ?:2 0:17",
             "key A 0:12 ?:2 1:86 ?:2 0:17",
         ),
-        status: Status::Rejected,
         out: "rejected Line 3\n",
-        ..ROW
+        ..REJECTED
     },
     Row {
         what: "equal neighbours",
-        words: CHECK,
-        line: POTT,
-        scripts: FAULT,
-        third: FIRST,
         edit: ("key A 0:12", "key A 0:10 0:2"),
-        status: Status::Rejected,
         out: "rejected Line 3\n",
-        ..ROW
+        ..REJECTED
     },
     Row {
         what: "two keys exchanged",
-        words: CHECK,
-        line: POTT,
-        scripts: FAULT,
-        third: FIRST,
         edit: (
             "key A 0:12 ?:2 1:87 ?:2 0:17\nkey B 0:12 ?:2 1:87 ?:2 0:17",
             "key B 0:12 ?:2 1:87 ?:2 0:17\nkey A 0:12 ?:2 1:87 ?:2 0:17",
         ),
-        status: Status::Rejected,
         out: "rejected Line 3\n",
-        ..ROW
+        ..REJECTED
     },
     Row {
         what: "a leading zero",
-        words: CHECK,
-        line: POTT,
-        scripts: FAULT,
-        third: FIRST,
         edit: ("key A 0:12", "key A 0:012"),
-        status: Status::Rejected,
         out: "rejected Line 3\n",
-        ..ROW
+        ..REJECTED
     },
 ];
 
@@ -424,94 +350,54 @@ const LINES: &[Row<'static>] = &[
 const MORE_LINES: &[Row<'static>] = &[
     Row {
         what: "a space at the end",
-        words: CHECK,
-        line: POTT,
-        scripts: FAULT,
-        third: FIRST,
         edit: ("0:17\nkey B", "0:17 \nkey B"),
-        status: Status::Rejected,
         out: "rejected Line 3\n",
-        ..ROW
+        ..REJECTED
     },
     Row {
         what: "an empty run",
-        words: CHECK,
-        line: POTT,
-        scripts: FAULT,
-        third: FIRST,
         edit: ("key A 0:12 ?:2", "key A 0:12 ?:0"),
-        status: Status::Rejected,
         out: "rejected Line 3\n",
-        ..ROW
+        ..REJECTED
     },
     Row {
         what: "a run past 32 bits",
-        words: CHECK,
-        line: POTT,
-        scripts: FAULT,
-        third: FIRST,
         edit: ("key A 0:12", "key A 0:4294967296"),
-        status: Status::Rejected,
         out: "rejected Line 3\n",
-        ..ROW
+        ..REJECTED
     },
     Row {
         what: "another word",
-        words: CHECK,
-        line: POTT,
-        scripts: FAULT,
-        third: FIRST,
         edit: ("verdict A yes", "verdict A maybe"),
-        status: Status::Rejected,
         out: "rejected Line 5\n",
-        ..ROW
+        ..REJECTED
     },
     Row {
         what: "a number too few",
-        words: CHECK,
-        line: POTT,
-        scripts: FAULT,
-        third: FIRST,
         edit: (
             "verdict A yes",
             "verdict A no 0 0 2 1 0 0 0 0 0 0 2 1 0 0 0 0 3",
         ),
-        status: Status::Rejected,
         out: "rejected Line 5\n",
-        ..ROW
+        ..REJECTED
     },
     Row {
         what: "no end",
-        words: CHECK,
-        line: POTT,
-        scripts: FAULT,
-        third: FIRST,
         edit: ("end\n", ""),
-        status: Status::Rejected,
         out: "rejected Line 7\n",
-        ..ROW
+        ..REJECTED
     },
     Row {
         what: "an end without its line feed",
-        words: CHECK,
-        line: POTT,
-        scripts: FAULT,
-        third: FIRST,
         edit: ("end\n", "end"),
-        status: Status::Rejected,
         out: "rejected Line 7\n",
-        ..ROW
+        ..REJECTED
     },
     Row {
         what: "a byte more",
-        words: CHECK,
-        line: POTT,
-        scripts: FAULT,
-        third: FIRST,
         edit: ("end\n", "end\nx"),
-        status: Status::Rejected,
         out: "rejected Line 8\n",
-        ..ROW
+        ..REJECTED
     },
 ];
 
@@ -528,49 +414,29 @@ const TWO_SCRIPTS: &[Row<'static>] = &[
     },
     Row {
         what: "a key of the second",
-        words: CHECK,
-        line: POTT,
-        scripts: FAULT_AND_EXTERNAL,
-        third: TWO,
         edit: (
             "script X1\nkey A 0:12 ?:2 1:87",
             "script X1\nkey A 0:12 ?:1 1:88",
         ),
-        status: Status::Rejected,
         out: "rejected NotCovered X1 A 13 claimed 1 derived ?\n",
-        ..ROW
+        ..REJECTED_OF_TWO
     },
     Row {
         what: "a no of the second",
-        words: CHECK,
-        line: POTT,
-        scripts: FAULT_AND_EXTERNAL,
-        third: TWO,
         edit: ("yes\nend", "no 0 0 4 3 0 0 0 0 0 0 4 3 0 0 0 0 5 5\nend"),
-        status: Status::Rejected,
         out: "rejected Passes X1 B 120\n",
-        ..ROW
+        ..REJECTED_OF_TWO
     },
     Row {
         what: "a number of the second",
-        words: CHECK,
-        line: POTT,
-        scripts: FAULT_AND_EXTERNAL,
-        third: TWO,
         edit: ("yes\nend", "no 0 0 4 3 0 0 0 0 0 0 4 3 0 0 0 0 5 6\nend"),
-        status: Status::Rejected,
         out: "rejected Outside X1 B B>A.delay 6\n",
-        ..ROW
+        ..REJECTED_OF_TWO
     },
     Row {
         what: "the last line, before any claim",
-        words: CHECK,
-        line: POTT,
-        scripts: FAULT_AND_EXTERNAL,
-        third: TWO,
         edit: ("end", "END"),
-        status: Status::Rejected,
         out: "rejected Line 12\n",
-        ..ROW
+        ..REJECTED_OF_TWO
     },
 ];

@@ -127,135 +127,104 @@ F1,101,B,key,0
 F1,101,B,trip,0
 ";
 
+// A record of the first line and its fault, and one of two scripts.
+const MATCHED: Row<'static> = Row {
+    words: MATCH,
+    line: POTT,
+    scripts: FAULT,
+    third: SEEN,
+    ..ROW
+};
+
+const MATCHED_TWO: Row<'static> = Row {
+    scripts: FAULT_AND_EXTERNAL,
+    third: TWO_HEADS,
+    ..MATCHED
+};
+
 const RECORDS: &[Row<'static>] = &[
     Row {
         what: "what is played at the least numbers",
-        words: MATCH,
-        line: POTT,
-        scripts: FAULT,
-        third: SEEN,
         out: AT_LEAST,
-        ..ROW
+        ..MATCHED
     },
     Row {
         what: "a key a tick before its pickup",
-        words: MATCH,
-        line: POTT,
-        scripts: FAULT,
-        third: SEEN,
         edit: ("F1,12,A,key,1", "F1,11,A,key,1"),
         status: Status::SomeNo,
         out: "F1 impossible A key 11 seen 1 derived 0\n",
-        ..ROW
+        ..MATCHED
     },
     Row {
         what: "a trip that no candidate gives, while the keys agree",
-        words: MATCH,
-        line: POTT,
-        scripts: FAULT,
-        third: SEEN,
         edit: ("F1,15,B,trip,1", "F1,16,B,trip,1"),
         status: Status::SomeUndecided,
         out: "F1 open\n",
-        ..ROW
+        ..MATCHED
     },
     Row {
         what: "a trip before the other key is heard, while the keys agree",
-        words: MATCH,
-        line: POTT,
-        scripts: FAULT,
-        third: SEEN,
         edit: ("F1,15,A,trip,1", "F1,14,A,trip,1"),
         status: Status::SomeNo,
         out: "F1 impossible A trip 14 seen 1 derived 0\n",
-        ..ROW
+        ..MATCHED
     },
     Row {
         what: "a trip that never comes, while the keys agree",
-        words: MATCH,
-        line: POTT,
-        scripts: FAULT,
-        third: SEEN,
         edit: (
             "F1,15,B,trip,1\nF1,101,A,key,0\nF1,101,A,trip,0\nF1,101,B,key,0\nF1,101,B,trip,0\n",
             "F1,101,A,key,0\nF1,101,A,trip,0\nF1,101,B,key,0\n",
         ),
         status: Status::SomeNo,
         out: "F1 impossible B trip 17 seen 0 derived 1\n",
-        ..ROW
+        ..MATCHED
     },
     Row {
         what: "a head without rows",
-        words: MATCH,
-        line: POTT,
-        scripts: FAULT,
         third: NO_ROWS,
         status: Status::SomeNo,
         out: "F1 impossible A key 14 seen 0 derived 1\n",
-        ..ROW
+        ..MATCHED
     },
     Row {
         what: "carriage returns",
-        words: MATCH,
-        line: POTT,
-        scripts: FAULT,
-        third: SEEN,
         edit: ("\n", "\r\n"),
         out: AT_LEAST,
-        ..ROW
+        ..MATCHED
     },
     Row {
         what: "quotes",
-        words: MATCH,
-        line: POTT,
-        scripts: FAULT,
-        third: SEEN,
         edit: ("F1,15,A,trip,1", "\"F1\",\"15\",A,\"trip\",\"1\""),
         out: AT_LEAST,
-        ..ROW
+        ..MATCHED
     },
     Row {
         what: "two heads in another order than the scripts",
-        words: MATCH,
-        line: POTT,
-        scripts: FAULT_AND_EXTERNAL,
-        third: TWO_HEADS,
         out: "X1 explained 0 0 2 1 0 0 0 0 0 0 2 1 0 0 0 0 3 3
 F1 explained 0 0 2 1 0 0 0 0 0 0 2 1 0 0 0 0 3 3
 ",
-        ..ROW
+        ..MATCHED_TWO
     },
     Row {
         what: "the first head impossible",
-        words: MATCH,
-        line: POTT,
-        scripts: FAULT_AND_EXTERNAL,
-        third: TWO_HEADS,
         edit: ("X1,12,A,key,1\nX1,101,A,key,0\n", ""),
         status: Status::SomeNo,
         out: "X1 impossible A key 14 seen 0 derived 1
 F1 explained 0 0 2 1 0 0 0 0 0 0 2 1 0 0 0 0 3 3
 ",
-        ..ROW
+        ..MATCHED_TWO
     },
     Row {
         what: "the last head open",
-        words: MATCH,
-        line: POTT,
-        scripts: FAULT_AND_EXTERNAL,
-        third: TWO_HEADS,
         edit: ("F1,15,B,trip,1", "F1,16,B,trip,1"),
         status: Status::SomeUndecided,
         out: "X1 explained 0 0 2 1 0 0 0 0 0 0 2 1 0 0 0 0 3 3
 F1 open
 ",
-        ..ROW
+        ..MATCHED_TWO
     },
     Row {
         what: "the first head open and the last impossible",
-        words: MATCH,
-        line: POTT,
-        scripts: FAULT_AND_EXTERNAL,
         third: "script,tick,terminal,signal,level
 F1,,,,
 F1,12,A,key,1
@@ -272,17 +241,15 @@ X1,,,,
         out: "F1 open
 X1 impossible A key 14 seen 0 derived 1
 ",
-        ..ROW
+        ..MATCHED_TWO
     },
     Row {
         what: "scripts that are refused, before the record",
-        words: MATCH,
-        line: POTT,
         scripts: "",
         third: "",
         status: Status::BadInput,
         err: "refused scripts Header\n",
-        ..ROW
+        ..MATCHED
     },
 ];
 

@@ -18,201 +18,157 @@ fn plays_of_weak_ends_and_at_the_edges(rt: HostRuntime) -> Result<(), Fail> {
     run_rows(&rt, rt.alloc(), WEAK_ENDS_AND_EDGES)
 }
 
+// A play of the first line and its fault at the least numbers.
+const AT_LEAST: Row<'static> = Row {
+    words: PLAY,
+    line: POTT,
+    scripts: FAULT,
+    third: LEAST,
+    ..ROW
+};
+
 const PERMISSIVE: &[Row<'static>] = &[
     Row {
         what: "POTT at the least numbers",
-        words: PLAY,
-        line: POTT,
-        scripts: FAULT,
-        third: LEAST,
         out: PLAYED,
-        ..ROW
+        ..AT_LEAST
     },
     Row {
         what: "POTT at the greatest",
-        words: PLAY,
-        line: POTT,
-        scripts: FAULT,
         third: GREATEST,
         out: AT_THE_GREATEST,
-        ..ROW
+        ..AT_LEAST
     },
     Row {
         what: "current for 10 ticks more",
-        words: PLAY,
-        line: POTT,
         scripts: FAULT_LONG_CURRENT,
-        third: LEAST,
         out: WITH_LONG_CURRENT,
-        ..ROW
+        ..AT_LEAST
     },
     Row {
         what: "no current",
-        words: PLAY,
-        line: POTT,
         scripts: FAULT_NO_CURRENT,
-        third: LEAST,
         out: PLAYED,
-        ..ROW
+        ..AT_LEAST
     },
     Row {
         what: "two timings",
-        words: PLAY,
-        line: POTT,
-        scripts: FAULT,
         third: LEAST_AND_GREATEST,
         out: AT_BOTH_TIMINGS,
-        ..ROW
+        ..AT_LEAST
     },
     Row {
         what: "an external fault",
-        words: PLAY,
-        line: POTT,
         scripts: BEHIND_B,
-        third: LEAST,
         out: OF_AN_EXTERNAL_FAULT,
-        ..ROW
+        ..AT_LEAST
     },
     Row {
         what: "a lost permission",
-        words: PLAY,
-        line: POTT,
         scripts: FAULT_UNHEARD,
-        third: LEAST,
         out: WITH_A_LOST_PERMISSION,
-        ..ROW
+        ..AT_LEAST
     },
     Row {
         what: "a script without rows",
-        words: PLAY,
-        line: POTT,
         scripts: NOTHING_SEEN,
-        third: LEAST,
         out: HEADER,
-        ..ROW
+        ..AT_LEAST
     },
     Row {
         what: "a delay that moves once",
-        words: PLAY,
-        line: POTT,
-        scripts: FAULT,
         third: ONE_STEP,
         out: WITH_ONE_STEP,
-        ..ROW
+        ..AT_LEAST
     },
     Row {
         what: "a delay that moves back",
-        words: PLAY,
-        line: POTT,
-        scripts: FAULT,
         third: TWO_STEPS,
         out: WITH_TWO_STEPS,
-        ..ROW
+        ..AT_LEAST
     },
 ];
 
 const SCHEME_BY_SCHEME: &[Row<'static>] = &[
     Row {
         what: "PUTT with a zone 1 trip",
-        words: PLAY,
         line: PUTT,
         scripts: NEAR_A,
-        third: LEAST,
         out: OF_PUTT,
-        ..ROW
+        ..AT_LEAST
     },
     Row {
         what: "DCB",
-        words: PLAY,
         line: DCB,
         scripts: BEHIND_B,
-        third: LEAST,
         out: OF_DCB,
-        ..ROW
+        ..AT_LEAST
     },
     Row {
         what: "DCB with a lost channel",
-        words: PLAY,
         line: DCB,
         scripts: BEHIND_B_UNHEARD,
-        third: LEAST,
         out: OF_DCB_UNHEARD,
-        ..ROW
+        ..AT_LEAST
     },
     Row {
         what: "DCUB twice",
-        words: PLAY,
         line: DCUB,
         scripts: LOST_TWICE,
-        third: LEAST,
         out: OF_DCUB,
-        ..ROW
+        ..AT_LEAST
     },
     Row {
         what: "DTT",
-        words: PLAY,
         line: DTT,
         scripts: TRANSFERRED,
-        third: LEAST,
         out: OF_DTT,
-        ..ROW
+        ..AT_LEAST
     },
 ];
 
 const WEAK_ENDS_AND_EDGES: &[Row<'static>] = &[
     Row {
         what: "a weak end",
-        words: PLAY,
         line: WEAK_END,
         scripts: WEAK_FAULT,
-        third: LEAST,
         out: OF_A_WEAK_END,
-        ..ROW
+        ..AT_LEAST
     },
     Row {
         what: "echoes that ring",
-        words: PLAY,
         line: BOTH_WEAK,
         scripts: FLICKER,
-        third: LEAST,
         out: OF_RINGING_ECHOES,
-        ..ROW
+        ..AT_LEAST
     },
     Row {
         what: "echoes that die out",
-        words: PLAY,
         line: SLOW_ECHO,
         scripts: FLICKER,
-        third: LEAST,
         out: OF_DYING_ECHOES,
-        ..ROW
+        ..AT_LEAST
     },
     Row {
         what: "three terminals",
-        words: PLAY,
         line: THREE_TERMINALS,
         scripts: THREE_ENDS,
-        third: LEAST,
         out: OF_THREE_TERMINALS,
-        ..ROW
+        ..AT_LEAST
     },
     Row {
         what: "a current reversal",
-        words: PLAY,
         line: GUARDED,
         scripts: REVERSAL,
-        third: LEAST,
         out: OF_A_REVERSAL,
-        ..ROW
+        ..AT_LEAST
     },
     Row {
         what: "a horizon of one tick",
-        words: PLAY,
         line: ONE_TICK,
         scripts: AT_ONCE,
-        third: LEAST,
         out: OF_ONE_TICK,
-        ..ROW
+        ..AT_LEAST
     },
 ];
 

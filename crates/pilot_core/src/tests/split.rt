@@ -160,87 +160,81 @@ end
     },
 ];
 
+// A row of the weak end and its split tree: trees that stand, and trees that lie.
+const ACCEPTED: Row<'static> = Row {
+    words: RECHECK,
+    line: WEAK_END,
+    scripts: WEAK_FAULT,
+    third: SPLIT_ONCE,
+    ..ROW
+};
+
+const REJECTED: Row<'static> = Row {
+    status: Status::Rejected,
+    ..ACCEPTED
+};
+
+// The same with two scripts.
+const REJECTED_OF_TWO: Row<'static> = Row {
+    line: POTT,
+    scripts: FAULT_AND_EXTERNAL,
+    third: TWO,
+    ..REJECTED
+};
+
 const TREES: &[Row<'static>] = &[
     Row {
         what: "what split writes",
-        words: RECHECK,
-        line: WEAK_END,
-        scripts: WEAK_FAULT,
-        third: SPLIT_ONCE,
         out: "accepted 2 0 0\n",
-        ..ROW
+        ..ACCEPTED
     },
     Row {
         what: "an undecided leaf",
-        words: RECHECK,
-        line: WEAK_END,
-        scripts: WEAK_FAULT,
         third: UNDECIDED,
         out: "accepted 1 0 1\n",
-        ..ROW
+        ..ACCEPTED
     },
     Row {
         what: "two timings that fail",
-        words: RECHECK,
         line: POTT,
         scripts: FAULT,
         third: BOTH_FAIL,
         edit: (",19,", ",18,"),
         out: "accepted 0 2 0\n",
-        ..ROW
+        ..ACCEPTED
     },
     Row {
         what: "a half in which the rule is not held",
-        words: RECHECK,
-        line: WEAK_END,
-        scripts: WEAK_FAULT,
-        third: SPLIT_ONCE,
         edit: ("pickup 2\n", "pickup 1\n"),
-        status: Status::Rejected,
         out: "rejected NotHeld W1 A 1\n",
-        ..ROW
+        ..REJECTED
     },
     Row {
         what: "no half at all",
-        words: RECHECK,
-        line: WEAK_END,
-        scripts: WEAK_FAULT,
         third: UNDECIDED,
         edit: ("undecided", "yes"),
-        status: Status::Rejected,
         out: "rejected NotHeld W1 A 0\n",
-        ..ROW
+        ..REJECTED
     },
     Row {
         what: "a timing of the second script, which passes",
-        words: RECHECK,
-        line: POTT,
-        scripts: FAULT_AND_EXTERNAL,
-        third: TWO,
-        status: Status::Rejected,
         out: "rejected Passes X1 B 120\n",
-        ..ROW
+        ..REJECTED_OF_TWO
     },
     Row {
         what: "a number of the second script, which is outside",
-        words: RECHECK,
-        line: POTT,
-        scripts: FAULT_AND_EXTERNAL,
-        third: TWO,
         edit: ("5 5\nend", "5 6\nend"),
-        status: Status::Rejected,
         out: "rejected Outside X1 B B>A.delay 6\n",
-        ..ROW
+        ..REJECTED_OF_TWO
     },
     Row {
         what: "two scripts",
-        words: RECHECK,
         line: POTT,
         scripts: FAULT_AND_EXTERNAL,
         third: TWO,
         edit: ("no 0 0 4 3 0 0 0 0 0 0 4 3 0 0 0 0 5 5", "yes"),
         out: "accepted 4 0 0\n",
-        ..ROW
+        ..ACCEPTED
     },
 ];
 
@@ -256,83 +250,49 @@ const LINES: &[Row<'static>] = &[
     },
     Row {
         what: "no end",
-        words: RECHECK,
-        line: WEAK_END,
-        scripts: WEAK_FAULT,
-        third: SPLIT_ONCE,
         edit: ("yes\nend\n", "yes\n"),
-        status: Status::Rejected,
         out: "rejected Line 9\n",
-        ..ROW
+        ..REJECTED
     },
     Row {
         what: "a middle at the greatest",
-        words: RECHECK,
-        line: WEAK_END,
-        scripts: WEAK_FAULT,
-        third: SPLIT_ONCE,
         edit: ("pickup 2\n", "pickup 5\n"),
-        status: Status::Rejected,
         out: "rejected Line 4\n",
-        ..ROW
+        ..REJECTED
     },
     Row {
         what: "a split of a delay",
-        words: RECHECK,
         line: POTT,
-        scripts: WEAK_FAULT,
-        third: SPLIT_ONCE,
         edit: ("B.echo.pickup 2", "A>B.delay 4"),
-        status: Status::Rejected,
         out: "rejected Line 4\n",
-        ..ROW
+        ..REJECTED
     },
     Row {
         what: "a split of a parameter that is not there",
-        words: RECHECK,
-        line: WEAK_END,
-        scripts: WEAK_FAULT,
-        third: SPLIT_ONCE,
         edit: ("B.echo.pickup 2", "A.echo.pickup 2"),
-        status: Status::Rejected,
         out: "rejected Line 4\n",
-        ..ROW
+        ..REJECTED
     },
     Row {
         what: "a timing inside a tree",
-        words: RECHECK,
-        line: WEAK_END,
-        scripts: WEAK_FAULT,
-        third: SPLIT_ONCE,
         edit: (
             "pickup 2\nyes",
             "pickup 2\nno 0 0 2 1 0 0 0 0 0 0 0 0 0 0 0 0 10 0 3 3 3",
         ),
-        status: Status::Rejected,
         out: "rejected Line 5\n",
-        ..ROW
+        ..REJECTED
     },
     Row {
         what: "a leaf too many",
-        words: RECHECK,
-        line: WEAK_END,
-        scripts: WEAK_FAULT,
-        third: SPLIT_ONCE,
         edit: ("yes\nyes\n", "yes\nyes\nyes\n"),
-        status: Status::Rejected,
         out: "rejected Line 7\n",
-        ..ROW
+        ..REJECTED
     },
     Row {
         what: "the trees in the wrong order",
-        words: RECHECK,
-        line: WEAK_END,
-        scripts: WEAK_FAULT,
-        third: SPLIT_ONCE,
         edit: ("tree A", "tree B"),
-        status: Status::Rejected,
         out: "rejected Line 3\n",
-        ..ROW
+        ..REJECTED
     },
 ];
 

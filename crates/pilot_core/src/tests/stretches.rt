@@ -1,5 +1,6 @@
 //! Runs from change to change: what is quiet, what is not, and what moves while all else is quiet.
 
+use super::worked_files::HEADER;
 use super::*;
 
 const CERTIFY: &[&str] = &["certify", "l", "s"];
@@ -13,8 +14,9 @@ const STRETCHES: &[Row<'static>] = &[
     Row {
         what: "a quiet script, up to the longest horizon",
         words: CERTIFY,
-        line: QUIET_LINE,
+        line: SHORT,
         scripts: NO_ROWS,
+        edit: ("horizon = 120", "horizon = 4000"),
         out: "pilot-cert 1
 script Q
 key A 0:4000
@@ -28,11 +30,11 @@ end
     Row {
         what: "its play",
         words: PLAY,
-        line: QUIET_LINE,
+        line: SHORT,
         scripts: NO_ROWS,
+        edit: ("horizon = 120", "horizon = 4000"),
         third: ONE_DELAY,
-        out: "timing,script,tick,terminal,signal,level
-",
+        out: HEADER,
         ..ROW
     },
     Row {
@@ -93,8 +95,12 @@ T,M,70,A,trip,1
     Row {
         what: "lanes with different delays, of which one trips",
         words: CERTIFY,
-        line: APART,
+        line: SHORT,
         scripts: BRIEF,
+        edit: (
+            "\"B\"\nz2 = { pickup = [2, 3]",
+            "\"B\"\nz2 = { pickup = [2, 30]",
+        ),
         status: Status::SomeNo,
         out: "pilot-cert 1
 script X
@@ -107,30 +113,6 @@ end
         ..ROW
     },
 ];
-
-const QUIET_LINE: &str = "version = 1
-tick_us = 1000
-horizon = 4000
-scheme = \"pott\"
-
-[[terminal]]
-name = \"A\"
-z2 = { pickup = [2, 3], dropout = 1 }
-
-[[terminal]]
-name = \"B\"
-z2 = { pickup = [2, 3], dropout = 1 }
-
-[[channel]]
-from = \"A\"
-to = \"B\"
-delay = [5, 90]
-
-[[channel]]
-from = \"B\"
-to = \"A\"
-delay = [5, 90]
-";
 
 const SHORT: &str = "version = 1
 tick_us = 1000
@@ -180,30 +162,6 @@ delay = 1
 from = \"B\"
 to = \"A\"
 delay = 1
-";
-
-const APART: &str = "version = 1
-tick_us = 1000
-horizon = 120
-scheme = \"pott\"
-
-[[terminal]]
-name = \"A\"
-z2 = { pickup = [2, 3], dropout = 1 }
-
-[[terminal]]
-name = \"B\"
-z2 = { pickup = [2, 30], dropout = 1 }
-
-[[channel]]
-from = \"A\"
-to = \"B\"
-delay = [5, 90]
-
-[[channel]]
-from = \"B\"
-to = \"A\"
-delay = [5, 90]
 ";
 
 const NO_ROWS: &str = "script,item,place,from,to

@@ -389,15 +389,6 @@ F1,z2,B,10,100
 F1,cur,B,10,100
 ";
 
-/// The first fault with a deadline that no choice of delays meets.
-pub const FAULT_TOO_EARLY: &str = "script,item,place,from,to
-F1,internal,,14,
-F1,z2,A,10,100
-F1,cur,A,10,100
-F1,z2,B,10,100
-F1,cur,B,10,100
-";
-
 /// An internal fault near A of the line in quarters of a millisecond.
 pub const REALISTIC_FAULT: &str = "script,item,place,from,to
 P1,internal,,280,
