@@ -1,0 +1,5 @@
+pub mod Spans
+pub mod Terns
+pub mod Cells
+pub mod Sent
+pub mod Held
