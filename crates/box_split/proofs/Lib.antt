@@ -6,3 +6,9 @@ pub mod SearchLaws
 pub mod SoundLaws
 pub mod HalfLaws
 pub mod HeightLaws
+pub mod QuietLaws
+pub mod SettledLaws
+pub mod ListLaws
+pub mod PartsLaws
+pub mod CornerLaws
+pub mod NodeLaws

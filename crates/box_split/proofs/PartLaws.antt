@@ -33,7 +33,7 @@ module _ (known : Known) (line other : Line) (param least greatest : ℕ)
       } in
       ap made (fun_ext (λ c. known.counts.delays line other c is.rest))
 
-  ends_changed : (i : ℕ) → i < param_count line
+  pub ends_changed : (i : ℕ) → i < param_count line
       → declared_ends other i ≡ ends_with (declared_ends line) param part i
   unfolding declared_box
   ends_changed i lt =

@@ -6,12 +6,11 @@ use Rattle.std.proofs.lemmas.List.Folds.{list_all-append}
 use Rattle.std.specs.Prelude.{IsTrue}
 use Rattle.std.specs.List.{list_all}
 use Rattle.history.specs.Rails.{IsPartOf}
-use Rattle.line_model.specs.declared.line.Line.{Line}
 use Rattle.line_model.specs.declared.script.Kind.TheVariants.{Internal, External}
 use Rattle.line_model.specs.Parameters.{terminal_count, param_count, declared_ends}
 use Rattle.line_model.specs.Choice.{Choice, IsIn, IsInside, DelaysFromOne, declared_box}
 use Rattle.line_model.specs.Histories.{History, IsLineHistory, IsSameHistory, Meets, MeetsBy}
-use Rattle.line_model.specs.SetBounds.{SameButParams, IsDelayAt}
+use Rattle.line_model.specs.{declared.line.Line.Line, SetBounds.SameButParams, SetBounds.IsDelayAt}
 use Rattle.line_model.specs.{declared.script.Kind.Kind, declared.script.Script.Script}
 use Rattle.timing_box.specs.{Timing.TimingValues, Choice.timing_choice, Candidates.candidate}
 use Rattle.certify_core.specs.declared.verdict.Verdict.TheVariants as verdict

@@ -1,15 +1,15 @@
 -- The laws below that the proofs here rest on: those of lines, histories and intervals, and, word
 -- for word, some of boxes, candidates and timings.
-use Rattle.std.specs.Prelude.{◌≤◌, ◌<◌, ℕ}
+use Rattle.std.specs.Prelude.{◌≡◌, ◌≤◌, ◌<◌, ℕ}
 use Rattle.history.specs.Rails.{Ends}
 use Rattle.line_model.specs.Parameters.{declared_ends, param_count, terminal_count}
-use Rattle.line_model.specs.SetBounds.{IsDelayAt, SameButParams}
-use Rattle.line_model.specs.Boxes.{IsSameBox, box_with, declared_with}
 use Rattle.line_model.specs.Choice.{Box, Choice, IsIn, IsInside, IsWithin, LeastFromOne}
 use Rattle.line_model.specs.Choice.{declared_box}
-use Rattle.line_model.specs.Histories.{History, IsLineHistory, Meets}
+use Rattle.line_model.specs.Histories.{History, IsLineHistory, Meets, PairHistory, IsPairHistory}
 use Rattle.line_model.specs.IntervalLaws.{CountsRestOnNoInterval, HistoriesRestOnNoInterval}
-use Rattle.line_model.specs.{declared.line.Line.Line, declared.script.Script.Script}
+use Rattle.line_model.specs.SetBounds.{IsDelayAt, SameButParams}
+use Rattle.line_model.specs.{Rule.Held, Rule.rule_of, declared.line.Line.Line, Boxes.IsSameBox}
+use Rattle.line_model.specs.{Boxes.box_with, Boxes.declared_with, declared.script.Script.Script}
 use Rattle.line_model.specs.{WithBounds.IsWithBounds, HeldOver.IsHeldOver, Laws.LineLaws}
 use Rattle.timing_box.specs.Candidates.{candidate, candidate_count}
 use Rattle.timing_box.specs.{Choice.timing_choice, Inside.IsTimingInside, Timing.TimingValues}
@@ -41,6 +41,10 @@ pub record Known : Type 0 where
       → IsHeldOver line script k a → IsHeldOver line script k b
   pub held_same_line : (line other : Line) (script : Script) (k : ℕ) (box : Box)
       → SameButParams line other → IsHeldOver line script k box → IsHeldOver other script k box
+  pub held_by_one : (line : Line) (script : Script) (k : ℕ) (box : Box) (w : PairHistory)
+      → script.deadline < line.horizon → LeastFromOne line box → k < terminal_count line
+      → IsPairHistory line script box w → rule_of line script (w.trip k) ≡ Held
+      → IsHeldOver line script k box
   pub held_meets : (line : Line) (script : Script) (k : ℕ) (box : Box)
       → script.deadline < line.horizon → LeastFromOne line box → k < terminal_count line
       → IsHeldOver line script k box → (choice : Choice) (h : History) → IsWithin line choice box

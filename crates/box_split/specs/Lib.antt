@@ -5,3 +5,4 @@ pub mod Search
 pub mod Found
 pub mod Leaves
 pub mod Parts
+pub mod Quiet

@@ -2,12 +2,15 @@
 //! the whole box: the box is split at the middle of its widest parameter, to a given depth.
 #![tactic(auto)]
 
+mod corners;
 mod halves;
 mod known;
 mod laws;
 mod leaf;
 mod node;
 mod part;
+mod parts;
+mod quick;
 mod searching;
 mod verdict;
 mod widest;

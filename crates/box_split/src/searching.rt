@@ -13,6 +13,7 @@ use crate::halves::{lower, upper};
 use crate::known::laws_below;
 use crate::leaf::{leaf, split};
 use crate::node::{Node, Outcome};
+use crate::quick::quick;
 use crate::verdict::verdict_at;
 use crate::widest::{middle, widest};
 use certify_core::Verdict;
@@ -77,6 +78,11 @@ fn search_part(
     };
     if depth == 0 {
         return Ok(Outcome::Tree(leaf(alloc, Node::Undecided)?));
+    }
+    if depth >= 3 {
+        if let Some(nodes) = quick(alloc, line, net, script, terminal, param, depth)? {
+            return Ok(Outcome::Tree(nodes));
+        }
     }
     let lower_line = lower(alloc, line, param)?;
     let lower_nodes = match search_part(alloc, &lower_line, net, script, terminal, depth - 1)? {

@@ -12,6 +12,7 @@ returns c = record {
   number_in = c.a_box_with_another_interval.ensures.number;
   held_same_box = c.the_rule_over_a_box.ensures.same;
   held_same_line = c.the_rule_over_a_box.ensures.lines;
+  held_by_one = c.the_rule_over_a_box.ensures.one;
   held_meets = c.the_rule_over_a_box.ensures.meets;
   candidates_inside = c.candidates_are_inside.ensures;
   timings_inside = c.timings_inside_are_choices_inside.ensures;
