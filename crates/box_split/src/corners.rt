@@ -14,17 +14,21 @@ pub fn wide_in(alloc: Global, line: &Line, parts: &[Line]) -> Result<Vec<bool>, 
     ensures { IfOk result (λ wide. length wide.items ≡ param_count line.now) }
 {
     let mut wide = Vec::new(alloc);
-    for param in 0..line.param_count() {
-        let splits = parts.iter().any(|part| is_widest(part, param));
-        wide.push(splits)?;
+    wide.resize(line.param_count() as usize, false)?;
+    for part in parts {
+        if let Some(param) = widest(part) {
+            mark(&mut wide, param);
+        }
     }
     Ok(wide)
 }
 
-fn is_widest(part: &Line, param: u32) -> bool {
-    match widest(part) {
-        Some(own) => own == param,
-        None => false,
+// The parameter is marked, where there is one of this number.
+fn mark(wide: &mut [bool], param: u32)
+    ensures { length wide.new ≡ length wide.old }
+{
+    if let Some(marked) = wide.get_mut(param as usize) {
+        *marked = true;
     }
 }
 
