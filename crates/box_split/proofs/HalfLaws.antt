@@ -33,7 +33,7 @@ module _ (known : Known) where
   pub mid_small : (line : Line) (param mid : ℕ) → CanSplit line (declared_box line) param mid
       → mid < 4000
   mid_small line param mid can =
-      omega (arith, (can_split_when line param mid can).1, known.limited line param can.exists)
+      omega (arith, (can_split_when line param mid can).1, known.intervals.within line param can.exists)
 
   -- ---- boxes that are the same, of lines that are the same but for their intervals
 
@@ -80,7 +80,7 @@ module _ (known : Known) where
       → IsSameBox part (declared_box half)
       (box_with (declared_box part) param (record { least = least; greatest = greatest }))
   changed part half param mid least greatest can is =
-      known.number_changed part half param least greatest can.exists can.number is
+      known.changed.number part half param least greatest can.exists can.number is
 
   pub lower_of : (line part half : Line) (box : Box) (param mid least : ℕ)
       → CanSplit part (declared_box part) param mid
@@ -143,10 +143,10 @@ module _ (known : Known) where
   pub held_part : (line part : Line) (box : Box) (script : Script) (k : ℕ) → IsPart line box part
       → IsHeldOver part script k (declared_box part) ↔ IsHeldOver line script k box
   held_part line part box script k p = (
-    λ held. known.held_same_box line script k (declared_box part) box
+    λ held. known.held.same line script k (declared_box part) box
         (turned line (declared_box part) box p.intervals)
-        (known.held_same_line part line script k (declared_box part)
+        (known.held.lines part line script k (declared_box part)
         (exchanged line part p.rest) held),
-    λ held. known.held_same_line line part script k (declared_box part) p.rest
-        (known.held_same_box line script k box (declared_box part) p.intervals held),
+    λ held. known.held.lines line part script k (declared_box part) p.rest
+        (known.held.same line script k box (declared_box part) p.intervals held),
   )

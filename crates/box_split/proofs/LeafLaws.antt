@@ -74,13 +74,13 @@ module _ (known : Known) (line : Line) (choice : Choice) where
   in_lower : (box : Box) (param mid : ℕ) → CanSplit line box param mid
       → IsWithin line choice (lower_half box param mid) → choice.number param ≤ mid
   in_lower box param mid can within =
-      (known.number_in line choice box param
+      (known.another.number line choice box param
       (record { least = (box.ends param).least; greatest = mid }) can.exists within).greatest
 
   in_upper : (box : Box) (param mid : ℕ) → CanSplit line box param mid
       → IsWithin line choice (upper_half box param mid) → mid + 1 ≤ choice.number param
   in_upper box param mid can within =
-      (known.number_in line choice box param
+      (known.another.number line choice box param
       (record { least = mid + 1; greatest = (box.ends param).greatest }) can.exists within).least
 
   lower_in_box : (box : Box) (param mid : ℕ) → CanSplit line box param mid
@@ -145,7 +145,7 @@ module _ (known : Known) (line : Line) (choice : Choice) where
         | inl above ↦
             let there : LiesInOne line choice ys =
             one_leaf second upper splits.1.1
-            (known.within_with line choice box param
+            (known.another.within line choice box param
             (record { least = mid + 1; greatest = (box.ends param).greatest }) within
             (record { least = omega arith; greatest = own.greatest })) in
             record {
@@ -167,7 +167,7 @@ module _ (known : Known) (line : Line) (choice : Choice) where
         | inr low ↦
             let there : LiesInOne line choice xs =
             one_leaf first lower splits.1.0
-            (known.within_with line choice box param
+            (known.another.within line choice box param
             (record { least = (box.ends param).least; greatest = mid }) within
             (record { least = own.least; greatest = low })) in
             record {
@@ -214,5 +214,5 @@ held_leaves known line script k box tree early kn d splits all choice h within i
     one_leaf known line choice tree box splits within in
     let delays : LeastFromOne line one.leaf.box =
     leaf_delays line tree box d one.number one.leaf one.at in
-    known.held_meets line script k one.leaf.box early delays kn
+    known.held.meets line script k one.leaf.box early delays kn
     (all.held one.number one.leaf one.at) choice h one.within is_h

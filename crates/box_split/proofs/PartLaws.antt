@@ -37,7 +37,7 @@ module _ (known : Known) (line other : Line) (param least greatest : ℕ)
       → declared_ends other i ≡ ends_with (declared_ends line) param part i
   unfolding declared_box
   ends_changed i lt =
-      (known.box_changed line other param least greatest here is).numbers i lt
+      (known.changed.all line other param least greatest here is).numbers i lt
 
   -- the number of a timing inside the part is inside the line
   value_inside : IsPartOf part (declared_ends line param) → (value i : ℕ)

@@ -84,10 +84,10 @@ module _ (known : Known) (script : Script) (k : ℕ) where
       (known.lines.inside.declared line) in
       let refuted : IsRefuted line script k w timing = said w is_w in
       let choice : Choice = timing_choice line (candidate line refuted.number) in
-      let inside = known.candidates_inside line refuted.number refuted.first.below in
+      let inside = known.candidates line refuted.number refuted.first.below in
       let from_one : DelaysFromOne line choice =
       known.lines.inside.choices line choice
-      (known.timings_inside line (candidate line refuted.number) inside) in
+      (known.timings line (candidate line refuted.number) inside) in
       subst (λ (x : TimingValues). IsRefutation line script k x) (sym refuted.is)
       (record {
         inside = inside;
@@ -134,7 +134,7 @@ module _ (known : Known) (script : Script) (k : ℕ) where
         subst (λ (n : ℕ). MeetsBy script.kind script.deadline n (h.trip k))
         is_upper.rest.horizon
         (upper choice h
-        (known.inside_changed line second param (middle line param + 1)
+        (known.changed.choices line second param (middle line param + 1)
         (declared_ends line param).greatest choice at.widest.exists no_delay is_upper
         inside (record { least = omega arith; greatest = own.greatest }))
         ((known.histories.choices line second script choice h is_upper.rest).1 is_h)))
@@ -142,7 +142,7 @@ module _ (known : Known) (script : Script) (k : ℕ) where
         subst (λ (n : ℕ). MeetsBy script.kind script.deadline n (h.trip k))
         is_lower.rest.horizon
         (lower choice h
-        (known.inside_changed line first param (declared_ends line param).least (middle line param)
+        (known.changed.choices line first param (declared_ends line param).least (middle line param)
         choice at.widest.exists no_delay is_lower inside
         (record { least = own.least; greatest = low }))
         ((known.histories.choices line first script choice h is_lower.rest).1 is_h)))

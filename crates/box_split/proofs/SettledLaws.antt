@@ -44,7 +44,7 @@ module _ (known : Known) (line : Line) (wide : List Bool) (part corner : Line)
     number_within : (i : ℕ) → i < param_count part
         → IsIn (get_or (candidate part j).values i 0) (declared_ends corner i)
     number_within i there =
-        let inside : IsTimingInside part (candidate part j) = known.candidates_inside part j lt in
+        let inside : IsTimingInside part (candidate part j) = known.candidates part j lt in
         let own : IsIn (get_or (candidate part j).values i 0) (declared_ends part i) =
         inside.values i there in
         let part_of = narrowed.within i (of_line i there) in
@@ -91,7 +91,7 @@ settled_by_corners known line script k wide corners early kn are held = record {
       let kn' : k < terminal_count part =
       subst (λ (n : ℕ). k < n) (sym (known.counts.terminals line part same)) kn in
       record {
-        not_held = λ rule. not_held (known.held_by_one part script k (declared_box part) w early'
+        not_held = λ rule. not_held (known.held.one part script k (declared_box part) w early'
             (known.lines.inside.declared part) kn' is_w rule);
         passes = λ j lt. record {
           meets = λ h is_h.
@@ -100,13 +100,13 @@ settled_by_corners known line script k wide corners early kn are held = record {
               subst (λ (n : ℕ). but < n + 1) (known.counts.params line part same) inside in
               let (at, corner, here, is) = are.each high but inside' in
               let other = between line corner part is.rest same in
-              known.held_meets part script k (declared_box corner) early'
+              known.held.meets part script k (declared_box corner) early'
               (λ c t there now.
               let there' = subst (λ (n : ℕ). c < n) (known.counts.channels corner part other) there in
               let now' = subst (λ (n : ℕ). t < n) other.horizon now in
               known.lines.inside.declared corner c t there' now')
               kn'
-              (known.held_same_line corner part script k (declared_box corner) other
+              (known.held.lines corner part script k (declared_box corner) other
               (held at corner here))
               (timing_choice part (candidate part j)) h
               (candidate_within known line wide part corner same narrowed high but j lt is numbers)

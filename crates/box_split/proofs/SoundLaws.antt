@@ -74,7 +74,7 @@ module _ (known : Known) (line : Line) (script : Script) (k : ℕ) where
   pub sound_same : (tree : SplitTree) (a b : Box) → IsSameBox line a b
       → AreSound line script k a tree → AreSound line script k b tree
   sound_same Yes a b same held =
-      known.held_same_box line script k a b (turned a b same) held where
+      known.held.same line script k a b (turned a b same) held where
         turned : (a b : Box) → IsSameBox line a b → IsSameBox line b a
         turned a b same = record {
           numbers = λ i lt. sym (same.numbers i lt);
@@ -116,7 +116,7 @@ pub sound_kept : Known → (old new : Line) → SameButParams old new → (scrip
     (tree : SplitTree) (box : Box) → AreSound old script k box tree
     → AreSound new script k box tree
 sound_kept known old new same script k Yes box held =
-    known.held_same_line old new script k box same held
+    known.held.lines old new script k box same held
 sound_kept known old new same script k Undecided box held = tt
 sound_kept known old new same script k (Split param mid first second) box sound = (
   can_split_kept known old new same box param mid sound.0,
@@ -149,7 +149,7 @@ module _ (known : Known) (script : Script) (k : ℕ) where
       (lower_half (declared_box line) param (middle line param))
   unfolding declared_box
   lower_box line param first at is =
-      known.number_changed line first param (declared_ends line param).least (middle line param)
+      known.changed.number line first param (declared_ends line param).least (middle line param)
       at.widest.exists (split_no_delay line param at.widest.free) is
 
   upper_box : (line : Line) (param : ℕ) (second : Line) → IsSplitAt line script k param
@@ -158,7 +158,7 @@ module _ (known : Known) (script : Script) (k : ℕ) where
       (upper_half (declared_box line) param (middle line param))
   unfolding declared_box
   upper_box line param second at is =
-      known.number_changed line second param (middle line param + 1)
+      known.changed.number line second param (middle line param + 1)
       (declared_ends line param).greatest at.widest.exists
       (split_no_delay line param at.widest.free) is
 

@@ -6,3 +6,4 @@ pub mod Found
 pub mod Leaves
 pub mod Parts
 pub mod Quiet
+pub mod Laws

@@ -1,17 +1,16 @@
 //! The laws of splits.
 
-ghost use Rattle.std.specs.Prelude.{◌≤◌, ◌<◌, ◌↔◌, ℕ, IsTrue};
+ghost use Rattle.std.specs.Prelude.{◌≤◌, ◌<◌, ℕ, IsTrue};
 ghost use Rattle.line_model.specs.Histories.{History, IsLineHistory, Meets};
 ghost use Rattle.line_model.specs.{declared.line.Line.Line, declared.script.Script.Script};
-ghost use Rattle.line_model.specs.{Parameters.terminal_count, SetBounds.SameButParams};
-ghost use Rattle.line_model.specs.{HeldOver.IsHeldOver, Choice.Choice, Choice.Box, Choice.IsInside};
-ghost use Rattle.line_model.specs.{Choice.IsWithin, Choice.LeastFromOne, Choice.declared_box};
+ghost use Rattle.line_model.specs.Choice.{Choice, Box, IsInside, IsWithin, LeastFromOne, declared_box};
+ghost use Rattle.line_model.specs.Parameters.{terminal_count};
 ghost use Rattle.timing_box.specs.Timing.{TimingValues};
 ghost use Rattle.certify_core.specs.Verdicts.{IsRefutation};
 ghost use Rattle.box_split.specs.Trees.{SplitTree, height, are_yes};
 ghost use Rattle.box_split.specs.Search.{Tree, Fails, IsSearch};
-ghost use Rattle.box_split.specs.Leaves.{leaves, CanSplit, Splits, LiesInOne, AllHeld, AreSound};
-ghost use Rattle.box_split.specs.Parts.{IsPart};
+ghost use Rattle.box_split.specs.Leaves.{leaves, Splits, LiesInOne, AllHeld, AreSound};
+ghost use Rattle.box_split.specs.Laws.{APartStandsForItsBox, MiddlesAreBelowTheGreatestInterval};
 
 use crate::known::laws_below;
 
@@ -95,21 +94,14 @@ pub fn a_sound_tree_splits_its_box()
 /// A line that differs in its intervals alone is a part. A part can be split where its box can,
 /// and the rule of an obligation is held over the one where it is over the other.
 pub fn a_part_stands_for_its_box()
-    ensures own { (line part : Line) → SameButParams line part →
-        IsPart line (declared_box part) part }
-    ensures split { (line part : Line) (box : Box) (param mid : ℕ) → IsPart line box part →
-        CanSplit part (declared_box part) param mid ↔ CanSplit line box param mid }
-    ensures held { (line part : Line) (box : Box) (script : Script) (k : ℕ) →
-        IsPart line box part →
-        IsHeldOver part script k (declared_box part) ↔ IsHeldOver line script k box }
+    ensures { APartStandsForItsBox }
 {
     laws_below();
 }
 
 /// A declared box is split below 4,000 ticks.
 pub fn middles_are_below_the_greatest_interval()
-    ensures { (line : Line) (param mid : ℕ) → CanSplit line (declared_box line) param mid →
-        mid < 4000 }
+    ensures { MiddlesAreBelowTheGreatestInterval }
 {
     laws_below();
 }

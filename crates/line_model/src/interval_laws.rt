@@ -1,20 +1,18 @@
 //! The laws of lines that differ in their intervals alone, and of boxes: what does not rest on the
 //! intervals, and what narrower intervals keep.
 
-ghost use Rattle.std.specs.Prelude.{◌≡◌, ◌≤◌, ◌<◌, ◌↔◌, ℕ};
-ghost use Rattle.history.specs.Rails.{Ends};
-ghost use Rattle.line_model.specs.Parameters.{terminal_count, param_count, declared_ends};
-ghost use Rattle.line_model.specs.SetBounds.{SameButParams, IsDelayAt};
-ghost use Rattle.line_model.specs.WithBounds.{IsWithBounds};
-ghost use Rattle.line_model.specs.Boxes.{IsSameBox, declared_with, box_with};
-ghost use Rattle.line_model.specs.Choice.{Choice, Box, IsIn, IsWithin, IsInside, IsBoxWithin};
-ghost use Rattle.line_model.specs.Choice.{LeastFromOne, declared_box};
-ghost use Rattle.line_model.specs.Histories.{History, IsLineHistory, Meets, PairHistory};
-ghost use Rattle.line_model.specs.Histories.{IsPairHistory};
+ghost use Rattle.std.specs.Prelude.{◌≡◌, ◌<◌, ℕ};
+ghost use Rattle.line_model.specs.Parameters.{terminal_count};
+ghost use Rattle.line_model.specs.Choice.{Box, IsBoxWithin, LeastFromOne, declared_box};
+ghost use Rattle.line_model.specs.Histories.{PairHistory, IsPairHistory};
 ghost use Rattle.line_model.specs.IntervalLaws.{CountsRestOnNoInterval, TreesRestOnNoInterval};
-ghost use Rattle.line_model.specs.IntervalLaws.{HistoriesRestOnNoInterval};
+ghost use Rattle.line_model.specs.IntervalLaws.{HistoriesRestOnNoInterval, ABoxWithAnotherInterval};
+ghost use Rattle.line_model.specs.IntervalLaws.{SameBoxesHaveTheSameIntervalHistory};
+ghost use Rattle.line_model.specs.IntervalLaws.{AChangedIntervalChangesTheBox, TheRuleOverABox};
+ghost use Rattle.line_model.specs.IntervalLaws.{DeclaredIntervalsAreInOrder};
 ghost use Rattle.line_model.specs.{declared.line.Line.Line, declared.script.Script.Script};
-ghost use Rattle.line_model.specs.{Fits.Fits, Rule.Held, Rule.rule_of, HeldOver.IsHeldOver};
+ghost use Rattle.line_model.specs.{Fits.Fits, SetBounds.SameButParams, HeldOver.IsHeldOver};
+ghost use Rattle.line_model.specs.{Rule.Held, Rule.rule_of};
 
 use history::laws::history_laws;
 
@@ -44,10 +42,7 @@ pub fn histories_do_not_rest_on_the_intervals()
 /// Boxes that are the same in each interval of the line's have the same interval histories and the
 /// same choices.
 pub fn same_boxes_have_the_same_interval_history()
-    ensures histories { (line : Line) (script : Script) (a b : Box) (w : PairHistory) →
-        IsSameBox line a b → IsPairHistory line script a w → IsPairHistory line script b w }
-    ensures choices { (line : Line) (choice : Choice) (a b : Box) →
-        IsSameBox line a b → IsWithin line choice b → IsWithin line choice a }
+    ensures { SameBoxesHaveTheSameIntervalHistory }
 {
     history_laws();
 }
@@ -56,38 +51,18 @@ pub fn same_boxes_have_the_same_interval_history()
 /// no delay's, each delay of the box stays. A choice inside whose number lies in the new interval
 /// is then inside the changed line.
 pub fn a_changed_interval_changes_the_box()
-    ensures all { (line other : Line) (param least greatest : ℕ) → param < param_count line →
-        IsWithBounds line param least greatest other →
-        IsSameBox line (declared_box other)
-        (declared_with line param (record { least = least; greatest = greatest })) }
-    ensures number { (line other : Line) (param least greatest : ℕ) → param < param_count line →
-        ¬ (IsDelayAt line param) → IsWithBounds line param least greatest other →
-        IsSameBox line (declared_box other)
-        (box_with (declared_box line) param (record { least = least; greatest = greatest })) }
-    ensures choices { (line other : Line) (param least greatest : ℕ) (choice : Choice) →
-        param < param_count line → ¬ (IsDelayAt line param) →
-        IsWithBounds line param least greatest other → IsInside line choice →
-        IsIn (choice.number param) (record { least = least; greatest = greatest }) →
-        IsInside other choice }
+    ensures { AChangedIntervalChangesTheBox }
 {}
 
 /// A choice lies in a box with another interval for a number where it lies in the box and its
 /// number in that interval, and then its number does.
 pub fn a_box_with_another_interval()
-    ensures within { (line : Line) (choice : Choice) (box : Box) (param : ℕ) (new : Ends) →
-        IsWithin line choice box → IsIn (choice.number param) new →
-        IsWithin line choice (box_with box param new) }
-    ensures number { (line : Line) (choice : Choice) (box : Box) (param : ℕ) (new : Ends) →
-        param < param_count line → IsWithin line choice (box_with box param new) →
-        IsIn (choice.number param) new }
+    ensures { ABoxWithAnotherInterval }
 {}
 
 /// Each declared interval is in order, and none goes past 4,000 ticks.
 pub fn declared_intervals_are_in_order()
-    ensures ordered { (line : Line) (i : ℕ) → i < param_count line →
-        (declared_ends line i).least ≤ (declared_ends line i).greatest }
-    ensures within { (line : Line) (i : ℕ) → i < param_count line →
-        (declared_ends line i).greatest ≤ 4000 }
+    ensures { DeclaredIntervalsAreInOrder }
 {}
 
 /// A rule that is held over a box is held over each narrower box.
@@ -105,23 +80,7 @@ pub fn what_is_held_is_held_over_a_narrower_box()
 /// is for each; it is held over each narrower box, over each box that is the same, and of each
 /// line that differs in its intervals alone; and every choice within meets the obligation.
 pub fn the_rule_over_a_box()
-    ensures one { (line : Line) (script : Script) (k : ℕ) (box : Box) (w : PairHistory) →
-        script.deadline < line.horizon → LeastFromOne line box → k < terminal_count line →
-        IsPairHistory line script box w → rule_of line script (w.trip k) ≡ Held →
-        IsHeldOver line script k box }
-    ensures narrower { (line : Line) (script : Script) (k : ℕ) (inner outer : Box) →
-        script.deadline < line.horizon → LeastFromOne line outer → k < terminal_count line →
-        IsBoxWithin line inner outer → IsHeldOver line script k outer →
-        IsHeldOver line script k inner }
-    ensures same { (line : Line) (script : Script) (k : ℕ) (a b : Box) → IsSameBox line b a →
-        IsHeldOver line script k a → IsHeldOver line script k b }
-    ensures lines { (line other : Line) (script : Script) (k : ℕ) (box : Box) →
-        SameButParams line other → IsHeldOver line script k box →
-        IsHeldOver other script k box }
-    ensures meets { (line : Line) (script : Script) (k : ℕ) (box : Box) →
-        script.deadline < line.horizon → LeastFromOne line box → k < terminal_count line →
-        IsHeldOver line script k box → (choice : Choice) (h : History) →
-        IsWithin line choice box → IsLineHistory line script choice h → Meets line script k h }
+    ensures { TheRuleOverABox }
 {
     history_laws();
 }

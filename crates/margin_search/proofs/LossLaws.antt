@@ -32,24 +32,24 @@ exchanged line other same = record {
 module _ (known : Known) (line other : Line) (param v : ℕ) (here : param < param_count line)
     (is : IsWithBounds line param (declared_ends line param).least v other) where
   same : IsSameBox line (declared_box other) (raised line param v)
-  same = known.box_changed line other param (declared_ends line param).least v here is
+  same = known.changed.all line other param (declared_ends line param).least v here is
 
   moved : (script : Script) (k : ℕ) → IsHeldOver other script k (declared_box other)
       → IsHeldOver line script k (raised line param v)
   moved script k held =
-      known.held_same_box line script k (declared_box other) (raised line param v)
+      known.held.same line script k (declared_box other) (raised line param v)
       (same_box_sym line (declared_box other) (raised line param v) same)
-      (known.held_same_line other line script k (declared_box other)
+      (known.held.lines other line script k (declared_box other)
       (exchanged line other is.rest) held)
 
   back : (script : Script) (k : ℕ) → IsHeldOver line script k (raised line param v)
       → IsHeldOver other script k (declared_box other)
   back script k held =
-      known.held_same_line line other script k (declared_box other) is.rest
-      (known.held_same_box line script k (raised line param v) (declared_box other) same held)
+      known.held.lines line other script k (declared_box other) is.rest
+      (known.held.same line script k (raised line param v) (declared_box other) same held)
 
   there : (k : ℕ) → k < terminal_count line → k < terminal_count other
-  there k kn = subst (λ (n : ℕ). k < n) (sym (known.same_terminals line other is.rest)) kn
+  there k kn = subst (λ (n : ℕ). k < n) (sym (known.counts.terminals line other is.rest)) kn
 
   script_moved : (script : Script)
       → IsScriptHeld other script (declared_box other) (terminal_count other)
@@ -66,7 +66,7 @@ module _ (known : Known) (line other : Line) (param v : ℕ) (here : param < par
     script = first.script;
     at = first.at;
     terminal = record {
-      exists = subst (λ (n : ℕ). lost.terminal < n) (known.same_terminals line other is.rest)
+      exists = subst (λ (n : ℕ). lost.terminal < n) (known.counts.terminals line other is.rest)
           first.terminal.exists;
       lost = λ held. first.terminal.lost (back first.script lost.terminal held);
       before = record {

@@ -31,7 +31,7 @@ module _ (known : Known) (line : Line) (scripts : List Script) (param : ℕ)
   held_below u v le all = record {
     held = λ s script at. record {
       held = λ k kn.
-          known.held_inside line script k (raised line param u) (raised line param v)
+          known.held.narrower line script k (raised line param u) (raised line param v)
           (early s script at) (raised_from_one line param v) kn (raised_within line param u v le)
           ((all.held s script at).held k kn);
     };
@@ -42,7 +42,7 @@ module _ (known : Known) (line : Line) (scripts : List Script) (param : ℕ)
       → (choice : Choice) (h : History) → IsWithin line choice (raised line param v)
       → IsLineHistory line script choice h → Meets line script k h
   held_met v s k script all at kn choice h within is_h =
-      known.held_meets line script k (raised line param v) (early s script at)
+      known.held.meets line script k (raised line param v) (early s script at)
       (raised_from_one line param v) kn ((all.held s script at).held k kn) choice h within is_h
 
   -- what is lost is not held

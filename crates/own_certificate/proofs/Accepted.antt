@@ -45,7 +45,7 @@ module _ (known : Known) (line : Line) where
         let there : i < param_count line = omega arith in
         let is_in = inside.values i there in
         let greatest = is_in.greatest in
-        let limit = known.greatest_limited line i there in
+        let limit = known.intervals.within line i there in
         let same : get_or timing.values i d ≡ get_or timing.values i 0 =
         get_or_default timing.values i d 0 lt in
         omega arith;
@@ -56,7 +56,7 @@ module _ (known : Known) (line : Line) where
   numbers_of script k w Yes is = tt
   numbers_of script k w (No timing) is =
       subst (λ (x : TimingValues). AreNumbers (param_count line) x.values) (sym is.is)
-      (small (candidate line is.number) (known.candidates_inside line is.number is.first.below))
+      (small (candidate line is.number) (known.candidates line is.number is.first.below))
   numbers_of script k w Undecided is = tt
 
   pub can_be_written : (script : Script) (w : PairHistory) (keys : List (List Tern))
@@ -120,8 +120,8 @@ module _ (known : Known) (line : Line) (script : Script) (fits : Fits line scrip
   refuted k timing there is =
       let first : TimingValues = candidate line is.number in
       let choice : Choice = timing_choice line first in
-      let inside = known.candidates_inside line is.number is.first.below in
-      let delayed = known.lines.inside.choices line choice (known.timings_inside line first inside) in
+      let inside = known.candidates line is.number is.first.below in
+      let delayed = known.lines.inside.choices line choice (known.timings line first inside) in
       let fails = is.first.fails in
       subst (λ (x : TimingValues). IsRefutation line script k x.values) (sym is.is)
       (record {

@@ -61,7 +61,7 @@ module _ (known : Known) (line : Line) (script : Script) (fits : Fits line scrip
       → DelaysFromOne line (timing_choice line (candidate line i))
   delayed i exists =
       known.lines.inside.choices line (timing_choice line (candidate line i))
-      (known.timings_inside line (candidate line i) (known.candidates_inside line i exists))
+      (known.timings line (candidate line i) (known.candidates line i exists))
 
   -- each candidate passes or fails
   candidate_told : (i : ℕ) → i < candidate_count line

@@ -39,7 +39,7 @@ inside_numbers known line timing is = record {
   many = is.count;
   small = All-from_get_or (λ (n : ℕ). n < 2 ^ 32) timing.values 0 (λ i lt.
       let here : i < param_count line = omega (arith, is.count) in
-      omega (arith, (is.values i here).greatest, known.limited line i here));
+      omega (arith, (is.values i here).greatest, known.intervals.within line i here));
 }
 
 pub found_written : Known → (line : Line) (script : Script) (k n : ℕ) (o : Outcome)

@@ -24,7 +24,7 @@ may_in_box known line part n box (node.Split param mid) p may =
     record {
       left = may.left;
       number = may.number;
-      can = (known.split line part box param mid p).0 may.can;
+      can = (known.parts.split line part box param mid p).0 may.can;
     }
 
 pub may_in_part : Known → (line part : Line) (n : ℕ) (box : Box) (root : Node) → IsPart line box part
@@ -35,7 +35,7 @@ may_in_part known line part n box (node.Split param mid) p may =
     record {
       left = may.left;
       number = may.number;
-      can = (known.split line part box param mid p).1 may.can;
+      can = (known.parts.split line part box param mid p).1 may.can;
     }
 
 -- a line that is no node's

@@ -103,7 +103,7 @@ module _ (known : Known) (line : Line) where
       omega (
         arith,
         is.many,
-        known.few line,
+        known.params.few line,
         numbers_short numbers is.small,
         length-append (fails_text numbers) (10 ∷ []),
       )

@@ -53,7 +53,7 @@ IsLow line box = (i : ℕ) → i < param_count line → (box.ends i).greatest �
 
 pub low_declared : Known → (line : Line) → IsLow line (declared_box line)
 unfolding declared_box
-low_declared known line = known.limited line
+low_declared known line = known.intervals.within line
 
 one_of_two : (b : Bool) (x y : Ends) → x.greatest ≤ 4000 → y.greatest ≤ 4000
     → (cond b x y).greatest ≤ 4000

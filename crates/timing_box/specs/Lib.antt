@@ -12,3 +12,4 @@ pub mod Timings
 pub mod Faults
 pub mod Printed
 pub mod SoFarInside
+pub mod Laws

@@ -8,7 +8,7 @@ ghost use Rattle.line_model.specs.{Choice.IsInside, Histories.History, Histories
 ghost use Rattle.timing_box.specs.Timing.{TimingValues, ascend, number_at, IsLatest, HasNoStepBy};
 ghost use Rattle.timing_box.specs.Inside.{IsTimingInside};
 ghost use Rattle.timing_box.specs.Choice.{timing_choice, IsSameChoice};
-ghost use Rattle.timing_box.specs.Candidates.{candidate, candidate_count};
+ghost use Rattle.timing_box.specs.Laws.{CandidatesAreInside, TimingsInsideAreChoicesInside};
 ghost use Rattle.timing_box.specs.Printed.{MayStand, AreOfOneFile, file_records};
 ghost use Rattle.timing_box.specs.{declared.step.Step.Step, SoFar.NamedValues, Timings.timings_in};
 
@@ -18,15 +18,13 @@ use line_model::name_laws::parameters_have_names_of_their_own;
 
 /// Each candidate is inside the declared intervals.
 pub fn candidates_are_inside()
-    ensures { (line : Line) (index : ℕ) → index < candidate_count line
-        → IsTimingInside line (candidate line index) }
+    ensures { CandidatesAreInside }
 {}
 
 /// The choice of delays that a timing inside stands for lies in the declared intervals, at every
 /// tick.
 pub fn timings_inside_are_choices_inside()
-    ensures { (line : Line) (timing : TimingValues) → IsTimingInside line timing
-        → IsInside line (timing_choice line timing) }
+    ensures { TimingsInsideAreChoicesInside }
 {}
 
 /// Over ascending steps the number of a parameter at a tick is the value of its step with the

@@ -10,6 +10,6 @@ loop-k-preserved c =
     let script = c.args.script.now in
     let known = c.laws_below.ensures in
     one_terminal_more line script (declared_box line) c.loop-k.k c.loop-k.invariant
-    (known.held_of line script c.loop-k.k (declared_box line) (pair_history c.in_ok-waves.waves)
+    (known.held.one line script c.loop-k.k (declared_box line) (pair_history c.in_ok-waves.waves)
     (known.lines.deadlines line script c.requires.fits) (known.lines.inside.declared line) (omega arith)
     c.in_ok-waves.ensures.history.is (c.is_held.ensures.held c.if-not-is_held.false))

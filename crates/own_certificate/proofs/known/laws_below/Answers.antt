@@ -3,7 +3,7 @@ use Rattle.own_certificate.proofs.known.laws_below.Goals as goal
 pub returns : goal.returns
 returns c = record {
   lines = c.line_laws.ensures;
-  candidates_inside = c.candidates_are_inside.ensures;
-  timings_inside = c.timings_inside_are_choices_inside.ensures;
-  greatest_limited = c.declared_intervals_are_in_order.ensures.within;
+  candidates = c.candidates_are_inside.ensures;
+  timings = c.timings_inside_are_choices_inside.ensures;
+  intervals = c.declared_intervals_are_in_order.ensures;
 }
