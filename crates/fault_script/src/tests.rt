@@ -1,10 +1,8 @@
 //! Scripts files: what they say, how they are printed, and what is refused.
 
 use super::*;
-use line_model::{
-    Bounds, Channel, Element, Kind, Line, Name, Place, Scheme, Script, SeenSpan, Terminal, What,
-    makes_line,
-};
+use line_model::{Element, Kind, Line, Place, Script, SeenSpan, What};
+use sample_lines::{ONE_TO_FIVE, two_terminals};
 use std::alloc::Global;
 use std::test::Fail;
 
@@ -18,46 +16,9 @@ F1,z2,B,10,100
 F1,cur,B,10,100
 ";
 
-fn named(text: &[u8]) -> Result<Name, Fail> {
-    Ok(Name::from_bytes(text).ok_or("no name")?)
-}
-
-// A line of two terminals, A and B, with a horizon of 120 ticks.
-fn two_terminals(alloc: Global) -> Result<Line, Fail> {
-    let mut terminals = Vec::new(alloc);
-    for name in [b"A", b"B"] {
-        terminals.push(Terminal {
-            name: named(name)?,
-            weak: false,
-            guard: false,
-        })?;
-    }
-    let mut channels = Vec::new(alloc);
-    channels.push(Channel { from: 0, to: 1 })?;
-    channels.push(Channel { from: 1, to: 0 })?;
-    let bounds = [Bounds {
-        least: 1,
-        greatest: 5,
-    }; 18];
-    if !makes_line(1000, 120, Scheme::Pott, &terminals, &channels, &bounds) {
-        return Err("no line")?;
-    }
-    let line = Line::new(
-        alloc,
-        1000,
-        120,
-        Scheme::Pott,
-        false,
-        terminals,
-        channels,
-        &bounds,
-    );
-    Ok(line.map_err(|_| "no memory")?)
-}
-
 #[test]
 fn an_internal_fault(rt: HostRuntime) -> Result<(), Fail> {
-    let line = two_terminals(rt.alloc())?;
+    let line = two_terminals(rt.alloc(), &ONE_TO_FIVE)?.ok_or("no line")?;
     let scripts = read_scripts(rt.alloc(), &line, INTERNAL_FAULT)?;
     assert_eq!(rt; scripts.len(), 1);
     let script = &scripts[0];
@@ -101,7 +62,7 @@ fn are_same(a: &[Script], b: &[Script]) -> bool {
 #[test]
 fn printed(rt: HostRuntime) -> Result<(), Fail> {
     let alloc = rt.alloc();
-    let line = two_terminals(alloc)?;
+    let line = two_terminals(alloc, &ONE_TO_FIVE)?.ok_or("no line")?;
     for bytes in [INTERNAL_FAULT, TWO_SCRIPTS] {
         let scripts = read_scripts(alloc, &line, bytes)?;
         let text = print_scripts(alloc, &line, &scripts).map_err(|_| "no memory")?;
@@ -121,7 +82,7 @@ fn refusal(alloc: Global, line: &Line, records: &[u8]) -> Result<Option<ScriptFa
 
 #[test]
 fn headers(rt: HostRuntime) -> Result<(), Fail> {
-    let line = two_terminals(rt.alloc())?;
+    let line = two_terminals(rt.alloc(), &ONE_TO_FIVE)?.ok_or("no line")?;
     let rows: [(&[u8], ScriptFault); 6] = [
         (b"", ScriptFault::Header),
         (b"\n\n", ScriptFault::Header),
@@ -147,7 +108,7 @@ fn headers(rt: HostRuntime) -> Result<(), Fail> {
 
 #[test]
 fn records(rt: HostRuntime) -> Result<(), Fail> {
-    let line = two_terminals(rt.alloc())?;
+    let line = two_terminals(rt.alloc(), &ONE_TO_FIVE)?.ok_or("no line")?;
     let rows: [(&[u8], Option<ScriptFault>); 40] = [
         (b"F1,external,,,\n", None),
         (b"F1,external,,,\n\nF1,loss,B>A,0,120\n", None),
@@ -253,7 +214,7 @@ fn records(rt: HostRuntime) -> Result<(), Fail> {
 #[test]
 fn too_many(rt: HostRuntime) -> Result<(), Fail> {
     let alloc = rt.alloc();
-    let line = two_terminals(alloc)?;
+    let line = two_terminals(alloc, &ONE_TO_FIVE)?.ok_or("no line")?;
     let mut heads = Vec::new(alloc);
     for n in 0..64 {
         heads.extend_from_slice(format!(in alloc; "S{n},external,,,\n")?.as_bytes())?;

@@ -1,27 +1,13 @@
 //! The text of a margin.
 
 use super::*;
-use line_model::{Bounds, Channel, Kind, Line, Name, Scheme, Script, Terminal, makes_line};
+use line_model::{Bounds, Line, Name, Script};
+use sample_lines::{two_terminals, unseen_fault};
 use std::alloc::Global;
 use std::test::Fail;
 
-fn named(text: &[u8]) -> Result<Name, Fail> {
-    Ok(Name::from_bytes(text).ok_or("no name")?)
-}
-
-// A line of two terminals, A and B, whose delays are declared up to this number.
-fn two_terminals(alloc: Global, delay: u32) -> Result<Line, Fail> {
-    let mut terminals = Vec::new(alloc);
-    for name in [b"A", b"B"] {
-        terminals.push(Terminal {
-            name: named(name)?,
-            weak: false,
-            guard: false,
-        })?;
-    }
-    let mut channels = Vec::new(alloc);
-    channels.push(Channel { from: 0, to: 1 })?;
-    channels.push(Channel { from: 1, to: 0 })?;
+// The line whose delays are declared up to this number.
+fn line_delayed(alloc: Global, delay: u32) -> Result<Line, Fail> {
     let mut bounds = [Bounds {
         least: 0,
         greatest: 0,
@@ -32,31 +18,7 @@ fn two_terminals(alloc: Global, delay: u32) -> Result<Line, Fail> {
             greatest: delay,
         };
     }
-    if !makes_line(1000, 120, Scheme::Pott, &terminals, &channels, &bounds) {
-        return Err("no line")?;
-    }
-    let line = Line::new(
-        alloc,
-        1000,
-        120,
-        Scheme::Pott,
-        false,
-        terminals,
-        channels,
-        &bounds,
-    );
-    Ok(line.map_err(|_| "no memory")?)
-}
-
-fn one_script(alloc: Global, name: &[u8]) -> Result<Vec<Script>, Fail> {
-    let mut scripts = Vec::new(alloc);
-    scripts.push(Script {
-        name: named(name)?,
-        kind: Kind::Internal,
-        deadline: 19,
-        spans: Vec::new(alloc),
-    })?;
-    Ok(scripts)
+    Ok(two_terminals(alloc, &bounds)?.ok_or("no line")?)
 }
 
 fn lost_at(terminal: u32) -> Option<Lost> {
@@ -128,8 +90,9 @@ fn texts(rt: HostRuntime) -> Result<(), Fail> {
         ),
     ];
     for (name, delay, param, greatest, lost, text) in rows {
-        let line = two_terminals(alloc, delay)?;
-        let scripts = one_script(alloc, name)?;
+        let line = line_delayed(alloc, delay)?;
+        let name = Name::from_bytes(name).ok_or("no name")?;
+        let scripts = vec![in alloc; unseen_fault(alloc, name)]?;
         let end = UpperEnd { greatest, lost };
         let printed = text_of(alloc, &line, &scripts, param, end)?;
         assert!(rt; printed.as_slice() == text);

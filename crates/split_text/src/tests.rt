@@ -3,7 +3,8 @@
 
 use super::*;
 use box_split::Node;
-use line_model::{Bounds, Channel, Kind, Line, Name, Scheme, Script, Terminal, makes_line};
+use line_model::Name;
+use sample_lines::{ONE_TO_FIVE, two_terminals, unseen_fault};
 use std::alloc::Global;
 use std::test::Fail;
 use text_lines::TextFault;
@@ -22,54 +23,6 @@ const LINES: [&[u8]; 11] = [
     b"end",
 ];
 
-fn named(text: &[u8]) -> Result<Name, Fail> {
-    Ok(Name::from_bytes(text).ok_or("no name")?)
-}
-
-// A line of two terminals, A and B, of 18 parameters, each from 1 to 5.
-fn two_terminals(alloc: Global) -> Result<Line, Fail> {
-    let mut terminals = Vec::new(alloc);
-    for name in [b"A", b"B"] {
-        terminals.push(Terminal {
-            name: named(name)?,
-            weak: false,
-            guard: false,
-        })?;
-    }
-    let mut channels = Vec::new(alloc);
-    channels.push(Channel { from: 0, to: 1 })?;
-    channels.push(Channel { from: 1, to: 0 })?;
-    let bounds = [Bounds {
-        least: 1,
-        greatest: 5,
-    }; 18];
-    if !makes_line(1000, 120, Scheme::Pott, &terminals, &channels, &bounds) {
-        return Err("no line")?;
-    }
-    let line = Line::new(
-        alloc,
-        1000,
-        120,
-        Scheme::Pott,
-        false,
-        terminals,
-        channels,
-        &bounds,
-    );
-    Ok(line.map_err(|_| "no memory")?)
-}
-
-fn one_script(alloc: Global) -> Result<Vec<Script>, Fail> {
-    let mut scripts = Vec::new(alloc);
-    scripts.push(Script {
-        name: named(b"F1")?,
-        kind: Kind::Internal,
-        deadline: 19,
-        spans: Vec::new(alloc),
-    })?;
-    Ok(scripts)
-}
-
 // The lines, each with this end, where one of them, counted from 1, is another.
 fn lines_but(alloc: Global, place: usize, line: &[u8], end: &[u8]) -> Result<Vec<u8>, Fail> {
     let mut text = Vec::new(alloc);
@@ -82,8 +35,8 @@ fn lines_but(alloc: Global, place: usize, line: &[u8], end: &[u8]) -> Result<Vec
 
 // The line at which the text leaves the grammar.
 fn leaves_at(alloc: Global, text: &[u8]) -> Result<Option<usize>, Fail> {
-    let line = two_terminals(alloc)?;
-    let scripts = one_script(alloc)?;
+    let line = two_terminals(alloc, &ONE_TO_FIVE)?.ok_or("no line")?;
+    let scripts = vec![in alloc; unseen_fault(alloc, Name::from_bytes(b"F1").unwrap())]?;
     match read_split_text(alloc, &line, &scripts, text) {
         Ok(_) => Ok(None),
         Err(TextFault::Line(number)) => Ok(Some(number)),
@@ -94,8 +47,8 @@ fn leaves_at(alloc: Global, text: &[u8]) -> Result<Option<usize>, Fail> {
 #[test]
 fn what_a_text_says(rt: HostRuntime) -> Result<(), Fail> {
     let alloc = rt.alloc();
-    let line = two_terminals(alloc)?;
-    let scripts = one_script(alloc)?;
+    let line = two_terminals(alloc, &ONE_TO_FIVE)?.ok_or("no line")?;
+    let scripts = vec![in alloc; unseen_fault(alloc, Name::from_bytes(b"F1").unwrap())]?;
     let text = lines_but(alloc, 0, b"", b"\n")?;
     let parts = read_split_text(alloc, &line, &scripts, &text).map_err(|_| "a text")?;
     assert_eq!(rt; parts.len(), 1);

@@ -1,7 +1,8 @@
 //! Timings files: what they say, and what is refused.
 
 use super::*;
-use line_model::{Bounds, Channel, Line, Name, Scheme, Terminal, is_plain, makes_line};
+use line_model::{Bounds, Line, Name, is_plain};
+use sample_lines::two_terminals;
 use std::alloc::Global;
 use std::process::Abort;
 use std::test::Fail;
@@ -11,10 +12,6 @@ const HEADER: &[u8] = b"timing,parameter,value\n";
 
 // The numbers of the parameters that are free in the line below.
 const FREE: [u32; 6] = [2, 3, 10, 11, 16, 17];
-
-fn named(text: &[u8]) -> Result<Name, Fail> {
-    Ok(Name::from_bytes(text).ok_or("no name")?)
-}
 
 fn all_bounds(pickup: Bounds, dropout: Bounds, delay: Bounds) -> [Bounds; 18] {
     let mut bounds = [Bounds {
@@ -30,41 +27,11 @@ fn all_bounds(pickup: Bounds, dropout: Bounds, delay: Bounds) -> [Bounds; 18] {
     bounds
 }
 
-fn two_terminals(alloc: Global, bounds: &[Bounds]) -> Result<Line, Fail> {
-    let mut terminals = Vec::new(alloc);
-    for name in [b"A", b"B"] {
-        terminals.push(Terminal {
-            name: named(name)?,
-            weak: false,
-            guard: false,
-        })?;
-    }
-    let mut channels = Vec::new(alloc);
-    channels.push(Channel { from: 0, to: 1 })?;
-    channels.push(Channel { from: 1, to: 0 })?;
-    if !makes_line(1000, 120, Scheme::Pott, &terminals, &channels, bounds) {
-        return Err("no line")?;
-    }
-    let line = Line::new(
-        alloc,
-        1000,
-        120,
-        Scheme::Pott,
-        false,
-        terminals,
-        channels,
-        bounds,
-    );
-    Ok(line.map_err(|_| "no memory")?)
-}
-
 // A permissive line with a horizon of 120 ticks.
 fn permissive(alloc: Global) -> Result<Line, Fail> {
     let between = |least: u32, greatest: u32| Bounds { least, greatest };
-    two_terminals(
-        alloc,
-        &all_bounds(between(2, 4), between(1, 3), between(3, 5)),
-    )
+    let bounds = all_bounds(between(2, 4), between(1, 3), between(3, 5));
+    Ok(two_terminals(alloc, &bounds)?.ok_or("no line")?)
 }
 
 // The numbers of the file that has all free parameters at their greatest.
@@ -219,7 +186,7 @@ fn candidates(rt: HostRuntime) -> Result<(), Fail> {
         greatest: value,
     };
     let bounds = all_bounds(point(2), point(1), point(3));
-    let settled = two_terminals(rt.alloc(), &bounds)?;
+    let settled = two_terminals(rt.alloc(), &bounds)?.ok_or("no line")?;
     assert_eq!(rt; candidate_count(&settled), 2);
     Ok(())
 }
@@ -290,7 +257,7 @@ fn a_printed_timing(rt: HostRuntime) -> Result<(), Fail> {
         value: Tick::new(5),
     })?;
     let timing = Timing::with_steps(least_values(alloc)?, steps);
-    let text = printed(&rt, alloc, &line, named(b"T")?, timing)?;
+    let text = printed(&rt, alloc, &line, Name::from_bytes(b"T").unwrap(), timing)?;
     let want = b"timing,parameter,value
 T,,
 T,A.z1.pickup,0
