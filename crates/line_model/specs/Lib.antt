@@ -7,6 +7,7 @@ pub mod Settings
 pub mod Places
 pub mod ParamNames
 pub mod NamesByNumber
+pub mod NumbersByName
 pub mod Intervals
 pub mod Parameters
 pub mod SetBounds

@@ -1,6 +1,6 @@
 //! Names of 1 to 64 bytes.
 
-ghost use Rattle.std.specs.Prelude.{◌≡◌, ◌≤◌, ◌<◌, ◌↔◌, length, IsSome, IfSome};
+ghost use Rattle.std.specs.Prelude.{◌≡◌, ◌≤◌, ◌<◌, ◌↔◌, length, IsSome, IfSome, IsTrue};
 ghost use Rattle.std.specs.List.{list_all};
 ghost use Rattle.line_model.specs.PlainNames.{is_plain_byte, is_plain_name};
 
@@ -46,6 +46,17 @@ impl Name {
             bytes: all,
             len: bytes.len() as u8,
         })
+    }
+
+    /// The name of these bytes, which are a plain name.
+    pub fn plain(bytes: &[u8]) -> Name
+        requires { IsTrue (is_plain_name bytes.now) }
+        ensures { result ≡ bytes.now }
+    {
+        match Name::from_bytes(bytes) {
+            Some(name) => name,
+            None => unreachable!(),
+        }
     }
 
     /// The name's own bytes.
