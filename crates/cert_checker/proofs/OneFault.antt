@@ -5,8 +5,7 @@ use Rattle.std.proofs.lemmas.Bool.{cases_lt}
 use Rattle.std.proofs.lemmas.Option.{same_Some}
 use Rattle.std.specs.Prelude.{slice_get}
 use Rattle.history.specs.Rails.{Rails}
-use Rattle.tick_signal.specs.declared.tern.Tern.TheVariants.{Zero, One, Unknown}
-use Rattle.tick_signal.specs.{declared.tern.Tern.Tern, Terns.tern_rails}
+use Rattle.tick_signal.specs.{declared.tern.Tern.Tern, Terns.tern_once}
 use Rattle.line_model.specs.declared.line.Line.{Line}
 use Rattle.line_model.specs.declared.script.Kind.TheVariants.{Internal, External}
 use Rattle.line_model.specs.declared.script.Script.{Script}
@@ -45,17 +44,6 @@ first_on_once u ticks n m a b =
     (λ lt. not_both (u m) (a.before m lt) b.on)
 
 -- ---- keys
-
-tern_once : (a b : Tern) → tern_rails a ≡ tern_rails b → a ≡ b
-tern_once Zero Zero e = refl
-tern_once Zero One e = absurd (let m : false ≡ true = ap (λ (r : Rails). r.must) e in cc)
-tern_once Zero Unknown e = absurd (let m : false ≡ true = ap (λ (r : Rails). r.may) e in cc)
-tern_once One Zero e = absurd (let m : true ≡ false = ap (λ (r : Rails). r.must) e in cc)
-tern_once One One e = refl
-tern_once One Unknown e = absurd (let m : true ≡ false = ap (λ (r : Rails). r.must) e in cc)
-tern_once Unknown Zero e = absurd (let m : true ≡ false = ap (λ (r : Rails). r.may) e in cc)
-tern_once Unknown One e = absurd (let m : false ≡ true = ap (λ (r : Rails). r.must) e in cc)
-tern_once Unknown Unknown e = refl
 
 uncovered_once : (line : Line) (script : Script) (claims : PairSignals) (u v : Uncovered)
     → IsFirstUncovered line script claims u → IsFirstUncovered line script claims v → u ≡ v

@@ -5,8 +5,8 @@ use Rattle.std.proofs.lemmas.Option.{get_or_from_slice_get, slice_get-get_or, sl
 use Rattle.std.proofs.lemmas.Option.{slice_get_within}
 use Rattle.std.specs.Prelude.{slice_get, IsTrue, option_map}
 use Rattle.history.specs.Rails.{Rails, IsSound, both, must_of, may_of}
-use Rattle.tick_signal.specs.declared.tern.Tern.TheVariants.{Zero, One, Unknown}
-use Rattle.tick_signal.specs.{declared.tern.Tern.Tern, Terns.tern_rails}
+use Rattle.tick_signal.specs.Terns.{tern_rails, tern_with, tern_once, rails_told}
+use Rattle.tick_signal.specs.{declared.tern.Tern.Tern, declared.tern.Tern.TheVariants.Zero}
 use Rattle.line_model.specs.{declared.line.Line.Line, declared.script.Script.Script}
 use Rattle.line_model.specs.{Intervals.leasts, Parameters.terminal_count, Choice.declared_box}
 use Rattle.line_model.specs.{Choice.steady_choice, Histories.PairHistory, Histories.IsPairHistory}
@@ -14,31 +14,6 @@ use Rattle.wave_runs.specs.Waves.{IsWaveOf, wave_at}
 use Rattle.certify_core.specs.Verdicts.{AreKeys}
 use Rattle.own_certificate.specs.Known.{Known}
 use Rattle.own_certificate.proofs.Lists.{one_each_once, one_each_exists, same_list}
-
--- ---- values of three kinds
-
-tern_by : (must may : Bool) → (IsTrue must → IsTrue may)
-    → (x : Tern) × (tern_rails x ≡ record { must = must; may = may })
-tern_by true true sound = (One, refl)
-tern_by true false sound = absurd (let off : false ≡ true = sound refl in cc)
-tern_by false true sound = (Unknown, refl)
-tern_by false false sound = (Zero, refl)
-
--- each pair of which what must be may be is that of a value
-tern_for : (r : Rails) → IsSound r → (x : Tern) × (tern_rails x ≡ r)
-tern_for r sound = tern_by r.must r.may sound
-
--- and of one alone
-tern_once : (x y : Tern) → tern_rails x ≡ tern_rails y → x ≡ y
-tern_once Zero Zero same = refl
-tern_once Zero One same = absurd (let on : false ≡ true = ap may_of same in cc)
-tern_once Zero Unknown same = absurd (let on : false ≡ true = ap may_of same in cc)
-tern_once One Zero same = absurd (let on : true ≡ false = ap may_of same in cc)
-tern_once One One same = refl
-tern_once One Unknown same = absurd (let on : true ≡ false = ap must_of same in cc)
-tern_once Unknown Zero same = absurd (let on : true ≡ false = ap may_of same in cc)
-tern_once Unknown One same = absurd (let on : false ≡ true = ap must_of same in cc)
-tern_once Unknown Unknown same = refl
 
 -- ---- waves
 
@@ -53,7 +28,8 @@ wave_exists : (n : ℕ) (value : ℕ → Rails) → ((t : ℕ) → t < n → IsS
     → (wave : List Tern) × IsWaveOf wave n value
 wave_exists n value sound =
     let (wave, is) =
-    one_each_exists (λ t x. tern_rails x ≡ value t) n (λ t lt. tern_for (value t) (sound t lt)) in (
+    one_each_exists (λ t x. tern_rails x ≡ value t) n 
+    (λ t lt. (tern_with (value t), rails_told (value t) (sound t lt))) in (
       wave,
       record {
         long = is.count;

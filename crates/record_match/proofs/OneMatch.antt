@@ -2,9 +2,7 @@
 use Rattle.std.proofs.Common.{◌≡◌, ℕ, ◌<◌, Bool, true, false, refl, sym, ◌∙◌, ap, subst, arith}
 use Rattle.std.proofs.Common.{⊎_elim}
 use Rattle.std.proofs.lemmas.Bool.{cases_lt}
-use Rattle.history.specs.Rails.{must_of, may_of}
-use Rattle.tick_signal.specs.declared.tern.Tern.TheVariants.{Zero, One, Unknown}
-use Rattle.tick_signal.specs.{declared.tern.Tern.Tern, Terns.tern_rails}
+use Rattle.tick_signal.specs.{declared.tern.Tern.Tern, Terns.tern_once}
 use Rattle.line_model.specs.{declared.line.Line.Line, declared.script.Script.Script}
 use Rattle.timing_box.specs.Candidates.{candidate}
 use Rattle.cert_checker.specs.Firsts.{IsFirstFailing}
@@ -24,17 +22,6 @@ first_once : (fact : ℕ → Type 0) (count j k : ℕ) → IsFirstFailing fact c
     → IsFirstFailing fact count k → j ≡ k
 first_once fact count j k p q =
     neither_below j k (λ lt. p.fails (q.before j lt)) (λ lt. q.fails (p.before k lt))
-
-tern_once : (x y : Tern) → tern_rails x ≡ tern_rails y → x ≡ y
-tern_once Zero Zero same = refl
-tern_once Zero One same = absurd (let on : false ≡ true = ap may_of same in cc)
-tern_once Zero Unknown same = absurd (let on : false ≡ true = ap may_of same in cc)
-tern_once One Zero same = absurd (let on : true ≡ false = ap may_of same in cc)
-tern_once One One same = refl
-tern_once One Unknown same = absurd (let on : true ≡ false = ap must_of same in cc)
-tern_once Unknown Zero same = absurd (let on : true ≡ false = ap may_of same in cc)
-tern_once Unknown One same = absurd (let on : false ≡ true = ap must_of same in cc)
-tern_once Unknown Unknown same = refl
 
 module _ (line : Line) (script : Script) (seen : Seen) where
   signal_of : (k : ℕ) (trip : Bool) → IsTerminalAllowed line script seen k
