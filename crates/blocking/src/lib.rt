@@ -5,11 +5,11 @@
 //! name only what the line has.
 #![tactic(auto)]
 
-ghost use Rattle.std.specs.Prelude.{◌≡◌, ◌<◌, ◌≤◌, ◌+◌, length, IfOk};
+ghost use Rattle.std.specs.Prelude.{◌<◌, IfOk};
 ghost use Rattle.line_model.specs.Parameters.{terminal_count};
 ghost use Rattle.line_model.specs.Logic.{blocking_key, blocking_pilot};
-ghost use Rattle.gate_net.specs.{Formulas.Stands, Growing.Grows, Named.KeepsNames};
-ghost use Rattle.zones.specs.{LocalGates.AreLocal, Outputs.AreOutputs};
+ghost use Rattle.gate_net.specs.{Formulas.Stands, Growing.HasRoom, Growing.Extends};
+ghost use Rattle.zones.specs.{LocalGates.AreLocal, Outputs.CanMake, Outputs.MakesOutputs};
 
 use gate_net::{GateId, NetBuilder};
 use line_model::{Line, Memory, Scheme, Setting, Time};
@@ -22,13 +22,8 @@ pub fn scheme(
     terminal: u32,
     local: &Local,
 ) -> Result<Out, Memory>
-    requires scheme { line.now.scheme ≡ Scheme.Dcb }
-    requires exists { terminal < terminal_count line.now }
-    requires room { length net.old + 96 ≤ 512 }
-    requires local { AreLocal line.now terminal net.old local.now }
-    ensures grows { Grows net.old net.new 96 }
-    ensures named { KeepsNames line.now net.old net.new }
-    ensures made { IfOk result (λ out. AreOutputs Scheme.Dcb line.now terminal net.new out) }
+    requires { CanMake Scheme.Dcb line.now terminal net.old local.now }
+    ensures { MakesOutputs Scheme.Dcb line.now terminal net.old net.new result }
 {
     let key = key(net, line, terminal, local)?;
     let pilot = pilot(net, line, terminal, local)?;
@@ -39,10 +34,9 @@ pub fn scheme(
 #[tactic(auto, unfolding(line_model::specs::Logic::blocking_key))]
 fn key(net: &mut NetBuilder, line: &Line, terminal: u32, local: &Local) -> Result<GateId, Memory>
     requires exists { terminal < terminal_count line.now }
-    requires room { length net.old + 3 ≤ 512 }
+    requires room { HasRoom net.old 3 }
     requires local { AreLocal line.now terminal net.old local.now }
-    ensures grows { Grows net.old net.new 3 }
-    ensures named { KeepsNames line.now net.old net.new }
+    ensures adds { Extends line.now net.old net.new 3 }
     ensures made { IfOk result (λ id. Stands net.new id.0 (blocking_key line.now terminal)) }
 {
     let carry = terminal_time(line, terminal, Setting::BlockCarry);
@@ -55,10 +49,9 @@ fn key(net: &mut NetBuilder, line: &Line, terminal: u32, local: &Local) -> Resul
 #[tactic(auto, unfolding(line_model::specs::Logic::blocking_pilot))]
 fn pilot(net: &mut NetBuilder, line: &Line, terminal: u32, local: &Local) -> Result<GateId, Memory>
     requires exists { terminal < terminal_count line.now }
-    requires room { length net.old + 19 ≤ 512 }
+    requires room { HasRoom net.old 19 }
     requires local { AreLocal line.now terminal net.old local.now }
-    ensures grows { Grows net.old net.new 19 }
-    ensures named { KeepsNames line.now net.old net.new }
+    ensures adds { Extends line.now net.old net.new 19 }
     ensures made { IfOk result (λ id. Stands net.new id.0 (blocking_pilot line.now terminal)) }
 {
     let coordination = terminal_time(line, terminal, Setting::BlockCoord);

@@ -1,11 +1,11 @@
 //! What a terminal sends and trips on, over a permission.
 
-ghost use Rattle.std.specs.Prelude.{◌<◌, ◌≤◌, ◌+◌, length, IfOk};
+ghost use Rattle.std.specs.Prelude.{◌<◌, length, IfOk};
 ghost use Rattle.line_model.specs.{Parameters.terminal_count, Permissive.echo as echo_tree};
 ghost use Rattle.line_model.specs.{Permissive.weak_infeed_trip as weak_infeed_trip_tree};
 ghost use Rattle.line_model.specs.{Permissive.permissive_key, Permissive.permissive_pilot};
 ghost use Rattle.gate_net.specs.Formulas.{formula_of, Stands};
-ghost use Rattle.gate_net.specs.{Growing.Grows, Named.KeepsNames};
+ghost use Rattle.gate_net.specs.Growing.{HasRoom, Extends};
 ghost use Rattle.zones.specs.LocalGates.{AreLocal};
 ghost use Rattle.echo_weak.specs.Echoes.{ArePermissive};
 
@@ -24,11 +24,10 @@ pub fn permissive(
     perm: GateId,
 ) -> Result<Out, Memory>
     requires exists { terminal < terminal_count line.now }
-    requires room { length net.old + 24 ≤ 512 }
+    requires room { HasRoom net.old 24 }
     requires local { AreLocal line.now terminal net.old local.now }
     requires perm { perm.0 < length net.old }
-    ensures grows { Grows net.old net.new 24 }
-    ensures named { KeepsNames line.now net.old net.new }
+    ensures adds { Extends line.now net.old net.new 24 }
     ensures made { IfOk result (λ out.
         ArePermissive line.now terminal net.new (formula_of net.old perm.0) out) }
 {
@@ -49,13 +48,12 @@ fn key(
     echo: GateId,
 ) -> Result<GateId, Memory>
     requires exists { terminal < terminal_count line.now }
-    requires room { length net.old + 3 ≤ 512 }
+    requires room { HasRoom net.old 3 }
     requires local { AreLocal line.now terminal net.old local.now }
     requires perm { perm.0 < length net.old }
     requires echo { Stands net.old echo.0
         (echo_tree line.now terminal (formula_of net.old perm.0)) }
-    ensures grows { Grows net.old net.new 3 }
-    ensures named { KeepsNames line.now net.old net.new }
+    ensures adds { Extends line.now net.old net.new 3 }
     ensures made { IfOk result (λ id. Stands net.new id.0
         (permissive_key line.now terminal (formula_of net.old perm.0))) }
 {
@@ -75,13 +73,12 @@ fn pilot(
     weak_trip: GateId,
 ) -> Result<GateId, Memory>
     requires exists { terminal < terminal_count line.now }
-    requires room { length net.old + 4 ≤ 512 }
+    requires room { HasRoom net.old 4 }
     requires local { AreLocal line.now terminal net.old local.now }
     requires perm { perm.0 < length net.old }
     requires weak_trip { Stands net.old weak_trip.0
         (weak_infeed_trip_tree line.now terminal (formula_of net.old perm.0)) }
-    ensures grows { Grows net.old net.new 4 }
-    ensures named { KeepsNames line.now net.old net.new }
+    ensures adds { Extends line.now net.old net.new 4 }
     ensures made { IfOk result (λ id. Stands net.new id.0
         (permissive_pilot line.now terminal (formula_of net.old perm.0))) }
 {

@@ -1,12 +1,12 @@
 //! A weak terminal: it echoes a permission that it receives, and trips by it at a low voltage.
 
-ghost use Rattle.std.specs.Prelude.{◌<◌, ◌≤◌, ◌+◌, length, IfOk};
+ghost use Rattle.std.specs.Prelude.{◌<◌, length, IfOk};
 ghost use Rattle.line_model.specs.Parameters.{terminal_count};
 ghost use Rattle.line_model.specs.Permissive.{quiet as quiet_tree, echo_wanted as echo_wanted_tree};
 ghost use Rattle.line_model.specs.Permissive.{echo as echo_tree};
 ghost use Rattle.line_model.specs.Permissive.{weak_infeed_trip as weak_infeed_trip_tree};
 ghost use Rattle.gate_net.specs.Formulas.{formula_of, Stands};
-ghost use Rattle.gate_net.specs.{Growing.Grows, Named.KeepsNames};
+ghost use Rattle.gate_net.specs.Growing.{HasRoom, Extends};
 ghost use Rattle.zones.specs.LocalGates.{AreLocal};
 ghost use Rattle.echo_weak.specs.Echoes.{AreEchoes};
 
@@ -34,11 +34,10 @@ pub fn echo(
     perm: GateId,
 ) -> Result<EchoGates, Memory>
     requires exists { terminal < terminal_count line.now }
-    requires room { length net.old + 16 ≤ 512 }
+    requires room { HasRoom net.old 16 }
     requires local { AreLocal line.now terminal net.old local.now }
     requires perm { perm.0 < length net.old }
-    ensures grows { Grows net.old net.new 16 }
-    ensures named { KeepsNames line.now net.old net.new }
+    ensures adds { Extends line.now net.old net.new 16 }
     ensures made { IfOk result (λ gates.
         AreEchoes line.now terminal net.new (formula_of net.old perm.0) gates) }
 {
@@ -55,10 +54,9 @@ pub fn echo(
 #[tactic(auto, unfolding(line_model::specs::Permissive::quiet))]
 fn quiet(net: &mut NetBuilder, line: &Line, terminal: u32, local: &Local) -> Result<GateId, Memory>
     requires exists { terminal < terminal_count line.now }
-    requires room { length net.old + 3 ≤ 512 }
+    requires room { HasRoom net.old 3 }
     requires local { AreLocal line.now terminal net.old local.now }
-    ensures grows { Grows net.old net.new 3 }
-    ensures named { KeepsNames line.now net.old net.new }
+    ensures adds { Extends line.now net.old net.new 3 }
     ensures made { IfOk result (λ id. Stands net.new id.0 (quiet_tree line.now terminal)) }
 {
     let block = terminal_time(line, terminal, Setting::EchoBlock);
@@ -77,11 +75,10 @@ fn wanted(
     perm: GateId,
 ) -> Result<GateId, Memory>
     requires exists { terminal < terminal_count line.now }
-    requires room { length net.old + 5 ≤ 512 }
+    requires room { HasRoom net.old 5 }
     requires local { AreLocal line.now terminal net.old local.now }
     requires perm { perm.0 < length net.old }
-    ensures grows { Grows net.old net.new 5 }
-    ensures named { KeepsNames line.now net.old net.new }
+    ensures adds { Extends line.now net.old net.new 5 }
     ensures made { IfOk result (λ id. Stands net.new id.0
         (echo_wanted_tree line.now terminal (formula_of net.old perm.0))) }
 {
@@ -106,12 +103,11 @@ fn pulse(
     want: GateId,
 ) -> Result<GateId, Memory>
     requires exists { terminal < terminal_count line.now }
-    requires room { length net.old + 3 ≤ 512 }
+    requires room { HasRoom net.old 3 }
     requires perm { perm.0 < length net.old }
     requires want { Stands net.old want.0
         (echo_wanted_tree line.now terminal (formula_of net.old perm.0)) }
-    ensures grows { Grows net.old net.new 3 }
-    ensures named { KeepsNames line.now net.old net.new }
+    ensures adds { Extends line.now net.old net.new 3 }
     ensures made { IfOk result (λ id. Stands net.new id.0
         (echo_tree line.now terminal (formula_of net.old perm.0))) }
 {
@@ -137,13 +133,12 @@ fn weak_trip(
     want: GateId,
 ) -> Result<GateId, Memory>
     requires exists { terminal < terminal_count line.now }
-    requires room { length net.old + 1 ≤ 512 }
+    requires room { HasRoom net.old 1 }
     requires local { AreLocal line.now terminal net.old local.now }
     requires perm { perm.0 < length net.old }
     requires want { Stands net.old want.0
         (echo_wanted_tree line.now terminal (formula_of net.old perm.0)) }
-    ensures grows { Grows net.old net.new 1 }
-    ensures named { KeepsNames line.now net.old net.new }
+    ensures adds { Extends line.now net.old net.new 1 }
     ensures made { IfOk result (λ id. Stands net.new id.0
         (weak_infeed_trip_tree line.now terminal (formula_of net.old perm.0))) }
 {

@@ -11,22 +11,8 @@ use Rattle.gate_net.specs.Formulas.{tree_at, tree_with, formulas_after, formula_
 use Rattle.gate_net.specs.Named.{GateNames, NamedFrom, KeepsNames}
 use Rattle.gate_net.specs.{declared.gate.Gate.Gate, Growing.Grows}
 
--- no gate is named beyond the last
-pub named_start : (line : Line) (gates : List Gate) → NamedFrom line (length gates) gates
-named_start line gates =
-    record { each = λ i g le e. absurd (omega (arith, slice_get_within gates i g e)) }
-
--- where the gates that were added name what the line has, so do those from any number on that did
-pub named_on : (line : Line) (m : ℕ) (old new : List Gate) → Grows old new m
-    → NamedFrom line (length old) new → KeepsNames line old new
-named_on line m old new grows added n all = record {
-  each = λ i x le e.
-      ⊎_elim (λ lt. all.each i x le (sym (grows.kept i lt) ∙ e)) (λ past. added.each i x past e)
-      (cases_lt i (length old));
-}
-
-with_names : (line : Line) (trees : List Tree) (g : Gate)
-    → ((i : ℕ) → Names line (tree_at trees i)) → GateNames line g → Names line (tree_with trees g)
+with_names : (line : Line) (trees : ℕ → Tree) (g : Gate) → ((i : ℕ) → Names line (trees i))
+    → GateNames line g → Names line (tree_with trees g)
 unfolding Names
 with_names line trees (Const v) h r = tt
 with_names line trees (Seen p) h r = r
@@ -53,8 +39,9 @@ after_names : (line : Line) (gates : List Gate) (trees : List Tree)
     → (i : ℕ) → Names line (tree_at (formulas_after trees gates) i)
 after_names line [] trees h r = h
 after_names line (g ∷ gates) trees h r =
-    after_names line gates (trees ++ tree_with trees g ∷ [])
-    (push_names line trees (tree_with trees g) h (with_names line trees g h (r zero g refl)))
+    let next : Tree = tree_with (tree_at trees) g in
+    after_names line gates (trees ++ next ∷ [])
+    (push_names line trees next h (with_names line (tree_at trees) g h (r zero g refl)))
     (λ i k at. r (suc i) k at)
 
 -- a gate's tree names only what the line has, where all gates do

@@ -19,21 +19,21 @@ after_keeps : (gs : List Gate) (ts : List Tree) (i : ℕ) → i < length ts
     → tree_at (formulas_after ts gs) i ≡ tree_at ts i
 after_keeps [] ts i lt = refl
 after_keeps (g ∷ gs) ts i lt =
-    let last : List Tree = tree_with ts g ∷ [] in
+    let last : List Tree = tree_with (tree_at ts) g ∷ [] in
     let within : i < length (ts ++ last) = omega (arith, length-append ts last) in
     after_keeps gs (ts ++ last) i within ∙ get_or_append_left ts last (tree.Const false) i lt
 
 formulas_after-append : (gs hs : List Gate) (ts : List Tree)
     → formulas_after ts (gs ++ hs) ≡ formulas_after (formulas_after ts gs) hs
 formulas_after-append [] hs ts = refl
-formulas_after-append (g ∷ gs) hs ts = formulas_after-append gs hs (ts ++ tree_with ts g ∷ [])
+formulas_after-append (g ∷ gs) hs ts = formulas_after-append gs hs (ts ++ tree_with (tree_at ts) g ∷ [])
 
 length-formulas_after : (gs : List Gate) (ts : List Tree)
     → length (formulas_after ts gs) ≡ length ts + length gs
 length-formulas_after [] ts = omega arith
 length-formulas_after (g ∷ gs) ts =
-    let more : List Tree = ts ++ tree_with ts g ∷ [] in
-    omega (arith, length-formulas_after gs more, length-append ts (tree_with ts g ∷ []))
+    let more : List Tree = ts ++ tree_with (tree_at ts) g ∷ [] in
+    omega (arith, length-formulas_after gs more, length-append ts (tree_with (tree_at ts) g ∷ []))
 
 -- where the old gates are the first of the new ones, an old gate stands for its old tree
 formula_of-kept : (old new : List Gate) (i : ℕ) → take (length old) new ≡ old → i < length old
@@ -48,74 +48,64 @@ formula_of-kept old new i kept lt =
     ∙ ap (λ l. tree_at l i) (formulas_after-append old rest [])
     ∙ after_keeps rest (formulas_after [] old) i (omega arith)
 
--- a kind over two lists of trees, which agree at its arguments
-tree_with-same : (g : Gate) (n : ℕ) (ts us : List Tree) → HasArguments n g
-    → ((a : ℕ) → a < n → tree_at ts a ≡ tree_at us a) → tree_with ts g ≡ tree_with us g
-tree_with-same (Const v) n ts us h e = refl
-tree_with-same (Seen p) n ts us h e = refl
-tree_with-same (Loss c) n ts us h e = refl
-tree_with-same (Raw c) n ts us h e = refl
-tree_with-same (Not a) n ts us h e = ap tree.Not (e a.0 h)
-tree_with-same (And a b) n ts us h e =
-    ap (λ x. tree.And x (tree_at ts b.0)) (e a.0 h.0)
-    ∙ ap (λ x. tree.And (tree_at us a.0) x) (e b.0 h.1)
-tree_with-same (Or a b) n ts us h e =
-    ap (λ x. tree.Or x (tree_at ts b.0)) (e a.0 h.0)
-    ∙ ap (λ x. tree.Or (tree_at us a.0) x) (e b.0 h.1)
-tree_with-same (Timer a p d) n ts us h e = ap (λ x. tree.Timer x p d) (e a.0 h)
-tree_with-same (Seal a b) n ts us h e =
-    ap (λ x. tree.Seal x (tree_at ts b.0)) (e a.0 h.0)
-    ∙ ap (λ x. tree.Seal (tree_at us a.0) x) (e b.0 h.1)
+-- a kind over trees that agree at its arguments
+tree_with-same : (g : Gate) (n : ℕ) (f h : ℕ → Tree) → HasArguments n g
+    → ((a : ℕ) → a < n → f a ≡ h a) → tree_with f g ≡ tree_with h g
+tree_with-same (Const v) n f h has e = refl
+tree_with-same (Seen p) n f h has e = refl
+tree_with-same (Loss c) n f h has e = refl
+tree_with-same (Raw c) n f h has e = refl
+tree_with-same (Not a) n f h has e = ap tree.Not (e a.0 has)
+tree_with-same (And a b) n f h has e =
+    ap (λ x. tree.And x (f b.0)) (e a.0 has.0) ∙ ap (λ x. tree.And (h a.0) x) (e b.0 has.1)
+tree_with-same (Or a b) n f h has e =
+    ap (λ x. tree.Or x (f b.0)) (e a.0 has.0) ∙ ap (λ x. tree.Or (h a.0) x) (e b.0 has.1)
+tree_with-same (Timer a p d) n f h has e = ap (λ x. tree.Timer x p d) (e a.0 has)
+tree_with-same (Seal a b) n f h has e =
+    ap (λ x. tree.Seal x (f b.0)) (e a.0 has.0) ∙ ap (λ x. tree.Seal (h a.0) x) (e b.0 has.1)
 
 gate_formula : (gs : List Gate) (ts : List Tree) (i : ℕ) (g : Gate) → slice_get gs i ≡ Some g
     → HasArguments (length ts + i) g
-    → tree_at (formulas_after ts gs) (length ts + i) ≡ tree_with (formulas_after ts gs) g
+    → tree_at (formulas_after ts gs) (length ts + i) ≡ tree_with (tree_at (formulas_after ts gs)) g
 gate_formula [] ts i g e h = absurd (cc)
 gate_formula (k ∷ gs) ts zero g e h =
     let same : k ≡ g = cc in
-    let last : List Tree = tree_with ts k ∷ [] in
+    let last : List Tree = tree_with (tree_at ts) k ∷ [] in
     let all : List Tree = formulas_after (ts ++ last) gs in
     let n : length ts + zero ≡ length ts = omega arith in
     let longer : length (ts ++ last) ≡ length ts + 1 = length-append ts last in
     let args : HasArguments (length ts) g = subst (λ m. HasArguments m g) n h in
-    let here : tree_at all (length ts) ≡ tree_with ts k =
+    let here : tree_at all (length ts) ≡ tree_with (tree_at ts) k =
     after_keeps gs (ts ++ last) (length ts) (omega arith)
-    ∙ get_or-append_seam ts (tree_with ts k) [] (tree.Const false) in
+    ∙ get_or-append_seam ts (tree_with (tree_at ts) k) [] (tree.Const false) in
     let old : (a : ℕ) → a < length ts → tree_at ts a ≡ tree_at all a = λ a lt.
     sym (get_or_append_left ts last (tree.Const false) a lt)
     ∙ sym (after_keeps gs (ts ++ last) a (omega arith)) in
-    ap (λ m. tree_at all m) n ∙ here ∙ ap (tree_with ts) same
-    ∙ tree_with-same g (length ts) ts all args old
+    ap (λ m. tree_at all m) n ∙ here ∙ ap (tree_with (tree_at ts)) same
+    ∙ tree_with-same g (length ts) (tree_at ts) (tree_at all) args old
 gate_formula (k ∷ gs) ts (suc i) g e h =
-    let more : List Tree = ts ++ tree_with ts k ∷ [] in
+    let more : List Tree = ts ++ tree_with (tree_at ts) k ∷ [] in
     let n : length more + i ≡ length ts + suc i =
-    omega (arith, length-append ts (tree_with ts k ∷ [])) in
+    omega (arith, length-append ts (tree_with (tree_at ts) k ∷ [])) in
     ap (λ m. tree_at (formulas_after more gs) m) (sym n)
     ∙ gate_formula gs more i g e (subst (λ m. HasArguments m g) (sym n) h)
 
 -- a gate stands for its kind over the trees of its arguments
 pub formula_of-gate : (gates : List Gate) (i : ℕ) (g : Gate) → AreGates gates
     → slice_get gates i ≡ Some g → formula_of gates i ≡ kind_over gates g
-unfolding formula_of kind_over
+unfolding formula_of
 formula_of-gate gates i g net e =
     let n : 0 + i ≡ i = omega arith in
     ap (λ m. tree_at (formulas_after [] gates) m) (sym n)
     ∙ gate_formula gates [] i g e (subst (λ m. HasArguments m g) (sym n) (net.earlier i g e))
 
-old_formulas : (old new : List Gate) → Grows old new 1 → (i : ℕ) → i < length old
-    → tree_at (formulas_after [] new) i ≡ tree_at (formulas_after [] old) i
-unfolding formula_of
-old_formulas old new grows i lt = grows.same i lt
-
 -- so does a gate that is added
 pub stands : (old new : List Gate) (g : Gate) (id : ℕ) → AreGates new → HasArguments (length old) g
     → Grows old new 1 → Adds old new g id → Stands new id (kind_over old g)
-unfolding kind_over
 stands old new g id net args grows adds = record {
   within = slice_get_within new id g adds.at;
   is = formula_of-gate new id g net adds.at
-      ∙ tree_with-same g (length old) (formulas_after [] new) (formulas_after [] old) args
-      (old_formulas old new grows);
+      ∙ tree_with-same g (length old) (formula_of new) (formula_of old) args grows.same;
 }
 
 slice_get-take : (xs : List Gate) (n i : ℕ) → i < n → slice_get (take n xs) i ≡ slice_get xs i

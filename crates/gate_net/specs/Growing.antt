@@ -1,7 +1,14 @@
 -- How a list of gates grows.
 use Rattle.std.specs.Prelude.{◌≡◌, ◌≢◌, ◌<◌, ◌≤◌, ◌+◌, ◌++◌, ℕ, List, [], ◌∷◌, Some, length}
-use Rattle.std.specs.Prelude.{slice_get}
-use Rattle.gate_net.specs.{declared.gate.Gate.Gate, Formulas.formula_of}
+use Rattle.std.specs.Prelude.{slice_get, Result, IfOk, OnErr}
+use Rattle.line_model.specs.declared.line.Line.{Line}
+use Rattle.gate_net.specs.{declared.gate.Gate.Gate, declared.gate.GateId.GateId}
+use Rattle.gate_net.specs.Formulas.{formula_of, kind_over, Stands}
+use Rattle.gate_net.specs.Named.{GateNames, KeepsNames}
+
+-- n gates more are still few enough
+abbrev pub HasRoom : List Gate → ℕ → Type 0
+HasRoom gates n = length gates + n ≤ 512
 
 -- the old gates stand under their numbers, for the trees that they stood for, and at most n gates
 -- are added
@@ -17,3 +24,17 @@ pub record Adds (old new : List Gate) (gate : Gate) (id : ℕ) : Type 0 where
   pub at : slice_get new id ≡ Some gate
   pub known : (i : ℕ) → slice_get old i ≡ Some gate → (new ≡ old) × (id ≡ i)
   pub last : ((i : ℕ) → slice_get old i ≢ Some gate) → (new ≡ old ++ gate ∷ []) × (id ≡ length old)
+
+-- what the call for a gate answers, and what it leaves
+pub record Makes {E : Type 0} (old new : List Gate) (gate : Gate) (result : Result GateId E)
+    : Type 0 where
+  pub ok : IfOk result (λ id. Adds old new gate id.0)
+  pub made : IfOk result (λ id. Stands new id.0 (kind_over old gate))
+  pub grows : Grows old new 1
+  pub named : (line : Line) → GateNames line gate → KeepsNames line old new
+  pub err : OnErr result (new ≡ old)
+
+-- the old gates stand under their numbers, and at most n are added, which name what the line has
+pub record Extends (line : Line) (old new : List Gate) (n : ℕ) : Type 0 where
+  pub grows : Grows old new n
+  pub named : KeepsNames line old new

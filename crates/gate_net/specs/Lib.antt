@@ -1,6 +1,6 @@
 pub mod Laws
 pub mod Formulas
-pub mod Growing
 pub mod Named
+pub mod Growing
 pub mod NetOf
 pub mod NetLaws

@@ -1,13 +1,8 @@
 //! A net while it is built.
 
-ghost use Rattle.std.specs.Prelude.{◌≡◌, ◌<◌, ◌≤◌, [], length, IfOk, OnErr};
-ghost use Rattle.line_model.specs.declared.line.Line.{Line};
-ghost use Rattle.line_model.specs.Tree.{Const, Seen, Loss, Raw, Not, And, Or, Timer, Seal};
-ghost use Rattle.line_model.specs.Names.{HasTime};
-ghost use Rattle.line_model.specs.Parameters.{terminal_count, channel_count};
-ghost use Rattle.gate_net.specs.Formulas.{formula_of, kind_over, Stands};
-ghost use Rattle.gate_net.specs.{Growing.Grows, Growing.Adds, Laws.HasArguments, Laws.AreGates};
-ghost use Rattle.gate_net.specs.{Named.GateNames, Named.KeepsNames, NetOf.AreGatesOf, NetOf.IsNet};
+ghost use Rattle.std.specs.Prelude.{◌≡◌, ◌<◌, ◌≤◌, [], length, IfOk};
+ghost use Rattle.gate_net.specs.{Growing.HasRoom, Growing.Makes, Laws.HasArguments};
+ghost use Rattle.gate_net.specs.{Laws.AreGates, NetOf.AreGatesOf, NetOf.IsNet};
 
 use crate::gate::{Gate, GateId};
 use crate::net::Net;
@@ -57,137 +52,82 @@ impl NetBuilder {
     }
 
     /// A constant.
-    #[tactic(auto, unfolding(crate::specs::Formulas::kind_over))]
     pub fn constant(&mut self, value: bool) -> Result<GateId, Memory>
-        requires room { length self.old < 512 }
-        ensures ok { IfOk result (λ id. Adds self.old self.new (Gate.Const value) id.0) }
-        ensures grows { Grows self.old self.new 1 }
-        ensures made { IfOk result (λ id. Stands self.new id.0 (Const value)) }
-        ensures named { (line : Line) → KeepsNames line self.old self.new }
-        ensures err { OnErr result (self.new ≡ self.old) }
+        requires room { HasRoom self.old 1 }
+        ensures { Makes self.old self.new (Gate.Const value) result }
     {
         self.add(Gate::Const(value))
     }
 
     /// What the script shows at a terminal.
-    #[tactic(auto, unfolding(crate::specs::Formulas::kind_over))]
     pub fn seen(&mut self, place: Place) -> Result<GateId, Memory>
-        requires room { length self.old < 512 }
-        ensures ok { IfOk result (λ id. Adds self.old self.new (Gate.Seen place) id.0) }
-        ensures grows { Grows self.old self.new 1 }
-        ensures made { IfOk result (λ id. Stands self.new id.0 (Seen place)) }
-        ensures named { (line : Line)
-            → place.terminal < terminal_count line → KeepsNames line self.old self.new }
-        ensures err { OnErr result (self.new ≡ self.old) }
+        requires room { HasRoom self.old 1 }
+        ensures { Makes self.old self.new (Gate.Seen place) result }
     {
         self.add(Gate::Seen(place))
     }
 
     /// Whether a channel is lost.
-    #[tactic(auto, unfolding(crate::specs::Formulas::kind_over))]
     pub fn loss(&mut self, channel: u32) -> Result<GateId, Memory>
-        requires room { length self.old < 512 }
-        ensures ok { IfOk result (λ id. Adds self.old self.new (Gate.Loss channel) id.0) }
-        ensures grows { Grows self.old self.new 1 }
-        ensures made { IfOk result (λ id. Stands self.new id.0 (Loss channel)) }
-        ensures named { (line : Line)
-            → channel < channel_count line → KeepsNames line self.old self.new }
-        ensures err { OnErr result (self.new ≡ self.old) }
+        requires room { HasRoom self.old 1 }
+        ensures { Makes self.old self.new (Gate.Loss channel) result }
     {
         self.add(Gate::Loss(channel))
     }
 
     /// What arrives over a channel, lost or not.
-    #[tactic(auto, unfolding(crate::specs::Formulas::kind_over))]
     pub fn raw(&mut self, channel: u32) -> Result<GateId, Memory>
-        requires room { length self.old < 512 }
-        ensures ok { IfOk result (λ id. Adds self.old self.new (Gate.Raw channel) id.0) }
-        ensures grows { Grows self.old self.new 1 }
-        ensures made { IfOk result (λ id. Stands self.new id.0 (Raw channel)) }
-        ensures named { (line : Line)
-            → channel < channel_count line → KeepsNames line self.old self.new }
-        ensures err { OnErr result (self.new ≡ self.old) }
+        requires room { HasRoom self.old 1 }
+        ensures { Makes self.old self.new (Gate.Raw channel) result }
     {
         self.add(Gate::Raw(channel))
     }
 
     /// The opposite of a gate.
-    #[tactic(auto, unfolding(crate::specs::Formulas::kind_over, crate::specs::Formulas::formula_of))]
     pub fn not(&mut self, input: GateId) -> Result<GateId, Memory>
-        requires room { length self.old < 512 }
+        requires room { HasRoom self.old 1 }
         requires input { input.0 < length self.old }
-        ensures ok { IfOk result (λ id. Adds self.old self.new (Gate.Not input) id.0) }
-        ensures grows { Grows self.old self.new 1 }
-        ensures made { IfOk result (λ id. Stands self.new id.0
-            (Not (formula_of self.old input.0))) }
-        ensures named { (line : Line) → KeepsNames line self.old self.new }
-        ensures err { OnErr result (self.new ≡ self.old) }
+        ensures { Makes self.old self.new (Gate.Not input) result }
     {
         self.add(Gate::Not(input))
     }
 
     /// Both gates.
-    #[tactic(auto, unfolding(crate::specs::Formulas::kind_over, crate::specs::Formulas::formula_of))]
     pub fn and(&mut self, left: GateId, right: GateId) -> Result<GateId, Memory>
-        requires room { length self.old < 512 }
+        requires room { HasRoom self.old 1 }
         requires left { left.0 < length self.old }
         requires right { right.0 < length self.old }
-        ensures ok { IfOk result (λ id. Adds self.old self.new (Gate.And left right) id.0) }
-        ensures grows { Grows self.old self.new 1 }
-        ensures made { IfOk result (λ id. Stands self.new id.0
-            (And (formula_of self.old left.0) (formula_of self.old right.0))) }
-        ensures named { (line : Line) → KeepsNames line self.old self.new }
-        ensures err { OnErr result (self.new ≡ self.old) }
+        ensures { Makes self.old self.new (Gate.And left right) result }
     {
         self.add(Gate::And(left, right))
     }
 
     /// Either gate.
-    #[tactic(auto, unfolding(crate::specs::Formulas::kind_over, crate::specs::Formulas::formula_of))]
     pub fn or(&mut self, left: GateId, right: GateId) -> Result<GateId, Memory>
-        requires room { length self.old < 512 }
+        requires room { HasRoom self.old 1 }
         requires left { left.0 < length self.old }
         requires right { right.0 < length self.old }
-        ensures ok { IfOk result (λ id. Adds self.old self.new (Gate.Or left right) id.0) }
-        ensures grows { Grows self.old self.new 1 }
-        ensures made { IfOk result (λ id. Stands self.new id.0
-            (Or (formula_of self.old left.0) (formula_of self.old right.0))) }
-        ensures named { (line : Line) → KeepsNames line self.old self.new }
-        ensures err { OnErr result (self.new ≡ self.old) }
+        ensures { Makes self.old self.new (Gate.Or left right) result }
     {
         self.add(Gate::Or(left, right))
     }
 
     /// A gate that is timed: on once its input was on for the pickup, and off no sooner than the
     /// dropout after it.
-    #[tactic(auto, unfolding(crate::specs::Formulas::kind_over, crate::specs::Formulas::formula_of))]
     pub fn timer(&mut self, input: GateId, pickup: Time, dropout: Time) -> Result<GateId, Memory>
-        requires room { length self.old < 512 }
+        requires room { HasRoom self.old 1 }
         requires input { input.0 < length self.old }
-        ensures ok { IfOk result (λ id.
-            Adds self.old self.new (Gate.Timer input pickup dropout) id.0) }
-        ensures grows { Grows self.old self.new 1 }
-        ensures made { IfOk result (λ id. Stands self.new id.0
-            (Timer (formula_of self.old input.0) pickup dropout)) }
-        ensures named { (line : Line)
-            → HasTime line pickup → HasTime line dropout → KeepsNames line self.old self.new }
-        ensures err { OnErr result (self.new ≡ self.old) }
+        ensures { Makes self.old self.new (Gate.Timer input pickup dropout) result }
     {
         self.add(Gate::Timer(input, pickup, dropout))
     }
 
     /// A gate that stays on, once set, as long as it is held.
-    #[tactic(auto, unfolding(crate::specs::Formulas::kind_over, crate::specs::Formulas::formula_of))]
     pub fn seal(&mut self, set: GateId, hold: GateId) -> Result<GateId, Memory>
-        requires room { length self.old < 512 }
+        requires room { HasRoom self.old 1 }
         requires set { set.0 < length self.old }
         requires hold { hold.0 < length self.old }
-        ensures ok { IfOk result (λ id. Adds self.old self.new (Gate.Seal set hold) id.0) }
-        ensures grows { Grows self.old self.new 1 }
-        ensures made { IfOk result (λ id. Stands self.new id.0
-            (Seal (formula_of self.old set.0) (formula_of self.old hold.0))) }
-        ensures named { (line : Line) → KeepsNames line self.old self.new }
-        ensures err { OnErr result (self.new ≡ self.old) }
+        ensures { Makes self.old self.new (Gate.Seal set hold) result }
     {
         self.add(Gate::Seal(set, hold))
     }
@@ -208,13 +148,9 @@ impl NetBuilder {
     }
 
     fn add(&mut self, gate: Gate) -> Result<GateId, Memory>
-        requires room { length self.old < 512 }
+        requires room { HasRoom self.old 1 }
         requires arguments { HasArguments (length self.old) gate }
-        ensures ok { IfOk result (λ id. Adds self.old self.new gate id.0) }
-        ensures grows { Grows self.old self.new 1 }
-        ensures made { IfOk result (λ id. Stands self.new id.0 (kind_over self.old gate)) }
-        ensures named { (line : Line) → GateNames line gate → KeepsNames line self.old self.new }
-        ensures err { OnErr result (self.new ≡ self.old) }
+        ensures { Makes self.old self.new gate result }
     {
         let (at, _) = self.gates.insert_full(gate)?;
         Ok(GateId(at as u32))

@@ -21,7 +21,7 @@ use Rattle.line_model.specs.declared.formula.Time.TheVariants.{Zero, Param}
 use Rattle.line_model.specs.Places.{terminal_place, channel_place}
 use Rattle.line_model.specs.Names.{Names, HasTime, HasOwnTime, IsLocal}
 use Rattle.line_model.specs.Tree.{Tree, Const, Seen, Loss, Raw, Not, And, Or, Timer, Seal}
-use Rattle.line_model.specs.Elements.{is_guarded, is_weak, setting_of, seen_timed, zone1, zone2}
+use Rattle.line_model.specs.Elements.{is_guarded, is_weak, setting_of, seen_timed, zone1}
 use Rattle.line_model.specs.Elements.{reverse, undervoltage}
 use Rattle.line_model.specs.Received.{channel_to, received, joined, over_others, all_others}
 use Rattle.line_model.specs.Received.{any_received, all_received}
@@ -38,30 +38,17 @@ use Rattle.line_model.proofs.OwnSettings.{own_channel}
 module _ (line : Line) (k : ℕ) (lt : k < terminal_count line) where
   -- ---- what a terminal sees
 
-  local_seen : (e : Element) (a b : Setting) → HasOwnTime line k (setting_of line (owner.Terminal k) a)
-      → HasOwnTime line k (setting_of line (owner.Terminal k) b) → IsLocal line k (seen_timed line k e a b)
+  local_seen : (e : Element) → IsLocal line k (seen_timed line k e)
   unfolding IsLocal seen_timed
-  local_seen e a b p q = (refl, (p, q))
-
-  local_zone1 : IsLocal line k (zone1 line k)
-  unfolding zone1
-  local_zone1 = local_seen element.Z1 Z1Pickup Z1Dropout
-      (own_setting line k 0 Z1Pickup lt refl) (own_setting line k 1 Z1Dropout lt refl)
-
-  local_zone2 : IsLocal line k (zone2 line k)
-  unfolding zone2
-  local_zone2 = local_seen element.Z2 Z2Pickup Z2Dropout
-      (own_setting line k 2 Z2Pickup lt refl) (own_setting line k 3 Z2Dropout lt refl)
-
-  local_reverse : IsLocal line k (reverse line k)
-  unfolding reverse
-  local_reverse = local_seen element.Rv RvPickup RvDropout
-      (own_setting line k 4 RvPickup lt refl) (own_setting line k 5 RvDropout lt refl)
-
-  local_undervoltage : IsLocal line k (undervoltage line k)
-  unfolding undervoltage
-  local_undervoltage = local_seen element.Uv UvPickup UvDropout
-      (own_setting line k 6 UvPickup lt refl) (own_setting line k 7 UvDropout lt refl)
+  local_seen element.Z1 =
+      (refl, (own_setting line k 0 Z1Pickup lt refl, own_setting line k 1 Z1Dropout lt refl))
+  local_seen element.Z2 =
+      (refl, (own_setting line k 2 Z2Pickup lt refl, own_setting line k 3 Z2Dropout lt refl))
+  local_seen element.Rv =
+      (refl, (own_setting line k 4 RvPickup lt refl, own_setting line k 5 RvDropout lt refl))
+  local_seen element.Uv =
+      (refl, (own_setting line k 6 UvPickup lt refl, own_setting line k 7 UvDropout lt refl))
+  local_seen element.Cur = refl
 
   -- ---- what it receives
 
@@ -194,14 +181,15 @@ module _ (line : Line) (k : ℕ) (lt : k < terminal_count line) where
       (terminal_setting line k ReversalDropout))
       (Const false)
       (λ g. (
-        local_reverse,
+        local_seen element.Rv,
         (guard_setting ReversalPickup 8 g refl, guard_setting ReversalDropout 9 g refl),
       ))
       local_none
 
   local_quiet : is_weak line k ≡ true → IsLocal line k (quiet line k)
   unfolding quiet IsLocal
-  local_quiet w = ((local_zone2, local_reverse), (tt, weak_setting EchoBlock _ w refl))
+  local_quiet w =
+      ((local_seen element.Z2, local_seen element.Rv), (tt, weak_setting EchoBlock _ w refl))
 
   module _ (perm : Tree) (p : IsLocal line k perm) where
     local_echo_wanted : IsLocal line k (echo_wanted line k perm)
@@ -223,15 +211,15 @@ module _ (line : Line) (k : ℕ) (lt : k < terminal_count line) where
     unfolding weak_infeed_trip IsLocal
     local_weak_infeed_trip = local_cond (is_weak line k)
         (And (echo_wanted line k perm) (undervoltage line k)) (Const false)
-        (λ w. (local_echo_wanted, local_undervoltage)) local_none
+        (λ w. (local_echo_wanted, local_seen element.Uv)) local_none
 
     local_permissive_key : IsLocal line k (permissive_key line k perm)
     unfolding permissive_key IsLocal
-    local_permissive_key = ((local_zone2, local_reversal_guard), local_echo)
+    local_permissive_key = ((local_seen element.Z2, local_reversal_guard), local_echo)
 
     local_permissive_pilot : IsLocal line k (permissive_pilot line k perm)
     unfolding permissive_pilot IsLocal
-    local_permissive_pilot = (((local_zone2, p), local_reversal_guard), local_weak_infeed_trip)
+    local_permissive_pilot = (((local_seen element.Z2, p), local_reversal_guard), local_weak_infeed_trip)
 
   -- ---- blocking, underreach and transfer
 
@@ -246,16 +234,16 @@ module _ (line : Line) (k : ℕ) (lt : k < terminal_count line) where
   local_blocking_key : line.scheme ≡ Dcb → IsLocal line k (blocking_key line k)
   unfolding blocking_key IsLocal
   local_blocking_key s =
-      ((local_reverse, local_zone2), (tt, scheme_setting Dcb BlockCarry _ s refl))
+      ((local_seen element.Rv, local_seen element.Z2), (tt, scheme_setting Dcb BlockCarry _ s refl))
 
   local_blocking_pilot : line.scheme ≡ Dcb → IsLocal line k (blocking_pilot line k)
   unfolding blocking_pilot IsLocal
   local_blocking_pilot s =
-      ((local_zone2, (scheme_setting Dcb BlockCoord _ s refl, tt)), local_any_received)
+      ((local_seen element.Z2, (scheme_setting Dcb BlockCoord _ s refl, tt)), local_any_received)
 
   local_underreach_pilot : IsLocal line k (underreach_pilot line k)
   unfolding underreach_pilot IsLocal
-  local_underreach_pilot = (local_zone2, local_any_received)
+  local_underreach_pilot = (local_seen element.Z2, local_any_received)
 
   local_transfer_pilot : line.scheme ≡ Dtt → IsLocal line k (transfer_pilot line k)
   unfolding transfer_pilot IsLocal
@@ -266,9 +254,9 @@ module _ (line : Line) (k : ℕ) (lt : k < terminal_count line) where
   local_key_by : (s : Scheme) → line.scheme ≡ s → IsLocal line k (key_by s line k)
   local_key_by Pott e = local_permissive_key (all_received line k) local_all_received
   local_key_by Dcub e = local_permissive_key (all_open line k) (local_all_open e)
-  local_key_by Putt e = local_zone1
+  local_key_by Putt e = local_seen element.Z1
   local_key_by Dcb e = local_blocking_key e
-  local_key_by Dtt e = local_zone1
+  local_key_by Dtt e = local_seen element.Z1
 
   local_pilot_by : (s : Scheme) → line.scheme ≡ s → IsLocal line k (pilot_by s line k)
   local_pilot_by Pott e = local_permissive_pilot (all_received line k) local_all_received
@@ -286,11 +274,11 @@ module _ (line : Line) (k : ℕ) (lt : k < terminal_count line) where
   local_set_tree =
       let pilot : IsLocal line k (pilot_by line.scheme line k) = local_pilot_by line.scheme refl in
       local_cond line.zone1_trip (Or (pilot_by line.scheme line k) (zone1 line k))
-      (pilot_by line.scheme line k) (λ _. (pilot, local_zone1)) pilot
+      (pilot_by line.scheme line k) (λ _. (pilot, local_seen element.Z1)) pilot
 
   pub local_trip_tree : IsLocal line k (trip_tree line k)
   unfolding trip_tree IsLocal
-  local_trip_tree = (local_set_tree, refl)
+  local_trip_tree = (local_set_tree, local_seen element.Cur)
 
 -- ---- what a terminal has is the line's
 

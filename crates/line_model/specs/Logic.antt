@@ -58,4 +58,4 @@ set_tree line k =
 
 -- what trips terminal k, sealed in by its current
 unfoldable pub trip_tree : Line → ℕ → Tree
-trip_tree line k = Seal (set_tree line k) (current k)
+trip_tree line k = Seal (set_tree line k) (current line k)

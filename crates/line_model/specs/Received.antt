@@ -2,6 +2,8 @@
 use Rattle.std.specs.Prelude.{◌==◌, ℕ, zero, suc, false, Option, Some, None, unwrap_or}
 use Rattle.std.specs.Prelude.{if◌then◌else◌}
 use Rattle.line_model.specs.declared.line.Line.{Line}
+use Rattle.line_model.specs.declared.others.Join.{Join}
+use Rattle.line_model.specs.declared.others.Join.TheVariants as join
 use Rattle.line_model.specs.Tree.{Tree, Const, Loss, Raw, Not, And, Or}
 use Rattle.line_model.specs.{Channels.channel_number, Parameters.terminal_count}
 
@@ -12,6 +14,11 @@ channel_to line k j = unwrap_or (channel_number line.channels.items j k) 0
 -- what k receives from j: the raw signal, unless the channel is lost (RX)
 unfoldable pub received : Line → ℕ → ℕ → Tree
 received line k j = And (Raw (channel_to line k j)) (Not (Loss (channel_to line k j)))
+
+-- what joins two trees
+abbrev pub join_of : Join → Tree → Tree → Tree
+join_of join.And = And
+join_of join.Or = Or
 
 -- a tree joined on the right of those before it
 abbrev pub joined : (Tree → Tree → Tree) → Option Tree → Tree → Tree

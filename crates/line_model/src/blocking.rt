@@ -6,11 +6,12 @@ ghost use Rattle.line_model.specs.{Tree.tree_of, Logic.blocking_key as blocking_
 ghost use Rattle.line_model.specs.{Logic.blocking_pilot as blocking_pilot_tree};
 
 use crate::build::{and, not, timer};
-use crate::elements::{reverse, zone2};
+use crate::elements::seen_timed;
 use crate::formula::{Formula, Time};
 use crate::line::{Line, Setting};
 use crate::permissive::terminal_setting;
 use crate::received::any_received;
+use crate::script::Element;
 use memory::Memory;
 use std::alloc::Global;
 
@@ -19,8 +20,9 @@ pub fn blocking_key(alloc: Global, line: &Line, k: u32) -> Result<Formula, Memor
     requires { k < terminal_count line.now }
     ensures { IfOk result (λ f. tree_of f ≡ blocking_key_tree line.now k) }
 {
-    let not_ahead = not(alloc, zone2(alloc, line, k)?)?;
-    let behind = and(alloc, reverse(alloc, line, k)?, not_ahead)?;
+    let zone2 = seen_timed(alloc, line, k, Element::Z2)?;
+    let reverse = seen_timed(alloc, line, k, Element::Rv)?;
+    let behind = and(alloc, reverse, not(alloc, zone2)?)?;
     let carry = terminal_setting(line, k, Setting::BlockCarry);
     timer(alloc, behind, Time::Zero, carry)
 }
@@ -31,7 +33,8 @@ pub fn blocking_pilot(alloc: Global, line: &Line, k: u32) -> Result<Formula, Mem
     ensures { IfOk result (λ f. tree_of f ≡ blocking_pilot_tree line.now k) }
 {
     let coordination = terminal_setting(line, k, Setting::BlockCoord);
-    let ahead = timer(alloc, zone2(alloc, line, k)?, coordination, Time::Zero)?;
+    let zone2 = seen_timed(alloc, line, k, Element::Z2)?;
+    let ahead = timer(alloc, zone2, coordination, Time::Zero)?;
     let blocked = any_received(alloc, line, k)?;
     and(alloc, ahead, not(alloc, blocked)?)
 }

@@ -47,13 +47,15 @@ pub fn are_bounds(
     requires channels { length channels.now ≤ 6 }
     ensures { IsTrue result ↔ AreBounds scheme terminals.now channels.now bounds.now }
 {
-    if bounds.len() != param_count(scheme, terminals, channels) {
+    if bounds.len() != param_count(scheme, terminals, channels) || !are_intervals(bounds) {
         return false;
     }
-    if !are_intervals(bounds) {
-        return false;
+    for c in 0..channels.len() {
+        if bounds[delay_index(scheme, terminals, channels, c)].least < 1 {
+            return false;
+        }
     }
-    delays_from_one(scheme, terminals, channels, bounds)
+    true
 }
 
 fn are_intervals(bounds: &[Bounds]) -> bool
@@ -72,31 +74,4 @@ fn is_interval(bounds: &[Bounds], i: usize) -> bool
     ensures { IsTrue result ↔ IsInterval (least_ends bounds.now) (greatest_ends bounds.now) i }
 {
     bounds[i].least <= bounds[i].greatest && bounds[i].greatest <= 4000
-}
-
-fn delays_from_one(
-    scheme: Scheme,
-    terminals: &[Terminal],
-    channels: &[Channel],
-    bounds: &[Bounds],
-) -> bool
-    requires terminals { length terminals.now ≤ 3 }
-    requires channels { length channels.now ≤ 6 }
-    requires bounds { length bounds.now ≡ length (line_settings scheme terminals.now channels.now) }
-    ensures { IsTrue result
-        ↔ LeastDelaysFromOne scheme terminals.now channels.now (least_ends bounds.now) }
-{
-    for c in 0..channels.len() {
-        if !is_from_one(bounds, delay_index(scheme, terminals, channels, c)) {
-            return false;
-        }
-    }
-    true
-}
-
-fn is_from_one(bounds: &[Bounds], i: usize) -> bool
-    requires { i < length bounds.now }
-    ensures { IsTrue result ↔ (1 ≤ get_or (least_ends bounds.now) i 0) }
-{
-    bounds[i].least >= 1
 }

@@ -4,10 +4,8 @@ ghost use Rattle.std.specs.Prelude.{◌≡◌, ◌<◌, IfOk};
 ghost use Rattle.line_model.specs.Tree.{tree_of};
 ghost use Rattle.line_model.specs.Parameters.{IsOwner, terminal_count};
 ghost use Rattle.line_model.specs.Elements.{is_guarded, is_weak, setting_of};
-ghost use Rattle.line_model.specs.Elements.{seen_timed as seen_timed_tree, zone1 as zone1_tree};
-ghost use Rattle.line_model.specs.Elements.{zone2 as zone2_tree, reverse as reverse_tree};
-ghost use Rattle.line_model.specs.Elements.{undervoltage as undervoltage_tree};
-ghost use Rattle.line_model.specs.Elements.{current as current_tree};
+ghost use Rattle.line_model.specs.Elements.{seen_timed as seen_timed_tree};
+ghost use Rattle.line_model.specs.Elements.{pickup_and_dropout as element_times};
 
 use crate::build::timer;
 use crate::formula::{Formula, Time};
@@ -41,97 +39,36 @@ pub fn time_of(line: &Line, owner: Owner, setting: Setting) -> Time
     Time::Param(line.param_of(owner, setting).unwrap_or(0))
 }
 
-// An element of the terminal's relay, with its pickup and dropout.
+/// The pickup and the dropout of an element, if it is timed.
+pub fn pickup_and_dropout(element: Element) -> Option<(Setting, Setting)>
+    ensures { result ≡ element_times element }
+{
+    match element {
+        Element::Z1 => Some((Setting::Z1Pickup, Setting::Z1Dropout)),
+        Element::Z2 => Some((Setting::Z2Pickup, Setting::Z2Dropout)),
+        Element::Rv => Some((Setting::RvPickup, Setting::RvDropout)),
+        Element::Uv => Some((Setting::UvPickup, Setting::UvDropout)),
+        Element::Cur => None,
+    }
+}
+
+// What the terminal's relay sees of an element.
 #[tactic(auto, unfolding(crate::specs::Elements::seen_timed))]
-fn seen_timed(
-    alloc: Global,
-    line: &Line,
-    k: u32,
-    element: Element,
-    pickup: Setting,
-    dropout: Setting,
-) -> Result<Formula, Memory>
+pub fn seen_timed(alloc: Global, line: &Line, k: u32, element: Element) -> Result<Formula, Memory>
     requires { k < terminal_count line.now }
-    ensures { IfOk result (λ f. tree_of f ≡ seen_timed_tree line.now k element pickup dropout) }
+    ensures { IfOk result (λ f. tree_of f ≡ seen_timed_tree line.now k element) }
 {
     let seen = Formula::Seen(Place {
         element,
         terminal: k,
     });
-    let owner = Owner::Terminal(k);
-    timer(
-        alloc,
-        seen,
-        time_of(line, owner, pickup),
-        time_of(line, owner, dropout),
-    )
-}
-
-#[tactic(auto, unfolding(crate::specs::Elements::zone1))]
-pub fn zone1(alloc: Global, line: &Line, k: u32) -> Result<Formula, Memory>
-    requires { k < terminal_count line.now }
-    ensures { IfOk result (λ f. tree_of f ≡ zone1_tree line.now k) }
-{
-    seen_timed(
-        alloc,
-        line,
-        k,
-        Element::Z1,
-        Setting::Z1Pickup,
-        Setting::Z1Dropout,
-    )
-}
-
-#[tactic(auto, unfolding(crate::specs::Elements::zone2))]
-pub fn zone2(alloc: Global, line: &Line, k: u32) -> Result<Formula, Memory>
-    requires { k < terminal_count line.now }
-    ensures { IfOk result (λ f. tree_of f ≡ zone2_tree line.now k) }
-{
-    seen_timed(
-        alloc,
-        line,
-        k,
-        Element::Z2,
-        Setting::Z2Pickup,
-        Setting::Z2Dropout,
-    )
-}
-
-#[tactic(auto, unfolding(crate::specs::Elements::reverse))]
-pub fn reverse(alloc: Global, line: &Line, k: u32) -> Result<Formula, Memory>
-    requires { k < terminal_count line.now }
-    ensures { IfOk result (λ f. tree_of f ≡ reverse_tree line.now k) }
-{
-    seen_timed(
-        alloc,
-        line,
-        k,
-        Element::Rv,
-        Setting::RvPickup,
-        Setting::RvDropout,
-    )
-}
-
-#[tactic(auto, unfolding(crate::specs::Elements::undervoltage))]
-pub fn undervoltage(alloc: Global, line: &Line, k: u32) -> Result<Formula, Memory>
-    requires { k < terminal_count line.now }
-    ensures { IfOk result (λ f. tree_of f ≡ undervoltage_tree line.now k) }
-{
-    seen_timed(
-        alloc,
-        line,
-        k,
-        Element::Uv,
-        Setting::UvPickup,
-        Setting::UvDropout,
-    )
-}
-
-pub fn current(k: u32) -> Formula
-    ensures { tree_of result ≡ current_tree k }
-{
-    Formula::Seen(Place {
-        element: Element::Cur,
-        terminal: k,
-    })
+    match pickup_and_dropout(element) {
+        Some((pickup, dropout)) => {
+            let owner = Owner::Terminal(k);
+            let pickup = time_of(line, owner, pickup);
+            let dropout = time_of(line, owner, dropout);
+            timer(alloc, seen, pickup, dropout)
+        }
+        None => Ok(seen),
+    }
 }

@@ -6,10 +6,11 @@ ghost use Rattle.line_model.specs.{Tree.tree_of, Parameters.terminal_count};
 
 use crate::blocking::{blocking_key, blocking_pilot};
 use crate::build::{or, seal};
-use crate::elements::{current, zone1};
+use crate::elements::seen_timed;
 use crate::formula::Formula;
 use crate::line::{Channel, Line, Scheme};
 use crate::permissive::{permissive_key, permissive_pilot};
+use crate::script::Element;
 use crate::transfer::{transfer_pilot, underreach_pilot};
 use memory::Memory;
 use std::alloc::Global;
@@ -22,7 +23,7 @@ pub fn key_formula(alloc: Global, line: &Line, terminal: u32) -> Result<Formula,
 {
     match line.scheme {
         Scheme::Pott | Scheme::Dcub => permissive_key(alloc, line, terminal),
-        Scheme::Putt | Scheme::Dtt => zone1(alloc, line, terminal),
+        Scheme::Putt | Scheme::Dtt => seen_timed(alloc, line, terminal, Element::Z1),
         Scheme::Dcb => blocking_key(alloc, line, terminal),
     }
 }
@@ -34,7 +35,7 @@ pub fn trip_formula(alloc: Global, line: &Line, terminal: u32) -> Result<Formula
     ensures { IfOk result (λ f. tree_of f ≡ trip_tree line.now terminal) }
 {
     let set = set(alloc, line, terminal)?;
-    seal(alloc, set, current(terminal))
+    seal(alloc, set, seen_timed(alloc, line, terminal, Element::Cur)?)
 }
 
 // What sets the trip.
@@ -45,7 +46,11 @@ fn set(alloc: Global, line: &Line, terminal: u32) -> Result<Formula, Memory>
 {
     let pilot = pilot(alloc, line, terminal)?;
     if line.zone1_trip {
-        or(alloc, pilot, zone1(alloc, line, terminal)?)
+        or(
+            alloc,
+            pilot,
+            seen_timed(alloc, line, terminal, Element::Z1)?,
+        )
     } else {
         Ok(pilot)
     }

@@ -13,12 +13,11 @@ ghost use Rattle.line_model.specs.Permissive.{permissive_key as permissive_key_t
 ghost use Rattle.line_model.specs.Permissive.{permissive_pilot as permissive_pilot_tree};
 
 use crate::build::{and, not, or, timer};
-use crate::elements::{
-    is_terminal_guarded, is_terminal_weak, reverse, time_of, undervoltage, zone2,
-};
+use crate::elements::{is_terminal_guarded, is_terminal_weak, seen_timed, time_of};
 use crate::formula::{Formula, Time};
 use crate::line::{Line, Owner, Scheme, Setting};
 use crate::received::all_received;
+use crate::script::Element;
 use crate::unblocking::all_open;
 use memory::Memory;
 use std::alloc::Global;
@@ -51,7 +50,8 @@ fn reversal_guard(alloc: Global, line: &Line, k: u32) -> Result<Formula, Memory>
     if is_terminal_guarded(line, k) {
         let pickup = terminal_setting(line, k, Setting::ReversalPickup);
         let dropout = terminal_setting(line, k, Setting::ReversalDropout);
-        timer(alloc, reverse(alloc, line, k)?, pickup, dropout)
+        let reverse = seen_timed(alloc, line, k, Element::Rv)?;
+        timer(alloc, reverse, pickup, dropout)
     } else {
         Ok(Formula::Const(false))
     }
@@ -62,7 +62,8 @@ fn quiet(alloc: Global, line: &Line, k: u32) -> Result<Formula, Memory>
     requires { k < terminal_count line.now }
     ensures { IfOk result (λ f. tree_of f ≡ quiet_tree line.now k) }
 {
-    let fault = or(alloc, zone2(alloc, line, k)?, reverse(alloc, line, k)?)?;
+    let zone2 = seen_timed(alloc, line, k, Element::Z2)?;
+    let fault = or(alloc, zone2, seen_timed(alloc, line, k, Element::Rv)?)?;
     let block = terminal_setting(line, k, Setting::EchoBlock);
     not(alloc, timer(alloc, fault, Time::Zero, block)?)
 }
@@ -107,7 +108,7 @@ fn weak_infeed_trip(alloc: Global, line: &Line, k: u32) -> Result<Formula, Memor
         and(
             alloc,
             echo_wanted(alloc, line, k)?,
-            undervoltage(alloc, line, k)?,
+            seen_timed(alloc, line, k, Element::Uv)?,
         )
     } else {
         Ok(Formula::Const(false))
@@ -121,7 +122,7 @@ pub fn permissive_key(alloc: Global, line: &Line, k: u32) -> Result<Formula, Mem
         ≡ permissive_key_tree line.now k (permission_tree line.now k)) }
 {
     let steady = not(alloc, reversal_guard(alloc, line, k)?)?;
-    let ahead = and(alloc, zone2(alloc, line, k)?, steady)?;
+    let ahead = and(alloc, seen_timed(alloc, line, k, Element::Z2)?, steady)?;
     or(alloc, ahead, echo(alloc, line, k)?)
 }
 
@@ -131,7 +132,8 @@ pub fn permissive_pilot(alloc: Global, line: &Line, k: u32) -> Result<Formula, M
     ensures { IfOk result (λ f. tree_of f
         ≡ permissive_pilot_tree line.now k (permission_tree line.now k)) }
 {
-    let permitted = and(alloc, zone2(alloc, line, k)?, permission(alloc, line, k)?)?;
+    let zone2 = seen_timed(alloc, line, k, Element::Z2)?;
+    let permitted = and(alloc, zone2, permission(alloc, line, k)?)?;
     let steady = not(alloc, reversal_guard(alloc, line, k)?)?;
     let ahead = and(alloc, permitted, steady)?;
     or(alloc, ahead, weak_infeed_trip(alloc, line, k)?)

@@ -7,10 +7,11 @@ ghost use Rattle.line_model.specs.{Received.received as received_tree};
 ghost use Rattle.line_model.specs.{Received.any_received as any_received_tree};
 ghost use Rattle.line_model.specs.{Received.all_received as all_received_tree};
 
-use crate::build::{and, not, or};
+use crate::build::{and, not};
 use crate::channels::find_channel;
 use crate::formula::Formula;
 use crate::line::Line;
+use crate::others::{Join, all_others};
 use memory::Memory;
 use std::alloc::Global;
 
@@ -34,38 +35,18 @@ pub fn received(alloc: Global, line: &Line, k: u32, j: u32) -> Result<Formula, M
     )
 }
 
-#[tactic(auto, unfolding(crate::specs::Received::any_received, crate::specs::Received::all_others))]
+#[tactic(auto, unfolding(crate::specs::Received::any_received))]
 pub fn any_received(alloc: Global, line: &Line, k: u32) -> Result<Formula, Memory>
     requires { k < terminal_count line.now }
     ensures { IfOk result (λ f. tree_of f ≡ any_received_tree line.now k) }
 {
-    let mut any = None;
-    for j in 0..line.terminals.len() as u32 {
-        if j != k {
-            let next = received(alloc, line, k, j)?;
-            any = match any {
-                None => Some(next),
-                Some(before) => Some(or(alloc, before, next)?),
-            };
-        }
-    }
-    Ok(any.unwrap_or(Formula::Const(false)))
+    all_others(alloc, line, k, Join::Or, |j| received(alloc, line, k, j))
 }
 
-#[tactic(auto, unfolding(crate::specs::Received::all_received, crate::specs::Received::all_others))]
+#[tactic(auto, unfolding(crate::specs::Received::all_received))]
 pub fn all_received(alloc: Global, line: &Line, k: u32) -> Result<Formula, Memory>
     requires { k < terminal_count line.now }
     ensures { IfOk result (λ f. tree_of f ≡ all_received_tree line.now k) }
 {
-    let mut all = None;
-    for j in 0..line.terminals.len() as u32 {
-        if j != k {
-            let next = received(alloc, line, k, j)?;
-            all = match all {
-                None => Some(next),
-                Some(before) => Some(and(alloc, before, next)?),
-            };
-        }
-    }
-    Ok(all.unwrap_or(Formula::Const(false)))
+    all_others(alloc, line, k, Join::And, |j| received(alloc, line, k, j))
 }

@@ -60,14 +60,28 @@ pub struct Script {
 pub fn seen(script: &Script, place: Place, t: u32) -> bool
     ensures { result ≡ is_seen script.now.spans.items place t }
 {
-    script.spans.iter().any(|s| span_shows(s, place, t))
+    shown_in(&script.spans, place, t)
 }
 
 /// Whether some span of the channel's loss holds the tick.
 pub fn loss(script: &Script, channel: u32, t: u32) -> bool
     ensures { result ≡ is_lost script.now.spans.items channel t }
 {
-    script.spans.iter().any(|s| span_loses(s, channel, t))
+    lost_in(&script.spans, channel, t)
+}
+
+/// Whether one of the spans is of the place and holds the tick.
+pub fn shown_in(spans: &[SeenSpan], place: Place, t: u32) -> bool
+    ensures { result ≡ is_seen spans.now place t }
+{
+    spans.iter().any(|s| span_shows(s, place, t))
+}
+
+/// Whether one of the spans is of the channel's loss and holds the tick.
+pub fn lost_in(spans: &[SeenSpan], channel: u32, t: u32) -> bool
+    ensures { result ≡ is_lost spans.now channel t }
+{
+    spans.iter().any(|s| span_loses(s, channel, t))
 }
 
 fn span_shows(span: &SeenSpan, place: Place, t: u32) -> bool

@@ -6,11 +6,12 @@ ghost use Rattle.line_model.specs.{Tree.tree_of, Logic.underreach_pilot as under
 ghost use Rattle.line_model.specs.{Logic.transfer_pilot as transfer_pilot_tree};
 
 use crate::build::{and, timer};
-use crate::elements::zone2;
+use crate::elements::seen_timed;
 use crate::formula::{Formula, Time};
 use crate::line::{Line, Setting};
 use crate::permissive::terminal_setting;
 use crate::received::any_received;
+use crate::script::Element;
 use memory::Memory;
 use std::alloc::Global;
 
@@ -19,7 +20,7 @@ pub fn underreach_pilot(alloc: Global, line: &Line, k: u32) -> Result<Formula, M
     requires { k < terminal_count line.now }
     ensures { IfOk result (λ f. tree_of f ≡ underreach_pilot_tree line.now k) }
 {
-    let ahead = zone2(alloc, line, k)?;
+    let ahead = seen_timed(alloc, line, k, Element::Z2)?;
     and(alloc, ahead, any_received(alloc, line, k)?)
 }
 

@@ -13,6 +13,7 @@ use crate::build::{and, not, or, seal, timer};
 use crate::elements::time_of;
 use crate::formula::{Formula, Time};
 use crate::line::{Line, Owner, Setting};
+use crate::others::{Join, all_others};
 use crate::received::{channel_to, received};
 use memory::Memory;
 use std::alloc::Global;
@@ -90,20 +91,10 @@ fn open_from(alloc: Global, line: &Line, k: u32, j: u32) -> Result<Formula, Memo
     and(alloc, open, not(alloc, locked)?)
 }
 
-#[tactic(auto, unfolding(crate::specs::Unblocking::all_open, crate::specs::Received::all_others))]
+#[tactic(auto, unfolding(crate::specs::Unblocking::all_open))]
 pub fn all_open(alloc: Global, line: &Line, k: u32) -> Result<Formula, Memory>
     requires { k < terminal_count line.now }
     ensures { IfOk result (λ f. tree_of f ≡ all_open_tree line.now k) }
 {
-    let mut all = None;
-    for j in 0..line.terminals.len() as u32 {
-        if j != k {
-            let next = open_from(alloc, line, k, j)?;
-            all = match all {
-                None => Some(next),
-                Some(before) => Some(and(alloc, before, next)?),
-            };
-        }
-    }
-    Ok(all.unwrap_or(Formula::Const(false)))
+    all_others(alloc, line, k, Join::And, |j| open_from(alloc, line, k, j))
 }

@@ -4,9 +4,10 @@ use Rattle.std.proofs.Common.{get_or, refl, sym, ◌∙◌, subst, arith, inl, i
 use Rattle.std.specs.Prelude.{map, Result, Ok, Err, IfOk}
 use Rattle.line_model.specs.declared.line.Line.{Line}
 use Rattle.line_model.specs.{Tree.Tree, Parameters.terminal_count, Logic.key_tree, Logic.trip_tree}
-use Rattle.gate_net.specs.Named.{NamedFrom, KeepsNames}
+use Rattle.gate_net.specs.Named.{NamedFrom}
 use Rattle.gate_net.specs.{declared.gate.Gate.Gate, declared.gate.GateId.GateId, Formulas.Stands}
-use Rattle.gate_net.specs.{Growing.Grows, NetOf.NetOf, NetOf.AreGatesOf, NetOf.IsNet, NetOf.IsNetOf}
+use Rattle.gate_net.specs.{NetOf.NetOf, NetOf.AreGatesOf, NetOf.IsNet, NetOf.IsNetOf}
+use Rattle.gate_net.specs.Growing.{Grows, Extends}
 use Rattle.net_compile.specs.{declared.terminal_gates.Ends.Ends, Compiled.AreEnds}
 
 -- one gate for each terminal below j, which stands for the terminal's tree
@@ -71,16 +72,16 @@ have_none line = record {
 
 -- and one terminal more
 pub have_more : (line : Line) (old new : List Gate) (keys trips : List GateId) (ends : Ends) (j : ℕ)
-    → HaveEnds line old keys trips j → Grows old new 114 → KeepsNames line old new
-    → AreEnds line j new ends
+    → HaveEnds line old keys trips j → Extends line old new 114 → AreEnds line j new ends
     → HaveEnds line new (keys ++ ends.key ∷ []) (trips ++ ends.trip ∷ []) (suc j)
-have_more line old new keys trips ends j sofar grows named next = record {
-  few = omega (arith, sofar.few, grows.few);
-  named = named 0 sofar.named;
+have_more line old new keys trips ends j sofar adds next = record {
+  few = omega (arith, sofar.few, adds.grows.few);
+  named = adds.named 0 sofar.named;
   key_gates =
-      in_order_more old new 114 keys ends.key (key_tree line) j grows sofar.key_gates next.key_gate;
+      in_order_more old new 114 keys ends.key (key_tree line) j adds.grows sofar.key_gates
+      next.key_gate;
   trip_gates =
-      in_order_more old new 114 trips ends.trip (trip_tree line) j grows sofar.trip_gates
+      in_order_more old new 114 trips ends.trip (trip_tree line) j adds.grows sofar.trip_gates
       next.trip_gate;
 }
 

@@ -1,10 +1,10 @@
 //! The gates of one terminal.
 
-ghost use Rattle.std.specs.Prelude.{◌<◌, ◌≤◌, ◌+◌, length, IfOk};
+ghost use Rattle.std.specs.Prelude.{◌<◌, IfOk};
 ghost use Rattle.line_model.specs.Parameters.{terminal_count};
 ghost use Rattle.line_model.specs.Logic.{pilot_by, key_tree, set_tree, trip_tree};
-ghost use Rattle.gate_net.specs.{Formulas.Stands, Growing.Grows, Named.KeepsNames};
-ghost use Rattle.zones.specs.{LocalGates.AreLocal, Outputs.AreOutputs};
+ghost use Rattle.gate_net.specs.{Formulas.Stands, Growing.HasRoom, Growing.Extends};
+ghost use Rattle.zones.specs.{LocalGates.AreLocal, Outputs.CanMake, Outputs.MakesOutputs};
 ghost use Rattle.net_compile.specs.Compiled.{AreEnds};
 
 use gate_net::{GateId, NetBuilder};
@@ -22,9 +22,8 @@ pub struct Ends {
 #[tactic(auto, unfolding(line_model::specs::Logic::key_tree, line_model::specs::Logic::trip_tree))]
 pub fn terminal_gates(net: &mut NetBuilder, line: &Line, terminal: u32) -> Result<Ends, Memory>
     requires exists { terminal < terminal_count line.now }
-    requires room { length net.old + 114 ≤ 512 }
-    ensures grows { Grows net.old net.new 114 }
-    ensures named { KeepsNames line.now net.old net.new }
+    requires room { HasRoom net.old 114 }
+    ensures adds { Extends line.now net.old net.new 114 }
     ensures made { IfOk result (λ ends. AreEnds line.now terminal net.new ends) }
 {
     let local = local_elements(net, line, terminal)?;
@@ -36,12 +35,8 @@ pub fn terminal_gates(net: &mut NetBuilder, line: &Line, terminal: u32) -> Resul
 
 // By the line's scheme.
 fn scheme(net: &mut NetBuilder, line: &Line, terminal: u32, local: &Local) -> Result<Out, Memory>
-    requires exists { terminal < terminal_count line.now }
-    requires room { length net.old + 96 ≤ 512 }
-    requires local { AreLocal line.now terminal net.old local.now }
-    ensures grows { Grows net.old net.new 96 }
-    ensures named { KeepsNames line.now net.old net.new }
-    ensures made { IfOk result (λ out. AreOutputs line.now.scheme line.now terminal net.new out) }
+    requires { CanMake line.now.scheme line.now terminal net.old local.now }
+    ensures { MakesOutputs line.now.scheme line.now terminal net.old net.new result }
 {
     match line.scheme {
         Scheme::Pott => pott_putt::pott(net, line, terminal, local),
@@ -61,11 +56,10 @@ fn set(
     local: &Local,
     pilot: GateId,
 ) -> Result<GateId, Memory>
-    requires room { length net.old + 1 ≤ 512 }
+    requires room { HasRoom net.old 1 }
     requires local { AreLocal line.now terminal net.old local.now }
     requires pilot { Stands net.old pilot.0 (pilot_by line.now.scheme line.now terminal) }
-    ensures grows { Grows net.old net.new 1 }
-    ensures named { KeepsNames line.now net.old net.new }
+    ensures adds { Extends line.now net.old net.new 1 }
     ensures made { IfOk result (λ id. Stands net.new id.0 (set_tree line.now terminal)) }
 {
     if line.zone1_trip {

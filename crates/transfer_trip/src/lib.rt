@@ -5,10 +5,7 @@
 //! name only what the line has.
 #![tactic(auto)]
 
-ghost use Rattle.std.specs.Prelude.{◌≡◌, ◌<◌, ◌≤◌, ◌+◌, length, IfOk};
-ghost use Rattle.line_model.specs.Parameters.{terminal_count};
-ghost use Rattle.gate_net.specs.{Growing.Grows, Named.KeepsNames};
-ghost use Rattle.zones.specs.{LocalGates.AreLocal, Outputs.AreOutputs};
+ghost use Rattle.zones.specs.Outputs.{CanMake, MakesOutputs};
 
 use gate_net::NetBuilder;
 use line_model::{Line, Memory, Scheme, Setting, Time};
@@ -22,13 +19,8 @@ pub fn scheme(
     terminal: u32,
     local: &Local,
 ) -> Result<Out, Memory>
-    requires scheme { line.now.scheme ≡ Scheme.Dtt }
-    requires exists { terminal < terminal_count line.now }
-    requires room { length net.old + 96 ≤ 512 }
-    requires local { AreLocal line.now terminal net.old local.now }
-    ensures grows { Grows net.old net.new 96 }
-    ensures named { KeepsNames line.now net.old net.new }
-    ensures made { IfOk result (λ out. AreOutputs Scheme.Dtt line.now terminal net.new out) }
+    requires { CanMake Scheme.Dtt line.now terminal net.old local.now }
+    ensures { MakesOutputs Scheme.Dtt line.now terminal net.old net.new result }
 {
     let security = terminal_time(line, terminal, Setting::TransferSecurity);
     let any = any_received(net, line, terminal)?;

@@ -6,18 +6,18 @@
 //! name only what the line has.
 #![tactic(auto)]
 
-ghost use Rattle.std.specs.Prelude.{◌≡◌, ◌<◌, ◌≤◌, ◌+◌, length, IfOk};
+ghost use Rattle.std.specs.Prelude.{◌<◌, IfOk};
 ghost use Rattle.line_model.specs.{Parameters.terminal_count, Unblocking.all_open as all_open_tree};
-ghost use Rattle.gate_net.specs.{Formulas.Stands, Growing.Grows, Named.KeepsNames};
-ghost use Rattle.zones.specs.{LocalGates.AreLocal, Outputs.AreOutputs};
+ghost use Rattle.gate_net.specs.{Formulas.Stands, Growing.HasRoom, Growing.Extends};
+ghost use Rattle.zones.specs.Outputs.{CanMake, MakesOutputs};
 
 mod window;
 
 use crate::window::open_from;
 use echo_weak::permissive;
 use gate_net::{GateId, NetBuilder};
-use line_model::{Line, Memory, Scheme};
-use zones::{Local, Out, and_before, or_never};
+use line_model::{Join, Line, Memory, Scheme};
+use zones::{Local, Out, join_before, or_never};
 
 /// What a terminal of a DCUB line sends and trips on.
 pub fn scheme(
@@ -26,13 +26,8 @@ pub fn scheme(
     terminal: u32,
     local: &Local,
 ) -> Result<Out, Memory>
-    requires scheme { line.now.scheme ≡ Scheme.Dcub }
-    requires exists { terminal < terminal_count line.now }
-    requires room { length net.old + 96 ≤ 512 }
-    requires local { AreLocal line.now terminal net.old local.now }
-    ensures grows { Grows net.old net.new 96 }
-    ensures named { KeepsNames line.now net.old net.new }
-    ensures made { IfOk result (λ out. AreOutputs Scheme.Dcub line.now terminal net.new out) }
+    requires { CanMake Scheme.Dcub line.now terminal net.old local.now }
+    ensures { MakesOutputs Scheme.Dcub line.now terminal net.old net.new result }
 {
     let perm = all_open(net, line, terminal)?;
     let out = permissive(net, line, terminal, local, perm)?;
@@ -43,16 +38,15 @@ pub fn scheme(
 #[tactic(auto, unfolding(line_model::specs::Unblocking::all_open, line_model::specs::Received::all_others), using(zones::specs::Gathering::gate_kept))]
 fn all_open(net: &mut NetBuilder, line: &Line, terminal: u32) -> Result<GateId, Memory>
     requires exists { terminal < terminal_count line.now }
-    requires room { length net.old + 67 ≤ 512 }
-    ensures grows { Grows net.old net.new 67 }
-    ensures named { KeepsNames line.now net.old net.new }
+    requires room { HasRoom net.old 67 }
+    ensures adds { Extends line.now net.old net.new 67 }
     ensures made { IfOk result (λ id. Stands net.new id.0 (all_open_tree line.now terminal)) }
 {
     let mut all = None;
     for from in 0..line.terminals.len() as u32 {
         if from != terminal {
             let next = open_from(net, line, terminal, from)?;
-            all = Some(and_before(net, line, all, next)?);
+            all = Some(join_before(net, line, Join::And, all, next)?);
         }
     }
     or_never(net, line, all)

@@ -1,11 +1,11 @@
 //! A channel whose window opens for a while when it is lost.
 
-ghost use Rattle.std.specs.Prelude.{◌<◌, ◌≤◌, ◌+◌, length, IfOk};
+ghost use Rattle.std.specs.Prelude.{IfOk};
 ghost use Rattle.line_model.specs.Unblocking.{guard_seen as guard_seen_tree, late as late_tree};
 ghost use Rattle.line_model.specs.Unblocking.{unblocked as unblocked_tree};
 ghost use Rattle.line_model.specs.Unblocking.{locked_out as locked_out_tree};
 ghost use Rattle.line_model.specs.Unblocking.{open_from as open_from_tree};
-ghost use Rattle.gate_net.specs.{Formulas.Stands, Growing.Grows, Named.KeepsNames};
+ghost use Rattle.gate_net.specs.{Formulas.Stands, Growing.HasRoom, Growing.Extends};
 
 use gate_net::{GateId, NetBuilder};
 use line_model::{Line, Memory, Setting, Time};
@@ -20,9 +20,8 @@ pub fn open_from(
     terminal: u32,
     from: u32,
 ) -> Result<GateId, Memory>
-    requires room { length net.old + 21 ≤ 512 }
-    ensures grows { Grows net.old net.new 21 }
-    ensures named { KeepsNames line.now net.old net.new }
+    requires room { HasRoom net.old 21 }
+    ensures adds { Extends line.now net.old net.new 21 }
     ensures made { IfOk result (λ id. Stands net.new id.0 (open_from_tree line.now terminal from)) }
 {
     let late = late(net, line, terminal, from)?;
@@ -37,9 +36,8 @@ pub fn open_from(
 // The channel has been lost for as long as the window.
 #[tactic(auto, unfolding(line_model::specs::Unblocking::late))]
 fn late(net: &mut NetBuilder, line: &Line, terminal: u32, from: u32) -> Result<GateId, Memory>
-    requires room { length net.old + 2 ≤ 512 }
-    ensures grows { Grows net.old net.new 2 }
-    ensures named { KeepsNames line.now net.old net.new }
+    requires room { HasRoom net.old 2 }
+    ensures adds { Extends line.now net.old net.new 2 }
     ensures made { IfOk result (λ id. Stands net.new id.0 (late_tree line.now terminal from)) }
 {
     let window = channel_time(line, terminal, from, Setting::UnblockWindow);
@@ -57,10 +55,9 @@ fn unblocked(
     from: u32,
     late: GateId,
 ) -> Result<GateId, Memory>
-    requires room { length net.old + 4 ≤ 512 }
+    requires room { HasRoom net.old 4 }
     requires late { Stands net.old late.0 (late_tree line.now terminal from) }
-    ensures grows { Grows net.old net.new 4 }
-    ensures named { KeepsNames line.now net.old net.new }
+    ensures adds { Extends line.now net.old net.new 4 }
     ensures made { IfOk result (λ id. Stands net.new id.0 (unblocked_tree line.now terminal from)) }
 {
     let pickup = channel_time(line, terminal, from, Setting::UnblockPickup);
@@ -73,9 +70,8 @@ fn unblocked(
 // The guard tone is heard: no signal comes, and the channel is not lost.
 #[tactic(auto, unfolding(line_model::specs::Unblocking::guard_seen))]
 fn guard_seen(net: &mut NetBuilder, line: &Line, terminal: u32, from: u32) -> Result<GateId, Memory>
-    requires room { length net.old + 5 ≤ 512 }
-    ensures grows { Grows net.old net.new 5 }
-    ensures named { KeepsNames line.now net.old net.new }
+    requires room { HasRoom net.old 5 }
+    ensures adds { Extends line.now net.old net.new 5 }
     ensures made { IfOk result (λ id. Stands net.new id.0
         (guard_seen_tree line.now terminal from)) }
 {
@@ -96,10 +92,9 @@ fn locked_out(
     from: u32,
     late: GateId,
 ) -> Result<GateId, Memory>
-    requires room { length net.old + 8 ≤ 512 }
+    requires room { HasRoom net.old 8 }
     requires late { Stands net.old late.0 (late_tree line.now terminal from) }
-    ensures grows { Grows net.old net.new 8 }
-    ensures named { KeepsNames line.now net.old net.new }
+    ensures adds { Extends line.now net.old net.new 8 }
     ensures made { IfOk result (λ id. Stands net.new id.0
         (locked_out_tree line.now terminal from)) }
 {

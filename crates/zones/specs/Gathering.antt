@@ -4,13 +4,12 @@ use Rattle.std.specs.Option.{ForSome}
 use Rattle.std.proofs.Common.{refl, ap}
 use Rattle.line_model.specs.{declared.line.Line.Line, Tree.Tree, Received.over_others}
 use Rattle.gate_net.specs.{declared.gate.Gate.Gate, declared.gate.GateId.GateId}
-use Rattle.gate_net.specs.{Formulas.formula_of, Growing.Grows, Named.KeepsNames}
+use Rattle.gate_net.specs.{Formulas.formula_of, Growing.Grows, Growing.Extends}
 
 -- the terminals below j other than k have been joined, with at most n gates for each
 pub record Gathers (line : Line) (op : Tree → Tree → Tree) (tree : ℕ → Tree) (k n : ℕ)
     (old now : List Gate) (all : Option GateId) (j : ℕ) : Type 0 where
-  pub grows : Grows old now (n * j)
-  pub named : KeepsNames line old now
+  pub adds : Extends line old now (n * j)
   pub exists : ForSome all (λ g. g.0 < length now)
   pub stands : option_map (λ g. formula_of now g.0) all ≡ over_others op tree k j
 

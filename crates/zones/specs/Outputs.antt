@@ -1,8 +1,11 @@
 -- What a scheme makes for a terminal.
-use Rattle.std.specs.Prelude.{ℕ, List}
+use Rattle.std.specs.Prelude.{◌≡◌, ◌<◌, ℕ, List, Result, IfOk}
 use Rattle.line_model.specs.declared.line.Line.{Line}
 use Rattle.line_model.specs.{declared.line.Scheme.Scheme, Logic.key_by, Logic.pilot_by}
+use Rattle.line_model.specs.Parameters.{terminal_count}
 use Rattle.gate_net.specs.{declared.gate.Gate.Gate, Formulas.Stands}
+use Rattle.gate_net.specs.Growing.{HasRoom, Extends}
+use Rattle.zones.specs.{declared.elements.Local.Local, LocalGates.AreLocal}
 use Rattle.zones.specs.declared.outputs.Out.{Out}
 
 -- the gates stand for what terminal k sends and for what its pilot scheme trips on, by this scheme
@@ -10,3 +13,17 @@ pub record AreOutputs (scheme : Scheme) (line : Line) (k : ℕ) (gates : List Ga
     : Type 0 where
   pub key_gate : Stands gates out.key.0 (key_by scheme line k)
   pub pilot_gate : Stands gates out.pilot.0 (pilot_by scheme line k)
+
+-- the gates of this scheme can be made for terminal k over these of its own
+pub record CanMake (scheme : Scheme) (line : Line) (k : ℕ) (gates : List Gate) (local : Local)
+    : Type 0 where
+  pub of_scheme : line.scheme ≡ scheme
+  pub exists : k < terminal_count line
+  pub room : HasRoom gates 96
+  pub local_gates : AreLocal line k gates local
+
+-- they are made
+pub record MakesOutputs {E : Type 0} (scheme : Scheme) (line : Line) (k : ℕ)
+    (old new : List Gate) (result : Result Out E) : Type 0 where
+  pub adds : Extends line old new 96
+  pub made : IfOk result (λ out. AreOutputs scheme line k new out)

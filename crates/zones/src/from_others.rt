@@ -1,15 +1,16 @@
 //! What a terminal receives from the others.
 
-ghost use Rattle.std.specs.Prelude.{◌<◌, ◌≤◌, ◌+◌, length, IfOk};
+ghost use Rattle.std.specs.Prelude.{◌<◌, IfOk};
 ghost use Rattle.line_model.specs.{Parameters.terminal_count, Received.received as received_tree};
+ghost use Rattle.line_model.specs.Received.{all_others, join_of};
 ghost use Rattle.line_model.specs.{Received.any_received as any_received_tree};
 ghost use Rattle.line_model.specs.{Received.all_received as all_received_tree};
-ghost use Rattle.gate_net.specs.{Formulas.Stands, Growing.Grows, Named.KeepsNames};
+ghost use Rattle.gate_net.specs.{Formulas.Stands, Growing.HasRoom, Growing.Extends};
 
-use crate::joining::{and_before, or_before, or_never};
+use crate::joining::{join_before, or_never};
 use crate::times::channel_to;
 use gate_net::{GateId, NetBuilder};
-use line_model::{Line, Memory};
+use line_model::{Join, Line, Memory};
 
 /// What a terminal receives from another: what arrives over the channel, unless that is lost.
 #[tactic(auto, unfolding(line_model::specs::Received::received))]
@@ -19,9 +20,8 @@ pub fn received(
     terminal: u32,
     from: u32,
 ) -> Result<GateId, Memory>
-    requires room { length net.old + 4 ≤ 512 }
-    ensures grows { Grows net.old net.new 4 }
-    ensures named { KeepsNames line.now net.old net.new }
+    requires room { HasRoom net.old 4 }
+    ensures adds { Extends line.now net.old net.new 4 }
     ensures made { IfOk result (λ id. Stands net.new id.0 (received_tree line.now terminal from)) }
 {
     let channel = channel_to(line, terminal, from);
@@ -33,38 +33,48 @@ pub fn received(
 }
 
 /// Whether a terminal receives the signal of some other.
-#[tactic(auto, unfolding(line_model::specs::Received::any_received, line_model::specs::Received::all_others), using(crate::specs::Gathering::gate_kept))]
+#[tactic(auto, unfolding(line_model::specs::Received::any_received))]
 pub fn any_received(net: &mut NetBuilder, line: &Line, terminal: u32) -> Result<GateId, Memory>
     requires exists { terminal < terminal_count line.now }
-    requires room { length net.old + 16 ≤ 512 }
-    ensures grows { Grows net.old net.new 16 }
-    ensures named { KeepsNames line.now net.old net.new }
+    requires room { HasRoom net.old 16 }
+    ensures adds { Extends line.now net.old net.new 16 }
     ensures made { IfOk result (λ id. Stands net.new id.0 (any_received_tree line.now terminal)) }
 {
-    let mut any = None;
-    for from in 0..line.terminals.len() as u32 {
-        if from != terminal {
-            let next = received(net, line, terminal, from)?;
-            any = Some(or_before(net, line, any, next)?);
-        }
-    }
-    or_never(net, line, any)
+    let any = others_received(net, line, terminal, Join::Or)?;
+    Ok(any)
 }
 
 /// Whether a terminal receives the signal of each other.
-#[tactic(auto, unfolding(line_model::specs::Received::all_received, line_model::specs::Received::all_others), using(crate::specs::Gathering::gate_kept))]
+#[tactic(auto, unfolding(line_model::specs::Received::all_received))]
 pub fn all_received(net: &mut NetBuilder, line: &Line, terminal: u32) -> Result<GateId, Memory>
     requires exists { terminal < terminal_count line.now }
-    requires room { length net.old + 16 ≤ 512 }
-    ensures grows { Grows net.old net.new 16 }
-    ensures named { KeepsNames line.now net.old net.new }
+    requires room { HasRoom net.old 16 }
+    ensures adds { Extends line.now net.old net.new 16 }
     ensures made { IfOk result (λ id. Stands net.new id.0 (all_received_tree line.now terminal)) }
+{
+    let all = others_received(net, line, terminal, Join::And)?;
+    Ok(all)
+}
+
+// What a terminal receives from all others, joined in line order.
+#[tactic(auto, unfolding(line_model::specs::Received::all_others), using(crate::specs::Gathering::gate_kept))]
+fn others_received(
+    net: &mut NetBuilder,
+    line: &Line,
+    terminal: u32,
+    join: Join,
+) -> Result<GateId, Memory>
+    requires exists { terminal < terminal_count line.now }
+    requires room { HasRoom net.old 16 }
+    ensures adds { Extends line.now net.old net.new 16 }
+    ensures made { IfOk result (λ id. Stands net.new id.0
+        (all_others (join_of join) (received_tree line.now terminal) line.now terminal)) }
 {
     let mut all = None;
     for from in 0..line.terminals.len() as u32 {
         if from != terminal {
             let next = received(net, line, terminal, from)?;
-            all = Some(and_before(net, line, all, next)?);
+            all = Some(join_before(net, line, join, all, next)?);
         }
     }
     or_never(net, line, all)

@@ -12,6 +12,6 @@ mod times;
 
 pub use elements::{Local, local_elements};
 pub use from_others::{all_received, any_received, received};
-pub use joining::{and_before, and_not, or_before, or_never};
+pub use joining::{and_not, join_before, or_never};
 pub use outputs::Out;
 pub use times::{channel_time, channel_to, terminal_time};

@@ -12,8 +12,8 @@ loop-terminal-preserved c =
     (c.loop-terminal.trips.items ++ c.in_ok-ends.ends.trip ∷ []) (suc c.loop-terminal.terminal) =
     have_more c.args.line.now c.loop-terminal.net c.terminal_gates.new.net
     c.loop-terminal.keys.items c.loop-terminal.trips.items c.in_ok-ends.ends
-    c.loop-terminal.terminal c.loop-terminal.invariant c.in_ok-ends.ensures.grows
-    c.in_ok-ends.ensures.named c.in_ok-ends.ensures.made in
+    c.loop-terminal.terminal c.loop-terminal.invariant c.in_ok-ends.ensures.adds
+    c.in_ok-ends.ensures.made in
     rw (c.in_ok-push.ensures.items, c.in_ok-push-2.ensures.items, ← next) more
 
 pub returns : goal.returns

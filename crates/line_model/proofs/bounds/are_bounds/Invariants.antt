@@ -1,6 +1,6 @@
 use Rattle.std.proofs.Common.{ℕ, ◌<◌, ◌≤◌, get_or}
 use Rattle.line_model.specs.{Intervals.delay_number_of, Making.least_ends}
-use Rattle.line_model.proofs.bounds.delays_from_one.Given as goal
+use Rattle.line_model.proofs.bounds.are_bounds.Given as goal
 
 abbrev pub invariant-loop-c : goal.invariant-loop-c
 invariant-loop-c l =

@@ -1,0 +1,13 @@
+use Rattle.std.proofs.Common.{◌≡◌, ◌≢◌, ℕ, ◌<◌}
+use Rattle.std.specs.Prelude.{option_map, Ok}
+use Rattle.line_model.specs.Parameters.{terminal_count}
+use Rattle.line_model.specs.declared.formula.Formula.{Formula}
+use Rattle.line_model.specs.{Tree.Tree, Tree.tree_of, Received.join_of, Received.over_others}
+use Rattle.line_model.proofs.others.all_others.Given as goal
+
+abbrev pub invariant-loop-j : goal.invariant-loop-j
+invariant-loop-j g l =
+    (tree : ℕ → Tree)
+    → ((j : ℕ) (f : Formula) → j < terminal_count l.line → j ≢ l.k
+    → goal.P-post g l.part j (Ok f) → tree_of f ≡ tree j)
+    → option_map tree_of l.all ≡ over_others (join_of l.join) tree l.k l.j
