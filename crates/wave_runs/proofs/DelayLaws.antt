@@ -3,39 +3,26 @@ use Rattle.std.proofs.Common.{◌≡◌, ℕ, zero, suc, ◌+◌, ◌-◌, ◌�
 use Rattle.std.proofs.Common.{arith, sym, refl, true, false, ⊎_elim}
 use Rattle.std.proofs.lemmas.Bool.{cases_lt}
 use Rattle.std.proofs.lemmas.Bool.Decides.{same_from_decides, Decides-like}
-use Rattle.std.specs.Prelude.{IsTrue}
+use Rattle.std.specs.Prelude.{◌↔◌, Option, Some, None, is_some, not, IsTrue}
 use Rattle.history.specs.Rails.{Rails, Ends, IsSound, rails_delayed, must_of, may_of}
 use Rattle.history.specs.{Comes.AllCome, Comes.SomeComes, Laws.DelaysAreTheirFacts}
 use Rattle.tick_signal.specs.Spans.{ends_of}
-use Rattle.tick_signal.specs.declared.tern.Tern.TheVariants.{Zero, One, Unknown}
-use Rattle.tick_signal.specs.{declared.tern.Tern.Tern, Terns.tern_rails, Terns.tern_sound}
-use Rattle.wave_runs.specs.Waves.{wave_at, ArrivesAlike}
+use Rattle.tick_signal.specs.{declared.tern.Tern.Tern, Terns.tern_sound}
+use Rattle.wave_runs.specs.{Waves.wave_at, Waves.ArrivesAlike, FirstTick.IsFirstOn}
 
 pub wave_sound : (wave : List Tern) (r : ℕ) → IsSound (wave_at wave r)
 wave_sound [] r on = on
 wave_sound (level ∷ wave) zero on = tern_sound level on
 wave_sound (level ∷ wave) (suc r) on = wave_sound wave r on
 
--- a value is told by its rails
-pub tern_once : (a b : Tern) → tern_rails a ≡ tern_rails b → a ≡ b
-tern_once Zero Zero e = refl
-tern_once Zero One e = absurd (let m : false ≡ true = ap must_of e in cc)
-tern_once Zero Unknown e = absurd (let m : false ≡ true = ap may_of e in cc)
-tern_once One Zero e = absurd (let m : true ≡ false = ap must_of e in cc)
-tern_once One One e = refl
-tern_once One Unknown e = absurd (let m : true ≡ false = ap must_of e in cc)
-tern_once Unknown Zero e = absurd (let m : true ≡ false = ap may_of e in cc)
-tern_once Unknown One e = absurd (let m : false ≡ true = ap must_of e in cc)
-tern_once Unknown Unknown e = refl
-
 -- the tick that a delay reaches back to
-pub came : (u : ℕ → Bool) (least greatest t k : ℕ) → AllCome u (ends_of least greatest) t
+came : (u : ℕ → Bool) (least greatest t k : ℕ) → AllCome u (ends_of least greatest) t
     → t ≤ k + greatest → k + least ≤ t → IsTrue (u k)
 came u least greatest t k h low high =
     let e : k ≡ t - (t - k) = omega arith in
     ap u e ∙ (h (t - k) (omega arith) (omega arith)).on
 
-pub comes : (u : ℕ → Bool) (least greatest t k : ℕ) → t ≤ k + greatest → k + least ≤ t
+comes : (u : ℕ → Bool) (least greatest t k : ℕ) → t ≤ k + greatest → k + least ≤ t
     → IsTrue (u k) → SomeComes u (ends_of least greatest) t
 comes u least greatest t k low high on =
     let e : t - (t - k) ≡ k = omega arith in
@@ -45,6 +32,57 @@ comes u least greatest t k low high on =
       greatest = omega arith;
       comes = record { past = omega arith; on = ap u e ∙ on };
     }
+
+on_if : (b : Bool) → not b ≡ false → IsTrue b
+on_if true e = refl
+on_if false e = absurd (let no : true ≡ false = e in cc)
+
+off_if : (b : Bool) → not b ≡ true → b ≡ false
+off_if true e = absurd (let no : false ≡ true = e in cc)
+off_if false e = refl
+
+-- it came at every delay where none of the ticks that delays reach back to is off
+pub all_come_if : (u : ℕ → Bool) (least greatest t : ℕ) (found : Option ℕ) (none : Bool)
+    → is_some found ≡ not none → least ≤ greatest → greatest ≤ t
+    → IsFirstOn (λ r. not (u r)) (t - greatest) (t - least + 1) found
+    → IsTrue none ↔ AllCome u (ends_of least greatest) t
+all_come_if u least greatest t None true e ordered far off = (
+  λ _ c low high. record {
+    past = omega arith;
+    on = on_if (u (t - c)) (off (t - c) (omega arith) (omega arith));
+  },
+  λ _. refl,
+)
+all_come_if u least greatest t None false e ordered far off =
+    absurd (let no : false ≡ true = e in cc)
+all_come_if u least greatest t (Some k) true e ordered far first =
+    absurd (let no : true ≡ false = e in cc)
+all_come_if u least greatest t (Some k) false e ordered far first = (
+  λ none. absurd (let no : false ≡ true = none in cc),
+  λ all. absurd (let from : t - greatest ≤ k = first.from_there in
+      let within : k < t - least + 1 = first.within in
+      let on : u k ≡ true = came u least greatest t k all (omega arith) (omega arith) in
+      let no : true ≡ false = sym on ∙ off_if (u k) first.on in cc),
+)
+
+-- it came at some delay where one of them is on
+pub some_comes_if : (u : ℕ → Bool) (least greatest t : ℕ) (found : Option ℕ) → least ≤ greatest
+    → least ≤ t → IsFirstOn u (t - greatest) (t - least + 1) found
+    → IsTrue (is_some found) ↔ SomeComes u (ends_of least greatest) t
+some_comes_if u least greatest t None ordered far off = (
+  λ some. absurd (let no : false ≡ true = some in cc),
+  λ some. absurd (let past : some.c ≤ t = some.comes.past in
+      let low : least ≤ some.c = some.least in
+      let high : some.c ≤ greatest = some.greatest in
+      let no : true ≡ false =
+      sym some.comes.on ∙ off (t - some.c) (omega arith) (omega arith) in cc),
+)
+some_comes_if u least greatest t (Some k) ordered far first = (
+  λ _. (let from : t - greatest ≤ k = first.from_there in
+      let within : k < t - least + 1 = first.within in
+      comes u least greatest t k (omega arith) (omega arith) first.on),
+  λ _. refl,
+)
 
 -- ---- while the same arrives after the least and after the greatest delay, the same is received
 

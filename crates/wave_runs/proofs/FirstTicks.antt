@@ -4,11 +4,11 @@ use Rattle.std.proofs.Common.{sym, ◌∙◌, ap, arith, cond, ⊎_elim}
 use Rattle.std.proofs.lemmas.Bool.{cases_lt, lt-ltb, le-ltb}
 use Rattle.std.proofs.lemmas.List.Quantifiers.{position-Some}
 use Rattle.std.proofs.lemmas.List.Sums.{position_or_len_is, fails_before_first}
-use Rattle.std.specs.Prelude.{nat_lt, IsTrue, IsFalse}
+use Rattle.std.specs.Prelude.{nat_lt, IsTrue, IsFalse, IfSome}
 use Rattle.std.specs.List.{position_or_len}
 use Rattle.history.specs.Recorded.{first_ticks}
 use Rattle.history.specs.FirstTicks.{length-first_ticks, get_or-first_ticks}
-use Rattle.wave_runs.specs.FirstTick.{first_on}
+use Rattle.wave_runs.specs.FirstTick.{first_on, IsFirstOn}
 
 module _ (u : ℕ → Bool) (n : ℕ) where
   abbrev values : List Bool
@@ -44,6 +44,16 @@ module _ (u : ℕ → Bool) (n : ℕ) where
       sym (ap found place
       ∙ ap (λ (b : Bool). cond b (Some (length values)) None)
       (le-ltb (length values) (length values) (omega arith)))
+
+  -- what is found from tick 0 on
+  pub first_is : (found : Option ℕ) → IsFirstOn u 0 n found → found ≡ first_on u n
+  first_is None off = first_nowhere (λ r lt. off r (omega arith) lt)
+  first_is (Some t) first = first_here t first.within first.on
+      (λ r lt. first.before r (omega arith) lt)
+
+  pub first_within : (found : Option ℕ) → IsFirstOn u 0 n found → IfSome found (λ t. t < n)
+  first_within None off = tt
+  first_within (Some t) first = first.within
 
   -- the first tick is below n, on, and each before is off
   pub here_first : (t : ℕ) → first_on u n ≡ Some t

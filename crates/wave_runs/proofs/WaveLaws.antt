@@ -77,30 +77,3 @@ pub rails_along : (wave along : List Tern) (level : Tern) (from end k : ℕ) →
     → HasThroughout along level from end → from ≤ k → k < end → wave_at wave k ≡ tern_rails level
 rails_along wave along level from end k same has low high =
     ap (λ (w : List Tern). wave_at w k) (sym same) ∙ rails_in along level from end k has low high
-
--- two cursors along waves of one length, and as far as it goes the wave of what is made of both
-pub record AreCombined (op : Rails → Rails → Rails) (a b xs ys wave : List Tern) : Type 0 where
-  pub firsts : xs ≡ a
-  pub seconds : ys ≡ b
-  pub short : length wave ≤ length a
-  pub values : IsWaveOf wave (length wave) (λ t. op (wave_at a t) (wave_at b t))
-
--- a stretch more, through which neither of the two changes
-pub combined_more : (op : Rails → Rails → Rails) (a b xs ys more_xs more_ys wave new : List Tern)
-    (x y z : Tern) (from end_x end_y n : ℕ) → AreCombined op a b xs ys wave → more_xs ≡ xs
-    → more_ys ≡ ys → HasThroughout xs x from end_x → HasThroughout ys y from end_y
-    → from ≡ length wave → from + n ≤ length xs → from + n ≤ end_x → from + n ≤ end_y
-    → tern_rails z ≡ op (tern_rails x) (tern_rails y) → new ≡ wave ++ replicate n z
-    → AreCombined op a b more_xs more_ys new
-combined_more op a b xs ys more_xs more_ys wave new x y z from end_x end_y n are same_xs same_ys
-    has_x has_y here room first second is more = record {
-      firsts = same_xs ∙ are.firsts;
-      seconds = same_ys ∙ are.seconds;
-      short = longer wave new z n (length a) more (omega (arith, room, here, ap length are.firsts));
-      values = ticks_more wave new z n (λ t. op (wave_at a t) (wave_at b t)) are.values more
-          (λ k low high. is
-          ∙ ap (λ (r : Rails). op r (tern_rails y))
-          (sym (rails_along a xs x from end_x k are.firsts has_x (omega arith) (omega arith)))
-          ∙ ap (op (wave_at a k))
-          (sym (rails_along b ys y from end_y k are.seconds has_y (omega arith) (omega arith))));
-    }

@@ -1,6 +1,6 @@
 -- Waves tick by tick, and as runs.
 use Rattle.std.specs.Prelude.{◌≡◌, ◌≢◌, ℕ, ◌+◌, ◌-◌, ◌<◌, ◌≤◌, List, [], ◌∷◌, length, replicate}
-use Rattle.std.specs.Prelude.{map, slice_get, get_or, Some}
+use Rattle.std.specs.Prelude.{Bool, map, slice_get, get_or, Some}
 use Rattle.std.specs.List.{flat_map}
 use Rattle.history.specs.Rails.{Rails, rails_at}
 use Rattle.tick_signal.specs.{declared.tern.Tern.Tern, Terns.tern_rails}
@@ -70,3 +70,14 @@ pub record IsSameUntil (value : ℕ → Rails) (t last end : ℕ) : Type 0 where
 pub record ArrivesAlike {A : Type 0} (u : ℕ → A) (delay t end : ℕ) : Type 0 where
   pub shut : t < delay → end ≤ delay
   pub passes : delay ≤ t → (r : ℕ) → t ≤ r + delay → r + delay < end → u r ≡ u (t - delay)
+
+-- ---- what is said of any value by its rails
+
+-- a test of values tells this of their rails
+abbrev pub Tells : (Tern → Bool → Type 0) → (Rails → Bool) → Type 0
+Tells answers rail = (x : Tern) (on : Bool) → answers x on → on ≡ rail (tern_rails x)
+
+-- an operation on values does this with their rails
+abbrev pub Combines : (Tern → Tern → Tern → Type 0) → (Rails → Rails → Rails) → Type 0
+Combines answers op =
+    (x y z : Tern) → answers x y z → tern_rails z ≡ op (tern_rails x) (tern_rails y)

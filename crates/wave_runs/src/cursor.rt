@@ -46,7 +46,8 @@ impl<'a> Cursor<'a> {
 
     /// Another cursor at the same run.
     pub fn copy(&self) -> Cursor<'a>
-        ensures { result ≡ self.now }
+        ensures same { result ≡ self.now }
+        ensures limited { length result ≤ 4000 }
     {
         Cursor {
             stretches: self.stretches,

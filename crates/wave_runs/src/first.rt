@@ -1,27 +1,22 @@
 //! The first tick at which a wave is on.
 #![tactic(auto)]
 
-ghost use Rattle.std.specs.Prelude.{◌≡◌, ◌<◌, IfSome, length};
-ghost use Rattle.wave_runs.specs.{FirstTick.first_on, Waves.wave_at};
+ghost use Rattle.std.specs.Prelude.{◌≡◌, ◌<◌, ◌≤◌, Bool, IfSome, length};
+ghost use Rattle.history.specs.Rails.{Rails};
+ghost use Rattle.tick_signal.specs.declared.tern.Tern.{Tern};
+ghost use Rattle.wave_runs.specs.FirstTick.{first_on, IsFirstOn};
+ghost use Rattle.wave_runs.specs.Waves.{wave_at, Tells};
 
+use crate::cursor::Cursor;
 use crate::runs::Runs;
-use tick_signal::Signal;
+use tick_signal::{Signal, Tern};
 
 /// The first tick at which the wave must be on.
 pub fn first_must(wave: &Runs) -> Option<u32>
     ensures first { result ≡ first_on (λ t. (wave_at wave.now t).must) (length wave.now) }
     ensures within { IfSome result (λ t. t < length wave.now) }
 {
-    let mut cursor = wave.cursor();
-    let mut t = 0;
-    'stretches: while t < wave.len() {
-        let run = cursor.stretch(t);
-        if run.level.must(0) {
-            return Some(t);
-        }
-        t = run.end;
-    }
-    None
+    first_from(wave.cursor(), 0, wave.len(), |level| level.must(0))
 }
 
 /// The first tick at which the wave may be on.
@@ -29,11 +24,22 @@ pub fn first_may(wave: &Runs) -> Option<u32>
     ensures first { result ≡ first_on (λ t. (wave_at wave.now t).may) (length wave.now) }
     ensures within { IfSome result (λ t. t < length wave.now) }
 {
-    let mut cursor = wave.cursor();
-    let mut t = 0;
-    'stretches: while t < wave.len() {
-        let run = cursor.stretch(t);
-        if run.level.may(0) {
+    first_from(wave.cursor(), 0, wave.len(), |level| level.may(0))
+}
+
+/// The first tick from that one on before the end at which the value is one of these.
+pub(crate) fn first_from<F>(mut wave: Cursor<'_>, from: u32, end: u32, is: F) -> Option<u32>
+where
+    F: Fn(Tern) -> bool,
+    requires known { end ≤ length wave }
+    requires callable { (level : Tern) → F.pre is level }
+    ensures { (rail : Rails → Bool) → Tells (F.post is) rail →
+        IsFirstOn (λ t. rail (wave_at wave.entry t)) from end result }
+{
+    let mut t = from;
+    'stretches: while t < end {
+        let run = wave.stretch(t);
+        if is(run.level) {
             return Some(t);
         }
         t = run.end;

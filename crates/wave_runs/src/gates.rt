@@ -2,13 +2,14 @@
 #![tactic(auto)]
 
 ghost use Rattle.std.specs.Prelude.{◌≡◌, length, IfOk};
-ghost use Rattle.history.specs.Rails.{rails_not, rails_and, rails_or};
-ghost use Rattle.wave_runs.specs.Waves.{wave_at, IsWaveOf};
+ghost use Rattle.history.specs.Rails.{Rails, rails_not, rails_and, rails_or};
+ghost use Rattle.tick_signal.specs.declared.tern.Tern.{Tern};
+ghost use Rattle.wave_runs.specs.Waves.{wave_at, IsWaveOf, Combines};
 
 use crate::runs::Runs;
 use line_model::Memory;
 use std::alloc::Global;
-use tick_signal::Signal;
+use tick_signal::{Signal, Tern};
 
 /// The denial of a wave, tick by tick.
 pub fn not(alloc: Global, a: &Runs) -> Result<Runs, Memory>
@@ -31,16 +32,7 @@ pub fn and(alloc: Global, a: &Runs, b: &Runs) -> Result<Runs, Memory>
     ensures { IfOk result (λ wave.
         IsWaveOf wave (length a.now) (λ t. rails_and (wave_at a.now t) (wave_at b.now t))) }
 {
-    let mut wave = Runs::new(alloc);
-    let mut firsts = a.cursor();
-    let mut seconds = b.cursor();
-    'stretches: while wave.len() < a.len() {
-        let t = wave.len();
-        let first = firsts.stretch(t);
-        let second = seconds.stretch(t);
-        wave.push(first.level.and(second.level), first.end.min(second.end) - t)?;
-    }
-    Ok(wave)
+    combined(alloc, a, b, |x, y| x.and(y))
 }
 
 /// The disjunction of two waves of the same length, tick by tick.
@@ -49,6 +41,18 @@ pub fn or(alloc: Global, a: &Runs, b: &Runs) -> Result<Runs, Memory>
     ensures { IfOk result (λ wave.
         IsWaveOf wave (length a.now) (λ t. rails_or (wave_at a.now t) (wave_at b.now t))) }
 {
+    combined(alloc, a, b, |x, y| x.or(y))
+}
+
+// An operation on the values of two waves of the same length, tick by tick.
+fn combined<F>(alloc: Global, a: &Runs, b: &Runs, op: F) -> Result<Runs, Memory>
+where
+    F: Fn(Tern, Tern) -> Tern,
+    requires long { length b.now ≡ length a.now }
+    requires callable { (x y : Tern) → F.pre op x y }
+    ensures { (rails : Rails → Rails → Rails) → Combines (F.post op) rails → IfOk result (λ wave.
+        IsWaveOf wave (length a.now) (λ t. rails (wave_at a.now t) (wave_at b.now t))) }
+{
     let mut wave = Runs::new(alloc);
     let mut firsts = a.cursor();
     let mut seconds = b.cursor();
@@ -56,7 +60,8 @@ pub fn or(alloc: Global, a: &Runs, b: &Runs) -> Result<Runs, Memory>
         let t = wave.len();
         let first = firsts.stretch(t);
         let second = seconds.stretch(t);
-        wave.push(first.level.or(second.level), first.end.min(second.end) - t)?;
+        let level = op(first.level, second.level);
+        wave.push(level, first.end.min(second.end) - t)?;
     }
     Ok(wave)
 }

@@ -7,6 +7,7 @@ ghost use Rattle.tick_signal.specs.{declared.tern.Tern.Tern, Spans.ends_of, Tern
 ghost use Rattle.wave_runs.specs.Waves.{wave_at, IsWaveOf, IsSameUntil, ArrivesAlike};
 
 use crate::cursor::Cursor;
+use crate::first::first_from;
 use crate::runs::Runs;
 use history::delay_laws::{delays_are_their_facts, delays_read_earlier_ticks, delays_stay_sound};
 use line_model::Memory;
@@ -129,19 +130,8 @@ fn must_come(key: &Cursor<'_>, least: u32, greatest: u32, t: u32) -> bool
     ensures { IsTrue result
         ↔ AllCome (λ r. (wave_at key.now r).must) (ends_of least greatest) t }
 {
-    if t < greatest {
-        return false;
-    }
-    let mut keys = key.copy();
-    let mut k = t - greatest;
-    'stretches: while k <= t - least {
-        let input = keys.stretch(k);
-        if !input.level.must(0) {
-            return false;
-        }
-        k = input.end;
-    }
-    true
+    let keys = key.copy();
+    t >= greatest && first_from(keys, t - greatest, t - least + 1, |level| !level.must(0)).is_none()
 }
 
 // Whether the key may have been on at some delay.
@@ -151,17 +141,6 @@ fn may_come(key: &Cursor<'_>, least: u32, greatest: u32, t: u32) -> bool
     ensures { IsTrue result
         ↔ SomeComes (λ r. (wave_at key.now r).may) (ends_of least greatest) t }
 {
-    if t < least {
-        return false;
-    }
-    let mut keys = key.copy();
-    let mut k = t.saturating_sub(greatest);
-    'stretches: while k <= t - least {
-        let input = keys.stretch(k);
-        if input.level.may(0) {
-            return true;
-        }
-        k = input.end;
-    }
-    false
+    let from = t.saturating_sub(greatest);
+    t >= least && first_from(key.copy(), from, t - least + 1, |level| level.may(0)).is_some()
 }

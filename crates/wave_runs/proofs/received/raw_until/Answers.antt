@@ -4,9 +4,10 @@ use Rattle.std.proofs.lemmas.Bool.{cases_lt}
 use denote.Enum.Bare.{same_true, same_false}
 use Rattle.history.specs.Rails.{Rails, rails_delayed}
 use Rattle.tick_signal.specs.contracts.tern.Tern.{the_type}
-use Rattle.tick_signal.specs.{declared.tern.Tern.Tern, Terns.tern_rails}
+use Rattle.tick_signal.specs.Terns.{tern_rails, tern_once}
+use Rattle.tick_signal.specs.declared.tern.Tern.{Tern}
 use Rattle.wave_runs.specs.Waves.{wave_at}
-use Rattle.wave_runs.proofs.{WaveLaws.wave_at-front, DelayLaws.tern_once}
+use Rattle.wave_runs.proofs.{WaveLaws.wave_at-front}
 use Rattle.wave_runs.proofs.received.raw_until.Goals as goal
 
 pub received-requires-clause-known : goal.received-requires-clause-known
