@@ -3,6 +3,7 @@
 use crate::{print_line, print_line_us, read_line};
 use line_model::Line;
 use std::alloc::Global;
+use std::process::Abort;
 use std::test::Fail;
 
 // Two ends of a permissive overreaching scheme.
@@ -44,158 +45,146 @@ fn answer(alloc: Global, bytes: &[u8]) -> Result<String, Fail> {
     }
 }
 
+// A key, the value that stands in place of its first one, and what is answered.
+const VALUES: &[(&str, &str, &str)] = &[
+    ("version", "1", "taken"),
+    ("version", "0\na = 1", "Range version"),
+    ("version", "3", "Range version"),
+    ("version", "\"1\"", "Kind version"),
+    ("tick_us", "0", "Range tick_us"),
+    ("tick_us", "1000000", "taken"),
+    ("tick_us", "1000001", "Range tick_us"),
+    ("tick_us", "-1", "Range tick_us"),
+    ("horizon", "120.0", "Kind horizon"),
+    ("horizon", "4000", "taken"),
+    ("horizon", "4001", "Range horizon"),
+    ("horizon", "", "NotToml"),
+    ("scheme", "\"pilot\"", "Range scheme"),
+    ("scheme", "1", "Kind scheme"),
+    ("scheme", "\"dcb\"", "Missing terminal[0].block"),
+    ("scheme", "\"dtt\"", "Missing terminal[0].transfer"),
+    ("scheme", "\"dcub\"", "Missing channel[0].unblock"),
+    ("scheme", "\"putt\"", "taken"),
+    ("name", "1", "Kind terminal[0].name"),
+    ("name", "\"\"", "BadName terminal[0].name"),
+    ("name", "\"A 1\"", "BadName terminal[0].name"),
+    ("name", "\"A2345678901234567\"", "BadName terminal[0].name"),
+    ("delay", "[0, 5]", "Range channel[0].delay"),
+    ("delay", "[3]", "Kind channel[0].delay"),
+    ("delay", "3\nunblock = {}", "Unknown channel[0].unblock"),
+    ("from", "\"C\"", "BadName channel[0].from"),
+    ("to", "\"A\"", "BadName channel[0].to"),
+    ("to", "\"C\"", "BadName channel[0].to"),
+];
+
+// A text, what stands in place of its first one, and what is answered.
+const TEXTS: &[(&str, &str, &str)] = &[
+    ("version = 1\n", "", "Missing version"),
+    ("tick_us = 1000\n", "", "Missing tick_us"),
+    (
+        "tick_us = 1000\nhorizon = 120",
+        "tick_us = 0\nhorizon = 0",
+        "Range tick_us",
+    ),
+    ("name = \"A\"\n", "", "Missing terminal[0].name"),
+    ("name = \"B\"", "name = \"A\"", "Twice terminal[1].name"),
+    (
+        "pickup = [2, 4], dropout = [1, 3]",
+        "pickup = 2",
+        "Missing terminal[0].z2.dropout",
+    ),
+    ("[2, 4]", "[5, 4]", "Range terminal[0].z2.pickup"),
+    ("[2, 4]", "[2, 4000]", "taken"),
+    ("[2, 4]", "[2, 4001]", "Range terminal[0].z2.pickup"),
+    ("[2, 4]", "[-1, 4]", "Range terminal[0].z2.pickup"),
+    ("[2, 4]", "[2, 3, 4]", "Kind terminal[0].z2.pickup"),
+    ("[2, 4]", "[2, \"4\"]", "Kind terminal[0].z2.pickup"),
+    (
+        "from = \"B\"\nto = \"A\"",
+        "from = \"A\"\nto = \"B\"",
+        "Twice channel[1]",
+    ),
+    (
+        "\n[[channel]]\nfrom = \"B\"\nto = \"A\"\ndelay = [3, 5]\n",
+        "",
+        "Channels B>A",
+    ),
+];
+
+// What stands behind the version, and what is answered.
+const AT_THE_TOP: &[(&str, &str)] = &[
+    ("b = 1\na = 1", "Unknown a"),
+    ("zone_1_trip = true", "Unknown zone_1_trip"),
+    ("\"\" = 1", "Unknown "),
+    ("\"\u{e9} \" = 1", "Unknown ???"),
+    ("zone1_trip = 1", "Kind zone1_trip"),
+    ("version = 1", "NotToml"),
+];
+
+// What stands behind the name of the first terminal, and what is answered.
+const AT_A: &[(&str, &str)] = &[
+    (
+        "block = { carry = 0, coord = 5 }",
+        "Unknown terminal[0].block",
+    ),
+    ("\"\" = 5", "Unknown terminal[0]."),
+    ("z1 = 5", "Kind terminal[0].z1"),
+    (
+        "z1 = { pickup = 1, drop = 2 }",
+        "Unknown terminal[0].z1.drop",
+    ),
+    (
+        "echo = { block = 1, pulse = 1 }",
+        "Missing terminal[0].echo.pickup",
+    ),
+    ("reversal = { pickup = 1, dropout = 1 }", "taken"),
+];
+
 #[test]
-fn changed_files(rt: HostRuntime) -> Result<(), Fail> {
+fn changed_values(rt: HostRuntime) -> Result<(), Fail> {
     let alloc = rt.alloc();
-    let rows = [
-        ("version = 1", "version = 1", "taken"),
-        ("version = 1\n", "", "Missing version"),
-        ("version = 1", "version = 0\na = 1", "Range version"),
-        ("version = 1", "version = 3", "Range version"),
-        ("version = 1", "version = \"1\"", "Kind version"),
-        ("version = 1", "version = 1\nb = 1\na = 1", "Unknown a"),
-        (
-            "version = 1",
-            "version = 1\nzone_1_trip = true",
-            "Unknown zone_1_trip",
-        ),
-        ("version = 1", "version = 1\n\"\" = 1", "Unknown "),
-        ("version = 1", "version = 1\n\"\u{e9} \" = 1", "Unknown ???"),
-        (
-            "version = 1",
-            "version = 1\nzone1_trip = 1",
-            "Kind zone1_trip",
-        ),
-        ("version = 1", "version = 1\nversion = 1", "NotToml"),
-        ("tick_us = 1000\n", "", "Missing tick_us"),
-        ("tick_us = 1000", "tick_us = 0", "Range tick_us"),
-        ("tick_us = 1000", "tick_us = 1000000", "taken"),
-        ("tick_us = 1000", "tick_us = 1000001", "Range tick_us"),
-        ("tick_us = 1000", "tick_us = -1", "Range tick_us"),
-        ("horizon = 120", "horizon = 120.0", "Kind horizon"),
-        ("horizon = 120", "horizon = 4000", "taken"),
-        ("horizon = 120", "horizon = 4001", "Range horizon"),
-        ("horizon = 120", "horizon = ", "NotToml"),
-        (
-            "tick_us = 1000\nhorizon = 120",
-            "tick_us = 0\nhorizon = 0",
-            "Range tick_us",
-        ),
-        ("scheme = \"pott\"", "scheme = \"pilot\"", "Range scheme"),
-        ("scheme = \"pott\"", "scheme = 1", "Kind scheme"),
-        (
-            "scheme = \"pott\"",
-            "scheme = \"dcb\"",
-            "Missing terminal[0].block",
-        ),
-        (
-            "scheme = \"pott\"",
-            "scheme = \"dtt\"",
-            "Missing terminal[0].transfer",
-        ),
-        (
-            "scheme = \"pott\"",
-            "scheme = \"dcub\"",
-            "Missing channel[0].unblock",
-        ),
-        ("scheme = \"pott\"", "scheme = \"putt\"", "taken"),
-        ("name = \"A\"\n", "", "Missing terminal[0].name"),
-        ("name = \"A\"", "name = 1", "Kind terminal[0].name"),
-        ("name = \"A\"", "name = \"\"", "BadName terminal[0].name"),
-        ("name = \"A\"", "name = \"A 1\"", "BadName terminal[0].name"),
-        (
-            "name = \"A\"",
-            "name = \"A2345678901234567\"",
-            "BadName terminal[0].name",
-        ),
-        ("name = \"B\"", "name = \"A\"", "Twice terminal[1].name"),
-        (
-            "name = \"A\"",
-            "name = \"A\"\nblock = { carry = 0, coord = 5 }",
-            "Unknown terminal[0].block",
-        ),
-        (
-            "name = \"A\"",
-            "name = \"A\"\n\"\" = 5",
-            "Unknown terminal[0].",
-        ),
-        (
-            "name = \"A\"",
-            "name = \"A\"\nz1 = 5",
-            "Kind terminal[0].z1",
-        ),
-        (
-            "name = \"A\"",
-            "name = \"A\"\nz1 = { pickup = 1, drop = 2 }",
-            "Unknown terminal[0].z1.drop",
-        ),
-        (
-            "name = \"A\"",
-            "name = \"A\"\necho = { block = 1, pulse = 1 }",
-            "Missing terminal[0].echo.pickup",
-        ),
-        (
-            "name = \"A\"",
-            "name = \"A\"\nreversal = { pickup = 1, dropout = 1 }",
-            "taken",
-        ),
-        (
-            "pickup = [2, 4], dropout = [1, 3]",
-            "pickup = 2",
-            "Missing terminal[0].z2.dropout",
-        ),
-        (
-            "pickup = [2, 4]",
-            "pickup = [5, 4]",
-            "Range terminal[0].z2.pickup",
-        ),
-        ("pickup = [2, 4]", "pickup = [2, 4000]", "taken"),
-        (
-            "pickup = [2, 4]",
-            "pickup = [2, 4001]",
-            "Range terminal[0].z2.pickup",
-        ),
-        (
-            "pickup = [2, 4]",
-            "pickup = [-1, 4]",
-            "Range terminal[0].z2.pickup",
-        ),
-        (
-            "pickup = [2, 4]",
-            "pickup = [2, 3, 4]",
-            "Kind terminal[0].z2.pickup",
-        ),
-        (
-            "pickup = [2, 4]",
-            "pickup = [2, \"4\"]",
-            "Kind terminal[0].z2.pickup",
-        ),
-        ("delay = [3, 5]", "delay = [0, 5]", "Range channel[0].delay"),
-        ("delay = [3, 5]", "delay = [3]", "Kind channel[0].delay"),
-        (
-            "delay = [3, 5]",
-            "delay = 3\nunblock = {}",
-            "Unknown channel[0].unblock",
-        ),
-        ("from = \"A\"", "from = \"C\"", "BadName channel[0].from"),
-        ("to = \"B\"", "to = \"A\"", "BadName channel[0].to"),
-        ("to = \"B\"", "to = \"C\"", "BadName channel[0].to"),
-        (
-            "from = \"B\"\nto = \"A\"",
-            "from = \"A\"\nto = \"B\"",
-            "Twice channel[1]",
-        ),
-        (
-            "\n[[channel]]\nfrom = \"B\"\nto = \"A\"\ndelay = [3, 5]\n",
-            "",
-            "Channels B>A",
-        ),
-    ];
-    for (old, new, want) in rows {
-        let file = changed(alloc, POTT, old, new)?;
-        let got = answer(alloc, file.as_bytes())?;
-        assert!(rt; got.as_str() == want, "{new}: {got}");
+    for (key, value, want) in VALUES {
+        let start = format!(in alloc; "{key} = ")?;
+        let (before, rest) = POTT.split_once(start.as_str()).ok_or("no such key")?;
+        let (_was, after) = rest.split_once('\n').ok_or("no end of the line")?;
+        let file = format!(in alloc; "{before}{start}{value}\n{after}")?;
+        assert_answer(&rt, alloc, file.as_str(), want)?;
     }
+    Ok(())
+}
+
+#[test]
+fn changed_texts(rt: HostRuntime) -> Result<(), Fail> {
+    for (old, new, want) in TEXTS {
+        let file = changed(rt.alloc(), POTT, old, new)?;
+        assert_answer(&rt, rt.alloc(), file.as_str(), want)?;
+    }
+    Ok(())
+}
+
+#[test]
+fn added_keys(rt: HostRuntime) -> Result<(), Fail> {
+    assert_added(&rt, rt.alloc(), "version = 1\n", AT_THE_TOP)?;
+    assert_added(&rt, rt.alloc(), "name = \"A\"\n", AT_A)
+}
+
+fn assert_added(
+    rt: &impl Abort,
+    alloc: Global,
+    above: &str,
+    rows: &[(&str, &str)],
+) -> Result<(), Fail> {
+    for (lines, want) in rows {
+        let new = format!(in alloc; "{above}{lines}\n")?;
+        let file = changed(alloc, POTT, above, new.as_str())?;
+        assert_answer(rt, alloc, file.as_str(), want)?;
+    }
+    Ok(())
+}
+
+fn assert_answer(rt: &impl Abort, alloc: Global, file: &str, want: &str) -> Result<(), Fail> {
+    let got = answer(alloc, file.as_bytes())?;
+    assert!(rt; got.as_str() == want, "{got} and not {want}: {file}");
     Ok(())
 }
 
@@ -213,8 +202,7 @@ fn cut_files(rt: HostRuntime) -> Result<(), Fail> {
     ];
     for (place, want) in rows {
         let (before, _after) = POTT.split_once(place).ok_or("the place is not there")?;
-        let got = answer(alloc, before.as_bytes())?;
-        assert!(rt; got.as_str() == want, "{place}: {got}");
+        assert_answer(&rt, alloc, before, want)?;
     }
     let mut bytes = Vec::from_slice(alloc, POTT.as_bytes())?;
     bytes.push(0xff)?;
@@ -231,8 +219,7 @@ fn long_unknown_key(rt: HostRuntime) -> Result<(), Fail> {
     let file = changed(alloc, POTT, "name = \"A\"", new.as_str())?;
     let want =
         "Unknown terminal[0].echo.k234567890123456789012345678901234567890123456789012345678901234";
-    assert!(rt; answer(alloc, file.as_bytes())?.as_str() == want);
-    Ok(())
+    assert_answer(&rt, alloc, file.as_str(), want)
 }
 
 // The interval of a parameter by its number.
@@ -271,10 +258,9 @@ fn microseconds(rt: HostRuntime) -> Result<(), Fail> {
         assert!(rt; interval(&line, 16) == delayed, "{delay}");
     }
     let early = in_microseconds(alloc, "pickup = 1500", "delay = [999, 4000]")?;
-    assert!(rt; answer(alloc, early.as_bytes())?.as_str() == "Range channel[0].delay");
+    assert_answer(&rt, alloc, early.as_str(), "Range channel[0].delay")?;
     let late = in_microseconds(alloc, "pickup = 4000001", "delay = 1000")?;
-    assert!(rt; answer(alloc, late.as_bytes())?.as_str() == "Range terminal[0].z2.pickup");
-    Ok(())
+    assert_answer(&rt, alloc, late.as_str(), "Range terminal[0].z2.pickup")
 }
 
 // The second terminal's and both channels' tables, where each table has the same times.
