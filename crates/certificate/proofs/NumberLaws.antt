@@ -12,7 +12,8 @@ use Rattle.std.specs.List.{All, list_all, position_or_len}
 use Rattle.relay_base.specs.Number.{is_digit, number_of}
 use Rattle.relay_base.specs.DecimalLaws.{are_digits, number_of-decimal}
 use Rattle.certificate.specs.Grammar.{spaced, numbers_text}
-use Rattle.certificate.specs.Numbers.{is_space, BeginsNumber}
+use Rattle.certificate.specs.Numbers.{BeginsNumber}
+use Rattle.wave_runs.specs.Text.{is_space}
 use Rattle.text_lines.specs.LineLaws.{both_true}
 
 -- ---- digits

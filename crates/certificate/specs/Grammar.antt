@@ -49,11 +49,13 @@ end_text = codes "end"
 abbrev pub terminal_names : Line → List (List ℕ)
 terminal_names line = map (λ terminal. terminal.name) line.terminals.items
 
--- a script's lines: its own, a key line for each terminal, and a verdict line for each
+-- a key line for each terminal, and then a verdict line for each
+abbrev pub claim_places : Line → List Place
+claim_places line = map key_of (terminal_names line) ++ map verdict_of (terminal_names line)
+
+-- a script's lines: its own, and those of its claims
 abbrev pub part_places : Line → Script → List Place
-part_places line script =
-    fixed (script_text script.name)
-    ∷ (map key_of (terminal_names line) ++ map verdict_of (terminal_names line))
+part_places line script = fixed (script_text script.name) ∷ claim_places line
 
 -- the head, the lines of each script in order, and the end
 abbrev pub certificate_places : Line → List Script → List Place
@@ -146,9 +148,13 @@ grammar_of line = record {
 
 -- ---- a whole certificate
 
+-- what the lines of its claims say
+abbrev pub claims_said : Claims → List Said
+claims_said claims = map says_key claims.keys ++ map says_verdict claims.verdicts
+
 -- what its lines say of a script, one after another
 abbrev pub part_said : Claims → List Said
-part_said claims = says_nothing ∷ (map says_key claims.keys ++ map says_verdict claims.verdicts)
+part_said claims = says_nothing ∷ claims_said claims
 
 -- what all its lines say
 abbrev pub certificate_said : List Claims → List Said

@@ -17,7 +17,7 @@ pub use laws::{
     claims_have_one_text, printed_claims_are_a_certificate,
 };
 pub use numbers::read_numbers;
-pub use print::{push_numbers, push_part};
+pub use print::{push_named, push_numbers, push_part, push_start};
 pub use read::{name_at, read_certificate};
 
 #[cfg(test)]

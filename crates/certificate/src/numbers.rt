@@ -1,16 +1,16 @@
 //! The numbers of a `no`, read.
 
-ghost use Rattle.std.specs.Prelude.{◌≡◌, ◌≢◌, ◌≤◌, ◌<◌, ◌^◌, ◌++◌, ℕ, List, Some, length, take};
+ghost use Rattle.std.specs.Prelude.{◌≡◌, ◌≢◌, ◌<◌, ◌^◌, ◌++◌, ℕ, List, Some, length, take};
 ghost use Rattle.std.specs.Prelude.{drop, IfOk, MatchOption};
-ghost use Rattle.std.specs.List.{All, position_or_len};
+ghost use Rattle.std.specs.List.{All};
 ghost use Rattle.certificate.specs.Grammar.{AreNumbers, numbers_text, spaced};
-ghost use Rattle.certificate.specs.Numbers.{is_space, BeginsNumber};
+ghost use Rattle.certificate.specs.Numbers.{BeginsNumber};
 
 use crate::print::push_numbers;
 use line_model::Memory;
 use relay_base::number;
 use std::alloc::Global;
-use text_lines::{after, is};
+use text_lines::{after, find_byte, is};
 
 /// So many numbers, each after one space, if that is the text.
 pub fn read_numbers(alloc: Global, text: &[u8], count: usize) -> Result<Option<Vec<u32>>, Memory>
@@ -63,20 +63,7 @@ fn first_number(text: &[u8]) -> Option<(u32, &[u8])>
         (read.0 ≡ n) × (read.1.now ≡ later)) }
 {
     let item = after(text, b" ")?;
-    let end = item_end(item);
+    let end = find_byte(item, b' ');
     let value = number(&item[..end])?;
     Some((value, &item[end..]))
-}
-
-// Where the first item ends: at the first space, or with the text.
-fn item_end(text: &[u8]) -> usize
-    ensures place { result ≡ position_or_len is_space text.now }
-    ensures inside { result ≤ length text.now }
-{
-    for (i, byte) in text.iter().enumerate() {
-        if *byte == b' ' {
-            return i;
-        }
-    }
-    text.len()
 }

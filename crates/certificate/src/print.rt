@@ -1,12 +1,12 @@
 //! A script's part of a certificate, printed.
 
-ghost use Rattle.std.specs.Prelude.{◌≡◌, ◌<◌, ◌++◌, [], ◌∷◌, length, map, get_or, OnOk};
+ghost use Rattle.std.specs.Prelude.{◌≡◌, ◌<◌, ◌++◌, ℕ, List, [], length, map, get_or, OnOk};
 ghost use Rattle.line_model.specs.Parameters.{terminal_count};
-ghost use Rattle.certificate.specs.Grammar.{spaced, numbers_text, verdict_words, verdict_in};
-ghost use Rattle.certificate.specs.Grammar.{script_text, key_text, verdict_text, terminal_names};
-ghost use Rattle.certificate.specs.Grammar.{key_of, verdict_of, says_key, says_verdict};
-ghost use Rattle.certificate.specs.Text.{fed, lines_text, part_text};
 ghost use Rattle.text_lines.specs.Named.{named};
+ghost use Rattle.certificate.specs.Grammar.{spaced, numbers_text, verdict_words, verdict_in};
+ghost use Rattle.certificate.specs.Grammar.{terminal_names, Place, Said, key_of, verdict_of};
+ghost use Rattle.certificate.specs.Grammar.{says_key, says_verdict};
+ghost use Rattle.certificate.specs.Text.{fed, line_text, lines_text, part_text};
 
 use crate::claim::Claim;
 use crate::read::name_at;
@@ -49,8 +49,8 @@ fn push_words(text: &mut Vec<u8>, claim: &Claim) -> Result<(), Memory>
     Ok(())
 }
 
-// Appends the start of a line that is about a terminal.
-fn push_start(text: &mut Vec<u8>, word: &[u8], name: Name) -> Result<(), Memory>
+/// Appends the start of a line that goes on after a name.
+pub fn push_start(text: &mut Vec<u8>, word: &[u8], name: Name) -> Result<(), Memory>
     ensures { OnOk result (text.new.items ≡ text.old.items ++ named word.now name []) }
 {
     text.extend_from_slice(word)?;
@@ -60,36 +60,53 @@ fn push_start(text: &mut Vec<u8>, word: &[u8], name: Name) -> Result<(), Memory>
     Ok(())
 }
 
-// Appends the line of a script.
-fn push_script_line(text: &mut Vec<u8>, name: Name) -> Result<(), Memory>
-    ensures { OnOk result (text.new.items ≡ text.old.items ++ fed (script_text name)) }
+/// Appends the line of this start and a name.
+pub fn push_named(text: &mut Vec<u8>, start: &[u8], name: Name) -> Result<(), Memory>
+    ensures { OnOk result (text.new.items ≡ text.old.items ++ fed (start.now ++ name)) }
 {
-    text.extend_from_slice(b"script ")?;
+    text.extend_from_slice(start)?;
     text.extend_from_slice(name.bytes())?;
     text.extend_from_slice(b"\n")?;
     Ok(())
 }
 
-// Appends the line of a terminal's key.
-fn push_key_line(alloc: Global, text: &mut Vec<u8>, name: Name, wave: &Runs) -> Result<(), Memory>
-    ensures { OnOk result (text.new.items ≡ text.old.items ++ fed (key_text name wave.now)) }
-{
-    let runs = print_runs(alloc, wave)?;
-    push_start(text, b"key", name)?;
-    text.extend_from_slice(&runs)?;
-    text.extend_from_slice(b"\n")?;
-    Ok(())
+// What is said of a terminal in one line.
+trait TerminalLine {
+    ghost place: { List ℕ → Place };
+
+    ghost says: { Self → Said };
+
+    // Appends the line of the terminal with this name.
+    fn push_line(&self, alloc: Global, text: &mut Vec<u8>, name: Name) -> Result<(), Memory>
+        ensures { OnOk result (text.new.items
+            ≡ text.old.items ++ fed (line_text (place name) (says self.now))) };
 }
 
-// Appends the line of a terminal's verdict.
-fn push_verdict_line(text: &mut Vec<u8>, name: Name, claim: &Claim) -> Result<(), Memory>
-    ensures { OnOk result (text.new.items
-        ≡ text.old.items ++ fed (verdict_text name (verdict_in claim.now))) }
-{
-    push_start(text, b"verdict", name)?;
-    push_words(text, claim)?;
-    text.extend_from_slice(b"\n")?;
-    Ok(())
+impl TerminalLine for Runs {
+    ghost place = { key_of };
+
+    ghost says = { says_key };
+
+    fn push_line(&self, alloc: Global, text: &mut Vec<u8>, name: Name) -> Result<(), Memory> {
+        let runs = print_runs(alloc, self)?;
+        push_start(text, b"key", name)?;
+        text.extend_from_slice(&runs)?;
+        text.extend_from_slice(b"\n")?;
+        Ok(())
+    }
+}
+
+impl TerminalLine for Claim {
+    ghost place = { verdict_of };
+
+    ghost says = { λ claim. says_verdict (verdict_in claim) };
+
+    fn push_line(&self, _alloc: Global, text: &mut Vec<u8>, name: Name) -> Result<(), Memory> {
+        push_start(text, b"verdict", name)?;
+        push_words(text, self)?;
+        text.extend_from_slice(b"\n")?;
+        Ok(())
+    }
 }
 
 /// Appends a script's part of a certificate: its line, and a key line and a verdict line for each
@@ -108,32 +125,24 @@ pub fn push_part(
         ++ part_text line.now script.now
         (record { keys = keys.now; verdicts = map verdict_in verdicts.now })) }
 {
-    push_script_line(text, script.name)?;
-    push_keys(alloc, text, line, keys)?;
-    push_verdicts(text, line, verdicts)
+    push_named(text, b"script ", script.name)?;
+    push_lines(alloc, text, line, keys)?;
+    push_lines(alloc, text, line, verdicts)
 }
 
-// Appends the key lines, terminals in line order.
-fn push_keys(alloc: Global, text: &mut Vec<u8>, line: &Line, keys: &[Runs]) -> Result<(), Memory>
-    requires { length keys.now ≡ terminal_count line.now }
+// Appends a line for each terminal, in line order.
+fn push_lines<L: TerminalLine>(
+    alloc: Global,
+    text: &mut Vec<u8>,
+    line: &Line,
+    said: &[L],
+) -> Result<(), Memory>
+    requires { length said.now ≡ terminal_count line.now }
     ensures { OnOk result (text.new.items ≡ text.old.items
-        ++ lines_text (map key_of (terminal_names line.now)) (map says_key keys.now)) }
+        ++ lines_text (map L.place (terminal_names line.now)) (map L.says said.now)) }
 {
     for k in 0..line.terminals.len() {
-        push_key_line(alloc, text, name_at(line, k), &keys[k])?;
-    }
-    Ok(())
-}
-
-// Appends the verdict lines, terminals in line order.
-fn push_verdicts(text: &mut Vec<u8>, line: &Line, verdicts: &[Claim]) -> Result<(), Memory>
-    requires { length verdicts.now ≡ terminal_count line.now }
-    ensures { OnOk result (text.new.items ≡ text.old.items
-        ++ lines_text (map verdict_of (terminal_names line.now))
-        (map says_verdict (map verdict_in verdicts.now))) }
-{
-    for k in 0..line.terminals.len() {
-        push_verdict_line(text, name_at(line, k), &verdicts[k])?;
+        said[k].push_line(alloc, text, name_at(line, k))?;
     }
     Ok(())
 }

@@ -1,45 +1,22 @@
 //! The lines of a certificate, read one after another.
 
-ghost use Rattle.std.specs.Prelude.{◌≡◌, ◌<◌, [], ◌∷◌, List, map, get_or, IfOk, MatchOption};
-ghost use Rattle.std.specs.Prelude.{MatchResult};
-ghost use Rattle.tick_signal.specs.declared.tern.Tern.{Tern};
+ghost use Rattle.std.specs.Prelude.{◌≡◌, ◌<◌, ◌++◌, [], List, map, get_or, MatchResult, refl};
 ghost use Rattle.line_model.specs.Parameters.{terminal_count};
-ghost use Rattle.certificate.specs.Grammar.{Place, Said, key_of, verdict_of, Verdict, Claims};
-ghost use Rattle.certificate.specs.Grammar.{says_key, says_verdict, IsKey, IsVerdict, verdict_in};
-ghost use Rattle.certificate.specs.Grammar.{grammar_of, terminal_names, claims_in, part_places};
-ghost use Rattle.certificate.specs.Grammar.{part_said, HasOneEach, head_text, end_text};
-ghost use Rattle.certificate.specs.Grammar.{IsCertificate, IsCertificateFault};
+ghost use Rattle.text_lines.specs.Grammar.{Reads, IsFault};
+ghost use Rattle.certificate.specs.Grammar.{Place, Said, key_of, verdict_of, says_key, says_verdict};
+ghost use Rattle.certificate.specs.Grammar.{Claims, HasOneEach, verdict_in, claims_in, grammar_of};
+ghost use Rattle.certificate.specs.Grammar.{terminal_names, claim_places, claims_said, part_places};
+ghost use Rattle.certificate.specs.Grammar.{part_said, head_text, end_text, IsCertificate};
+ghost use Rattle.certificate.specs.Grammar.{IsCertificateFault};
 
 use crate::claim::{Claim, ScriptClaims};
 use crate::words::read_words;
 use line_model::{Line, Memory, Name, Script, Terminal};
 use std::alloc::Global;
-use text_lines::{LineCursor, PartReader, TextFault, TextReader, after_name, read_each, read_text};
+use text_lines::{
+    LineCursor, LineReader, PartReader, TextFault, TextReader, after_name, read_lines, read_text,
+};
 use wave_runs::{Runs, read_runs};
-
-// The key wave of this line.
-fn key_in(alloc: Global, line: &Line, name: Name, bytes: &[u8]) -> Result<Option<Runs>, Memory>
-    ensures { IfOk result (λ read. MatchOption read
-        ((wave : List Tern) → ¬ (IsKey line.now name (says_key wave) bytes.now))
-        (λ wave. IsKey line.now name (says_key wave) bytes.now)) }
-{
-    match after_name(bytes, b"key", name.bytes()) {
-        Some(text) => read_runs(alloc, text, line.horizon),
-        None => Ok(None),
-    }
-}
-
-// The verdict of this line.
-fn verdict_in(alloc: Global, line: &Line, name: Name, bytes: &[u8]) -> Result<Option<Claim>, Memory>
-    ensures { IfOk result (λ read. MatchOption read
-        ((said : Verdict) → ¬ (IsVerdict line.now name (says_verdict said) bytes.now))
-        (λ claim. IsVerdict line.now name (says_verdict (verdict_in claim)) bytes.now)) }
-{
-    match after_name(bytes, b"verdict", name.bytes()) {
-        Some(words) => read_words(alloc, line, words),
-        None => Ok(None),
-    }
-}
 
 /// The name of a terminal.
 pub fn name_at(line: &Line, k: usize) -> Name
@@ -55,7 +32,7 @@ struct KeyReader<'a> {
     line: &'a Line,
 }
 
-impl<'a> PartReader for KeyReader<'a> {
+impl<'a> LineReader for KeyReader<'a> {
     type Item = Terminal;
 
     type Part = Runs;
@@ -66,31 +43,23 @@ impl<'a> PartReader for KeyReader<'a> {
 
     ghost grammar = { λ reader. grammar_of reader.line.now };
 
-    ghost places = { λ _ terminal. key_of terminal.name ∷ [] };
+    ghost place = { λ terminal. key_of terminal.name };
 
-    ghost Meaning = { List Tern };
+    ghost says = { λ wave. says_key wave };
 
-    ghost meaning = { λ wave. wave };
-
-    ghost said = { λ wave. says_key wave ∷ [] };
-
-    ghost IsWhole = { λ _ _. Unit {0} };
-
-    fn read(
+    fn read_line(
         &self,
         alloc: Global,
         terminal: &Terminal,
-        lines: &mut LineCursor<'_>,
-    ) -> Result<Runs, TextFault> {
-        let number = lines.number;
-        let Some(bytes) = lines.next_line() else {
-            return Err(TextFault::Line(number));
-        };
-        match key_in(alloc, self.line, terminal.name, bytes)? {
-            Some(wave) => Ok(wave),
-            None => Err(TextFault::Line(number)),
+        bytes: &[u8],
+    ) -> Result<Option<Runs>, Memory> {
+        match after_name(bytes, b"key", terminal.name.bytes()) {
+            Some(text) => read_runs(alloc, text, self.line.horizon),
+            None => Ok(None),
         }
     }
+
+    ghost opens_none = { λ _ _ _. refl };
 }
 
 // Reads the verdict line of a terminal.
@@ -99,7 +68,7 @@ struct VerdictReader<'a> {
     line: &'a Line,
 }
 
-impl<'a> PartReader for VerdictReader<'a> {
+impl<'a> LineReader for VerdictReader<'a> {
     type Item = Terminal;
 
     type Part = Claim;
@@ -110,35 +79,45 @@ impl<'a> PartReader for VerdictReader<'a> {
 
     ghost grammar = { λ reader. grammar_of reader.line.now };
 
-    ghost places = { λ _ terminal. verdict_of terminal.name ∷ [] };
+    ghost place = { λ terminal. verdict_of terminal.name };
 
-    ghost Meaning = { Verdict };
+    ghost says = { λ claim. says_verdict (verdict_in claim) };
 
-    ghost meaning = { verdict_in };
-
-    ghost said = { λ said. says_verdict said ∷ [] };
-
-    ghost IsWhole = { λ _ _. Unit {0} };
-
-    fn read(
+    fn read_line(
         &self,
         alloc: Global,
         terminal: &Terminal,
-        lines: &mut LineCursor<'_>,
-    ) -> Result<Claim, TextFault> {
-        let number = lines.number;
-        let Some(bytes) = lines.next_line() else {
-            return Err(TextFault::Line(number));
-        };
-        match verdict_in(alloc, self.line, terminal.name, bytes)? {
-            Some(claim) => Ok(claim),
-            None => Err(TextFault::Line(number)),
+        bytes: &[u8],
+    ) -> Result<Option<Claim>, Memory> {
+        match after_name(bytes, b"verdict", terminal.name.bytes()) {
+            Some(words) => read_words(alloc, self.line, words),
+            None => Ok(None),
         }
     }
+
+    ghost opens_none = { λ _ _ _. refl };
 }
 
-// Reads the part of a script: its own line, the key lines and the verdict lines, terminals in line
-// order.
+// Reads the key lines and then the verdict lines, terminals in line order.
+fn read_claims(
+    alloc: Global,
+    line: &Line,
+    lines: &mut LineCursor<'_>,
+) -> Result<ScriptClaims, TextFault>
+    ensures { (later : List Place) → MatchResult result
+        (λ claims. HasOneEach line.now (claims_in claims)
+        × Reads (grammar_of line.now) (claim_places line.now) (claims_said (claims_in claims)) later
+        lines.old.rest.now lines.old.number lines.new.rest.now lines.new.number)
+        (λ fault. IsFault (grammar_of line.now) (claim_places line.now ++ later)
+        lines.old.rest.now lines.old.number fault) }
+{
+    let terminals = line.terminals.as_slice();
+    let keys = read_lines(alloc, &KeyReader { line }, terminals, lines)?;
+    let verdicts = read_lines(alloc, &VerdictReader { line }, terminals, lines)?;
+    Ok(ScriptClaims { keys, verdicts })
+}
+
+// Reads the part of a script: its own line, and those of its claims.
 #[derive(Clone, Copy)]
 struct ScriptReader<'a> {
     line: &'a Line,
@@ -172,11 +151,7 @@ impl<'a> PartReader for ScriptReader<'a> {
         lines: &mut LineCursor<'_>,
     ) -> Result<ScriptClaims, TextFault> {
         lines.take_named(b"script ", script.name.bytes())?;
-        let line = self.line;
-        let terminals = line.terminals.as_slice();
-        let keys = read_each(alloc, &KeyReader { line }, terminals, lines)?;
-        let verdicts = read_each(alloc, &VerdictReader { line }, terminals, lines)?;
-        Ok(ScriptClaims { keys, verdicts })
+        read_claims(alloc, self.line, lines)
     }
 }
 

@@ -12,5 +12,5 @@ mod verdict;
 
 pub use certificate::{CERT_END, CERT_HEAD};
 pub use certification::certify;
-pub use piece::cert_piece;
+pub use piece::{cert_piece, numbers_of};
 pub use verdict::{ScriptVerdict, Verdict};

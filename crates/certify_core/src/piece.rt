@@ -61,7 +61,8 @@ fn claim_of(alloc: Global, verdict: &Verdict) -> Result<Claim, Memory>
     }
 }
 
-fn numbers_of(alloc: Global, values: &[Tick]) -> Result<Vec<u32>, Memory>
+/// The numbers of ticks.
+pub fn numbers_of(alloc: Global, values: &[Tick]) -> Result<Vec<u32>, Memory>
     ensures { IfOk result (λ numbers. numbers.items ≡ values.now) }
 {
     let mut numbers = Vec::with_capacity(alloc, values.len())?;

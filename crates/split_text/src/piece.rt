@@ -4,12 +4,12 @@ ghost use Rattle.std.specs.Prelude.{◌≡◌, ◌++◌, map, IfOk, OnOk};
 ghost use Rattle.split_text.specs.Text.{part_text, result_text};
 ghost use Rattle.split_text.specs.Piece.{ArePrintable, IsPrintable, written_as};
 
-use crate::print::{push_fails, push_named, push_nodes};
+use crate::print::{push_fails, push_nodes};
 use box_split::Outcome;
-use certificate::name_at;
+use certificate::{name_at, push_named};
+use certify_core::numbers_of;
 use line_model::{Line, Memory, Script};
 use std::alloc::Global;
-use tick_signal::Tick;
 
 /// A script's part of the text: its name, and for each terminal, in line order, its name and what
 /// was found there, a tree with a line for each node or the numbers of a timing that fails.
@@ -50,15 +50,4 @@ fn push_outcome(
             push_fails(text, numbers.as_slice())
         }
     }
-}
-
-// The numbers of ticks.
-fn numbers_of(alloc: Global, values: &[Tick]) -> Result<Vec<u32>, Memory>
-    ensures { IfOk result (λ numbers. numbers.items ≡ values.now) }
-{
-    let mut numbers = Vec::with_capacity(alloc, values.len())?;
-    for value in values {
-        numbers.push(value.value())?;
-    }
-    Ok(numbers)
 }

@@ -8,28 +8,16 @@ ghost use Rattle.split_text.specs.Text.{nodes_text, IsKnown};
 
 use crate::node_line::param_name_at;
 use box_split::Node;
-use certificate::push_numbers;
+use certificate::{push_numbers, push_start};
 use itoa::Buffer;
 use line_model::{Line, Memory, Name};
-
-/// Appends the line of this start and a name.
-pub(crate) fn push_named(text: &mut Vec<u8>, start: &[u8], name: Name) -> Result<(), Memory>
-    ensures { OnOk result (text.new.items ≡ text.old.items ++ fed (start.now ++ name)) }
-{
-    text.extend_from_slice(start)?;
-    text.extend_from_slice(name.bytes())?;
-    text.extend_from_slice(b"\n")?;
-    Ok(())
-}
 
 // Appends the line of a split.
 fn push_split(text: &mut Vec<u8>, name: Name, mid: u32) -> Result<(), Memory>
     ensures { OnOk result (text.new.items ≡ text.old.items ++ fed (split_line name mid)) }
 {
     let mut digits = Buffer::new();
-    text.extend_from_slice(b"split ")?;
-    text.extend_from_slice(name.bytes())?;
-    text.extend_from_slice(b" ")?;
+    push_start(text, b"split", name)?;
     text.extend_from_slice(digits.format(mid).as_bytes())?;
     text.extend_from_slice(b"\n")?;
     Ok(())

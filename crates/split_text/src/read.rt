@@ -52,9 +52,7 @@ fn read_result(
 {
     laws_below();
     let number = lines.number;
-    let Some(bytes) = lines.next_line() else {
-        return Err(TextFault::Line(number));
-    };
+    let bytes = lines.take_line()?;
     if let Some(numbers) = fails_in(alloc, line, bytes)? {
         return Ok(SplitClaim::Fails(numbers));
     }

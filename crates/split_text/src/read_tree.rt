@@ -33,9 +33,7 @@ fn next_node(
 {
     laws_below();
     let number = lines.number;
-    let Some(bytes) = lines.next_line() else {
-        return Err(TextFault::Line(number));
-    };
+    let bytes = lines.take_line()?;
     match node_in(line, part, depth, bytes) {
         Some(node) => Ok(node),
         None => Err(TextFault::Line(number)),

@@ -1,2 +1,1 @@
 pub mod CursorLaws
-mod WholeLaws

@@ -28,18 +28,19 @@ IsFault g places text first fault.Memory = Unit {0}
 
 -- ---- a whole text, between a first and a last line of its own
 
-abbrev pub text_places : {K M : Type 0} → Grammar K M → List ℕ → List K → List ℕ → List K
-text_places g head places last = g.fixed head ∷ (places ++ g.fixed last ∷ [])
+-- these places, and then a last line
+abbrev pub ended : {K M : Type 0} → Grammar K M → List K → List ℕ → List K
+ended g places last = places ++ g.fixed last ∷ []
 
-abbrev pub text_said : {K M : Type 0} → Grammar K M → List M → List M
-text_said g said = g.nothing ∷ (said ++ g.nothing ∷ [])
+-- the bytes are the lines of these places, which say this, then the last line, and nothing more
+abbrev pub IsEnded : {K M : Type 0} → Grammar K M → List K → List ℕ → List M → List ℕ → Type 0
+IsEnded g places last said bytes =
+    Lines g.stands g.opens (ended g places last) (said ++ g.nothing ∷ []) bytes [] []
 
--- the bytes are those lines and nothing more, and say this
 abbrev pub IsText : {K M : Type 0} → Grammar K M → List ℕ → List K → List ℕ → List M → List ℕ
     → Type 0
-IsText g head places last said bytes =
-    Lines g.stands g.opens (text_places g head places last) (text_said g said) bytes [] []
+IsText g head places last said bytes = IsEnded g (g.fixed head ∷ places) last (g.nothing ∷ said) bytes
 
 abbrev pub IsTextFault : {K M : Type 0} → Grammar K M → List ℕ → List K → List ℕ → List ℕ
     → TextFault → Type 0
-IsTextFault g head places last bytes f = IsFault g (text_places g head places last) bytes 1 f
+IsTextFault g head places last bytes f = IsFault g (ended g (g.fixed head ∷ places) last) bytes 1 f

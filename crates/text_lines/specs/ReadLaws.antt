@@ -1,12 +1,11 @@
 -- Laws of lines that are read where more are expected after them, and of their faults.
-use Rattle.std.proofs.Common.{◌≡◌, ℕ, ◌+◌, ◌<◌, List, [], ◌∷◌, ◌++◌, ◌∙◌, length, drop, get_or, map}
-use Rattle.std.proofs.Common.{refl, sym, ap, subst}
-use Rattle.std.proofs.lemmas.List.Concat.{flat_map_single}
+use Rattle.std.proofs.Common.{◌≡◌, ℕ, ◌+◌, ◌<◌, List, [], ◌∷◌, ◌++◌, ◌∙◌, length, drop, get_or}
+use Rattle.std.proofs.Common.{sym, ap, subst}
 use Rattle.std.specs.List.{flat_map}
 use Rattle.text_lines.specs.declared.fault.TextFault.{TextFault}
 use Rattle.text_lines.specs.declared.fault.TextFault.TheVariants as fault
 use Rattle.text_lines.specs.Lines.{BeginsWith, Goes}
-use Rattle.text_lines.specs.Grammar.{Grammar, Reads, IsFault}
+use Rattle.text_lines.specs.Grammar.{Grammar, IsFault}
 use Rattle.text_lines.specs.LineLaws.{goes_one, goes_then, leaves_later, leaves_here}
 use Rattle.text_lines.specs.Reading.{left_as, next_places}
 
@@ -18,15 +17,6 @@ module _ {K M : Type 0} (g : Grammar K M) where
   later_fault places said text a mid at b (fault.Line n) goes is =
       leaves_later g.stands g.opens places said text a mid at b n goes is
   later_fault places said text a mid at b fault.Memory goes is = tt
-
-  -- a fault from the start of a text on
-  pub fault_from : (places : List K) (text bytes : List ℕ) (a b : ℕ) (f : TextFault)
-      → text ≡ bytes → a ≡ b → IsFault g places text a f
-      → IsFault g places bytes b f
-  fault_from places text bytes a b f same first is =
-      let P : List ℕ → Type 0 = λ t. IsFault g places t a f in
-      let Q : ℕ → Type 0 = λ n. IsFault g places bytes n f in
-      subst Q first (subst P same is)
 
   -- the line of one text was taken
   pub taken : (line : List ℕ) (later : List K) (text rest : List ℕ) (a b : ℕ)
@@ -85,29 +75,3 @@ module _ {K M : Type 0} (g : Grammar K M) where
         (flat_map of (drop (k + 1) xs) ++ later) rest c
         (left_as g.stands g.opens places said text a (flat_map of (drop k xs) ++ later)
         (of x ++ (flat_map of (drop (k + 1) xs) ++ later)) at b (at_next later) before) next
-
-  -- ---- one line for each of several
-
-  module _ {X Y : Type 0} (place : Y → K) (name : X → Y) (xs : List X) where
-    each_place : (ys : List X)
-        → flat_map (λ y. place (name y) ∷ []) ys ≡ map place (map name ys)
-    each_place [] = refl
-    each_place (y ∷ ys) = ap (λ l. place (name y) ∷ l) (each_place ys)
-
-    pub each_line : {V : Type 0} (says : V → M) (vs : List V) (later : List K) (text : List ℕ) (a : ℕ)
-        (rest : List ℕ) (b : ℕ)
-        → Reads g (flat_map (λ x. place (name x) ∷ []) xs) (flat_map (λ v. says v ∷ []) vs) later
-        text a rest b
-        → Reads g (map place (map name xs)) (map says vs) later text a rest b
-    each_line says vs later text a rest b read =
-        let P : List K → Type 0 = λ places. Reads g places (map says vs) later text a rest b in
-        let Q : List M → Type 0 = λ said. Reads g (flat_map (λ x. place (name x) ∷ []) xs) said
-        later text a rest b in
-        subst P (each_place xs) (subst Q (flat_map_single says vs) read)
-
-    pub each_fault : (later : List K) (text : List ℕ) (a : ℕ) (f : TextFault)
-        → IsFault g (flat_map (λ x. place (name x) ∷ []) xs ++ later) text a f
-        → IsFault g (map place (map name xs) ++ later) text a f
-    each_fault later text a f fails =
-        let P : List K → Type 0 = λ places. IsFault g (places ++ later) text a f in
-        subst P (each_place xs) fails

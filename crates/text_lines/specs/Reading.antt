@@ -1,23 +1,14 @@
 -- Lines read one after another, at places that come from lists.
 use Rattle.std.proofs.Common.{◌≡◌, ◌≢◌, ℕ, ◌+◌, ◌<◌, ◌≤◌, Bool, true, false, List, [], ◌∷◌, ◌++◌}
-use Rattle.std.proofs.Common.{length, map, drop, get_or, refl, sym, ◌∙◌, ap, subst, arith}
+use Rattle.std.proofs.Common.{length, map, drop, get_or, ◌∙◌, ap, subst}
 use Rattle.std.proofs.Common.{append_assoc}
-use Rattle.std.proofs.lemmas.Bool.{eqb-true}
 use Rattle.std.proofs.lemmas.List.{drop_more, drop_all, map-append, append-nil}
 use Rattle.std.proofs.lemmas.List.Concat.{flat_map-append}
 use Rattle.std.specs.Prelude.{◌==◌}
 use Rattle.std.specs.List.{flat_map}
-use Rattle.text_lines.specs.{Lines.Goes, LineLaws.goes_then}
+use Rattle.text_lines.specs.Lines.{Goes}
 
 -- ---- places, one for each of a list
-
--- the next of several places
-pub next_place : {X K : Type 0} (place : X → K) (xs : List X) (k : ℕ) (d : X) (later : List K)
-    → k < length xs
-    → map place (drop k xs) ++ later
-    ≡ place (get_or xs k d) ∷ (map place (drop (k + 1) xs) ++ later)
-next_place place xs k d later inside =
-    ap (λ ys. map place ys ++ later) (drop_more xs k d inside)
 
 -- the places of the next of several
 pub next_places : {X K : Type 0} (of : X → List K) (xs : List X) (k : ℕ) (d : X)
@@ -33,11 +24,6 @@ pub all_parts : {X K : Type 0} (of : X → List K) (xs : List X) (k : ℕ) (late
     → length xs ≤ k → flat_map of (drop k xs) ++ later ≡ later
 all_parts of xs k later all = ap (λ ys. flat_map of ys ++ later) (drop_all k xs all)
 
--- what one line more says
-pub said_more : {X M : Type 0} (says : X → M) (xs ys : List X) (x : X) → ys ≡ xs ++ x ∷ []
-    → map says ys ≡ map says xs ++ says x ∷ []
-said_more says xs ys x is = ap (map says) is ∙ map-append says xs (x ∷ [])
-
 -- what the lines of one more say
 pub parts_more : {X Y M : Type 0} (says : Y → List M) (of : X → Y) (xs ys : List X) (x : X)
     → ys ≡ xs ++ x ∷ []
@@ -51,13 +37,6 @@ parts_more {X} {Y} {M} says of xs ys x is =
 -- ---- lines that were read
 
 module _ {K M : Type 0} (stands : K → M → List ℕ → Type 0) (opens : K → M → List K) where
-  -- before the first line
-  pub none_read : (places : List K) (said : List M) (text : List ℕ) (a : ℕ) → said ≡ []
-      → Goes stands opens places said text a places text a
-  none_read places said text a none =
-      let P : List M → Type 0 = λ s. Goes stands opens places s text a places text a in
-      subst P (sym none) (record { lines = (refl, refl); number = omega arith })
-
   -- places that are left, told otherwise
   pub left_as : (places : List K) (said : List M) (text : List ℕ) (a : ℕ) (mid left : List K)
       (at : List ℕ) (b : ℕ) → mid ≡ left → Goes stands opens places said text a mid at b
@@ -74,38 +53,7 @@ module _ {K M : Type 0} (stands : K → M → List ℕ → Type 0) (opens : K �
       let P : List M → Type 0 = λ s. Goes stands opens places s text a left at b in
       subst P same g
 
-  -- one of several places more
-  pub one_place : {X : Type 0} (place : X → K) (xs : List X) (k : ℕ) (d : X)
-      (places later : List K) (said : List M) (m : M) (text : List ℕ) (a : ℕ) (at : List ℕ)
-      (b : ℕ) (rest : List ℕ) (c : ℕ) → k < length xs
-      → Goes stands opens places said text a (map place (drop k xs) ++ later) at b
-      → Goes stands opens (place (get_or xs k d) ∷ (map place (drop (k + 1) xs) ++ later))
-      (m ∷ []) at b (map place (drop (k + 1) xs) ++ later) rest c
-      → Goes stands opens places (said ++ m ∷ []) text a (map place (drop (k + 1) xs) ++ later)
-      rest c
-  one_place place xs k d places later said m text a at b rest c inside g h =
-      goes_then stands opens places said text a
-      (place (get_or xs k d) ∷ (map place (drop (k + 1) xs) ++ later)) at b (m ∷ [])
-      (map place (drop (k + 1) xs) ++ later) rest c
-      (left_as places said text a (map place (drop k xs) ++ later)
-      (place (get_or xs k d) ∷ (map place (drop (k + 1) xs) ++ later)) at b
-      (next_place place xs k d later inside) g) h
-
-  -- all of several places
-  pub all_read : {X : Type 0} (place : X → K) (xs : List X) (k : ℕ) (places later : List K)
-      (said : List M) (text : List ℕ) (a : ℕ) (rest : List ℕ) (b : ℕ) → length xs ≤ k
-      → Goes stands opens places said text a (map place (drop k xs) ++ later) rest b
-      → Goes stands opens places said text a later rest b
-  all_read place xs k places later said text a rest b all g =
-      left_as places said text a (map place (drop k xs) ++ later) later rest b
-      (ap (λ ys. map place ys ++ later) (drop_all k xs all)) g
-
 -- ---- the end of a text
-
-pub none_left : (r : Bool) (xs : List ℕ) → r ≡ (length xs == 0) → r ≡ true → xs ≡ []
-none_left r [] tells is = refl
-none_left r (x ∷ xs) tells is =
-    absurd (let e = eqb-true (length (x ∷ xs)) 0 (sym tells ∙ is) in omega arith)
 
 pub some_left : (r : Bool) (xs : List ℕ) → r ≡ (length xs == 0) → r ≡ false → xs ≢ []
 some_left r xs tells is none =

@@ -1,11 +1,12 @@
 //! A text, line by line.
 
-ghost use Rattle.std.specs.Prelude.{◌≡◌, ◌≤◌, ◌<◌, ◌+◌, ◌++◌, ◌^◌, List, ℕ, length, MatchOption};
+ghost use Rattle.std.specs.Prelude.{◌≡◌, ◌≤◌, ◌<◌, ◌+◌, ◌++◌, ◌^◌, List, ℕ, length};
 ghost use Rattle.std.specs.Prelude.{MatchResult};
 ghost use Rattle.std.specs.List.{position_or_len};
 ghost use Rattle.text_lines.specs.Lines.{BeginsWith, is_feed};
 
 use crate::fault::TextFault;
+use crate::find::find_byte;
 use crate::start::is_named;
 
 /// What is left of a text of lines, and the number of the line that comes next. Lines are counted
@@ -29,23 +30,22 @@ impl<'a> LineCursor<'a> {
         }
     }
 
-    /// Takes the next line and its line feed. None where no line feed is left.
-    pub fn next_line(&mut self) -> Option<&'a [u8]>
-        ensures { MatchOption result
-            (((line rest : List ℕ) → ¬ BeginsWith self.old.rest.now line rest)
-            × (self.new.rest.now ≡ self.old.rest.now)
-            × (self.new.number ≡ self.old.number))
+    /// Takes the next line and its line feed.
+    pub fn take_line(&mut self) -> Result<&'a [u8], TextFault>
+        ensures { MatchResult result
             (λ line. BeginsWith self.old.rest.now line.now self.new.rest.now
-            × (self.new.number ≡ self.old.number + 1)) }
+            × (self.new.number ≡ self.old.number + 1))
+            (λ fault. (fault ≡ TextFault.Line self.old.number)
+            × ((line rest : List ℕ) → ¬ BeginsWith self.old.rest.now line rest)) }
     {
-        let end = line_end(self.rest);
+        let end = find_byte(self.rest, b'\n');
         if end == self.rest.len() {
-            return None;
+            return Err(TextFault::Line(self.number));
         }
         let line = &self.rest[..end];
         self.rest = &self.rest[end + 1..];
         self.number += 1;
-        Some(line)
+        Ok(line)
     }
 
     /// Takes the next line, which is to be this text.
@@ -68,26 +68,11 @@ impl<'a> LineCursor<'a> {
             × ((rest : List ℕ) → ¬ BeginsWith self.old.rest.now (start.now ++ name.now) rest)) }
     {
         let number = self.number;
-        let Some(line) = self.next_line() else {
-            return Err(TextFault::Line(number));
-        };
+        let line = self.take_line()?;
         if is_named(line, start, name) {
             Ok(())
         } else {
             Err(TextFault::Line(number))
         }
     }
-}
-
-// Where the first line ends: at the first line feed, or with the text.
-fn line_end(text: &[u8]) -> usize
-    ensures place { result ≡ position_or_len is_feed text.now }
-    ensures inside { result ≤ length text.now }
-{
-    for (i, byte) in text.iter().enumerate() {
-        if *byte == b'\n' {
-            return i;
-        }
-    }
-    text.len()
 }

@@ -8,12 +8,16 @@
 
 mod cursor;
 mod fault;
+mod find;
+mod line;
 mod part;
 mod start;
 mod whole;
 
 pub use cursor::LineCursor;
 pub use fault::TextFault;
+pub use find::find_byte;
+pub use line::{LineReader, read_lines};
 pub use part::{PartReader, read_each};
 pub use start::{after, after_name, is};
 pub use whole::{TextReader, read_text};

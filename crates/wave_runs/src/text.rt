@@ -3,18 +3,18 @@
 
 ghost use Rattle.std.specs.Prelude.{◌≡◌, ◌≤◌, ◌<◌, ◌+◌, ◌++◌, List, length, take, drop, Some, IfOk};
 ghost use Rattle.std.specs.Prelude.{OnOk, MatchOption};
-ghost use Rattle.std.specs.List.{position_or_len};
 ghost use Rattle.tick_signal.specs.declared.tern.Tern.{Tern};
 ghost use Rattle.wave_runs.specs.declared.runs.Run.{Run};
 ghost use Rattle.wave_runs.specs.Waves.{AreApart, AreRunsOf, levels_of, runs_from};
 ghost use Rattle.wave_runs.specs.Text.{level_letter, item_text, items_text, runs_text, gap};
-ghost use Rattle.wave_runs.specs.Text.{IsTextOf, is_space, level_in, run_in};
+ghost use Rattle.wave_runs.specs.Text.{IsTextOf, level_in, run_in};
 
 use crate::runs::{Run, Runs, Stretch};
 use itoa::Buffer;
 use line_model::Memory;
 use relay_base::number;
 use std::alloc::Global;
+use text_lines::find_byte;
 use tick_signal::Tern;
 
 /// The one text of the wave: items `L:N` in order of time, with one space between each two. L is
@@ -98,7 +98,7 @@ fn read_items(alloc: Global, text: &[u8], horizon: u32) -> Result<Option<Runs>, 
     let mut wave = Runs::new(alloc);
     let mut rest = text;
     'items: loop {
-        let end = item_end(rest);
+        let end = find_byte(rest, b' ');
         let Some(run) = first_run(rest, end) else {
             return Ok(None);
         };
@@ -111,19 +111,6 @@ fn read_items(alloc: Global, text: &[u8], horizon: u32) -> Result<Option<Runs>, 
         }
         rest = after_item(rest, end);
     }
-}
-
-// Where the first item ends: at the first space, or with the text.
-fn item_end(text: &[u8]) -> usize
-    ensures place { result ≡ position_or_len is_space text.now }
-    ensures inside { result ≤ length text.now }
-{
-    for (i, byte) in text.iter().enumerate() {
-        if *byte == b' ' {
-            return i;
-        }
-    }
-    text.len()
 }
 
 // The run of the first item, which ends there.

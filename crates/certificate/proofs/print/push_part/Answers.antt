@@ -1,5 +1,5 @@
 use Rattle.std.proofs.Common.{◌≡◌, ◌++◌, List, ℕ, length, map, sym, ◌∙◌, ap}
-use Rattle.std.proofs.lemmas.List.{length-map}
+use Rattle.std.proofs.lemmas.{List.length-map, Simd.map-map}
 use Rattle.certificate.specs.Grammar.{key_of, verdict_of, says_key, says_verdict, terminal_names}
 use Rattle.certificate.specs.Grammar.{Place, Said, Verdict, verdict_in, script_text}
 use Rattle.certificate.specs.Text.{lines_text, fed}
@@ -17,16 +17,18 @@ returns c =
     let keys : List Said = map says_key c.args.keys.now in
     let verdicts : List Verdict = map verdict_in c.args.verdicts.now in
     let said : List Said = map says_verdict verdicts in
+    let told : map (λ c. says_verdict (verdict_in c)) c.args.verdicts.now ≡ said =
+    sym (map-map says_verdict verdict_in c.args.verdicts.now) in
     let script : List ℕ = fed (script_text c.args.script.now.name) in
     let text : List ℕ = c.args.text.now.items in
     let long : length key_places ≡ length keys =
     length-map names (λ x. key_of x) ∙ names_count line ∙ sym c.requires.keys
     ∙ sym (length-map c.args.keys.now (λ x. says_key x)) in
-    on_ok (c.push_verdicts.new.text.items
-    ≡ c.push_keys.new.text.items ++ lines_text verdict_places said) _ c.push_verdicts.result
-    (λ last. three_stretches text c.push_script_line.new.text.items c.push_keys.new.text.items
-    c.push_verdicts.new.text.items script (lines_text key_places keys)
-    (lines_text verdict_places said) c.in_ok-push_script_line.ensures c.in_ok-push_keys.ensures last
+    on_ok (c.push_lines-2.new.text.items
+    ≡ c.push_lines.new.text.items ++ lines_text verdict_places said) _ c.push_lines-2.result
+    (λ last. three_stretches text c.push_named.new.text.items c.push_lines.new.text.items
+    c.push_lines-2.new.text.items script (lines_text key_places keys)
+    (lines_text verdict_places said) c.in_ok-push_named.ensures c.in_ok-push_lines.ensures last
     ∙ ap (λ (l : List ℕ). text ++ (script ++ l))
     (sym (lines_append key_places keys verdict_places said long)))
-    c.push_verdicts.ensures
+    (rw told at c.push_lines-2.ensures)

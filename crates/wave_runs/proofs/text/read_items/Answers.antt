@@ -20,15 +20,15 @@ items-init c = record {
 
 pub returns-in_default : goal.returns-in_default
 returns-in_default c = λ runs are text.
-    absurd (reads_none runs c.args.horizon c.items.wave c.items.rest.now c.item_end-end.result
-    c.requires.limited c.item_end-end.ensures.place (c.items.invariant.reads runs are text)
+    absurd (reads_none runs c.args.horizon c.items.wave c.items.rest.now c.find_byte-end.result
+    c.requires.limited c.find_byte-end.ensures.place (c.items.invariant.reads runs are text)
     c.in_default.ensures)
 
 pub returns-then-run-lt1 : goal.returns-then-run-lt1
 returns-then-run-lt1 c = λ runs are text.
     let r = c.items.invariant.reads runs are text in
-    let next = reads_run runs c.args.horizon c.items.wave c.items.rest.now c.item_end-end.result
-    c.requires.limited c.item_end-end.ensures.place r c.in-Some.run' c.in-Some.ensures in
+    let next = reads_run runs c.args.horizon c.items.wave c.items.rest.now c.find_byte-end.result
+    c.requires.limited c.find_byte-end.ensures.place r c.in-Some.run' c.in-Some.ensures in
     let ticks : c.in-Some.run'.ticks ≡ r.next.ticks = ap (λ (run : Run). run.ticks) next in
     let some : 1 ≤ r.next.ticks = r.some in
     let room : length c.items.wave + r.next.ticks ≤ c.args.horizon = r.room in
@@ -40,10 +40,10 @@ returns-then-run-lt1 c = λ runs are text.
 pub returns-then-end-rest : goal.returns-then-end-rest
 returns-then-end-rest c = λ runs are text.
     let r = c.items.invariant.reads runs are text in
-    let next = reads_run runs c.args.horizon c.items.wave c.items.rest.now c.item_end-end.result
-    c.requires.limited c.item_end-end.ensures.place r c.in-Some.run' c.in-Some.ensures in
-    let whole = reads_last runs c.args.horizon c.items.wave c.items.rest.now c.item_end-end.result
-    c.requires.limited c.item_end-end.ensures.place r c.if-end-rest.true in
+    let next = reads_run runs c.args.horizon c.items.wave c.items.rest.now c.find_byte-end.result
+    c.requires.limited c.find_byte-end.ensures.place r c.in-Some.run' c.in-Some.ensures in
+    let whole = reads_last runs c.args.horizon c.items.wave c.items.rest.now c.find_byte-end.result
+    c.requires.limited c.find_byte-end.ensures.place r c.if-end-rest.true in
     ap (λ (w : List Tern). Some w)
     (c.in_ok-push.ensures ∙ ap (λ (run : Run). c.items.wave ++ ticks_of run) next ∙ sym whole)
 
@@ -61,14 +61,14 @@ items-preserved c =
       reads = λ runs are text.
           let r = c.items.invariant.reads runs are text in
           let next = reads_run runs c.args.horizon c.items.wave c.items.rest.now
-          c.item_end-end.result c.requires.limited c.item_end-end.ensures.place r run
+          c.find_byte-end.result c.requires.limited c.find_byte-end.ensures.place r run
           c.in-Some.ensures in
           let more = reads_more runs c.args.horizon c.items.wave c.items.rest.now
-          c.item_end-end.result c.requires.limited are c.item_end-end.ensures.place r
+          c.find_byte-end.result c.requires.limited are c.find_byte-end.ensures.place r
           c.if-end-rest.false in
           let wave : c.items.wave ++ ticks_of r.next ≡ c.push.new.self =
           ap (λ (last : Run). c.items.wave ++ ticks_of last) (sym next) ∙ sym grown in
-          let left : List ℕ = drop (c.item_end-end.result + 1) c.items.rest.now in
+          let left : List ℕ = drop (c.find_byte-end.result + 1) c.items.rest.now in
           let P : List Tern → Type 0 = λ w. ReadsOn runs c.args.horizon w left in
           let Q : List ℕ → Type 0 = λ t. ReadsOn runs c.args.horizon c.push.new.self t in
           subst Q (sym c.after_item-rest.ensures) (subst P wave more);

@@ -8,9 +8,9 @@ returns-else-is_named c =
     let no = c.if-is_named.false in (
       refl,
       λ rest begins.
-          let same : c.in-Some.line.now ≡ text =
-          one_line c.args.self.now.rest.now c.in-Some.line.now c.next_line.new.self.rest.now text
-          rest c.in-Some.ensures.0 begins in
+          let same : c.in_ok-line.line.now ≡ text =
+          one_line c.args.self.now.rest.now c.in_ok-line.line.now c.take_line.new.self.rest.now text
+          rest c.in_ok-line.ensures.0 begins in
           let yes = c.is_named.ensures.1 same in
           cc,
     )
