@@ -1,8 +1,9 @@
 -- Laws of checks one after another: where one fails, and what is known where all passed.
 use Rattle.std.specs.Prelude.{◌≡◌, Bool, true, false, cond, Option, None, Some, Result, Ok, Err}
 use Rattle.std.specs.Prelude.{refl}
-use Rattle.std.proofs.Common.{ap}
-use Rattle.csv_records.specs.Gives.{◌>>=◌, Fails, Unless}
+use Rattle.std.proofs.Common.{ap, ok_or, subst}
+use Rattle.std.proofs.lemmas.Map.Entries.{option_filter}
+use Rattle.csv_records.specs.Gives.{◌>>=◌, Fails, Unless, passes_or}
 
 unless_weaker : (b : Bool) (P Q : Type 0) → (P → Q) → Unless b P → Unless b Q
 unless_weaker true P Q f h = tt
@@ -51,3 +52,22 @@ tested false o x e = absurd (cc)
 
 pub same_ok : {A F : Type 0} (x y : A) → (let r : Result A F = Ok x in r ≡ Ok y) → x ≡ y
 same_ok x y e = cc
+
+-- what is there, or else a fault
+pub found : {A F : Type 0} (o : Option A) (d : F) (x : A) → ok_or o d ≡ Ok x → o ≡ Some x
+found None d x e = absurd (cc)
+found (Some y) d x e = cc
+
+-- a test, or else a fault
+pub test_held : {F : Type 0} (b : Bool) (d : F) (y : Unit {0}) → passes_or b d ≡ Ok y → b ≡ true
+test_held true d y e = refl
+test_held false d y e = absurd (cc)
+
+-- what is there and passes
+pub filtered : {A : Type 0} (p : A → Bool) (o : Option A) (x : A) → option_filter p o ≡ Some x
+    → (o ≡ Some x) × (p x ≡ true)
+filtered p None x e = absurd (cc)
+filtered {A} p (Some y) x e =
+    let t = tested (p y) (Some y) x e in
+    let same : y ≡ x = (let f = t.1 in cc) in
+    (t.1, subst (λ (z : A). p z ≡ true) same t.0)

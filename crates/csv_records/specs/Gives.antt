@@ -7,6 +7,11 @@ abbrev pub ◌>>=◌ : {A B F : Type 0} → Result A F → (A → Result B F) �
 (Ok x) >>= f = f x
 (Err e) >>= f = Err e
 
+-- it passes, or else this fault
+abbrev pub passes_or : {F : Type 0} → Bool → F → Result (Unit {0}) F
+passes_or true e = Ok tt
+passes_or false e = Err e
+
 -- a fact, but where memory ran out
 abbrev pub Unless : Bool → Type 0 → Type 0
 Unless true P = ⊤

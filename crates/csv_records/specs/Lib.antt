@@ -4,3 +4,6 @@ pub mod RecordFile
 pub mod Left
 pub mod CheckLaws
 pub mod ListLaws
+pub mod Fields
+pub mod SoFar
+pub mod SoFarLaws

@@ -1,7 +1,10 @@
--- Laws of lists that grow at their end, and of tests of mapped elements.
-use Rattle.std.specs.Prelude.{◌≡◌, ◌||◌, Bool, List, [], ◌∷◌, ◌++◌, map, refl}
-use Rattle.std.specs.List.{list_any, All}
-use Rattle.std.proofs.Common.{ap}
+-- Laws of lists that grow at their end, of tests of mapped elements, and of places.
+use Rattle.std.specs.Prelude.{◌≡◌, ◌<◌, ◌||◌, ℕ, Bool, true, false, cond, List, [], ◌∷◌, ◌++◌}
+use Rattle.std.specs.Prelude.{length, map, nat_lt, Some, None, refl}
+use Rattle.std.specs.List.{list_any, All, position_from, position_or_len}
+use Rattle.std.proofs.Common.{ap, ◌∙◌, arith}
+use Rattle.std.proofs.lemmas.Bool.{ltb-true}
+use Rattle.std.proofs.lemmas.Iterator.Adapters.{position_from-zero}
 use Rattle.std.proofs.lemmas.List.Elements.{All-nil, All-cons, All-head, All-tail}
 
 pub list_any-map : {X Y : Type 0} (f : X → Y) (p : Y → Bool) (xs : List X)
@@ -18,3 +21,19 @@ All-front P (x ∷ xs) ys all =
 pub All-last : {X : Type 0} (P : X → Type 0) (xs : List X) (x : X) → All P (xs ++ x ∷ []) → P x
 All-last P [] x all = All-head P x [] all
 All-last P (y ∷ xs) x all = All-last P xs x (All-tail P y (xs ++ x ∷ []) all)
+
+-- a place that was found is within the list
+pub position_within : {K : Type 0} (test : K → Bool) (xs : List K) (i : ℕ)
+    → position_from test 0 xs ≡ Some i → i < length xs
+position_within test xs i e =
+    let place : ℕ = position_or_len test xs in
+    first_within (nat_lt place (length xs)) place i (length xs) (ltb-true place (length xs))
+    (position_from-zero test xs ∙ e)
+  where
+    first_within : (b : Bool) (n i m : ℕ) → (b ≡ true → n < m) → cond b (Some n) None ≡ Some i
+        → i < m
+    first_within true n i m inside e =
+        let same : n ≡ i = cc in
+        let less = inside refl in
+        omega arith
+    first_within false n i m inside e = absurd (cc)

@@ -1,10 +1,10 @@
 -- What a file of records says: a header, and then what each record makes of those before it.
 use Rattle.std.specs.Prelude.{ℕ, ◌+◌, Bool, List, [], ◌∷◌, Result, Ok, Err, if◌then◌else◌}
-use Rattle.csv_records.specs.{Gives.◌>>=◌, Records.records_of}
+use Rattle.csv_records.specs.{Fields.are_fields, Gives.◌>>=◌, Records.records_of}
 
--- a kind of file: what its records say, from the start on, and how it is refused
+-- a kind of file: its header, what its records say, from the start on, and how it is refused
 pub record RecordFile (S F : Type 0) : Type 0 where
-  pub is_header : List (List ℕ) → Bool
+  pub header : List (List ℕ)
   pub start : S
   pub after : S → ℕ → List (List ℕ) → Result S F
   pub no_header : F
@@ -25,8 +25,8 @@ after_header file (fields ∷ rest) = after_records file file.start 2 (fields �
 -- what these records say
 abbrev pub said_in : {S F : Type 0} → RecordFile S F → List (List (List ℕ)) → Result S F
 said_in file [] = Err file.no_header
-said_in file (header ∷ rest) =
-    if file.is_header header then after_header file rest else Err file.no_header
+said_in file (fields ∷ rest) =
+    if are_fields file.header fields then after_header file rest else Err file.no_header
 
 -- what these bytes say
 abbrev pub said_of : {S F : Type 0} → RecordFile S F → List ℕ → Result S F

@@ -4,14 +4,18 @@
 //! list of its records (`specs/RecordFile.antt`), whatever the reader holds of it at a time.
 #![tactic(auto)]
 
+mod fault;
 mod fields;
 mod read;
 mod reader;
+mod reading;
 mod rows;
 mod write;
 
-pub use fields::{field, five_fields, three_fields};
+pub use fault::print_fault;
+pub use fields::{field, five_fields, has_five, has_three, is, is_nothing, three_fields};
 pub use memory::Memory;
 pub use read::read_file;
 pub use reader::RecordReader;
+pub use reading::Reading;
 pub use write::push_record;

@@ -2,7 +2,7 @@
 
 ghost use Rattle.std.specs.Prelude.{◌≡◌, ℕ, Bool, IsTrue};
 ghost use Rattle.csv.specs.Records.{fields_of};
-ghost use Rattle.csv_records.specs.{Gives.Gives, RecordFile.RecordFile};
+ghost use Rattle.csv_records.specs.{Fields.are_fields, Gives.Gives, RecordFile.RecordFile};
 
 use csv::ByteRecord;
 use std::alloc::Global;
@@ -32,7 +32,7 @@ pub trait RecordReader {
 
     /// Whether the record is the header.
     fn is_header(&self, row: &ByteRecord) -> bool
-        ensures { result ≡ (file self.now).is_header (fields_of row.now) };
+        ensures { result ≡ are_fields (file self.now).header (fields_of row.now) };
 
     /// Before the first record behind the header.
     fn start(&self, alloc: Global) -> Self::Reading

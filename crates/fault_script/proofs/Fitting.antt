@@ -4,7 +4,8 @@ use Rattle.std.proofs.Common.{◌∷◌, ◌++◌, length, Option, Some, None, r
 use Rattle.std.proofs.Common.{◌∙◌}
 use Rattle.std.proofs.lemmas.List.Folds.{list_all-append}
 use Rattle.std.specs.Prelude.{nat_lt, nat_le, option_map, IsTrue}
-use Rattle.std.specs.List.{list_all, position_from}
+use Rattle.std.specs.List.{list_all}
+use Rattle.std.proofs.lemmas.Map.Entries.{option_filter}
 use Rattle.std.specs.Str.{bytes_eq}
 use Rattle.relay_base.specs.Number.{number_of}
 use Rattle.line_model.specs.declared.line.Line.{Line}
@@ -13,40 +14,23 @@ use Rattle.line_model.specs.declared.script.SeenSpan.{SeenSpan}
 use Rattle.line_model.specs.{declared.script.Kind.Kind, declared.script.What.What}
 use Rattle.line_model.specs.declared.script.What.TheVariants as what
 use Rattle.line_model.specs.Fits.{exists_in, span_fits, deadline_fits}
+use Rattle.line_model.specs.NumbersByName.{terminal_named, channel_named, has_name}
 use Rattle.line_model.specs.PlainNames.{is_plain_name}
 use Rattle.fault_script.specs.declared.item.Item.{Item}
 use Rattle.fault_script.specs.declared.item.Item.TheVariants.{Head, Seen, Lost}
-use Rattle.fault_script.specs.Places.{terminal_named, channel_named, has_name}
-use Rattle.fault_script.specs.Checks.{is_empty, below_horizon, deadline_of, span_between, what_at}
-use Rattle.csv_records.specs.CheckLaws.{tested}
-
-below_fits : (horizon : ℕ) (o : Option ℕ) (d : ℕ) → below_horizon horizon o ≡ Some d
-    → nat_lt d horizon ≡ true
-below_fits horizon None d e = absurd (cc)
-below_fits horizon (Some t) d e =
-    let p = tested (nat_lt t horizon) (Some t) d e in
-    let same : t ≡ d = (let f = p.1 in cc) in
-    subst (λ (x : ℕ). nat_lt x horizon ≡ true) same p.0
+use Rattle.fault_script.specs.Checks.{deadline_of, span_between, what_at}
+use Rattle.csv_records.specs.CheckLaws.{filtered, tested}
+use Rattle.csv_records.specs.{Fields.is_empty, ListLaws.position_within}
 
 pub head_deadline_fits : (line : Line) (kind : Kind) (from to : List ℕ) (d : ℕ)
     → deadline_of line kind from to ≡ Some d → IsTrue (deadline_fits line.horizon kind d)
 head_deadline_fits line Internal from to d e =
-    below_fits line.horizon (number_of from) d
-    (tested (is_empty to) (below_horizon line.horizon (number_of from)) d e).1
+    let below : Option ℕ = option_filter (λ t. nat_lt t line.horizon) (number_of from) in
+    (filtered (λ t. nat_lt t line.horizon) (number_of from) d (tested (is_empty to) below d e).1).1
 head_deadline_fits line External from to d e =
     let p = tested (is_empty from && is_empty to) (Some 0) d e in
     let same : 0 ≡ d = (let f = p.1 in cc) in
     subst (λ (x : ℕ). (x == 0) ≡ true) same refl
-
-found_below : {X : Type 0} (p : X → Bool) (n : ℕ) (xs : List X) (k : ℕ)
-    → position_from p n xs ≡ Some k → k < n + length xs
-found_below p n [] k e = absurd (cc)
-found_below p n (x ∷ xs) k e =
-    elim (p x) as (λ b. cond b (Some n) (position_from p (n + 1) xs) ≡ Some k
-    → k < n + length (x ∷ xs)) [
-      | true ↦ λ f. let same : n ≡ k = cc in omega arith
-      | false ↦ λ f. let below = found_below p (n + 1) xs k f in omega arith
-    ] e
 
 -- a number that was found, under a constructor
 pub record Mapped {A B : Type 0} (f : A → B) (o : Option A) (y : B) : Type 0 where
@@ -68,12 +52,12 @@ what_exists line (Head kind) place w e = absurd (cc)
 what_exists line (Seen element) place w e =
     let f : ℕ → What = λ k. what.Element (record { element = element; terminal = k }) in
     let m = mapped f (terminal_named line place) w e in
-    let below = found_below (λ t. bytes_eq t.name place) 0 line.terminals.items m.value m.found in
+    let below = position_within (λ t. bytes_eq t.name place) line.terminals.items m.value m.found in
     subst (λ (x : What). exists_in line x ≡ true) (sym m.is)
     (lt_test m.value (length line.terminals.items) (omega arith))
 what_exists line Lost place w e =
     let m = mapped (λ c. what.Loss c) (channel_named line place) w e in
-    let below = found_below (has_name line.terminals.items place) 0 line.channels.items m.value
+    let below = position_within (has_name line.terminals.items place) line.channels.items m.value
     m.found in
     subst (λ (x : What). exists_in line x ≡ true) (sym m.is)
     (lt_test m.value (length line.channels.items) (omega arith))

@@ -11,8 +11,8 @@ use Rattle.line_model.specs.PlainNames.{is_plain_byte, is_plain_name}
 use Rattle.line_model.specs.Terminals.{names_of, are_plain_names, NamesDiffer}
 use Rattle.line_model.specs.Channels.{AreChannels, is_pair, from_of, to_of}
 use Rattle.line_model.specs.ParamNames.{name_at, pair_name, channel_name}
+use Rattle.line_model.specs.NumbersByName.{has_name}
 use Rattle.line_model.specs.{declared.line.Terminal.Terminal, declared.line.Channel.Channel}
-use Rattle.fault_script.specs.Places.{has_name}
 
 pub bytes_same : (bs : List ℕ) → bytes_eq bs bs ≡ true
 bytes_same [] = refl

@@ -15,8 +15,8 @@ use Rattle.line_model.specs.{declared.line.Line.Line, declared.script.Kind.Kind}
 use Rattle.line_model.specs.{declared.script.Script.Script, Fits.Fits, PlainNames.is_plain_name}
 use Rattle.fault_script.specs.declared.fault.ScriptFault.{ScriptFault}
 use Rattle.fault_script.specs.declared.item.Item.TheVariants.{Head, Seen, Lost}
-use Rattle.fault_script.specs.Values.{ScriptValues, ScriptsSoFar, AreOfOneFile, values_of}
-use Rattle.fault_script.specs.Values.{all_scripts, no_scripts, with_head, with_row}
+use Rattle.csv_records.specs.SoFar.{SoFar, all_of, nothing}
+use Rattle.fault_script.specs.Values.{ScriptValues, AreOfOneFile, values_of, with_head, with_row}
 use Rattle.fault_script.specs.SoFar.{AreOnce, IsSoFar, ValuesFit, names_in, records_in}
 use Rattle.fault_script.specs.{Gives.Gives, declared.item.Item.Item, Row.Row, Checks.is_head}
 use Rattle.fault_script.specs.{Checks.is_taken, Scripts.after_item, Scripts.after_record}
@@ -26,7 +26,7 @@ use Rattle.fault_script.proofs.Once.{once_none, once_more}
 use Rattle.fault_script.proofs.Fitting.{head_deadline_fits, row_span_fits, one_span_more}
 use Rattle.fault_script.proofs.Steps.{HeadPassed, head_passed, RowPassed, row_passed, record_passed}
 
-pub none_so_far : (line : Line) → IsSoFar line 2 no_scripts
+pub none_so_far : (line : Line) → IsSoFar line 2 nothing
 none_so_far line =
     record { heads = omega arith; fit = All-nil (ValuesFit line); number = refl; once = once_none }
 
@@ -41,9 +41,9 @@ few_records line (v ∷ vs) fit =
     omega arith
 
 -- so a record's number is small
-pub is_small : (line : Line) (n : ℕ) (s : ScriptsSoFar) → IsSoFar line n s → n < 20000
+pub is_small : (line : Line) (n : ℕ) (s : SoFar ScriptValues) → IsSoFar line n s → n < 20000
 is_small line n s so_far =
-    let few = few_records line (all_scripts s) so_far.fit in
+    let few = few_records line (all_of s) so_far.fit in
     let heads = so_far.heads in
     let number = so_far.number in
     omega arith
@@ -52,8 +52,8 @@ one_more : (v : ScriptValues) (vs : List ScriptValues)
     → sum_by records_in (vs ++ v ∷ []) ≡ sum_by records_in vs + records_in v
 one_more v vs = let e = sum_by-append records_in vs (v ∷ []) in omega arith
 
-after_head_so_far : (line : Line) (s : ScriptsSoFar) (n : ℕ) (row : Row) (kind : Kind)
-    (t : ScriptsSoFar) → IsSoFar line n s → is_plain_name row.name ≡ true
+after_head_so_far : (line : Line) (s : SoFar ScriptValues) (n : ℕ) (row : Row) (kind : Kind)
+    (t : SoFar ScriptValues) → IsSoFar line n s → is_plain_name row.name ≡ true
     → is_taken s row.name ≡ false → HeadPassed line s row kind t → IsSoFar line (n + 1) t
 after_head_so_far line s n row kind t so_far plain unused p =
     let new : ScriptValues =
@@ -64,24 +64,24 @@ after_head_so_far line s n row kind t so_far plain unused p =
       deadline = head_deadline_fits line kind row.from row.to p.deadline p.ticks;
       spans = refl;
     } in
-    let room = ltb-true (length (all_scripts s)) 64 p.room in
-    let count = length-append (all_scripts s) (new ∷ []) in
-    let sum = one_more new (all_scripts s) in
+    let room = ltb-true (length (all_of s)) 64 p.room in
+    let count = length-append (all_of s) (new ∷ []) in
+    let sum = one_more new (all_of s) in
     let number = so_far.number in
     let kept : IsSoFar line (n + 1) (with_head s row.name kind p.deadline) = record {
       heads = omega arith;
-      fit = All-push (ValuesFit line) (all_scripts s) new so_far.fit new_fits;
+      fit = All-push (ValuesFit line) (all_of s) new so_far.fit new_fits;
       number = omega arith;
       once = subst (λ (names : List (List ℕ)). AreOnce names)
-          (sym (map-append (λ (v : ScriptValues). v.name) (all_scripts s) (new ∷ [])))
-          (once_more (names_in (all_scripts s)) row.name so_far.once
+          (sym (map-append (λ (v : ScriptValues). v.name) (all_of s) (new ∷ [])))
+          (once_more (names_in (all_of s)) row.name so_far.once
           (list_any-map (λ (v : ScriptValues). v.name) (λ name. bytes_eq name row.name)
-          (all_scripts s) ∙ unused));
+          (all_of s) ∙ unused));
     } in
-    subst (λ (x : ScriptsSoFar). IsSoFar line (n + 1) x) (sym p.after) kept
+    subst (λ (x : SoFar ScriptValues). IsSoFar line (n + 1) x) (sym p.after) kept
 
-after_row_so_far : (line : Line) (s : ScriptsSoFar) (n : ℕ) (row : Row) (item : Item)
-    (t : ScriptsSoFar) → IsSoFar line n s → RowPassed line s row item t → IsSoFar line (n + 1) t
+after_row_so_far : (line : Line) (s : SoFar ScriptValues) (n : ℕ) (row : Row) (item : Item)
+    (t : SoFar ScriptValues) → IsSoFar line n s → RowPassed line s row item t → IsSoFar line (n + 1) t
 after_row_so_far line s n row item t so_far p =
     let new : ScriptValues =
     record p.latest { spans = p.latest.spans ++ p.span ∷ [] } in
@@ -115,9 +115,9 @@ after_row_so_far line s n row item t so_far p =
           ∙ sym (map-append (λ (v : ScriptValues). v.name) s.done (new ∷ [])))
           before.once;
     } in
-    subst (λ (x : ScriptsSoFar). IsSoFar line (n + 1) x) (sym p.after) kept
+    subst (λ (x : SoFar ScriptValues). IsSoFar line (n + 1) x) (sym p.after) kept
 
-item_so_far : (line : Line) (s : ScriptsSoFar) (n : ℕ) (row : Row) (t : ScriptsSoFar)
+item_so_far : (line : Line) (s : SoFar ScriptValues) (n : ℕ) (row : Row) (t : SoFar ScriptValues)
     → IsSoFar line n s → is_plain_name row.name ≡ true → (item : Item)
     → (is_head (Some item) ≡ true → is_taken s row.name ≡ false)
     → after_item line s n row item ≡ Ok t → IsSoFar line (n + 1) t
@@ -131,8 +131,8 @@ item_so_far line s n row t so_far plain Lost new e =
     after_row_so_far line s n row Lost t so_far (row_passed line s n row Lost t e)
 
 -- one record more
-pub record_so_far : (line : Line) (s : ScriptsSoFar) (n : ℕ) (fields : List (List ℕ))
-    (t : ScriptsSoFar) → IsSoFar line n s → after_record line s n fields ≡ Ok t
+pub record_so_far : (line : Line) (s : SoFar ScriptValues) (n : ℕ) (fields : List (List ℕ))
+    (t : SoFar ScriptValues) → IsSoFar line n s → after_record line s n fields ≡ Ok t
     → IsSoFar line (n + 1) t
 record_so_far line s n fields t so_far e =
     let p = record_passed line s n fields t e in
@@ -143,18 +143,18 @@ pub record AreGood (line : Line) (vs : List ScriptValues) : Type 0 where
   pub fit : All (ValuesFit line) vs
   pub one_file : AreOfOneFile vs
 
-good : (line : Line) (n : ℕ) (s : ScriptsSoFar) → 2 < n → IsSoFar line n s
-    → AreGood line (all_scripts s)
+good : (line : Line) (n : ℕ) (s : SoFar ScriptValues) → 2 < n → IsSoFar line n s
+    → AreGood line (all_of s)
 good line n s some so_far = record {
   fit = so_far.fit;
   one_file = record {
     some =
-        (let few = few_records line (all_scripts s) so_far.fit in
+        (let few = few_records line (all_of s) so_far.fit in
         let number = so_far.number in
         omega arith);
     few = so_far.heads;
     once = λ j k less below. so_far.once j k less
-        (let count = length-map (all_scripts s) (λ (v : ScriptValues). v.name) in omega arith);
+        (let count = length-map (all_of s) (λ (v : ScriptValues). v.name) in omega arith);
   };
 }
 
@@ -175,12 +175,12 @@ values_fit line (s ∷ scripts) fit =
     (All-tail (ValuesFit line) (values_of s) (map values_of scripts) fit))
 
 -- so are the scripts that a reader gives
-pub given_good : (line : Line) (n : ℕ) (s : ScriptsSoFar) (r : Result (Vec Script Global) ScriptFault)
-    → 2 < n → IsSoFar line n s → Gives (λ v. map values_of v.items) r (Ok (all_scripts s))
+pub given_good : (line : Line) (n : ℕ) (s : SoFar ScriptValues) (r : Result (Vec Script Global) ScriptFault)
+    → 2 < n → IsSoFar line n s → Gives (λ v. map values_of v.items) r (Ok (all_of s))
     → IfOk r (λ v. All (Fits line) v.items × AreOfOneFile (map values_of v.items))
 given_good line n s (Ok v) some so_far gives =
     let all = subst (λ (vs : List ScriptValues). AreGood line vs)
-    (same_ok {F = ScriptFault} (all_scripts s) (map values_of v.items) gives)
+    (same_ok {F = ScriptFault} (all_of s) (map values_of v.items) gives)
     (good line n s some so_far) in
     (values_fit line v.items all.fit, all.one_file)
 given_good line n s (Err e) some so_far gives = tt

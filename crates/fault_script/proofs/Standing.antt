@@ -25,15 +25,17 @@ use Rattle.line_model.specs.declared.script.SeenSpan.{SeenSpan}
 use Rattle.line_model.specs.{PlainNames.is_plain_name, ParamNames.channel_name}
 use Rattle.line_model.specs.{declared.script.Script.Script, NamesByNumber.element_text}
 use Rattle.fault_script.specs.declared.item.Item.TheVariants.{Head, Seen, Lost}
-use Rattle.fault_script.specs.Values.{ScriptValues, ScriptsSoFar, AreOfOneFile, values_of}
-use Rattle.fault_script.specs.Values.{all_scripts, no_scripts, with_head}
+use Rattle.csv_records.specs.SoFar.{SoFar, all_of, nothing}
+use Rattle.fault_script.specs.Values.{ScriptValues, AreOfOneFile, values_of, with_head}
 use Rattle.fault_script.specs.Scripts.{after_head, after_row, after_item, after_record, script_file}
 use Rattle.fault_script.specs.Scripts.{scripts_in}
 use Rattle.fault_script.specs.Printed.{kind_text, deadline_text, head_record, item_text, place_text}
 use Rattle.fault_script.specs.Printed.{row_record, script_records, file_records}
 use Rattle.fault_script.specs.{Checks.item_of, Checks.is_head, Checks.is_taken, Checks.what_at}
-use Rattle.fault_script.specs.{Checks.deadline_of, Checks.below_horizon, declared.item.Item.Item}
-use Rattle.fault_script.specs.{Row.Row, Places.channel_named, SoFar.ValuesFit}
+use Rattle.fault_script.specs.{Checks.deadline_of, declared.item.Item.Item, Row.Row}
+use Rattle.fault_script.specs.SoFar.{ValuesFit}
+use Rattle.line_model.specs.NumbersByName.{channel_named}
+use Rattle.std.proofs.lemmas.Map.Entries.{option_filter}
 use Rattle.csv_records.specs.{Gives.◌>>=◌, RecordFile.after_header, RecordFile.after_records}
 use Rattle.relay_base.specs.DecimalLaws.{number_of-decimal}
 use Rattle.fault_script.proofs.Naming.{bytes_same, bytes_are, terminal_found, channel_found}
@@ -63,7 +65,7 @@ no_head : (w : What) → is_head (Some (item_for w)) ≡ false
 no_head (what.Element place) = refl
 no_head (what.Loss channel) = refl
 
-is_row : (line : Line) (s : ScriptsSoFar) (n : ℕ) (row : Row) (w : What)
+is_row : (line : Line) (s : SoFar ScriptValues) (n : ℕ) (row : Row) (w : What)
     → after_item line s n row (item_for w) ≡ after_row line s n row (item_for w)
 is_row line s n row (what.Element place) = refl
 is_row line s n row (what.Loss channel) = refl
@@ -92,7 +94,7 @@ both true b e = (refl, e)
 both false b e = absurd (cc)
 
 -- a script in the making: its head is read, and the rows so far
-abbrev at_script : List ScriptValues → ScriptValues → ScriptsSoFar
+abbrev at_script : List ScriptValues → ScriptValues → SoFar ScriptValues
 at_script done v = record { done = done; latest = Some v }
 
 abbrev one_row_more : ScriptValues → SeenSpan → ScriptValues
@@ -161,17 +163,17 @@ deadline_read : (line : Line) (kind : Kind) (d : ℕ) → deadline_fits line.hor
 deadline_read line Internal d fits =
     let below = ltb-true d line.horizon fits in
     let small : line.horizon ≤ 4000 = line.horizon_in_range.1 in
-    ap (below_horizon line.horizon) (number_of-decimal d (omega arith))
+    ap (option_filter (λ t. nat_lt t line.horizon)) (number_of-decimal d (omega arith))
     ∙ ap (λ b. cond b (Some d) None) fits
 deadline_read line External d fits = ap (λ n. Some n) (sym (eqb-true d 0 fits))
 
 -- a head whose name is new
-head_stands : (line : Line) (s : ScriptsSoFar) (n : ℕ) (v : ScriptValues)
-    → ValuesFit line v → is_taken s v.name ≡ false → length (all_scripts s) < 64
+head_stands : (line : Line) (s : SoFar ScriptValues) (n : ℕ) (v : ScriptValues)
+    → ValuesFit line v → is_taken s v.name ≡ false → length (all_of s) < 64
     → after_record line s n (head_record v) ≡ Ok (with_head s v.name v.kind v.deadline)
 unfolding after_record after_head
 head_stands line s n v fit new few =
-    let room : nat_lt (length (all_scripts s)) 64 ≡ true = lt-ltb (length (all_scripts s)) 64 few in
+    let room : nat_lt (length (all_of s)) 64 ≡ true = lt-ltb (length (all_of s)) 64 few in
     rw (
       kind_read v.kind,
       fit.plain_name,
@@ -182,22 +184,22 @@ head_stands line s n v fit new few =
     refl
 
 -- a whole script
-script_stands : (line : Line) (s : ScriptsSoFar) (n : ℕ) (v : ScriptValues)
+script_stands : (line : Line) (s : SoFar ScriptValues) (n : ℕ) (v : ScriptValues)
     (rest : List (List (List ℕ))) → ValuesFit line v → is_taken s v.name ≡ false
-    → length (all_scripts s) < 64
+    → length (all_of s) < 64
     → after_records (script_file line) s n (script_records line v ++ rest)
-    ≡ after_records (script_file line) (at_script (all_scripts s) v) (n + 1 + length v.spans) rest
+    ≡ after_records (script_file line) (at_script (all_of s) v) (n + 1 + length v.spans) rest
 unfolding after_records
 script_stands line s n v rest fit new few =
     let behind : List (List (List ℕ)) = map (row_record line v.name) v.spans ++ rest in
     let bare : ScriptValues = record v { spans = [] } in
     ap (λ r. r >>= λ next. after_records (script_file line) next (n + 1) behind)
     (head_stands line s n v fit new few)
-    ∙ rows_stand line (all_scripts s) bare (n + 1) v.spans rest
+    ∙ rows_stand line (all_of s) bare (n + 1) v.spans rest
     fit.plain_name (omega arith) fit.spans
 
 -- what is left of the scripts, none of whose names is taken
-record AreNew (s : ScriptsSoFar) (vs : List ScriptValues) : Type 0 where
+record AreNew (s : SoFar ScriptValues) (vs : List ScriptValues) : Type 0 where
   names : All (λ v. is_taken s v.name ≡ false) vs
   once : (j k : ℕ) → j < k → k < length vs
       → get_or (map (λ v. v.name) vs) j [] ≢ get_or (map (λ v. v.name) vs) k []
@@ -206,10 +208,10 @@ name_at-rest : (vs : List ScriptValues) (i : ℕ) (d : ScriptValues) → i < len
     → get_or (map (λ v. v.name) vs) i [] ≡ (get_or vs i d).name
 name_at-rest vs i d below = get_or-map (λ (v : ScriptValues). v.name) vs i d [] below
 
-new_behind : (s : ScriptsSoFar) (v : ScriptValues) (vs : List ScriptValues) → AreNew s (v ∷ vs)
-    → AreNew (at_script (all_scripts s) v) vs
+new_behind : (s : SoFar ScriptValues) (v : ScriptValues) (vs : List ScriptValues) → AreNew s (v ∷ vs)
+    → AreNew (at_script (all_of s) v) vs
 new_behind s v vs new = record {
-  names = All-from_get_or (λ u. is_taken (at_script (all_scripts s) v) u.name ≡ false) vs v
+  names = All-from_get_or (λ u. is_taken (at_script (all_of s) v) u.name ≡ false) vs v
       (λ i below.
       let u : ScriptValues = get_or vs i v in
       let old : is_taken s u.name ≡ false =
@@ -217,7 +219,7 @@ new_behind s v vs new = record {
       let other : bytes_eq v.name u.name ≡ false =
       apart (λ same. new.once 0 (suc i) (omega arith) (omega arith)
       (same ∙ sym (name_at-rest vs i v below))) in
-      list_any-append (λ w. bytes_eq w.name u.name) (all_scripts s) (v ∷ [])
+      list_any-append (λ w. bytes_eq w.name u.name) (all_of s) (v ∷ [])
       ∙ ap (λ b. b || (bytes_eq v.name u.name || false)) old
       ∙ ap (λ b. b || false) other);
   once = λ j k less below. new.once (suc j) (suc k) (omega arith) (omega arith);
@@ -229,25 +231,25 @@ new_behind s v vs new = record {
       | inr none ↦ none
     ]
 
-scripts_stand : (line : Line) (s : ScriptsSoFar) (n : ℕ) (vs : List ScriptValues)
-    → All (ValuesFit line) vs → AreNew s vs → length (all_scripts s) + length vs ≤ 64
-    → (after_records (script_file line) s n (flat_map (script_records line) vs) >>= λ t. Ok (all_scripts t))
-    ≡ Ok (all_scripts s ++ vs)
+scripts_stand : (line : Line) (s : SoFar ScriptValues) (n : ℕ) (vs : List ScriptValues)
+    → All (ValuesFit line) vs → AreNew s vs → length (all_of s) + length vs ≤ 64
+    → (after_records (script_file line) s n (flat_map (script_records line) vs) >>= λ t. Ok (all_of t))
+    ≡ Ok (all_of s ++ vs)
 unfolding after_records
-scripts_stand line s n [] fit new few = ap (λ list. Ok list) (sym (append-nil (all_scripts s)))
+scripts_stand line s n [] fit new few = ap (λ list. Ok list) (sym (append-nil (all_of s)))
 scripts_stand line s n (v ∷ vs) fit new few =
     let here = All-head (ValuesFit line) v vs fit in
     let rest : List (List (List ℕ)) = flat_map (script_records line) vs in
-    let next : ScriptsSoFar = at_script (all_scripts s) v in
-    let count = length-append (all_scripts s) (v ∷ []) in
+    let next : SoFar ScriptValues = at_script (all_of s) v in
+    let count = length-append (all_of s) (v ∷ []) in
     let taken = All-head (λ u. is_taken s u.name ≡ false) v vs new.names in
-    ap (λ rows. after_records (script_file line) s n rows >>= λ t. Ok (all_scripts t))
+    ap (λ rows. after_records (script_file line) s n rows >>= λ t. Ok (all_of t))
     (flat_map-cons (script_records line) v vs)
-    ∙ ap (λ r. r >>= λ t. Ok (all_scripts t))
+    ∙ ap (λ r. r >>= λ t. Ok (all_of t))
     (script_stands line s n v rest here taken (omega arith))
     ∙ scripts_stand line next (n + 1 + length v.spans) vs (All-tail (ValuesFit line) v vs fit)
     (new_behind s v vs new) (omega arith)
-    ∙ ap (λ list. Ok list) (append_assoc (all_scripts s) (v ∷ []) vs)
+    ∙ ap (λ list. Ok list) (append_assoc (all_of s) (v ∷ []) vs)
 
 -- the printed records stand for the scripts
 pub printed_stand : (line : Line) (vs : List ScriptValues) → All (ValuesFit line) vs
@@ -255,16 +257,16 @@ pub printed_stand : (line : Line) (vs : List ScriptValues) → All (ValuesFit li
 unfolding scripts_in
 printed_stand line [] fit one_file = absurd (let some = one_file.some in omega arith)
 printed_stand line (v ∷ vs) fit one_file =
-    let new : AreNew no_scripts (v ∷ vs) = record {
+    let new : AreNew nothing (v ∷ vs) = record {
       names =
-          All-from_get_or (λ u. is_taken no_scripts u.name ≡ false) (v ∷ vs) v (λ i below. refl);
+          All-from_get_or (λ u. is_taken nothing u.name ≡ false) (v ∷ vs) v (λ i below. refl);
       once = one_file.once;
     } in
-    ap (λ rows. after_header (script_file line) rows >>= λ s. Ok (all_scripts s))
+    ap (λ rows. after_header (script_file line) rows >>= λ s. Ok (all_of s))
     (flat_map-cons (script_records line) v vs)
-    ∙ ap (λ rows. after_records (script_file line) no_scripts 2 rows >>= λ s. Ok (all_scripts s))
+    ∙ ap (λ rows. after_records (script_file line) nothing 2 rows >>= λ s. Ok (all_of s))
     (sym (flat_map-cons (script_records line) v vs))
-    ∙ scripts_stand line no_scripts 2 (v ∷ vs) fit new
+    ∙ scripts_stand line nothing 2 (v ∷ vs) fit new
     (let few = one_file.few in omega arith)
 
 pub scripts_fit_by_values : (line : Line) (scripts : List Script) → All (Fits line) scripts

@@ -4,13 +4,15 @@ use Rattle.std.proofs.lemmas.List.Folds.{list_any-append}
 use Rattle.std.specs.Prelude.{option_map}
 use Rattle.std.specs.List.{list_any}
 use Rattle.std.specs.Str.{bytes_eq}
-use Rattle.fault_script.specs.declared.reading.Reading.{Reading}
-use Rattle.fault_script.specs.Values.{ScriptValues, values_of, one_or_none, so_far_of}
+use Rattle.line_model.specs.declared.script.Script.{Script}
+use Rattle.csv_records.specs.declared.reading.Reading.{Reading}
+use Rattle.csv_records.specs.SoFar.{one_or_none, so_far_of}
+use Rattle.fault_script.specs.Values.{ScriptValues, values_of}
 use Rattle.fault_script.specs.Checks.{is_taken}
 use Rattle.csv_records.specs.ListLaws.{list_any-map}
 
 -- a name is taken by a finished script or by the latest
-pub taken_split : (r : Reading) (name : List ℕ) → is_taken (so_far_of r) name
+pub taken_split : (r : Reading Script) (name : List ℕ) → is_taken (so_far_of values_of r) name
     ≡ (list_any (λ s. bytes_eq s.name name) r.done.items
     || list_any (λ s. bytes_eq s.name name) (one_or_none (option_map values_of r.latest)))
 taken_split r name =

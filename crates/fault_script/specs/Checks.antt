@@ -1,29 +1,21 @@
--- The checks of one record, each of them alone. n is the record's number; the header is record 1.
-use Rattle.std.specs.Prelude.{◌&&◌, ℕ, Bool, true, false, not, List, [], ◌∷◌, length, nat_le}
-use Rattle.std.specs.Prelude.{nat_lt, codes, Option, None, Some, option_map, Result, Ok, Err}
-use Rattle.std.specs.Prelude.{if◌then◌else◌}
+-- The checks of one record, each of them alone.
+use Rattle.std.specs.Prelude.{◌&&◌, ℕ, Bool, true, false, not, List, [], ◌∷◌, nat_le, nat_lt}
+use Rattle.std.specs.Prelude.{codes, Option, None, Some, option_map, if◌then◌else◌}
 use Rattle.std.specs.List.{list_any}
 use Rattle.std.specs.Str.{bytes_eq}
+use Rattle.std.proofs.lemmas.Map.Entries.{option_filter}
 use Rattle.line_model.specs.declared.script.Element.TheVariants.{Z1, Z2, Rv, Uv, Cur}
 use Rattle.line_model.specs.declared.script.Kind.{Kind}
 use Rattle.line_model.specs.declared.script.Kind.TheVariants.{Internal, External}
 use Rattle.line_model.specs.{declared.line.Line.Line, declared.script.What.What}
 use Rattle.line_model.specs.declared.script.What.TheVariants as what
 use Rattle.line_model.specs.{declared.script.SeenSpan.SeenSpan, PlainNames.is_plain_name}
+use Rattle.line_model.specs.NumbersByName.{terminal_named, channel_named}
+use Rattle.csv_records.specs.{Fields.is_empty, SoFar.SoFar, SoFar.all_of}
 use Rattle.relay_base.specs.Number.{number_of}
-use Rattle.fault_script.specs.declared.fault.ScriptFault.{ScriptFault}
-use Rattle.fault_script.specs.declared.fault.ScriptFault.TheVariants as fault
+use Rattle.fault_script.specs.declared.item.Item.{Item}
 use Rattle.fault_script.specs.declared.item.Item.TheVariants.{Head, Seen, Lost}
-use Rattle.fault_script.specs.Values.{ScriptValues, ScriptsSoFar, all_scripts}
-use Rattle.fault_script.specs.Places.{terminal_named, channel_named}
-use Rattle.fault_script.specs.{declared.item.Item.Item, Row.Row}
-
--- the header has exactly these five fields
-abbrev pub is_header : List (List ℕ) → Bool
-is_header (a ∷ b ∷ c ∷ d ∷ e ∷ []) =
-    bytes_eq a (codes "script") && (bytes_eq b (codes "item") && (bytes_eq c (codes "place")
-    && (bytes_eq d (codes "from") && bytes_eq e (codes "to"))))
-is_header _ = false
+use Rattle.fault_script.specs.{Row.Row, Values.ScriptValues}
 
 -- the eight items: two heads, five elements and a lost channel
 abbrev pub item_of : List ℕ → Option Item
@@ -45,41 +37,12 @@ is_head (Some Lost) = false
 is_head None = false
 
 -- the name is plain, and a head's is that of no head before it
-abbrev pub is_taken : ScriptsSoFar → List ℕ → Bool
-is_taken s name = list_any (λ script. bytes_eq script.name name) (all_scripts s)
+abbrev pub is_taken : SoFar ScriptValues → List ℕ → Bool
+is_taken s name = list_any (λ script. bytes_eq script.name name) (all_of s)
 
-abbrev pub has_good_name : ScriptsSoFar → Row → Bool
+abbrev pub has_good_name : SoFar ScriptValues → Row → Bool
 has_good_name s row =
     is_plain_name row.name && not (is_head (item_of row.item) && is_taken s row.name)
-
-abbrev pub check_name : ScriptsSoFar → ℕ → Row → Result (Unit {0}) ScriptFault
-check_name s n row = if has_good_name s row then Ok tt else Err (fault.BadName n)
-
--- the item is one of the eight
-abbrev pub check_item : ℕ → Option Item → Result Item ScriptFault
-check_item n None = Err (fault.Item n)
-check_item n (Some item) = Ok item
-
--- a row has the name of the latest head
-abbrev pub check_order : ℕ → List ℕ → Option ScriptValues → Result ScriptValues ScriptFault
-check_order n name None = Err (fault.Order n)
-check_order n name (Some latest) =
-    if bytes_eq latest.name name then Ok latest else Err (fault.Order n)
-
--- there are at most 64 heads, and at most 200 rows after each
-abbrev pub check_heads : ScriptsSoFar → Result (Unit {0}) ScriptFault
-check_heads s = if nat_lt (length (all_scripts s)) 64 then Ok tt else Err fault.TooMany
-
-abbrev pub check_rows : ScriptValues → Result (Unit {0}) ScriptFault
-check_rows latest = if nat_lt (length latest.spans) 200 then Ok tt else Err fault.TooMany
-
--- a head has no place
-abbrev pub is_empty : List ℕ → Bool
-is_empty [] = true
-is_empty (b ∷ bs) = false
-
-abbrev pub check_no_place : ℕ → List ℕ → Result (Unit {0}) ScriptFault
-check_no_place n place = if is_empty place then Ok tt else Err (fault.BadPlace n)
 
 -- a row's place is a terminal, or a channel that is lost
 abbrev pub what_at : Line → Item → List ℕ → Option What
@@ -89,23 +52,11 @@ what_at line (Seen element) place =
     (terminal_named line place)
 what_at line Lost place = option_map (λ c. what.Loss c) (channel_named line place)
 
-abbrev pub check_place : ℕ → Option What → Result What ScriptFault
-check_place n None = Err (fault.BadPlace n)
-check_place n (Some w) = Ok w
-
 -- the deadline of an internal script is below the horizon; an external one has none
-abbrev pub below_horizon : ℕ → Option ℕ → Option ℕ
-below_horizon horizon None = None
-below_horizon horizon (Some t) = if nat_lt t horizon then Some t else None
-
 abbrev pub deadline_of : Line → Kind → List ℕ → List ℕ → Option ℕ
 deadline_of line Internal from to =
-    if is_empty to then below_horizon line.horizon (number_of from) else None
+    if is_empty to then option_filter (λ t. nat_lt t line.horizon) (number_of from) else None
 deadline_of line External from to = if is_empty from && is_empty to then Some 0 else None
-
-abbrev pub check_deadline : ℕ → Option ℕ → Result ℕ ScriptFault
-check_deadline n None = Err (fault.Ticks n)
-check_deadline n (Some deadline) = Ok deadline
 
 -- a row's span has from below to, and to at most the horizon
 abbrev pub span_between : ℕ → What → Option ℕ → Option ℕ → Option SeenSpan
@@ -114,7 +65,3 @@ span_between horizon w (Some from) None = None
 span_between horizon w (Some from) (Some to) =
     if nat_lt from to && nat_le to horizon then Some (record { what = w; from = from; to = to })
     else None
-
-abbrev pub check_span : ℕ → Option SeenSpan → Result SeenSpan ScriptFault
-check_span n None = Err (fault.Ticks n)
-check_span n (Some span) = Ok span

@@ -2,7 +2,6 @@ pub mod Gives
 pub mod Values
 pub mod SoFar
 pub mod Row
-pub mod Places
 pub mod Checks
 pub mod Scripts
 pub mod Printed

@@ -10,11 +10,7 @@ use Rattle.line_model.specs.{declared.script.Kind.Kind, declared.script.What.Wha
 use Rattle.line_model.specs.declared.script.What.TheVariants as what
 use Rattle.line_model.specs.ParamNames.{name_at, channel_name}
 use Rattle.line_model.specs.{declared.script.SeenSpan.SeenSpan, NamesByNumber.element_text}
-use Rattle.fault_script.specs.Values.{ScriptValues}
-
-abbrev pub header_record : List (List ℕ)
-header_record =
-    codes "script" ∷ codes "item" ∷ codes "place" ∷ codes "from" ∷ codes "to" ∷ []
+use Rattle.fault_script.specs.{Row.header_record, Values.ScriptValues}
 
 abbrev pub kind_text : Kind → List ℕ
 kind_text Internal = codes "internal"

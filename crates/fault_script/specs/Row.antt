@@ -1,7 +1,5 @@
 -- The fields of a record.
-use Rattle.std.specs.Prelude.{ℕ, List, [], ◌∷◌, Result, Ok, Err}
-use Rattle.fault_script.specs.declared.fault.ScriptFault.{ScriptFault}
-use Rattle.fault_script.specs.declared.fault.ScriptFault.TheVariants as fault
+use Rattle.std.specs.Prelude.{ℕ, List, [], ◌∷◌, Option, Some, None, codes}
 use Rattle.fault_script.specs.declared.fields.Fields.{Fields}
 
 -- the five fields of a record that has five
@@ -12,11 +10,16 @@ pub record Row : Type 0 where
   pub from : List ℕ
   pub to : List ℕ
 
--- record n has five fields
-abbrev pub row_in : ℕ → List (List ℕ) → Result Row ScriptFault
-row_in n (a ∷ b ∷ c ∷ d ∷ e ∷ []) =
-    Ok (record { name = a; item = b; place = c; from = d; to = e })
-row_in n _ = Err (fault.Fields n)
+-- the record has five fields
+abbrev pub row_in : List (List ℕ) → Option Row
+row_in (a ∷ b ∷ c ∷ d ∷ e ∷ []) =
+    Some (record { name = a; item = b; place = c; from = d; to = e })
+row_in _ = None
+
+-- the header has exactly these
+abbrev pub header_record : List (List ℕ)
+header_record =
+    codes "script" ∷ codes "item" ∷ codes "place" ∷ codes "from" ∷ codes "to" ∷ []
 
 -- what the code holds of them
 abbrev pub row_of : Fields → Row

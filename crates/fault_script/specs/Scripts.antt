@@ -1,56 +1,57 @@
 -- What a file of scripts says: its scripts, or its first fault.
-use Rattle.std.specs.Prelude.{ℕ, List, Result, Ok}
+use Rattle.std.specs.Prelude.{ℕ, List, Result, Ok, length, nat_lt}
+use Rattle.std.specs.{Option.ok_or, Str.bytes_eq}
+use Rattle.std.proofs.lemmas.Map.Entries.{option_filter}
 use Rattle.line_model.specs.{declared.line.Line.Line, declared.script.Kind.Kind}
-use Rattle.csv_records.specs.Gives.{◌>>=◌}
+use Rattle.csv_records.specs.Gives.{◌>>=◌, passes_or}
+use Rattle.csv_records.specs.{Fields.is_empty, SoFar.SoFar, SoFar.all_of, SoFar.nothing}
 use Rattle.csv_records.specs.{RecordFile.RecordFile, RecordFile.said_in, Records.records_of}
 use Rattle.relay_base.specs.Number.{number_of}
 use Rattle.fault_script.specs.declared.fault.ScriptFault.{ScriptFault}
 use Rattle.fault_script.specs.declared.fault.ScriptFault.TheVariants as fault
 use Rattle.fault_script.specs.declared.item.Item.{Item}
 use Rattle.fault_script.specs.declared.item.Item.TheVariants.{Head, Seen, Lost}
-use Rattle.fault_script.specs.Values.{ScriptValues, ScriptsSoFar, all_scripts, no_scripts}
-use Rattle.fault_script.specs.Values.{with_head, with_row}
-use Rattle.fault_script.specs.Row.{Row, row_in}
-use Rattle.fault_script.specs.Checks.{is_header, item_of, check_name, check_item, check_order}
-use Rattle.fault_script.specs.Checks.{check_heads, check_rows, check_no_place, what_at, check_place}
-use Rattle.fault_script.specs.Checks.{deadline_of, check_deadline, span_between, check_span}
+use Rattle.fault_script.specs.Values.{ScriptValues, with_head, with_row}
+use Rattle.fault_script.specs.Row.{Row, header_record, row_in}
+use Rattle.fault_script.specs.Checks.{item_of, has_good_name, what_at, deadline_of, span_between}
 
--- a head: room for one more, no place, then its deadline
-unfoldable pub after_head : Line → ScriptsSoFar → ℕ → Row → Kind → Result ScriptsSoFar ScriptFault
+-- a head: fewer than 64 before it, no place, then its deadline
+unfoldable pub after_head : Line → SoFar ScriptValues → ℕ → Row → Kind → Result (SoFar ScriptValues) ScriptFault
 after_head line s n row kind = do
-  room ← check_heads s
-  place ← check_no_place n row.place
-  deadline ← check_deadline n (deadline_of line kind row.from row.to)
+  room ← passes_or (nat_lt (length (all_of s)) 64) fault.TooMany
+  place ← passes_or (is_empty row.place) (fault.BadPlace n)
+  deadline ← ok_or (deadline_of line kind row.from row.to) (fault.Ticks n)
   Ok (with_head s row.name kind deadline)
 
--- any other row: the latest script's name, room for one more, its place, then its ticks
-unfoldable pub after_row : Line → ScriptsSoFar → ℕ → Row → Item → Result ScriptsSoFar ScriptFault
+-- any other row: the latest script's name, fewer than 200 before it, its place, then its ticks
+unfoldable pub after_row : Line → SoFar ScriptValues → ℕ → Row → Item → Result (SoFar ScriptValues) ScriptFault
 after_row line s n row item = do
-  latest ← check_order n row.name s.latest
-  room ← check_rows latest
-  place ← check_place n (what_at line item row.place)
-  span ← check_span n (span_between line.horizon place (number_of row.from) (number_of row.to))
+  latest ← ok_or (option_filter (λ v. bytes_eq v.name row.name) s.latest) (fault.Order n)
+  room ← passes_or (nat_lt (length latest.spans) 200) fault.TooMany
+  place ← ok_or (what_at line item row.place) (fault.BadPlace n)
+  span ← ok_or (span_between line.horizon place (number_of row.from) (number_of row.to))
+      (fault.Ticks n)
   Ok (with_row s latest span)
 
-abbrev pub after_item : Line → ScriptsSoFar → ℕ → Row → Item → Result ScriptsSoFar ScriptFault
+abbrev pub after_item : Line → SoFar ScriptValues → ℕ → Row → Item → Result (SoFar ScriptValues) ScriptFault
 after_item line s n row (Head kind) = after_head line s n row kind
 after_item line s n row (Seen element) = after_row line s n row (Seen element)
 after_item line s n row Lost = after_row line s n row Lost
 
 -- what a record makes of the scripts before it
-unfoldable pub after_record : Line → ScriptsSoFar → ℕ → List (List ℕ)
-    → Result ScriptsSoFar ScriptFault
+unfoldable pub after_record : Line → SoFar ScriptValues → ℕ → List (List ℕ)
+    → Result (SoFar ScriptValues) ScriptFault
 after_record line s n fields = do
-  row ← row_in n fields
-  name ← check_name s n row
-  item ← check_item n (item_of row.item)
+  row ← ok_or (row_in fields) (fault.Fields n)
+  name ← passes_or (has_good_name s row) (fault.BadName n)
+  item ← ok_or (item_of row.item) (fault.Item n)
   after_item line s n row item
 
 -- a file of scripts
-abbrev pub script_file : Line → RecordFile ScriptsSoFar ScriptFault
+abbrev pub script_file : Line → RecordFile (SoFar ScriptValues) ScriptFault
 script_file line = record {
-  is_header = is_header;
-  start = no_scripts;
+  header = header_record;
+  start = nothing;
   after = after_record line;
   no_header = fault.Header;
   no_record = fault.Empty;
@@ -58,7 +59,7 @@ script_file line = record {
 
 -- what these records say
 unfoldable pub scripts_in : Line → List (List (List ℕ)) → Result (List ScriptValues) ScriptFault
-scripts_in line rows = said_in (script_file line) rows >>= λ s. Ok (all_scripts s)
+scripts_in line rows = said_in (script_file line) rows >>= λ s. Ok (all_of s)
 
 -- what these bytes say
 abbrev pub scripts_of : Line → List ℕ → Result (List ScriptValues) ScriptFault

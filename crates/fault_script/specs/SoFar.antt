@@ -3,7 +3,8 @@ use Rattle.std.specs.Prelude.{◌≡◌, ◌≢◌, ◌≤◌, ◌<◌, ◌+◌,
 use Rattle.std.specs.List.{All, list_all, sum_by}
 use Rattle.line_model.specs.declared.line.Line.{Line}
 use Rattle.line_model.specs.{Fits.span_fits, Fits.deadline_fits, PlainNames.is_plain_name}
-use Rattle.fault_script.specs.Values.{ScriptValues, ScriptsSoFar, all_scripts}
+use Rattle.csv_records.specs.SoFar.{SoFar, all_of}
+use Rattle.fault_script.specs.Values.{ScriptValues}
 
 -- a script with these values fits the line
 pub record ValuesFit (line : Line) (v : ScriptValues) : Type 0 where
@@ -24,8 +25,8 @@ abbrev pub records_in : ScriptValues → ℕ
 records_in v = 1 + length v.spans
 
 -- before record n: at most 64 scripts, each of which fits, and each record counted
-pub record IsSoFar (line : Line) (n : ℕ) (s : ScriptsSoFar) : Type 0 where
-  pub heads : length (all_scripts s) ≤ 64
-  pub fit : All (ValuesFit line) (all_scripts s)
-  pub number : n ≡ 2 + sum_by records_in (all_scripts s)
-  pub once : AreOnce (names_in (all_scripts s))
+pub record IsSoFar (line : Line) (n : ℕ) (s : SoFar ScriptValues) : Type 0 where
+  pub heads : length (all_of s) ≤ 64
+  pub fit : All (ValuesFit line) (all_of s)
+  pub number : n ≡ 2 + sum_by records_in (all_of s)
+  pub once : AreOnce (names_in (all_of s))

@@ -5,27 +5,29 @@ ghost use Rattle.std.specs.List.{list_any};
 ghost use Rattle.std.specs.Str.{bytes_eq};
 ghost use Rattle.relay_base.specs.Number.{number_of};
 ghost use Rattle.fault_script.specs.Row.{row_of};
-ghost use Rattle.fault_script.specs.Values.{so_far_of, all_scripts, values_of, one_or_none};
-ghost use Rattle.fault_script.specs.Checks.{is_taken, has_good_name, is_empty, what_at};
-ghost use Rattle.fault_script.specs.Checks.{deadline_of, span_between};
+ghost use Rattle.csv_records.specs.SoFar.{all_of, one_or_none, so_far_of};
+ghost use Rattle.fault_script.specs.Values.{values_of};
+ghost use Rattle.fault_script.specs.Checks.{is_taken, has_good_name, what_at, deadline_of};
+ghost use Rattle.fault_script.specs.Checks.{span_between};
 
 use crate::fields::Fields;
-use crate::item::{Item, is, item_named, opens};
-use crate::place::{channel_number, terminal_number};
-use crate::reading::Reading;
-use line_model::{Kind, Line, Place, Script, SeenSpan, What, is_plain};
+use crate::item::{Item, item_named, opens};
+use csv_records::{Reading, is, is_nothing};
+use line_model::{
+    Kind, Line, Place, Script, SeenSpan, What, channel_of_name, is_plain, terminal_of_name,
+};
 use relay_base::number;
 
 /// Whether the record's name is plain and, in a head, that of no head before it.
-pub fn is_named_well(reading: &Reading, fields: Fields) -> bool
-    ensures { result ≡ has_good_name (so_far_of reading.now) (row_of fields.entry) }
+pub fn is_named_well(reading: &Reading<Script>, fields: Fields) -> bool
+    ensures { result ≡ has_good_name (so_far_of values_of reading.now) (row_of fields.entry) }
 {
     is_plain(fields.name) && !(opens(item_named(fields.item)) && is_used(reading, fields.name))
 }
 
 #[tactic(auto, using(crate::proofs::Taken::taken_split))]
-fn is_used(reading: &Reading, name: &[u8]) -> bool
-    ensures { result ≡ is_taken (so_far_of reading.now) name.now }
+fn is_used(reading: &Reading<Script>, name: &[u8]) -> bool
+    ensures { result ≡ is_taken (so_far_of values_of reading.now) name.now }
 {
     is_any(reading.done.as_slice(), name) || is_latest(&reading.latest, name)
 }
@@ -47,8 +49,8 @@ fn is_latest(latest: &Option<Script>, name: &[u8]) -> bool
 }
 
 /// Whether there are fewer than 64 heads.
-pub fn has_room(reading: &Reading) -> bool
-    ensures { IsTrue result ↔ (length (all_scripts (so_far_of reading.now)) < 64) }
+pub fn has_room(reading: &Reading<Script>) -> bool
+    ensures { IsTrue result ↔ (length (all_of (so_far_of values_of reading.now)) < 64) }
 {
     let latest = if reading.latest.is_some() { 1 } else { 0 };
     reading.done.len() < 64 - latest
@@ -62,9 +64,9 @@ pub fn what_named(line: &Line, item: Item, place: &[u8]) -> Option<What>
         Item::Head(_) => None,
         Item::Seen(element) => Some(What::Element(Place {
             element,
-            terminal: terminal_number(line, place)?,
+            terminal: terminal_of_name(line, place)?,
         })),
-        Item::Lost => Some(What::Loss(channel_number(line, place)?)),
+        Item::Lost => Some(What::Loss(channel_of_name(line, place)?)),
     }
 }
 
@@ -92,13 +94,6 @@ pub fn deadline(line: &Line, kind: Kind, from: &[u8], to: &[u8]) -> Option<u32>
             }
         }
     }
-}
-
-/// Whether a field is empty.
-pub fn is_nothing(field: &[u8]) -> bool
-    ensures { result ≡ is_empty field.now }
-{
-    matches!(field, [])
 }
 
 /// The span of a row.

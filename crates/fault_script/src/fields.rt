@@ -1,11 +1,9 @@
 //! The fields of a record.
 
-ghost use Rattle.std.specs.Prelude.{◌≡◌};
+ghost use Rattle.std.specs.Prelude.{◌≡◌, option_map};
 ghost use Rattle.csv.specs.Records.{fields_of};
-ghost use Rattle.fault_script.specs.{Row.row_in, Row.row_of, Gives.Gives, Checks.is_header};
+ghost use Rattle.fault_script.specs.Row.{row_in, row_of};
 
-use crate::fault::ScriptFault;
-use crate::item::is;
 use csv::ByteRecord;
 use csv_records::five_fields;
 
@@ -19,34 +17,18 @@ pub struct Fields<'a> {
     pub to: &'a [u8],
 }
 
-/// The fields of record n.
-pub fn fields_in(row: &ByteRecord, n: u32) -> Result<Fields<'_>, ScriptFault>
-    ensures { Gives row_of result (row_in n (fields_of row.now)) }
+/// The fields of a record, where it has five.
+pub fn fields_in(row: &ByteRecord) -> Option<Fields<'_>>
+    ensures { option_map row_of result ≡ row_in (fields_of row.now) }
 {
     match five_fields(row) {
-        Some((name, item, place, from, to)) => Ok(Fields {
+        Some((name, item, place, from, to)) => Some(Fields {
             name,
             item,
             place,
             from,
             to,
         }),
-        None => Err(ScriptFault::Fields(n)),
-    }
-}
-
-/// Whether the record is the header.
-pub fn heads_file(row: &ByteRecord) -> bool
-    ensures { result ≡ is_header (fields_of row.now) }
-{
-    match five_fields(row) {
-        Some((name, item, place, from, to)) => {
-            is(name, b"script")
-                && is(item, b"item")
-                && is(place, b"place")
-                && is(from, b"from")
-                && is(to, b"to")
-        }
-        None => false,
+        None => None,
     }
 }

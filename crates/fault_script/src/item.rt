@@ -1,9 +1,9 @@
 //! What the item of a record says.
 
 ghost use Rattle.std.specs.Prelude.{◌≡◌};
-ghost use Rattle.std.specs.Str.{bytes_eq};
 ghost use Rattle.fault_script.specs.Checks.{item_of, is_head};
 
+use csv_records::is;
 use line_model::{Element, Kind};
 
 /// A head with its kind, an element that is seen, or a channel that is lost.
@@ -44,11 +44,4 @@ pub fn opens(item: Option<Item>) -> bool
     ensures { result ≡ is_head item }
 {
     matches!(item, Some(Item::Head(_)))
-}
-
-/// Whether the two texts are the same bytes.
-pub fn is(text: &[u8], word: &[u8]) -> bool
-    ensures { result ≡ bytes_eq text.now word.now }
-{
-    text == word
 }

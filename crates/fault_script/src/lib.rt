@@ -5,10 +5,8 @@ mod check;
 mod fault;
 mod fields;
 mod item;
-mod place;
 mod print;
 mod read;
-mod reading;
 
 pub use fault::ScriptFault;
 pub use print::print_scripts;

@@ -4,18 +4,18 @@ ghost use Rattle.std.specs.Prelude.{◌≡◌, IfOk, IsTrue, map};
 ghost use Rattle.std.specs.List.{All};
 ghost use Rattle.csv.specs.Records.{fields_of};
 ghost use Rattle.line_model.specs.{Fits.Fits, PlainNames.is_plain_name};
-ghost use Rattle.fault_script.specs.Values.{ScriptsSoFar, values_of, so_far_of, AreOfOneFile};
+ghost use Rattle.csv_records.specs.SoFar.{SoFar, all_of, so_far_of};
+ghost use Rattle.fault_script.specs.Values.{ScriptValues, values_of, AreOfOneFile};
 ghost use Rattle.fault_script.specs.Scripts.{scripts_of, script_file, after_record, after_head};
 ghost use Rattle.fault_script.specs.Scripts.{after_row};
 ghost use Rattle.fault_script.specs.{Gives.Gives, Gives.is_memory, Row.row_of, SoFar.IsSoFar};
 
-use crate::check::{deadline, has_room, is_named_well, is_nothing, span, what_named};
+use crate::check::{deadline, has_room, is_named_well, span, what_named};
 use crate::fault::ScriptFault;
-use crate::fields::{Fields, fields_in, heads_file};
-use crate::item::{Item, is, item_named};
-use crate::reading::{Reading, finished, nothing_read};
+use crate::fields::{Fields, fields_in};
+use crate::item::{Item, item_named};
 use csv::ByteRecord;
-use csv_records::{RecordReader, read_file};
+use csv_records::{Reading, RecordReader, has_five, is, is_nothing, read_file};
 use line_model::{Kind, Line, Name, Script};
 use std::alloc::Global;
 
@@ -26,13 +26,13 @@ struct ScriptReader<'a> {
 }
 
 impl<'a> RecordReader for ScriptReader<'a> {
-    type Reading = Reading;
+    type Reading = Reading<Script>;
 
     type Fault = ScriptFault;
 
-    ghost Said = { ScriptsSoFar };
+    ghost Said = { SoFar ScriptValues };
 
-    ghost said = { so_far_of };
+    ghost said = { so_far_of values_of };
 
     ghost file = { λ reader. script_file reader.line.now };
 
@@ -41,20 +41,20 @@ impl<'a> RecordReader for ScriptReader<'a> {
     ghost Before = { λ reader n s. IsSoFar reader.line.now n s };
 
     fn is_header(&self, row: &ByteRecord) -> bool {
-        heads_file(row)
+        has_five(row, b"script", b"item", b"place", b"from", b"to")
     }
 
-    fn start(&self, alloc: Global) -> Reading {
-        nothing_read(alloc)
+    fn start(&self, alloc: Global) -> Reading<Script> {
+        Reading::new(alloc)
     }
 
     fn after(
         &self,
         alloc: Global,
-        reading: Reading,
+        reading: Reading<Script>,
         n: u32,
         row: &ByteRecord,
-    ) -> Result<Reading, ScriptFault> {
+    ) -> Result<Reading<Script>, ScriptFault> {
         after(alloc, self.line, reading, n, row)
     }
 
@@ -76,14 +76,16 @@ impl<'a> RecordReader for ScriptReader<'a> {
 fn after(
     alloc: Global,
     line: &Line,
-    reading: Reading,
+    reading: Reading<Script>,
     n: u32,
     row: &ByteRecord,
-) -> Result<Reading, ScriptFault>
-    ensures { Gives so_far_of result
-        (after_record line.now (so_far_of reading) n (fields_of row.now)) }
+) -> Result<Reading<Script>, ScriptFault>
+    ensures { Gives (so_far_of values_of) result
+        (after_record line.now (so_far_of values_of reading) n (fields_of row.now)) }
 {
-    let fields = fields_in(row, n)?;
+    let Some(fields) = fields_in(row) else {
+        return Err(ScriptFault::Fields(n));
+    };
     if !is_named_well(&reading, fields) {
         return Err(ScriptFault::BadName(n));
     }
@@ -98,14 +100,14 @@ fn after(
 fn with_head(
     alloc: Global,
     line: &Line,
-    reading: Reading,
+    reading: Reading<Script>,
     n: u32,
     fields: Fields,
     kind: Kind,
-) -> Result<Reading, ScriptFault>
+) -> Result<Reading<Script>, ScriptFault>
     requires { IsTrue (is_plain_name fields.name.now) }
-    ensures { Gives so_far_of result
-        (after_head line.now (so_far_of reading) n (row_of fields.entry) kind) }
+    ensures { Gives (so_far_of values_of) result
+        (after_head line.now (so_far_of values_of reading) n (row_of fields.entry) kind) }
 {
     if !has_room(&reading) {
         return Err(ScriptFault::TooMany);
@@ -117,7 +119,7 @@ fn with_head(
         return Err(ScriptFault::Ticks(n));
     };
     let script = Script {
-        name: plain_name(fields.name),
+        name: Name::plain(fields.name),
         kind,
         deadline,
         spans: Vec::new(alloc),
@@ -128,26 +130,16 @@ fn with_head(
     })
 }
 
-fn plain_name(bytes: &[u8]) -> Name
-    requires { IsTrue (is_plain_name bytes.now) }
-    ensures { result ≡ bytes.now }
-{
-    match Name::from_bytes(bytes) {
-        Some(name) => name,
-        None => unreachable!(),
-    }
-}
-
 #[tactic(auto, unfolding(crate::specs::Scripts::after_row))]
 fn with_row(
     line: &Line,
-    reading: Reading,
+    reading: Reading<Script>,
     n: u32,
     fields: Fields,
     item: Item,
-) -> Result<Reading, ScriptFault>
-    ensures { Gives so_far_of result
-        (after_row line.now (so_far_of reading) n (row_of fields.entry) item) }
+) -> Result<Reading<Script>, ScriptFault>
+    ensures { Gives (so_far_of values_of) result
+        (after_row line.now (so_far_of values_of reading) n (row_of fields.entry) item) }
 {
     let Reading { done, latest } = reading;
     let Some(mut script) = latest else {
@@ -179,4 +171,13 @@ pub fn read_scripts(alloc: Global, line: &Line, bytes: &[u8]) -> Result<Vec<Scri
     ensures one_file { IfOk result (λ v. AreOfOneFile (map values_of v.items)) }
 {
     finished(read_file(alloc, &ScriptReader { line }, bytes)?)
+}
+
+// All scripts, in file order.
+fn finished(reading: Reading<Script>) -> Result<Vec<Script>, ScriptFault>
+    ensures { Gives (λ v. map values_of v.items) result
+        (Ok (all_of (so_far_of values_of reading))) }
+{
+    let scripts = reading.finished()?;
+    Ok(scripts)
 }

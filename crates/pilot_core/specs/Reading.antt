@@ -3,11 +3,12 @@
 use Rattle.std.specs.Prelude.{◌≡◌, ◌∷◌, ℕ, List, [], Option, None, Some, Result, Ok, Err, map}
 use Rattle.std.specs.List.{All}
 use Rattle.line_model.specs.{declared.line.Line.Line, declared.script.Script.Script, Fits.Fits}
+use Rattle.line_model.specs.NumbersByName.{param_named}
 use Rattle.line_file.specs.LineFiles.{line_of}
 use Rattle.line_file.specs.{Lines.LineValues, Lines.line_values, declared.fault.LineFault.LineFault}
 use Rattle.fault_script.specs.Values.{ScriptValues, values_of}
 use Rattle.fault_script.specs.{Scripts.scripts_of, declared.fault.ScriptFault.ScriptFault}
-use Rattle.timing_box.specs.{Checks.param_named, Inside.IsTimingInside, SoFar.NamedValues}
+use Rattle.timing_box.specs.{Inside.IsTimingInside, SoFar.NamedValues}
 use Rattle.timing_box.specs.{Timings.timings_of, declared.fault.TimingFault.TimingFault}
 use Rattle.record_match.specs.Waves.{SeenValues, records_said}
 use Rattle.record_match.specs.declared.fault.SeenFault.{SeenFault}

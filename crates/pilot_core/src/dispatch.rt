@@ -22,7 +22,7 @@ use commands::{
 };
 use engine::Engine;
 use line_file::read_line;
-use line_model::{Line, Memory};
+use line_model::{Line, Memory, parameter_of_name};
 use record_match::read_seen;
 use relay_base::Sink;
 use std::alloc::Global;
@@ -179,7 +179,7 @@ pub fn margin_of<O: Sink>(
         (answer_by (of_margin parameter.now line.now scripts.now)) out.old out.new result }
 {
     let study = read_study(alloc, line, scripts)?;
-    match margin::param_named(&study.line, parameter.as_bytes()) {
+    match parameter_of_name(&study.line, parameter.as_bytes()) {
         None => Err(Stop::Refused(Refusal::UnknownParameter)),
         Some(param) => {
             let said = margin::margin(alloc, &study, param)?;

@@ -1,55 +1,27 @@
 -- Each head that a record file says is of a script.
-use Rattle.std.proofs.Common.{◌≡◌, ◌<◌, ◌+◌, ℕ, Bool, true, false, cond, List, [], ◌∷◌, ◌++◌}
-use Rattle.std.proofs.Common.{length, map, Option, Some, None, Result, Ok, Err, refl, sym, ◌∙◌, ap}
-use Rattle.std.proofs.Common.{subst, arith}
-use Rattle.std.proofs.lemmas.Bool.{ltb-true}
-use Rattle.std.proofs.lemmas.Iterator.Adapters.{position_from-zero}
+use Rattle.std.proofs.Common.{◌≡◌, ◌<◌, ℕ, Bool, true, false, cond, List, [], ◌∷◌, ◌++◌, length}
+use Rattle.std.proofs.Common.{map, Option, Some, None, Result, Ok, Err, sym, ap, subst, ok_or}
 use Rattle.std.proofs.lemmas.List.Elements.{All-nil, All-cons, All-head, All-tail, All-push}
+use Rattle.std.proofs.lemmas.Map.Entries.{option_filter}
 use Rattle.std.specs.Prelude.{◌&&◌, ◌==◌, nat_lt, IfOk, Vec}
 use Rattle.std.specs.declared.alloc.Global.{Global}
-use Rattle.std.specs.List.{All, position_from, position_or_len}
-use Rattle.std.specs.Str.{bytes_eq}
+use Rattle.std.specs.{List.All, Str.bytes_eq}
 use Rattle.relay_base.specs.Number.{number_of}
 use Rattle.line_model.specs.{declared.line.Line.Line, declared.script.Script.Script}
+use Rattle.line_model.specs.NumbersByName.{script_named}
+use Rattle.csv_records.specs.{Gives.◌>>=◌, Gives.passes_or, SoFar.SoFar, SoFar.all_of}
+use Rattle.csv_records.specs.ListLaws.{All-front, All-last, position_within}
+use Rattle.csv_records.specs.CheckLaws.{filtered, found, passed, same_ok}
 use Rattle.record_match.specs.{declared.change.Place.Place, declared.fault.SeenFault.SeenFault}
 use Rattle.record_match.specs.declared.fault.SeenFault.TheVariants as fault
 use Rattle.record_match.specs.declared.heads.Head.{Head}
-use Rattle.record_match.specs.Heads.{HeadValues, HeadsSoFar, all_heads, values_of, with_head}
-use Rattle.record_match.specs.Heads.{AllNamed, IsNamed, with_change}
+use Rattle.record_match.specs.Heads.{HeadValues, values_of, with_head, AllNamed, IsNamed}
+use Rattle.record_match.specs.Heads.{with_change}
 use Rattle.record_match.specs.Waves.{SeenValues, seen_values, seen_of}
-use Rattle.record_match.specs.Checks.{is_head, is_taken, script_named, name_for, check_name}
-use Rattle.record_match.specs.Checks.{check_order, place_at, check_place, below, check_tick}
-use Rattle.record_match.specs.Checks.{comes_later, check_later, level_of, level_before, other_level}
-use Rattle.record_match.specs.Checks.{check_level, change_of}
+use Rattle.record_match.specs.Checks.{is_head, is_taken, name_for, place_at, comes_later}
+use Rattle.record_match.specs.Checks.{level_of, level_before, other_level, change_of}
 use Rattle.record_match.specs.Records.{after_row, after_name, after_record}
 use Rattle.record_match.specs.{declared.seen.Seen.Seen, Gives.Gives, Row.Row, Row.row_in}
-use Rattle.csv_records.specs.CheckLaws.{choice_passed, passed, same_ok}
-use Rattle.csv_records.specs.{ListLaws.All-front, ListLaws.All-last, Gives.◌>>=◌}
-
--- a first place is within the list
-first_within : (b : Bool) (n i m : ℕ) → (b ≡ true → n < m) → cond b (Some n) None ≡ Some i → i < m
-first_within true n i m inside e =
-    let same : n ≡ i = cc in
-    let less = inside refl in
-    omega arith
-first_within false n i m inside e = absurd (cc)
-
-position_within : {K : Type 0} (test : K → Bool) (xs : List K) (i : ℕ)
-    → position_from test 0 xs ≡ Some i → i < length xs
-position_within test xs i e =
-    let place : ℕ = position_or_len test xs in
-    first_within (nat_lt place (length xs)) place i (length xs) (ltb-true place (length xs))
-    (position_from-zero test xs ∙ e)
-
-found_head : (n script : ℕ) (o : Option HeadValues) (h : HeadValues)
-    → check_order n script o ≡ Ok h → o ≡ Some h
-found_head n script None h e = absurd (cc)
-found_head n script (Some g) h e =
-    ap Some (same_ok g h (choice_passed (g.script == script) (Ok g) (fault.Order n) h e))
-
-found_name : (n : ℕ) (o : Option ℕ) (script : ℕ) → check_name n o ≡ Ok script → o ≡ Some script
-found_name n None script e = absurd (cc)
-found_name n (Some x) script e = cc
 
 none_is_not : {A B : Type 0} (x : A) → (let o : Option A = None in o ≡ Some x) → B
 none_is_not x e = absurd (cc)
@@ -58,7 +30,7 @@ named_taken : (b : Bool) (x script : ℕ) → cond b None (Some x) ≡ Some scri
 named_taken true x script e = none_is_not script e
 named_taken false x script e = cc
 
-named : (s : HeadsSoFar) (head : Bool) (o : Option ℕ) (script : ℕ)
+named : (s : SoFar HeadValues) (head : Bool) (o : Option ℕ) (script : ℕ)
     → name_for s head o ≡ Some script → o ≡ Some script
 named s head None script e = e
 named s head (Some x) script e = ap Some (named_taken (head && is_taken s x) x script e)
@@ -72,7 +44,7 @@ module _ (line : Line) (scripts : List Script) where
       let same : g ≡ h = cc in
       subst (λ (x : HeadValues). All (IsNamed (length scripts)) (done ++ x ∷ [])) same all
 
-  changed : (s : HeadsSoFar) (h : HeadValues) (p : Place) (t : ℕ) (level : Bool)
+  changed : (s : SoFar HeadValues) (h : HeadValues) (p : Place) (t : ℕ) (level : Bool)
       → s.latest ≡ Some h → AllNamed (length scripts) s → AllNamed (length scripts) (with_change s h (change_of p t level))
   changed s h p t level e all =
       let both = latest_named s.done s.latest h e all in
@@ -85,19 +57,21 @@ module _ (line : Line) (scripts : List Script) where
       (All-front (IsNamed (length scripts)) s.done (h ∷ []) both)
       (All-last (IsNamed (length scripts)) s.done h both)
 
-  row_named : (s : HeadsSoFar) (n : ℕ) (row : Row) (script : ℕ) (t : HeadsSoFar)
+  row_named : (s : SoFar HeadValues) (n : ℕ) (row : Row) (script : ℕ) (t : SoFar HeadValues)
       → after_row line s n row script ≡ Ok t → AllNamed (length scripts) s → AllNamed (length scripts) t
   unfolding after_row
   row_named s n row script t e all =
-      let last : HeadValues → Place → ℕ → Bool → Result HeadsSoFar SeenFault =
+      let own : HeadValues → Bool = λ h. h.script == script in
+      let last : HeadValues → Place → ℕ → Bool → Result (SoFar HeadValues) SeenFault =
       λ h p k level. Ok (with_change s h (change_of p k level)) in
       let level : HeadValues → Place → Result Bool SeenFault =
-      λ h p. check_level n (other_level (level_before h p) (level_of row.level)) in
+      λ h p. ok_or (other_level (level_before h p) (level_of row.level)) (fault.Level n) in
       let later : HeadValues → Place → ℕ → Result (Unit {0}) SeenFault =
-      λ h p k. check_later n (comes_later h.latest k p) in
-      let tick : Result ℕ SeenFault = check_tick n (below line.horizon (number_of row.tick)) in
-      let place : Result Place SeenFault = check_place n (place_at line row) in
-      let a = passed (check_order n script s.latest)
+      λ h p k. passes_or (comes_later h.latest k p) (fault.Later n) in
+      let tick : Result ℕ SeenFault =
+      ok_or (option_filter (λ k. nat_lt k line.horizon) (number_of row.tick)) (fault.Ticks n) in
+      let place : Result Place SeenFault = ok_or (place_at line row) (fault.BadPlace n) in
+      let a = passed (ok_or (option_filter own s.latest) (fault.Order n))
       (λ h. place >>= λ p. tick >>= λ k. later h p k >>= λ l. level h p >>= last h p k) t e in
       let b = passed place
       (λ p. tick >>= λ k. later a.value p k >>= λ l. level a.value p >>= last a.value p k) t
@@ -109,39 +83,40 @@ module _ (line : Line) (scripts : List Script) where
       (λ l. level a.value b.value >>= last a.value b.value c.value) t c.rest in
       let f = passed (level a.value b.value) (last a.value b.value c.value) t d.rest in
       let same = same_ok (with_change s a.value (change_of b.value c.value f.value)) t f.rest in
-      subst (λ (x : HeadsSoFar). AllNamed (length scripts) x) same
-      (changed s a.value b.value c.value f.value
-      (found_head n script s.latest a.value a.was) all)
+      let head = found (option_filter own s.latest) (fault.Order n) a.value a.was in
+      subst (λ (x : SoFar HeadValues). AllNamed (length scripts) x) same
+      (changed s a.value b.value c.value f.value (filtered own s.latest a.value head).0 all)
 
-  opened : (s : HeadsSoFar) (script : ℕ) → script < length scripts → AllNamed (length scripts) s
+  opened : (s : SoFar HeadValues) (script : ℕ) → script < length scripts → AllNamed (length scripts) s
       → AllNamed (length scripts) (with_head s script)
   opened s script less all =
-      All-push (IsNamed (length scripts)) (all_heads s)
+      All-push (IsNamed (length scripts)) (all_of s)
       (record { script = script; changes = []; latest = None }) all less
 
-  name_named : (b : Bool) (s : HeadsSoFar) (n : ℕ) (row : Row) (script : ℕ) (t : HeadsSoFar)
+  name_named : (b : Bool) (s : SoFar HeadValues) (n : ℕ) (row : Row) (script : ℕ) (t : SoFar HeadValues)
       → script < length scripts
       → cond b (Ok (with_head s script)) (after_row line s n row script) ≡ Ok t
       → AllNamed (length scripts) s → AllNamed (length scripts) t
   name_named true s n row script t less e all =
-      subst (λ (x : HeadsSoFar). AllNamed (length scripts) x) (same_ok (with_head s script) t e)
+      subst (λ (x : SoFar HeadValues). AllNamed (length scripts) x) (same_ok (with_head s script) t e)
       (opened s script less all)
   name_named false s n row script t less e all = row_named s n row script t e all
 
   -- one record more
-  pub record_named : (s : HeadsSoFar) (n : ℕ) (fields : List (List ℕ)) (t : HeadsSoFar)
+  pub record_named : (s : SoFar HeadValues) (n : ℕ) (fields : List (List ℕ)) (t : SoFar HeadValues)
       → after_record line scripts s n fields ≡ Ok t → AllNamed (length scripts) s → AllNamed (length scripts) t
   unfolding after_record
   record_named s n fields t e all =
-      let name : Row → Result ℕ SeenFault =
-      λ row. check_name n (name_for s (is_head row) (script_named scripts row.name)) in
-      let a = passed (row_in n fields) (λ row. name row >>= after_name line s n row) t e in
+      let named_by : Row → Option ℕ =
+      λ row. name_for s (is_head row) (script_named scripts row.name) in
+      let name : Row → Result ℕ SeenFault = λ row. ok_or (named_by row) (fault.BadName n) in
+      let a = passed (ok_or (row_in fields) (fault.Fields n))
+      (λ row. name row >>= after_name line s n row) t e in
       let b = passed (name a.value) (after_name line s n a.value) t a.rest in
-      let found = named s (is_head a.value) (script_named scripts a.value.name) b.value
-      (found_name n (name_for s (is_head a.value) (script_named scripts a.value.name)) b.value
-      b.was) in
-      let within = position_within (λ x. bytes_eq x.name a.value.name) scripts b.value found in
-      name_named (is_head a.value) s n a.value b.value t (omega arith) b.rest all
+      let known = named s (is_head a.value) (script_named scripts a.value.name) b.value
+      (found (named_by a.value) (fault.BadName n) b.value b.was) in
+      let within = position_within (λ x. bytes_eq x.name a.value.name) scripts b.value known in
+      name_named (is_head a.value) s n a.value b.value t within b.rest all
 
   -- and what was seen under them
   pub seen_named : (all : List Seen) (heads : List HeadValues)
@@ -168,10 +143,10 @@ module _ (line : Line) (scripts : List Script) where
   read_seen_named hs (Err e) named gives = tt
 
 -- the heads that a reader gives are named as those so far
-pub given_named : (scripts : List Script) (s : HeadsSoFar) (r : Result (Vec Head Global) SeenFault)
-    → AllNamed (length scripts) s → Gives (λ v. map values_of v.items) r (Ok (all_heads s))
+pub given_named : (scripts : List Script) (s : SoFar HeadValues) (r : Result (Vec Head Global) SeenFault)
+    → AllNamed (length scripts) s → Gives (λ v. map values_of v.items) r (Ok (all_of s))
     → IfOk r (λ v. All (IsNamed (length scripts)) (map values_of v.items))
 given_named scripts s (Ok v) named gives =
     subst (λ (hs : List HeadValues). All (IsNamed (length scripts)) hs)
-    (same_ok {F = SeenFault} (all_heads s) (map values_of v.items) gives) named
+    (same_ok {F = SeenFault} (all_of s) (map values_of v.items) gives) named
 given_named scripts s (Err e) named gives = tt

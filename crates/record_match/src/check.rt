@@ -1,21 +1,23 @@
 //! The checks of one record, each of them alone.
 
-ghost use Rattle.std.specs.Prelude.{◌≡◌, ◌==◌, option_map, false, length, ◌≤◌};
+ghost use Rattle.std.specs.Prelude.{◌≡◌, ◌==◌, ◌≤◌, option_map, false, length, nat_lt};
 ghost use Rattle.std.specs.List.{list_any};
-ghost use Rattle.std.specs.Str.{bytes_eq};
+ghost use Rattle.std.proofs.lemmas.Map.Entries.{option_filter};
+ghost use Rattle.line_model.specs.NumbersByName.{script_named};
+ghost use Rattle.csv_records.specs.SoFar.{one_or_none, so_far_of};
 ghost use Rattle.relay_base.specs.Number.{number_of};
 ghost use Rattle.record_match.specs.Row.{row_of};
-ghost use Rattle.record_match.specs.Heads.{so_far_of, values_of, one_or_none};
-ghost use Rattle.record_match.specs.Heads.{level_after as level_left, is_of as is_of_signal};
-ghost use Rattle.record_match.specs.Checks.{is_empty, is_head as heads, is_taken, name_for};
-ghost use Rattle.record_match.specs.Checks.{script_named, terminal_named, signal_of, place_at};
-ghost use Rattle.record_match.specs.Checks.{below, comes_after, comes_later, level_of};
+ghost use Rattle.record_match.specs.Heads.{values_of, level_after as level_left};
+ghost use Rattle.record_match.specs.Heads.{is_of as is_of_signal};
+ghost use Rattle.record_match.specs.Checks.{is_head as heads, is_taken, name_for, signal_of};
+ghost use Rattle.record_match.specs.Checks.{place_at, comes_after, comes_later, level_of};
 ghost use Rattle.record_match.specs.Checks.{level_before, other_level};
 
 use crate::change::{Change, Place};
 use crate::fields::Fields;
-use crate::heads::{Head, Reading};
-use line_model::{Line, Script};
+use crate::heads::Head;
+use csv_records::{Reading, is, is_nothing};
+use line_model::{Line, Script, script_of_name, terminal_of_name};
 use relay_base::number;
 
 /// Whether the record is a head: all fields behind its name are empty.
@@ -28,24 +30,18 @@ pub fn is_head(fields: Fields) -> bool
         && is_nothing(fields.level)
 }
 
-fn is_nothing(field: &[u8]) -> bool
-    ensures { result ≡ is_empty field.now }
-{
-    matches!(field, [])
-}
-
 /// The number of the script that the record names, where it may.
 pub fn script_number(
-    reading: &Reading,
+    reading: &Reading<Head>,
     scripts: &[Script],
     fields: Fields,
     head: bool,
 ) -> Option<u32>
     requires few { length scripts.now ≤ 64 }
-    ensures { result ≡ name_for (so_far_of reading.now) head
+    ensures { result ≡ name_for (so_far_of values_of reading.now) head
         (script_named scripts.now (row_of fields.entry).name) }
 {
-    let script = script_at(scripts, fields.name)?;
+    let script = script_of_name(scripts, fields.name)? as u32;
     if head && is_used(reading, script) {
         None
     } else {
@@ -53,21 +49,9 @@ pub fn script_number(
     }
 }
 
-fn script_at(scripts: &[Script], name: &[u8]) -> Option<u32>
-    requires few { length scripts.now ≤ 64 }
-    ensures { result ≡ script_named scripts.now name.now }
-{
-    for (s, script) in scripts.iter().enumerate() {
-        if is(script.name.bytes(), name) {
-            return Some(s as u32);
-        }
-    }
-    None
-}
-
 #[tactic(auto, using(crate::proofs::Taken::taken_split))]
-fn is_used(reading: &Reading, script: u32) -> bool
-    ensures { result ≡ is_taken (so_far_of reading.now) script }
+fn is_used(reading: &Reading<Head>, script: u32) -> bool
+    ensures { result ≡ is_taken (so_far_of values_of reading.now) script }
 {
     is_any(reading.done.as_slice(), script) || is_latest(&reading.latest, script)
 }
@@ -92,20 +76,9 @@ fn is_latest(latest: &Option<Head>, script: u32) -> bool
 pub fn place(line: &Line, fields: Fields) -> Option<Place>
     ensures { result ≡ place_at line.now (row_of fields.entry) }
 {
-    let terminal = terminal_number(line, fields.terminal)?;
+    let terminal = terminal_of_name(line, fields.terminal)?;
     let trip = signal_named(fields.signal)?;
     Some(Place { terminal, trip })
-}
-
-fn terminal_number(line: &Line, name: &[u8]) -> Option<u32>
-    ensures { result ≡ terminal_named line.now name.now }
-{
-    for (k, terminal) in line.terminals.iter().enumerate() {
-        if is(terminal.name.bytes(), name) {
-            return Some(k as u32);
-        }
-    }
-    None
 }
 
 // Whether the text names a trip, or a key.
@@ -123,7 +96,7 @@ fn signal_named(text: &[u8]) -> Option<bool>
 
 /// The tick of a row.
 pub fn tick(line: &Line, text: &[u8]) -> Option<u32>
-    ensures { result ≡ below line.now.horizon (number_of text.now) }
+    ensures { result ≡ option_filter (λ t. nat_lt t line.now.horizon) (number_of text.now) }
 {
     let t = number(text)?;
     if t < line.horizon { Some(t) } else { None }
@@ -192,11 +165,4 @@ pub fn is_of(change: Change, terminal: u32, trip: bool) -> bool
     ensures { result ≡ is_of_signal terminal trip change }
 {
     change.terminal == terminal && change.trip == trip
-}
-
-/// Whether the two texts are the same bytes.
-pub fn is(text: &[u8], word: &[u8]) -> bool
-    ensures { result ≡ bytes_eq text.now word.now }
-{
-    text == word
 }

@@ -7,12 +7,14 @@ use Rattle.std.proofs.lemmas.Bool.{ltb-true, leb-true, cases_eq, and_parts}
 use Rattle.std.proofs.lemmas.List.Elements.{All-nil, All-cons, All-push, All-append, All-head}
 use Rattle.std.proofs.lemmas.List.Elements.{All-tail}
 use Rattle.std.specs.Str.{bytes_eq}
-use Rattle.std.specs.Prelude.{Vec, IfOk, IfSome, nat_le, nat_lt}
+use Rattle.std.specs.Prelude.{Vec, IfOk, IfSome, nat_le, nat_lt, not}
+use Rattle.std.specs.Option.{ok_or}
 use Rattle.std.specs.declared.alloc.Global.{Global}
 use Rattle.std.specs.List.{All, before_first, after_first}
 use Rattle.relay_base.specs.Number.{number_of}
 use Rattle.line_model.specs.declared.line.Line.{Line}
 use Rattle.line_model.specs.{Choice.IsIn, Parameters.declared_ends, Intervals.leasts}
+use Rattle.line_model.specs.{NumbersByName.param_named, PlainNames.is_plain_name}
 use Rattle.timing_box.specs.declared.fault.TimingFault.{TimingFault}
 use Rattle.timing_box.specs.declared.fault.TimingFault.TheVariants as fault
 use Rattle.timing_box.specs.declared.named.Named.{Named}
@@ -22,14 +24,14 @@ use Rattle.timing_box.specs.SoFarInside.{IsInside, IsSoFar}
 use Rattle.timing_box.specs.Inside.{IsStepInside, IsTimingInside}
 use Rattle.timing_box.specs.SoFar.{NamedValues, OpenTiming, TimingsSoFar, values_of, all_timings}
 use Rattle.timing_box.specs.SoFar.{no_timings, one_or_none, closed, opened, with_row}
-use Rattle.timing_box.specs.Checks.{Opening, is_earlier, check_name, check_timing, after_latest}
-use Rattle.timing_box.specs.Checks.{param_named, is_at, step_at, number_or_step, named_in}
-use Rattle.timing_box.specs.Checks.{check_parameter, number_within, value_for, check_value}
-use Rattle.timing_box.specs.Checks.{check_once}
+use Rattle.timing_box.specs.Checks.{Opening, is_earlier, check_timing, after_latest, is_given}
+use Rattle.timing_box.specs.Checks.{is_at, step_at, number_or_step, named_in, number_within}
+use Rattle.timing_box.specs.Checks.{value_for}
 use Rattle.timing_box.specs.Timings.{after_row, after_record}
 use Rattle.timing_box.specs.{Delays.is_delay, Gives.Gives, Row.Row, Row.row_in}
-use Rattle.csv_records.specs.CheckLaws.{choice_passed, passed, refusal_passed, same_ok, tested}
-use Rattle.csv_records.specs.Gives.{◌>>=◌}
+use Rattle.csv_records.specs.CheckLaws.{choice_passed, filtered, found, passed, refusal_passed}
+use Rattle.csv_records.specs.CheckLaws.{same_ok, tested}
+use Rattle.csv_records.specs.Gives.{◌>>=◌, passes_or}
 use Rattle.timing_box.proofs.StepOrder.{All-with_step}
 
 pub none_so_far : (line : Line) → IsSoFar line no_timings
@@ -54,13 +56,10 @@ in_by_tests least v greatest e =
 
 within_is : (line : Line) (i : ℕ) (o : Option ℕ) (v : ℕ) → number_within line i o ≡ Some v
     → IsIn v (declared_ends line i)
-within_is line i None v e = absurd (cc)
-within_is line i (Some w) v e =
+within_is line i o v e =
     let least : ℕ = (declared_ends line i).least in
     let greatest : ℕ = (declared_ends line i).greatest in
-    let p = tested (nat_le least w && nat_le w greatest) (Some w) v e in
-    let same : w ≡ v = (let f = p.1 in cc) in
-    subst (λ (x : ℕ). IsIn x (declared_ends line i)) same (in_by_tests least w greatest p.0)
+    in_by_tests least v greatest (filtered (λ w. nat_le least w && nat_le w greatest) o v e).1
 
 -- what a step of a file keeps
 pub record IsStepNamed (line : Line) (i from : ℕ) : Type 0 where
@@ -141,14 +140,6 @@ row_inside line t (named.Step i from) field v all good e = record {
       all.steps;
 }
 
-found_name : (n : ℕ) (o : Option Named) (x : Named) → check_parameter n o ≡ Ok x → o ≡ Some x
-found_name n None x e = absurd (cc)
-found_name n (Some y) x e = cc
-
-found_value : (n : ℕ) (o : Option ℕ) (v : ℕ) → check_value n o ≡ Ok v → o ≡ Some v
-found_value n None v e = absurd (cc)
-found_value n (Some w) v e = cc
-
 -- what a row makes of its timing is inside
 after_row_inside : (line : Line) (t : OpenTiming) (n : ℕ) (row : Row) (u : OpenTiming)
     → IsTimingInside line t.timing → after_row line t n row ≡ Ok u
@@ -156,18 +147,19 @@ after_row_inside : (line : Line) (t : OpenTiming) (n : ℕ) (row : Row) (u : Ope
 unfolding after_row
 after_row_inside line t n row u all e =
     let last : Named → ℕ → Result OpenTiming TimingFault = λ x v.
-    check_once n t x >>= λ once. Ok (with_row t x v) in
-    let value : Named → Result ℕ TimingFault = λ x. check_value n (value_for line x row.value) in
+    passes_or (not (is_given t x)) (fault.Twice n) >>= λ once. Ok (with_row t x v) in
+    let value : Named → Result ℕ TimingFault = λ x.
+    ok_or (value_for line x row.value) (fault.Value n) in
     let a =
-    passed (check_parameter n (named_in line row.parameter)) (λ x. value x >>= last x) u e in
+    passed (ok_or (named_in line row.parameter) (fault.Parameter n)) (λ x. value x >>= last x) u e in
     let b = passed (value a.value) (last a.value) u a.rest in
-    let c = passed (check_once n t a.value) (λ once. Ok (with_row t a.value b.value)) u b.rest in
+    let c = passed (passes_or (not (is_given t a.value)) (fault.Twice n)) (λ once. Ok (with_row t a.value b.value)) u b.rest in
     let good = field_is_good line row.parameter a.value
-    (found_name n (named_in line row.parameter) a.value a.was) in
+    (found (named_in line row.parameter) (fault.Parameter n) a.value a.was) in
     subst (λ (x : OpenTiming). IsTimingInside line x.timing)
     (same_ok (with_row t a.value b.value) u c.rest)
     (row_inside line t a.value row.value b.value all good
-    (found_value n (value_for line a.value row.value) b.value b.was))
+    (found (value_for line a.value row.value) (fault.Value n) b.value b.was))
 
 -- the timings before a row's and its own are inside
 pub record IsOpening (line : Line) (x : Opening) : Type 0 where
@@ -219,9 +211,11 @@ record_so_far line s n fields t so_far e =
     after_row line x.timing n row >>= end x in
     let opening : Row → Result Opening TimingFault = λ row.
     check_timing line s.done n row.name s.latest in
-    let a = passed (row_in n fields)
-    (λ row. check_name n row.name >>= λ name. opening row >>= own row) t e in
-    let b = passed (check_name n a.value.name) (λ name. opening a.value >>= own a.value) t a.rest in
+    let name : Row → Result (Unit {0}) TimingFault = λ row.
+    passes_or (is_plain_name row.name) (fault.BadName n) in
+    let a = passed (ok_or (row_in fields) (fault.Fields n))
+    (λ row. name row >>= λ plain. opening row >>= own row) t e in
+    let b = passed (name a.value) (λ plain. opening a.value >>= own a.value) t a.rest in
     let c = passed (opening a.value) (own a.value) t b.rest in
     let d = passed (after_row line c.value.timing n a.value) (end c.value) t c.rest in
     let x = opening_inside line s.done n a.value.name s.latest c.value so_far.done so_far.latest

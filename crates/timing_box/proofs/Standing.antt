@@ -21,15 +21,14 @@ use Rattle.relay_base.specs.{Number.number_of, DecimalLaws.number_of-decimal}
 use Rattle.line_model.specs.Parameters.{param_count, declared_ends}
 use Rattle.line_model.specs.ParamNamesApart.{name_of_param, has_no, ParamNamesApart}
 use Rattle.line_model.specs.{declared.line.Line.Line, declared.line.Param.Param, Choice.IsIn}
-use Rattle.line_model.specs.{Intervals.leasts, PlainNames.is_plain_name}
+use Rattle.line_model.specs.{Intervals.leasts, NumbersByName.param_named, PlainNames.is_plain_name}
 use Rattle.timing_box.specs.{declared.step.Step.Step, declared.named.Named.Named}
 use Rattle.timing_box.specs.declared.named.Named.TheVariants as named
 use Rattle.timing_box.specs.Inside.{IsStepInside, IsTimingInside}
 use Rattle.timing_box.specs.SoFar.{NamedValues, OpenTiming, TimingsSoFar, all_timings, no_timings}
 use Rattle.timing_box.specs.SoFar.{one_or_none, closed, opened, with_row}
 use Rattle.timing_box.specs.Checks.{is_at, is_earlier, after_latest, check_timing, named_in}
-use Rattle.timing_box.specs.Checks.{number_within, param_named, step_at, step_named, number_or_step}
-use Rattle.timing_box.specs.Checks.{value_for}
+use Rattle.timing_box.specs.Checks.{number_within, step_at, step_named, number_or_step, value_for}
 use Rattle.timing_box.specs.Timings.{after_row, after_record, timing_file, timings_in}
 use Rattle.timing_box.specs.Printed.{name_record, number_records, step_record, timing_records}
 use Rattle.timing_box.specs.Printed.{file_records, MayStand, AreOfOneFile}

@@ -1,11 +1,12 @@
 -- The checks of one record, each of them alone. n is the record's number; the header is record 1.
-use Rattle.std.specs.Prelude.{◌++◌, ◌+◌, ◌&&◌, ◌==◌, ℕ, Bool, true, false, List, [], ◌∷◌, length}
-use Rattle.std.specs.Prelude.{nat_le, nat_lt, codes, Option, None, Some, Result, Ok, Err}
-use Rattle.std.specs.Prelude.{if◌then◌else◌}
-use Rattle.std.specs.List.{list_any, position_from, before_first, after_first}
+use Rattle.std.specs.Prelude.{◌++◌, ◌+◌, ◌&&◌, ◌==◌, ℕ, Bool, false, List, [], ◌∷◌, length}
+use Rattle.std.specs.Prelude.{nat_le, nat_lt, Option, None, Some, Result, Ok, Err, if◌then◌else◌}
+use Rattle.std.specs.List.{list_any, before_first, after_first}
 use Rattle.std.specs.Str.{bytes_eq}
+use Rattle.std.proofs.lemmas.Map.Entries.{option_filter}
 use Rattle.line_model.specs.declared.line.Line.{Line}
-use Rattle.line_model.specs.{PlainNames.is_plain_name, Parameters.declared_ends}
+use Rattle.line_model.specs.{NumbersByName.param_named, Parameters.declared_ends}
+use Rattle.csv_records.specs.Fields.{is_empty}
 use Rattle.relay_base.specs.Number.{number_of}
 use Rattle.timing_box.specs.declared.fault.TimingFault.{TimingFault}
 use Rattle.timing_box.specs.declared.fault.TimingFault.TheVariants as fault
@@ -13,16 +14,6 @@ use Rattle.timing_box.specs.declared.named.Named.{Named}
 use Rattle.timing_box.specs.declared.named.Named.TheVariants as named
 use Rattle.timing_box.specs.Delays.{is_delay}
 use Rattle.timing_box.specs.SoFar.{NamedValues, OpenTiming, closed, opened}
-
--- the header has exactly these three fields
-abbrev pub is_header : List (List ℕ) → Bool
-is_header (a ∷ b ∷ c ∷ []) =
-    bytes_eq a (codes "timing") && (bytes_eq b (codes "parameter") && bytes_eq c (codes "value"))
-is_header _ = false
-
--- the name is plain
-abbrev pub check_name : ℕ → List ℕ → Result (Unit {0}) TimingFault
-check_name n name = if is_plain_name name then Ok tt else Err (fault.BadName n)
 
 -- the timings before the row's, and the row's own timing, which it may open
 pub record Opening : Type 0 where
@@ -46,10 +37,6 @@ abbrev pub check_timing : Line → List NamedValues → ℕ → List ℕ → Opt
     → Result Opening TimingFault
 check_timing line done n name None = Ok (record { done = done; timing = opened line name })
 check_timing line done n name (Some t) = after_latest line done n name t
-
--- the number of the parameter of this name
-abbrev pub param_named : Line → List ℕ → Option ℕ
-param_named line name = position_from (λ p. bytes_eq p.name name) 0 line.params.items
 
 -- a step: the name of a delay, `@`, and a tick from 1 to the last
 abbrev pub is_at : ℕ → Bool
@@ -75,29 +62,16 @@ abbrev pub named_in : Line → List ℕ → Option Named
 named_in line [] = Some named.Nothing
 named_in line (b ∷ bs) = number_or_step line (b ∷ bs) (param_named line (b ∷ bs))
 
-abbrev pub check_parameter : ℕ → Option Named → Result Named TimingFault
-check_parameter n None = Err (fault.Parameter n)
-check_parameter n (Some x) = Ok x
-
 -- the value of a row that names a parameter is a number of its interval; any other row has none
 abbrev pub number_within : Line → ℕ → Option ℕ → Option ℕ
-number_within line i None = None
-number_within line i (Some v) =
-    if nat_le (declared_ends line i).least v && nat_le v (declared_ends line i).greatest then Some v
-    else None
-
-abbrev pub is_empty : List ℕ → Bool
-is_empty [] = true
-is_empty (b ∷ bs) = false
+number_within line i value =
+    let ends = declared_ends line i in
+    option_filter (λ v. nat_le ends.least v && nat_le v ends.greatest) value
 
 abbrev pub value_for : Line → Named → List ℕ → Option ℕ
 value_for line named.Nothing value = if is_empty value then Some 0 else None
 value_for line (named.Number i) value = number_within line i (number_of value)
 value_for line (named.Step i from) value = number_within line i (number_of value)
-
-abbrev pub check_value : ℕ → Option ℕ → Result ℕ TimingFault
-check_value n None = Err (fault.Value n)
-check_value n (Some v) = Ok v
 
 -- the same parameter, or the same step, stands in the timing already
 abbrev pub is_given : OpenTiming → Named → Bool
@@ -105,6 +79,3 @@ is_given t named.Nothing = false
 is_given t (named.Number i) = list_any (λ k. k == i) t.given
 is_given t (named.Step i from) =
     list_any (λ s. (s.param == i) && (s.from == from)) t.timing.steps
-
-abbrev pub check_once : ℕ → OpenTiming → Named → Result (Unit {0}) TimingFault
-check_once n t x = if is_given t x then Err (fault.Twice n) else Ok tt

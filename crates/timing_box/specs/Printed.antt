@@ -1,16 +1,14 @@
 -- The records that stand for timings, and their text.
 use Rattle.std.specs.Prelude.{◌≢◌, ◌+◌, ◌≤◌, ◌<◌, ◌++◌, ℕ, List, [], ◌∷◌, length, map, get_or}
-use Rattle.std.specs.Prelude.{codes, IsTrue}
+use Rattle.std.specs.Prelude.{IsTrue}
 use Rattle.std.specs.List.{flat_map}
 use Rattle.std.specs.Fmt.{decimal}
 use Rattle.csv.specs.Writing.{row_text, default_writer}
 use Rattle.line_model.specs.declared.line.Line.{Line}
 use Rattle.line_model.specs.{PlainNames.is_plain_name, ParamNamesApart.name_of_param}
 use Rattle.timing_box.specs.declared.step.Step.{Step}
-use Rattle.timing_box.specs.{Timing.ascend, Inside.IsTimingInside, SoFar.NamedValues}
-
-abbrev pub header_record : List (List ℕ)
-header_record = codes "timing" ∷ codes "parameter" ∷ codes "value" ∷ []
+use Rattle.timing_box.specs.{Row.header_record, Timing.ascend, Inside.IsTimingInside}
+use Rattle.timing_box.specs.SoFar.{NamedValues}
 
 -- a row with the timing's name alone
 abbrev pub name_record : List ℕ → List (List ℕ)

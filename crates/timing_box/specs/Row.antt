@@ -1,7 +1,5 @@
 -- The fields of a record.
-use Rattle.std.specs.Prelude.{ℕ, List, [], ◌∷◌, Result, Ok, Err}
-use Rattle.timing_box.specs.declared.fault.TimingFault.{TimingFault}
-use Rattle.timing_box.specs.declared.fault.TimingFault.TheVariants as fault
+use Rattle.std.specs.Prelude.{ℕ, List, [], ◌∷◌, Option, Some, None, codes}
 use Rattle.timing_box.specs.declared.fields.Fields.{Fields}
 
 -- the three fields of a record that has three
@@ -10,10 +8,14 @@ pub record Row : Type 0 where
   pub parameter : List ℕ
   pub value : List ℕ
 
--- record n has three fields
-abbrev pub row_in : ℕ → List (List ℕ) → Result Row TimingFault
-row_in n (a ∷ b ∷ c ∷ []) = Ok (record { name = a; parameter = b; value = c })
-row_in n _ = Err (fault.Fields n)
+-- the record has three fields
+abbrev pub row_in : List (List ℕ) → Option Row
+row_in (a ∷ b ∷ c ∷ []) = Some (record { name = a; parameter = b; value = c })
+row_in _ = None
+
+-- the header has exactly these
+abbrev pub header_record : List (List ℕ)
+header_record = codes "timing" ∷ codes "parameter" ∷ codes "value" ∷ []
 
 -- what the code holds of them
 abbrev pub row_of : Fields → Row

@@ -3,20 +3,18 @@
 ghost use Rattle.std.specs.Prelude.{◌≡◌, ◌≤◌, ◌<◌, ◌+◌, ◌&&◌, ◌==◌, Some, length, drop, IfSome};
 ghost use Rattle.std.specs.List.{list_any, position_or_len};
 ghost use Rattle.std.specs.Str.{bytes_eq};
-ghost use Rattle.line_model.specs.Parameters.{param_count};
 ghost use Rattle.timing_box.specs.SoFar.{open_of, IsNamedIn};
-ghost use Rattle.timing_box.specs.Checks.{param_named, is_at, step_named, named_in, value_for};
-ghost use Rattle.timing_box.specs.Checks.{number_within, is_given as is_given_in, is_empty};
+ghost use Rattle.timing_box.specs.Checks.{is_at, step_named, named_in, value_for, number_within};
+ghost use Rattle.timing_box.specs.Checks.{is_given as is_given_in};
 
 use crate::delays::is_delay;
-use crate::fields::is;
 use crate::intervals::is_in;
 use crate::named::Named;
 use crate::places::has_step;
 use crate::reading::Open;
 use crate::timing::NamedTiming;
-use line_model::Line;
-use line_model::laws::parameters_are_numbered;
+use csv_records::{is, is_nothing};
+use line_model::{Line, parameter_of_name};
 use relay_base::number;
 
 /// Whether one of the timings has the name.
@@ -34,23 +32,10 @@ pub fn named(line: &Line, field: &[u8]) -> Option<Named>
     if is_nothing(field) {
         return Some(Named::Nothing);
     }
-    match param(line, field) {
+    match parameter_of_name(line, field) {
         Some(i) => Some(Named::Number(i)),
         None => step(line, field),
     }
-}
-
-fn param(line: &Line, name: &[u8]) -> Option<u32>
-    ensures number { result ≡ param_named line.now name.now }
-    ensures exists { IfSome result (λ i. i < param_count line.now) }
-{
-    parameters_are_numbered();
-    for (i, param) in line.params.iter().enumerate() {
-        if is(param.name.bytes(), name) {
-            return Some(i as u32);
-        }
-    }
-    None
 }
 
 fn step(line: &Line, field: &[u8]) -> Option<Named>
@@ -58,7 +43,7 @@ fn step(line: &Line, field: &[u8]) -> Option<Named>
     ensures exists { IfSome result (IsNamedIn line.now) }
 {
     let at = place_of_at(field);
-    let i = param(line, &field[..at])?;
+    let i = parameter_of_name(line, &field[..at])?;
     let from = number(after(field, at))?;
     if is_delay(line, i) && 1 <= from && from < line.horizon {
         Some(Named::Step(i, from))
@@ -130,10 +115,4 @@ fn has(given: &[u32], i: u32) -> bool
     ensures { result ≡ list_any (λ k. k == i) given.now }
 {
     given.iter().any(|k| *k == i)
-}
-
-fn is_nothing(field: &[u8]) -> bool
-    ensures { result ≡ is_empty field.now }
-{
-    matches!(field, [])
 }

@@ -1,6 +1,6 @@
 //! Why a file of timings is refused.
 
-use csv_records::Memory;
+use csv_records::{Memory, print_fault};
 use std::alloc::{AllocError, AllocFailed};
 use std::error::Error;
 use std::fmt;
@@ -71,11 +71,7 @@ impl TimingFault {
 
 impl fmt::Display for TimingFault {
     fn fmt<W: fmt::Write>(&self, f: &mut fmt::Formatter<W>) -> fmt::Result {
-        f.write_str(self.name())?;
-        match self.record() {
-            Some(n) => write!(f, " {n}"),
-            None => Ok(()),
-        }
+        print_fault(f, self.name(), self.record())
     }
 }
 

@@ -11,13 +11,13 @@ ghost use Rattle.timing_box.specs.{SoFarInside.IsSoFar, Checks.is_given as is_gi
 
 use crate::check::{is_given, named, value};
 use crate::fault::TimingFault;
-use crate::fields::{Fields, fields_in, heads_file};
+use crate::fields::{Fields, fields_in};
 use crate::named::Named;
 use crate::reading::{Open, Opened, Reading, finished, nothing_read, opened_by};
 use crate::step::Step;
 use crate::timing::NamedTiming;
 use csv::ByteRecord;
-use csv_records::{RecordReader, read_file};
+use csv_records::{RecordReader, has_three, read_file};
 use line_model::{Line, is_plain};
 use std::alloc::Global;
 use tick_signal::Tick;
@@ -57,7 +57,7 @@ impl<'a> RecordReader for TimingReader<'a> {
     ghost Before = { λ reader n s. IsSoFar reader.line.now s };
 
     fn is_header(&self, row: &ByteRecord) -> bool {
-        heads_file(row)
+        has_three(row, b"timing", b"parameter", b"value")
     }
 
     fn start(&self, alloc: Global) -> Reading {
@@ -100,7 +100,9 @@ fn after(
     ensures { Gives so_far_of result
         (after_record line.now (so_far_of reading) n (fields_of row.now)) }
 {
-    let fields = fields_in(row, n)?;
+    let Some(fields) = fields_in(row) else {
+        return Err(TimingFault::Fields(n));
+    };
     if !is_plain(fields.name) {
         return Err(TimingFault::BadName(n));
     }

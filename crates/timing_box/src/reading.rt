@@ -8,8 +8,8 @@ ghost use Rattle.timing_box.specs.{Gives.Gives, Checks.check_timing, Opened.open
 
 use crate::check::is_any;
 use crate::fault::TimingFault;
-use crate::fields::is;
 use crate::timing::{NamedTiming, Timing};
+use csv_records::is;
 use line_model::{Line, Name};
 use std::alloc::Global;
 use tick_signal::Tick;
@@ -83,7 +83,7 @@ pub fn opened_by(
 {
     let Reading { mut done, latest } = reading;
     let Some(timing) = latest else {
-        let timing = new_timing(alloc, line, plain_name(name))?;
+        let timing = new_timing(alloc, line, Name::plain(name))?;
         return Ok(Opened { done, timing });
     };
     if is(timing.name.bytes(), name) {
@@ -96,18 +96,8 @@ pub fn opened_by(
         return Err(TimingFault::TooMany);
     }
     done.push(closed(timing))?;
-    let timing = new_timing(alloc, line, plain_name(name))?;
+    let timing = new_timing(alloc, line, Name::plain(name))?;
     Ok(Opened { done, timing })
-}
-
-fn plain_name(bytes: &[u8]) -> Name
-    requires { IsTrue (is_plain_name bytes.now) }
-    ensures { result ≡ bytes.now }
-{
-    match Name::from_bytes(bytes) {
-        Some(name) => name,
-        None => unreachable!(),
-    }
 }
 
 /// A timing that no row has set yet.

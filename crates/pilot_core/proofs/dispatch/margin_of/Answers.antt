@@ -3,7 +3,7 @@ use Rattle.std.proofs.lemmas.Result.{err_from_is_err_and}
 use Rattle.std.specs.Prelude.{⊤}
 use Rattle.engine.specs.Calls.{Calls}
 use Rattle.line_model.specs.{declared.line.Line.Line, declared.script.Script.Script}
-use Rattle.timing_box.specs.Checks.{param_named}
+use Rattle.line_model.specs.NumbersByName.{param_named}
 use Rattle.pilot_core.specs.CallAnswers.{CallAnswers, done_with, refuses}
 use Rattle.pilot_core.specs.{Commands.asks, Reading.of_parameter}
 use Rattle.commands.specs.{Margin.margin_answer, Sinks.sink_view}

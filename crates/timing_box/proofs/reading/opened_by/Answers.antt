@@ -50,11 +50,11 @@ returns-clause-said c =
     ≡ map values_of ts ++ closed (open_of c.in-Some.timing) ∷ [] =
     ap (λ xs. map values_of xs) pushed ∙ map-append values_of ts (c.closed.result ∷ [])
     ∙ ap (λ v. map values_of ts ++ v ∷ []) c.closed.ensures in
-    let opening : opened line c.plain_name-2.result ≡ open_of c.in_ok-timing-2.timing =
-    same_ok (opened line c.plain_name-2.result) (open_of c.in_ok-timing-2.timing)
+    let opening : opened line c.plain-2.result ≡ open_of c.in_ok-timing-2.timing =
+    same_ok (opened line c.plain-2.result) (open_of c.in_ok-timing-2.timing)
     c.in_ok-timing-2.ensures.said in
     let timing : opened line name ≡ open_of c.in_ok-timing-2.timing =
-    ap (opened line) (sym c.plain_name-2.ensures) ∙ opening in
+    ap (opened line) (sym c.plain-2.ensures) ∙ opening in
     rw c.in-Some.is
     (opens line ts c.args.n name (open_of c.in-Some.timing) other none (omega arith)
     ∙ ap (λ (x : Opening). Ok x) (opening_same done timing))

@@ -1,0 +1,15 @@
+-- What the fields of a record are.
+use Rattle.std.specs.Prelude.{ℕ, Bool, true, false, List, [], ◌∷◌, ◌&&◌}
+use Rattle.std.specs.Str.{bytes_eq}
+
+-- a field with nothing in it
+abbrev pub is_empty : List ℕ → Bool
+is_empty [] = true
+is_empty (b ∷ bs) = false
+
+-- a record has exactly these fields
+abbrev pub are_fields : List (List ℕ) → List (List ℕ) → Bool
+are_fields [] [] = true
+are_fields [] (field ∷ fields) = false
+are_fields (word ∷ words) [] = false
+are_fields (word ∷ words) (field ∷ fields) = bytes_eq field word && are_fields words fields

@@ -1,9 +1,0 @@
-use Rattle.std.proofs.Common.{◌≡◌, drop}
-use Rattle.std.specs.List.{position_from}
-use Rattle.std.specs.Str.{bytes_eq}
-use Rattle.timing_box.proofs.check.param.Given as goal
-
-abbrev pub invariant-loop-i : goal.invariant-loop-i
-invariant-loop-i l =
-    position_from (λ p. bytes_eq p.name l.name) l.i (drop l.i l.line.params.items)
-    ≡ position_from (λ p. bytes_eq p.name l.name) 0 l.line.params.items
