@@ -78,6 +78,11 @@ pub asks_of_record : (said : Result (List SeenValues) SeenFault)
 asks_of_record (Ok records) = tt
 asks_of_record (Err why) = tt
 
+-- a command over a parameter asks nothing
+pub asks_of_parameter : (said : Option ℕ) → of_parameter said (λ why. ⊤) (λ param. ⊤)
+asks_of_parameter (Some param) = tt
+asks_of_parameter None = tt
+
 -- a parameter that was found
 pub parameter_found : (said : Option ℕ) (param : ℕ) (refused : Refusal → Type 0)
     (holds : ℕ → Type 0) → said ≡ Some param → holds param → of_parameter said refused holds

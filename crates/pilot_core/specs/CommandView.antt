@@ -2,14 +2,19 @@
 use Rattle.pilot_core.specs.Words as words
 use Rattle.pilot_core.specs.declared.words.Command.{Command}
 use Rattle.pilot_core.specs.declared.words.Command.TheVariants as command
+use Rattle.pilot_core.specs.declared.words.TwoFiles.{TwoFiles}
+use Rattle.pilot_core.specs.declared.words.TwoFiles.TheVariants as two
+
+abbrev pub two_files_view : TwoFiles → words.TwoFiles
+two_files_view two.Certify = words.certify
+two_files_view two.Report = words.report
+two_files_view (two.Margin parameter) = words.margin parameter.now
+two_files_view (two.Split depth) = words.split depth.splits
 
 abbrev pub command_view : Command → words.Command
 command_view (command.Bench size) = words.bench size.scripts
 command_view (command.OneFile work line) = words.one_file work line.now
-command_view (command.TwoFiles work line scripts) = words.two_files work line.now scripts.now
+command_view (command.TwoFiles work line scripts) =
+    words.two_files (two_files_view work) line.now scripts.now
 command_view (command.ThreeFiles work line scripts third) =
     words.three_files work line.now scripts.now third.now
-command_view (command.Margin line scripts parameter) =
-    words.margin line.now scripts.now parameter.now
-command_view (command.Split line scripts depth) =
-    words.split line.now scripts.now depth.splits

@@ -13,14 +13,12 @@ use Rattle.timing_box.specs.{Timings.timings_of, declared.fault.TimingFault.Timi
 use Rattle.record_match.specs.Waves.{SeenValues, records_said}
 use Rattle.record_match.specs.declared.fault.SeenFault.{SeenFault}
 use Rattle.pilot_core.specs.Words as words
-use Rattle.pilot_core.specs.Words.{Command}
+use Rattle.pilot_core.specs.Words.{Command, TwoFiles}
 use Rattle.pilot_core.specs.Work as work
 use Rattle.pilot_core.specs.{Work.Work, declared.refusal.Refusal.Refusal}
 use Rattle.pilot_core.specs.declared.refusal.Refusal.TheVariants as refusal
 use Rattle.pilot_core.specs.{declared.stop.File.File, declared.words.OneFile.OneFile}
 use Rattle.pilot_core.specs.declared.words.OneFile.TheVariants as one
-use Rattle.pilot_core.specs.declared.words.TwoFiles.{TwoFiles}
-use Rattle.pilot_core.specs.declared.words.TwoFiles.TheVariants as two
 use Rattle.pilot_core.specs.declared.words.ThreeFiles.{ThreeFiles}
 use Rattle.pilot_core.specs.declared.words.ThreeFiles.TheVariants as three
 
@@ -76,9 +74,13 @@ work_of_one one.Net line = work.net line
 work_of_one one.Line line = work.line line
 work_of_one one.Migrate line = work.migrate line
 
-abbrev pub work_of_two : TwoFiles → Line → List Script → Work
-work_of_two two.Certify line scripts = work.certify line scripts
-work_of_two two.Report line scripts = work.report line scripts
+-- over the line and the scripts alone
+abbrev pub no_other_file : TwoFiles → Line → List Script → Reading
+no_other_file words.certify line scripts refused holds = holds (work.certify line scripts)
+no_other_file words.report line scripts refused holds = holds (work.report line scripts)
+no_other_file (words.margin name) line scripts refused holds =
+    of_parameter (param_named line name) refused (λ param. holds (work.margin line scripts param))
+no_other_file (words.split n) line scripts refused holds = holds (work.split line scripts n)
 
 -- a third file, over the line and the scripts
 abbrev pub third_file : ThreeFiles → List ℕ → Line → List Script → Reading
@@ -99,25 +101,12 @@ one_file command line_bytes refused holds =
 abbrev pub two_files : TwoFiles → List ℕ → List ℕ → Reading
 two_files command line_bytes scripts_bytes refused holds =
     of_study line_bytes scripts_bytes refused
-    (λ line scripts. holds (work_of_two command line scripts))
+    (λ line scripts. no_other_file command line scripts refused holds)
 
 abbrev pub three_files : ThreeFiles → List ℕ → List ℕ → List ℕ → Reading
 three_files command line_bytes scripts_bytes third_bytes refused holds =
     of_study line_bytes scripts_bytes refused
     (λ line scripts. third_file command third_bytes line scripts refused holds)
-
--- the parameter of that name, over the line and the scripts
-abbrev pub margin : List ℕ → List ℕ → List ℕ → Reading
-margin parameter line_bytes scripts_bytes refused holds =
-    of_study line_bytes scripts_bytes refused
-    (λ line scripts. of_parameter (param_named line parameter) refused
-    (λ param. holds (work.margin line scripts param)))
-
--- to a number of splits, over the line and the scripts
-abbrev pub split : ℕ → List ℕ → List ℕ → Reading
-split n line_bytes scripts_bytes refused holds =
-    of_study line_bytes scripts_bytes refused
-    (λ line scripts. holds (work.split line scripts n))
 
 -- no file
 abbrev pub bench : ℕ → Reading
@@ -130,10 +119,6 @@ over_bytes (words.two_files command _ _) (line_bytes ∷ scripts_bytes ∷ []) =
     two_files command line_bytes scripts_bytes
 over_bytes (words.three_files command _ _ _) (line_bytes ∷ scripts_bytes ∷ third_bytes ∷ []) =
     three_files command line_bytes scripts_bytes third_bytes
-over_bytes (words.margin _ _ parameter) (line_bytes ∷ scripts_bytes ∷ []) =
-    margin parameter line_bytes scripts_bytes
-over_bytes (words.split _ _ n) (line_bytes ∷ scripts_bytes ∷ []) =
-    split n line_bytes scripts_bytes
 over_bytes (words.bench n) [] = bench n
 over_bytes command bytes = λ refused holds. ⊥
 

@@ -7,10 +7,17 @@ use Rattle.pilot_core.specs.{Files.NamedFile, declared.stop.File.File}
 use Rattle.pilot_core.specs.declared.stop.File.TheVariants as file
 use Rattle.pilot_core.specs.declared.words.OneFile.{OneFile}
 use Rattle.pilot_core.specs.declared.words.OneFile.TheVariants as one
-use Rattle.pilot_core.specs.declared.words.TwoFiles.{TwoFiles}
-use Rattle.pilot_core.specs.declared.words.TwoFiles.TheVariants as two
 use Rattle.pilot_core.specs.declared.words.ThreeFiles.{ThreeFiles}
 use Rattle.pilot_core.specs.declared.words.ThreeFiles.TheVariants as three
+
+-- a command over a line file and a scripts file, with what else its words say
+pub data TwoFiles : Type 0 where
+  certify : TwoFiles
+  report : TwoFiles
+  -- of the parameter of this name
+  margin : List ℕ → TwoFiles
+  -- to this number of splits
+  split : ℕ → TwoFiles
 
 -- a command, by the files that it reads, with their names
 pub data Command : Type 0 where
@@ -20,10 +27,6 @@ pub data Command : Type 0 where
   two_files : TwoFiles → List ℕ → List ℕ → Command
   -- a line file, a scripts file, and a file of the command's own
   three_files : ThreeFiles → List ℕ → List ℕ → List ℕ → Command
-  -- a line file, a scripts file, and the name of a parameter
-  margin : List ℕ → List ℕ → List ℕ → Command
-  -- a line file, a scripts file, and a number of splits
-  split : List ℕ → List ℕ → ℕ → Command
   -- no file, and a number of scripts
   bench : ℕ → Command
 
@@ -49,8 +52,8 @@ command_of_two word name =
 -- the command of three words
 abbrev pub command_of_three : List ℕ → List ℕ → List ℕ → Option Command
 command_of_three word first second =
-    if bytes_eq word (codes "certify") then Some (two_files two.Certify first second)
-    else if bytes_eq word (codes "report") then Some (two_files two.Report first second)
+    if bytes_eq word (codes "certify") then Some (two_files certify first second)
+    else if bytes_eq word (codes "report") then Some (two_files report first second)
     else None
 
 -- the command of four words
@@ -60,9 +63,9 @@ command_of_four word first second third =
     else if bytes_eq word (codes "check") then Some (three_files three.Check first second third)
     else if bytes_eq word (codes "match") then Some (three_files three.Match first second third)
     else if bytes_eq word (codes "recheck") then Some (three_files three.Recheck first second third)
-    else if bytes_eq word (codes "margin") then Some (margin first second third)
+    else if bytes_eq word (codes "margin") then Some (two_files (margin third) first second)
     else if bytes_eq word (codes "split")
-    then option_map (split first second) (split_depth (number_of third))
+    then option_map (λ n. two_files (split n) first second) (split_depth (number_of third))
     else None
 
 -- the command that these words are
@@ -94,8 +97,6 @@ files_of (two_files command line scripts) =
     named file.Line line ∷ named file.Scripts scripts ∷ []
 files_of (three_files command line scripts third) =
     named file.Line line ∷ named file.Scripts scripts ∷ named (own_file command) third ∷ []
-files_of (margin line scripts parameter) = named file.Line line ∷ named file.Scripts scripts ∷ []
-files_of (split line scripts depth) = named file.Line line ∷ named file.Scripts scripts ∷ []
 
 -- the files of the command that the words are, if they are one
 abbrev pub files_named : Option Command → List NamedFile

@@ -3,16 +3,15 @@ ghost use Rattle.std.specs.Prelude.{◌≤◌, IfOk, OnOk, length};
 ghost use Rattle.commands.specs.{Answers.Says, Sinks.sink_view, Study.IsStudy};
 ghost use Rattle.engine.specs.Calls.{Calls};
 ghost use Rattle.pilot_core.specs.Call.{answer_by, asks_by};
-ghost use Rattle.pilot_core.specs.Reading.{bench as of_bench, margin as of_margin};
+ghost use Rattle.pilot_core.specs.Reading.{bench as of_bench, no_other_file};
 ghost use Rattle.pilot_core.specs.Reading.{one_file as of_one_file, three_files as of_three_files};
-ghost use Rattle.pilot_core.specs.Reading.{split as of_split, third_file};
-ghost use Rattle.pilot_core.specs.Reading.{two_files as of_two_files, work_of_one};
-ghost use Rattle.pilot_core.specs.{Commands.answer, Ends.Works, Files.limit_of, Words.own_file};
+ghost use Rattle.pilot_core.specs.Reading.{two_files as of_two_files, third_file, work_of_one};
+ghost use Rattle.pilot_core.specs.{Commands.answer, CommandView.two_files_view, Ends.Works};
+ghost use Rattle.pilot_core.specs.{Files.limit_of, Words.own_file, Words.margin as margin_words};
 ghost use Rattle.pilot_core.specs.declared.words.ThreeFiles.TheVariants as three;
 
 use crate::bench_size::BenchSize;
 use crate::refusal::Refusal;
-use crate::split_depth::SplitDepth;
 use crate::stop::{Status, Stop, ended};
 use crate::study::read_study;
 use crate::words::{OneFile, ThreeFiles, TwoFiles};
@@ -74,16 +73,16 @@ fn said_of_line(alloc: Global, work: OneFile, of: &Line) -> Result<Said, Memory>
 /// A command over the bytes of a line file and a scripts file.
 pub fn two_files<G: Engine, O: Sink>(
     alloc: Global,
-    work: TwoFiles,
+    work: TwoFiles<'_>,
     line: &[u8],
     scripts: &[u8],
     engine: &mut G,
     out: &mut O,
 ) -> Result<Status, Stop>
-    ensures asked { OnOk result (asks_by (of_two_files work line.now scripts.now)
+    ensures asked { OnOk result (asks_by (of_two_files (two_files_view work.entry) line.now scripts.now)
         (G.calls engine.old) (G.calls engine.new)) }
     ensures works { Works (sink_view O.written O.faults)
-        (answer_by (of_two_files work line.now scripts.now)) out.old out.new result }
+        (answer_by (of_two_files (two_files_view work.entry) line.now scripts.now)) out.old out.new result }
 {
     let study = read_study(alloc, line, scripts)?;
     match work {
@@ -92,7 +91,31 @@ pub fn two_files<G: Engine, O: Sink>(
             let said = report::report(alloc, &study)?;
             ended(put_said(out, &said))
         }
+        TwoFiles::Margin(parameter) => margin_of(alloc, &study, parameter, out),
+        TwoFiles::Split(depth) => {
+            let said = split::split(alloc, &study, depth.splits)?;
+            ended(put_said(out, &said))
+        }
     }
+}
+
+// `margin` of the parameter of that name.
+fn margin_of<O: Sink>(
+    alloc: Global,
+    study: &Study,
+    parameter: &str,
+    out: &mut O,
+) -> Result<Status, Stop>
+    requires { IsStudy study.now }
+    ensures { Works (sink_view O.written O.faults)
+        (answer_by (no_other_file (margin_words parameter.now) study.now.line study.now.scripts.items))
+        out.old out.new result }
+{
+    let Some(param) = parameter_of_name(&study.line, parameter.as_bytes()) else {
+        return Err(Stop::Refused(Refusal::UnknownParameter));
+    };
+    let said = margin::margin(alloc, study, param)?;
+    ended(put_said(out, &said))
 }
 
 /// A command over the bytes of a line file, a scripts file and a file of its own.
@@ -162,46 +185,5 @@ fn match_record<O: Sink>(
 {
     let records = read_seen(alloc, &study.line, study.scripts.as_slice(), bytes)?;
     let said = match_records::match_records(alloc, study, records.as_slice())?;
-    ended(put_said(out, &said))
-}
-
-/// `margin` over the bytes of a line file and a scripts file, of the parameter of that name.
-pub fn margin_of<O: Sink>(
-    alloc: Global,
-    parameter: &str,
-    line: &[u8],
-    scripts: &[u8],
-    out: &mut O,
-) -> Result<Status, Stop>
-    ensures asked { OnOk result ((calls : Calls) →
-        asks_by (of_margin parameter.now line.now scripts.now) calls calls) }
-    ensures works { Works (sink_view O.written O.faults)
-        (answer_by (of_margin parameter.now line.now scripts.now)) out.old out.new result }
-{
-    let study = read_study(alloc, line, scripts)?;
-    match parameter_of_name(&study.line, parameter.as_bytes()) {
-        None => Err(Stop::Refused(Refusal::UnknownParameter)),
-        Some(param) => {
-            let said = margin::margin(alloc, &study, param)?;
-            ended(put_said(out, &said))
-        }
-    }
-}
-
-/// `split` over the bytes of a line file and a scripts file, to that depth.
-pub fn split_to<O: Sink>(
-    alloc: Global,
-    depth: SplitDepth,
-    line: &[u8],
-    scripts: &[u8],
-    out: &mut O,
-) -> Result<Status, Stop>
-    ensures asked { OnOk result ((calls : Calls) →
-        asks_by (of_split depth.splits line.now scripts.now) calls calls) }
-    ensures works { Works (sink_view O.written O.faults)
-        (answer_by (of_split depth.splits line.now scripts.now)) out.old out.new result }
-{
-    let study = read_study(alloc, line, scripts)?;
-    let said = split::split(alloc, &study, depth.splits)?;
     ended(put_said(out, &said))
 }

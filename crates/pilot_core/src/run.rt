@@ -2,16 +2,15 @@
 ghost use Rattle.std.specs.Prelude.{◌≡◌, OnOk, map, string_bytes};
 ghost use Rattle.engine.specs.Calls.{Calls};
 ghost use Rattle.pilot_core.specs.Words.{command_of, own_file as file_of_work};
-ghost use Rattle.pilot_core.specs.Words.{margin as margin_command, one_file as one_file_command};
-ghost use Rattle.pilot_core.specs.Words.{split as split_command};
+ghost use Rattle.pilot_core.specs.Words.{one_file as one_file_command};
 ghost use Rattle.pilot_core.specs.Words.{three_files as three_files_command};
 ghost use Rattle.pilot_core.specs.Words.{two_files as two_files_command};
-ghost use Rattle.pilot_core.specs.{Call.Asked, CommandView.command_view, Ends.EndsOf};
+ghost use Rattle.pilot_core.specs.CommandView.{command_view, two_files_view};
+ghost use Rattle.pilot_core.specs.{Call.Asked, Ends.EndsOf};
 ghost use Rattle.commands.specs.Sinks.{sink_view};
 
-use crate::dispatch::{margin_of, no_file, one_file, split_to, three_files, two_files};
+use crate::dispatch::{no_file, one_file, three_files, two_files};
 use crate::files::fetch_file;
-use crate::split_depth::SplitDepth;
 use crate::stop::{File, Status, Stop};
 use crate::words::{Command, OneFile, ThreeFiles, TwoFiles, command_of_words};
 use engine::Engine;
@@ -65,16 +64,6 @@ fn run<G: Engine, S: Store, O: Sink>(
             scripts,
             third,
         } => run_three(alloc, work, line, scripts, third, engine, store, out),
-        Command::Margin {
-            line,
-            scripts,
-            parameter,
-        } => run_margin(alloc, line, scripts, parameter, store, out),
-        Command::Split {
-            line,
-            scripts,
-            depth,
-        } => run_split(alloc, line, scripts, depth, store, out),
     }
 }
 
@@ -96,17 +85,17 @@ fn run_one<S: Store, O: Sink>(
 
 fn run_two<G: Engine, S: Store, O: Sink>(
     alloc: Global,
-    work: TwoFiles,
+    work: TwoFiles<'_>,
     line: &str,
     scripts: &str,
     engine: &mut G,
     store: &mut S,
     out: &mut O,
 ) -> Result<Status, Stop>
-    ensures asked { OnOk result (Asked (Some (two_files_command work line.now scripts.now))
+    ensures asked { OnOk result (Asked (Some (two_files_command (two_files_view work.entry) line.now scripts.now))
         (S.held store.old) (G.calls engine.old) (G.calls engine.new)) }
     ensures ends { EndsOf (sink_view O.written O.faults)
-        (Some (two_files_command work line.now scripts.now))
+        (Some (two_files_command (two_files_view work.entry) line.now scripts.now))
         (S.held store.old) (S.faults store.old) (S.faults store.new) out.old out.new result }
 {
     let line = fetch_file(alloc, store, File::Line, line)?;
@@ -150,46 +139,6 @@ fn run_three<G: Engine, S: Store, O: Sink>(
         engine,
         out,
     )
-}
-
-fn run_margin<S: Store, O: Sink>(
-    alloc: Global,
-    line: &str,
-    scripts: &str,
-    parameter: &str,
-    store: &mut S,
-    out: &mut O,
-) -> Result<Status, Stop>
-    ensures asked { OnOk result ((calls : Calls) →
-        Asked (Some (margin_command line.now scripts.now parameter.now)) (S.held store.old)
-        calls calls) }
-    ensures ends { EndsOf (sink_view O.written O.faults)
-        (Some (margin_command line.now scripts.now parameter.now))
-        (S.held store.old) (S.faults store.old) (S.faults store.new) out.old out.new result }
-{
-    let line = fetch_file(alloc, store, File::Line, line)?;
-    let scripts = fetch_file(alloc, store, File::Scripts, scripts)?;
-    margin_of(alloc, parameter, line.as_slice(), scripts.as_slice(), out)
-}
-
-fn run_split<S: Store, O: Sink>(
-    alloc: Global,
-    line: &str,
-    scripts: &str,
-    depth: SplitDepth,
-    store: &mut S,
-    out: &mut O,
-) -> Result<Status, Stop>
-    ensures asked { OnOk result ((calls : Calls) →
-        Asked (Some (split_command line.now scripts.now depth.splits)) (S.held store.old)
-        calls calls) }
-    ensures ends { EndsOf (sink_view O.written O.faults)
-        (Some (split_command line.now scripts.now depth.splits))
-        (S.held store.old) (S.faults store.old) (S.faults store.new) out.old out.new result }
-{
-    let line = fetch_file(alloc, store, File::Line, line)?;
-    let scripts = fetch_file(alloc, store, File::Scripts, scripts)?;
-    split_to(alloc, depth, line.as_slice(), scripts.as_slice(), out)
 }
 
 // The file of a command's own.

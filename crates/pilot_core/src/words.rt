@@ -2,7 +2,7 @@
 ghost use Rattle.std.specs.Prelude.{◌≡◌, map, option_map, string_bytes};
 ghost use Rattle.relay_base.specs.Number.{number_of};
 ghost use Rattle.pilot_core.specs.Words.{bench_size as size_of, bench, command_of};
-ghost use Rattle.pilot_core.specs.Words.{split_depth as depth_of, split};
+ghost use Rattle.pilot_core.specs.Words.{split_depth as depth_of, split, two_files};
 ghost use Rattle.pilot_core.specs.Words.{command_of_four as of_four, command_of_three as of_three};
 ghost use Rattle.pilot_core.specs.Words.{command_of_two as of_two};
 ghost use Rattle.pilot_core.specs.CommandView.{command_view};
@@ -21,9 +21,12 @@ pub enum OneFile {
 
 /// A command over a line file and a scripts file.
 #[derive(Clone, Copy)]
-pub enum TwoFiles {
+pub enum TwoFiles<'a> {
     Certify,
     Report,
+    /// Of the parameter of this name.
+    Margin(&'a str),
+    Split(SplitDepth),
 }
 
 /// A command over a line file, a scripts file and a file of its own.
@@ -48,7 +51,7 @@ pub enum Command<'a> {
         line: &'a str,
     },
     TwoFiles {
-        work: TwoFiles,
+        work: TwoFiles<'a>,
         line: &'a str,
         scripts: &'a str,
     },
@@ -57,16 +60,6 @@ pub enum Command<'a> {
         line: &'a str,
         scripts: &'a str,
         third: &'a str,
-    },
-    Margin {
-        line: &'a str,
-        scripts: &'a str,
-        parameter: &'a str,
-    },
-    Split {
-        line: &'a str,
-        scripts: &'a str,
-        depth: SplitDepth,
     },
 }
 
@@ -122,13 +115,13 @@ fn split_depth(word: &str) -> Option<SplitDepth>
 // `split LINE SCRIPTS DEPTH`.
 fn split_command<'a>(line: &'a str, scripts: &'a str, word: &str) -> Option<Command<'a>>
     ensures { option_map command_view result
-        ≡ option_map (split line.now scripts.now) (depth_of (number_of word.now)) }
+        ≡ option_map (λ n. two_files (split n) line.now scripts.now) (depth_of (number_of word.now)) }
 {
     match split_depth(word) {
-        Some(depth) => Some(Command::Split {
+        Some(depth) => Some(Command::TwoFiles {
+            work: TwoFiles::Split(depth),
             line,
             scripts,
-            depth,
         }),
         None => None,
     }
@@ -189,10 +182,10 @@ fn command_of_four<'a>(
     } else if word == "recheck" {
         ThreeFiles::Recheck
     } else if word == "margin" {
-        return Some(Command::Margin {
+        return Some(Command::TwoFiles {
+            work: TwoFiles::Margin(third),
             line,
             scripts,
-            parameter: third,
         });
     } else if word == "split" {
         return split_command(line, scripts, third);

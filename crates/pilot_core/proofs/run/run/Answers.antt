@@ -8,10 +8,6 @@ pub returns-in-OneFile-clause-asked : goal.returns-in-OneFile-clause-asked
 returns-in-OneFile-clause-asked g c = rw c.in-OneFile.is (on_ok c.run_one.result
     (λ a. a (g.G.Engine.calls c.args.engine.now)) c.run_one.ensures.asked)
 
-pub returns-in-Margin-clause-asked : goal.returns-in-Margin-clause-asked
-returns-in-Margin-clause-asked g c = rw c.in-Margin.is (on_ok c.run_margin.result
-    (λ a. a (g.G.Engine.calls c.args.engine.now)) c.run_margin.ensures.asked)
-
 pub returns-in-Bench-clause-asked : goal.returns-in-Bench-clause-asked
 returns-in-Bench-clause-asked g c = rw c.in-Bench.is (on_ok c.no_file.result
     (λ asked told. asked) c.no_file.ensures.asked)
@@ -23,7 +19,3 @@ returns-in-Bench-clause-ends g c = rw c.in-Bench.is (ends_of_works
     (g.S.Store.held c.args.store.now) c.args.out.now c.no_file.new.out
     (g.S.Store.faults c.args.store.now) (g.S.Store.faults c.args.store.now) c.no_file.result
     (λ name. refl) c.no_file.ensures.works)
-
-pub returns-in-Split-clause-asked : goal.returns-in-Split-clause-asked
-returns-in-Split-clause-asked g c = rw c.in-Split.is (on_ok c.run_split.result
-    (λ a. a (g.G.Engine.calls c.args.engine.now)) c.run_split.ensures.asked)

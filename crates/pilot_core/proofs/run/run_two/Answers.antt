@@ -1,4 +1,4 @@
-use Rattle.pilot_core.specs.Call.{answer_by, asks_by}
+use Rattle.pilot_core.specs.{Call.answer_by, Call.asks_by, CommandView.two_files_view}
 use Rattle.pilot_core.specs.{Reading.over_files, Words.named, Words.two_files}
 use Rattle.commands.specs.Sinks.{sink_view}
 use Rattle.pilot_core.specs.declared.stop.File.TheVariants as file
@@ -7,7 +7,7 @@ use Rattle.pilot_core.proofs.run.run_two.Goals as goal
 
 pub returns-clause-asked : goal.returns-clause-asked
 returns-clause-asked g c =
-    let command = two_files c.args.work c.args.line.now c.args.scripts.now in
+    let command = two_files (two_files_view c.args.work) c.args.line.now c.args.scripts.now in
     let one = c.in_ok-line.ensures.file in
     let two = c.in_ok-scripts.ensures.file in
     let asked =
@@ -24,7 +24,7 @@ returns-clause-asked g c =
 
 pub returns-clause-ends : goal.returns-clause-ends
 returns-clause-ends g c =
-    let command = two_files c.args.work c.args.line.now c.args.scripts.now in
+    let command = two_files (two_files_view c.args.work) c.args.line.now c.args.scripts.now in
     let one = c.in_ok-line.ensures.file in
     let two = c.in_ok-scripts.ensures.file in
     let works =
