@@ -11,7 +11,7 @@ use Rattle.simulator.specs.GatePairs.{gate_pairs, kind_pair, GatesHaveTheirKind}
 module _ (w : PairWorld) (keys : PairSignals) (gates : List Gate) where
   kind_pair-is : (g : Gate) (t : ℕ)
       → pair_mean w keys (kind_over gates g) t ≡ kind_pair w keys (gate_pairs w keys gates) g t
-  unfolding pair_mean kind_over gate_pairs formula_of
+  unfolding pair_mean gate_pairs formula_of
   kind_pair-is (Const v) t = refl
   kind_pair-is (Seen p) t = refl
   kind_pair-is (Loss c) t = refl
