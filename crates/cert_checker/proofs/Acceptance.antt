@@ -1,22 +1,18 @@
 -- What the waves of gates say of keys, trips and verdicts.
-use Rattle.std.proofs.Common.{◌≡◌, ℕ, ◌+◌, ◌<◌, List, [], length, Some, sym, ◌∙◌, ap, subst, arith}
-use Rattle.std.proofs.Common.{⊎_elim}
-use Rattle.std.proofs.lemmas.Bool.{cases_lt}
-use Rattle.std.specs.Prelude.{get_or, slice_get, Result, Ok, Err, IfOk, MatchResult}
+use Rattle.std.proofs.Common.{◌≡◌, ℕ, ◌<◌, List, length, ◌∙◌, ap}
+use Rattle.std.specs.Prelude.{get_or, Result, Ok, Err, IfOk, MatchResult, []}
 use Rattle.tick_signal.specs.declared.tern.Tern.{Tern}
 use Rattle.line_model.specs.declared.script.Script.{Script}
 use Rattle.line_model.specs.{declared.line.Line.Line, PairMean.PairSignals, PairMean.pair_mean}
 use Rattle.line_model.specs.{Choice.declared_box, Histories.AreCovered, Tree.Tree}
 use Rattle.gate_net.specs.{declared.gate.Gate.Gate, Formulas.formula_of}
 use Rattle.wave_runs.specs.Waves.{wave_at}
-use Rattle.certificate.specs.Grammar.{Claims, Verdict, yes, no, undecided}
-use Rattle.cert_checker.specs.declared.claim.Uncovered.{Uncovered}
+use Rattle.certificate.specs.Grammar.{Claims}
 use Rattle.cert_checker.specs.declared.claim.ClaimFault.{ClaimFault}
-use Rattle.cert_checker.specs.declared.claim.ClaimFault.TheVariants.{NotCovered, NotHeld, Outside}
-use Rattle.cert_checker.specs.declared.claim.ClaimFault.TheVariants.{Passes, Memory}
+use Rattle.cert_checker.specs.declared.claim.ClaimFault.TheVariants.{NotCovered, NotHeld, No}
+use Rattle.cert_checker.specs.declared.claim.ClaimFault.TheVariants.{Memory}
 use Rattle.cert_checker.specs.Claims.{AreGateWaves, declared_world, pairs_of}
-use Rattle.cert_checker.specs.Verdicts.{IsFaultOf, IsVerdictFault, IsFirstFault, AreSupported}
-use Rattle.cert_checker.specs.Verdicts.{AreAccepted}
+use Rattle.cert_checker.specs.Verdicts.{IsVerdictFault, IsFirstFault, AreSupported, AreAccepted}
 
 -- the wave of a gate has the pairs of its tree
 pub tree_pairs : (line : Line) (script : Script) (gates : List Gate) (claims : PairSignals)
@@ -30,41 +26,15 @@ tree_pairs line script gates claims waves gate tree wave are there is same t ear
     ∙ (are.each gate there).values t early
     ∙ ap (λ (x : Tree). pair_mean (declared_world line script) claims x t) is
 
--- the fault of a verdict is none of the keys
-verdict_alone : (line : Line) (script : Script) (k : ℕ) (trip : ℕ → _) (verdict : Verdict)
-    (u : Uncovered) → IsFaultOf line script k trip verdict (NotCovered u) → ⊥
-verdict_alone line script k trip yes u h = h
-verdict_alone line script k trip (no values) u h = h
-verdict_alone line script k trip undecided u h = h
-
 -- where the keys cover, the first fault is that of the verdicts
 pub after_keys : (line : Line) (script : Script) (said : Claims) (fault : ClaimFault)
     → AreCovered line script (declared_box line) (pairs_of said.keys)
     → IsVerdictFault line script (pairs_of said.keys) said.verdicts fault
     → IsFirstFault line script said fault
-after_keys line script said (NotCovered u) covered h =
-    absurd (verdict_alone line script h.terminal _ h.verdict u h.wrong)
+after_keys line script said (NotCovered u) covered h = absurd h.wrong
 after_keys line script said (NotHeld k) covered h = record { covered = covered; verdict = h }
-after_keys line script said (Outside k i value) covered h =
-    record { covered = covered; verdict = h }
-after_keys line script said (Passes k t) covered h = record { covered = covered; verdict = h }
+after_keys line script said (No k fault) covered h = record { covered = covered; verdict = h }
 after_keys line script said Memory covered h = tt
-
--- one verdict more
-pub one_verdict : (said : ℕ → Verdict → Type 0) (verdicts : List Verdict) (i : ℕ) (now : Verdict)
-    → slice_get verdicts i ≡ Some now
-    → ((k : ℕ) (verdict : Verdict) → k < i → slice_get verdicts k ≡ Some verdict → said k verdict)
-    → said i now
-    → (k : ℕ) (verdict : Verdict) → k < i + 1 → slice_get verdicts k ≡ Some verdict → said k verdict
-one_verdict said verdicts i now at before holds k verdict lt is =
-    ⊎_elim (λ early. before k verdict early is)
-    (λ late.
-    let here : i ≡ k = omega (arith, lt, late) in
-    let both : Some now ≡ Some verdict = sym at ∙ ap (slice_get verdicts) here ∙ is in
-    let same : now ≡ verdict = cc in
-    let Q : ℕ → Type 0 = λ j. said j verdict in
-    subst Q here (subst (said i) same holds))
-    (cases_lt k i)
 
 -- the answer for the verdicts is that for all, where the keys cover
 pub with_keys : {U : Type 0} (line : Line) (script : Script) (said : Claims)

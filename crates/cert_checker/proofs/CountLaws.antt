@@ -9,7 +9,7 @@ use Rattle.certificate.specs.Grammar.{Claims, Verdict, verdict_in, claims_in}
 use Rattle.certificate.specs.{declared.claim.Claim.Claim, declared.claim.ScriptClaims.ScriptClaims}
 use Rattle.cert_checker.specs.declared.counts.Counts.{Counts}
 use Rattle.cert_checker.specs.Counts.{Adds, AreCounts, all_verdicts, is_yes, is_no, is_undecided}
-use Rattle.cert_checker.proofs.MapLaws.{each_mapped}
+use Rattle.cert_checker.specs.ScriptLaws.{each_mapped}
 
 count_then : (p : Verdict → Bool) (xs ys : List Verdict) (a b c : ℕ) → b ≡ a + count_by p xs
     → c ≡ b + count_by p ys → c ≡ a + count_by p (xs ++ ys)

@@ -3,13 +3,10 @@ pub mod Waves
 pub mod GateLaws
 pub mod Firsts
 pub mod HeldRules
-pub mod MapLaws
 pub mod Refutations
 pub mod Acceptance
 pub mod Refusal
 pub mod CountLaws
-pub mod Told
-pub mod Refused
 pub mod OneFault
 pub mod OneCheckFault
 pub mod StretchLaws

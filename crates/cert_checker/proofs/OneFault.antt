@@ -1,7 +1,6 @@
 -- Claims have one first fault.
 use Rattle.std.proofs.Common.{◌≡◌, ◌≢◌, ◌<◌, ℕ, suc, Bool, true, false, List, get_or, refl, sym}
-use Rattle.std.proofs.Common.{◌∙◌, ap, subst, arith, ⊎_elim}
-use Rattle.std.proofs.lemmas.Bool.{cases_lt}
+use Rattle.std.proofs.Common.{◌∙◌, ap, subst}
 use Rattle.std.proofs.lemmas.Option.{same_Some}
 use Rattle.std.specs.Prelude.{slice_get}
 use Rattle.history.specs.Rails.{Rails}
@@ -13,24 +12,20 @@ use Rattle.line_model.specs.Parameters.{param_count, terminal_count}
 use Rattle.line_model.specs.{declared.script.Kind.Kind, PairMean.PairSignals}
 use Rattle.certificate.specs.Grammar.{Claims, Verdict, yes, no, undecided}
 use Rattle.cert_checker.specs.declared.claim.ClaimFault.{ClaimFault}
-use Rattle.cert_checker.specs.declared.claim.ClaimFault.TheVariants.{NotCovered, NotHeld, Outside}
-use Rattle.cert_checker.specs.declared.claim.ClaimFault.TheVariants.{Passes, Memory}
+use Rattle.cert_checker.specs.declared.claim.ClaimFault.TheVariants.{NotCovered, NotHeld, No}
+use Rattle.cert_checker.specs.declared.claim.ClaimFault.TheVariants.{Memory}
+use Rattle.cert_checker.specs.declared.no.NoFault.{NoFault}
+use Rattle.cert_checker.specs.declared.no.NoFault.TheVariants.{Outside, Passes}
 use Rattle.cert_checker.specs.Firsts.{IsFirstFailing, IsFirstOn}
 use Rattle.cert_checker.specs.Refutations.{IsMetAt, IsNumberIn, IsFirstOutside, IsMetInside}
-use Rattle.cert_checker.specs.Verdicts.{IsYesFault, IsNoFault, IsFaultOf, IsCovered, IsKeyCovered}
+use Rattle.cert_checker.specs.{NoFaults.IsNoFault, ScriptLaws.same_number}
+use Rattle.cert_checker.specs.Verdicts.{IsNotHeld, IsWrongNo, IsFaultOf, IsCovered, IsKeyCovered}
 use Rattle.cert_checker.specs.Verdicts.{IsFirstUncovered, IsVerdictFault, IsFirstVerdictFault}
 use Rattle.cert_checker.specs.Verdicts.{IsFirstFault, derived_key, derived_trip}
 use Rattle.cert_checker.specs.{declared.claim.Uncovered.Uncovered, Claims.pairs_of}
 use Rattle.cert_checker.proofs.{Firsts.not_both, Refusal.HaveHistories, Refusal.verdict_refused}
 
 -- ---- first numbers
-
--- neither of two numbers is below the other
-pub same_number : (n m : ℕ) → ¬ (n < m) → ¬ (m < n) → n ≡ m
-same_number n m a b =
-    ⊎_elim (λ lt. absurd (a lt))
-    (λ ge. ⊎_elim (λ lt. absurd (b lt)) (λ le. omega (arith, ge, le)) (cases_lt m n))
-    (cases_lt n m)
 
 first_failing_once : (fact : ℕ → Type 0) (count n m : ℕ) → IsFirstFailing fact count n
     → IsFirstFailing fact count m → n ≡ m
@@ -96,18 +91,6 @@ met_once Internal deadline horizon trip t r a b = first_on_once trip (suc deadli
 met_once External deadline horizon trip t r a b = a.0 ∙ sym b.0
 
 module _ (line : Line) (script : Script) (have : HaveHistories line script) (k : ℕ) where
-  yes_once : (trip : ℕ → Rails) (f g : ClaimFault) → IsYesFault line script k trip f
-      → IsYesFault line script k trip g → f ≡ g
-  yes_once trip (NotCovered u) g a b = absurd a
-  yes_once trip (Outside j i value) g a b = absurd a
-  yes_once trip (Passes j t) g a b = absurd a
-  yes_once trip Memory g a b = absurd a
-  yes_once trip (NotHeld j) (NotCovered u) a b = absurd b
-  yes_once trip (NotHeld j) (NotHeld l) a b = ap NotHeld (a.0 ∙ sym b.0)
-  yes_once trip (NotHeld j) (Outside l i value) a b = absurd b
-  yes_once trip (NotHeld j) (Passes l t) a b = absurd b
-  yes_once trip (NotHeld j) Memory a b = absurd b
-
   outside_once : (values : List ℕ) (i x j y : ℕ) → IsFirstOutside line values i x
       → IsFirstOutside line values j y → (i ≡ j) × (x ≡ y)
   outside_once values i x j y a b =
@@ -127,38 +110,47 @@ module _ (line : Line) (script : Script) (have : HaveHistories line script) (k :
       met_once script.kind script.deadline line.horizon (h.0.trip k) t r (a.passes h.0 h.1)
       (b.passes h.0 h.1)
 
-  pub no_once : (values : List ℕ) (f g : ClaimFault) → f ≢ Memory → g ≢ Memory
-      → IsNoFault line script k values f → IsNoFault line script k values g → f ≡ g
-  no_once values (NotCovered u) g some other a b = absurd a
-  no_once values (NotHeld j) g some other a b = absurd a
-  no_once values Memory g some other a b = absurd (some refl)
-  no_once values (Outside j i x) (NotCovered u) some other a b = absurd b
-  no_once values (Outside j i x) (NotHeld l) some other a b = absurd b
-  no_once values (Outside j i x) Memory some other a b = absurd (other refl)
-  no_once values (Outside j i x) (Outside l m y) some other a b =
-      let same = outside_once values i x m y a.1 b.1 in
-      let terminal : j ≡ l = a.0 ∙ sym b.0 in
+  pub no_once : (values : List ℕ) (f g : NoFault) → IsNoFault line script k values f
+      → IsNoFault line script k values g → f ≡ g
+  no_once values (Outside i x) (Outside m y) a b =
+      let same = outside_once values i x m y a b in
       let param : i ≡ m = same.0 in
       let value : x ≡ y = same.1 in
       cc
-  no_once values (Outside j i x) (Passes l t) some other a b =
-      absurd (outside_or_inside values i x t a.1 b.1)
-  no_once values (Passes j t) (NotCovered u) some other a b = absurd b
-  no_once values (Passes j t) (NotHeld l) some other a b = absurd b
-  no_once values (Passes j t) Memory some other a b = absurd (other refl)
-  no_once values (Passes j t) (Outside l m y) some other a b =
-      absurd (outside_or_inside values m y t b.1 a.1)
-  no_once values (Passes j t) (Passes l r) some other a b =
-      let terminal : j ≡ l = a.0 ∙ sym b.0 in
-      let tick : t ≡ r = passes_once values t r a.1 b.1 in
-      cc
+  no_once values (Outside i x) (Passes t) a b = absurd (outside_or_inside values i x t a b)
+  no_once values (Passes t) (Outside m y) a b = absurd (outside_or_inside values m y t b a)
+  no_once values (Passes t) (Passes r) a b = ap Passes (passes_once values t r a b)
+
+  wrong_no_once : (verdict : Verdict) (f g : NoFault) → IsWrongNo line script k verdict f
+      → IsWrongNo line script k verdict g → f ≡ g
+  wrong_no_once yes f g a b = absurd a
+  wrong_no_once (no values) f g a b = no_once values f g a b
+  wrong_no_once undecided f g a b = absurd a
+
+  yes_or_no : (trip : ℕ → Rails) (verdict : Verdict) (f : NoFault)
+      → IsNotHeld line script trip verdict → IsWrongNo line script k verdict f → ⊥
+  yes_or_no trip yes f a b = b
+  yes_or_no trip (no values) f a b = a
+  yes_or_no trip undecided f a b = a
 
   fault_once : (trip : ℕ → Rails) (verdict : Verdict) (f g : ClaimFault) → f ≢ Memory
       → g ≢ Memory → IsFaultOf line script k trip verdict f
       → IsFaultOf line script k trip verdict g → f ≡ g
-  fault_once trip yes f g some other a b = yes_once trip f g a b
-  fault_once trip (no values) f g some other a b = no_once values f g some other a b
-  fault_once trip undecided f g some other a b = absurd a
+  fault_once trip verdict (NotCovered u) g some other a b = absurd a
+  fault_once trip verdict Memory g some other a b = absurd (some refl)
+  fault_once trip verdict (NotHeld j) (NotCovered u) some other a b = absurd b
+  fault_once trip verdict (NotHeld j) (NotHeld l) some other a b = ap NotHeld (a.0 ∙ sym b.0)
+  fault_once trip verdict (NotHeld j) (No l w) some other a b =
+      absurd (yes_or_no trip verdict w a.1 b.1)
+  fault_once trip verdict (NotHeld j) Memory some other a b = absurd (other refl)
+  fault_once trip verdict (No j v) (NotCovered u) some other a b = absurd b
+  fault_once trip verdict (No j v) (NotHeld l) some other a b =
+      absurd (yes_or_no trip verdict v b.1 a.1)
+  fault_once trip verdict (No j v) (No l w) some other a b =
+      let terminal : j ≡ l = a.0 ∙ sym b.0 in
+      let fault : v ≡ w = wrong_no_once verdict v w a.1 b.1 in
+      cc
+  fault_once trip verdict (No j v) Memory some other a b = absurd (other refl)
 
 module _ (line : Line) (script : Script) (have : HaveHistories line script) (claims : PairSignals)
     (verdicts : List Verdict) where
@@ -206,9 +198,7 @@ module _ (line : Line) (script : Script) (have : HaveHistories line script) (sai
       → IsFirstVerdictFault line script said f → IsFirstFault line script said g → f ≡ g
   verdict_then f (NotCovered u) some other a b = absurd (covered_or_not u f b a)
   verdict_then f (NotHeld k) some other a b = after_keys_once f (NotHeld k) some other a b
-  verdict_then f (Outside k i x) some other a b =
-      after_keys_once f (Outside k i x) some other a b
-  verdict_then f (Passes k t) some other a b = after_keys_once f (Passes k t) some other a b
+  verdict_then f (No k fault) some other a b = after_keys_once f (No k fault) some other a b
   verdict_then f Memory some other a b = absurd (other refl)
 
   pub first_fault_once : (f g : ClaimFault) → f ≢ Memory → g ≢ Memory
@@ -217,13 +207,9 @@ module _ (line : Line) (script : Script) (have : HaveHistories line script) (sai
       ap NotCovered (uncovered_once line script (pairs_of said.keys) u v a b)
   first_fault_once (NotCovered u) (NotHeld k) some other a b =
       absurd (covered_or_not u (NotHeld k) a b)
-  first_fault_once (NotCovered u) (Outside k i x) some other a b =
-      absurd (covered_or_not u (Outside k i x) a b)
-  first_fault_once (NotCovered u) (Passes k t) some other a b =
-      absurd (covered_or_not u (Passes k t) a b)
+  first_fault_once (NotCovered u) (No k fault) some other a b =
+      absurd (covered_or_not u (No k fault) a b)
   first_fault_once (NotCovered u) Memory some other a b = absurd (other refl)
   first_fault_once (NotHeld k) g some other a b = verdict_then (NotHeld k) g some other a b
-  first_fault_once (Outside k i x) g some other a b =
-      verdict_then (Outside k i x) g some other a b
-  first_fault_once (Passes k t) g some other a b = verdict_then (Passes k t) g some other a b
+  first_fault_once (No k fault) g some other a b = verdict_then (No k fault) g some other a b
   first_fault_once Memory g some other a b = absurd (some refl)

@@ -6,11 +6,14 @@ use Rattle.line_model.specs.{declared.line.Line.Line, Histories.History, Histori
 use Rattle.timing_box.specs.Inside.{IsTimingInside}
 use Rattle.certificate.specs.Grammar.{Claims, Verdict, yes, no, undecided}
 use Rattle.cert_checker.specs.declared.claim.ClaimFault.{ClaimFault}
-use Rattle.cert_checker.specs.declared.claim.ClaimFault.TheVariants.{NotCovered, NotHeld, Outside}
-use Rattle.cert_checker.specs.declared.claim.ClaimFault.TheVariants.{Passes, Memory}
+use Rattle.cert_checker.specs.declared.claim.ClaimFault.TheVariants.{NotCovered, NotHeld, No}
+use Rattle.cert_checker.specs.declared.claim.ClaimFault.TheVariants.{Memory}
+use Rattle.cert_checker.specs.declared.no.NoFault.{NoFault}
+use Rattle.cert_checker.specs.declared.no.NoFault.TheVariants.{Outside, Passes}
 use Rattle.cert_checker.specs.Refutations.{IsRefutation, IsMetInside, choice_of, steady_timing}
-use Rattle.cert_checker.specs.Verdicts.{IsSupported, IsYesFault, IsNoFault, IsFaultOf}
+use Rattle.cert_checker.specs.Verdicts.{IsSupported, IsNotHeld, IsWrongNo, IsFaultOf}
 use Rattle.cert_checker.specs.Verdicts.{IsFirstVerdictFault, IsFirstFault, AreAccepted}
+use Rattle.cert_checker.specs.NoFaults.{IsNoFault}
 use Rattle.cert_checker.proofs.Refutations.{met_meets}
 
 -- numbers that are inside have a history
@@ -29,31 +32,33 @@ passes_or_fails line script have k values t met refuted =
     (met_meets script.kind script.deadline line.horizon (h.0.trip k) t (met.passes h.0 h.1))
 
 module _ (line : Line) (script : Script) (have : HaveHistories line script) (k : ℕ) where
-  yes_refused : (trip : ℕ → Rails) (fault : ClaimFault) → IsYesFault line script k trip fault
-      → IsSupported line script k trip yes → ⊥
-  yes_refused trip (NotCovered u) h held = h
-  yes_refused trip (NotHeld j) h held = h.1 held
-  yes_refused trip (Outside j i value) h held = h
-  yes_refused trip (Passes j t) h held = h
-  yes_refused trip Memory h held = h
+  pub no_refused : (values : List ℕ) (fault : NoFault) → IsNoFault line script k values fault
+      → IsRefutation line script k values → ⊥
+  no_refused values (Outside i value) h refuted =
+      h.first.fails (refuted.inside.values i h.first.inside)
+  no_refused values (Passes t) h refuted = passes_or_fails line script have k values t h refuted
 
-  pub no_refused : (values : List ℕ) (fault : ClaimFault) → fault ≢ Memory
-      → IsNoFault line script k values fault → IsRefutation line script k values → ⊥
-  no_refused values (NotCovered u) some h refuted = h
-  no_refused values (NotHeld j) some h refuted = h
-  no_refused values (Outside j i value) some h refuted =
-      h.1.first.fails (refuted.inside.values i h.1.first.inside)
-  no_refused values (Passes j t) some h refuted =
-      passes_or_fails line script have k values t h.1 refuted
-  no_refused values Memory some h refuted = some refl
+  not_held_refused : (trip : ℕ → Rails) (verdict : Verdict) → IsNotHeld line script trip verdict
+      → IsSupported line script k trip verdict → ⊥
+  not_held_refused trip yes h held = h held
+  not_held_refused trip (no values) h refuted = h
+  not_held_refused trip undecided h none = h
+
+  wrong_no_refused : (trip : ℕ → Rails) (verdict : Verdict) (fault : NoFault)
+      → IsWrongNo line script k verdict fault → IsSupported line script k trip verdict → ⊥
+  wrong_no_refused trip yes fault h held = h
+  wrong_no_refused trip (no values) fault h refuted = no_refused values fault h refuted
+  wrong_no_refused trip undecided fault h none = h
 
   pub verdict_refused : (trip : ℕ → Rails) (verdict : Verdict) (fault : ClaimFault)
       → fault ≢ Memory → IsFaultOf line script k trip verdict fault
       → IsSupported line script k trip verdict → ⊥
-  verdict_refused trip yes fault some h held = yes_refused trip fault h held
-  verdict_refused trip (no values) fault some h refuted =
-      no_refused values fault some h refuted
-  verdict_refused trip undecided fault some h tt = h
+  verdict_refused trip verdict (NotCovered u) some h stands = h
+  verdict_refused trip verdict (NotHeld j) some h stands =
+      not_held_refused trip verdict h.1 stands
+  verdict_refused trip verdict (No j fault) some h stands =
+      wrong_no_refused trip verdict fault h.1 stands
+  verdict_refused trip verdict Memory some h stands = some refl
 
 module _ (line : Line) (script : Script) (have : HaveHistories line script) (said : Claims)
     (accepted : AreAccepted line script said) where
@@ -69,6 +74,5 @@ module _ (line : Line) (script : Script) (have : HaveHistories line script) (sai
   fault_refuses (NotCovered u) some h =
       h.tick.fails (accepted.covered u.terminal u.tick h.terminal.inside h.tick.inside)
   fault_refuses (NotHeld k) some h = by_verdict (NotHeld k) some h
-  fault_refuses (Outside k i value) some h = by_verdict (Outside k i value) some h
-  fault_refuses (Passes k t) some h = by_verdict (Passes k t) some h
+  fault_refuses (No k fault) some h = by_verdict (No k fault) some h
   fault_refuses Memory some h = some refl

@@ -2,6 +2,9 @@ pub mod Check
 pub mod Claims
 pub mod Counts
 pub mod Firsts
+pub mod NoFaults
 pub mod Refutations
+pub mod ScriptLaws
+pub mod Scripts
 pub mod Verdicts
 pub mod Stretches

@@ -9,10 +9,11 @@ use Rattle.line_model.specs.{Parameters.terminal_count, PairMean.PairSignals, Pa
 use Rattle.line_model.specs.{Logic.key_tree, Logic.trip_tree, Rule.Held, Rule.rule_of}
 use Rattle.certificate.specs.Grammar.{Claims, Verdict, yes, no, undecided}
 use Rattle.cert_checker.specs.declared.claim.ClaimFault.{ClaimFault}
-use Rattle.cert_checker.specs.declared.claim.ClaimFault.TheVariants.{NotCovered, NotHeld, Outside}
-use Rattle.cert_checker.specs.declared.claim.ClaimFault.TheVariants.{Passes, Memory}
+use Rattle.cert_checker.specs.declared.claim.ClaimFault.TheVariants.{NotCovered, NotHeld, No}
+use Rattle.cert_checker.specs.declared.claim.ClaimFault.TheVariants.{Memory}
+use Rattle.cert_checker.specs.declared.no.NoFault.{NoFault}
 use Rattle.cert_checker.specs.Claims.{declared_world, pairs_of}
-use Rattle.cert_checker.specs.Refutations.{IsRefutation, IsFirstOutside, IsMetInside}
+use Rattle.cert_checker.specs.{NoFaults.IsNoFault, Refutations.IsRefutation}
 use Rattle.cert_checker.specs.{declared.claim.Uncovered.Uncovered, Firsts.IsFirstFailing}
 
 -- ---- keys
@@ -51,28 +52,24 @@ IsSupported line script k trip yes = rule_of line script trip ≡ Held
 IsSupported line script k trip (no values) = IsRefutation line script k values
 IsSupported line script k trip undecided = Unit {0}
 
--- what is wrong with a `yes` of terminal k, where its trip has these pairs: it is not held
-abbrev pub IsYesFault : Line → Script → ℕ → (ℕ → Rails) → ClaimFault → Type 0
-IsYesFault line script k trip (NotCovered u) = ⊥
-IsYesFault line script k trip (NotHeld j) = (j ≡ k) × ¬ (rule_of line script trip ≡ Held)
-IsYesFault line script k trip (Outside j i value) = ⊥
-IsYesFault line script k trip (Passes j t) = ⊥
-IsYesFault line script k trip Memory = ⊥
+-- it is a `yes` that is not held
+abbrev pub IsNotHeld : Line → Script → (ℕ → Rails) → Verdict → Type 0
+IsNotHeld line script trip yes = ¬ (rule_of line script trip ≡ Held)
+IsNotHeld line script trip (no values) = ⊥
+IsNotHeld line script trip undecided = ⊥
 
--- what is wrong with a `no` of terminal k: a number is outside, or the numbers' history meets the
--- obligation. Want of memory says nothing.
-abbrev pub IsNoFault : Line → Script → ℕ → List ℕ → ClaimFault → Type 0
-IsNoFault line script k values (NotCovered u) = ⊥
-IsNoFault line script k values (NotHeld j) = ⊥
-IsNoFault line script k values (Outside j i value) = (j ≡ k) × IsFirstOutside line values i value
-IsNoFault line script k values (Passes j t) = (j ≡ k) × IsMetInside line script k values t
-IsNoFault line script k values Memory = Unit {0}
+-- it is a `no`, and this is wrong with its numbers
+abbrev pub IsWrongNo : Line → Script → ℕ → Verdict → NoFault → Type 0
+IsWrongNo line script k yes fault = ⊥
+IsWrongNo line script k (no values) fault = IsNoFault line script k values fault
+IsWrongNo line script k undecided fault = ⊥
 
--- what is wrong with the verdict of terminal k
+-- what is wrong with the verdict of terminal k; want of memory says nothing
 abbrev pub IsFaultOf : Line → Script → ℕ → (ℕ → Rails) → Verdict → ClaimFault → Type 0
-IsFaultOf line script k trip yes fault = IsYesFault line script k trip fault
-IsFaultOf line script k trip (no values) fault = IsNoFault line script k values fault
-IsFaultOf line script k trip undecided fault = ⊥
+IsFaultOf line script k trip verdict (NotCovered u) = ⊥
+IsFaultOf line script k trip verdict (NotHeld j) = (j ≡ k) × IsNotHeld line script trip verdict
+IsFaultOf line script k trip verdict (No j fault) = (j ≡ k) × IsWrongNo line script k verdict fault
+IsFaultOf line script k trip verdict Memory = Unit {0}
 
 -- each verdict stands, by the trips that follow from the claims
 abbrev pub AreSupported : Line → Script → PairSignals → List Verdict → Type 0
@@ -108,9 +105,7 @@ abbrev pub IsFirstFault : Line → Script → Claims → ClaimFault → Type 0
 IsFirstFault line script said (NotCovered u) =
     IsFirstUncovered line script (pairs_of said.keys) u
 IsFirstFault line script said (NotHeld k) = IsFirstVerdictFault line script said (NotHeld k)
-IsFirstFault line script said (Outside k i value) =
-    IsFirstVerdictFault line script said (Outside k i value)
-IsFirstFault line script said (Passes k t) = IsFirstVerdictFault line script said (Passes k t)
+IsFirstFault line script said (No k fault) = IsFirstVerdictFault line script said (No k fault)
 IsFirstFault line script said Memory = Unit {0}
 
 -- each history of each choice inside meets what has a `yes`

@@ -2,6 +2,7 @@
 
 ghost use Rattle.std.specs.Prelude.{◌≡◌};
 
+use crate::no::NoFault;
 use line_model::Memory;
 use tick_signal::Tern;
 
@@ -21,18 +22,8 @@ pub enum ClaimFault {
     NotCovered(Uncovered),
     /// The `yes` of this terminal is not held by the trips that follow from the claims.
     NotHeld(u32),
-    /// The `no` of a terminal has a parameter's number outside its interval.
-    Outside {
-        terminal: u32,
-        param: u32,
-        value: u32,
-    },
-    /// The `no` of a terminal has numbers whose history meets the obligation. Internal fault: it
-    /// first trips at this tick. External fault: the tick is the horizon.
-    Passes {
-        terminal: u32,
-        tick: u32,
-    },
+    /// The numbers of the `no` of a terminal do not refute its obligation.
+    No { terminal: u32, fault: NoFault },
     /// Memory ran out. Nothing else is answered by it.
     Memory,
 }

@@ -4,6 +4,7 @@ ghost use Rattle.std.specs.Prelude.{◌≡◌};
 ghost use Rattle.cert_checker.specs.Check.{fault_in};
 
 use crate::claim::ClaimFault;
+use crate::no::NoFault;
 use tick_signal::Tern;
 
 /// The first fault of a certificate: of its text, else of the first script whose claims are not
@@ -55,20 +56,18 @@ pub(crate) fn in_script(script: u32, fault: ClaimFault) -> CheckFault
             derived: uncovered.derived,
         },
         ClaimFault::NotHeld(terminal) => CheckFault::NotHeld { script, terminal },
-        ClaimFault::Outside {
-            terminal,
-            param,
-            value,
-        } => CheckFault::Outside {
-            script,
-            terminal,
-            param,
-            value,
-        },
-        ClaimFault::Passes { terminal, tick } => CheckFault::Passes {
-            script,
-            terminal,
-            tick,
+        ClaimFault::No { terminal, fault } => match fault {
+            NoFault::Outside { param, value } => CheckFault::Outside {
+                script,
+                terminal,
+                param,
+                value,
+            },
+            NoFault::Passes { tick } => CheckFault::Passes {
+                script,
+                terminal,
+                tick,
+            },
         },
         ClaimFault::Memory => CheckFault::Memory,
     }

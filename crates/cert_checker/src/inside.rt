@@ -8,7 +8,7 @@ use crate::declared::declared_param;
 use line_model::Line;
 
 /// The first parameter whose number is not in its interval.
-pub fn first_outside(line: &Line, values: &[u32]) -> Option<u32>
+pub(crate) fn first_outside(line: &Line, values: &[u32]) -> Option<u32>
     requires { length values.now ≡ param_count line.now }
     ensures { MatchOption result
         ((i : ℕ) → i < param_count line.now → IsNumberIn line.now values.now i)

@@ -6,7 +6,9 @@ ghost use Rattle.certificate.specs.Grammar.{Claims};
 ghost use Rattle.cert_checker.specs.declared.claim.ClaimFault.{ClaimFault};
 ghost use Rattle.cert_checker.specs.declared.fault.CheckFault.{CheckFault};
 ghost use Rattle.cert_checker.specs.Check.{IsAccepted, IsCheckFault};
-ghost use Rattle.cert_checker.specs.Verdicts.{AreAccepted, IsFirstFault, IsNoFault};
+ghost use Rattle.cert_checker.specs.declared.no.NoFault.{NoFault};
+ghost use Rattle.cert_checker.specs.{Verdicts.AreAccepted, Verdicts.IsFirstFault};
+ghost use Rattle.cert_checker.specs.{NoFaults.IsNoFault};
 ghost use Rattle.cert_checker.specs.{declared.counts.Counts.Counts, Refutations.IsRefutation};
 
 use certificate::{a_text_has_one_meaning, a_text_leaves_at_one_line};
@@ -39,12 +41,10 @@ pub fn claims_have_one_first_fault()
 
 /// The numbers of a `no` have one fault at most, and where they have one they refute nothing.
 pub fn a_no_has_one_fault()
-    ensures one { (line : Line) (script : Script) (k : ℕ) (values : List ℕ)
-        (fault other : ClaimFault) → fault ≢ ClaimFault.Memory → other ≢ ClaimFault.Memory →
+    ensures one { (line : Line) (script : Script) (k : ℕ) (values : List ℕ) (fault other : NoFault) →
         IsNoFault line script k values fault → IsNoFault line script k values other →
         fault ≡ other }
-    ensures refused { (line : Line) (script : Script) (k : ℕ) (values : List ℕ)
-        (fault : ClaimFault) → fault ≢ ClaimFault.Memory →
+    ensures refused { (line : Line) (script : Script) (k : ℕ) (values : List ℕ) (fault : NoFault) →
         IsNoFault line script k values fault → ¬ (IsRefutation line script k values) }
 {
     each_choice_has_one_history();
@@ -60,6 +60,7 @@ pub fn a_fault_refuses_the_certificate()
         IsCheckFault line scripts bytes fault → ¬ (IsAccepted line scripts bytes counts) }
 {
     a_fault_refuses_the_claims();
+    claims_have_one_first_fault();
     a_text_has_one_meaning();
     a_text_leaves_at_one_line();
 }

@@ -15,6 +15,7 @@ mod held;
 mod inside;
 mod laws;
 mod net_waves;
+mod no;
 mod refutation;
 mod script_check;
 mod script_wave;
@@ -24,12 +25,11 @@ pub use certificate::{Claim, ScriptClaims};
 pub use claim::{ClaimFault, Uncovered};
 pub use counts::Counts;
 pub use fault::CheckFault;
-pub use inside::first_outside;
 pub use laws::{
     a_certificate_has_one_first_fault, a_fault_refuses_the_certificate, a_fault_refuses_the_claims,
     a_no_has_one_fault, claims_have_one_first_fault,
 };
 pub use net_waves::gate_waves;
-pub use refutation::met_at;
+pub use no::{NoFault, check_no};
 pub use script_check::check_claims;
 pub use whole::check;

@@ -20,7 +20,7 @@ use timing_box::Step;
 
 /// Whether the history at the numbers meets the obligation of a terminal, and the tick that shows
 /// it.
-pub fn met_at(
+pub(crate) fn met_at(
     alloc: Global,
     line: &Line,
     net: &Net,

@@ -3,25 +3,21 @@
 ghost use Rattle.std.specs.Prelude.{◌≡◌, ◌<◌, ℕ, length, map, IfOk, MatchResult};
 ghost use Rattle.std.specs.List.{All};
 ghost use Rattle.history.specs.Rails.{Rails};
-ghost use Rattle.line_model.specs.Parameters.{terminal_count, param_count};
-ghost use Rattle.line_model.specs.{PairMean.PairSignals, Fits.Fits};
+ghost use Rattle.line_model.specs.{PairMean.PairSignals, Parameters.terminal_count, Fits.Fits};
 ghost use Rattle.gate_net.specs.NetOf.{IsNetOf};
 ghost use Rattle.wave_runs.specs.Waves.{wave_at};
 ghost use Rattle.certificate.specs.Grammar.{HasNumbers, claims_in, verdict_in};
 ghost use Rattle.certificate.specs.Text.{CanBeWritten};
 ghost use Rattle.cert_checker.specs.Claims.{AreWaves, AreGateWaves};
-ghost use Rattle.cert_checker.specs.Verdicts.{IsSupported, IsFaultOf, AreSound, IsNoFault};
-ghost use Rattle.cert_checker.specs.Verdicts.{IsVerdictFault, AreSupported, AreAccepted};
-ghost use Rattle.cert_checker.specs.Verdicts.{IsFirstFault};
-ghost use Rattle.cert_checker.specs.Refutations.{IsRefutation};
+ghost use Rattle.cert_checker.specs.Verdicts.{IsSupported, IsFaultOf, AreSound, IsVerdictFault};
+ghost use Rattle.cert_checker.specs.Verdicts.{AreSupported, AreAccepted, IsFirstFault};
 
 use crate::claim::ClaimFault;
 use crate::cover::first_uncovered;
 use crate::gate::nth;
 use crate::held::is_held;
-use crate::inside::first_outside;
 use crate::net_waves::gate_waves;
-use crate::refutation::met_at;
+use crate::no::check_no;
 use certificate::{Claim, ScriptClaims};
 use gate_net::Net;
 use line_model::laws::{
@@ -126,37 +122,12 @@ fn check_claim(
                 Err(ClaimFault::NotHeld(terminal))
             }
         }
-        Claim::No(values) => check_no(alloc, line, net, script, terminal, values.as_slice()),
+        Claim::No(values) => {
+            match check_no(alloc, line, net, script, terminal, values.as_slice())? {
+                Some(fault) => Err(ClaimFault::No { terminal, fault }),
+                None => Ok(()),
+            }
+        }
         Claim::Undecided => Ok(()),
-    }
-}
-
-// Checks the numbers of a `no`.
-fn check_no(
-    alloc: Global,
-    line: &Line,
-    net: &Net,
-    script: &Script,
-    terminal: u32,
-    values: &[u32],
-) -> Result<(), ClaimFault>
-    requires of_line { IsNetOf line.now net.now }
-    requires fits { Fits line.now script.now }
-    requires terminal { terminal < terminal_count line.now }
-    requires numbers { length values.now ≡ param_count line.now }
-    ensures { MatchResult result
-        (λ _. IsRefutation line.now script.now terminal values.now)
-        (λ fault. IsNoFault line.now script.now terminal values.now fault) }
-{
-    if let Some(param) = first_outside(line, values) {
-        return Err(ClaimFault::Outside {
-            terminal,
-            param,
-            value: values[param as usize],
-        });
-    }
-    match met_at(alloc, line, net, script, terminal, values)? {
-        Some(tick) => Err(ClaimFault::Passes { terminal, tick }),
-        None => Ok(()),
     }
 }

@@ -6,8 +6,8 @@ ghost use Rattle.line_model.specs.Fits.{Fits};
 ghost use Rattle.gate_net.specs.NetOf.{IsNetOf};
 ghost use Rattle.certificate.specs.Grammar.{claims_in, IsCertificate, IsCertificateFault};
 ghost use Rattle.certificate.specs.Text.{CanBeWritten};
-ghost use Rattle.cert_checker.specs.Check.{EachBelow, IsAccepted, IsCheckFault, IsSound};
-ghost use Rattle.cert_checker.specs.Verdicts.{AreSound};
+ghost use Rattle.cert_checker.specs.Check.{IsAccepted, IsCheckFault, IsSound};
+ghost use Rattle.cert_checker.specs.{Scripts.EachBelow, Verdicts.AreSound};
 
 use crate::counts::{Counts, counts_of};
 use crate::fault::{CheckFault, in_script};

@@ -7,8 +7,8 @@ use Rattle.gate_net.specs.Formulas.{formula_of}
 use Rattle.certificate.specs.declared.claim.Claim.{Claim}
 use Rattle.certificate.specs.Grammar.{HasNumbers, Verdict, verdict_in}
 use Rattle.cert_checker.specs.Verdicts.{IsSupported, derived_trip}
-use Rattle.cert_checker.proofs.Acceptance.{tree_pairs, one_verdict}
-use Rattle.cert_checker.proofs.MapLaws.{each_mapped, slice_mapped}
+use Rattle.cert_checker.specs.ScriptLaws.{each_mapped, slice_mapped, one_more}
+use Rattle.cert_checker.proofs.Acceptance.{tree_pairs}
 use Rattle.cert_checker.proofs.script_check.check_verdicts.Goals as goal
 
 pub loop-i-preserved : goal.loop-i-preserved
@@ -21,7 +21,7 @@ loop-i-preserved c = λ claims are.
     let item : Claim = c.index-verdicts-i.result in
     let inside : i < length verdicts = omega (arith, c.loop-i-test.true) in
     let there : i < terminal_count line = omega (arith, inside, c.requires.many) in
-    one_verdict (λ k v. IsSupported line script k (derived_trip line script claims k) v)
+    one_more (λ k v. IsSupported line script k (derived_trip line script claims k) v)
     (map verdict_in verdicts) i (verdict_in item)
     (slice_mapped (λ x. verdict_in x) verdicts i item inside c.index-verdicts-i.is)
     (c.loop-i.invariant claims are)

@@ -2,7 +2,7 @@ use Rattle.std.proofs.Common.{List, map, sym, ◌∙◌, subst}
 use Rattle.std.proofs.lemmas.List.{length-map}
 use Rattle.certificate.specs.declared.claim.ScriptClaims.{ScriptClaims}
 use Rattle.certificate.specs.Grammar.{claims_in, IsCertificate}
-use Rattle.cert_checker.proofs.Told.{sound_told}
+use Rattle.cert_checker.specs.{ScriptLaws.each_told, Verdicts.AreSound}
 use Rattle.cert_checker.proofs.whole.check.Goals as goal
 
 pub check_scripts-requires : goal.check_scripts-requires
@@ -31,8 +31,8 @@ returns-in-Ok c =
     let is : P claims = subst P (sym c.as_slice.ensures.value) c.in-Ok.ensures in
     record {
       exact = c.check_scripts.ensures.exact bytes is;
-      yes = sound_told line scripts bytes (map claims_in claims)
-          (λ others. c.a_text_has_one_meaning.ensures line scripts (map claims_in claims) others
+      yes = each_told (λ others. IsCertificate line scripts others bytes) (AreSound line) scripts
+          (map claims_in claims) (λ others. c.a_text_has_one_meaning.ensures line scripts (map claims_in claims) others
           bytes is) c.check_scripts.result c.check_scripts.ensures.yes;
     }
 

@@ -5,8 +5,8 @@ use Rattle.line_model.specs.{declared.script.Script.Script, Fits.Fits}
 use Rattle.certificate.specs.declared.claim.ScriptClaims.{ScriptClaims}
 use Rattle.certificate.specs.{Grammar.claims_in, Text.CanBeWritten}
 use Rattle.cert_checker.specs.{Check.IsCheckFault, Verdicts.AreAccepted, Verdicts.AreSound}
-use Rattle.cert_checker.proofs.MapLaws.{each_mapped, slice_mapped}
-use Rattle.cert_checker.proofs.Told.{told, one_script}
+use Rattle.cert_checker.specs.ScriptLaws.{each_mapped, slice_mapped, one_script}
+use Rattle.cert_checker.proofs.OneCheckFault.{told}
 use Rattle.cert_checker.proofs.whole.check_scripts.Goals as goal
 
 pub check_claims-requires : goal.check_claims-requires

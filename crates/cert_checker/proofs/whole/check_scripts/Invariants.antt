@@ -1,6 +1,6 @@
 use Rattle.std.proofs.Common.{map}
 use Rattle.certificate.specs.Grammar.{claims_in}
-use Rattle.cert_checker.specs.{Check.EachBelow, Verdicts.AreAccepted, Verdicts.AreSound}
+use Rattle.cert_checker.specs.{Scripts.EachBelow, Verdicts.AreAccepted, Verdicts.AreSound}
 use Rattle.cert_checker.proofs.whole.check_scripts.Given as goal
 
 abbrev pub invariant-loop-i : goal.invariant-loop-i
