@@ -10,35 +10,11 @@ use Rattle.line_model.specs.Choice.{Choice, Box, IsIn, IsWithin, LeastFromOne}
 use Rattle.line_model.specs.Histories.{History, IsLineHistory, Meets}
 use Rattle.line_model.specs.Boxes.{ends_with, box_with}
 use Rattle.line_model.specs.{declared.script.Script.Script, Parameters.terminal_count}
+use Rattle.box_split.specs.ListLaws.{at_append, before_append, after_append}
 use Rattle.box_split.specs.Leaves.{Leaf, lower_half, upper_half, leaves, CanSplit, Splits}
 use Rattle.box_split.specs.Leaves.{LiesInOne, AllHeld}
 use Rattle.box_split.specs.{Known.Known, Trees.SplitTree, Trees.Yes, Trees.Undecided, Trees.Split}
 use Rattle.box_split.proofs.EndsWith.{ends_with-here, ends_with-elsewhere}
-
--- ---- elements of joined lists
-
-pub at_append : {X : Type 0} (xs ys : List X) (p : ℕ) (x : X) → slice_get (xs ++ ys) p ≡ Some x
-    → (slice_get xs p ≡ Some x) ⊎ ((q : ℕ) × (p ≡ length xs + q) × (slice_get ys q ≡ Some x))
-at_append [] ys p x e = inr (p, omega arith, e)
-at_append (z ∷ xs) ys zero x e = inl e
-at_append (z ∷ xs) ys (suc p) x e =
-    ⊎_elim inl
-    (λ (q, n, f). let m : suc p ≡ length (z ∷ xs) + q = omega (arith, n) in inr (q, m, f))
-    (at_append xs ys p x e)
-
-before_append : {X : Type 0} (xs ys : List X) (i : ℕ) (x : X) → slice_get xs i ≡ Some x
-    → slice_get (xs ++ ys) i ≡ Some x
-before_append [] ys i x e = absurd (cc)
-before_append (y ∷ xs) ys zero x e = e
-before_append (y ∷ xs) ys (suc i) x e = before_append xs ys i x e
-
-after_append : {X : Type 0} (xs ys : List X) (i : ℕ) → slice_get (xs ++ ys) (length xs + i)
-    ≡ slice_get ys i
-after_append [] ys i =
-    let e : 0 + i ≡ i = omega arith in ap (λ (j : ℕ). slice_get ys j) e
-after_append (x ∷ xs) ys i =
-    let e : length (x ∷ xs) + i ≡ suc (length xs + i) = omega arith in
-    ap (λ (j : ℕ). slice_get (x ∷ xs ++ ys) j) e ∙ after_append xs ys i
 
 one_only : (leaf other : Leaf) (i : ℕ) → slice_get (leaf ∷ []) i ≡ Some other → i ≡ 0
 one_only leaf other zero e = refl

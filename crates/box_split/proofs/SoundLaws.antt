@@ -22,7 +22,8 @@ use Rattle.box_split.specs.Search.{split}
 use Rattle.box_split.specs.{Known.Known, Widths.middle}
 use Rattle.box_split.proofs.EndsWith.{along, ends_with-elsewhere, ends_with-here, exchanged}
 use Rattle.box_split.proofs.WidthLaws.{split_no_delay, middle_inside}
-use Rattle.box_split.proofs.{LeafLaws.at_append, LeafLaws.held_leaves, SearchLaws.both_true}
+use Rattle.box_split.specs.ListLaws.{at_append}
+use Rattle.box_split.proofs.{LeafLaws.held_leaves, SearchLaws.both_true}
 
 -- ---- boxes that are the same
 

@@ -1,38 +1,14 @@
 -- The first yes leaf that is not held, in a list of leaves and a longer one.
-use Rattle.std.proofs.Common.{◌≡◌, ◌+◌, ◌⊎◌, inl, inr, ⊎_elim, ℕ, zero, suc, List, [], ◌∷◌, ◌++◌}
-use Rattle.std.proofs.Common.{Some, length, ◌∙◌, ap, arith, IsTrue}
+use Rattle.std.proofs.Common.{◌≡◌, ◌+◌, ⊎_elim, ℕ, zero, suc, List, ◌++◌}
+use Rattle.std.proofs.Common.{Some, length, ◌∙◌, arith, IsTrue}
 use Rattle.std.proofs.lemmas.Option.{slice_get_within}
 use Rattle.std.specs.Prelude.{slice_get}
 use Rattle.line_model.specs.declared.line.Line.{Line}
 use Rattle.line_model.specs.{declared.script.Script.Script, Choice.Box, HeldOver.IsHeldOver}
 use Rattle.box_split.specs.Trees.{SplitTree, Yes, Undecided, Split}
+use Rattle.box_split.specs.ListLaws.{at_append, before_append, after_append}
 use Rattle.box_split.specs.Leaves.{Leaf, leaves, lower_half, upper_half, AreSound}
 use Rattle.split_checker.specs.FirstLeaf.{IsFirstNotHeld}
-
--- ---- elements of two lists, one after the other
-
-at_append : {X : Type 0} (xs ys : List X) (p : ℕ) (x : X) → slice_get (xs ++ ys) p ≡ Some x
-    → (slice_get xs p ≡ Some x) ⊎ ((q : ℕ) × (p ≡ length xs + q) × (slice_get ys q ≡ Some x))
-at_append [] ys p x e = inr (p, omega arith, e)
-at_append (z ∷ xs) ys zero x e = inl e
-at_append (z ∷ xs) ys (suc p) x e =
-    ⊎_elim inl
-    (λ (q, n, f). let m : suc p ≡ length (z ∷ xs) + q = omega (arith, n) in inr (q, m, f))
-    (at_append xs ys p x e)
-
-at_first : {X : Type 0} (xs ys : List X) (i : ℕ) (x : X) → slice_get xs i ≡ Some x
-    → slice_get (xs ++ ys) i ≡ Some x
-at_first [] ys i x e = absurd (cc)
-at_first (y ∷ xs) ys zero x e = e
-at_first (y ∷ xs) ys (suc i) x e = at_first xs ys i x e
-
-at_second : {X : Type 0} (xs ys : List X) (i : ℕ) → slice_get (xs ++ ys) (length xs + i)
-    ≡ slice_get ys i
-at_second [] ys i =
-    let e : 0 + i ≡ i = omega arith in ap (λ (j : ℕ). slice_get ys j) e
-at_second (x ∷ xs) ys i =
-    let e : length (x ∷ xs) + i ≡ suc (length xs + i) = omega arith in
-    ap (λ (j : ℕ). slice_get (x ∷ xs ++ ys) j) e ∙ at_second xs ys i
 
 module _ (line : Line) (script : Script) (k : ℕ) where
   -- each yes leaf is held
@@ -61,7 +37,7 @@ module _ (line : Line) (script : Script) (k : ℕ) where
       → IsFirstNotHeld line script k (xs ++ ys) n
   not_held_first xs ys n first = record {
     leaf = first.leaf;
-    at = at_first xs ys n first.leaf first.at;
+    at = before_append xs ys n first.leaf first.at;
     yes = first.yes;
     not_held = first.not_held;
     before = λ i earlier lt at on.
@@ -76,7 +52,7 @@ module _ (line : Line) (script : Script) (k : ℕ) where
       → IsFirstNotHeld line script k ys n → IsFirstNotHeld line script k (xs ++ ys) (length xs + n)
   not_held_second xs ys n held first = record {
     leaf = first.leaf;
-    at = at_second xs ys n ∙ first.at;
+    at = after_append xs ys n ∙ first.at;
     yes = first.yes;
     not_held = first.not_held;
     before = λ i earlier lt at on.

@@ -1,9 +1,7 @@
 pub mod FirstLeafLaws
 pub mod WalkLaws
-pub mod ListLaws
 pub mod ResultLaws
 pub mod CountLaws
-pub mod ScriptLaws
 pub mod OneTree
 pub mod OneFault
 pub mod OneSplitFault

@@ -4,30 +4,26 @@ use Rattle.std.proofs.lemmas.Option.{same_Some, slice_get_within}
 use Rattle.std.specs.Prelude.{slice_get}
 use Rattle.line_model.specs.declared.line.Line.{Line}
 use Rattle.line_model.specs.{declared.script.Script.Script, Choice.declared_box}
-use Rattle.cert_checker.specs.declared.claim.ClaimFault.{ClaimFault}
-use Rattle.cert_checker.specs.declared.claim.ClaimFault.TheVariants as claim
-use Rattle.cert_checker.specs.Refutations.{IsRefutation}
-use Rattle.cert_checker.specs.Verdicts as verdicts
+use Rattle.cert_checker.specs.declared.no.NoFault.{NoFault}
+use Rattle.cert_checker.specs.{NoFaults.IsNoFault, Refutations.IsRefutation}
+use Rattle.cert_checker.specs.ScriptLaws.{same_number}
 use Rattle.box_split.specs.declared.node.Node.{Node}
 use Rattle.box_split.specs.{Trees.SplitTree, Leaves.leaves, Leaves.AreSound}
 use Rattle.split_text.specs.Grammar.{SplitResult, tree, fails}
 use Rattle.split_checker.specs.declared.fault.ResultFault.{ResultFault}
-use Rattle.split_checker.specs.declared.fault.ResultFault.TheVariants.{NotHeld, Outside, Passes}
-use Rattle.split_checker.specs.declared.fault.ResultFault.TheVariants.{Memory}
+use Rattle.split_checker.specs.declared.fault.ResultFault.TheVariants.{NotHeld, No, Memory}
 use Rattle.split_checker.specs.FirstLeaf.{IsTreeHeld, IsTreeNotHeld, IsFirstNotHeld}
-use Rattle.split_checker.specs.Results.{IsSupported, IsTreeFault, IsNoFault, IsFaultOf}
+use Rattle.split_checker.specs.Results.{IsSupported, IsTreeFault, IsFailsFault, IsFaultOf}
 use Rattle.split_checker.specs.Results.{AreSupported, IsFirstFault}
 use Rattle.split_checker.proofs.FirstLeafLaws.{sound_held}
-use Rattle.split_checker.proofs.OneTree.{one_tree, same_number, leaf_once}
+use Rattle.split_checker.proofs.OneTree.{one_tree, leaf_once}
 
 -- what the law of a `no` says
 pub record OneNo : Type 0 where
-  pub one : (line : Line) (script : Script) (k : ℕ) (values : List ℕ) (f g : ClaimFault)
-      → f ≢ claim.Memory → g ≢ claim.Memory → verdicts.IsNoFault line script k values f
-      → verdicts.IsNoFault line script k values g → f ≡ g
-  pub refused : (line : Line) (script : Script) (k : ℕ) (values : List ℕ) (f : ClaimFault)
-      → f ≢ claim.Memory → verdicts.IsNoFault line script k values f
-      → ¬ (IsRefutation line script k values)
+  pub one : (line : Line) (script : Script) (k : ℕ) (values : List ℕ) (f g : NoFault)
+      → IsNoFault line script k values f → IsNoFault line script k values g → f ≡ g
+  pub refused : (line : Line) (script : Script) (k : ℕ) (values : List ℕ) (f : NoFault)
+      → IsNoFault line script k values f → ¬ (IsRefutation line script k values)
 
 -- ---- one result
 
@@ -53,49 +49,29 @@ module _ (law : OneNo) (line : Line) (script : Script) (k : ℕ) where
   refused : (result : SplitResult) (f : ResultFault) → f ≢ Memory
       → IsFaultOf line script k result f → IsSupported line script k result → ⊥
   refused (tree nodes) (NotHeld j n) some wrong held = tree_refused nodes n wrong.1 held
-  refused (tree nodes) (Outside j i x) some wrong held = wrong
-  refused (tree nodes) (Passes j t) some wrong held = wrong
+  refused (tree nodes) (No j fault) some wrong held = wrong
   refused (tree nodes) Memory some wrong held = some refl
   refused (fails values) (NotHeld j n) some wrong held = wrong
-  refused (fails values) (Outside j i x) some wrong held =
-      law.refused line script k values (claim.Outside j i x) (λ e. cc) wrong held
-  refused (fails values) (Passes j t) some wrong held =
-      law.refused line script k values (claim.Passes j t) (λ e. cc) wrong held
+  refused (fails values) (No j fault) some wrong held =
+      law.refused line script k values fault wrong.1 held
   refused (fails values) Memory some wrong held = some refl
 
-  no_once : (values : List ℕ) (f g : ResultFault) → f ≢ Memory → g ≢ Memory
-      → IsNoFault line script k values f → IsNoFault line script k values g → f ≡ g
-  no_once values (NotHeld j n) g some other a b = absurd a
-  no_once values Memory g some other a b = absurd (some refl)
-  no_once values (Outside j i x) (NotHeld l n) some other a b = absurd b
-  no_once values (Outside j i x) Memory some other a b = absurd (other refl)
-  no_once values (Outside j i x) (Outside l m y) some other a b =
-      let same : claim.Outside j i x ≡ claim.Outside l m y =
-      law.one line script k values (claim.Outside j i x) (claim.Outside l m y) (λ e. cc) (λ e. cc) a
-      b in
+  fails_once : (values : List ℕ) (f g : ResultFault) → f ≢ Memory → g ≢ Memory
+      → IsFailsFault line script k values f → IsFailsFault line script k values g → f ≡ g
+  fails_once values (NotHeld j n) g some other a b = absurd a
+  fails_once values Memory g some other a b = absurd (some refl)
+  fails_once values (No j v) (NotHeld l n) some other a b = absurd b
+  fails_once values (No j v) (No l w) some other a b =
+      let terminal : j ≡ l = a.0 ∙ sym b.0 in
+      let fault : v ≡ w = law.one line script k values v w a.1 b.1 in
       cc
-  no_once values (Outside j i x) (Passes l t) some other a b =
-      let same : claim.Outside j i x ≡ claim.Passes l t =
-      law.one line script k values (claim.Outside j i x) (claim.Passes l t) (λ e. cc) (λ e. cc) a b in
-      absurd (cc)
-  no_once values (Passes j t) (NotHeld l n) some other a b = absurd b
-  no_once values (Passes j t) Memory some other a b = absurd (other refl)
-  no_once values (Passes j t) (Outside l m y) some other a b =
-      let same : claim.Passes j t ≡ claim.Outside l m y =
-      law.one line script k values (claim.Passes j t) (claim.Outside l m y) (λ e. cc) (λ e. cc) a b in
-      absurd (cc)
-  no_once values (Passes j t) (Passes l r) some other a b =
-      let same : claim.Passes j t ≡ claim.Passes l r =
-      law.one line script k values (claim.Passes j t) (claim.Passes l r) (λ e. cc) (λ e. cc) a b in
-      cc
+  fails_once values (No j v) Memory some other a b = absurd (other refl)
 
   nodes_once : (nodes : List Node) (f g : ResultFault) → f ≢ Memory → g ≢ Memory
       → IsTreeFault line script k nodes f → IsTreeFault line script k nodes g → f ≡ g
-  nodes_once nodes (Outside j i x) g some other a b = absurd a
-  nodes_once nodes (Passes j t) g some other a b = absurd a
+  nodes_once nodes (No j v) g some other a b = absurd a
   nodes_once nodes Memory g some other a b = absurd (some refl)
-  nodes_once nodes (NotHeld j n) (Outside l i x) some other a b = absurd b
-  nodes_once nodes (NotHeld j n) (Passes l t) some other a b = absurd b
+  nodes_once nodes (NotHeld j n) (No l w) some other a b = absurd b
   nodes_once nodes (NotHeld j n) Memory some other a b = absurd (other refl)
   nodes_once nodes (NotHeld j n) (NotHeld l m) some other a b =
       let terminal : j ≡ l = a.0 ∙ sym b.0 in
@@ -105,7 +81,7 @@ module _ (law : OneNo) (line : Line) (script : Script) (k : ℕ) where
   fault_once : (result : SplitResult) (f g : ResultFault) → f ≢ Memory → g ≢ Memory
       → IsFaultOf line script k result f → IsFaultOf line script k result g → f ≡ g
   fault_once (tree nodes) f g some other a b = nodes_once nodes f g some other a b
-  fault_once (fails values) f g some other a b = no_once values f g some other a b
+  fault_once (fails values) f g some other a b = fails_once values f g some other a b
 
 -- ---- the results of a script
 

@@ -1,9 +1,9 @@
 -- Nodes in preorder are those of one tree.
-use Rattle.std.proofs.Common.{◌≡◌, ◌<◌, ℕ, List, [], ◌++◌, sym, ◌∙◌, arith, ⊎_elim, append_assoc}
+use Rattle.std.proofs.Common.{◌≡◌, ℕ, List, [], ◌++◌, sym, ◌∙◌, append_assoc}
 use Rattle.std.proofs.Common.{refl}
-use Rattle.std.proofs.lemmas.Bool.{cases_lt}
 use Rattle.std.proofs.lemmas.List.{append-nil}
 use Rattle.line_model.specs.{declared.line.Line.Line, declared.script.Script.Script}
+use Rattle.cert_checker.specs.ScriptLaws.{same_number}
 use Rattle.box_split.specs.declared.node.Node.{Node}
 use Rattle.box_split.specs.declared.node.Node.TheVariants as node
 use Rattle.box_split.specs.Trees.{SplitTree, Yes, Undecided, Split, preorder}
@@ -39,13 +39,6 @@ pub one_tree : (t u : SplitTree) (nodes : List Node) → nodes ≡ preorder t �
     → t ≡ u
 one_tree t u nodes is are =
     (head_tree t u [] [] (append-nil (preorder t) ∙ sym is ∙ are ∙ sym (append-nil (preorder u)))).0
-
--- neither of two numbers is below the other
-pub same_number : (n m : ℕ) → ¬ (n < m) → ¬ (m < n) → n ≡ m
-same_number n m a b =
-    ⊎_elim (λ lt. absurd (a lt))
-    (λ ge. ⊎_elim (λ lt. absurd (b lt)) (λ le. omega (arith, ge, le)) (cases_lt m n))
-    (cases_lt n m)
 
 -- one leaf is the first that is yes and not held
 pub leaf_once : (line : Line) (script : Script) (k : ℕ) (all : List Leaf) (n m : ℕ)

@@ -62,8 +62,7 @@ whole_fault line script k nodes t (wrong.NotHeld j n) are h =
             place h.1.leaf;
       },
     )
-whole_fault line script k nodes t (wrong.Outside j i value) are h = absurd h
-whole_fault line script k nodes t (wrong.Passes j tick) are h = absurd h
+whole_fault line script k nodes t (wrong.No j fault) are h = absurd h
 whole_fault line script k nodes t wrong.Memory are h = tt
 
 -- ---- what is supported is so

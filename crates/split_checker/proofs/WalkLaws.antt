@@ -172,8 +172,7 @@ module _ (line : Line) (script : Script) (k : ℕ) where
     subst (λ (m : ℕ). IsNotHeldFrom line script k box tree leaf m) (sym h.1.0)
         (yes_not_held tree box leaf is (λ held. h.1.1 (back held))),
   )
-  fault_leaf part tree box leaf (wrong.Outside j i value) back is h = absurd h
-  fault_leaf part tree box leaf (wrong.Passes j t) back is h = absurd h
+  fault_leaf part tree box leaf (wrong.No j fault) back is h = absurd h
   fault_leaf part tree box leaf wrong.Memory back is h = tt
 
   -- ---- a split
@@ -222,8 +221,7 @@ module _ (line : Line) (script : Script) (k : ℕ) where
             h.1.leaf;
       },
     )
-    fault_first leaf (wrong.Outside j i value) h = h
-    fault_first leaf (wrong.Passes j t) h = h
+    fault_first leaf (wrong.No j fault) h = h
     fault_first leaf wrong.Memory h = tt
 
     pub fault_second : (below between : Passed) (f : ResultFault)
@@ -239,8 +237,7 @@ module _ (line : Line) (script : Script) (k : ℕ) where
             (sound_held line script k first lower one.sound) h.1.leaf;
       },
     )
-    fault_second below between (wrong.Outside j i value) one h = h
-    fault_second below between (wrong.Passes j t) one h = h
+    fault_second below between (wrong.No j fault) one h = h
     fault_second below between wrong.Memory one h = tt
 
 -- ---- parts

@@ -1,24 +1,24 @@
 -- When a text of split trees is accepted, and its first fault where it is not.
-use Rattle.std.specs.Prelude.{◌≡◌, ℕ, List, Some, length, slice_get}
+use Rattle.std.specs.Prelude.{ℕ, List, length}
 use Rattle.line_model.specs.{declared.line.Line.Line, declared.script.Script.Script}
-use Rattle.cert_checker.specs.{declared.counts.Counts.Counts, Check.EachBelow}
+use Rattle.cert_checker.specs.{declared.counts.Counts.Counts, Scripts.EachBelow}
+use Rattle.cert_checker.specs.{Scripts.IsAllGood, Scripts.IsFirstWrong}
+use Rattle.cert_checker.specs.declared.no.NoFault.TheVariants as no
 use Rattle.split_text.specs.Grammar.{SplitResult, IsSplitText, LeavesGrammar}
 use Rattle.split_checker.specs.declared.fault.ResultFault.{ResultFault}
 use Rattle.split_checker.specs.declared.fault.ResultFault.TheVariants as wrong
 use Rattle.split_checker.specs.declared.fault.SplitFault.{SplitFault}
 use Rattle.split_checker.specs.declared.fault.SplitFault.TheVariants.{Line as Line', NotHeld}
 use Rattle.split_checker.specs.declared.fault.SplitFault.TheVariants.{Outside, Passes, Memory}
-use Rattle.split_checker.specs.Counts.{CountResults}
+use Rattle.split_checker.specs.Counts.{all_verdicts}
 use Rattle.split_checker.specs.Results.{AreSupported, AreTold, IsFirstFault}
 
 -- The bytes are split trees of the scripts; the results of each script are supported; and these are
 -- the counts of all results.
-pub record IsAccepted (line : Line) (scripts : List Script) (bytes : List ℕ) (counts : Counts)
-    : Type 0 where
-  pub parts : List (List SplitResult)
-  pub is : IsSplitText line scripts parts bytes
-  pub each : EachBelow (AreSupported line) scripts parts (length scripts)
-  pub counted : CountResults parts counts
+abbrev pub IsAccepted : Line → List Script → List ℕ → Counts → Type 0
+IsAccepted line scripts bytes counts =
+    IsAllGood (λ parts. IsSplitText line scripts parts bytes) (AreSupported line) all_verdicts
+    scripts counts
 
 -- whatever the text says of each script and terminal is so
 abbrev pub IsSound : Line → List Script → List ℕ → Type 0
@@ -28,16 +28,10 @@ IsSound line scripts bytes =
 
 -- The bytes are split trees of the scripts; the results of each script before script i are
 -- supported; and this is the first fault of those of script i.
-pub record IsScriptFault (line : Line) (scripts : List Script) (bytes : List ℕ) (i : ℕ)
-    (fault : ResultFault) : Type 0 where
-  pub parts : List (List SplitResult)
-  pub is : IsSplitText line scripts parts bytes
-  pub script : Script
-  pub results : List SplitResult
-  pub script_is : slice_get scripts i ≡ Some script
-  pub results_are : slice_get parts i ≡ Some results
-  pub before : EachBelow (AreSupported line) scripts parts i
-  pub wrong : IsFirstFault line script results fault
+abbrev pub IsScriptFault : Line → List Script → List ℕ → ℕ → ResultFault → Type 0
+IsScriptFault line scripts bytes i fault =
+    IsFirstWrong (λ parts. IsSplitText line scripts parts bytes) (AreSupported line)
+    (IsFirstFault line) scripts i fault
 
 -- The first fault: the first line that leaves the grammar, else that of the first script that has
 -- one. Want of memory says nothing.
@@ -46,15 +40,15 @@ IsSplitFault line scripts bytes (Line' n) = LeavesGrammar line scripts bytes n
 IsSplitFault line scripts bytes (NotHeld i k n) =
     IsScriptFault line scripts bytes i (wrong.NotHeld k n)
 IsSplitFault line scripts bytes (Outside i k p value) =
-    IsScriptFault line scripts bytes i (wrong.Outside k p value)
+    IsScriptFault line scripts bytes i (wrong.No k (no.Outside p value))
 IsSplitFault line scripts bytes (Passes i k t) =
-    IsScriptFault line scripts bytes i (wrong.Passes k t)
+    IsScriptFault line scripts bytes i (wrong.No k (no.Passes t))
 IsSplitFault line scripts bytes Memory = Unit {0}
 
 -- ---- as the code tells the fault of a script
 
 abbrev pub fault_in : ℕ → ResultFault → SplitFault
 fault_in i (wrong.NotHeld k n) = NotHeld i k n
-fault_in i (wrong.Outside k p value) = Outside i k p value
-fault_in i (wrong.Passes k t) = Passes i k t
+fault_in i (wrong.No k (no.Outside p value)) = Outside i k p value
+fault_in i (wrong.No k (no.Passes t)) = Passes i k t
 fault_in i wrong.Memory = Memory

@@ -3,11 +3,10 @@ use Rattle.std.specs.Prelude.{◌≡◌, ◌<◌, ℕ, List, Some, length, slice
 use Rattle.line_model.specs.declared.line.Line.{Line}
 use Rattle.line_model.specs.Histories.{History, IsLineHistory, Meets}
 use Rattle.line_model.specs.{declared.script.Script.Script, Choice.Choice, Choice.IsInside}
-use Rattle.cert_checker.specs.Refutations.{IsRefutation, IsFirstOutside, IsMetInside}
+use Rattle.cert_checker.specs.{NoFaults.IsNoFault, Refutations.IsRefutation}
 use Rattle.box_split.specs.declared.node.Node.{Node}
 use Rattle.split_checker.specs.declared.fault.ResultFault.{ResultFault}
-use Rattle.split_checker.specs.declared.fault.ResultFault.TheVariants.{NotHeld, Outside, Passes}
-use Rattle.split_checker.specs.declared.fault.ResultFault.TheVariants.{Memory}
+use Rattle.split_checker.specs.declared.fault.ResultFault.TheVariants.{NotHeld, No, Memory}
 use Rattle.split_checker.specs.{Counts.is_yes_tree, FirstLeaf.IsTreeHeld, FirstLeaf.IsTreeNotHeld}
 use Rattle.split_text.specs.Grammar.{SplitResult, tree, fails}
 
@@ -22,23 +21,19 @@ IsSupported line script k (fails values) = IsRefutation line script k values
 -- what is wrong with a tree of terminal k: a yes leaf is not held. Want of memory says nothing.
 abbrev pub IsTreeFault : Line → Script → ℕ → List Node → ResultFault → Type 0
 IsTreeFault line script k nodes (NotHeld j n) = (j ≡ k) × IsTreeNotHeld line script k nodes n
-IsTreeFault line script k nodes (Outside j i value) = ⊥
-IsTreeFault line script k nodes (Passes j tick) = ⊥
+IsTreeFault line script k nodes (No j fault) = ⊥
 IsTreeFault line script k nodes Memory = Unit {0}
 
--- what is wrong with a `no` of terminal k: a number is outside, or the numbers' history meets the
--- obligation
-abbrev pub IsNoFault : Line → Script → ℕ → List ℕ → ResultFault → Type 0
-IsNoFault line script k values (NotHeld j n) = ⊥
-IsNoFault line script k values (Outside j i value) =
-    (j ≡ k) × IsFirstOutside line values i value
-IsNoFault line script k values (Passes j tick) = (j ≡ k) × IsMetInside line script k values tick
-IsNoFault line script k values Memory = Unit {0}
+-- what is wrong with a `no` of terminal k, which has these numbers
+abbrev pub IsFailsFault : Line → Script → ℕ → List ℕ → ResultFault → Type 0
+IsFailsFault line script k values (NotHeld j n) = ⊥
+IsFailsFault line script k values (No j fault) = (j ≡ k) × IsNoFault line script k values fault
+IsFailsFault line script k values Memory = Unit {0}
 
 -- what is wrong with the result of terminal k
 abbrev pub IsFaultOf : Line → Script → ℕ → SplitResult → ResultFault → Type 0
 IsFaultOf line script k (tree nodes) fault = IsTreeFault line script k nodes fault
-IsFaultOf line script k (fails values) fault = IsNoFault line script k values fault
+IsFaultOf line script k (fails values) fault = IsFailsFault line script k values fault
 
 -- what it says is so: where a tree has yes leaves alone, each history of each choice inside meets
 -- the obligation; at the numbers of a `no`, which are inside, it is failed

@@ -36,14 +36,12 @@ pub record IsNotHeldFrom (line : Line) (script : Script) (k : ℕ) (box : Box) (
 abbrev pub IsWalkFault : Line → Script → ℕ → Box → SplitTree → ℕ → ResultFault → Type 0
 IsWalkFault line script k box tree first (wrong.NotHeld j n) =
     (j ≡ k) × IsNotHeldFrom line script k box tree first n
-IsWalkFault line script k box tree first (wrong.Outside j i value) = ⊥
-IsWalkFault line script k box tree first (wrong.Passes j t) = ⊥
+IsWalkFault line script k box tree first (wrong.No j fault) = ⊥
 IsWalkFault line script k box tree first wrong.Memory = Unit {0}
 
 -- what stops a walk at a leaf of this number, which is the declared box of a line
 abbrev pub IsLeafFault : Line → Script → ℕ → ℕ → ResultFault → Type 0
 IsLeafFault part script k leaf (wrong.NotHeld j n) =
     (j ≡ k) × ((n ≡ leaf) × ¬ (IsHeldOver part script k (declared_box part)))
-IsLeafFault part script k leaf (wrong.Outside j i value) = ⊥
-IsLeafFault part script k leaf (wrong.Passes j t) = ⊥
+IsLeafFault part script k leaf (wrong.No j fault) = ⊥
 IsLeafFault part script k leaf wrong.Memory = Unit {0}

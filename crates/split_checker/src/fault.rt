@@ -3,6 +3,7 @@
 ghost use Rattle.std.specs.Prelude.{◌≡◌};
 ghost use Rattle.split_checker.specs.Check.{fault_in};
 
+use cert_checker::NoFault;
 use line_model::Memory;
 
 /// What is wrong with a script's result at a terminal.
@@ -10,22 +11,9 @@ use line_model::Memory;
 pub enum ResultFault {
     /// A `yes` of the tree whose rule is not held over the leaf's part of the box. Leaves are
     /// numbered from 0 in the order of the text, whatever they say.
-    NotHeld {
-        terminal: u32,
-        leaf: u32,
-    },
-    /// A `no` has a parameter's number outside its interval.
-    Outside {
-        terminal: u32,
-        param: u32,
-        value: u32,
-    },
-    /// A `no` has numbers whose history meets the obligation. Internal fault: it first trips at this
-    /// tick. External fault: the tick is the horizon.
-    Passes {
-        terminal: u32,
-        tick: u32,
-    },
+    NotHeld { terminal: u32, leaf: u32 },
+    /// The numbers of a `no` do not refute its obligation.
+    No { terminal: u32, fault: NoFault },
     /// Memory ran out. Nothing else is answered by it.
     Memory,
 }
@@ -80,20 +68,18 @@ pub(crate) fn in_script(script: u32, fault: ResultFault) -> SplitFault
             terminal,
             leaf,
         },
-        ResultFault::Outside {
-            terminal,
-            param,
-            value,
-        } => SplitFault::Outside {
-            script,
-            terminal,
-            param,
-            value,
-        },
-        ResultFault::Passes { terminal, tick } => SplitFault::Passes {
-            script,
-            terminal,
-            tick,
+        ResultFault::No { terminal, fault } => match fault {
+            NoFault::Outside { param, value } => SplitFault::Outside {
+                script,
+                terminal,
+                param,
+                value,
+            },
+            NoFault::Passes { tick } => SplitFault::Passes {
+                script,
+                terminal,
+                tick,
+            },
         },
         ResultFault::Memory => SplitFault::Memory,
     }

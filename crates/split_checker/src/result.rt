@@ -1,21 +1,20 @@
 //! The check of what is said of a script.
 
-ghost use Rattle.std.specs.Prelude.{◌≡◌, ◌<◌, length, map, IfOk, MatchResult};
-ghost use Rattle.line_model.specs.{Fits.Fits, Parameters.terminal_count, Parameters.param_count};
+ghost use Rattle.std.specs.Prelude.{◌<◌, map, IfOk, MatchResult};
+ghost use Rattle.line_model.specs.{Fits.Fits, Parameters.terminal_count};
 ghost use Rattle.gate_net.specs.NetOf.{IsNetOf};
-ghost use Rattle.cert_checker.specs.Refutations.{IsRefutation};
 ghost use Rattle.split_text.specs.Grammar.{AreTree, IsSplitResult, HasOneEach};
 ghost use Rattle.split_text.specs.Reading.{result_in};
 ghost use Rattle.split_checker.specs.FirstLeaf.{IsTreeHeld};
-ghost use Rattle.split_checker.specs.Results.{IsSupported, IsTreeFault, IsNoFault, IsFaultOf};
-ghost use Rattle.split_checker.specs.Results.{AreSupported, AreTold, IsFirstFault};
+ghost use Rattle.split_checker.specs.Results.{IsSupported, IsTreeFault, IsFaultOf, AreSupported};
+ghost use Rattle.split_checker.specs.Results.{AreTold, IsFirstFault};
 
 use crate::fault::ResultFault;
 use crate::tree::{Passed, walk};
 use box_split::{
     Node, a_part_stands_for_its_box, a_sound_tree_that_is_yes_speaks_for_every_choice,
 };
-use cert_checker::{first_outside, met_at};
+use cert_checker::check_no;
 use gate_net::Net;
 use line_model::laws::{deadlines_are_below_the_horizon, each_line_has_a_choice_inside};
 use line_model::{Line, Script};
@@ -67,14 +66,12 @@ fn check_result(
 {
     match claim {
         SplitClaim::Tree(nodes) => check_tree(alloc, line, net, script, terminal, nodes.as_slice()),
-        SplitClaim::Fails(values) => check_no(
-            alloc,
-            line,
-            net,
-            script,
-            terminal,
-            values.as_slice(),
-        ),
+        SplitClaim::Fails(values) => {
+            match check_no(alloc, line, net, script, terminal, values.as_slice())? {
+                Some(fault) => Err(ResultFault::No { terminal, fault }),
+                None => Ok(()),
+            }
+        }
     }
 }
 
@@ -102,34 +99,4 @@ fn check_tree(
     };
     walk(alloc, line, net, script, terminal, nodes, none)?;
     Ok(())
-}
-
-// Checks the numbers of a `no`.
-fn check_no(
-    alloc: Global,
-    line: &Line,
-    net: &Net,
-    script: &Script,
-    terminal: u32,
-    values: &[u32],
-) -> Result<(), ResultFault>
-    requires of_line { IsNetOf line.now net.now }
-    requires fits { Fits line.now script.now }
-    requires terminal { terminal < terminal_count line.now }
-    requires numbers { length values.now ≡ param_count line.now }
-    ensures { MatchResult result
-        (λ _. IsRefutation line.now script.now terminal values.now)
-        (λ fault. IsNoFault line.now script.now terminal values.now fault) }
-{
-    if let Some(param) = first_outside(line, values) {
-        return Err(ResultFault::Outside {
-            terminal,
-            param,
-            value: values[param as usize],
-        });
-    }
-    match met_at(alloc, line, net, script, terminal, values)? {
-        Some(tick) => Err(ResultFault::Passes { terminal, tick }),
-        None => Ok(()),
-    }
 }

@@ -4,7 +4,7 @@ ghost use Rattle.std.specs.Prelude.{◌≡◌, ◌≤◌, ℕ, List, length, map
 ghost use Rattle.std.specs.List.{All};
 ghost use Rattle.line_model.specs.Fits.{Fits};
 ghost use Rattle.gate_net.specs.NetOf.{IsNetOf};
-ghost use Rattle.cert_checker.specs.Check.{EachBelow};
+ghost use Rattle.cert_checker.specs.Scripts.{EachBelow};
 ghost use Rattle.split_text.specs.Grammar.{HasOneEach, IsSplitText};
 ghost use Rattle.split_text.specs.Reading.{results_in, IsSplitTextFault};
 ghost use Rattle.split_checker.specs.Check.{IsAccepted, IsSplitFault, IsSound};

@@ -6,7 +6,8 @@ use Rattle.cert_checker.specs.Counts.{Adds, AreCounts, is_yes, is_no, is_undecid
 use Rattle.split_text.specs.declared.claim.SplitClaim.{SplitClaim}
 use Rattle.split_text.specs.{Grammar.SplitResult, Reading.result_in, Reading.results_in}
 use Rattle.split_checker.specs.Counts.{all_verdicts, CountResults}
-use Rattle.split_checker.proofs.{ListLaws.each_mapped, CountLaws.verdicts_in, CountLaws.counts_then}
+use Rattle.cert_checker.specs.ScriptLaws.{each_mapped}
+use Rattle.split_checker.proofs.CountLaws.{verdicts_in, counts_then}
 use Rattle.split_checker.proofs.{CountLaws.parts_more, CountLaws.adds_few, CountLaws.few_verdicts}
 use Rattle.split_checker.proofs.counts.counts_of.Goals as goal
 

@@ -1,9 +1,8 @@
 use Rattle.std.proofs.Common.{ℕ, List, sym, subst, MatchResult}
 use Rattle.box_split.specs.declared.node.Node.{Node}
-use Rattle.cert_checker.specs.Refutations.{IsRefutation}
 use Rattle.split_text.specs.{declared.claim.SplitClaim.SplitClaim, Reading.result_in}
 use Rattle.split_checker.specs.FirstLeaf.{IsTreeHeld}
-use Rattle.split_checker.specs.Results.{IsSupported, IsFaultOf, IsTreeFault, IsNoFault}
+use Rattle.split_checker.specs.Results.{IsSupported, IsFaultOf, IsTreeFault}
 use Rattle.split_checker.proofs.result.check_result.Goals as goal
 
 pub returns-in-Tree : goal.returns-in-Tree
@@ -16,15 +15,3 @@ returns-in-Tree c =
     (λ fault. IsFaultOf line script k (result_in x) fault)) (sym c.in-Tree.is)
     (subst (λ (l : List Node). MatchResult c.check_tree.result (λ _. IsTreeHeld line script k l)
     (λ fault. IsTreeFault line script k l fault)) c.as_slice.ensures.value c.check_tree.ensures)
-
-pub returns-in-Fails : goal.returns-in-Fails
-returns-in-Fails c =
-    let line = c.args.line.now in
-    let script = c.args.script.now in
-    let k : ℕ = c.args.terminal in
-    subst (λ (x : SplitClaim). MatchResult c.check_no.result
-    (λ _. IsSupported line script k (result_in x))
-    (λ fault. IsFaultOf line script k (result_in x) fault)) (sym c.in-Fails.is)
-    (subst (λ (l : List ℕ). MatchResult c.check_no.result (λ _. IsRefutation line script k l)
-    (λ fault. IsNoFault line script k l fault)) c.as_slice-in-Fails.ensures.value
-    c.check_no.ensures)

@@ -4,7 +4,7 @@ use Rattle.std.proofs.lemmas.Result.{err_from_is_err_and}
 use Rattle.split_text.specs.declared.claim.SplitClaim.{SplitClaim}
 use Rattle.split_text.specs.{Grammar.SplitResult, Grammar.IsSplitResult, Reading.result_in}
 use Rattle.split_checker.specs.Results.{IsSupported}
-use Rattle.split_checker.proofs.ListLaws.{each_mapped, slice_mapped, one_more}
+use Rattle.cert_checker.specs.ScriptLaws.{each_mapped, slice_mapped, one_more}
 use Rattle.split_checker.proofs.ResultLaws.{supported_told}
 use Rattle.split_checker.proofs.result.check_results.Goals as goal
 

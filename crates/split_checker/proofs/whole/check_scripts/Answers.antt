@@ -8,8 +8,8 @@ use Rattle.split_text.specs.declared.claim.SplitClaim.{SplitClaim}
 use Rattle.split_text.specs.{Grammar.HasOneEach, Reading.result_in, Reading.results_in}
 use Rattle.split_checker.specs.Results.{AreSupported, AreTold, IsFirstFault}
 use Rattle.split_checker.specs.{declared.fault.ResultFault.ResultFault, Check.IsSplitFault}
-use Rattle.split_checker.proofs.ListLaws.{each_mapped, slice_mapped}
-use Rattle.split_checker.proofs.ScriptLaws.{fault_told, one_script}
+use Rattle.cert_checker.specs.ScriptLaws.{each_mapped, slice_mapped, one_script}
+use Rattle.split_checker.proofs.OneSplitFault.{told}
 use Rattle.split_checker.proofs.whole.check_scripts.Goals as goal
 
 pub check_results-requires-clause-fits : goal.check_results-requires-clause-fits
@@ -73,13 +73,13 @@ returns-in-Err c =
     c.index-parts-i.is in
     record {
       exact = λ bytes is. subst (IsSplitFault line scripts bytes) (sym c.in_script.ensures)
-          (fault_told line scripts bytes i fault (record {
-            parts = map results_in parts;
+          (told line scripts bytes i fault (record {
+            claims = map results_in parts;
             is = is;
             script = script;
-            results = results_in item;
+            said = results_in item;
             script_is = at;
-            results_are = there;
+            said_is = there;
             before = c.loop-i.invariant.supported;
             wrong = subst (λ (l : List SplitClaim).
                 IsFirstFault line script (map result_in l) fault)
@@ -100,7 +100,7 @@ returns c =
     let done : length scripts ≤ c.loop-i.i = omega (arith, c.loop-i-test.false) in
     record {
       exact = λ bytes is. record {
-        parts = map results_in c.args.parts.now;
+        claims = map results_in c.args.parts.now;
         is = is;
         each = λ k script said lt. c.loop-i.invariant.supported k script said
             (omega (arith, lt, done));

@@ -1,5 +1,5 @@
 use Rattle.std.proofs.Common.{map}
-use Rattle.cert_checker.specs.Check.{EachBelow}
+use Rattle.cert_checker.specs.Scripts.{EachBelow}
 use Rattle.split_text.specs.Reading.{results_in}
 use Rattle.split_checker.specs.Results.{AreSupported, AreTold}
 use Rattle.split_checker.proofs.whole.check_scripts.Given as goal

@@ -3,7 +3,8 @@ use Rattle.std.proofs.lemmas.List.{length-map}
 use Rattle.std.specs.declared.alloc.Global.{Global}
 use Rattle.split_text.specs.declared.claim.SplitClaim.{SplitClaim}
 use Rattle.split_text.specs.{Grammar.IsSplitText, Reading.results_in}
-use Rattle.split_checker.proofs.ScriptLaws.{sound_told}
+use Rattle.split_checker.specs.Results.{AreTold}
+use Rattle.cert_checker.specs.ScriptLaws.{each_told}
 use Rattle.split_checker.proofs.whole.check_split.Goals as goal
 
 pub check_scripts-requires : goal.check_scripts-requires
@@ -32,8 +33,8 @@ returns-in-Ok c =
     let is : P parts = subst P (sym c.as_slice.ensures.value) c.in-Ok.ensures in
     record {
       exact = c.check_scripts.ensures.exact bytes is;
-      sound = sound_told line scripts bytes (map results_in parts)
-          (λ others. c.a_split_text_has_one_meaning.ensures line scripts (map results_in parts) others
+      sound = each_told (λ others. IsSplitText line scripts others bytes) (AreTold line) scripts
+          (map results_in parts) (λ others. c.a_split_text_has_one_meaning.ensures line scripts (map results_in parts) others
           bytes is) c.check_scripts.result c.check_scripts.ensures.told;
     }
 
