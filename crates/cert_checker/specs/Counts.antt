@@ -1,5 +1,5 @@
 -- How many verdicts of each kind claims have.
-use Rattle.std.specs.Prelude.{◌≡◌, ◌+◌, Bool, true, false, List}
+use Rattle.std.specs.Prelude.{◌≡◌, ◌+◌, Bool, true, false, List, refl}
 use Rattle.std.specs.List.{count_by, flat_map}
 use Rattle.certificate.specs.Grammar.{Claims, Verdict, yes, no, undecided}
 use Rattle.cert_checker.specs.declared.counts.Counts.{Counts}
@@ -24,6 +24,16 @@ pub record AreCounts (verdicts : List Verdict) (counts : Counts) : Type 0 where
   pub yes : counts.yes ≡ count_by is_yes verdicts
   pub no : counts.no ≡ count_by is_no verdicts
   pub undecided : counts.undecided ≡ count_by is_undecided verdicts
+
+abbrev pub counts_in : List Verdict → Counts
+counts_in verdicts = record {
+  yes = count_by is_yes verdicts;
+  no = count_by is_no verdicts;
+  undecided = count_by is_undecided verdicts;
+}
+
+pub are_counts : (verdicts : List Verdict) → AreCounts verdicts (counts_in verdicts)
+are_counts verdicts = record { yes = refl; no = refl; undecided = refl }
 
 -- the verdicts of all scripts
 abbrev pub all_verdicts : List Claims → List Verdict

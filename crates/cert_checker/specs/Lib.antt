@@ -8,3 +8,4 @@ pub mod ScriptLaws
 pub mod Scripts
 pub mod Verdicts
 pub mod Stretches
+pub mod ZipLaws

@@ -1,10 +1,9 @@
 -- What is certified of several scripts: that there is one list of claims, and that it is accepted.
-use Rattle.std.proofs.Common.{◌≡◌, ◌≢◌, ℕ, zero, suc, List, [], ◌∷◌, ◌++◌, Some, length, map, refl}
+use Rattle.std.proofs.Common.{◌≡◌, ◌≢◌, ℕ, List, [], ◌∷◌, ◌++◌, length, map, refl}
 use Rattle.std.proofs.Common.{sym, ◌∙◌, ap, subst, arith, append_assoc}
 use Rattle.std.proofs.lemmas.List.{append-nil}
-use Rattle.std.proofs.lemmas.List.Elements.{All-cons, All-head, All-nil, All-tail}
-use Rattle.std.specs.Prelude.{slice_get}
-use Rattle.std.specs.List.{All, count_by}
+use Rattle.std.proofs.lemmas.Slice.Zip.{AllZip-long}
+use Rattle.std.specs.List.{All}
 use Rattle.line_model.specs.declared.line.Line.{Line}
 use Rattle.line_model.specs.{declared.script.Script.Script, Choice.declared_box, Fits.Fits}
 use Rattle.tick_signal.specs.declared.tern.Tern.{Tern}
@@ -14,7 +13,8 @@ use Rattle.certify_core.specs.{declared.verdict.Verdict.Verdict, Piece.claims_of
 use Rattle.cert_checker.specs.{declared.counts.Counts.Counts, declared.fault.CheckFault.CheckFault}
 use Rattle.cert_checker.specs.declared.fault.CheckFault.TheVariants as wrong
 use Rattle.cert_checker.specs.Check.{IsAccepted, IsCheckFault}
-use Rattle.cert_checker.specs.Counts.{AreCounts, all_verdicts, is_no, is_undecided, is_yes}
+use Rattle.cert_checker.specs.Counts.{AreCounts, all_verdicts, counts_in, are_counts}
+use Rattle.cert_checker.specs.ZipLaws.{zip_all, zip_each, zip_exists, zip_once}
 use Rattle.cert_checker.specs.Verdicts.{AreAccepted}
 use Rattle.own_certificate.specs.{Certified.AreCertified, Certified.IsCertified, Known.Known}
 use Rattle.own_certificate.proofs.Accepted.{accepted, can_be_written}
@@ -80,22 +80,6 @@ module _ (known : Known) (line : Line) (script : Script) where
 
 -- ---- several scripts
 
-pub many : (line : Line) (scripts : List Script) (claims : List Claims)
-    → AreCertified line scripts claims → length claims ≡ length scripts
-many line [] [] are = refl
-many line [] (c ∷ claims) are = absurd are
-many line (s ∷ scripts) [] are = absurd are
-many line (s ∷ scripts) (c ∷ claims) are = ap suc (many line scripts claims are.1)
-
-pub claims_more : (line : Line) (scripts : List Script) (claims : List Claims) (script : Script)
-    (said : Claims) → AreCertified line scripts claims → IsCertified line script said
-    → AreCertified line (scripts ++ script ∷ []) (claims ++ said ∷ [])
-claims_more line [] [] script said are is = (is, tt)
-claims_more line [] (c ∷ claims) script said are is = absurd are
-claims_more line (s ∷ scripts) [] script said are is = absurd are
-claims_more line (s ∷ scripts) (c ∷ claims) script said are is =
-    (are.0, claims_more line scripts claims script said are.1 is)
-
 pub text_more : (line : Line) (scripts : List Script) (claims : List Claims) (script : Script)
     (said : Claims) → length claims ≡ length scripts
     → parts_text line (scripts ++ script ∷ []) (claims ++ said ∷ [])
@@ -112,48 +96,13 @@ text_more line (s ∷ scripts) (c ∷ claims) script said long =
 module _ (known : Known) (line : Line) where
   pub claims_exist : (scripts : List Script) → All (Fits line) scripts
       → (claims : List Claims) × AreCertified line scripts claims
-  claims_exist [] fit = ([], tt)
-  claims_exist (s ∷ scripts) fit =
-      let (c, is) = one_exists known line s (All-head (Fits line) s scripts fit) in
-      let (claims, are) = claims_exist scripts (All-tail (Fits line) s scripts fit) in
-      (c ∷ claims, (is, are))
+  claims_exist = zip_exists (Fits line) (IsCertified line) (one_exists known line)
 
   pub claims_once : (scripts : List Script) (a b : List Claims) → All (Fits line) scripts
       → AreCertified line scripts a → AreCertified line scripts b → a ≡ b
-  claims_once [] [] [] fit p q = refl
-  claims_once [] [] (d ∷ b) fit p q = absurd q
-  claims_once [] (c ∷ a) b fit p q = absurd p
-  claims_once (s ∷ scripts) [] b fit p q = absurd p
-  claims_once (s ∷ scripts) (c ∷ a) [] fit p q = absurd q
-  claims_once (s ∷ scripts) (c ∷ a) (d ∷ b) fit p q =
-      ap (λ (x : Claims). x ∷ a)
-      (one_only known line s (All-head (Fits line) s scripts fit) c d p.0 q.0)
-      ∙ ap (λ (xs : List Claims). d ∷ xs)
-      (claims_once scripts a b (All-tail (Fits line) s scripts fit) p.1 q.1)
-
-  all_written : (scripts : List Script) (claims : List Claims) → AreCertified line scripts claims
-      → All (CanBeWritten line) claims
-  all_written [] [] are = All-nil (CanBeWritten line)
-  all_written [] (c ∷ claims) are = absurd are
-  all_written (s ∷ scripts) [] are = absurd are
-  all_written (s ∷ scripts) (c ∷ claims) are =
-      All-cons (CanBeWritten line) c claims (written known line s c are.0)
-      (all_written scripts claims are.1)
-
-  each_accepted : (scripts : List Script) (claims : List Claims) → All (Fits line) scripts
-      → AreCertified line scripts claims → (i : ℕ) (script : Script) (said : Claims)
-      → slice_get scripts i ≡ Some script → slice_get claims i ≡ Some said
-      → AreAccepted line script said
-  each_accepted [] claims fit are i script said at there = absurd (cc)
-  each_accepted (s ∷ scripts) [] fit are i script said at there = absurd are
-  each_accepted (s ∷ scripts) (c ∷ claims) fit are zero script said at there =
-      let same : s ≡ script = cc in
-      let says : c ≡ said = cc in
-      subst (AreAccepted line script) says
-      (subst (λ (x : Script). AreAccepted line x c) same
-      (script_accepted known line s c (All-head (Fits line) s scripts fit) are.0))
-  each_accepted (s ∷ scripts) (c ∷ claims) fit are (suc i) script said at there =
-      each_accepted scripts claims (All-tail (Fits line) s scripts fit) are.1 i script said at there
+  claims_once =
+      zip_once (Fits line) (IsCertified line)
+      (λ script a b fits p q. one_only known line script fits a b p q)
 
   module _ (printed : (line : Line) (scripts : List Script) (claims : List Claims)
       → length claims ≡ length scripts → All (Fits line) scripts → All (CanBeWritten line) claims
@@ -162,27 +111,24 @@ module _ (known : Known) (line : Line) where
       (are : AreCertified line scripts claims) where
     pub is_certificate : IsCertificate line scripts claims (certificate_text line scripts claims)
     is_certificate =
-        printed line scripts claims (many line scripts claims are) fit
-        (all_written scripts claims are)
+        printed line scripts claims (AllZip-long (IsCertified line) scripts claims are) fit
+        (zip_all (Fits line) (IsCertified line) (CanBeWritten line)
+        (λ script said fits is. written known line script said is) scripts claims fit are)
 
     pub text_accepted : (counts : Counts) → AreCounts (all_verdicts claims) counts
         → IsAccepted line scripts (certificate_text line scripts claims) counts
     text_accepted counts counted = record {
       claims = claims;
       is = is_certificate;
-      each = λ i script said lt at there. each_accepted scripts claims fit are i script said at there;
+      each = λ i script said lt at there. zip_each (Fits line) (IsCertified line)
+          (AreAccepted line) (λ s c fits is. script_accepted known line s c fits is) scripts claims
+          fit are i script said at there;
       counted = counted;
     }
 
-    abbrev the_counts : Counts
-    the_counts = record {
-      yes = count_by is_yes (all_verdicts claims);
-      no = count_by is_no (all_verdicts claims);
-      undecided = count_by is_undecided (all_verdicts claims);
-    }
-
-    counted : IsAccepted line scripts (certificate_text line scripts claims) the_counts
-    counted = text_accepted the_counts (record { yes = refl; no = refl; undecided = refl })
+    counted : IsAccepted line scripts (certificate_text line scripts claims)
+        (counts_in (all_verdicts claims))
+    counted = text_accepted (counts_in (all_verdicts claims)) (are_counts (all_verdicts claims))
 
     module _ (refuses : (line : Line) (scripts : List Script) (bytes : List ℕ) (counts : Counts)
         (fault : CheckFault) → fault ≢ wrong.Memory → IsCheckFault line scripts bytes fault
@@ -201,4 +147,5 @@ module _ (known : Known) (line : Line) where
       no_fault f is =
           only_memory f
           (λ other.
-          refuses line scripts (certificate_text line scripts claims) the_counts f other is counted)
+          refuses line scripts (certificate_text line scripts claims)
+          (counts_in (all_verdicts claims)) f other is counted)

@@ -4,6 +4,7 @@ use Rattle.std.proofs.Common.{arith}
 use Rattle.std.specs.Prelude.{slice_get}
 use Rattle.line_model.specs.{declared.line.Line.Line, declared.script.Script.Script}
 use Rattle.timing_box.specs.Timing.{TimingValues}
+use Rattle.cert_checker.specs.ZipLaws.{zip_once}
 use Rattle.box_split.specs.declared.node.Outcome.{Outcome}
 use Rattle.box_split.specs.declared.node.Outcome.TheVariants as outcome
 use Rattle.box_split.specs.{Trees.preorder, Search.Tree, Search.Fails, Found.IsFound}
@@ -55,11 +56,6 @@ module _ (known : LinesKnown) (line : Line) (n : ℕ) where
 
   pub parts_once : (scripts : List Script) (a b : List (List SplitResult))
       → AllSearched line n scripts a → AllSearched line n scripts b → a ≡ b
-  parts_once [] [] [] p q = refl
-  parts_once [] [] (y ∷ b) p q = absurd q
-  parts_once [] (x ∷ a) b p q = absurd p
-  parts_once (s ∷ scripts) [] b p q = absurd p
-  parts_once (s ∷ scripts) (x ∷ a) [] p q = absurd q
-  parts_once (s ∷ scripts) (x ∷ a) (y ∷ b) p q =
-      ap (λ (r : List SplitResult). r ∷ a) (results_once s x y p.0 q.0)
-      ∙ ap (λ (l : List (List SplitResult)). y ∷ l) (parts_once scripts a b p.1 q.1)
+  parts_once scripts a b p q =
+      zip_once (λ _. Unit {0}) (AreSearched line n) (λ script x y any. results_once script x y)
+      scripts a b (λ k d lt. tt) p q

@@ -33,8 +33,8 @@ returns-clause-accepted c = λ line n scripts parts counts fit small are counted
 
 pub returns-clause-counts : goal.returns-clause-counts
 returns-clause-counts c = λ line n scripts parts counts fit small are accepted.
-    let same : accepted.parts ≡ parts =
-    c.a_split_text_has_one_meaning.ensures line scripts accepted.parts parts _ accepted.is
+    let same : accepted.claims ≡ parts =
+    c.a_split_text_has_one_meaning.ensures line scripts accepted.claims parts _ accepted.is
     (is_split_text (known c) line n small c.printed_results_are_a_split_text.ensures scripts parts
     fit are) in
     subst (λ (p : List (List SplitResult)). CountResults p counts) same accepted.counted
