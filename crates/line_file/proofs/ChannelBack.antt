@@ -28,7 +28,7 @@ use Rattle.line_file.specs.ChannelTables.{receiver_times, channel_at, channels_a
 use Rattle.line_file.specs.Canonical.{put_all, table_of, time_data, times_data, unblock_settings}
 use Rattle.line_file.specs.Canonical.{interval_of, setting_interval, receiver_pairs}
 use Rattle.line_file.specs.Canonical.{channel_members, channels_data}
-use Rattle.line_file.specs.{Paths.joined, Paths.item_path, Times.time_at, Times.required_times}
+use Rattle.line_file.specs.{Paths.item_path, Times.time_at, Times.required_times}
 use Rattle.line_file.specs.{Keys.all_known, Keys.text_at, Lines.LineValues, Lines.line_values}
 use Rattle.line_file.proofs.TimesBack.{time_back, unblock_back}
 use Rattle.line_file.proofs.ParamPlaces.{intervals, length-intervals, take_next, times_at_place}
@@ -233,7 +233,7 @@ module _
       let held : get_member (codes "unblock") ms ≡ Some (times_data unit line o unblock_settings) =
       rw made in
       let read =
-      unblock_back unit line o (joined path (codes "unblock")) (take (j + 1) (intervals line)) some
+      unblock_back unit line o (key_path path (codes "unblock")) (take (j + 1) (intervals line)) some
       (rw a (times_at_place line (j + 1) (omega arith)))
       (rw b (times_at_place line (j + 1 + 1) (omega arith)))
       (rw d (times_at_place line (j + 1 + 1 + 1) (omega arith))) in
@@ -262,7 +262,7 @@ module _
       let j : ℕ = terminal_count line + c * each_count line in
       let held = holds unit line o (name_at ts h.from) (name_at ts h.to) path line.scheme in
       let ends = ends_back ms held.from_is held.to_is in
-      let time = time_back (joined path (codes "delay")) unit 1 (setting_interval line o Delay) some
+      let time = time_back (key_path path (codes "delay")) unit 1 (setting_interval line o Delay) some
       delay_time in
       let fits = all_within in
       let some_here = some_each line.scheme in

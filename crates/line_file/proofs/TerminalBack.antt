@@ -32,7 +32,7 @@ use Rattle.line_file.specs.TerminalTables.{elements_times, permissive_times, sch
 use Rattle.line_file.specs.TerminalTables.{terminal_named, terminal_at, terminals_at}
 use Rattle.line_file.specs.Canonical.{times_data, timer_settings, interval_of, setting_interval}
 use Rattle.line_file.specs.Canonical.{terminal_members, terminals_data}
-use Rattle.line_file.specs.{Paths.joined, Paths.item_path, Keys.text_at, Lines.LineValues}
+use Rattle.line_file.specs.{Paths.item_path, Keys.text_at, Lines.LineValues}
 use Rattle.line_file.proofs.TimesBack.{timer_back, echo_back, block_back, transfer_back}
 use Rattle.line_file.proofs.TerminalHolds.{members, guard_value, weak_value, block_value}
 use Rattle.line_file.proofs.TerminalHolds.{transfer_value, Holds, holds}
@@ -158,7 +158,7 @@ module _ (unit : ℕ) (line : Line) (some : 0 < unit) (o : Owner) (path : List �
       → element_times path key unit ms (take j (intervals line))
       ≡ Ok (take (j + 2) (intervals line))
   unfolding optional_times
-  element_back key x y j fits held a b = rw held (timer_next (joined path key) x y j fits a b)
+  element_back key x y j fits held a b = rw held (timer_next (key_path path key) x y j fits a b)
 
   -- the settings of terminal k stand at their places, from n on
   pub record Placed (s : Scheme) (g w : Bool) (n : ℕ) : Type 0 where
@@ -196,7 +196,7 @@ module _ (unit : ℕ) (line : Line) (some : 0 < unit) (o : Owner) (path : List �
   unfolding optional_times
   reversal_back s true w n name places fits held =
       rw held
-      (timer_next (joined path (codes "reversal")) ReversalPickup ReversalDropout (n + 8) fits
+      (timer_next (key_path path (codes "reversal")) ReversalPickup ReversalDropout (n + 8) fits
       (places.at ReversalPickup 8 (n + 8) refl refl)
       (places.at ReversalDropout 9 (n + 8 + 1) refl (omega arith)))
   reversal_back s false w n name places fits held =
@@ -218,7 +218,7 @@ module _ (unit : ℕ) (line : Line) (some : 0 < unit) (o : Owner) (path : List �
       let b = places.at EchoPickup (9 + length (guard_settings g)) (j + 1) refl (omega arith) in
       let c = places.at EchoPulse (10 + length (guard_settings g)) (j + 2) refl (omega arith) in
       let read =
-      echo_back unit line o (joined path (codes "echo")) (take j (intervals line)) some
+      echo_back unit line o (key_path path (codes "echo")) (take j (intervals line)) some
       (rw a (times_at_place line j (omega arith)))
       (rw b (times_at_place line (j + 1) (omega arith)))
       (rw c (times_at_place line (j + 2) (omega arith))) in
@@ -273,7 +273,7 @@ module _ (unit : ℕ) (line : Line) (some : 0 < unit) (o : Owner) (path : List �
       let a = places.at BlockCarry 8 (n + 8) refl refl in
       let b = places.at BlockCoord 9 (n + 8 + 1) refl (omega arith) in
       let read =
-      block_back unit line o (joined path (codes "block")) (take (n + 8) (intervals line)) some
+      block_back unit line o (key_path path (codes "block")) (take (n + 8) (intervals line)) some
       (rw a (times_at_place line (n + 8) (omega arith)))
       (rw b (times_at_place line (n + 8 + 1) (omega arith))) in
       let here : get_member (codes "block") ms ≡ block_value unit line o name Dcb =
@@ -285,7 +285,7 @@ module _ (unit : ℕ) (line : Line) (some : 0 < unit) (o : Owner) (path : List �
   scheme_back Dtt false false n name flags places fits is held =
       let a = places.at TransferSecurity 8 (n + 8) refl refl in
       let read =
-      transfer_back unit line o (joined path (codes "transfer")) (take (n + 8) (intervals line))
+      transfer_back unit line o (key_path path (codes "transfer")) (take (n + 8) (intervals line))
       some (rw a (times_at_place line (n + 8) (omega arith))) in
       let here : get_member (codes "transfer") ms ≡ transfer_value unit line o name Dtt =
       rw is held.transfer_is in

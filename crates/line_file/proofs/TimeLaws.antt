@@ -12,7 +12,7 @@ use Rattle.toml.specs.Data.{Items, no_items, item, as_integer, get_member}
 use Rattle.line_model.specs.declared.bounds.Bounds.{Bounds}
 use Rattle.line_file.specs.Times.{in_ticks, interval_in, two_ends, ends_in, time_in, time_at}
 use Rattle.line_file.specs.Times.{times_at, times_in, required_times, times_or, optional_times}
-use Rattle.line_file.specs.{Paths.joined, Keys.all_known, Keys.value_at, Keys.table_in}
+use Rattle.line_file.specs.{Keys.all_known, Keys.value_at, Keys.table_in}
 use Rattle.line_file.proofs.Binds.{bind_ok, taken_ok, same_ok}
 
 -- an interval of times, the least of which is not below `fewest`
@@ -130,7 +130,7 @@ pub time_ok :
 unfolding time_at
 time_ok path key unit fewest ms t some e =
     let (d, d_is, made) = bind_ok (value_at path key ms) _ t e in
-    time_in_ok (joined path key) unit fewest d t some made
+    time_in_ok (key_path path key) unit fewest d t some made
 
 -- times that are read
 times_ok :
@@ -162,7 +162,7 @@ pub required_ok :
 unfolding required_times
 required_ok path key keys unit ms done more some e =
     let (d, d_is, made) = bind_ok (value_at path key ms) _ more e in
-    times_in_ok (joined path key) keys unit d done more some made
+    times_in_ok (key_path path key) keys unit d done more some made
 
 times_or_ok :
     (n : ℕ) (absent : List Bounds) (path : List ℕ) (keys : List (List ℕ)) (unit : ℕ)
@@ -184,5 +184,5 @@ pub optional_ok :
     → optional_times absent path key keys unit ms done ≡ Ok more → Grew n done more
 unfolding optional_times
 optional_ok n absent path key keys unit ms done more some times none there e =
-    times_or_ok n absent (joined path key) keys unit (get_member key ms) done more some times none
+    times_or_ok n absent (key_path path key) keys unit (get_member key ms) done more some times none
     there e

@@ -1,5 +1,5 @@
 -- The table that is printed for a line.
-use Rattle.std.specs.Prelude.{◌*◌, ◌+◌, ℕ, Bool, true, false, pos, List, [], ◌∷◌, map, get_or}
+use Rattle.std.specs.Prelude.{◌*◌, ◌+◌, ℕ, pos, List, [], ◌∷◌, map, get_or}
 use Rattle.std.specs.Prelude.{codes, unwrap_or}
 use Rattle.std.specs.Ordering.{nat_cmp, match_ordering}
 use Rattle.std.specs.Cmp.Lexicographic.{slice_cmp}
@@ -12,14 +12,8 @@ use Rattle.line_model.specs.{declared.line.Line.Line, declared.line.Terminal.Ter
 use Rattle.line_model.specs.{declared.line.Channel.Channel, declared.line.Owner.Owner}
 use Rattle.line_model.specs.declared.line.Owner.TheVariants as owner
 use Rattle.line_model.specs.declared.line.Setting.{Setting}
-use Rattle.line_model.specs.declared.line.Setting.TheVariants.{Z1Pickup, Z1Dropout, Z2Pickup}
-use Rattle.line_model.specs.declared.line.Setting.TheVariants.{Z2Dropout, RvPickup, RvDropout}
-use Rattle.line_model.specs.declared.line.Setting.TheVariants.{UvPickup, UvDropout, ReversalPickup}
-use Rattle.line_model.specs.declared.line.Setting.TheVariants.{ReversalDropout, EchoBlock}
-use Rattle.line_model.specs.declared.line.Setting.TheVariants.{EchoPickup, EchoPulse, BlockCarry}
-use Rattle.line_model.specs.declared.line.Setting.TheVariants.{BlockCoord, TransferSecurity, Delay}
-use Rattle.line_model.specs.declared.line.Setting.TheVariants.{UnblockPickup, UnblockWindow}
-use Rattle.line_model.specs.declared.line.Setting.TheVariants.{UnblockRestore}
+use Rattle.line_model.specs.declared.line.Setting.TheVariants.{Delay}
+use Rattle.line_model.specs.Settings.{table_key, time_key, terminal_groups, receiver_settings}
 use Rattle.line_model.specs.{declared.bounds.Bounds.Bounds, Intervals.leasts, Intervals.greatests}
 use Rattle.line_model.specs.{Parameters.param_number, ParamNames.name_at}
 use Rattle.line_file.specs.Times.{units_per_tick}
@@ -58,67 +52,29 @@ interval_of line i =
 abbrev pub setting_interval : Line → Owner → Setting → Bounds
 setting_interval line o x = interval_of line (unwrap_or (param_number line o x) 0)
 
-abbrev pub setting_pair : ℕ → Line → Owner → List ℕ × Setting → List ℕ × Data
-setting_pair unit line o pair = (pair.0, time_data unit (setting_interval line o pair.1))
+-- the time of a setting, under its key
+abbrev pub setting_pair : ℕ → Line → Owner → Setting → List ℕ × Data
+setting_pair unit line o x = (time_key x, time_data unit (setting_interval line o x))
 
--- the times of some settings, each under its key
-unfoldable pub times_data : ℕ → Line → Owner → List (List ℕ × Setting) → Data
-times_data unit line o pairs = table (table_of (map (setting_pair unit line o) pairs))
+-- the table of the times of some settings
+unfoldable pub times_data : ℕ → Line → Owner → List Setting → Data
+times_data unit line o xs = table (table_of (map (setting_pair unit line o) xs))
 
--- the settings that stand in a table of their own, by their keys
-abbrev pub timer_settings : Setting → Setting → List (List ℕ × Setting)
-timer_settings pickup dropout = (codes "pickup", pickup) ∷ (codes "dropout", dropout) ∷ []
+-- a table with that of these settings besides; no settings have none
+abbrev pub put_times : ℕ → Line → Owner → List Setting → Members → Members
+put_times unit line o [] ms = ms
+put_times unit line o (x ∷ xs) ms = put_member (table_key x) (times_data unit line o (x ∷ xs)) ms
 
-abbrev pub echo_settings : List (List ℕ × Setting)
-echo_settings =
-    (codes "block", EchoBlock) ∷ (codes "pickup", EchoPickup) ∷ (codes "pulse", EchoPulse) ∷ []
-
-abbrev pub block_settings : List (List ℕ × Setting)
-block_settings = (codes "carry", BlockCarry) ∷ (codes "coord", BlockCoord) ∷ []
-
-abbrev pub transfer_settings : List (List ℕ × Setting)
-transfer_settings = (codes "security", TransferSecurity) ∷ []
-
-abbrev pub unblock_settings : List (List ℕ × Setting)
-unblock_settings =
-    (codes "pickup", UnblockPickup) ∷ (codes "window", UnblockWindow)
-    ∷ (codes "restore", UnblockRestore) ∷ []
-
--- the values of the keys that each terminal has
-abbrev pub element_pairs : ℕ → Line → Owner → List (List ℕ × Data)
-element_pairs unit line o =
-    (codes "z1", times_data unit line o (timer_settings Z1Pickup Z1Dropout))
-    ∷ (codes "z2", times_data unit line o (timer_settings Z2Pickup Z2Dropout))
-    ∷ (codes "rv", times_data unit line o (timer_settings RvPickup RvDropout))
-    ∷ (codes "uv", times_data unit line o (timer_settings UvPickup UvDropout)) ∷ []
-
--- that of a guarded terminal
-abbrev pub guard_pairs : ℕ → Line → Owner → Bool → List (List ℕ × Data)
-guard_pairs unit line o true =
-    (codes "reversal", times_data unit line o (timer_settings ReversalPickup ReversalDropout)) ∷ []
-guard_pairs unit line o false = []
-
--- that of a weak terminal
-abbrev pub weak_pairs : ℕ → Line → Owner → Bool → List (List ℕ × Data)
-weak_pairs unit line o true = (codes "echo", times_data unit line o echo_settings) ∷ []
-weak_pairs unit line o false = []
-
--- that of the scheme
-abbrev pub scheme_pairs : ℕ → Line → Owner → Scheme → List (List ℕ × Data)
-scheme_pairs unit line o Pott = []
-scheme_pairs unit line o Putt = []
-scheme_pairs unit line o Dcb = (codes "block", times_data unit line o block_settings) ∷ []
-scheme_pairs unit line o Dcub = []
-scheme_pairs unit line o Dtt = (codes "transfer", times_data unit line o transfer_settings) ∷ []
+-- and with those of these groups
+abbrev pub put_groups : ℕ → Line → Owner → List (List Setting) → Members → Members
+put_groups unit line o [] ms = ms
+put_groups unit line o (xs ∷ groups) ms = put_groups unit line o groups (put_times unit line o xs ms)
 
 -- the members of terminal k
 abbrev pub terminal_members : ℕ → Line → ℕ → Terminal → Members
 terminal_members unit line k t =
-    put_all (scheme_pairs unit line (owner.Terminal k) line.scheme)
-    (put_all (weak_pairs unit line (owner.Terminal k) t.weak)
-    (put_all (guard_pairs unit line (owner.Terminal k) t.guard)
-    (put_all (element_pairs unit line (owner.Terminal k))
-    (table_of ((codes "name", string t.name) ∷ [])))))
+    put_groups unit line (owner.Terminal k) (terminal_groups line.scheme t)
+    (table_of ((codes "name", string t.name) ∷ []))
 
 -- the terminals, from the one with the number k on
 abbrev pub terminals_data : ℕ → Line → ℕ → List Terminal → List Data
@@ -126,20 +82,14 @@ terminals_data unit line k [] = []
 terminals_data unit line k (t ∷ ts) =
     table (terminal_members unit line k t) ∷ terminals_data unit line (k + 1) ts
 
--- what a channel has besides by the scheme
-abbrev pub receiver_pairs : ℕ → Line → Owner → Scheme → List (List ℕ × Data)
-receiver_pairs unit line o Dcub =
-    (codes "unblock", times_data unit line o unblock_settings) ∷ []
-receiver_pairs unit line o _ = []
-
 -- the members of channel c
 abbrev pub channel_members : ℕ → Line → ℕ → Channel → Members
 channel_members unit line c h =
-    put_all (receiver_pairs unit line (owner.Channel c) line.scheme)
+    put_times unit line (owner.Channel c) (receiver_settings line.scheme)
     (table_of
     ((codes "from", string (name_at line.terminals.items h.from))
     ∷ (codes "to", string (name_at line.terminals.items h.to))
-    ∷ (codes "delay", time_data unit (setting_interval line (owner.Channel c) Delay)) ∷ []))
+    ∷ setting_pair unit line (owner.Channel c) Delay ∷ []))
 
 -- the channels, from the one with the number c on
 abbrev pub channels_data : ℕ → Line → ℕ → List Channel → List Data

@@ -4,23 +4,23 @@ use Rattle.std.specs.Prelude.{Err, codes, if◌then◌else◌}
 use Rattle.std.specs.Str.{bytes_eq}
 use Rattle.std.specs.List.{list_any, position_from}
 use Rattle.toml.specs.Data.{Data, Members, Items, no_items, item}
-use Rattle.line_model.specs.{declared.bounds.Bounds.Bounds, declared.line.Scheme.Scheme}
-use Rattle.line_model.specs.{declared.line.Scheme.TheVariants.Dcub, declared.line.Terminal.Terminal}
-use Rattle.line_model.specs.{declared.line.Channel.Channel, Channels.is_pair}
+use Rattle.line_model.specs.Settings.{time_key, receiver_settings}
+use Rattle.line_model.specs.{declared.line.Scheme.Scheme, declared.line.Scheme.TheVariants.Dcub}
+use Rattle.line_model.specs.{declared.line.Terminal.Terminal, declared.line.Channel.Channel}
+use Rattle.line_model.specs.declared.line.Setting.TheVariants.{Delay}
+use Rattle.line_model.specs.{Channels.is_pair, ParamNames.key_path}
 use Rattle.line_file.specs.declared.fault.LineFault.{LineFault}
 use Rattle.line_file.specs.declared.fault.LineFault.TheVariants as fault
-use Rattle.line_file.specs.Paths.{joined, item_path}
+use Rattle.line_file.specs.Paths.{item_path}
 use Rattle.line_file.specs.Keys.{all_known, text_at, table_in}
-use Rattle.line_file.specs.{Reading.◌>>=◌, Times.time_at, Times.required_times, Lines.LineValues}
-
--- the keys of the table of an unblocking receiver
-abbrev pub unblock_keys : List (List ℕ)
-unblock_keys = codes "pickup" ∷ codes "window" ∷ codes "restore" ∷ []
+use Rattle.line_file.specs.Times.{group_key, time_at, required_times}
+use Rattle.line_file.specs.{Reading.◌>>=◌, Lines.LineValues}
 
 -- the keys of a channel
 abbrev pub channel_keys : Scheme → List (List ℕ)
-channel_keys Dcub = codes "from" ∷ codes "to" ∷ codes "delay" ∷ codes "unblock" ∷ []
-channel_keys _ = codes "from" ∷ codes "to" ∷ codes "delay" ∷ []
+channel_keys Dcub =
+    codes "from" ∷ codes "to" ∷ time_key Delay ∷ group_key (receiver_settings Dcub) ∷ []
+channel_keys _ = codes "from" ∷ codes "to" ∷ time_key Delay ∷ []
 
 -- the number of the terminal of that name
 abbrev pub terminal_called : List Terminal → List ℕ → Option ℕ
@@ -40,12 +40,12 @@ receiver path from (Some k) = if k == from then Err (fault.BadName path) else Ok
 unfoldable pub from_at : List ℕ → List Terminal → Members → Result ℕ LineFault
 from_at path ts ms = do
   name ← text_at path (codes "from") ms
-  sender (joined path (codes "from")) (terminal_called ts name)
+  sender (key_path path (codes "from")) (terminal_called ts name)
 
 unfoldable pub to_at : List ℕ → List Terminal → ℕ → Members → Result ℕ LineFault
 to_at path ts from ms = do
   name ← text_at path (codes "to") ms
-  receiver (joined path (codes "to")) from (terminal_called ts name)
+  receiver (key_path path (codes "to")) from (terminal_called ts name)
 
 -- no earlier channel has the same ends
 abbrev pub new_pair : List ℕ → List Channel → ℕ → ℕ → Result Channel LineFault
@@ -60,21 +60,15 @@ ends_at path ts before ms = do
   to ← to_at path ts from ms
   new_pair path before from to
 
--- the times that a channel has besides, by the scheme
-abbrev pub receiver_times :
-    Scheme → List ℕ → ℕ → Members → List Bounds → Result (List Bounds) LineFault
-receiver_times Dcub path unit ms done =
-    required_times path (codes "unblock") unblock_keys unit ms done
-receiver_times _ path unit ms done = Ok done
-
 -- the line with one more channel, from the table at the path
 unfoldable pub channel_at : ℕ → List ℕ → Data → LineValues → Result LineValues LineFault
 channel_at unit path d line = do
   ms ← table_in path d
   _ ← all_known path (channel_keys line.scheme) ms
   channel ← ends_at path line.terminals line.channels ms
-  delay ← time_at path (codes "delay") unit 1 ms
-  whole ← receiver_times line.scheme path unit ms (line.intervals ++ delay ∷ [])
+  delay ← time_at path (time_key Delay) unit 1 ms
+  whole ← required_times path (receiver_settings line.scheme) unit ms
+      (line.intervals ++ delay ∷ [])
   Ok (record line { channels = line.channels ++ channel ∷ []; intervals = whole })
 
 -- the line with these channels, the first of which has the number i

@@ -1,14 +1,15 @@
 -- The keys of a table and the values under them.
-use Rattle.std.specs.Prelude.{◌&&◌, ℕ, length, List, Bool, false, Option, None, Some, Result, Ok}
+use Rattle.std.specs.Prelude.{◌&&◌, ℕ, List, Bool, false, Option, None, Some, Result, Ok}
 use Rattle.std.specs.Prelude.{Err, pos, negsuc, if◌then◌else◌, nat_le}
 use Rattle.std.specs.Str.{bytes_eq, is_utf8}
 use Rattle.std.specs.List.{list_any}
 use Rattle.toml.specs.Data.{Data, string, integer, boolean, array, table, Members, no_members}
 use Rattle.toml.specs.Data.{member, Items, get_member}
 use Rattle.toml.specs.Parse.{parse_document}
+use Rattle.line_model.specs.ParamNames.{key_path}
 use Rattle.line_file.specs.declared.fault.LineFault.{LineFault}
 use Rattle.line_file.specs.declared.fault.LineFault.TheVariants as fault
-use Rattle.line_file.specs.{Paths.joined, Paths.shown_key, Reading.◌>>=◌}
+use Rattle.line_file.specs.{Paths.shown_key, Reading.◌>>=◌}
 
 -- the table that the bytes stand for, where they are a TOML document
 abbrev pub document_of : List ℕ → Option Members
@@ -24,13 +25,9 @@ first_unknown known no_members = None
 first_unknown known (member key d rest) =
     if list_any (λ name. bytes_eq name key) known then first_unknown known rest else Some key
 
--- a key that fits into each path
-abbrev pub is_short : List ℕ → Bool
-is_short key = nat_le (length key) 31
-
 abbrev pub unknown_fault : List ℕ → Option (List ℕ) → Result (Unit {0}) LineFault
 unknown_fault path None = Ok tt
-unknown_fault path (Some key) = Err (fault.Unknown (joined path (shown_key key)))
+unknown_fault path (Some key) = Err (fault.Unknown (key_path path (shown_key key)))
 
 -- the table at the path has only these keys
 unfoldable pub all_known : List ℕ → List (List ℕ) → Members → Result (Unit {0}) LineFault
@@ -43,7 +40,7 @@ required path (Some d) = Ok d
 
 -- the value of a required key of the table at the path
 abbrev pub value_at : List ℕ → List ℕ → Members → Result Data LineFault
-value_at path key ms = required (joined path key) (get_member key ms)
+value_at path key ms = required (key_path path key) (get_member key ms)
 
 -- a whole number in these bounds
 abbrev pub number_in : List ℕ → ℕ → ℕ → Data → Result ℕ LineFault
@@ -56,7 +53,7 @@ number_in path least greatest _ = Err (fault.WrongKind path)
 unfoldable pub number_at : List ℕ → List ℕ → ℕ → ℕ → Members → Result ℕ LineFault
 number_at path key least greatest ms = do
   d ← value_at path key ms
-  number_in (joined path key) least greatest d
+  number_in (key_path path key) least greatest d
 
 -- a text
 abbrev pub text_in : List ℕ → Data → Result (List ℕ) LineFault
@@ -67,7 +64,7 @@ text_in path _ = Err (fault.WrongKind path)
 unfoldable pub text_at : List ℕ → List ℕ → Members → Result (List ℕ) LineFault
 text_at path key ms = do
   d ← value_at path key ms
-  text_in (joined path key) d
+  text_in (key_path path key) d
 
 -- a truth value
 abbrev pub flag_in : List ℕ → Data → Result Bool LineFault
@@ -88,7 +85,7 @@ array_in path _ = Err (fault.WrongKind path)
 unfoldable pub array_at : List ℕ → List ℕ → Members → Result Items LineFault
 array_at path key ms = do
   d ← value_at path key ms
-  array_in (joined path key) d
+  array_in (key_path path key) d
 
 -- a table
 abbrev pub table_in : List ℕ → Data → Result Members LineFault

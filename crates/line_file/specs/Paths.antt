@@ -1,11 +1,6 @@
 -- Places in a line file, as they are written in faults.
-use Rattle.std.specs.Prelude.{◌++◌, ◌&&◌, ℕ, List, [], ◌∷◌, map, take, codes, nat_le, if◌then◌else◌}
+use Rattle.std.specs.Prelude.{◌++◌, ◌&&◌, ℕ, List, map, take, codes, nat_le, if◌then◌else◌}
 use Rattle.std.specs.Fmt.{decimal}
-
--- A key of the table at a path: both, joined by a dot. The path of the file itself is empty.
-abbrev pub joined : List ℕ → List ℕ → List ℕ
-joined [] key = key
-joined (b ∷ path) key = (b ∷ path) ++ codes "." ++ key
 
 -- an item of an array of the file
 abbrev pub item_path : List ℕ → ℕ → List ℕ

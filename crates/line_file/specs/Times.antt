@@ -1,12 +1,12 @@
 -- Times, as a line file writes them, and the tables that have only times.
 use Rattle.std.specs.Prelude.{◌+◌, ◌-◌, ◌*◌, ◌/◌, ◌&&◌, ◌==◌, ◌++◌, ℕ, ℤ, pos, negsuc, List, []}
-use Rattle.std.specs.Prelude.{◌∷◌, Option, None, Some, Result, Ok, Err, if◌then◌else◌, nat_le}
+use Rattle.std.specs.Prelude.{◌∷◌, Option, None, Some, Result, Ok, Err, if◌then◌else◌, nat_le, map}
 use Rattle.toml.specs.Data.{Data, integer, array, Members, Items, no_items, item, as_integer}
 use Rattle.toml.specs.Data.{get_member}
-use Rattle.line_model.specs.declared.bounds.Bounds.{Bounds}
+use Rattle.line_model.specs.{declared.bounds.Bounds.Bounds, declared.line.Setting.Setting}
+use Rattle.line_model.specs.{Settings.table_key, Settings.time_key, ParamNames.key_path}
 use Rattle.line_file.specs.declared.fault.LineFault.{LineFault}
 use Rattle.line_file.specs.declared.fault.LineFault.TheVariants as fault
-use Rattle.line_file.specs.Paths.{joined}
 use Rattle.line_file.specs.{Reading.◌>>=◌, Keys.all_known, Keys.value_at, Keys.table_in}
 
 -- How many units of time a tick has: version 1 writes ticks, version 2 microseconds.
@@ -49,41 +49,47 @@ time_in path unit fewest _ = Err (fault.WrongKind path)
 unfoldable pub time_at : List ℕ → List ℕ → ℕ → ℕ → Members → Result Bounds LineFault
 time_at path key unit fewest ms = do
   d ← value_at path key ms
-  time_in (joined path key) unit fewest d
+  time_in (key_path path key) unit fewest d
 
--- The times under these required keys, one after another, behind the intervals that were read
--- before.
+-- The times of these settings, each under its key, one after another, behind the intervals that
+-- were read before.
 unfoldable pub times_at :
-    List ℕ → List (List ℕ) → ℕ → Members → List Bounds → Result (List Bounds) LineFault
+    List ℕ → List Setting → ℕ → Members → List Bounds → Result (List Bounds) LineFault
 times_at path [] unit ms done = Ok done
-times_at path (key ∷ keys) unit ms done = do
-  time ← time_at path key unit 0 ms
-  times_at path keys unit ms (done ++ time ∷ [])
+times_at path (x ∷ xs) unit ms done = do
+  time ← time_at path (time_key x) unit 0 ms
+  times_at path xs unit ms (done ++ time ∷ [])
 
--- the times of a table that has these keys and no others
+-- the times of a table that has these settings and no others
 unfoldable pub times_in :
-    List ℕ → List (List ℕ) → ℕ → Data → List Bounds → Result (List Bounds) LineFault
-times_in path keys unit d done = do
+    List ℕ → List Setting → ℕ → Data → List Bounds → Result (List Bounds) LineFault
+times_in path xs unit d done = do
   ms ← table_in path d
-  _ ← all_known path keys ms
-  times_at path keys unit ms done
+  _ ← all_known path (map time_key xs) ms
+  times_at path xs unit ms done
 
--- the times of a required table
+-- the key of the table that a group of settings has
+abbrev pub group_key : List Setting → List ℕ
+group_key [] = []
+group_key (x ∷ xs) = table_key x
+
+-- the times of the table that these settings have; no settings have none
 unfoldable pub required_times :
-    List ℕ → List ℕ → List (List ℕ) → ℕ → Members → List Bounds → Result (List Bounds) LineFault
-required_times path key keys unit ms done = do
-  d ← value_at path key ms
-  times_in (joined path key) keys unit d done
+    List ℕ → List Setting → ℕ → Members → List Bounds → Result (List Bounds) LineFault
+required_times path [] unit ms done = Ok done
+required_times path (x ∷ xs) unit ms done = do
+  d ← value_at path (table_key x) ms
+  times_in (key_path path (table_key x)) (x ∷ xs) unit d done
 
 -- the times of a table that may be absent, and what stands for them then
 abbrev pub times_or :
-    List Bounds → List ℕ → List (List ℕ) → ℕ → Option Data → List Bounds
+    List Bounds → List ℕ → List Setting → ℕ → Option Data → List Bounds
     → Result (List Bounds) LineFault
-times_or absent path keys unit None done = Ok (done ++ absent)
-times_or absent path keys unit (Some d) done = times_in path keys unit d done
+times_or absent path xs unit None done = Ok (done ++ absent)
+times_or absent path xs unit (Some d) done = times_in path xs unit d done
 
 unfoldable pub optional_times :
-    List Bounds → List ℕ → List ℕ → List (List ℕ) → ℕ → Members → List Bounds
+    List Bounds → List ℕ → List Setting → ℕ → Members → List Bounds
     → Result (List Bounds) LineFault
-optional_times absent path key keys unit ms done =
-    times_or absent (joined path key) keys unit (get_member key ms) done
+optional_times absent path xs unit ms done =
+    times_or absent (key_path path (group_key xs)) xs unit (get_member (group_key xs) ms) done

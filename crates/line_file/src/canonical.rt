@@ -10,6 +10,7 @@ ghost use Rattle.line_file.specs.Canonical.{head_pairs, canonical_in};
 
 use crate::table::{OwnerTimes, put};
 use line_model::{Channel, Line, Memory, Name, Owner, Scheme, Setting, Terminal};
+use line_model::{groups_of_terminal, receiver_settings};
 use std::alloc::Global;
 use toml::{Table, Value};
 
@@ -61,10 +62,7 @@ fn terminal_table(
     };
     let mut table = Table::new(alloc);
     put_text(alloc, &mut table, "name", text_of(&terminal.name))?;
-    times.put_elements(&mut table)?;
-    times.put_guard(terminal.guard, &mut table)?;
-    times.put_weak(terminal.weak, &mut table)?;
-    times.put_by_scheme(&mut table)?;
+    times.put_groups(&groups_of_terminal(line.scheme, &terminal), &mut table)?;
     Ok(Value::Table(table))
 }
 
@@ -112,8 +110,8 @@ fn channel_table(
     let mut table = Table::new(alloc);
     put_text(alloc, &mut table, "from", name_of(line, channel.from))?;
     put_text(alloc, &mut table, "to", name_of(line, channel.to))?;
-    put(alloc, &mut table, "delay", times.time(Setting::Delay)?)?;
-    times.put_receiver(&mut table)?;
+    put(alloc, &mut table, Setting::Delay.key(), times.time(Setting::Delay)?)?;
+    times.put_times(receiver_settings(line.scheme), &mut table)?;
     Ok(Value::Table(table))
 }
 

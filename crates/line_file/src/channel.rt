@@ -5,15 +5,15 @@ ghost use Rattle.std.specs.List.{list_any};
 ghost use Rattle.toml.specs.View.{view, table_view, items_view};
 ghost use Rattle.line_model.specs.Channels.{is_pair};
 ghost use Rattle.line_file.specs.ChannelTables.{channel_keys, terminal_called, from_at, to_at};
-ghost use Rattle.line_file.specs.ChannelTables.{ends_at, receiver_times, channel_at, channels_at};
+ghost use Rattle.line_file.specs.ChannelTables.{ends_at, channel_at, channels_at};
 ghost use Rattle.line_file.specs.{Reading.Becomes, Lines.values_of};
 
 use crate::draft::Draft;
 use crate::fault::LineFault;
 use crate::keys::{only, table_of, text};
 use crate::path::Path;
-use crate::times::{required, time};
-use line_model::{Bounds, Channel, Scheme, Terminal};
+use crate::times::TableTimes;
+use line_model::{Channel, Scheme, Setting, Terminal, receiver_settings};
 use toml::{Table, Value};
 
 fn keys(scheme: Scheme) -> &'static [&'static str]
@@ -87,28 +87,6 @@ fn ends(
     Ok(Channel { from, to })
 }
 
-fn by_scheme(
-    scheme: Scheme,
-    path: Path,
-    unit: u32,
-    table: &Table,
-    intervals: &mut Vec<Bounds>,
-) -> Result<(), LineFault>
-    requires some { 0 < unit }
-    requires few { unit ≤ 1000000 }
-    requires path { length path ≤ 11 }
-    ensures { Becomes result intervals.new.items
-        (receiver_times scheme path unit (table_view table.now) intervals.old.items) }
-{
-    match scheme {
-        Scheme::Dcub => {
-            let keys = &["pickup", "window", "restore"];
-            required(path, "unblock", keys, unit, table, intervals)
-        }
-        Scheme::Pott | Scheme::Putt | Scheme::Dcb | Scheme::Dtt => Ok(()),
-    }
-}
-
 /// The line with one more channel, from the table at the path.
 #[tactic(auto, unfolding(crate::specs::ChannelTables::channel_at))]
 pub fn channel(unit: u32, path: Path, value: &Value, line: &mut Draft) -> Result<(), LineFault>
@@ -120,11 +98,12 @@ pub fn channel(unit: u32, path: Path, value: &Value, line: &mut Draft) -> Result
         (channel_at unit path (view value.now) (values_of line.old)) }
 {
     let table = table_of(path, value)?;
-    only(path, keys(line.scheme), table)?;
+    only(path, &[], keys(line.scheme), table)?;
     let channel = ends(path, &line.terminals, &line.channels, table)?;
-    let delay = time(path, "delay", unit, 1, table)?;
+    let times = TableTimes { unit, path, table };
+    let delay = times.time(Setting::Delay, 1)?;
     line.intervals.push(delay)?;
-    by_scheme(line.scheme, path, unit, table, &mut line.intervals)?;
+    times.required(receiver_settings(line.scheme), &mut line.intervals)?;
     line.channels.push(channel)?;
     Ok(())
 }

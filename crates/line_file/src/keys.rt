@@ -1,9 +1,10 @@
 //! The keys of a table and the values under them.
 
-ghost use Rattle.std.specs.Prelude.{◌≡◌, ◌≤◌, ◌+◌, IfOk, map, option_map, length};
+ghost use Rattle.std.specs.Prelude.{◌≡◌, ◌≤◌, ◌+◌, ◌++◌, ◌||◌, IfOk, map, option_map, length};
 ghost use Rattle.std.specs.Str.{bytes_eq};
 ghost use Rattle.std.specs.List.{list_any};
 ghost use Rattle.toml.specs.{Data.get_member, View.view, View.table_view, View.items_view};
+ghost use Rattle.line_model.specs.Settings.{time_key};
 ghost use Rattle.line_file.specs.Reading.{Gives, seen};
 ghost use Rattle.line_file.specs.Keys.{document_of, opened, first_unknown, all_known, value_at};
 ghost use Rattle.line_file.specs.Keys.{number_in, number_at, text_in, text_at, flag_or_false};
@@ -11,6 +12,7 @@ ghost use Rattle.line_file.specs.Keys.{array_in, array_at, table_in};
 
 use crate::fault::LineFault;
 use crate::path::Path;
+use line_model::Setting;
 use std::alloc::Global;
 use toml::{Table, Value};
 
@@ -39,31 +41,41 @@ pub fn find<'a>(table: &'a Table, key: &str) -> Option<&'a Value>
     table.get(key)
 }
 
-fn is_among(known: &[&str], key: &str) -> bool
-    ensures { result ≡ list_any (λ name. bytes_eq name key.now) (map (λ name. name.now) known.now) }
+fn is_among(settings: &[Setting], names: &[&str], key: &str) -> bool
+    ensures { result
+        ≡ list_any (λ name. bytes_eq name key.now) (map time_key settings.now)
+        || list_any (λ name. bytes_eq name key.now) (map (λ name. name.now) names.now) }
 {
-    known.contains(&key)
+    settings.iter().any(|setting| setting.key() == key) || names.contains(&key)
 }
 
-fn unknown_key<'a>(table: &'a Table, known: &[&str]) -> Option<&'a str>
+fn unknown_key<'a>(table: &'a Table, settings: &[Setting], names: &[&str]) -> Option<&'a str>
     ensures { option_map (λ key. key.now) result
-        ≡ first_unknown (map (λ name. name.now) known.now) (table_view table.now) }
+        ≡ first_unknown (map time_key settings.now ++ map (λ name. name.now) names.now)
+        (table_view table.now) }
 {
     for (key, _value) in table {
-        if !is_among(known, key.as_str()) {
+        if !is_among(settings, names, key.as_str()) {
             return Some(key.as_str());
         }
     }
     None
 }
 
-/// Refuses a key of the table at the path that is not one of these.
+/// Refuses a key of the table at the path that is neither of these settings' nor of these names.
 #[tactic(auto, unfolding(crate::specs::Keys::all_known))]
-pub fn only(path: Path, known: &[&str], table: &Table) -> Result<(), LineFault>
+pub fn only(
+    path: Path,
+    settings: &[Setting],
+    names: &[&str],
+    table: &Table,
+) -> Result<(), LineFault>
     requires { length path ≤ 31 }
-    ensures { result ≡ all_known path (map (λ name. name.now) known.now) (table_view table.now) }
+    ensures { result
+        ≡ all_known path (map time_key settings.now ++ map (λ name. name.now) names.now)
+        (table_view table.now) }
 {
-    match unknown_key(table, known) {
+    match unknown_key(table, settings, names) {
         Some(key) => Err(LineFault::Unknown(path.unknown_key(key))),
         None => Ok(()),
     }

@@ -1,7 +1,8 @@
 //! Where in a line file something stands.
 
 ghost use Rattle.std.specs.Prelude.{◌≡◌, ◌+◌, ◌<◌, ◌≤◌, ◌++◌, ◌∷◌, [], ℕ, length, take};
-ghost use Rattle.line_file.specs.Paths.{joined, item_path, shown_byte, shown_key};
+ghost use Rattle.line_model.specs.ParamNames.{key_path};
+ghost use Rattle.line_file.specs.Paths.{item_path, shown_byte, shown_key};
 
 use std::fmt;
 use std::marker::Model;
@@ -16,17 +17,17 @@ pub struct Path {
 
 impl Model for Path {
     ghost use Rattle.std.specs.Prelude.{List, ℕ, take};
-    ghost use Rattle.line_file.specs.PathBytes.{IsFilled, filled, filled-take};
+    ghost use Rattle.line_file.specs.PathBytes.{IsPath, path_of, path_of-take};
 
     ghost Value = { List ℕ };
 
     ghost view = { λ p. take p.len p.bytes };
 
-    ghost invariant = { λ p. IsFilled p.len p.bytes };
+    ghost invariant = { IsPath };
 
-    ghost inverse = { filled };
+    ghost inverse = { path_of };
 
-    ghost inverse_ok = { filled-take };
+    ghost inverse_ok = { path_of-take };
 }
 
 impl Path {
@@ -66,7 +67,7 @@ impl Path {
     /// A key of the table at this path.
     pub(crate) fn key(self, key: &str) -> Path
         requires { length self + 1 + length key.now ≤ 96 }
-        ensures { result ≡ joined self key.now }
+        ensures { result ≡ key_path self key.now }
     {
         let mut path = self.before_key();
         path.push_all(key.as_bytes());
@@ -76,7 +77,7 @@ impl Path {
     /// A key that the table at this path must not have, cut and made printable.
     pub(crate) fn unknown_key(self, key: &str) -> Path
         requires { length self ≤ 31 }
-        ensures { result ≡ joined self (shown_key key.now) }
+        ensures { result ≡ key_path self (shown_key key.now) }
     {
         let mut path = self.before_key();
         for byte in first(key.as_bytes(), 64) {
@@ -88,7 +89,7 @@ impl Path {
     // The path with the dot before a key, where it is not the file itself.
     fn before_key(self) -> Path
         requires { length self < 96 }
-        ensures before { joined self [] ≡ result }
+        ensures before { key_path self [] ≡ result }
         ensures within { length result ≤ length self + 1 }
     {
         let mut path = self;

@@ -4,13 +4,12 @@ ghost use Rattle.std.specs.Prelude.{◌≡◌, ◌<◌, ◌≤◌, ◌*◌, pos,
 ghost use Rattle.toml.specs.{Data.table, Data.integer, View.view, View.table_view};
 ghost use Rattle.line_model.specs.Parameters.{IsOwner};
 ghost use Rattle.line_model.specs.declared.line.Owner.TheVariants as owner;
-ghost use Rattle.line_file.specs.Canonical.{put_member, put_all, time_data, interval_of};
-ghost use Rattle.line_file.specs.Canonical.{setting_interval, times_data, timer_settings};
-ghost use Rattle.line_file.specs.Canonical.{element_pairs, guard_pairs, weak_pairs, scheme_pairs};
-ghost use Rattle.line_file.specs.Canonical.{receiver_pairs};
+ghost use Rattle.line_file.specs.Canonical.{put_member, time_data, interval_of};
+ghost use Rattle.line_file.specs.Canonical.{setting_interval, times_data};
+ghost use Rattle.line_file.specs.Canonical.{put_times, put_groups};
 ghost use Rattle.line_file.specs.Owners.{IsOwner-prop};
 
-use line_model::{Bounds, Line, Memory, Owner, Scheme, Setting};
+use line_model::{Bounds, Line, Memory, Owner, Setting};
 use std::alloc::Global;
 use toml::{Table, Value};
 
@@ -48,145 +47,43 @@ impl<'a> OwnerTimes<'a> {
         Ok(Value::Array(Vec::from_array(self.alloc, [least, greatest])?))
     }
 
-    /// The times of some settings, each under its key.
+    /// The table of the times of some settings.
     #[tactic(auto, unfolding(crate::specs::Canonical::times_data))]
-    pub fn times(&self, settings: &[(&str, Setting)]) -> Result<Value, Memory>
+    fn times(&self, settings: &[Setting]) -> Result<Value, Memory>
         ensures { IfOk result (λ v. view v
-            ≡ times_data self.now.unit self.now.line.now self.now.owner
-            (map (λ p. (p.0.now, p.1)) settings.now)) }
+            ≡ times_data self.now.unit self.now.line.now self.now.owner settings.now) }
     {
         let mut table = Table::new(self.alloc);
-        for (key, setting) in settings {
-            let value = self.time(*setting)?;
-            put(self.alloc, &mut table, key, value)?;
+        for setting in settings {
+            put(self.alloc, &mut table, setting.key(), self.time(*setting)?)?;
         }
         Ok(Value::Table(table))
     }
 
-    // The times of some settings in a table of their own, under one more key.
-    fn put_times(
-        &self,
-        key: &str,
-        settings: &[(&str, Setting)],
-        table: &mut Table,
-    ) -> Result<(), Memory>
+    /// Puts the table of these settings; no settings have none.
+    pub fn put_times(&self, settings: &[Setting], table: &mut Table) -> Result<(), Memory>
         ensures { OnOk result
             (table_view table.new
-            ≡ put_member key.now
-            (times_data self.now.unit self.now.line.now self.now.owner
-            (map (λ p. (p.0.now, p.1)) settings.now))
+            ≡ put_times self.now.unit self.now.line.now self.now.owner settings.now
             (table_view table.old)) }
     {
-        let value = self.times(settings)?;
-        put(self.alloc, table, key, value)
-    }
-
-    // The pickup and dropout under one more key.
-    fn put_timer(
-        &self,
-        key: &str,
-        pickup: Setting,
-        dropout: Setting,
-        table: &mut Table,
-    ) -> Result<(), Memory>
-        ensures { OnOk result
-            (table_view table.new
-            ≡ put_member key.now
-            (times_data self.now.unit self.now.line.now self.now.owner
-            (timer_settings pickup dropout))
-            (table_view table.old)) }
-    {
-        self.put_times(key, &[("pickup", pickup), ("dropout", dropout)], table)
-    }
-
-    /// A terminal's own elements.
-    pub fn put_elements(&self, table: &mut Table) -> Result<(), Memory>
-        ensures { OnOk result
-            (table_view table.new
-            ≡ put_all (element_pairs self.now.unit self.now.line.now self.now.owner)
-            (table_view table.old)) }
-    {
-        self.put_timer("z1", Setting::Z1Pickup, Setting::Z1Dropout, table)?;
-        self.put_timer("z2", Setting::Z2Pickup, Setting::Z2Dropout, table)?;
-        self.put_timer("rv", Setting::RvPickup, Setting::RvDropout, table)?;
-        self.put_timer("uv", Setting::UvPickup, Setting::UvDropout, table)
-    }
-
-    /// What a guarded terminal has besides.
-    pub fn put_guard(&self, guard: bool, table: &mut Table) -> Result<(), Memory>
-        ensures { OnOk result
-            (table_view table.new
-            ≡ put_all (guard_pairs self.now.unit self.now.line.now self.now.owner guard)
-            (table_view table.old)) }
-    {
-        if !guard {
-            return Ok(());
-        }
-        let (pickup, dropout) = (Setting::ReversalPickup, Setting::ReversalDropout);
-        self.put_timer("reversal", pickup, dropout, table)
-    }
-
-    /// What a weak terminal has besides.
-    pub fn put_weak(&self, weak: bool, table: &mut Table) -> Result<(), Memory>
-        ensures { OnOk result
-            (table_view table.new
-            ≡ put_all (weak_pairs self.now.unit self.now.line.now self.now.owner weak)
-            (table_view table.old)) }
-    {
-        if !weak {
-            return Ok(());
-        }
-        let settings = [
-            ("block", Setting::EchoBlock),
-            ("pickup", Setting::EchoPickup),
-            ("pulse", Setting::EchoPulse),
-        ];
-        self.put_times("echo", &settings, table)
-    }
-
-    /// What a terminal has besides by the scheme.
-    pub fn put_by_scheme(&self, table: &mut Table) -> Result<(), Memory>
-        ensures { OnOk result
-            (table_view table.new
-            ≡ put_all
-            (scheme_pairs self.now.unit self.now.line.now self.now.owner self.now.line.now.scheme)
-            (table_view table.old)) }
-    {
-        match self.line.scheme {
-            Scheme::Dcb => {
-                let settings = [
-                    ("carry", Setting::BlockCarry),
-                    ("coord", Setting::BlockCoord),
-                ];
-                self.put_times("block", &settings, table)
-            }
-            Scheme::Dtt => {
-                let settings = [("security", Setting::TransferSecurity)];
-                self.put_times("transfer", &settings, table)
-            }
-            Scheme::Pott | Scheme::Putt | Scheme::Dcub => Ok(()),
+        match settings.first() {
+            Some(first) => put(self.alloc, table, first.table(), self.times(settings)?),
+            None => Ok(()),
         }
     }
 
-    /// What a channel has besides by the scheme.
-    pub fn put_receiver(&self, table: &mut Table) -> Result<(), Memory>
+    /// Puts those of these groups.
+    pub fn put_groups(&self, groups: &[&[Setting]], table: &mut Table) -> Result<(), Memory>
         ensures { OnOk result
             (table_view table.new
-            ≡ put_all
-            (receiver_pairs self.now.unit self.now.line.now self.now.owner self.now.line.now.scheme)
-            (table_view table.old)) }
+            ≡ put_groups self.now.unit self.now.line.now self.now.owner
+            (map (λ group. group.now) groups.now) (table_view table.old)) }
     {
-        match self.line.scheme {
-            Scheme::Dcub => {
-                let settings = [
-                    ("pickup", Setting::UnblockPickup),
-                    ("window", Setting::UnblockWindow),
-                    ("restore", Setting::UnblockRestore),
-                ];
-                self.put_times("unblock", &settings, table)
-            }
-            Scheme::Pott | Scheme::Putt | Scheme::Dcb | Scheme::Dtt => Ok(()),
+        for group in groups {
+            self.put_times(group, table)?;
         }
+        Ok(())
     }
 }
 

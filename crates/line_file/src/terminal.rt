@@ -14,8 +14,10 @@ use crate::draft::Draft;
 use crate::fault::LineFault;
 use crate::keys::{find, only, table_of, text};
 use crate::path::Path;
-use crate::times::{optional, required};
-use line_model::{Bounds, Name, Scheme, Terminal, is_plain};
+use crate::times::{TableTimes, group_key};
+use line_model::{Bounds, Name, Scheme, Setting, Terminal, is_plain};
+use line_model::{REVERSE_SETTINGS, UNDERVOLTAGE_SETTINGS, ZONE1_SETTINGS, ZONE2_SETTINGS};
+use line_model::{guard_settings, scheme_settings, weak_settings};
 use toml::{Table, Value};
 
 fn keys(scheme: Scheme) -> &'static [&'static str]
@@ -62,104 +64,60 @@ fn name(path: Path, before: &[Terminal], table: &Table) -> Result<Name, LineFaul
 }
 
 fn element(
-    path: Path,
-    key: &str,
-    unit: u32,
-    table: &Table,
+    times: &TableTimes,
+    settings: &[Setting],
     intervals: &mut Vec<Bounds>,
 ) -> Result<(), LineFault>
-    requires some { 0 < unit }
-    requires few { unit ≤ 1000000 }
-    requires path { length path ≤ 11 }
-    requires key { length key.now ≤ 8 }
+    requires { length times.now.path ≤ 11 }
     ensures { Becomes result intervals.new.items
-        (element_times path key.now unit (table_view table.now) intervals.old.items) }
+        (element_times times.now.path settings.now times.now.unit (table_view times.now.table.now)
+        intervals.old.items) }
 {
     let none = Bounds {
         least: 0,
         greatest: 0,
     };
-    optional(
-        &[none, none],
-        path,
-        key,
-        &["pickup", "dropout"],
-        unit,
-        table,
-        intervals,
-    )
+    times.optional(&[none, none], settings, intervals)
 }
 
 #[tactic(auto, unfolding(crate::specs::TerminalTables::elements_times))]
-fn elements(
-    path: Path,
-    unit: u32,
-    table: &Table,
-    intervals: &mut Vec<Bounds>,
-) -> Result<(), LineFault>
-    requires some { 0 < unit }
-    requires few { unit ≤ 1000000 }
-    requires path { length path ≤ 11 }
+fn elements(times: &TableTimes, intervals: &mut Vec<Bounds>) -> Result<(), LineFault>
+    requires { length times.now.path ≤ 11 }
     ensures { Becomes result intervals.new.items
-        (elements_times path unit (table_view table.now) intervals.old.items) }
+        (elements_times times.now.path times.now.unit (table_view times.now.table.now)
+        intervals.old.items) }
 {
-    element(path, "z1", unit, table, intervals)?;
-    element(path, "z2", unit, table, intervals)?;
-    element(path, "rv", unit, table, intervals)?;
-    element(path, "uv", unit, table, intervals)
+    element(times, ZONE1_SETTINGS, intervals)?;
+    element(times, ZONE2_SETTINGS, intervals)?;
+    element(times, REVERSE_SETTINGS, intervals)?;
+    element(times, UNDERVOLTAGE_SETTINGS, intervals)
 }
 
 #[tactic(auto, unfolding(crate::specs::TerminalTables::permissive_times))]
-fn permissive(
-    path: Path,
-    unit: u32,
-    table: &Table,
-    intervals: &mut Vec<Bounds>,
-) -> Result<(), LineFault>
-    requires some { 0 < unit }
-    requires few { unit ≤ 1000000 }
-    requires path { length path ≤ 11 }
+fn permissive(times: &TableTimes, intervals: &mut Vec<Bounds>) -> Result<(), LineFault>
+    requires { length times.now.path ≤ 11 }
     ensures { Becomes result intervals.new.items
-        (permissive_times path unit (table_view table.now) intervals.old.items) }
+        (permissive_times times.now.path times.now.unit (table_view times.now.table.now)
+        intervals.old.items) }
 {
-    optional(
-        &[],
-        path,
-        "reversal",
-        &["pickup", "dropout"],
-        unit,
-        table,
-        intervals,
-    )?;
-    optional(
-        &[],
-        path,
-        "echo",
-        &["block", "pickup", "pulse"],
-        unit,
-        table,
-        intervals,
-    )
+    times.optional(&[], guard_settings(true), intervals)?;
+    times.optional(&[], weak_settings(true), intervals)
 }
 
 fn by_scheme(
     scheme: Scheme,
-    path: Path,
-    unit: u32,
-    table: &Table,
+    times: &TableTimes,
     intervals: &mut Vec<Bounds>,
 ) -> Result<(), LineFault>
-    requires some { 0 < unit }
-    requires few { unit ≤ 1000000 }
-    requires path { length path ≤ 11 }
+    requires { length times.now.path ≤ 11 }
     ensures { Becomes result intervals.new.items
-        (scheme_times scheme path unit (table_view table.now) intervals.old.items) }
+        (scheme_times scheme times.now.path times.now.unit (table_view times.now.table.now)
+        intervals.old.items) }
 {
-    match scheme {
-        Scheme::Pott | Scheme::Dcub => permissive(path, unit, table, intervals),
-        Scheme::Putt => Ok(()),
-        Scheme::Dcb => required(path, "block", &["carry", "coord"], unit, table, intervals),
-        Scheme::Dtt => required(path, "transfer", &["security"], unit, table, intervals),
+    if may_have_flags(scheme) {
+        permissive(times, intervals)
+    } else {
+        times.required(scheme_settings(scheme), intervals)
     }
 }
 
@@ -174,8 +132,8 @@ fn named(scheme: Scheme, table: &Table, name: Name) -> Terminal
 {
     Terminal {
         name,
-        weak: may_have_flags(scheme) && find(table, "echo").is_some(),
-        guard: may_have_flags(scheme) && find(table, "reversal").is_some(),
+        weak: may_have_flags(scheme) && find(table, group_key(weak_settings(true))).is_some(),
+        guard: may_have_flags(scheme) && find(table, group_key(guard_settings(true))).is_some(),
     }
 }
 
@@ -189,10 +147,11 @@ pub fn terminal(unit: u32, path: Path, value: &Value, line: &mut Draft) -> Resul
         (terminal_at unit path (view value.now) (values_of line.old)) }
 {
     let table = table_of(path, value)?;
-    only(path, keys(line.scheme), table)?;
+    only(path, &[], keys(line.scheme), table)?;
     let name = name(path, &line.terminals, table)?;
-    elements(path, unit, table, &mut line.intervals)?;
-    by_scheme(line.scheme, path, unit, table, &mut line.intervals)?;
+    let times = TableTimes { unit, path, table };
+    elements(&times, &mut line.intervals)?;
+    by_scheme(line.scheme, &times, &mut line.intervals)?;
     line.terminals.push(named(line.scheme, table, name))?;
     Ok(())
 }

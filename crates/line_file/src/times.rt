@@ -1,17 +1,17 @@
 //! Times, as a line file writes them, and the tables that have only times.
 
-ghost use Rattle.std.specs.Prelude.{◌≡◌, ◌<◌, ◌≤◌, ◌+◌, map, length, IsTrue};
-ghost use Rattle.std.specs.List.{list_all};
+ghost use Rattle.std.specs.Prelude.{◌≡◌, ◌<◌, ◌≤◌, length};
 ghost use Rattle.toml.specs.View.{view, table_view, items_view};
 ghost use Rattle.line_file.specs.Times.{units_per_tick, in_ticks, interval_in, ends_in, time_in};
-ghost use Rattle.line_file.specs.Times.{time_at, times_at, times_in, optional_times};
-ghost use Rattle.line_file.specs.Times.{required_times};
-ghost use Rattle.line_file.specs.{Reading.Becomes, Keys.is_short};
+ghost use Rattle.line_file.specs.Times.{time_at, times_at, times_in, group_key, required_times};
+ghost use Rattle.line_file.specs.Times.{optional_times};
+ghost use Rattle.line_file.specs.{Reading.Becomes};
+ghost use Rattle.line_model.specs.{Settings.time_key, ParamNames.key_path};
 
 use crate::fault::LineFault;
 use crate::keys::{find, only, table_of, value};
 use crate::path::Path;
-use line_model::Bounds;
+use line_model::{Bounds, Setting};
 use toml::{Table, Value};
 
 /// How many units of time a tick has: version 1 writes ticks, version 2 microseconds.
@@ -86,115 +86,120 @@ fn time_of(path: Path, unit: u32, fewest: u32, value: &Value) -> Result<Bounds, 
     }
 }
 
-/// The time under a required key of the table at the path, of at least `fewest` ticks.
-#[tactic(auto, unfolding(crate::specs::Times::time_at))]
-pub fn time(
-    path: Path,
-    key: &str,
-    unit: u32,
-    fewest: u32,
-    table: &Table,
-) -> Result<Bounds, LineFault>
-    requires some { 0 < unit }
-    requires few { unit ≤ 1000000 }
-    requires short { length path + 1 + length key.now ≤ 96 }
-    ensures { result ≡ time_at path key.now unit fewest (table_view table.now) }
-{
-    let value = value(path, key, table)?;
-    time_of(path.key(key), unit, fewest, value)
+/// A table in a line file, at the path, whose times are in units of so many to a tick.
+#[derive(Drop)]
+pub struct TableTimes<'a> {
+    pub unit: u32,
+    pub path: Path,
+    pub table: &'a Table,
+    pub ghost some: { 0 < unit },
+    pub ghost few: { unit ≤ 1000000 },
+    pub ghost short: { length path ≤ 20 },
 }
 
-// The times under required keys.
-fn times(
-    path: Path,
-    keys: &[&str],
-    unit: u32,
-    table: &Table,
-    intervals: &mut Vec<Bounds>,
-) -> Result<(), LineFault>
-    requires some { 0 < unit }
-    requires few { unit ≤ 1000000 }
-    requires path { length path ≤ 31 }
-    requires keys { IsTrue (list_all (λ name. is_short name.now) keys.now) }
-    ensures { Becomes result intervals.new.items
-        (times_at path (map (λ name. name.now) keys.now) unit (table_view table.now)
-        intervals.old.items) }
-{
-    for key in keys {
-        let interval = time(path, key, unit, 0, table)?;
-        intervals.push(interval)?;
+impl<'a> TableTimes<'a> {
+    /// A required time of at least `fewest` ticks.
+    #[tactic(auto, unfolding(crate::specs::Times::time_at))]
+    pub fn time(&self, setting: Setting, fewest: u32) -> Result<Bounds, LineFault>
+        ensures { result
+            ≡ time_at self.now.path (time_key setting) self.now.unit fewest
+            (table_view self.now.table.now) }
+    {
+        let key = setting.key();
+        let value = value(self.path, key, self.table)?;
+        time_of(self.path.key(key), self.unit, fewest, value)
     }
-    Ok(())
-}
 
-// The times of a table that has these keys and no others.
-#[tactic(auto, unfolding(crate::specs::Times::times_in))]
-fn times_of(
-    path: Path,
-    keys: &[&str],
-    unit: u32,
-    value: &Value,
-    intervals: &mut Vec<Bounds>,
-) -> Result<(), LineFault>
-    requires some { 0 < unit }
-    requires few { unit ≤ 1000000 }
-    requires path { length path ≤ 31 }
-    requires keys { IsTrue (list_all (λ name. is_short name.now) keys.now) }
-    ensures { Becomes result intervals.new.items
-        (times_in path (map (λ name. name.now) keys.now) unit (view value.now)
-        intervals.old.items) }
-{
-    let table = table_of(path, value)?;
-    only(path, keys, table)?;
-    times(path, keys, unit, table, intervals)
-}
+    // The times of these settings.
+    fn times(&self, settings: &[Setting], intervals: &mut Vec<Bounds>) -> Result<(), LineFault>
+        ensures { Becomes result intervals.new.items
+            (times_at self.now.path settings.now self.now.unit (table_view self.now.table.now)
+            intervals.old.items) }
+    {
+        for setting in settings {
+            let interval = self.time(*setting, 0)?;
+            intervals.push(interval)?;
+        }
+        Ok(())
+    }
 
-/// The times of a table that may be absent; then these stand for them.
-#[tactic(auto, unfolding(crate::specs::Times::optional_times))]
-pub fn optional(
-    absent: &[Bounds],
-    path: Path,
-    key: &str,
-    keys: &[&str],
-    unit: u32,
-    table: &Table,
-    intervals: &mut Vec<Bounds>,
-) -> Result<(), LineFault>
-    requires some { 0 < unit }
-    requires few { unit ≤ 1000000 }
-    requires path { length path + 1 + length key.now ≤ 31 }
-    requires keys { IsTrue (list_all (λ name. is_short name.now) keys.now) }
-    ensures { Becomes result intervals.new.items
-        (optional_times absent.now path key.now (map (λ name. name.now) keys.now) unit
-        (table_view table.now) intervals.old.items) }
-{
-    match find(table, key) {
-        Some(value) => times_of(path.key(key), keys, unit, value, intervals),
-        None => {
-            intervals.extend_from_slice(absent)?;
-            Ok(())
+    // The times of a table under this key that has these settings and no others.
+    #[tactic(auto, unfolding(crate::specs::Times::times_in))]
+    fn times_in(
+        &self,
+        key: &str,
+        value: &Value,
+        settings: &[Setting],
+        intervals: &mut Vec<Bounds>,
+    ) -> Result<(), LineFault>
+        requires outer { length self.now.path ≤ 11 }
+        requires key { length key.now ≤ 8 }
+        ensures { Becomes result intervals.new.items
+            (times_in (key_path self.now.path key.now) settings.now self.now.unit (view value.now)
+            intervals.old.items) }
+    {
+        let path = self.path.key(key);
+        let table = table_of(path, value)?;
+        only(path, settings, &[], table)?;
+        let inner = TableTimes {
+            unit: self.unit,
+            path,
+            table,
+        };
+        inner.times(settings, intervals)
+    }
+
+    /// The times of the table that these settings have; no settings have none.
+    #[tactic(auto, unfolding(crate::specs::Times::required_times))]
+    pub fn required(
+        &self,
+        settings: &[Setting],
+        intervals: &mut Vec<Bounds>,
+    ) -> Result<(), LineFault>
+        requires { length self.now.path ≤ 11 }
+        ensures { Becomes result intervals.new.items
+            (required_times self.now.path settings.now self.now.unit
+            (table_view self.now.table.now) intervals.old.items) }
+    {
+        let Some(first) = settings.first() else {
+            return Ok(());
+        };
+        let key = first.table();
+        let value = value(self.path, key, self.table)?;
+        self.times_in(key, value, settings, intervals)
+    }
+
+    /// The times of the table that these settings may have; else these stand for them.
+    #[tactic(auto, unfolding(crate::specs::Times::optional_times))]
+    pub fn optional(
+        &self,
+        absent: &[Bounds],
+        settings: &[Setting],
+        intervals: &mut Vec<Bounds>,
+    ) -> Result<(), LineFault>
+        requires { length self.now.path ≤ 11 }
+        ensures { Becomes result intervals.new.items
+            (optional_times absent.now self.now.path settings.now self.now.unit
+            (table_view self.now.table.now) intervals.old.items) }
+    {
+        let key = group_key(settings);
+        match find(self.table, key) {
+            Some(value) => self.times_in(key, value, settings, intervals),
+            None => {
+                intervals.extend_from_slice(absent)?;
+                Ok(())
+            }
         }
     }
 }
 
-/// The times of a required table.
-#[tactic(auto, unfolding(crate::specs::Times::required_times))]
-pub fn required(
-    path: Path,
-    key: &str,
-    keys: &[&str],
-    unit: u32,
-    table: &Table,
-    intervals: &mut Vec<Bounds>,
-) -> Result<(), LineFault>
-    requires some { 0 < unit }
-    requires few { unit ≤ 1000000 }
-    requires path { length path + 1 + length key.now ≤ 31 }
-    requires keys { IsTrue (list_all (λ name. is_short name.now) keys.now) }
-    ensures { Becomes result intervals.new.items
-        (required_times path key.now (map (λ name. name.now) keys.now) unit (table_view table.now)
-        intervals.old.items) }
+/// The key of the table that a group of settings has.
+pub fn group_key(settings: &[Setting]) -> &'static str
+    ensures key { result.now ≡ group_key settings.now }
+    ensures short { length result.now ≤ 8 }
 {
-    let value = value(path, key, table)?;
-    times_of(path.key(key), keys, unit, value, intervals)
+    match settings.first() {
+        Some(first) => first.table(),
+        None => "",
+    }
 }

@@ -3,7 +3,7 @@ use Rattle.std.proofs.Common.{◌≡◌, ◌≤◌, ◌||◌, ◌&&◌, ◌++◌
 use Rattle.std.proofs.Common.{false, not, List, [], ◌∷◌, length, take, get_or, refl, sym, ap, ◌∙◌}
 use Rattle.std.proofs.Common.{arith, length-append}
 use Rattle.std.proofs.Math.Nat.{mul-le-mul, mul-le-mul_right}
-use Rattle.std.proofs.lemmas.List.{length-map, take_more}
+use Rattle.std.proofs.lemmas.List.{take_more}
 use Rattle.std.specs.List.{list_all}
 use Rattle.line_model.specs.declared.line.Line.{Line}
 use Rattle.line_model.specs.declared.line.Scheme.TheVariants.{Pott, Putt, Dcb, Dcub, Dtt}
@@ -12,14 +12,12 @@ use Rattle.line_model.specs.{declared.line.Channel.Channel, declared.line.Owner.
 use Rattle.line_model.specs.declared.line.Owner.TheVariants as owner
 use Rattle.line_model.specs.declared.line.Setting.{Setting}
 use Rattle.line_model.specs.Terminals.{has_flags, has_no_flag, flags_fit}
-use Rattle.line_model.specs.Settings.{OwnedSetting, owned_by, base_settings, guard_settings}
-use Rattle.line_model.specs.Settings.{weak_settings, scheme_settings, settings_of_terminals}
+use Rattle.line_model.specs.Settings.{OwnedSetting, owned_by, groups_with, all_of}
+use Rattle.line_model.specs.Settings.{settings_of_terminals}
 use Rattle.line_model.specs.Settings.{settings_of_channels, terminal_settings, channel_settings}
 use Rattle.line_model.specs.Settings.{line_settings}
-use Rattle.line_model.proofs.Numbers.{length-line_settings}
-
-length-owned_by : (o : Owner) (ss : List Setting) → length (owned_by o ss) ≡ length ss
-length-owned_by o ss = simp length-map
+use Rattle.line_model.proofs.Numbers.{length-line_settings, length-owned_by}
+use Rattle.line_model.proofs.SettingTexts.{with_flags}
 
 -- one terminal more at the end
 length-settings_of_terminals-push :
@@ -86,10 +84,7 @@ setting_count s ts cs n k before each =
 -- each channel has a delay at least
 some_settings : (s : Scheme) → 0 < length (channel_settings s)
 some_settings Pott = omega arith
-some_settings Putt = omega arith
-some_settings Dcb = omega arith
-some_settings Dcub = omega arith
-some_settings Dtt = omega arith
+some_settings _ = omega arith
 
 -- the settings of channel c are within the list
 pub channel_within :
@@ -107,34 +102,21 @@ channel_within s ts cs c n k lt before each =
 -- a terminal has at most 13 settings, since none is weak or guarded in the other schemes
 few_of_terminal :
     (s : Scheme) (g w : Bool) → has_flags s || not (w || g) ≡ true →
-    length (base_settings ++ (guard_settings g ++ (weak_settings w ++ scheme_settings s))) ≤ 13
-few_of_terminal Pott true true h = omega arith
-few_of_terminal Pott true false h = omega arith
-few_of_terminal Pott false true h = omega arith
-few_of_terminal Pott false false h = omega arith
-few_of_terminal Dcub true true h = omega arith
-few_of_terminal Dcub true false h = omega arith
-few_of_terminal Dcub false true h = omega arith
-few_of_terminal Dcub false false h = omega arith
-few_of_terminal Putt false false h = omega arith
-few_of_terminal Dcb false false h = omega arith
-few_of_terminal Dtt false false h = omega arith
-few_of_terminal Putt true true h = absurd (cc)
-few_of_terminal Putt true false h = absurd (cc)
-few_of_terminal Putt false true h = absurd (cc)
-few_of_terminal Dcb true true h = absurd (cc)
-few_of_terminal Dcb true false h = absurd (cc)
-few_of_terminal Dcb false true h = absurd (cc)
-few_of_terminal Dtt true true h = absurd (cc)
-few_of_terminal Dtt true false h = absurd (cc)
-few_of_terminal Dtt false true h = absurd (cc)
+    length (all_of (groups_with s g w)) ≤ 13
+few_of_terminal Pott g w h =
+    with_flags (λ g w. length (all_of (groups_with Pott g w)) ≤ 13) (omega arith) (omega arith)
+    (omega arith) (omega arith) g w
+few_of_terminal Dcub g w h =
+    with_flags (λ g w. length (all_of (groups_with Dcub g w)) ≤ 13) (omega arith) (omega arith)
+    (omega arith) (omega arith) g w
+few_of_terminal s false false h = omega arith
+few_of_terminal s true true h = absurd (cc)
+few_of_terminal s true false h = absurd (cc)
+few_of_terminal s false true h = absurd (cc)
 
 few_of_channel : (s : Scheme) → length (channel_settings s) ≤ 4
 few_of_channel Pott = omega arith
-few_of_channel Putt = omega arith
-few_of_channel Dcb = omega arith
-few_of_channel Dcub = omega arith
-few_of_channel Dtt = omega arith
+few_of_channel _ = omega arith
 
 -- what is so of all is so of the first and of the rest
 first_of : (b c d : Bool) → b || (c && d) ≡ true → b || c ≡ true

@@ -3,7 +3,7 @@ pub mod NamePadding
 pub mod TerminalNames
 pub mod ChannelPairs
 pub mod Numbers
-pub mod Places
+pub mod Groups
 pub mod Positions
 pub mod Counts
 pub mod ParamNames

@@ -2,7 +2,8 @@
 use Rattle.std.proofs.Common.{◌≡◌, ◌≢◌, ◌==◌, ℕ, zero, suc, ◌<◌, Bool, true, false, cond, Option}
 use Rattle.std.proofs.Common.{Some, None, refl, sym, subst, ap, ◌∙◌, arith}
 use Rattle.std.proofs.lemmas.Bool.{eqb-false}
-use Rattle.std.specs.Prelude.{unwrap_or, IfSome}
+use Rattle.std.specs.Prelude.{unwrap_or, IfSome, List, [], get_or}
+use Rattle.std.specs.List.{list_any}
 use Rattle.line_model.specs.declared.line.Scheme.TheVariants.{Pott, Putt, Dcb, Dcub, Dtt}
 use Rattle.line_model.specs.{declared.line.Line.Line, declared.line.Scheme.Scheme}
 use Rattle.line_model.specs.declared.line.Owner.TheVariants as owner
@@ -18,7 +19,8 @@ use Rattle.line_model.specs.declared.line.Setting.TheVariants.{UnblockRestore}
 use Rattle.line_model.specs.declared.script.Element.{Element}
 use Rattle.line_model.specs.declared.script.Element.TheVariants as element
 use Rattle.line_model.specs.declared.formula.Time.TheVariants.{Zero, Param}
-use Rattle.line_model.specs.Places.{terminal_place, channel_place}
+use Rattle.line_model.specs.Settings.{same_setting, groups_with, guard_settings}
+use Rattle.line_model.specs.Settings.{weak_settings, scheme_settings, channel_settings}
 use Rattle.line_model.specs.Names.{Names, HasTime, HasOwnTime, IsLocal}
 use Rattle.line_model.specs.Tree.{Tree, Const, Seen, Loss, Raw, Not, And, Or, Timer, Seal}
 use Rattle.line_model.specs.Elements.{is_guarded, is_weak, setting_of, seen_timed, zone1}
@@ -33,7 +35,7 @@ use Rattle.line_model.specs.Logic.{blocking_key, blocking_pilot, underreach_pilo
 use Rattle.line_model.specs.Logic.{key_by, pilot_by, key_tree, set_tree, trip_tree}
 use Rattle.line_model.specs.{declared.formula.Time.Time, Parameters.terminal_count}
 use Rattle.line_model.proofs.OwnSettings.{number_within, own_setting, own_channel_setting}
-use Rattle.line_model.proofs.OwnSettings.{own_channel}
+use Rattle.line_model.proofs.OwnSettings.{own_channel, in_group}
 
 module _ (line : Line) (k : ℕ) (lt : k < terminal_count line) where
   -- ---- what a terminal sees
@@ -41,13 +43,13 @@ module _ (line : Line) (k : ℕ) (lt : k < terminal_count line) where
   local_seen : (e : Element) → IsLocal line k (seen_timed line k e)
   unfolding IsLocal seen_timed
   local_seen element.Z1 =
-      (refl, (own_setting line k 0 Z1Pickup lt refl, own_setting line k 1 Z1Dropout lt refl))
+      (refl, (own_setting line k Z1Pickup lt refl, own_setting line k Z1Dropout lt refl))
   local_seen element.Z2 =
-      (refl, (own_setting line k 2 Z2Pickup lt refl, own_setting line k 3 Z2Dropout lt refl))
+      (refl, (own_setting line k Z2Pickup lt refl, own_setting line k Z2Dropout lt refl))
   local_seen element.Rv =
-      (refl, (own_setting line k 4 RvPickup lt refl, own_setting line k 5 RvDropout lt refl))
+      (refl, (own_setting line k RvPickup lt refl, own_setting line k RvDropout lt refl))
   local_seen element.Uv =
-      (refl, (own_setting line k 6 UvPickup lt refl, own_setting line k 7 UvDropout lt refl))
+      (refl, (own_setting line k UvPickup lt refl, own_setting line k UvDropout lt refl))
   local_seen element.Cur = refl
 
   -- ---- what it receives
@@ -112,12 +114,12 @@ module _ (line : Line) (k : ℕ) (lt : k < terminal_count line) where
 
   module _ (unblocking : line.scheme ≡ Dcub) (j : ℕ) (jt : j < terminal_count line)
       (ne : j ≢ k) where
-    local_channel_setting : (x : Setting) (p : ℕ) → channel_place Dcub x ≡ Some p
+    local_channel_setting : (x : Setting) → list_any (same_setting x) (channel_settings Dcub) ≡ true
         → HasOwnTime line k (channel_setting line k j x)
     unfolding channel_setting
-    local_channel_setting x p there =
-        own_channel_setting line k (channel_to line k j) p x (own_channel line k j lt jt ne)
-        (ap (λ s. channel_place s x) unblocking ∙ there)
+    local_channel_setting x has =
+        own_channel_setting line k (channel_to line k j) x (own_channel line k j lt jt ne)
+        (ap (λ s. list_any (same_setting x) (channel_settings s)) unblocking ∙ has)
 
     local_guard_seen : IsLocal line k (guard_seen line k j)
     unfolding IsLocal guard_seen
@@ -125,19 +127,19 @@ module _ (line : Line) (k : ℕ) (lt : k < terminal_count line) where
 
     local_late : IsLocal line k (late line k j)
     unfolding IsLocal late
-    local_late = (own_channel line k j lt jt ne, (local_channel_setting UnblockWindow 2 refl, tt))
+    local_late = (own_channel line k j lt jt ne, (local_channel_setting UnblockWindow refl, tt))
 
     local_unblocked : IsLocal line k (unblocked line k j)
     unfolding IsLocal unblocked
     local_unblocked = (
-      (own_channel line k j lt jt ne, (local_channel_setting UnblockPickup 1 refl, tt)),
+      (own_channel line k j lt jt ne, (local_channel_setting UnblockPickup refl, tt)),
       local_late,
     )
 
     local_locked_out : IsLocal line k (locked_out line k j)
     unfolding IsLocal locked_out
     local_locked_out =
-        (local_late, (local_guard_seen, (local_channel_setting UnblockRestore 3 refl, tt)))
+        (local_late, (local_guard_seen, (local_channel_setting UnblockRestore refl, tt)))
 
     local_open_from : IsLocal line k (open_from line k j)
     unfolding IsLocal open_from
@@ -160,19 +162,31 @@ module _ (line : Line) (k : ℕ) (lt : k < terminal_count line) where
   unfolding IsLocal
   local_none = tt
 
-  guard_setting : (x : Setting) (p : ℕ) → is_guarded line k ≡ true
-      → terminal_place line.scheme true (is_weak line k) x ≡ Some p
+  -- a setting of group j is the terminal's
+  of_group : (j : ℕ) (x : Setting)
+      → list_any (same_setting x)
+      (get_or (groups_with line.scheme (is_guarded line k) (is_weak line k)) j []) ≡ true
       → HasOwnTime line k (terminal_setting line k x)
   unfolding terminal_setting
-  guard_setting x p g e =
-      own_setting line k p x lt (ap (λ b. terminal_place line.scheme b (is_weak line k) x) g ∙ e)
+  of_group j x has =
+      own_setting line k x lt
+      (in_group (same_setting x) j
+      (groups_with line.scheme (is_guarded line k) (is_weak line k)) has)
 
-  weak_setting : (x : Setting) (p : ℕ) → is_weak line k ≡ true
-      → terminal_place line.scheme (is_guarded line k) true x ≡ Some p
-      → HasOwnTime line k (terminal_setting line k x)
-  unfolding terminal_setting
-  weak_setting x p w e =
-      own_setting line k p x lt (ap (λ b. terminal_place line.scheme (is_guarded line k) b x) w ∙ e)
+  guard_setting : (x : Setting) → list_any (same_setting x) (guard_settings true) ≡ true
+      → is_guarded line k ≡ true → HasOwnTime line k (terminal_setting line k x)
+  guard_setting x has g =
+      of_group 4 x (ap (λ b. list_any (same_setting x) (guard_settings b)) g ∙ has)
+
+  weak_setting : (x : Setting) → list_any (same_setting x) (weak_settings true) ≡ true
+      → is_weak line k ≡ true → HasOwnTime line k (terminal_setting line k x)
+  weak_setting x has w =
+      of_group 5 x (ap (λ b. list_any (same_setting x) (weak_settings b)) w ∙ has)
+
+  scheme_setting : (s : Scheme) (x : Setting) → list_any (same_setting x) (scheme_settings s) ≡ true
+      → line.scheme ≡ s → HasOwnTime line k (terminal_setting line k x)
+  scheme_setting s x has is =
+      of_group 6 x (ap (λ q. list_any (same_setting x) (scheme_settings q)) is ∙ has)
 
   local_reversal_guard : IsLocal line k (reversal_guard line k)
   unfolding reversal_guard IsLocal
@@ -182,21 +196,21 @@ module _ (line : Line) (k : ℕ) (lt : k < terminal_count line) where
       (Const false)
       (λ g. (
         local_seen element.Rv,
-        (guard_setting ReversalPickup 8 g refl, guard_setting ReversalDropout 9 g refl),
+        (guard_setting ReversalPickup refl g, guard_setting ReversalDropout refl g),
       ))
       local_none
 
   local_quiet : is_weak line k ≡ true → IsLocal line k (quiet line k)
   unfolding quiet IsLocal
   local_quiet w =
-      ((local_seen element.Z2, local_seen element.Rv), (tt, weak_setting EchoBlock _ w refl))
+      ((local_seen element.Z2, local_seen element.Rv), (tt, weak_setting EchoBlock refl w))
 
   module _ (perm : Tree) (p : IsLocal line k perm) where
     local_echo_wanted : IsLocal line k (echo_wanted line k perm)
     unfolding echo_wanted IsLocal
     local_echo_wanted = local_cond (is_weak line k)
         (Timer (And perm (quiet line k)) (terminal_setting line k EchoPickup) Zero) (Const false)
-        (λ w. ((p, local_quiet w), (weak_setting EchoPickup _ w refl, tt))) local_none
+        (λ w. ((p, local_quiet w), (weak_setting EchoPickup refl w, tt))) local_none
 
     local_echo : IsLocal line k (echo line k perm)
     unfolding echo IsLocal
@@ -204,7 +218,7 @@ module _ (line : Line) (k : ℕ) (lt : k < terminal_count line) where
         (And (echo_wanted line k perm)
         (Not (Timer (echo_wanted line k perm) (terminal_setting line k EchoPulse) Zero)))
         (Const false)
-        (λ w. (local_echo_wanted, (local_echo_wanted, (weak_setting EchoPulse _ w refl, tt))))
+        (λ w. (local_echo_wanted, (local_echo_wanted, (weak_setting EchoPulse refl w, tt))))
         local_none
 
     local_weak_infeed_trip : IsLocal line k (weak_infeed_trip line k perm)
@@ -223,23 +237,15 @@ module _ (line : Line) (k : ℕ) (lt : k < terminal_count line) where
 
   -- ---- blocking, underreach and transfer
 
-  scheme_setting : (s : Scheme) (x : Setting) (p : ℕ) → line.scheme ≡ s
-      → terminal_place s (is_guarded line k) (is_weak line k) x ≡ Some p
-      → HasOwnTime line k (terminal_setting line k x)
-  unfolding terminal_setting
-  scheme_setting s x p is e =
-      own_setting line k p x lt
-      (ap (λ q. terminal_place q (is_guarded line k) (is_weak line k) x) is ∙ e)
-
   local_blocking_key : line.scheme ≡ Dcb → IsLocal line k (blocking_key line k)
   unfolding blocking_key IsLocal
   local_blocking_key s =
-      ((local_seen element.Rv, local_seen element.Z2), (tt, scheme_setting Dcb BlockCarry _ s refl))
+      ((local_seen element.Rv, local_seen element.Z2), (tt, scheme_setting Dcb BlockCarry refl s))
 
   local_blocking_pilot : line.scheme ≡ Dcb → IsLocal line k (blocking_pilot line k)
   unfolding blocking_pilot IsLocal
   local_blocking_pilot s =
-      ((local_seen element.Z2, (scheme_setting Dcb BlockCoord _ s refl, tt)), local_any_received)
+      ((local_seen element.Z2, (scheme_setting Dcb BlockCoord refl s, tt)), local_any_received)
 
   local_underreach_pilot : IsLocal line k (underreach_pilot line k)
   unfolding underreach_pilot IsLocal
@@ -247,7 +253,7 @@ module _ (line : Line) (k : ℕ) (lt : k < terminal_count line) where
 
   local_transfer_pilot : line.scheme ≡ Dtt → IsLocal line k (transfer_pilot line k)
   unfolding transfer_pilot IsLocal
-  local_transfer_pilot s = (local_any_received, (scheme_setting Dtt TransferSecurity _ s refl, tt))
+  local_transfer_pilot s = (local_any_received, (scheme_setting Dtt TransferSecurity refl s, tt))
 
   -- ---- scheme by scheme
 

@@ -18,14 +18,15 @@ use Rattle.line_model.specs.ParamNames.{name_at, pair_name, setting_text, dotted
 use Rattle.line_model.specs.ParamNames.{channel_names}
 use Rattle.line_model.specs.ParamNamesApart.{name_of_param, has_no, ParamNamesApart}
 use Rattle.line_model.specs.Parameters.{param_count}
-use Rattle.line_model.specs.FirstPositions.{position_from-first, position_from-none}
+use Rattle.line_model.specs.FirstPositions.{position_from-first, position_from-none, none_before}
+use Rattle.line_model.specs.FirstPositions.{list_any-take_none}
 use Rattle.line_model.specs.{declared.line.Param.Param, declared.line.Setting.Setting}
 use Rattle.line_model.specs.{declared.line.Terminal.Terminal, declared.line.Channel.Channel}
 use Rattle.line_model.specs.{Terminals.are_plain_names, Channels.is_pair, Channels.from_of}
 use Rattle.line_model.specs.{Channels.to_of, Settings.terminal_settings, Settings.channel_settings}
 use Rattle.line_model.proofs.ParamNames.{name_at-get, names_of_line}
-use Rattle.line_model.proofs.SettingTexts.{rank, same_rank, text_has_no_at, rise, all_above}
-use Rattle.line_model.proofs.SettingTexts.{rise-tail, terminal_settings_rise, channel_settings_rise}
+use Rattle.line_model.proofs.SettingTexts.{text_has_no_at, is_other_text, differ}
+use Rattle.line_model.proofs.SettingTexts.{terminal_settings_differ, channel_settings_differ}
 
 -- ---- lists in which no element stands twice
 
@@ -129,25 +130,6 @@ plain_at (t ∷ ts) zero d plain below =
 plain_at (t ∷ ts) (suc k) d plain below =
     plain_at ts k d (and_parts (is_plain_name t.name) (are_plain_names ts) plain).1 (omega arith)
 
-none_before : {X : Type 0} (p : X → Bool) (n : ℕ) (xs : List X) (k j : ℕ) (d : X)
-    → position_from p n xs ≡ Some (n + k) → j < k → k ≤ length xs → p (get_or xs j d) ≡ false
-none_before p n [] k j d e less within = absurd (omega arith)
-none_before p n (x ∷ xs) zero j d e less within = absurd (omega arith)
-none_before p n (x ∷ xs) (suc k) zero d e less within =
-    elim (p x) as (λ b. cond b (Some n) (position_from p (n + 1) xs) ≡ Some (n + suc k)
-    → b ≡ false) [
-      | true ↦ λ f. let g : n ≡ n + suc k = cc in absurd (omega arith)
-      | false ↦ λ f. refl
-    ] e
-none_before p n (x ∷ xs) (suc k) (suc j) d e less within =
-    elim (p x) as (λ b. cond b (Some n) (position_from p (n + 1) xs) ≡ Some (n + suc k)
-    → p (get_or xs j d) ≡ false) [
-      | true ↦ λ f. let g : n ≡ n + suc k = cc in absurd (omega arith)
-      | false ↦ λ f.
-          let g : n + suc k ≡ n + 1 + k = omega arith in
-          none_before p (n + 1) xs k j d (f ∙ ap (λ m. Some m) g) (omega arith) (omega arith)
-    ] e
-
 module _ (line : Line) where
   abbrev ts : List Terminal
   ts = line.terminals.items
@@ -221,8 +203,8 @@ module _ (line : Line) where
       and_from (one.from == from_of cs k) (one.to == to_of cs k)
       (eq-eqb one.from (from_of cs k) (from ∙ sym from_k))
       (eq-eqb one.to (to_of cs k) (to ∙ sym to_k)) in
-      let none = none_before (is_pair (from_of cs k) (to_of cs k)) 0 cs k j no_channel
-      (line.pairs_once.once k below ∙ ap (λ i. Some i) (sym (zero-add k))) less (omega arith) in
+      let none = none_before (is_pair (from_of cs k) (to_of cs k)) 0 k j cs no_channel
+      (line.pairs_once.once k below ∙ ap (λ i. Some i) (sym (zero-add k))) less in
       (let e : true ≡ false = sym passes ∙ none in cc)
 
 -- ---- the names of parameters, owner by owner
@@ -265,21 +247,30 @@ owners_differ : (n m : List ℕ) (s u : Setting) → has_no 46 n ≡ true → ha
 owners_differ n m s u no_n no_m other same =
     other (parts 46 n m (setting_text s) (setting_text u) no_n no_m same).front
 
-own_apart : (n : List ℕ) (xs : List Setting) → has_no 46 n ≡ true → rise xs ≡ true
+other_text : (n : List ℕ) (x y : Setting) → has_no 46 n ≡ true → is_other_text x y ≡ true
+    → dotted n x ≢ dotted n y
+other_text n x y free other same =
+    let e = (bytes_eq-Decides (setting_text x) (setting_text y)).1
+    (parts 46 n n (setting_text x) (setting_text y) free free same).back in
+    (let f : not true ≡ true = ap not (sym e) ∙ other in cc)
+
+all_other : (n : List ℕ) (x : Setting) (xs : List Setting) → has_no 46 n ≡ true
+    → list_all (is_other_text x) xs ≡ true → All (λ y. dotted n x ≢ y) (map (dotted n) xs)
+all_other n x [] free other = All-nil (λ y. dotted n x ≢ y)
+all_other n x (y ∷ xs) free other =
+    let both = and_parts (is_other_text x y) (list_all (is_other_text x) xs) other in
+    All-cons (λ z. dotted n x ≢ z) (dotted n y) (map (dotted n) xs)
+    (other_text n x y free both.0) (all_other n x xs free both.1)
+
+own_apart : (n : List ℕ) (xs : List Setting) → has_no 46 n ≡ true → differ xs ≡ true
     → AreApart (map (dotted n) xs)
-own_apart n [] free up = tt
-own_apart n (x ∷ xs) free up = (
-  All-map (λ y. dotted n x ≢ y) (dotted n) xs
-      (all_more (λ s. rank x < rank s) (λ s. dotted n x ≢ dotted n s) xs
-      (λ s above same. (let e = same_rank x s
-      (parts 46 n n (setting_text x) (setting_text s) free free same).back in
-      let f : rank x < rank s = above in absurd (omega arith)))
-      (all_above (rank x) (rank x) xs (omega arith) up)),
-  own_apart n xs free (rise-tail x xs up),
-)
+own_apart n [] free apart = tt
+own_apart n (x ∷ xs) free apart =
+    let both = and_parts (list_all (is_other_text x) xs) (differ xs) apart in
+    (all_other n x xs free both.0, own_apart n xs free both.1)
 
 module _ {X : Type 0} (name : X → List ℕ) (settings : X → List Setting)
-    (up : (x : X) → rise (settings x) ≡ true) where
+    (differing : (x : X) → differ (settings x) ≡ true) where
   by_owners : (xs : List X) → All (λ x. has_no 46 (name x) ≡ true) xs → AreApartBy name xs
       → AreApart (names_by name settings xs)
   by_owners [] free apart = tt
@@ -287,7 +278,7 @@ module _ {X : Type 0} (name : X → List ℕ) (settings : X → List Setting)
       let here : has_no 46 (name x) ≡ true = All-head (λ y. has_no 46 (name y) ≡ true) x xs free in
       let rest = All-tail (λ y. has_no 46 (name y) ≡ true) x xs free in
       apart_append (map (dotted (name x)) (settings x)) (names_by name settings xs)
-      (own_apart (name x) (settings x) here (up x))
+      (own_apart (name x) (settings x) here (differing x))
       (by_owners xs rest apart.1)
       (All-map (λ a. All (λ b. a ≢ b) (names_by name settings xs)) (dotted (name x)) (settings x)
       (each_setting (λ s. All (λ b. dotted (name x) s ≢ b) (names_by name settings xs)) (settings x)
@@ -303,14 +294,6 @@ bytes_differ a b other = elim (cases_Bool (bytes_eq a b)) [
   | inl same ↦ absurd (other ((bytes_eq-Decides a b).0 same))
   | inr differ ↦ differ
 ]
-
-none_first : {X : Type 0} (p : X → Bool) (i : ℕ) (xs : List X) (d : X)
-    → ((j : ℕ) → j < i → p (get_or xs j d) ≡ false) → list_any p (take i xs) ≡ false
-none_first p zero xs d each = refl
-none_first p (suc i) [] d each = refl
-none_first p (suc i) (x ∷ xs) d each =
-    ap (λ b. b || list_any p (take i xs)) (each zero (omega arith))
-    ∙ none_first p i xs d (λ j less. each (suc j) (omega arith))
 
 -- ---- the names of a line's parameters
 
@@ -347,7 +330,7 @@ module _ (line : Line) where
   terminals_apart : AreApart terminal_part
   terminals_apart =
       by_owners (λ (t : Terminal). t.name) (terminal_settings line.scheme)
-      (λ t. terminal_settings_rise line.scheme t.guard t.weak) line.terminals.items
+      (λ t. terminal_settings_differ line.scheme t.guard t.weak) line.terminals.items
       (terminal_names_plain 46 refl)
       (apart_by_places (λ (t : Terminal). t.name) line.terminals.items (no_terminal line)
       (terminals_differ line))
@@ -355,7 +338,7 @@ module _ (line : Line) where
   channels_apart : AreApart channel_part
   channels_apart =
       by_owners (pair_name line.terminals.items) (λ _. channel_settings line.scheme)
-      (λ _. channel_settings_rise line.scheme) line.channels.items
+      (λ _. channel_settings_differ line.scheme) line.channels.items
       (channel_names_have_no 46 refl refl)
       (apart_by_places (pair_name line.terminals.items) line.channels.items (no_channel line)
       (channels_differ line))
@@ -452,7 +435,7 @@ module _ (line : Line) where
       let d : Param = record { name = []; least = 0; greatest = 0 } in
       let name : List ℕ = name_of_param line i in
       position_from-first (λ p. bytes_eq p.name name) 0 i line.params.items d inside
-      (none_first (λ p. bytes_eq p.name name) i line.params.items d
+      (list_any-take_none (λ p. bytes_eq p.name name) i line.params.items d
       (λ j less. bytes_differ (get_or line.params.items j d).name name
       (λ same. differ_at j i less inside (own_name j d (omega arith) ∙ same))))
       (ap (λ bytes. bytes_eq bytes name) (sym (own_name i d inside))
@@ -466,7 +449,8 @@ module _ (line : Line) where
       position_from-none (λ p. bytes_eq p.name bytes) 0 line.params.items
       (sym (ap (list_any (λ p. bytes_eq p.name bytes)) (take_all (length line.params.items)
       line.params.items (omega arith)))
-      ∙ none_first (λ p. bytes_eq p.name bytes) (length line.params.items) line.params.items d
+      ∙ list_any-take_none (λ p. bytes_eq p.name bytes) (length line.params.items)
+      line.params.items d
       (λ j less. bytes_differ (get_or line.params.items j d).name bytes
       (λ same. (let e : true ≡ false =
       sym (no_at_in j less) ∙ ap (has_no 64) (own_name j d less ∙ same) ∙ at in cc))))

@@ -22,6 +22,9 @@ pub same_owner-refl : (o : Owner) → same_owner o o ≡ true
 same_owner-refl (owner.Terminal k) = eq-eqb k k refl
 same_owner-refl (owner.Channel c) = eq-eqb c c refl
 
+pub length-owned_by : (o : Owner) (ss : List Setting) → length (owned_by o ss) ≡ length ss
+length-owned_by o ss = simp length-map
+
 list_any-owned_by :
     (o : Owner) (x : Setting) (ss : List Setting) → list_any (same_setting x) ss ≡ true →
     list_any (is_owned_setting o x) (owned_by o ss) ≡ true
@@ -35,10 +38,7 @@ list_any-owned_by o x (s ∷ ss) h =
 
 has_delay : (s : Scheme) → list_any (same_setting Delay) (channel_settings s) ≡ true
 has_delay Pott = refl
-has_delay Putt = refl
-has_delay Dcb = refl
-has_delay Dcub = refl
-has_delay Dtt = refl
+has_delay _ = refl
 
 module _
     (s : Scheme) (x : Setting) (has : list_any (same_setting x) (channel_settings s) ≡ true) where

@@ -1,15 +1,19 @@
 -- Each setting that the logic names is a parameter of the line, and each channel exists.
-use Rattle.std.proofs.Common.{◌≡◌, ◌≢◌, ℕ, ◌+◌, ◌*◌, ◌<◌, true, false, List, [], length, take}
+use Rattle.std.proofs.Common.{◌≡◌, ◌≢◌, ℕ, zero, suc, ◌+◌, ◌*◌, ◌<◌, Bool, true, false, List, []}
+use Rattle.std.proofs.Common.{◌∷◌, length, take}
 use Rattle.std.proofs.Common.{get_or, Option, Some, None, refl, sym, ap, ◌∙◌, subst, arith}
 use Rattle.std.proofs.lemmas.List.{get_or-map, get_or_default}
-use Rattle.std.specs.Prelude.{unwrap_or, option_map, is_some}
+use Rattle.std.specs.Prelude.{unwrap_or, is_some}
+use Rattle.std.specs.List.{list_any}
 use Rattle.line_model.specs.declared.line.Line.{Line}
 use Rattle.line_model.specs.{declared.line.Terminal.Terminal, declared.line.Owner.Owner}
 use Rattle.line_model.specs.declared.line.Owner.TheVariants as owner
 use Rattle.line_model.specs.declared.line.Setting.{Setting}
 use Rattle.line_model.specs.Settings.{OwnedSetting, line_settings, settings_of_terminals}
-use Rattle.line_model.specs.Settings.{channel_settings, is_owned_setting}
-use Rattle.line_model.specs.Places.{terminal_place, channel_place}
+use Rattle.line_model.specs.Settings.{channel_settings, terminal_settings, groups_with, all_of}
+use Rattle.line_model.specs.Settings.{is_owned_setting, same_setting, setting_place}
+use Rattle.line_model.specs.FirstPositions.{is_some-position, list_any-append_left}
+use Rattle.line_model.specs.FirstPositions.{list_any-append_right}
 use Rattle.line_model.specs.Parameters.{param_number, terminal_count, channel_count, param_count}
 use Rattle.line_model.specs.Names.{IsChannelTo, HasSettingsOf, IsOwnParam, HasOwnTime}
 use Rattle.line_model.specs.Elements.{is_guarded, is_weak, setting_of}
@@ -36,35 +40,49 @@ own_number line k o x i own number =
     subst (λ (n : ℕ). IsOwnParam line k n) (sym (ap (λ n. unwrap_or n 0) number))
     (record { of = o; setting = x; own = own; number = number })
 
--- a setting with a place among those of its terminal is the terminal's
-pub own_setting : (line : Line) (k p : ℕ) (x : Setting) → k < terminal_count line
-    → terminal_place line.scheme (is_guarded line k) (is_weak line k) x ≡ Some p
+-- what stands in group j stands in all of them
+pub in_group : (p : Setting → Bool) (j : ℕ) (groups : List (List Setting))
+    → list_any p (get_or groups j []) ≡ true → list_any p (all_of groups) ≡ true
+in_group p j [] has = absurd (cc)
+in_group p zero (group ∷ groups) has = list_any-append_left p group (all_of groups) has
+in_group p (suc j) (group ∷ groups) has =
+    list_any-append_right p group (all_of groups) (in_group p j groups has)
+
+-- a setting that stands in a list has a place there
+has_place : (ss : List Setting) (x : Setting) → list_any (same_setting x) ss ≡ true
+    → (p : ℕ) × (setting_place ss x ≡ Some p)
+has_place ss x has = from (setting_place ss x) (is_some-position (same_setting x) 0 ss ∙ has) where
+  from : (o : Option ℕ) → is_some o ≡ true → (p : ℕ) × (o ≡ Some p)
+  from None some = absurd (cc)
+  from (Some p) some = (p, refl)
+
+-- a setting of the terminal's list is the terminal's
+pub own_setting : (line : Line) (k : ℕ) (x : Setting) → k < terminal_count line
+    → list_any (same_setting x)
+    (all_of (groups_with line.scheme (is_guarded line k) (is_weak line k))) ≡ true
     → HasOwnTime line k (setting_of line (owner.Terminal k) x)
-own_setting line k p x lt there =
+own_setting line k x lt has =
     let ts : List Terminal = line.terminals.items in
     let d : Terminal = record { name = []; weak = false; guard = false } in
     let t : Terminal = get_or ts k d in
     let is : t ≡ get_or ts k t = get_or_default ts k d t lt in
     let guard : is_guarded line k ≡ t.guard = get_or-map (λ u. u.guard) ts k d false lt in
     let weak : is_weak line k ≡ t.weak = get_or-map (λ u. u.weak) ts k d false lt in
-    let n : ℕ = length (settings_of_terminals line.scheme 0 (take k ts)) in
-    let place : terminal_place line.scheme t.guard t.weak x ≡ Some p =
-    ap (λ g. terminal_place line.scheme g t.weak x) (sym guard)
-    ∙ ap (λ w. terminal_place line.scheme (is_guarded line k) w x) (sym weak) ∙ there in
-    let number : param_number line (owner.Terminal k) x ≡ Some (n + p) =
-    terminal_number line k x t lt is ∙ ap (λ o. option_map (λ i. n + i) o) place in
-    own_number line k (owner.Terminal k) x (n + p) refl number
+    let place = has_place (terminal_settings line.scheme t) x (rw (← guard, ← weak) has) in
+    own_number line k (owner.Terminal k) x
+    (length (settings_of_terminals line.scheme 0 (take k ts)) + place.0) refl
+    (rw (terminal_number line k x t lt is, place.1))
 
--- a setting with a place among those of its channel is that of the terminal at its end
-pub own_channel_setting : (line : Line) (k c p : ℕ) (x : Setting) → IsChannelTo line k c
-    → channel_place line.scheme x ≡ Some p
+-- a setting of a channel's list is that of the terminal at its end
+pub own_channel_setting : (line : Line) (k c : ℕ) (x : Setting) → IsChannelTo line k c
+    → list_any (same_setting x) (channel_settings line.scheme) ≡ true
     → HasOwnTime line k (setting_of line (owner.Channel c) x)
-own_channel_setting line k c p x own there =
-    let n : ℕ = length (settings_of_terminals line.scheme 0 line.terminals.items)
-    + c * length (channel_settings line.scheme) in
-    let number : param_number line (owner.Channel c) x ≡ Some (n + p) =
-    channel_number_of line c x own.exists ∙ ap (λ o. option_map (λ i. n + i) o) there in
-    own_number line k (owner.Channel c) x (n + p) own number
+own_channel_setting line k c x own has =
+    let place = has_place (channel_settings line.scheme) x has in
+    own_number line k (owner.Channel c) x
+    (length (settings_of_terminals line.scheme 0 line.terminals.items)
+    + c * length (channel_settings line.scheme) + place.0) own
+    (rw (channel_number_of line c x own.exists, place.1))
 
 -- a channel between two terminals exists, and ends at the one that receives
 pub own_channel : (line : Line) (k j : ℕ) → k < terminal_count line → j < terminal_count line

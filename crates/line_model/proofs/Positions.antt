@@ -2,7 +2,6 @@
 use Rattle.std.proofs.Common.{◌≡◌, ◌≢◌, ◌&&◌, ◌||◌, ℕ, zero, suc, ◌+◌, ◌*◌, ◌<◌, false, List, []}
 use Rattle.std.proofs.Common.{◌∷◌, ◌++◌, length, take, get_or, cond, Option, Some, refl, sym, ap}
 use Rattle.std.proofs.Common.{◌∙◌, arith, length-append, ne_eqb}
-use Rattle.std.proofs.lemmas.List.{length-map}
 use Rattle.std.specs.Prelude.{option_map, unwrap_or}
 use Rattle.std.specs.List.{position_from, list_any}
 use Rattle.line_model.specs.declared.line.Line.{Line}
@@ -12,17 +11,12 @@ use Rattle.line_model.specs.declared.line.Owner.TheVariants as owner
 use Rattle.line_model.specs.Settings.{OwnedSetting, owned_by, settings_of_terminals}
 use Rattle.line_model.specs.Settings.{settings_of_channels, terminal_settings, channel_settings}
 use Rattle.line_model.specs.Settings.{line_settings, is_owned_setting, same_owner, same_setting}
-use Rattle.line_model.specs.Settings.{setting_number}
-use Rattle.line_model.specs.Places.{terminal_place, channel_place}
+use Rattle.line_model.specs.Settings.{setting_number, setting_place}
 use Rattle.line_model.specs.FirstPositions.{list_any-append_false, position_from-append_none}
 use Rattle.line_model.specs.FirstPositions.{position_from-none_behind, position_from-later}
 use Rattle.line_model.specs.{declared.line.Setting.Setting, declared.line.Setting.TheVariants.Delay}
 use Rattle.line_model.specs.{Intervals.delay_number_of, Parameters.param_number}
-use Rattle.line_model.proofs.Places.{terminal_place-is, channel_place-is}
-use Rattle.line_model.proofs.Numbers.{same_owner-refl}
-
-length-owned_by : (o : Owner) (ss : List Setting) → length (owned_by o ss) ≡ length ss
-length-owned_by o ss = simp length-map
+use Rattle.line_model.proofs.Numbers.{same_owner-refl, length-owned_by}
 
 module _ (x : Setting) where
   -- among the settings of its own owner
@@ -165,7 +159,7 @@ module _ (s : Scheme) (ts : List Terminal) (cs : List Channel) where
       (k : ℕ) (x : Setting) (t : Terminal) → k < length ts → t ≡ get_or ts k t →
       setting_number (line_settings s ts cs) (owner.Terminal k) x
       ≡ option_map (λ i. length (settings_of_terminals s 0 (take k ts)) + i)
-      (terminal_place s t.guard t.weak x)
+      (setting_place (terminal_settings s t) x)
   unfolding line_settings
   number_in_terminal k x t lt is =
       let e : k ≡ 0 + k = omega arith in
@@ -180,7 +174,6 @@ module _ (s : Scheme) (ts : List Terminal) (cs : List Channel) where
       ∙ ap (λ u. position_from (same_setting x) (0 + n) (terminal_settings s u)) (sym is)
       ∙ ap (λ i. position_from (same_setting x) i (terminal_settings s t)) m
       ∙ position_from-later (same_setting x) n 0 (terminal_settings s t)
-      ∙ ap (λ o. option_map (λ i. n + i) o) (terminal_place-is s t.guard t.weak x)
 
   -- the number of a channel's setting
   number_in_channel :
@@ -188,7 +181,7 @@ module _ (s : Scheme) (ts : List Terminal) (cs : List Channel) where
       setting_number (line_settings s ts cs) (owner.Channel c) x
       ≡ option_map
       (λ i. length (settings_of_terminals s 0 ts) + c * length (channel_settings s) + i)
-      (channel_place s x)
+      (setting_place (channel_settings s) x)
   unfolding line_settings
   number_in_channel c x lt =
       let e : c ≡ 0 + c = omega arith in
@@ -203,7 +196,6 @@ module _ (s : Scheme) (ts : List Terminal) (cs : List Channel) where
       ∙ in_channels x s cs 0 c (0 + n) lt
       ∙ ap (λ i. position_from (same_setting x) i (channel_settings s)) m
       ∙ position_from-later (same_setting x) (n + b) 0 (channel_settings s)
-      ∙ ap (λ o. option_map (λ i. n + b + i) o) (channel_place-is s x)
 
   -- the number of a channel's delay, by what stands before it
   pub delay_number_is :
@@ -223,7 +215,7 @@ pub terminal_number :
     param_number line (owner.Terminal k) x
     ≡ option_map
     (λ i. length (settings_of_terminals line.scheme 0 (take k line.terminals.items)) + i)
-    (terminal_place line.scheme t.guard t.weak x)
+    (setting_place (terminal_settings line.scheme t) x)
 terminal_number line k x t lt is =
     number_in_terminal line.scheme line.terminals.items line.channels.items k x t lt is
 
@@ -233,7 +225,7 @@ pub channel_number_of :
     ≡ option_map
     (λ i. length (settings_of_terminals line.scheme 0 line.terminals.items)
     + c * length (channel_settings line.scheme) + i)
-    (channel_place line.scheme x)
+    (setting_place (channel_settings line.scheme) x)
 channel_number_of line c x lt =
     number_in_channel line.scheme line.terminals.items line.channels.items c x lt
 
@@ -242,7 +234,7 @@ pub terminal_number_made :
     (line : Line) (k : ℕ) (x : Setting) (t : Terminal) (before : ℕ) (place number : Option ℕ) →
     k < length line.terminals.items → t ≡ get_or line.terminals.items k t →
     before ≡ length (settings_of_terminals line.scheme 0 (take k line.terminals.items)) →
-    place ≡ terminal_place line.scheme t.guard t.weak x →
+    place ≡ setting_place (terminal_settings line.scheme t) x →
     number ≡ option_map (λ i. before + i) place →
     number ≡ param_number line (owner.Terminal k) x
 terminal_number_made line k x t before place number lt is e f g =
@@ -259,7 +251,7 @@ pub channel_number_made :
     (line : Line) (c : ℕ) (x : Setting) (before each : ℕ) (place number : Option ℕ) →
     c < length line.channels.items →
     before ≡ length (settings_of_terminals line.scheme 0 line.terminals.items) →
-    each ≡ length (channel_settings line.scheme) → place ≡ channel_place line.scheme x →
+    each ≡ length (channel_settings line.scheme) → place ≡ setting_place (channel_settings line.scheme) x →
     number ≡ option_map (λ i. before + c * each + i) place →
     number ≡ param_number line (owner.Channel c) x
 channel_number_made line c x before each place number lt e f h g =

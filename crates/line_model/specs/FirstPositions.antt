@@ -76,6 +76,17 @@ module _ {K : Type 0} (p : K → Bool) where
             position_from-append_none (n + 1) xs ys f ∙ ap (λ m. position_from p m ys) e
       ] h
 
+  -- one in the first half
+  pub position_from-append_some :
+      (n i : ℕ) (xs ys : List K) → position_from p n xs ≡ Some i →
+      position_from p n (xs ++ ys) ≡ Some i
+  position_from-append_some n i [] ys e = absurd (cc)
+  position_from-append_some n i (x ∷ xs) ys e =
+      elim (p x)
+      as (λ b. cond b (Some n) (position_from p (n + 1) xs) ≡ Some i →
+      cond b (Some n) (position_from p (n + 1) (xs ++ ys)) ≡ Some i)
+      [ true ↦ λ f. f | false ↦ λ f. position_from-append_some (n + 1) i xs ys f ] e
+
   -- none in the second half
   pub position_from-none_behind :
       (n : ℕ) (xs ys : List K) → list_any p ys ≡ false →
@@ -115,3 +126,35 @@ module _ {K : Type 0} (p : K → Bool) where
         | true ↦ λ f. absurd (cc)
         | false ↦ λ f. position_from-first (n + 1) c xs d less f here ∙ ap Some e
       ] none
+
+  -- none before the first that passes
+  pub none_before :
+      (n c j : ℕ) (xs : List K) (d : K) → position_from p n xs ≡ Some (n + c) → j < c →
+      p (get_or xs j d) ≡ false
+  none_before n c j [] d e less = absurd (cc)
+  none_before n zero j (x ∷ xs) d e less = absurd (omega arith)
+  none_before n (suc c) zero (x ∷ xs) d e less =
+      elim (p x)
+      as (λ b. cond b (Some n) (position_from p (n + 1) xs) ≡ Some (n + suc c) → b ≡ false) [
+        | true ↦ λ f. let same : n ≡ n + suc c = cc in absurd (omega arith)
+        | false ↦ λ f. refl
+      ] e
+  none_before n (suc c) (suc j) (x ∷ xs) d e less =
+      elim (p x)
+      as (λ b. cond b (Some n) (position_from p (n + 1) xs) ≡ Some (n + suc c) →
+      p (get_or xs j d) ≡ false) [
+        | true ↦ λ f. let same : n ≡ n + suc c = cc in absurd (omega arith)
+        | false ↦ λ f.
+            let same : n + suc c ≡ n + 1 + c = omega arith in
+            none_before (n + 1) c j xs d (f ∙ ap Some same) (omega arith)
+      ] e
+
+  -- none among those before a place, where none of these passes
+  pub list_any-take_none :
+      (c : ℕ) (xs : List K) (d : K) → ((j : ℕ) → j < c → p (get_or xs j d) ≡ false) →
+      list_any p (take c xs) ≡ false
+  list_any-take_none zero xs d each = refl
+  list_any-take_none (suc c) [] d each = refl
+  list_any-take_none (suc c) (x ∷ xs) d each =
+      ap (λ b. b || list_any p (take c xs)) (each zero (omega arith))
+      ∙ list_any-take_none c xs d (λ j less. each (suc j) (omega arith))

@@ -21,7 +21,7 @@ use Rattle.line_model.specs.Histories.{must_history, with_derived_trips}
 use Rattle.line_model.specs.{declared.line.Setting.Setting, declared.script.Kind.Kind}
 use Rattle.line_model.specs.{declared.script.Script.Script, Settings.settings_of_terminals}
 use Rattle.line_model.specs.{Settings.terminal_settings, Settings.channel_settings}
-use Rattle.line_model.specs.{Settings.line_settings, Places.terminal_place, Places.channel_place}
+use Rattle.line_model.specs.{Settings.line_settings, Settings.setting_place}
 use Rattle.line_model.specs.{Intervals.leasts, Intervals.delay_number_of, Fits.Fits, Names.Names}
 use Rattle.line_model.specs.{Names.IsLocal, Tree.Tree, Mean.Signals, Mean.mean, Keys.AgreeBefore}
 use Rattle.line_model.specs.{Logic.key_tree, Logic.trip_tree, Rule.Held, Rule.Broken, Rule.Unknown}
@@ -42,11 +42,11 @@ pub record ParametersAreNumbered : Type 0 where
       → t ≡ get_or line.terminals.items k t
       → param_number line (owner.Terminal k) x ≡ option_map
       (λ i. length (settings_of_terminals line.scheme 0 (take k line.terminals.items)) + i)
-      (terminal_place line.scheme t.guard t.weak x)
+      (setting_place (terminal_settings line.scheme t) x)
   pub of_channel : (line : Line) (c : ℕ) (x : Setting) → c < channel_count line
       → param_number line (owner.Channel c) x ≡ option_map
       (λ i. length (settings_of_terminals line.scheme 0 line.terminals.items)
-      + c * length (channel_settings line.scheme) + i) (channel_place line.scheme x)
+      + c * length (channel_settings line.scheme) + i) (setting_place (channel_settings line.scheme) x)
 
 -- how many settings terminals and channels have, and the number of a channel's delay
 pub record SettingsAreCounted : Type 0 where

@@ -1,10 +1,9 @@
-pub mod NameBytes
+pub mod ShortTexts
 pub mod NameOfBytes
 pub mod PlainNames
 pub mod Terminals
 pub mod Channels
 pub mod Settings
-pub mod Places
 pub mod ParamNames
 pub mod NamesByNumber
 pub mod NumbersByName

@@ -1,43 +1,22 @@
 -- The names of a line's parameters: the owner, a dot and the setting.
-use Rattle.std.specs.Prelude.{[], ◌++◌, ℕ, List, ◌∷◌, Option, Some, None, codes, map, get_or}
+use Rattle.std.specs.Prelude.{[], ◌++◌, ℕ, List, ◌∷◌, Option, Some, None, map, get_or}
 use Rattle.std.specs.Prelude.{slice_get}
 use Rattle.std.specs.List.{flat_map}
 use Rattle.line_model.specs.{declared.line.Scheme.Scheme, declared.line.Terminal.Terminal}
 use Rattle.line_model.specs.{declared.line.Channel.Channel, declared.line.Owner.Owner}
 use Rattle.line_model.specs.declared.line.Owner.TheVariants as owner
 use Rattle.line_model.specs.declared.line.Setting.{Setting}
-use Rattle.line_model.specs.declared.line.Setting.TheVariants.{Z1Pickup, Z1Dropout, Z2Pickup}
-use Rattle.line_model.specs.declared.line.Setting.TheVariants.{Z2Dropout, RvPickup, RvDropout}
-use Rattle.line_model.specs.declared.line.Setting.TheVariants.{UvPickup, UvDropout, ReversalPickup}
-use Rattle.line_model.specs.declared.line.Setting.TheVariants.{ReversalDropout, EchoBlock}
-use Rattle.line_model.specs.declared.line.Setting.TheVariants.{EchoPickup, EchoPulse, BlockCarry}
-use Rattle.line_model.specs.declared.line.Setting.TheVariants.{BlockCoord, TransferSecurity, Delay}
-use Rattle.line_model.specs.declared.line.Setting.TheVariants.{UnblockPickup, UnblockWindow}
-use Rattle.line_model.specs.declared.line.Setting.TheVariants.{UnblockRestore}
 use Rattle.line_model.specs.Settings.{OwnedSetting, terminal_settings, channel_settings}
+use Rattle.line_model.specs.Settings.{table_key, time_key}
 
--- a setting as it is written
+-- A key of the table at a path: both, with a dot between them. The path of a file is empty.
+abbrev pub key_path : List ℕ → List ℕ → List ℕ
+key_path [] key = key
+key_path (b ∷ path) key = (b ∷ path) ++ (46 ∷ key)
+
+-- a setting as it is written: its key in its table
 abbrev pub setting_text : Setting → List ℕ
-setting_text Z1Pickup = codes "z1.pickup"
-setting_text Z1Dropout = codes "z1.dropout"
-setting_text Z2Pickup = codes "z2.pickup"
-setting_text Z2Dropout = codes "z2.dropout"
-setting_text RvPickup = codes "rv.pickup"
-setting_text RvDropout = codes "rv.dropout"
-setting_text UvPickup = codes "uv.pickup"
-setting_text UvDropout = codes "uv.dropout"
-setting_text ReversalPickup = codes "reversal.pickup"
-setting_text ReversalDropout = codes "reversal.dropout"
-setting_text EchoBlock = codes "echo.block"
-setting_text EchoPickup = codes "echo.pickup"
-setting_text EchoPulse = codes "echo.pulse"
-setting_text BlockCarry = codes "block.carry"
-setting_text BlockCoord = codes "block.coord"
-setting_text TransferSecurity = codes "transfer.security"
-setting_text Delay = codes "delay"
-setting_text UnblockPickup = codes "unblock.pickup"
-setting_text UnblockWindow = codes "unblock.window"
-setting_text UnblockRestore = codes "unblock.restore"
+setting_text s = key_path (table_key s) (time_key s)
 
 -- the name of terminal k
 abbrev pub name_at : List Terminal → ℕ → List ℕ

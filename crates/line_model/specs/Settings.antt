@@ -1,6 +1,7 @@
--- The settings of terminals and channels, and the list of a line's parameters.
+-- The settings of terminals and channels, their keys, and the list of a line's parameters.
 use Rattle.std.specs.Prelude.{◌&&◌, ◌+◌, ◌++◌, ℕ, Bool, true, false, List, [], ◌∷◌, Option, map}
-use Rattle.std.specs.List.{position_from}
+use Rattle.std.specs.Prelude.{codes}
+use Rattle.std.specs.List.{flat_map, position_from}
 use Rattle.line_model.specs.declared.line.Scheme.TheVariants.{Pott, Putt, Dcb, Dcub, Dtt}
 use Rattle.line_model.specs.{declared.line.Scheme.Scheme, declared.line.Terminal.Terminal}
 use Rattle.line_model.specs.{declared.line.Channel.Channel, declared.line.Owner.Owner}
@@ -17,10 +18,48 @@ use Rattle.line_model.specs.declared.line.Setting.TheVariants.{UnblockRestore}
 use Rattle.line_model.specs.contracts.line.SettingPartialEq.TheImpl.{eq-value as setting_eq}
 use Rattle.line_model.specs.contracts.line.OwnerPartialEq.TheImpl.{eq-value as owner_eq}
 
--- what each terminal has
-abbrev pub base_settings : List Setting
-base_settings =
-    Z1Pickup ∷ Z1Dropout ∷ Z2Pickup ∷ Z2Dropout ∷ RvPickup ∷ RvDropout ∷ UvPickup ∷ UvDropout ∷ []
+-- the key of the table in which a line file has a setting, none for a channel's delay, and the key
+-- of the setting there
+abbrev pub setting_keys : Setting → List ℕ × List ℕ
+setting_keys Z1Pickup = (codes "z1", codes "pickup")
+setting_keys Z1Dropout = (codes "z1", codes "dropout")
+setting_keys Z2Pickup = (codes "z2", codes "pickup")
+setting_keys Z2Dropout = (codes "z2", codes "dropout")
+setting_keys RvPickup = (codes "rv", codes "pickup")
+setting_keys RvDropout = (codes "rv", codes "dropout")
+setting_keys UvPickup = (codes "uv", codes "pickup")
+setting_keys UvDropout = (codes "uv", codes "dropout")
+setting_keys ReversalPickup = (codes "reversal", codes "pickup")
+setting_keys ReversalDropout = (codes "reversal", codes "dropout")
+setting_keys EchoBlock = (codes "echo", codes "block")
+setting_keys EchoPickup = (codes "echo", codes "pickup")
+setting_keys EchoPulse = (codes "echo", codes "pulse")
+setting_keys BlockCarry = (codes "block", codes "carry")
+setting_keys BlockCoord = (codes "block", codes "coord")
+setting_keys TransferSecurity = (codes "transfer", codes "security")
+setting_keys Delay = ([], codes "delay")
+setting_keys UnblockPickup = (codes "unblock", codes "pickup")
+setting_keys UnblockWindow = (codes "unblock", codes "window")
+setting_keys UnblockRestore = (codes "unblock", codes "restore")
+
+abbrev pub table_key : Setting → List ℕ
+table_key s = (setting_keys s).0
+
+abbrev pub time_key : Setting → List ℕ
+time_key s = (setting_keys s).1
+
+-- the pickup and dropout of each element
+abbrev pub zone1_settings : List Setting
+zone1_settings = Z1Pickup ∷ Z1Dropout ∷ []
+
+abbrev pub zone2_settings : List Setting
+zone2_settings = Z2Pickup ∷ Z2Dropout ∷ []
+
+abbrev pub reverse_settings : List Setting
+reverse_settings = RvPickup ∷ RvDropout ∷ []
+
+abbrev pub undervoltage_settings : List Setting
+undervoltage_settings = UvPickup ∷ UvDropout ∷ []
 
 -- what a guarded terminal has besides
 abbrev pub guard_settings : Bool → List Setting
@@ -40,18 +79,37 @@ scheme_settings Pott = []
 scheme_settings Putt = []
 scheme_settings Dcub = []
 
--- the settings of a terminal, in order
-abbrev pub terminal_settings : Scheme → Terminal → List Setting
-terminal_settings s t =
-    base_settings ++ (guard_settings t.guard ++ (weak_settings t.weak ++ scheme_settings s))
+-- what a channel has besides its delay in an unblocking scheme
+abbrev pub receiver_settings : Scheme → List Setting
+receiver_settings Dcub = UnblockPickup ∷ UnblockWindow ∷ UnblockRestore ∷ []
+receiver_settings Pott = []
+receiver_settings Putt = []
+receiver_settings Dcb = []
+receiver_settings Dtt = []
 
--- the settings of a channel, in order
+-- the settings of a terminal, guarded (g) and weak (w) or not, group by group: one for each table
+abbrev pub groups_with : Scheme → Bool → Bool → List (List Setting)
+groups_with s g w =
+    zone1_settings ∷ zone2_settings ∷ reverse_settings ∷ undervoltage_settings ∷ guard_settings g
+    ∷ weak_settings w ∷ scheme_settings s ∷ []
+
+abbrev pub terminal_groups : Scheme → Terminal → List (List Setting)
+terminal_groups s t = groups_with s t.guard t.weak
+
+-- those of a channel, the delay alone in a group
+abbrev pub channel_groups : Scheme → List (List Setting)
+channel_groups s = (Delay ∷ []) ∷ receiver_settings s ∷ []
+
+-- the settings of groups, in order
+abbrev pub all_of : List (List Setting) → List Setting
+all_of groups = flat_map (λ group. group) groups
+
+-- the settings of a terminal, and of a channel, in order
+abbrev pub terminal_settings : Scheme → Terminal → List Setting
+terminal_settings s t = all_of (terminal_groups s t)
+
 abbrev pub channel_settings : Scheme → List Setting
-channel_settings Dcub = Delay ∷ UnblockPickup ∷ UnblockWindow ∷ UnblockRestore ∷ []
-channel_settings Pott = Delay ∷ []
-channel_settings Putt = Delay ∷ []
-channel_settings Dcb = Delay ∷ []
-channel_settings Dtt = Delay ∷ []
+channel_settings s = all_of (channel_groups s)
 
 -- a parameter: whose it is, and which setting
 pub record OwnedSetting : Type 0 where
@@ -87,6 +145,10 @@ same_owner a b = owner_eq.it a b
 
 abbrev pub is_owned_setting : Owner → Setting → OwnedSetting → Bool
 is_owned_setting o x k = same_owner o k.owner && same_setting x k.setting
+
+-- the place of a setting in a list
+abbrev pub setting_place : List Setting → Setting → Option ℕ
+setting_place ss x = position_from (same_setting x) 0 ss
 
 -- the number of a parameter: its place in the list
 abbrev pub setting_number : List OwnedSetting → Owner → Setting → Option ℕ

@@ -9,7 +9,8 @@ ghost use Rattle.line_model.specs.SetBounds.{IsDelayAt};
 
 use crate::channels::find_channel;
 use crate::line::{Line, Owner, Param, Setting};
-use crate::setting_places::{count_before, count_of_channel, place_in_channel, place_in_terminal};
+use crate::setting_places::{count_before, count_of_channel, place_in};
+use crate::settings::{groups_of_channel, groups_of_terminal};
 
 impl Line {
     /// The number of a parameter, where the line has it.
@@ -20,13 +21,13 @@ impl Line {
         match owner {
             Owner::Terminal(k) => {
                 let before = count_before(self.scheme, &self.terminals[..k as usize]);
-                let place = place_in_terminal(self.scheme, &self.terminals[k as usize], setting);
-                after(before, place)
+                let groups = groups_of_terminal(self.scheme, &self.terminals[k as usize]);
+                after(before, place_in(&groups, setting))
             }
             Owner::Channel(c) => {
                 let before = count_before(self.scheme, &self.terminals);
-                let place = place_in_channel(self.scheme, setting);
-                after(before + c * count_of_channel(self.scheme), place)
+                let before = before + c as usize * count_of_channel(self.scheme);
+                after(before, place_in(&groups_of_channel(self.scheme), setting))
             }
         }
     }
@@ -78,10 +79,10 @@ impl Line {
     }
 }
 
-fn after(before: u32, place: Option<u32>) -> Option<u32>
+fn after(before: usize, place: Option<usize>) -> Option<u32>
     requires few { before ≤ 100 }
     requires small { IfSome place (λ i. i ≤ 20) }
     ensures { result ≡ option_map (λ i. before + i) place }
 {
-    place.map(|i| before + i)
+    place.map(|i| (before + i) as u32)
 }

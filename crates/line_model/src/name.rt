@@ -19,12 +19,11 @@ impl Model for Name {
 
     ghost Value = { List ℕ };
 
-    ghost use Rattle.line_model.specs.NameBytes.{IsPadded};
-    ghost use Rattle.line_model.specs.NameOfBytes.{from_list, from_list-take};
+    ghost use Rattle.line_model.specs.NameOfBytes.{IsName, from_list, from_list-take};
 
     ghost view = { λ n. take n.len n.bytes };
 
-    ghost invariant = { λ n. IsPadded n.len n.bytes };
+    ghost invariant = { IsName };
 
     ghost inverse = { from_list };
 

@@ -2,14 +2,15 @@
 
 ghost use Rattle.std.specs.Prelude.{◌≡◌, ◌≤◌, ◌<◌, ◌++◌, ◌+◌, take, length, map, IsTrue, OnOk};
 ghost use Rattle.std.specs.Prelude.{IfOk};
-ghost use Rattle.line_model.specs.Settings.{line_settings, terminal_settings};
+ghost use Rattle.std.specs.List.{flat_map};
+ghost use Rattle.line_model.specs.Settings.{line_settings};
 ghost use Rattle.line_model.specs.ParamNames.{dotted, pair_name, param_name, terminal_names};
 ghost use Rattle.line_model.specs.ParamNames.{channel_names};
 ghost use Rattle.line_model.specs.{Terminals.are_plain_names, Channels.AreChannels};
 
 use crate::line::{Channel, Scheme, Setting, Terminal};
 use crate::name::Name;
-use crate::settings::{settings_of_channel, settings_of_terminal};
+use crate::settings::{groups_of_channel, groups_of_terminal};
 use memory::Memory;
 use std::alloc::Global;
 
@@ -27,13 +28,12 @@ pub fn param_names(
         (line_settings scheme terminals.now channels.now)) }
 {
     let mut names = Vec::new(alloc);
-    push_terminals(alloc, &mut names, scheme, terminals)?;
-    push_channels(alloc, &mut names, scheme, terminals, channels)?;
+    push_terminals(&mut names, scheme, terminals)?;
+    push_channels(&mut names, scheme, terminals, channels)?;
     Ok(names)
 }
 
 fn push_terminals(
-    alloc: Global,
     names: &mut Vec<Name>,
     scheme: Scheme,
     terminals: &[Terminal],
@@ -43,28 +43,13 @@ fn push_terminals(
         ≡ names.old.items ++ terminal_names scheme terminals.now) }
 {
     for terminal in terminals {
-        push_terminal(alloc, names, scheme, terminal)?;
+        let groups = groups_of_terminal(scheme, terminal);
+        push_groups(names, terminal.name.bytes(), &groups)?;
     }
     Ok(())
 }
 
-fn push_terminal(
-    alloc: Global,
-    names: &mut Vec<Name>,
-    scheme: Scheme,
-    terminal: &Terminal,
-) -> Result<(), Memory>
-    requires { length terminal.now.name ≤ 16 }
-    ensures { OnOk result (names.new.items
-        ≡ names.old.items
-        ++ map (dotted terminal.now.name) (terminal_settings scheme terminal.now)) }
-{
-    let settings = settings_of_terminal(alloc, scheme, terminal)?;
-    push_names(names, terminal.name.bytes(), &settings)
-}
-
 fn push_channels(
-    alloc: Global,
     names: &mut Vec<Name>,
     scheme: Scheme,
     terminals: &[Terminal],
@@ -75,15 +60,27 @@ fn push_channels(
     ensures { OnOk result (names.new.items
         ≡ names.old.items ++ channel_names scheme terminals.now channels.now) }
 {
-    let settings = settings_of_channel(alloc, scheme)?;
     for channel in channels {
         let owner = channel_name(terminals, *channel);
-        push_names(names, owner.bytes(), &settings)?;
+        push_groups(names, owner.bytes(), &groups_of_channel(scheme))?;
     }
     Ok(())
 }
 
 // A name for each setting of an owner.
+fn push_groups(names: &mut Vec<Name>, owner: &[u8], groups: &[&[Setting]]) -> Result<(), Memory>
+    requires { length owner.now ≤ 33 }
+    ensures { OnOk result (names.new.items
+        ≡ names.old.items
+        ++ map (dotted owner.now) (flat_map (λ group. group.now) groups.now)) }
+{
+    for group in groups {
+        push_names(names, owner, group)?;
+    }
+    Ok(())
+}
+
+// The same for the settings of one group.
 fn push_names(names: &mut Vec<Name>, owner: &[u8], settings: &[Setting]) -> Result<(), Memory>
     requires { length owner.now ≤ 33 }
     ensures { OnOk result (names.new.items
@@ -100,7 +97,12 @@ fn name_of(owner: &[u8], setting: Setting) -> Name
     requires { length owner.now ≤ 33 }
     ensures { result ≡ dotted owner.now setting }
 {
-    joined(owner, b".", setting.text())
+    let (table, key) = (setting.table().as_bytes(), setting.key().as_bytes());
+    if table.is_empty() {
+        return joined(owner, b".", key);
+    }
+    let outer = joined(owner, b".", table);
+    joined(outer.bytes(), b".", key)
 }
 
 /// The name of a channel, as `A>B`.

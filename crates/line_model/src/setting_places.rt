@@ -1,12 +1,13 @@
 //! How many settings a terminal and a channel have, and the place of each.
 
 ghost use Rattle.std.specs.Prelude.{◌≡◌, ◌≤◌, ◌<◌, length, IfSome};
-ghost use Rattle.line_model.specs.Settings.{terminal_settings, channel_settings, guard_settings};
-ghost use Rattle.line_model.specs.Settings.{weak_settings, settings_of_terminals, line_settings};
+ghost use Rattle.std.specs.List.{flat_map};
+ghost use Rattle.line_model.specs.Settings.{terminal_settings, channel_settings};
+ghost use Rattle.line_model.specs.Settings.{setting_place, settings_of_terminals, line_settings};
 ghost use Rattle.line_model.specs.Intervals.{delay_number_of};
-ghost use Rattle.line_model.specs.Places.{terminal_place, channel_place, place_where};
 
 use crate::line::{Channel, Scheme, Setting, Terminal};
+use crate::settings::{groups_of_channel, groups_of_terminal};
 
 /// How many parameters a line of these has.
 pub fn param_count(scheme: Scheme, terminals: &[Terminal], channels: &[Channel]) -> usize
@@ -14,8 +15,7 @@ pub fn param_count(scheme: Scheme, terminals: &[Terminal], channels: &[Channel])
     requires channels { length channels.now ≤ 6 }
     ensures { result ≡ length (line_settings scheme terminals.now channels.now) }
 {
-    let before = count_before(scheme, terminals) as usize;
-    before + channels.len() * count_of_channel(scheme) as usize
+    count_before(scheme, terminals) + channels.len() * count_of_channel(scheme)
 }
 
 /// The number of a channel's delay among the parameters of a line of these.
@@ -31,38 +31,27 @@ pub fn delay_index(
     ensures number { result ≡ delay_number_of scheme terminals.now channels.now channel }
     ensures within { result < length (line_settings scheme terminals.now channels.now) }
 {
-    let before = count_before(scheme, terminals) as usize;
-    before + channel * count_of_channel(scheme) as usize
+    count_before(scheme, terminals) + channel * count_of_channel(scheme)
 }
 
 // How many parameters a terminal has.
-pub fn count_of_terminal(scheme: Scheme, terminal: &Terminal) -> u32
+fn count_of_terminal(scheme: Scheme, terminal: &Terminal) -> usize
     ensures count { result ≡ length (terminal_settings scheme terminal.now) }
     ensures bound { result ≤ 15 }
 {
-    let guard = if terminal.guard { 2 } else { 0 };
-    let weak = if terminal.weak { 3 } else { 0 };
-    let own = match scheme {
-        Scheme::Dcb => 2,
-        Scheme::Dtt => 1,
-        Scheme::Pott | Scheme::Putt | Scheme::Dcub => 0,
-    };
-    8 + guard + weak + own
+    count_of(&groups_of_terminal(scheme, terminal))
 }
 
 // How many parameters a channel has.
-pub fn count_of_channel(scheme: Scheme) -> u32
+pub fn count_of_channel(scheme: Scheme) -> usize
     ensures count { result ≡ length (channel_settings scheme) }
     ensures bound { result ≤ 4 }
 {
-    match scheme {
-        Scheme::Dcub => 4,
-        Scheme::Pott | Scheme::Putt | Scheme::Dcb | Scheme::Dtt => 1,
-    }
+    count_of(&groups_of_channel(scheme))
 }
 
 // How many parameters these terminals have.
-pub fn count_before(scheme: Scheme, terminals: &[Terminal]) -> u32
+pub fn count_before(scheme: Scheme, terminals: &[Terminal]) -> usize
     requires { length terminals.now ≤ 3 }
     ensures count { result ≡ length (settings_of_terminals scheme 0 terminals.now) }
     ensures bound { result ≤ 45 }
@@ -74,74 +63,36 @@ pub fn count_before(scheme: Scheme, terminals: &[Terminal]) -> u32
     count
 }
 
-// The place of a setting among a terminal's.
-pub fn place_in_terminal(scheme: Scheme, terminal: &Terminal, setting: Setting) -> Option<u32>
-    ensures place { result ≡ terminal_place scheme terminal.now.guard terminal.now.weak setting }
+// How many settings groups have.
+fn count_of(groups: &[&[Setting]]) -> usize
+    requires { length (flat_map (λ group. group.now) groups.now) ≤ 20 }
+    ensures { result ≡ length (flat_map (λ group. group.now) groups.now) }
+{
+    let mut count = 0;
+    for group in groups {
+        count += group.len();
+    }
+    count
+}
+
+// The place of a setting in groups.
+pub fn place_in(groups: &[&[Setting]], setting: Setting) -> Option<usize>
+    requires { length (flat_map (λ group. group.now) groups.now) ≤ 20 }
+    ensures place { result ≡ setting_place (flat_map (λ group. group.now) groups.now) setting }
     ensures bound { IfSome result (λ i. i ≤ 20) }
 {
-    match setting {
-        Setting::Z1Pickup => Some(0),
-        Setting::Z1Dropout => Some(1),
-        Setting::Z2Pickup => Some(2),
-        Setting::Z2Dropout => Some(3),
-        Setting::RvPickup => Some(4),
-        Setting::RvDropout => Some(5),
-        Setting::UvPickup => Some(6),
-        Setting::UvDropout => Some(7),
-        Setting::ReversalPickup => place_if(terminal.guard, 8),
-        Setting::ReversalDropout => place_if(terminal.guard, 9),
-        Setting::EchoBlock => place_if(terminal.weak, 8 + guard_count(terminal.guard)),
-        Setting::EchoPickup => place_if(terminal.weak, 9 + guard_count(terminal.guard)),
-        Setting::EchoPulse => place_if(terminal.weak, 10 + guard_count(terminal.guard)),
-        Setting::BlockCarry => place_if(
-            scheme == Scheme::Dcb,
-            8 + guard_count(terminal.guard) + weak_count(terminal.weak),
-        ),
-        Setting::BlockCoord => place_if(
-            scheme == Scheme::Dcb,
-            9 + guard_count(terminal.guard) + weak_count(terminal.weak),
-        ),
-        Setting::TransferSecurity => place_if(
-            scheme == Scheme::Dtt,
-            8 + guard_count(terminal.guard) + weak_count(terminal.weak),
-        ),
-        Setting::Delay
-        | Setting::UnblockPickup
-        | Setting::UnblockWindow
-        | Setting::UnblockRestore => None,
+    let mut before = 0;
+    for group in groups {
+        match place(group, setting) {
+            Some(i) => return Some(before + i),
+            None => before += group.len(),
+        }
     }
+    None
 }
 
-fn place_if(stands: bool, place: u32) -> Option<u32>
-    ensures { result ≡ place_where stands place }
+fn place(group: &[Setting], setting: Setting) -> Option<usize>
+    ensures { result ≡ setting_place group.now setting }
 {
-    if stands { Some(place) } else { None }
-}
-
-fn guard_count(guard: bool) -> u32
-    ensures count { result ≡ length (guard_settings guard) }
-    ensures bound { result ≤ 2 }
-{
-    if guard { 2 } else { 0 }
-}
-
-fn weak_count(weak: bool) -> u32
-    ensures count { result ≡ length (weak_settings weak) }
-    ensures bound { result ≤ 3 }
-{
-    if weak { 3 } else { 0 }
-}
-
-// The place of a setting among a channel's.
-pub fn place_in_channel(scheme: Scheme, setting: Setting) -> Option<u32>
-    ensures place { result ≡ channel_place scheme setting }
-    ensures bound { IfSome result (λ i. i ≤ 3) }
-{
-    match setting {
-        Setting::Delay => Some(0),
-        Setting::UnblockPickup => place_if(scheme == Scheme::Dcub, 1),
-        Setting::UnblockWindow => place_if(scheme == Scheme::Dcub, 2),
-        Setting::UnblockRestore => place_if(scheme == Scheme::Dcub, 3),
-        _ => None,
-    }
+    group.iter().position(|own| *own == setting)
 }

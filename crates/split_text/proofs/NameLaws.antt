@@ -71,25 +71,7 @@ terminals_stand line = names_stand line.terminals.items line.plain_names
 
 setting_stands : (s : Setting) → IsLineUpTo 17 (setting_text s)
 setting_stands setting.Z1Pickup = record { whole = refl; short = omega arith }
-setting_stands setting.Z1Dropout = record { whole = refl; short = omega arith }
-setting_stands setting.Z2Pickup = record { whole = refl; short = omega arith }
-setting_stands setting.Z2Dropout = record { whole = refl; short = omega arith }
-setting_stands setting.RvPickup = record { whole = refl; short = omega arith }
-setting_stands setting.RvDropout = record { whole = refl; short = omega arith }
-setting_stands setting.UvPickup = record { whole = refl; short = omega arith }
-setting_stands setting.UvDropout = record { whole = refl; short = omega arith }
-setting_stands setting.ReversalPickup = record { whole = refl; short = omega arith }
-setting_stands setting.ReversalDropout = record { whole = refl; short = omega arith }
-setting_stands setting.EchoBlock = record { whole = refl; short = omega arith }
-setting_stands setting.EchoPickup = record { whole = refl; short = omega arith }
-setting_stands setting.EchoPulse = record { whole = refl; short = omega arith }
-setting_stands setting.BlockCarry = record { whole = refl; short = omega arith }
-setting_stands setting.BlockCoord = record { whole = refl; short = omega arith }
-setting_stands setting.TransferSecurity = record { whole = refl; short = omega arith }
-setting_stands setting.Delay = record { whole = refl; short = omega arith }
-setting_stands setting.UnblockPickup = record { whole = refl; short = omega arith }
-setting_stands setting.UnblockWindow = record { whole = refl; short = omega arith }
-setting_stands setting.UnblockRestore = record { whole = refl; short = omega arith }
+setting_stands _ = record { whole = refl; short = omega arith }
 
 name_at_stands : (ts : List Terminal) (k : ℕ) → ArePlain ts → IsLineUpTo 16 (name_at ts k)
 name_at_stands [] k all = record { whole = refl; short = omega arith }
