@@ -1,7 +1,7 @@
 -- A printed channel is read back.
 use Rattle.std.proofs.Common.{◌≡◌, ◌≢◌, ◌+◌, ◌*◌, ◌<◌, ◌≤◌, ◌||◌, ◌==◌, ◌++◌, ℕ, zero, suc, Bool}
 use Rattle.std.proofs.Common.{true, false, List, [], ◌∷◌, length, take, drop, get_or, Some, Ok}
-use Rattle.std.proofs.Common.{cond, refl, sym, ap, ◌∙◌, arith, codes}
+use Rattle.std.proofs.Common.{refl, sym, ap, subst, ◌∙◌, arith, codes, length-append}
 use Rattle.std.proofs.Math.ListN.{get_or-map}
 use Rattle.std.proofs.Math.Nat.{mul-le-mul_right}
 use Rattle.std.proofs.lemmas.Bool.{ne_eqb}
@@ -10,29 +10,30 @@ use Rattle.std.proofs.lemmas.Slice.Eq.{bytes_eq-Decides}
 use Rattle.std.specs.Str.{bytes_eq}
 use Rattle.std.specs.List.{list_any, position_from}
 use Rattle.toml.specs.{Data.string, Data.table, Data.Members, Data.get_member, View.items_of}
-use Rattle.line_model.specs.declared.line.Scheme.TheVariants.{Pott, Putt, Dcb, Dcub, Dtt}
+use Rattle.line_model.specs.declared.line.Scheme.TheVariants.{Dcub}
 use Rattle.line_model.specs.declared.line.Scheme.{Scheme}
 use Rattle.line_model.specs.{declared.line.Line.Line, declared.line.Terminal.Terminal}
 use Rattle.line_model.specs.{declared.line.Channel.Channel, declared.line.Owner.Owner}
 use Rattle.line_model.specs.declared.line.Owner.TheVariants as owner
-use Rattle.line_model.specs.declared.line.Setting.TheVariants.{Delay, UnblockPickup, UnblockWindow}
-use Rattle.line_model.specs.declared.line.Setting.TheVariants.{UnblockRestore}
-use Rattle.line_model.specs.Settings.{channel_settings, settings_of_terminals}
-use Rattle.line_model.specs.FirstPositions.{is_some-position, position_from-first}
-use Rattle.line_model.specs.{declared.line.Setting.Setting, Channels.is_pair, Channels.from_of}
-use Rattle.line_model.specs.{Channels.to_of, ParamNames.name_at, Places.channel_place}
+use Rattle.line_model.specs.declared.line.Setting.TheVariants.{Delay}
+use Rattle.line_model.specs.Settings.{time_key, receiver_settings, channel_settings}
+use Rattle.line_model.specs.Settings.{settings_of_terminals}
+use Rattle.line_model.specs.FirstPositions.{is_some-position, position_from-first, none_before}
+use Rattle.line_model.specs.FirstPositions.{list_any-take_none}
+use Rattle.line_model.specs.{Channels.is_pair, Channels.from_of, Channels.to_of}
+use Rattle.line_model.specs.ParamNames.{name_at, key_path}
 use Rattle.line_model.specs.{Intervals.leasts, Intervals.delay_number_of, Laws.LineLaws}
 use Rattle.line_file.specs.LineFiles.{two_pairs, three_pairs, pairs_of, all_joined, whole}
 use Rattle.line_file.specs.ChannelTables.{channel_keys, terminal_called, from_at, to_at, ends_at}
-use Rattle.line_file.specs.ChannelTables.{receiver_times, channel_at, channels_at}
-use Rattle.line_file.specs.Canonical.{put_all, table_of, time_data, times_data, unblock_settings}
-use Rattle.line_file.specs.Canonical.{interval_of, setting_interval, receiver_pairs}
+use Rattle.line_file.specs.ChannelTables.{channel_at, channels_at}
+use Rattle.line_file.specs.Canonical.{table_of, time_data, setting_interval, setting_pair}
+use Rattle.line_file.specs.Canonical.{put_times}
 use Rattle.line_file.specs.Canonical.{channel_members, channels_data}
-use Rattle.line_file.specs.{Paths.item_path, Times.time_at, Times.required_times}
+use Rattle.line_file.specs.{Paths.item_path, Times.time_at, Times.group_key}
 use Rattle.line_file.specs.{Keys.all_known, Keys.text_at, Lines.LineValues, Lines.line_values}
-use Rattle.line_file.proofs.TimesBack.{time_back, unblock_back}
+use Rattle.line_file.proofs.TimesBack.{time_back, value, required_back, receiver_whole}
 use Rattle.line_file.proofs.ParamPlaces.{intervals, length-intervals, take_next, times_at_place}
-use Rattle.line_file.proofs.ParamPlaces.{interval_at}
+use Rattle.line_file.proofs.ParamPlaces.{ArePlaced, placed_parts, in_place, placed_from}
 use Rattle.line_file.proofs.TerminalBack.{read_terminals, new_name}
 use Rattle.line_file.proofs.{Binds.ok_of, TerminalCounts.name_at-is, TimeLaws.IsTime}
 
@@ -57,45 +58,35 @@ read_channels line c =
     }
 
 -- what the printed table of a channel holds under each key
-module _ (unit : ℕ) (line : Line) (o : Owner) (from to : List ℕ) where
+module _ (unit : ℕ) (line : Line) (some : 0 < unit) (o : Owner) (from to : List ℕ) where
   abbrev pub members : Scheme → Members
   members s =
-      put_all (receiver_pairs unit line o s)
+      put_times unit line o (receiver_settings s)
       (table_of
-      ((codes "from", string from) ∷ (codes "to", string to)
-      ∷ (codes "delay", time_data unit (setting_interval line o Delay)) ∷ []))
+      ((codes "from", string from) ∷ (codes "to", string to) ∷ setting_pair unit line o Delay ∷ []))
 
   pub record Holds (path : List ℕ) (s : Scheme) : Type 0 where
     pub known : all_known path (channel_keys s) (members s) ≡ Ok tt
     pub from_is : get_member (codes "from") (members s) ≡ Some (string from)
     pub to_is : get_member (codes "to") (members s) ≡ Some (string to)
     pub delay_is :
-        get_member (codes "delay") (members s)
+        get_member (time_key Delay) (members s)
         ≡ Some (time_data unit (setting_interval line o Delay))
+    pub receiver_is :
+        get_member (group_key (receiver_settings s)) (members s)
+        ≡ value unit line o some (receiver_settings s)
 
   pub holds : (path : List ℕ) (s : Scheme) → Holds path s
   unfolding all_known
-  holds path Pott = record { known = refl; from_is = refl; to_is = refl; delay_is = refl }
-  holds path Putt = record { known = refl; from_is = refl; to_is = refl; delay_is = refl }
-  holds path Dcb = record { known = refl; from_is = refl; to_is = refl; delay_is = refl }
-  holds path Dcub = record { known = refl; from_is = refl; to_is = refl; delay_is = refl }
-  holds path Dtt = record { known = refl; from_is = refl; to_is = refl; delay_is = refl }
+  holds path Dcub =
+      record { known = refl; from_is = refl; to_is = refl; delay_is = refl; receiver_is = refl }
+  holds path _ =
+      record { known = refl; from_is = refl; to_is = refl; delay_is = refl; receiver_is = refl }
 
--- what stands before the first place does not pass
-none_before :
-    {K : Type 0} (p : K → Bool) (n c : ℕ) (xs : List K) → position_from p n xs ≡ Some (n + c)
-    → list_any p (take c xs) ≡ false
-none_before p n zero [] e = refl
-none_before p n (suc c) [] e = absurd (cc)
-none_before p n zero (x ∷ xs) e = refl
-none_before p n (suc c) (x ∷ xs) e =
-    let same : n + suc c ≡ n + 1 + c = omega arith in
-    elim (p x)
-    as (λ b. cond b (Some n) (position_from p (n + 1) xs) ≡ Some (n + suc c)
-    → b || list_any p (take c xs) ≡ false) [
-      | true ↦ λ f. let equal : n ≡ n + suc c = cc in absurd (omega arith)
-      | false ↦ λ f. none_before p (n + 1) c xs (f ∙ ap Some same)
-    ] e
+-- each setting of a channel stands where it is counted
+channel_in_place : (s : Scheme) → in_place (channel_settings s) 0 (channel_settings s) ≡ true
+channel_in_place Dcub = refl
+channel_in_place _ = refl
 
 -- terminal k is the one of its name
 called_back :
@@ -146,7 +137,10 @@ module _
       let once = rw (from_is, to_is) at (line.pairs_once.once c lt) in
       let zero_first : c ≡ 0 + c = omega arith in
       let new : list_any (is_pair h.from h.to) (take c line.channels.items) ≡ false =
-      none_before (is_pair h.from h.to) 0 c line.channels.items (once ∙ ap Some zero_first) in
+      list_any-take_none (is_pair h.from h.to) c line.channels.items
+      (record { from = 0; to = 0 })
+      (λ j less. none_before (is_pair h.from h.to) 0 c j line.channels.items
+      (record { from = 0; to = 0 }) (once ∙ ap Some zero_first) less) in
       rw (
         from_held,
         called_back line h.from from_within,
@@ -156,12 +150,16 @@ module _
         new,
       )
 
-  place : (x : Setting) (i : ℕ) → channel_place line.scheme x ≡ Some i
-      → setting_interval line (owner.Channel c) x
-      ≡ interval_of line (terminal_count line + c * each_count line + i)
-  place x i e =
-      interval_at line (owner.Channel c) x (terminal_count line + c * each_count line) i
-      (channel_place line.scheme x) (laws.parameters.of_channel line c x lt) e
+  placed :
+      ArePlaced line (owner.Channel c) (terminal_count line + c * each_count line)
+      (channel_settings line.scheme)
+  placed =
+      let n : ℕ = terminal_count line + c * each_count line in
+      let first : n + 0 ≡ n = omega arith in
+      subst (λ i. ArePlaced line (owner.Channel c) i (channel_settings line.scheme)) first
+      (placed_from line (owner.Channel c) n (channel_settings line.scheme)
+      (λ x. laws.parameters.of_channel line c x lt) 0 (channel_settings line.scheme)
+      (channel_in_place line.scheme))
 
   all_within :
       terminal_count line + c * each_count line + each_count line ≤ length line.params.items
@@ -175,20 +173,8 @@ module _
             (each_count line) refl refl,
       )
 
-  delay_place :
-      setting_interval line (owner.Channel c) Delay
-      ≡ interval_of line (terminal_count line + c * each_count line)
-  delay_place =
-      let same : terminal_count line + c * each_count line + 0
-      ≡ terminal_count line + c * each_count line = omega arith in
-      place Delay 0 refl ∙ ap (λ j. interval_of line j) same
-
-  some_each : (s : Scheme) → 1 ≤ length (channel_settings s)
-  some_each Pott = omega arith
-  some_each Putt = omega arith
-  some_each Dcb = omega arith
-  some_each Dcub = omega arith
-  some_each Dtt = omega arith
+  each_is : each_count line ≡ 1 + length (receiver_settings line.scheme)
+  each_is = omega (arith, length-append (receiver_settings line.scheme) [])
 
   delay_time : IsTime 1 (setting_interval line (owner.Channel c) Delay)
   delay_time =
@@ -198,56 +184,11 @@ module _
       (each_count line) lt refl refl in
       let one : 1 ≤ get_or (leasts line.params.items) n 0 =
       rw number (line.delays_from_one c lt) in
-      let some_here = some_each line.scheme in
       let fits = all_within in
+      let each = each_is in
       let range = times_at_place line n (omega arith) in
-      rw delay_place
+      rw placed.0
       (record { ordered = range.ordered; within = range.within; enough = one })
-
-  -- what stands behind the delay
-  receiver_back :
-      (s : Scheme) (ms : Members) → line.scheme ≡ s
-      → ms ≡ members unit line (owner.Channel c) (name_at line.terminals.items h.from)
-      (name_at line.terminals.items h.to) s
-      → receiver_times s path unit ms
-      (take (terminal_count line + c * each_count line + 1) (intervals line))
-      ≡ Ok (take (terminal_count line + c * each_count line + each_count line) (intervals line))
-  unfolding required_times
-  receiver_back Pott ms e made = rw e
-  receiver_back Putt ms e made = rw e
-  receiver_back Dcb ms e made = rw e
-  receiver_back Dtt ms e made = rw e
-  receiver_back Dcub ms e made =
-      let j : ℕ = terminal_count line + c * each_count line in
-      let o : Owner = owner.Channel c in
-      let four : each_count line ≡ 4 = rw e in
-      let fits = all_within in
-      let b_place : j + 2 ≡ j + 1 + 1 = omega arith in
-      let d_place : j + 3 ≡ j + 1 + 1 + 1 = omega arith in
-      let a : setting_interval line o UnblockPickup ≡ interval_of line (j + 1) =
-      place UnblockPickup 1 (rw e) in
-      let b : setting_interval line o UnblockWindow ≡ interval_of line (j + 1 + 1) =
-      place UnblockWindow 2 (rw e) ∙ ap (λ i. interval_of line i) b_place in
-      let d : setting_interval line o UnblockRestore ≡ interval_of line (j + 1 + 1 + 1) =
-      place UnblockRestore 3 (rw e) ∙ ap (λ i. interval_of line i) d_place in
-      let held : get_member (codes "unblock") ms ≡ Some (times_data unit line o unblock_settings) =
-      rw made in
-      let read =
-      unblock_back unit line o (key_path path (codes "unblock")) (take (j + 1) (intervals line)) some
-      (rw a (times_at_place line (j + 1) (omega arith)))
-      (rw b (times_at_place line (j + 1 + 1) (omega arith)))
-      (rw d (times_at_place line (j + 1 + 1 + 1) (omega arith))) in
-      let last : j + 1 + 1 + 1 + 1 ≡ j + each_count line = omega arith in
-      rw held
-      (read ∙ rw (
-        a,
-        b,
-        d,
-        take_next line (j + 1) (omega arith),
-        take_next line (j + 1 + 1) (omega arith),
-        take_next line (j + 1 + 1 + 1) (omega arith),
-      )
-      (ap (λ i. ok_of (take i (intervals line))) last))
 
   -- the channel is read back
   pub channel_back :
@@ -260,19 +201,22 @@ module _
       let cs : List Channel = line.channels.items in
       let ms : Members = channel_members unit line c h in
       let j : ℕ = terminal_count line + c * each_count line in
-      let held = holds unit line o (name_at ts h.from) (name_at ts h.to) path line.scheme in
+      let held = holds unit line some o (name_at ts h.from) (name_at ts h.to) path line.scheme in
       let ends = ends_back ms held.from_is held.to_is in
-      let time = time_back (key_path path (codes "delay")) unit 1 (setting_interval line o Delay) some
-      delay_time in
+      let time = time_back (key_path path (time_key Delay)) unit 1 (setting_interval line o Delay)
+      some delay_time in
       let fits = all_within in
-      let some_here = some_each line.scheme in
+      let each = each_is in
       let next : take j (intervals line) ++ setting_interval line o Delay ∷ []
-      ≡ take (j + 1) (intervals line) = rw delay_place (take_next line j (omega arith)) in
-      let besides = receiver_back line.scheme ms refl refl in
+      ≡ take (j + 1) (intervals line) = rw placed.0 (take_next line j (omega arith)) in
+      let besides = required_back unit line o some path ms (j + 1) (receiver_settings line.scheme)
+      (receiver_whole unit line o some line.scheme)
+      (placed_parts line o (j + 1) (receiver_settings line.scheme) [] placed.1).0 (omega arith)
+      held.receiver_is in
       let taken : take (c + 1) cs ≡ take c cs ++ h ∷ [] =
       take_more cs c h lt ∙ ap (λ (x : Channel). take c cs ++ x ∷ []) (sym is) in
-      let count : j + each_count line ≡ terminal_count line + (c + 1) * each_count line =
-      omega arith in
+      let count : j + 1 + length (receiver_settings line.scheme)
+      ≡ terminal_count line + (c + 1) * each_count line = omega arith in
       rw (held.known, ends, held.delay_is, time, next, besides, ← taken, count)
 
 -- all channels are read back, from number c on

@@ -1,25 +1,27 @@
 -- Channels, one after another.
 use Rattle.std.proofs.Common.{◌≡◌, ◌≢◌, ◌+◌, ◌<◌, ◌==◌, ℕ, false, List, [], ◌∷◌, ◌++◌, Option, Some}
 use Rattle.std.proofs.Common.{None, Ok, drop, length, get_or, refl, codes, sym, ap, subst, ◌∙◌}
-use Rattle.std.proofs.Common.{arith, ◌≤◌}
+use Rattle.std.proofs.Common.{arith, ◌≤◌, length-append}
 use Rattle.std.proofs.lemmas.Bool.{eqb-false}
 use Rattle.std.specs.Str.{bytes_eq}
 use Rattle.std.specs.List.{list_any}
 use Rattle.toml.specs.Data.{Data, Members}
 use Rattle.toml.specs.{View.view, View.items_view, declared.value.Value.Value}
 use Rattle.toml.proofs.Views.{items_view-drop}
-use Rattle.line_model.specs.declared.line.Scheme.TheVariants.{Pott, Putt, Dcb, Dcub, Dtt}
 use Rattle.line_model.specs.{declared.line.Terminal.Terminal, Channels.is_pair}
 use Rattle.line_model.specs.{declared.line.Channel.Channel, declared.bounds.Bounds.Bounds}
-use Rattle.line_model.specs.{declared.line.Scheme.Scheme, Settings.channel_settings}
+use Rattle.line_model.specs.Settings.{time_key, receiver_settings, channel_settings}
+use Rattle.line_model.specs.declared.line.Setting.TheVariants.{Delay}
+use Rattle.line_model.specs.declared.line.Scheme.{Scheme}
 use Rattle.line_model.specs.{Making.least_ends, FirstPositions.position_within}
 use Rattle.line_file.specs.Keys.{all_known, table_in, text_at}
-use Rattle.line_file.specs.ChannelTables.{unblock_keys, channel_keys, terminal_called, sender}
-use Rattle.line_file.specs.ChannelTables.{receiver, from_at, to_at, ends_at, receiver_times}
+use Rattle.line_file.specs.ChannelTables.{channel_keys, terminal_called, sender}
+use Rattle.line_file.specs.ChannelTables.{receiver, from_at, to_at, ends_at}
 use Rattle.line_file.specs.ChannelTables.{channel_at, channels_at}
-use Rattle.line_file.specs.{Paths.item_path, Reading.◌>>=◌, Times.time_at, Lines.LineValues}
+use Rattle.line_file.specs.{Paths.item_path, Reading.◌>>=◌, Times.time_at, Times.required_times}
+use Rattle.line_file.specs.Lines.{LineValues}
 use Rattle.line_file.proofs.Binds.{bind_ok, guard_ok, same_ok}
-use Rattle.line_file.proofs.TimeLaws.{IsTime, Grew, grew_none, grew_one, grew_more, grew_as}
+use Rattle.line_file.proofs.TimeLaws.{IsTime, Grew, grew_one, grew_more, grew_as}
 use Rattle.line_file.proofs.TimeLaws.{any_fewest, time_ok, required_ok}
 
 -- the next channel, and then those after it
@@ -98,47 +100,22 @@ pub record IsOneMoreChannel (line more : LineValues) : Type 0 where
 receiver_ok :
     (s : Scheme) (path : List ℕ) (unit : ℕ) (ms : Members) (old : List Bounds) (delay : Bounds)
     (new : List Bounds) → 0 < unit → IsTime 1 delay
-    → receiver_times s path unit ms (old ++ delay ∷ []) ≡ Ok new
+    → required_times path (receiver_settings s) unit ms (old ++ delay ∷ []) ≡ Ok new
     → Grew (length (channel_settings s)) old new
     × (1 ≤ get_or (least_ends new) (length old) 0)
 receiver_ok s path unit ms old delay new some time e =
-    let rest : (n : ℕ) × (1 + n ≡ length (channel_settings s)) × Grew n (old ++ delay ∷ []) new =
-    besides s e in
-    let (n, count, more) = rest in
-    let grown = grew_more 1 n old (old ++ delay ∷ []) new
-    (grew_one old delay (any_fewest 1 delay time)) more in
+    let n : ℕ = length (receiver_settings s) in
+    let more : Grew n (old ++ delay ∷ []) new =
+    required_ok path (receiver_settings s) unit ms (old ++ delay ∷ []) new some e in
+    let count : 1 + n ≡ length (channel_settings s) =
+    omega (arith, length-append (receiver_settings s) []) in
     let first : get_or (least_ends new) (length old) 0 ≡ delay.least =
     subst (λ bs. get_or (least_ends bs) (length old) 0 ≡ delay.least) more.is
-    (least_behind old delay more.added) in
-    (grew_as (1 + n) _ old new count grown, rw first time.enough)
-  where
-    besides :
-        (s : Scheme) → receiver_times s path unit ms (old ++ delay ∷ []) ≡ Ok new
-        → (n : ℕ) × (1 + n ≡ length (channel_settings s)) × Grew n (old ++ delay ∷ []) new
-    besides Dcub e = (3, refl, required_ok path (codes "unblock") unblock_keys unit ms _ new some e)
-    besides Pott e = (
-      0,
-      refl,
-      subst (λ x. Grew 0 (old ++ delay ∷ []) x) (same_ok _ new e)
-          (grew_none _),
-    )
-    besides Putt e = (
-      0,
-      refl,
-      subst (λ x. Grew 0 (old ++ delay ∷ []) x) (same_ok _ new e)
-          (grew_none _),
-    )
-    besides Dcb e = (
-      0,
-      refl,
-      subst (λ x. Grew 0 (old ++ delay ∷ []) x) (same_ok _ new e)
-          (grew_none _),
-    )
-    besides Dtt e = (
-      0,
-      refl,
-      subst (λ x. Grew 0 (old ++ delay ∷ []) x) (same_ok _ new e)
-          (grew_none _),
+    (least_behind old delay more.added) in (
+      grew_as (1 + n) _ old new count
+          (grew_more 1 n old (old ++ delay ∷ []) new
+          (grew_one old delay (any_fewest 1 delay time)) more),
+      rw first time.enough,
     )
 
 pub channel_at-ok :
@@ -149,10 +126,11 @@ channel_at-ok unit path d line more some e =
     let (ms, ms_is, e1) = bind_ok (table_in path d) _ more e in
     let (known, known_is, e2) = bind_ok (all_known path (channel_keys line.scheme) ms) _ more e1 in
     let (x, x_is, e3) = bind_ok (ends_at path line.terminals line.channels ms) _ more e2 in
-    let (delay, delay_is, e4) = bind_ok (time_at path (codes "delay") unit 1 ms) _ more e3 in
+    let (delay, delay_is, e4) = bind_ok (time_at path (time_key Delay) unit 1 ms) _ more e3 in
     let (whole, whole_is, e5) =
-    bind_ok (receiver_times line.scheme path unit ms (line.intervals ++ delay ∷ [])) _ more e4 in
-    let time = time_ok path (codes "delay") unit 1 ms delay some delay_is in
+    bind_ok (required_times path (receiver_settings line.scheme) unit ms
+    (line.intervals ++ delay ∷ [])) _ more e4 in
+    let time = time_ok path (time_key Delay) unit 1 ms delay some delay_is in
     let grown =
     receiver_ok line.scheme path unit ms line.intervals delay whole some time whole_is in
     record {

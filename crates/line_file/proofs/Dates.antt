@@ -38,13 +38,13 @@ all_dated :
 all_dated = all_put IsDated AreDated put_dated
 
 settings_dated :
-    (unit : ℕ) (line : Line) (o : Owner) (xs : List (List ℕ × Setting))
+    (unit : ℕ) (line : Line) (o : Owner) (xs : List Setting)
     → Each IsDated (map (setting_pair unit line o) xs)
 settings_dated unit line o [] = tt
 settings_dated unit line o (x ∷ xs) = (refl, settings_dated unit line o xs)
 
 times_dated :
-    (unit : ℕ) (line : Line) (o : Owner) (xs : List (List ℕ × Setting))
+    (unit : ℕ) (line : Line) (o : Owner) (xs : List Setting)
     → IsDated (times_data unit line o xs)
 unfolding times_data
 times_dated unit line o xs =

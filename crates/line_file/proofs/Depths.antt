@@ -37,13 +37,13 @@ all_depth :
 all_depth n = all_put (IsShallow n) (AreShallow n) (put_depth n)
 
 settings_shallow :
-    (unit : ℕ) (line : Line) (o : Owner) (xs : List (List ℕ × Setting))
+    (unit : ℕ) (line : Line) (o : Owner) (xs : List Setting)
     → Each (IsShallow 1) (map (setting_pair unit line o) xs)
 settings_shallow unit line o [] = tt
 settings_shallow unit line o (x ∷ xs) = (omega arith, settings_shallow unit line o xs)
 
 times_depth :
-    (unit : ℕ) (line : Line) (o : Owner) (xs : List (List ℕ × Setting))
+    (unit : ℕ) (line : Line) (o : Owner) (xs : List Setting)
     → IsShallow 2 (times_data unit line o xs)
 unfolding times_data
 times_depth unit line o xs =

@@ -1,6 +1,7 @@
 -- Documents, and lists of texts behind references.
-use Rattle.std.proofs.Common.{◌≡◌, ℕ, Bool, false, List, [], ◌∷◌, map, Option, None, Bor, refl, ap}
-use Rattle.std.proofs.Common.{◌||◌}
+use Rattle.std.proofs.Common.{◌≡◌, ℕ, Bool, false, List, [], ◌∷◌, ◌++◌, map, Option, None, refl}
+use Rattle.std.proofs.Common.{◌||◌, ◌∙◌, true, ap, sym}
+use Rattle.std.proofs.lemmas.List.Folds.{list_any-append}
 use Rattle.std.proofs.lemmas.Bool.{false_from_ne_true}
 use Rattle.std.proofs.lemmas.Str.{IsUtf8-from_is_utf8, is_utf8-from_IsUtf8}
 use Rattle.std.specs.Str.{IsUtf8, is_utf8}
@@ -21,10 +22,27 @@ document_none bytes not_text =
     false_from_ne_true (is_utf8 bytes) (λ h. not_text (IsUtf8-from_is_utf8 bytes h)) in
     rw e refl
 
--- a test of some text, through references
-pub any_map :
-    (f : List ℕ → Bool) (xs : List (Bor (List ℕ)))
-    → list_any (λ (x : Bor (List ℕ)). f x.now) xs
-    ≡ list_any f (map (λ (x : Bor (List ℕ)). x.now) xs)
-any_map f [] = refl
-any_map f (x ∷ xs) = ap (λ b. f x.now || b) (any_map f xs)
+-- a test of some text, through what has the texts
+any_map :
+    {X : Type 0} (text : X → List ℕ) (f : List ℕ → Bool) (xs : List X)
+    → list_any (λ x. f (text x)) xs ≡ list_any f (map text xs)
+any_map text f [] = refl
+any_map text f (x ∷ xs) = ap (λ b. f (text x) || b) (any_map text f xs)
+
+-- of the texts of two lists
+pub any_of_both :
+    {X Y : Type 0} (one : X → List ℕ) (other : Y → List ℕ) (f : List ℕ → Bool) (xs : List X)
+    (ys : List Y) (a b : Bool) → a ≡ list_any (λ x. f (one x)) xs
+    → b ≡ list_any (λ y. f (other y)) ys
+    → b || a ≡ list_any f (map one xs ++ map other ys)
+any_of_both one other f xs ys a b first second =
+    either a b
+    ∙ ap (λ c. c || b) (first ∙ any_map one f xs)
+    ∙ ap (λ c. list_any f (map one xs) || c) (second ∙ any_map other f ys)
+    ∙ sym (list_any-append f (map one xs) (map other ys))
+  where
+    either : (a b : Bool) → b || a ≡ a || b
+    either true true = refl
+    either true false = refl
+    either false true = refl
+    either false false = refl

@@ -1,9 +1,12 @@
 -- The intervals of a line's parameters, by their places.
 use Rattle.std.proofs.Common.{◌≡◌, ◌+◌, ◌<◌, ◌≤◌, ◌++◌, ℕ, zero, suc, List, [], ◌∷◌, length, take}
+use Rattle.std.proofs.Common.{◌&&◌, ◌==◌, Bool, true, false, None, subst}
 use Rattle.std.proofs.Common.{get_or, Option, Some, refl, sym, ap, ◌∙◌, arith, length-append}
 use Rattle.std.proofs.lemmas.List.{take_more, length-map}
+use Rattle.std.proofs.lemmas.Bool.{and_parts, eqb-true}
 use Rattle.std.specs.Prelude.{option_map, unwrap_or}
 use Rattle.line_model.specs.Settings.{owned_by, terminal_settings, settings_of_terminals}
+use Rattle.line_model.specs.Settings.{setting_place}
 use Rattle.line_model.specs.declared.line.Line.{Line}
 use Rattle.line_model.specs.{declared.bounds.Bounds.Bounds, declared.line.Param.Param}
 use Rattle.line_model.specs.{declared.line.Scheme.Scheme, declared.line.Terminal.Terminal}
@@ -58,6 +61,52 @@ interval_at line o x n i place number is =
     let whole : param_number line o x ≡ Some (n + i) =
     number ∙ ap (λ (p : Option ℕ). option_map (λ j. n + j) p) is in
     ap (λ (p : Option ℕ). interval_of line (unwrap_or p 0)) whole
+
+-- these settings of an owner stand at the places from j on
+abbrev pub ArePlaced : Line → Owner → ℕ → List Setting → Type 0
+ArePlaced line o j [] = Unit {0}
+ArePlaced line o j (x ∷ xs) =
+    (setting_interval line o x ≡ interval_of line j) × ArePlaced line o (j + 1) xs
+
+-- so do the first of them, and the others behind these
+pub placed_parts :
+    (line : Line) (o : Owner) (j : ℕ) (xs ys : List Setting) → ArePlaced line o j (xs ++ ys)
+    → ArePlaced line o j xs × ArePlaced line o (j + length xs) ys
+placed_parts line o j [] ys placed =
+    let same : j ≡ j + 0 = omega arith in
+    (tt, subst (λ i. ArePlaced line o i ys) same placed)
+placed_parts line o j (x ∷ xs) ys placed =
+    let same : j + 1 + length xs ≡ j + length (x ∷ xs) = omega arith in
+    let rest = placed_parts line o (j + 1) xs ys placed.1 in
+    ((placed.0, rest.0), subst (λ i. ArePlaced line o i ys) same rest.1)
+
+-- each of these stands in the list where it is counted, from i on
+abbrev is_place : ℕ → Option ℕ → Bool
+is_place i None = false
+is_place i (Some j) = j == i
+
+abbrev pub in_place : List Setting → ℕ → List Setting → Bool
+in_place all i [] = true
+in_place all i (x ∷ xs) = is_place i (setting_place all x) && in_place all (i + 1) xs
+
+the_place : (i : ℕ) (place : Option ℕ) → is_place i place ≡ true → place ≡ Some i
+the_place i None test = absurd (cc)
+the_place i (Some j) test = ap Some (eqb-true j i test)
+
+-- so they are placed as they are numbered
+pub placed_from :
+    (line : Line) (o : Owner) (n : ℕ) (all : List Setting)
+    → ((x : Setting) → param_number line o x ≡ option_map (λ i. n + i) (setting_place all x))
+    → (i : ℕ) (xs : List Setting) → in_place all i xs ≡ true → ArePlaced line o (n + i) xs
+placed_from line o n all number i [] test = tt
+placed_from line o n all number i (x ∷ xs) test =
+    let parts = and_parts (is_place i (setting_place all x)) (in_place all (i + 1) xs) test in
+    let next : n + (i + 1) ≡ n + i + 1 = omega arith in (
+      interval_at line o x n i (setting_place all x) (number x)
+          (the_place i (setting_place all x) parts.0),
+      subst (λ j. ArePlaced line o j xs) next
+          (placed_from line o n all number (i + 1) xs parts.1),
+    )
 
 -- some terminals have no more settings than all
 pub settings_within :

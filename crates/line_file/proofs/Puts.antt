@@ -10,7 +10,8 @@ use Rattle.toml.proofs.Views.{Entry}
 use Rattle.line_model.specs.declared.line.Line.{Line}
 use Rattle.line_model.specs.{declared.line.Owner.Owner, declared.line.Setting.Setting}
 use Rattle.line_file.specs.Canonical.{put_member, put_all, time_data, setting_interval}
-use Rattle.line_file.specs.Canonical.{setting_pair}
+use Rattle.line_file.specs.Canonical.{setting_pair, put_times, put_groups}
+use Rattle.line_model.specs.Settings.{time_key}
 
 match_members :
     (o : Ordering) (a b c : List Entry)
@@ -29,16 +30,21 @@ members_view-insert_entry [] k v = refl
 members_view-insert_entry (e ∷ es) k v =
     match_members (string_cmp k e.0) _ _ _ ∙ rw (members_view-insert_entry es k v)
 
--- a setting under its key, as the printer holds it
-abbrev pub keyed : Bor (List ℕ) × Setting → List ℕ × Setting
-keyed p = (p.0.now, p.1)
-
 -- the next setting, and then those after it
 pub settings_more :
-    (unit : ℕ) (line : Line) (o : Owner) (xs : List (Bor (List ℕ) × Setting)) (i : ℕ)
-    (ms : Members) (d : Bor (List ℕ) × Setting) → i < length xs
-    → put_all (map (setting_pair unit line o) (map keyed (drop i xs))) ms
-    ≡ put_all (map (setting_pair unit line o) (map keyed (drop (i + 1) xs)))
-    (put_member (get_or xs i d).0.now
-    (time_data unit (setting_interval line o (get_or xs i d).1)) ms)
+    (unit : ℕ) (line : Line) (o : Owner) (xs : List Setting) (i : ℕ) (ms : Members) (d : Setting)
+    → i < length xs
+    → put_all (map (setting_pair unit line o) (drop i xs)) ms
+    ≡ put_all (map (setting_pair unit line o) (drop (i + 1) xs))
+    (put_member (time_key (get_or xs i d))
+    (time_data unit (setting_interval line o (get_or xs i d))) ms)
 settings_more unit line o xs i ms d h = rw (drop_more xs i d h)
+
+-- the next group, and then those after it
+pub groups_more :
+    (unit : ℕ) (line : Line) (o : Owner) (xs : List (Bor (List Setting))) (i : ℕ) (ms : Members)
+    (d : Bor (List Setting)) → i < length xs
+    → put_groups unit line o (map (λ group. group.now) (drop i xs)) ms
+    ≡ put_groups unit line o (map (λ group. group.now) (drop (i + 1) xs))
+    (put_times unit line o (get_or xs i d).now ms)
+groups_more unit line o xs i ms d h = rw (drop_more xs i d h)

@@ -1,7 +1,7 @@
 -- A printed terminal is read back.
 use Rattle.std.proofs.Common.{◌≡◌, ◌≢◌, ◌+◌, ◌<◌, ◌≤◌, ◌&&◌, ◌||◌, ◌++◌, ℕ, zero, suc, Bool, true}
 use Rattle.std.proofs.Common.{false, not, List, [], ◌∷◌, length, take, drop, get_or, Option, Some}
-use Rattle.std.proofs.Common.{Ok, refl, sym, ap, ◌∙◌, arith, codes}
+use Rattle.std.proofs.Common.{Ok, refl, sym, ap, subst, ◌∙◌, arith, codes}
 use Rattle.std.proofs.Math.ListN.{get_or-map}
 use Rattle.std.proofs.lemmas.Bool.{false_from_ne_true}
 use Rattle.std.proofs.lemmas.List.{append-nil, drop_all, drop_more, get_or_default, take_more}
@@ -10,33 +10,29 @@ use Rattle.std.specs.Prelude.{is_some}
 use Rattle.std.specs.Str.{bytes_eq}
 use Rattle.std.specs.List.{list_all, list_any}
 use Rattle.toml.specs.{Data.Data, Data.table, Data.Members, Data.get_member, View.items_of}
-use Rattle.line_model.specs.declared.line.Scheme.TheVariants.{Pott, Putt, Dcb, Dcub, Dtt}
+use Rattle.line_model.specs.declared.line.Scheme.TheVariants.{Pott, Dcub}
 use Rattle.line_model.specs.declared.line.Terminal.{Terminal}
 use Rattle.line_model.specs.{declared.bounds.Bounds.Bounds, declared.line.Line.Line}
 use Rattle.line_model.specs.{declared.line.Scheme.Scheme, declared.line.Owner.Owner}
 use Rattle.line_model.specs.declared.line.Owner.TheVariants as owner
-use Rattle.line_model.specs.declared.line.Setting.TheVariants.{Z1Pickup, Z1Dropout, Z2Pickup}
-use Rattle.line_model.specs.declared.line.Setting.TheVariants.{Z2Dropout, RvPickup, RvDropout}
-use Rattle.line_model.specs.declared.line.Setting.TheVariants.{UvPickup, UvDropout, ReversalPickup}
-use Rattle.line_model.specs.declared.line.Setting.TheVariants.{ReversalDropout, EchoBlock}
-use Rattle.line_model.specs.declared.line.Setting.TheVariants.{EchoPickup, EchoPulse, BlockCarry}
-use Rattle.line_model.specs.declared.line.Setting.TheVariants.{BlockCoord, TransferSecurity}
 use Rattle.line_model.specs.PlainNames.{is_plain_name}
+use Rattle.line_model.specs.Settings.{zone1_settings, zone2_settings, reverse_settings}
+use Rattle.line_model.specs.Settings.{undervoltage_settings, groups_with, all_of}
 use Rattle.line_model.specs.Settings.{guard_settings, weak_settings, scheme_settings}
 use Rattle.line_model.specs.Settings.{terminal_settings, channel_settings, settings_of_terminals}
 use Rattle.line_model.specs.Terminals.{names_of, has_flags, has_no_flag}
-use Rattle.line_model.specs.{declared.line.Setting.Setting, Places.terminal_place, Laws.LineLaws}
-use Rattle.line_file.specs.Times.{times_in, optional_times, required_times}
-use Rattle.line_file.specs.TerminalTables.{timer_keys, echo_keys, name_at, element_times}
-use Rattle.line_file.specs.TerminalTables.{elements_times, permissive_times, scheme_times}
+use Rattle.line_model.specs.{declared.line.Setting.Setting, Laws.LineLaws}
+use Rattle.line_file.specs.Times.{group_key, optional_times, required_times}
+use Rattle.line_file.specs.TerminalTables.{no_times, name_at, element_times, elements_times}
+use Rattle.line_file.specs.TerminalTables.{permissive_times, scheme_times}
 use Rattle.line_file.specs.TerminalTables.{terminal_named, terminal_at, terminals_at}
-use Rattle.line_file.specs.Canonical.{times_data, timer_settings, interval_of, setting_interval}
 use Rattle.line_file.specs.Canonical.{terminal_members, terminals_data}
 use Rattle.line_file.specs.{Paths.item_path, Keys.text_at, Lines.LineValues}
-use Rattle.line_file.proofs.TimesBack.{timer_back, echo_back, block_back, transfer_back}
-use Rattle.line_file.proofs.TerminalHolds.{members, guard_value, weak_value, block_value}
-use Rattle.line_file.proofs.TerminalHolds.{transfer_value, Holds, holds}
-use Rattle.line_file.proofs.ParamPlaces.{intervals, take_next, times_at_place, interval_at}
+use Rattle.line_file.proofs.TimesBack.{value, as_many, required_back, optional_back, absent_back}
+use Rattle.line_file.proofs.TimesBack.{zone1_whole, zone2_whole, reverse_whole}
+use Rattle.line_file.proofs.TimesBack.{undervoltage_whole, guard_whole, weak_whole, scheme_whole}
+use Rattle.line_file.proofs.TerminalHolds.{members, Holds, holds}
+use Rattle.line_file.proofs.ParamPlaces.{intervals, ArePlaced, placed_parts, in_place, placed_from}
 use Rattle.line_file.proofs.ParamPlaces.{settings_within}
 use Rattle.line_file.proofs.{TerminalLaws.own_settings_count, PlainTexts.passes, Binds.ok_of}
 
@@ -106,10 +102,6 @@ new_name line k t lt is =
     get_or_same (x ∷ xs) zero a b h = refl
     get_or_same (x ∷ xs) (suc i) a b h = get_or_same xs i a b (omega arith)
 
-no_flag : (w g : Bool) → not (w || true) ≡ true → ⊥
-no_flag true g h = cc
-no_flag false g h = cc
-
 flag_back :
     (b w g : Bool) (o : Option Data) → b || not (w || g) ≡ true → is_some o ≡ w → b && is_some o ≡ w
 flag_back true w g o h e = e
@@ -123,194 +115,138 @@ flag_back_too false true g o h e = absurd (cc)
 flag_back_too false false true o h e = absurd (cc)
 flag_back_too false false false o h e = refl
 
+-- each setting of a terminal stands where it is counted
+terminal_in_place :
+    (s : Scheme) (g w : Bool)
+    → in_place (all_of (groups_with s g w)) 0 (all_of (groups_with s g w)) ≡ true
+terminal_in_place Pott true true = refl
+terminal_in_place Pott true false = refl
+terminal_in_place Pott false true = refl
+terminal_in_place Pott false false = refl
+terminal_in_place s true true = refl
+terminal_in_place s true false = refl
+terminal_in_place s false true = refl
+terminal_in_place s false false = refl
+
 module _ (unit : ℕ) (line : Line) (some : 0 < unit) (o : Owner) (path : List ℕ) (ms : Members) where
-  -- two intervals more
-  next_two :
-      (j : ℕ) → j + 2 ≤ length line.params.items
-      → take j (intervals line) ++ interval_of line j ∷ [] ++ interval_of line (j + 1) ∷ []
-      ≡ take (j + 2) (intervals line)
-  next_two j fits =
-      let one : take j (intervals line) ++ interval_of line j ∷ [] ≡ take (j + 1) (intervals line) =
-      take_next line j (omega arith) in
-      let two : take (j + 1) (intervals line) ++ interval_of line (j + 1) ∷ []
-      ≡ take (j + 1 + 1) (intervals line) = take_next line (j + 1) (omega arith) in
-      let same : j + 1 + 1 ≡ j + 2 = omega arith in
-      rw one (two ∙ ap (λ i. take i (intervals line)) same)
-
-  timer_next :
-      (inner : List ℕ) (x y : Setting) (j : ℕ) → j + 2 ≤ length line.params.items
-      → setting_interval line o x ≡ interval_of line j
-      → setting_interval line o y ≡ interval_of line (j + 1)
-      → times_in inner timer_keys unit (times_data unit line o (timer_settings x y))
-      (take j (intervals line))
-      ≡ Ok (take (j + 2) (intervals line))
-  timer_next inner x y j fits a b =
-      timer_back unit line o inner (take j (intervals line)) some x y
-      (rw a (times_at_place line j (omega arith)))
-      (rw b (times_at_place line (j + 1) (omega arith)))
-      ∙ rw (a, b) (ap (λ (bs : List Bounds). ok_of bs) (next_two j fits))
-
-  element_back :
-      (key : List ℕ) (x y : Setting) (j : ℕ) → j + 2 ≤ length line.params.items
-      → get_member key ms ≡ Some (times_data unit line o (timer_settings x y))
-      → setting_interval line o x ≡ interval_of line j
-      → setting_interval line o y ≡ interval_of line (j + 1)
-      → element_times path key unit ms (take j (intervals line))
-      ≡ Ok (take (j + 2) (intervals line))
-  unfolding optional_times
-  element_back key x y j fits held a b = rw held (timer_next (key_path path key) x y j fits a b)
-
-  -- the settings of terminal k stand at their places, from n on
-  pub record Placed (s : Scheme) (g w : Bool) (n : ℕ) : Type 0 where
-    pub at :
-        (x : Setting) (i j : ℕ) → terminal_place s g w x ≡ Some i → n + i ≡ j
-        → setting_interval line o x ≡ interval_of line j
-
+  -- the elements are read back, and what stands behind them is placed
   elements_back :
-      (s : Scheme) (g w : Bool) (n : ℕ) (name : List ℕ) → Placed s g w n
-      → n + 8 ≤ length line.params.items → ms ≡ members unit line o name s g w
-      → Holds unit line o name path s g w
-      → elements_times path unit ms (take n (intervals line)) ≡ Ok (take (n + 8) (intervals line))
+      (s : Scheme) (g w : Bool) (n : ℕ) (name : List ℕ) (rest : List Setting)
+      → ArePlaced line o n
+      (zone1_settings ++ (zone2_settings ++ (reverse_settings ++ (undervoltage_settings ++ rest))))
+      → n + 2 + 2 + 2 + 2 ≤ length line.params.items → ms ≡ members unit line some o name s g w
+      → Holds unit line some o name path s g w
+      → (elements_times path unit ms (take n (intervals line))
+      ≡ Ok (take (n + 2 + 2 + 2 + 2) (intervals line)))
+      × ArePlaced line o (n + 2 + 2 + 2 + 2) rest
   unfolding elements_times
-  elements_back s g w n name places fits is held =
-      let z1 = element_back (codes "z1") Z1Pickup Z1Dropout n (omega arith) (rw is held.z1_is)
-      (places.at Z1Pickup 0 n refl (omega arith)) (places.at Z1Dropout 1 (n + 1) refl refl) in
-      let z2 = element_back (codes "z2") Z2Pickup Z2Dropout (n + 2) (omega arith)
-      (rw is held.z2_is) (places.at Z2Pickup 2 (n + 2) refl refl)
-      (places.at Z2Dropout 3 (n + 2 + 1) refl (omega arith)) in
-      let rv = element_back (codes "rv") RvPickup RvDropout (n + 2 + 2) (omega arith)
-      (rw is held.rv_is) (places.at RvPickup 4 (n + 2 + 2) refl (omega arith))
-      (places.at RvDropout 5 (n + 2 + 2 + 1) refl (omega arith)) in
-      let uv = element_back (codes "uv") UvPickup UvDropout (n + 2 + 2 + 2) (omega arith)
-      (rw is held.uv_is) (places.at UvPickup 6 (n + 2 + 2 + 2) refl (omega arith))
-      (places.at UvDropout 7 (n + 2 + 2 + 2 + 1) refl (omega arith)) in
-      let same : n + 2 + 2 + 2 + 2 ≡ n + 8 = omega arith in
-      rw (z1, z2, rv) (uv ∙ ap (λ i. ok_of (take i (intervals line))) same)
+  elements_back s g w n name rest placed fits is held =
+      let more = placed_parts line o n zone1_settings
+      (zone2_settings ++ (reverse_settings ++ (undervoltage_settings ++ rest))) placed in
+      let last = placed_parts line o (n + 2) zone2_settings
+      (reverse_settings ++ (undervoltage_settings ++ rest)) more.1 in
+      let two = placed_parts line o (n + 2 + 2) reverse_settings (undervoltage_settings ++ rest)
+      last.1 in
+      let one = placed_parts line o (n + 2 + 2 + 2) undervoltage_settings rest two.1 in
+      let z1 = optional_back unit line o some path ms n no_times zone1_settings
+      (zone1_whole unit line o some) more.0 (omega arith) (rw is held.zone1_is) in
+      let z2 = optional_back unit line o some path ms (n + 2) no_times zone2_settings
+      (zone2_whole unit line o some) last.0 (omega arith) (rw is held.zone2_is) in
+      let rv = optional_back unit line o some path ms (n + 2 + 2) no_times reverse_settings
+      (reverse_whole unit line o some) two.0 (omega arith) (rw is held.reverse_is) in
+      let uv = optional_back unit line o some path ms (n + 2 + 2 + 2) no_times
+      undervoltage_settings (undervoltage_whole unit line o some) one.0 fits
+      (rw is held.undervoltage_is) in
+      (rw (z1, z2, rv) uv, one.1)
 
-  reversal_back :
-      (s : Scheme) (g w : Bool) (n : ℕ) (name : List ℕ) → Placed s g w n
-      → n + 8 + length (guard_settings g) ≤ length line.params.items
-      → get_member (codes "reversal") ms ≡ guard_value unit line o name g
-      → optional_times [] path (codes "reversal") timer_keys unit ms (take (n + 8) (intervals line))
-      ≡ Ok (take (n + 8 + length (guard_settings g)) (intervals line))
-  unfolding optional_times
-  reversal_back s true w n name places fits held =
-      rw held
-      (timer_next (key_path path (codes "reversal")) ReversalPickup ReversalDropout (n + 8) fits
-      (places.at ReversalPickup 8 (n + 8) refl refl)
-      (places.at ReversalDropout 9 (n + 8 + 1) refl (omega arith)))
-  reversal_back s false w n name places fits held =
-      let same : n + 8 ≡ n + 8 + 0 = omega arith in
-      rw (held, append-nil (take (n + 8) (intervals line)))
-      (ap (λ i. ok_of (take i (intervals line))) same)
+  guard_back :
+      (g : Bool) (j : ℕ) → ArePlaced line o j (guard_settings g)
+      → j + length (guard_settings g) ≤ length line.params.items
+      → get_member (group_key (guard_settings true)) ms ≡ value unit line o some (guard_settings g)
+      → optional_times [] path (guard_settings true) unit ms (take j (intervals line))
+      ≡ Ok (take (j + length (guard_settings g)) (intervals line))
+  guard_back true j placed fits held =
+      optional_back unit line o some path ms j [] (guard_settings true)
+      (guard_whole unit line o some) placed fits held
+  guard_back false j placed fits held =
+      absent_back unit line o some path ms j (guard_settings true) held
 
-  echo_next :
-      (s : Scheme) (g w : Bool) (n : ℕ) (name : List ℕ) → Placed s g w n
-      → n + 8 + length (guard_settings g) + length (weak_settings w) ≤ length line.params.items
-      → get_member (codes "echo") ms ≡ weak_value unit line o name w
-      → optional_times [] path (codes "echo") echo_keys unit ms
-      (take (n + 8 + length (guard_settings g)) (intervals line))
-      ≡ Ok (take (n + 8 + length (guard_settings g) + length (weak_settings w)) (intervals line))
-  unfolding optional_times
-  echo_next s g true n name places fits held =
-      let j : ℕ = n + 8 + length (guard_settings g) in
-      let a = places.at EchoBlock (8 + length (guard_settings g)) j refl (omega arith) in
-      let b = places.at EchoPickup (9 + length (guard_settings g)) (j + 1) refl (omega arith) in
-      let c = places.at EchoPulse (10 + length (guard_settings g)) (j + 2) refl (omega arith) in
-      let read =
-      echo_back unit line o (key_path path (codes "echo")) (take j (intervals line)) some
-      (rw a (times_at_place line j (omega arith)))
-      (rw b (times_at_place line (j + 1) (omega arith)))
-      (rw c (times_at_place line (j + 2) (omega arith))) in
-      let last : take (j + 2) (intervals line) ++ interval_of line (j + 2) ∷ []
-      ≡ take (j + 2 + 1) (intervals line) = take_next line (j + 2) (omega arith) in
-      let same : j + 2 + 1 ≡ j + 3 = omega arith in
-      rw held
-      (read ∙ rw (a, b, c, next_two j (omega arith), last)
-      (ap (λ i. ok_of (take i (intervals line))) same))
-  echo_next s g false n name places fits held =
-      let j : ℕ = n + 8 + length (guard_settings g) in
-      let same : j ≡ j + 0 = omega arith in
-      rw (held, append-nil (take j (intervals line)))
-      (ap (λ i. ok_of (take i (intervals line))) same)
+  weak_back :
+      (w : Bool) (j : ℕ) → ArePlaced line o j (weak_settings w)
+      → j + length (weak_settings w) ≤ length line.params.items
+      → get_member (group_key (weak_settings true)) ms ≡ value unit line o some (weak_settings w)
+      → optional_times [] path (weak_settings true) unit ms (take j (intervals line))
+      ≡ Ok (take (j + length (weak_settings w)) (intervals line))
+  weak_back true j placed fits held =
+      optional_back unit line o some path ms j [] (weak_settings true)
+      (weak_whole unit line o some) placed fits held
+  weak_back false j placed fits held =
+      absent_back unit line o some path ms j (weak_settings true) held
 
   permissive_back :
-      (s : Scheme) (g w : Bool) (n : ℕ) (name : List ℕ) → Placed s g w n
-      → n + 8 + length (guard_settings g) + length (weak_settings w) ≤ length line.params.items
-      → ms ≡ members unit line o name s g w → Holds unit line o name path s g w
-      → permissive_times path unit ms (take (n + 8) (intervals line))
-      ≡ Ok (take (n + 8 + length (guard_settings g) + length (weak_settings w)) (intervals line))
+      (s : Scheme) (g w : Bool) (j : ℕ) (name : List ℕ) (rest : List Setting)
+      → ArePlaced line o j (guard_settings g ++ (weak_settings w ++ rest))
+      → j + length (guard_settings g) + length (weak_settings w) ≤ length line.params.items
+      → ms ≡ members unit line some o name s g w → Holds unit line some o name path s g w
+      → permissive_times path unit ms (take j (intervals line))
+      ≡ Ok (take (j + length (guard_settings g) + length (weak_settings w)) (intervals line))
   unfolding permissive_times
-  permissive_back s g w n name places fits is held =
-      rw (reversal_back s g w n name places (omega arith) (rw is held.reversal_is))
-      (echo_next s g w n name places fits (rw is held.echo_is))
+  permissive_back s g w j name rest placed fits is held =
+      let more = placed_parts line o j (guard_settings g) (weak_settings w ++ rest) placed in
+      let last = placed_parts line o (j + length (guard_settings g)) (weak_settings w) rest more.1
+      in
+      rw (guard_back g j more.0 (omega arith) (rw is held.guard_is))
+      (weak_back w (j + length (guard_settings g)) last.0 fits (rw is held.weak_is))
+
+  -- what a scheme with no flags has
+  own_back :
+      (s : Scheme) (j : ℕ) (name : List ℕ) → ArePlaced line o j (scheme_settings s ++ [])
+      → j + length (scheme_settings s) ≤ length line.params.items
+      → ms ≡ members unit line some o name s false false
+      → Holds unit line some o name path s false false
+      → required_times path (scheme_settings s) unit ms (take j (intervals line))
+      ≡ Ok (take (j + 0 + 0 + length (scheme_settings s)) (intervals line))
+  own_back s j name placed fits is held =
+      required_back unit line o some path ms j (scheme_settings s) (scheme_whole unit line o some s)
+      (placed_parts line o j (scheme_settings s) [] placed).0 fits (rw is held.scheme_is)
+      ∙ as_many line (j + length (scheme_settings s)) (j + 0 + 0 + length (scheme_settings s))
+      (omega arith)
 
   scheme_back :
-      (s : Scheme) (g w : Bool) (n : ℕ) (name : List ℕ) → has_flags s || not (w || g) ≡ true
-      → Placed s g w n
-      → n + 8 + length (guard_settings g) + length (weak_settings w) + length (scheme_settings s)
+      (s : Scheme) (g w : Bool) (j : ℕ) (name : List ℕ) → has_flags s || not (w || g) ≡ true
+      → ArePlaced line o j (guard_settings g ++ (weak_settings w ++ (scheme_settings s ++ [])))
+      → j + length (guard_settings g) + length (weak_settings w) + length (scheme_settings s)
       ≤ length line.params.items
-      → ms ≡ members unit line o name s g w → Holds unit line o name path s g w
-      → scheme_times s path unit ms (take (n + 8) (intervals line))
+      → ms ≡ members unit line some o name s g w → Holds unit line some o name path s g w
+      → scheme_times s path unit ms (take j (intervals line))
       ≡ Ok (take
-      (n + 8 + length (guard_settings g) + length (weak_settings w)
-      + length (scheme_settings s)) (intervals line))
-  unfolding required_times
-  scheme_back Pott g w n name flags places fits is held =
-      let j : ℕ = n + 8 + length (guard_settings g) + length (weak_settings w) in
-      let same : j ≡ j + 0 = omega arith in
-      permissive_back Pott g w n name places (omega arith) is held
-      ∙ ap (λ i. ok_of (take i (intervals line))) same
-  scheme_back Dcub g w n name flags places fits is held =
-      let j : ℕ = n + 8 + length (guard_settings g) + length (weak_settings w) in
-      let same : j ≡ j + 0 = omega arith in
-      permissive_back Dcub g w n name places (omega arith) is held
-      ∙ ap (λ i. ok_of (take i (intervals line))) same
-  scheme_back Putt false false n name flags places fits is held =
-      let same : n + 8 ≡ n + 8 + 0 + 0 + 0 = omega arith in
-      ap (λ i. ok_of (take i (intervals line))) same
-  scheme_back Dcb false false n name flags places fits is held =
-      let a = places.at BlockCarry 8 (n + 8) refl refl in
-      let b = places.at BlockCoord 9 (n + 8 + 1) refl (omega arith) in
-      let read =
-      block_back unit line o (key_path path (codes "block")) (take (n + 8) (intervals line)) some
-      (rw a (times_at_place line (n + 8) (omega arith)))
-      (rw b (times_at_place line (n + 8 + 1) (omega arith))) in
-      let here : get_member (codes "block") ms ≡ block_value unit line o name Dcb =
-      rw is held.block_is in
-      let same : n + 8 + 2 ≡ n + 8 + 0 + 0 + 2 = omega arith in
-      rw here
-      (read ∙ rw (a, b, next_two (n + 8) (omega arith))
-      (ap (λ i. ok_of (take i (intervals line))) same))
-  scheme_back Dtt false false n name flags places fits is held =
-      let a = places.at TransferSecurity 8 (n + 8) refl refl in
-      let read =
-      transfer_back unit line o (key_path path (codes "transfer")) (take (n + 8) (intervals line))
-      some (rw a (times_at_place line (n + 8) (omega arith))) in
-      let here : get_member (codes "transfer") ms ≡ transfer_value unit line o name Dtt =
-      rw is held.transfer_is in
-      let same : n + 8 + 1 ≡ n + 8 + 0 + 0 + 1 = omega arith in
-      rw here
-      (read ∙ rw (a, take_next line (n + 8) (omega arith))
-      (ap (λ i. ok_of (take i (intervals line))) same))
-  scheme_back Putt true w n name flags places fits is held = absurd (no_flag w true flags)
-  scheme_back Putt false true n name flags places fits is held = absurd (cc)
-  scheme_back Dcb true w n name flags places fits is held = absurd (no_flag w true flags)
-  scheme_back Dcb false true n name flags places fits is held = absurd (cc)
-  scheme_back Dtt true w n name flags places fits is held = absurd (no_flag w true flags)
-  scheme_back Dtt false true n name flags places fits is held = absurd (cc)
+      (j + length (guard_settings g) + length (weak_settings w) + length (scheme_settings s))
+      (intervals line))
+  scheme_back Pott g w j name flags placed fits is held =
+      permissive_back Pott g w j name [] placed (omega arith) is held
+      ∙ as_many line (j + length (guard_settings g) + length (weak_settings w))
+      (j + length (guard_settings g) + length (weak_settings w) + 0) (omega arith)
+  scheme_back Dcub g w j name flags placed fits is held =
+      permissive_back Dcub g w j name [] placed (omega arith) is held
+      ∙ as_many line (j + length (guard_settings g) + length (weak_settings w))
+      (j + length (guard_settings g) + length (weak_settings w) + 0) (omega arith)
+  scheme_back s false false j name flags placed fits is held =
+      own_back s j name placed (omega arith) is held
+  scheme_back s true true j name flags placed fits is held = absurd (cc)
+  scheme_back s true false j name flags placed fits is held = absurd (cc)
+  scheme_back s false true j name flags placed fits is held = absurd (cc)
 
 weak_stands :
-    (unit : ℕ) (line : Line) (o : Owner) (name : List ℕ) (w : Bool)
-    → is_some (weak_value unit line o name w) ≡ w
-weak_stands unit line o name true = refl
-weak_stands unit line o name false = refl
+    (unit : ℕ) (line : Line) (o : Owner) (some : 0 < unit) (w : Bool)
+    → is_some (value unit line o some (weak_settings w)) ≡ w
+weak_stands unit line o some true = refl
+weak_stands unit line o some false = refl
 
 guard_stands :
-    (unit : ℕ) (line : Line) (o : Owner) (name : List ℕ) (g : Bool)
-    → is_some (guard_value unit line o name g) ≡ g
-guard_stands unit line o name true = refl
-guard_stands unit line o name false = refl
+    (unit : ℕ) (line : Line) (o : Owner) (some : 0 < unit) (g : Bool)
+    → is_some (value unit line o some (guard_settings g)) ≡ g
+guard_stands unit line o some true = refl
+guard_stands unit line o some false = refl
 
 -- terminal k is read back
 terminal_back : LineLaws →
@@ -329,14 +265,13 @@ terminal_back laws unit line path k t some lt is =
     rw is (passes (λ u. is_plain_name u.name) ts k t lt line.plain_names) in
     let flags : has_flags s || not (t.weak || t.guard) ≡ true =
     flags_at (has_flags s) ts k t lt is line.flags_by_scheme in
-    let held = holds unit line o t.name path s t.guard t.weak flags in
-    let places : Placed unit line some o path ms s t.guard t.weak n =
-    record {
-      at = λ x i j place sum.
-          interval_at line o x n i (terminal_place s t.guard t.weak x)
-          (laws.parameters.of_terminal line k x t lt is)
-          place ∙ ap (λ m. interval_of line m) sum;
-    } in
+    let held = holds unit line some o t.name path s t.guard t.weak flags in
+    let first : n + 0 ≡ n = omega arith in
+    let placed : ArePlaced line o n (terminal_settings s t) =
+    subst (λ i. ArePlaced line o i (terminal_settings s t)) first
+    (placed_from line o n (terminal_settings s t)
+    (λ x. laws.parameters.of_terminal line k x t lt is) 0 (terminal_settings s t)
+    (terminal_in_place s t.guard t.weak)) in
     let count : n + length (terminal_settings s t) ≡ before line (k + 1) =
     laws.settings.terminals s ts k n (length (terminal_settings s t)) t lt is refl refl in
     let own = own_settings_count s t in
@@ -348,20 +283,24 @@ terminal_back laws unit line path k t some lt is =
       laws.settings.all s ts line.channels.items (length (settings_of_terminals s 0 ts))
           (length (channel_settings s)) refl refl,
     ) in
-    let sum : n + 8 + length (guard_settings t.guard) + length (weak_settings t.weak)
-    + length (scheme_settings s) ≡ before line (k + 1) = omega arith in
-    let elements = elements_back unit line some o path ms s t.guard t.weak n t.name places
+    let sum : n + 2 + 2 + 2 + 2 + length (guard_settings t.guard)
+    + length (weak_settings t.weak) + length (scheme_settings s) ≡ before line (k + 1) =
+    omega arith in
+    let elements = elements_back unit line some o path ms s t.guard t.weak n t.name
+    (guard_settings t.guard ++ (weak_settings t.weak ++ (scheme_settings s ++ []))) placed
     (omega arith) refl held in
-    let besides = scheme_back unit line some o path ms s t.guard t.weak n t.name flags places
-    (omega arith) refl held in
-    let weak_is : has_flags s && is_some (get_member (codes "echo") ms) ≡ t.weak =
-    rw held.echo_is
-    (flag_back (has_flags s) t.weak t.guard (weak_value unit line o t.name t.weak) flags
-    (weak_stands unit line o t.name t.weak)) in
-    let guard_is : has_flags s && is_some (get_member (codes "reversal") ms) ≡ t.guard =
-    rw held.reversal_is
-    (flag_back_too (has_flags s) t.weak t.guard (guard_value unit line o t.name t.guard) flags
-    (guard_stands unit line o t.name t.guard)) in
+    let besides = scheme_back unit line some o path ms s t.guard t.weak (n + 2 + 2 + 2 + 2) t.name
+    flags elements.1 (omega arith) refl held in
+    let weak_is : has_flags s && is_some (get_member (group_key (weak_settings true)) ms)
+    ≡ t.weak =
+    rw held.weak_is
+    (flag_back (has_flags s) t.weak t.guard (value unit line o some (weak_settings t.weak)) flags
+    (weak_stands unit line o some t.weak)) in
+    let guard_is : has_flags s && is_some (get_member (group_key (guard_settings true)) ms)
+    ≡ t.guard =
+    rw held.guard_is
+    (flag_back_too (has_flags s) t.weak t.guard (value unit line o some (guard_settings t.guard))
+    flags (guard_stands unit line o some t.guard)) in
     let named : terminal_named s ms t.name ≡ t = rw (weak_is, guard_is) in
     let taken : take (k + 1) ts ≡ take k ts ++ t ∷ [] =
     take_more ts k t lt ∙ ap (λ (u : Terminal). take k ts ++ u ∷ []) (sym is) in
@@ -370,7 +309,7 @@ terminal_back laws unit line path k t some lt is =
       held.name_is,
       plain,
       new_name line k t lt is,
-      elements,
+      elements.0,
       besides,
       named,
       ← taken,

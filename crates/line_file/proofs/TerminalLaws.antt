@@ -8,15 +8,16 @@ use Rattle.std.specs.List.{list_any}
 use Rattle.toml.specs.Data.{Data, Members, get_member}
 use Rattle.line_model.specs.declared.line.Scheme.TheVariants.{Pott, Putt, Dcb, Dcub, Dtt}
 use Rattle.line_model.specs.Settings.{guard_settings, weak_settings, scheme_settings}
-use Rattle.line_model.specs.Settings.{terminal_settings}
-use Rattle.line_model.specs.declared.line.Scheme.{Scheme}
+use Rattle.line_model.specs.Settings.{terminal_settings, zone1_settings, zone2_settings}
+use Rattle.line_model.specs.Settings.{reverse_settings, undervoltage_settings}
+use Rattle.line_model.specs.{declared.line.Scheme.Scheme, declared.line.Setting.Setting}
 use Rattle.line_model.specs.{declared.bounds.Bounds.Bounds, declared.line.Terminal.Terminal}
 use Rattle.line_model.specs.{PlainNames.is_plain_name, Terminals.has_flags, Terminals.has_no_flag}
-use Rattle.line_file.specs.TerminalTables.{timer_keys, echo_keys, block_keys, transfer_keys}
 use Rattle.line_file.specs.TerminalTables.{terminal_keys, name_at, no_times, element_times}
 use Rattle.line_file.specs.TerminalTables.{elements_times, permissive_times, scheme_times}
 use Rattle.line_file.specs.TerminalTables.{terminal_named, terminal_at}
 use Rattle.line_file.specs.{Keys.all_known, Keys.table_in, Keys.text_at, Lines.LineValues}
+use Rattle.line_file.specs.Times.{group_key}
 use Rattle.line_file.proofs.Binds.{bind_ok, guard_ok, same_ok}
 use Rattle.line_file.proofs.TimeLaws.{IsTime, AreTimes, Grew, grew_none, grew_more, grew_as}
 use Rattle.line_file.proofs.TimeLaws.{required_ok, optional_ok}
@@ -27,28 +28,26 @@ no_times_are =
     record { ordered = omega arith; within = omega arith; enough = omega arith } in
     (none, (none, tt))
 
-element_ok :
-    (path key : List ℕ) (unit : ℕ) (ms : Members) (done more : List Bounds) → 0 < unit
-    → element_times path key unit ms done ≡ Ok more → Grew 2 done more
-element_ok path key unit ms done more some e =
-    optional_ok 2 no_times path key timer_keys unit ms done more some no_times_are (λ _. refl)
-    (λ _. refl) e
-
 -- the four elements have eight intervals
 elements_ok :
     (path : List ℕ) (unit : ℕ) (ms : Members) (done more : List Bounds) → 0 < unit
     → elements_times path unit ms done ≡ Ok more → Grew 8 done more
 unfolding elements_times
 elements_ok path unit ms done more some e =
-    let (z1, z1_is, e1) = bind_ok (element_times path (codes "z1") unit ms done) _ more e in
-    let (z2, z2_is, e2) = bind_ok (element_times path (codes "z2") unit ms z1) _ more e1 in
-    let (rv, rv_is, e3) = bind_ok (element_times path (codes "rv") unit ms z2) _ more e2 in
-    let one = element_ok path (codes "z1") unit ms done z1 some z1_is in
-    let two = element_ok path (codes "z2") unit ms z1 z2 some z2_is in
-    let three = element_ok path (codes "rv") unit ms z2 rv some rv_is in
-    let four = element_ok path (codes "uv") unit ms rv more some e3 in
+    let (z1, z1_is, e1) = bind_ok (element_times path zone1_settings unit ms done) _ more e in
+    let (z2, z2_is, e2) = bind_ok (element_times path zone2_settings unit ms z1) _ more e1 in
+    let (rv, rv_is, e3) = bind_ok (element_times path reverse_settings unit ms z2) _ more e2 in
     grew_more 6 2 done rv more
-    (grew_more 4 2 done z2 rv (grew_more 2 2 done z1 z2 one two) three) four
+    (grew_more 4 2 done z2 rv
+    (grew_more 2 2 done z1 z2 (one zone1_settings refl done z1 z1_is)
+    (one zone2_settings refl z1 z2 z2_is)) (one reverse_settings refl z2 rv rv_is))
+    (one undervoltage_settings refl rv more e3)
+  where
+    one :
+        (xs : List Setting) → length xs ≡ 2 → (old new : List Bounds)
+        → element_times path xs unit ms old ≡ Ok new → Grew 2 old new
+    one xs two old new is =
+        optional_ok 2 no_times path xs unit ms old new some no_times_are (λ _. refl) (λ _. two) is
 
 guard_count :
     (o : Option Data) → ((o ≡ None → 0 ≡ length (guard_settings (is_some o)))
@@ -65,20 +64,20 @@ weak_count (Some d) = (λ h. absurd (cc), λ _. refl)
 permissive_ok :
     (path : List ℕ) (unit : ℕ) (ms : Members) (done more : List Bounds) → 0 < unit
     → permissive_times path unit ms done ≡ Ok more
-    → Grew (length (guard_settings (is_some (get_member (codes "reversal") ms)))
-    + length (weak_settings (is_some (get_member (codes "echo") ms)))) done more
+    → Grew (length (guard_settings (is_some (get_member (group_key (guard_settings true)) ms)))
+    + length (weak_settings (is_some (get_member (group_key (weak_settings true)) ms)))) done more
 unfolding permissive_times
 permissive_ok path unit ms done more some e =
-    let reversal : Option Data = get_member (codes "reversal") ms in
-    let echo : Option Data = get_member (codes "echo") ms in
+    let reversal : Option Data = get_member (group_key (guard_settings true)) ms in
+    let echo : Option Data = get_member (group_key (weak_settings true)) ms in
     let (mid, mid_is, e1) = bind_ok _ _ more e in
     let g = guard_count reversal in
     let w = weak_count echo in
     grew_more (length (guard_settings (is_some reversal))) (length (weak_settings (is_some echo)))
     done mid more
-    (optional_ok (length (guard_settings (is_some reversal))) [] path (codes "reversal") timer_keys
+    (optional_ok (length (guard_settings (is_some reversal))) [] path (guard_settings true)
     unit ms done mid some tt g.0 g.1 mid_is)
-    (optional_ok (length (weak_settings (is_some echo))) [] path (codes "echo") echo_keys unit ms
+    (optional_ok (length (weak_settings (is_some echo))) [] path (weak_settings true) unit ms
     mid more some tt w.0 w.1 e1)
 
 -- how many settings a terminal has besides those of its elements
@@ -95,19 +94,20 @@ scheme_ok Pott path unit ms name done more some e =
 scheme_ok Dcub path unit ms name done more some e =
     grew_as _ _ done more (omega arith) (permissive_ok path unit ms done more some e)
 scheme_ok Putt path unit ms name done more some e =
-    subst (λ x. Grew 0 done x) (same_ok done more e) (grew_none done)
+    required_ok path (scheme_settings Putt) unit ms done more some e
 scheme_ok Dcb path unit ms name done more some e =
-    required_ok path (codes "block") block_keys unit ms done more some e
+    required_ok path (scheme_settings Dcb) unit ms done more some e
 scheme_ok Dtt path unit ms name done more some e =
-    required_ok path (codes "transfer") transfer_keys unit ms done more some e
+    required_ok path (scheme_settings Dtt) unit ms done more some e
 
 pub own_settings_count :
     (s : Scheme) (t : Terminal) → 8 + own_count s t ≡ length (terminal_settings s t)
 own_settings_count s t =
     omega (
       arith,
-      length-append (guard_settings t.guard) (weak_settings t.weak ++ scheme_settings s),
-      length-append (weak_settings t.weak) (scheme_settings s),
+      length-append (guard_settings t.guard) (weak_settings t.weak ++ (scheme_settings s ++ [])),
+      length-append (weak_settings t.weak) (scheme_settings s ++ []),
+      length-append (scheme_settings s) [],
     )
 
 -- what one more terminal is

@@ -6,12 +6,14 @@ use Rattle.std.proofs.lemmas.Bool.{and_parts, leb-true}
 use Rattle.std.proofs.lemmas.List.{append-nil}
 use Rattle.std.proofs.lemmas.Nat.{le-div}
 use Rattle.std.proofs.Math.Nat.{div-lt_iff_lt-mul}
-use Rattle.std.specs.Prelude.{IsTrue, is_some}
+use Rattle.std.specs.Prelude.{IsTrue, is_some, map}
 use Rattle.toml.specs.Data.{Data, string, integer, float, boolean, datetime, array, table, Members}
 use Rattle.toml.specs.Data.{Items, no_items, item, as_integer, get_member}
-use Rattle.line_model.specs.declared.bounds.Bounds.{Bounds}
+use Rattle.line_model.specs.{declared.bounds.Bounds.Bounds, declared.line.Setting.Setting}
+use Rattle.line_model.specs.{Settings.table_key, Settings.time_key, ParamNames.key_path}
 use Rattle.line_file.specs.Times.{in_ticks, interval_in, two_ends, ends_in, time_in, time_at}
-use Rattle.line_file.specs.Times.{times_at, times_in, required_times, times_or, optional_times}
+use Rattle.line_file.specs.Times.{times_at, times_in, group_key, required_times, times_or}
+use Rattle.line_file.specs.Times.{optional_times}
 use Rattle.line_file.specs.{Keys.all_known, Keys.value_at, Keys.table_in}
 use Rattle.line_file.proofs.Binds.{bind_ok, taken_ok, same_ok}
 
@@ -134,55 +136,56 @@ time_ok path key unit fewest ms t some e =
 
 -- times that are read
 times_ok :
-    (path : List ℕ) (keys : List (List ℕ)) (unit : ℕ) (ms : Members) (done more : List Bounds)
-    → 0 < unit → times_at path keys unit ms done ≡ Ok more → Grew (length keys) done more
+    (path : List ℕ) (xs : List Setting) (unit : ℕ) (ms : Members) (done more : List Bounds)
+    → 0 < unit → times_at path xs unit ms done ≡ Ok more → Grew (length xs) done more
 unfolding times_at
 times_ok path [] unit ms done more some e =
     subst (λ x. Grew 0 done x) (same_ok done more e) (grew_none done)
-times_ok path (key ∷ keys) unit ms done more some e =
-    let (t, t_is, rest) = bind_ok (time_at path key unit 0 ms) _ more e in
-    let one = grew_one done t (time_ok path key unit 0 ms t some t_is) in
-    grew_as (1 + length keys) (length (key ∷ keys)) done more (omega arith)
-    (grew_more 1 (length keys) done (done ++ t ∷ []) more one
-    (times_ok path keys unit ms (done ++ t ∷ []) more some rest))
+times_ok path (x ∷ xs) unit ms done more some e =
+    let (t, t_is, rest) = bind_ok (time_at path (time_key x) unit 0 ms) _ more e in
+    let one = grew_one done t (time_ok path (time_key x) unit 0 ms t some t_is) in
+    grew_as (1 + length xs) (length (x ∷ xs)) done more (omega arith)
+    (grew_more 1 (length xs) done (done ++ t ∷ []) more one
+    (times_ok path xs unit ms (done ++ t ∷ []) more some rest))
 
 times_in_ok :
-    (path : List ℕ) (keys : List (List ℕ)) (unit : ℕ) (d : Data) (done more : List Bounds)
-    → 0 < unit → times_in path keys unit d done ≡ Ok more → Grew (length keys) done more
+    (path : List ℕ) (xs : List Setting) (unit : ℕ) (d : Data) (done more : List Bounds)
+    → 0 < unit → times_in path xs unit d done ≡ Ok more → Grew (length xs) done more
 unfolding times_in
-times_in_ok path keys unit d done more some e =
+times_in_ok path xs unit d done more some e =
     let (ms, ms_is, e1) = bind_ok (table_in path d) _ more e in
-    let (known, known_is, e2) = bind_ok (all_known path keys ms) _ more e1 in
-    times_ok path keys unit ms done more some e2
+    let (known, known_is, e2) = bind_ok (all_known path (map time_key xs) ms) _ more e1 in
+    times_ok path xs unit ms done more some e2
 
 -- those of a required table
 pub required_ok :
-    (path key : List ℕ) (keys : List (List ℕ)) (unit : ℕ) (ms : Members) (done more : List Bounds)
-    → 0 < unit → required_times path key keys unit ms done ≡ Ok more → Grew (length keys) done more
+    (path : List ℕ) (xs : List Setting) (unit : ℕ) (ms : Members) (done more : List Bounds)
+    → 0 < unit → required_times path xs unit ms done ≡ Ok more → Grew (length xs) done more
 unfolding required_times
-required_ok path key keys unit ms done more some e =
-    let (d, d_is, made) = bind_ok (value_at path key ms) _ more e in
-    times_in_ok (key_path path key) keys unit d done more some made
+required_ok path [] unit ms done more some e =
+    subst (λ x. Grew 0 done x) (same_ok done more e) (grew_none done)
+required_ok path (x ∷ xs) unit ms done more some e =
+    let (d, d_is, made) = bind_ok (value_at path (table_key x) ms) _ more e in
+    times_in_ok (key_path path (table_key x)) (x ∷ xs) unit d done more some made
 
 times_or_ok :
-    (n : ℕ) (absent : List Bounds) (path : List ℕ) (keys : List (List ℕ)) (unit : ℕ)
+    (n : ℕ) (absent : List Bounds) (path : List ℕ) (xs : List Setting) (unit : ℕ)
     (o : Option Data) (done more : List Bounds) → 0 < unit → AreTimes absent
-    → (o ≡ None → length absent ≡ n) → (IsTrue (is_some o) → length keys ≡ n)
-    → times_or absent path keys unit o done ≡ Ok more → Grew n done more
-times_or_ok n absent path keys unit None done more some times none there e =
+    → (o ≡ None → length absent ≡ n) → (IsTrue (is_some o) → length xs ≡ n)
+    → times_or absent path xs unit o done ≡ Ok more → Grew n done more
+times_or_ok n absent path xs unit None done more some times none there e =
     record { added = absent; is = same_ok _ more e; times = times; count = none refl }
-times_or_ok n absent path keys unit (Some d) done more some times none there e =
-    grew_as (length keys) n done more (there refl)
-    (times_in_ok path keys unit d done more some e)
+times_or_ok n absent path xs unit (Some d) done more some times none there e =
+    grew_as (length xs) n done more (there refl) (times_in_ok path xs unit d done more some e)
 
 -- those of a table that may be absent
 pub optional_ok :
-    (n : ℕ) (absent : List Bounds) (path key : List ℕ) (keys : List (List ℕ)) (unit : ℕ)
-    (ms : Members) (done more : List Bounds) → 0 < unit → AreTimes absent
-    → (get_member key ms ≡ None → length absent ≡ n)
-    → (IsTrue (is_some (get_member key ms)) → length keys ≡ n)
-    → optional_times absent path key keys unit ms done ≡ Ok more → Grew n done more
+    (n : ℕ) (absent : List Bounds) (path : List ℕ) (xs : List Setting) (unit : ℕ) (ms : Members)
+    (done more : List Bounds) → 0 < unit → AreTimes absent
+    → (get_member (group_key xs) ms ≡ None → length absent ≡ n)
+    → (IsTrue (is_some (get_member (group_key xs) ms)) → length xs ≡ n)
+    → optional_times absent path xs unit ms done ≡ Ok more → Grew n done more
 unfolding optional_times
-optional_ok n absent path key keys unit ms done more some times none there e =
-    times_or_ok n absent (key_path path key) keys unit (get_member key ms) done more some times none
-    there e
+optional_ok n absent path xs unit ms done more some times none there e =
+    times_or_ok n absent (key_path path (group_key xs)) xs unit (get_member (group_key xs) ms) done
+    more some times none there e

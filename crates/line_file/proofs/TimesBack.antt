@@ -1,23 +1,26 @@
 -- Printed times are read back.
-use Rattle.std.proofs.Common.{◌≡◌, ◌+◌, ◌-◌, ◌*◌, ◌/◌, ◌<◌, ◌≤◌, ◌++◌, ℕ, List, [], ◌∷◌, Ok, arith}
+use Rattle.std.proofs.Common.{◌≡◌, ◌+◌, ◌-◌, ◌*◌, ◌/◌, ◌<◌, ◌≤◌, ◌++◌, ◌∙◌, ℕ, true, List, [], ◌∷◌}
+use Rattle.std.proofs.Common.{Ok, Option, Some, None, arith, ap, refl, take, length, map}
 use Rattle.std.proofs.Common.{mul-le-mul_right}
 use Rattle.std.proofs.Math.Nat.{mul-div_left}
 use Rattle.std.proofs.lemmas.Bool.{le-leb}
 use Rattle.std.proofs.lemmas.Nat.{div-mul-add}
-use Rattle.line_model.specs.declared.line.Setting.TheVariants.{EchoBlock, EchoPickup, EchoPulse}
-use Rattle.line_model.specs.declared.line.Setting.TheVariants.{BlockCarry, BlockCoord}
-use Rattle.line_model.specs.declared.line.Setting.TheVariants.{TransferSecurity, UnblockPickup}
-use Rattle.line_model.specs.declared.line.Setting.TheVariants.{UnblockWindow, UnblockRestore}
+use Rattle.std.proofs.lemmas.List.{append-nil}
+use Rattle.toml.specs.Data.{Data, Members, get_member}
+use Rattle.line_model.specs.Settings.{time_key, zone1_settings, zone2_settings, reverse_settings}
+use Rattle.line_model.specs.Settings.{undervoltage_settings, guard_settings, weak_settings}
+use Rattle.line_model.specs.Settings.{scheme_settings, receiver_settings, table_key}
+use Rattle.line_model.specs.declared.line.Scheme.TheVariants.{Pott, Putt, Dcb, Dcub, Dtt}
+use Rattle.line_model.specs.{declared.line.Scheme.Scheme, ParamNames.key_path}
 use Rattle.line_model.specs.{declared.bounds.Bounds.Bounds, declared.line.Setting.Setting}
 use Rattle.line_model.specs.{declared.line.Line.Line, declared.line.Owner.Owner}
-use Rattle.line_file.specs.Keys.{all_known}
-use Rattle.line_file.specs.Times.{time_in, time_at, times_at, times_in}
-use Rattle.line_file.specs.TerminalTables.{timer_keys, echo_keys, block_keys, transfer_keys}
-use Rattle.line_file.specs.ChannelTables.{unblock_keys}
-use Rattle.line_file.specs.Canonical.{time_data, setting_interval, times_data, timer_settings}
-use Rattle.line_file.specs.Canonical.{echo_settings, block_settings, transfer_settings}
-use Rattle.line_file.specs.Canonical.{unblock_settings}
-use Rattle.line_file.proofs.TimeLaws.{IsTime}
+use Rattle.line_file.specs.Keys.{all_known, first_unknown}
+use Rattle.line_file.specs.Times.{time_in, time_at, times_at, times_in, group_key, required_times}
+use Rattle.line_file.specs.Times.{optional_times}
+use Rattle.line_file.specs.Canonical.{table_of, time_data, setting_interval, setting_pair, times_data}
+use Rattle.line_file.specs.Canonical.{interval_of}
+use Rattle.line_file.proofs.ParamPlaces.{intervals, take_next, times_at_place, ArePlaced}
+use Rattle.line_file.proofs.{TimeLaws.IsTime, Binds.ok_of}
 
 -- a printed time gives its interval
 pub time_back :
@@ -37,53 +40,111 @@ time_back path unit fewest b some t =
       greatest,
     )
 
-module _ (unit : ℕ) (line : Line) (o : Owner) (path : List ℕ) (done : List Bounds)
-    (some : 0 < unit) where
-  -- the printed pickup and dropout give their intervals
-  pub timer_back :
-      (x y : Setting) → IsTime 0 (setting_interval line o x) → IsTime 0 (setting_interval line o y)
-      → times_in path timer_keys unit (times_data unit line o (timer_settings x y)) done
-      ≡ Ok (done ++ setting_interval line o x ∷ [] ++ setting_interval line o y ∷ [])
-  unfolding times_in times_data all_known times_at time_at
-  timer_back x y a b = rw (time_back _ unit 0 _ some a, time_back _ unit 0 _ some b)
+-- as many intervals of the line
+pub as_many :
+    (line : Line) (i j : ℕ) → i ≡ j
+    → ok_of (take i (intervals line)) ≡ Ok (take j (intervals line))
+as_many line i j same = ap (λ n. ok_of (take n (intervals line))) same
 
-  -- those of the echo
-  pub echo_back :
-      IsTime 0 (setting_interval line o EchoBlock) → IsTime 0 (setting_interval line o EchoPickup)
-      → IsTime 0 (setting_interval line o EchoPulse)
-      → times_in path echo_keys unit (times_data unit line o echo_settings) done
-      ≡ Ok (done ++ setting_interval line o EchoBlock ∷ [] ++ setting_interval line o EchoPickup
-      ∷ []
-      ++ setting_interval line o EchoPulse ∷ [])
-  unfolding times_in times_data all_known times_at time_at
-  echo_back a b c =
-      rw (time_back _ unit 0 _ some a, time_back _ unit 0 _ some b, time_back _ unit 0 _ some c)
+module _ (unit : ℕ) (line : Line) (o : Owner) (some : 0 < unit) where
+  -- what is printed for these settings; nothing where there are none
+  abbrev pub value : List Setting → Option Data
+  value [] = None
+  value (x ∷ xs) = Some (times_data unit line o (x ∷ xs))
 
-  -- those of the blocking signal
-  pub block_back :
-      IsTime 0 (setting_interval line o BlockCarry) → IsTime 0 (setting_interval line o BlockCoord)
-      → times_in path block_keys unit (times_data unit line o block_settings) done
-      ≡ Ok (done ++ setting_interval line o BlockCarry ∷ [] ++ setting_interval line o BlockCoord
-      ∷ [])
-  unfolding times_in times_data all_known times_at time_at
-  block_back a b = rw (time_back _ unit 0 _ some a, time_back _ unit 0 _ some b)
+  -- the members are the times of these settings
+  abbrev pub AreHeld : Members → List Setting → Type 0
+  AreHeld ms [] = Unit {0}
+  AreHeld ms (x ∷ xs) =
+      (get_member (time_key x) ms ≡ Some (time_data unit (setting_interval line o x)))
+      × AreHeld ms xs
 
-  -- that of the transferred trip
-  pub transfer_back :
-      IsTime 0 (setting_interval line o TransferSecurity)
-      → times_in path transfer_keys unit (times_data unit line o transfer_settings) done
-      ≡ Ok (done ++ setting_interval line o TransferSecurity ∷ [])
-  unfolding times_in times_data all_known times_at time_at
-  transfer_back a = rw (time_back _ unit 0 _ some a)
+  times_back :
+      (path : List ℕ) (ms : Members) (xs : List Setting) (j : ℕ) → AreHeld ms xs
+      → ArePlaced line o j xs → j + length xs ≤ length line.params.items
+      → times_at path xs unit ms (take j (intervals line))
+      ≡ Ok (take (j + length xs) (intervals line))
+  unfolding times_at time_at
+  times_back path ms [] j held placed fits = as_many line j (j + 0) (omega arith)
+  times_back path ms (x ∷ xs) j held placed fits =
+      let here = times_at_place line j (omega arith) in
+      let time = time_back (key_path path (time_key x)) unit 0 (setting_interval line o x) some
+      (rw placed.0 here) in
+      let next = take_next line j (omega arith) in
+      rw (held.0, time, placed.0, next)
+      (times_back path ms xs (j + 1) held.1 placed.1 (omega arith)
+      ∙ as_many line (j + 1 + length xs) (j + length (x ∷ xs)) (omega arith))
 
-  -- those of the unblocking receiver
-  pub unblock_back :
-      IsTime 0 (setting_interval line o UnblockPickup)
-      → IsTime 0 (setting_interval line o UnblockWindow)
-      → IsTime 0 (setting_interval line o UnblockRestore)
-      → times_in path unblock_keys unit (times_data unit line o unblock_settings) done
-      ≡ Ok (done ++ setting_interval line o UnblockPickup ∷ []
-      ++ setting_interval line o UnblockWindow ∷ [] ++ setting_interval line o UnblockRestore ∷ [])
-  unfolding times_in times_data all_known times_at time_at
-  unblock_back a b c =
-      rw (time_back _ unit 0 _ some a, time_back _ unit 0 _ some b, time_back _ unit 0 _ some c)
+  -- the table that is printed for a group has its settings and no others
+  pub record IsWhole (xs : List Setting) : Type 0 where
+    pub known :
+        first_unknown (map time_key xs) (table_of (map (setting_pair unit line o) xs)) ≡ None
+    pub held : AreHeld (table_of (map (setting_pair unit line o) xs)) xs
+
+  pub zone1_whole : IsWhole zone1_settings
+  zone1_whole = record { known = refl; held = (refl, (refl, tt)) }
+
+  pub zone2_whole : IsWhole zone2_settings
+  zone2_whole = record { known = refl; held = (refl, (refl, tt)) }
+
+  pub reverse_whole : IsWhole reverse_settings
+  reverse_whole = record { known = refl; held = (refl, (refl, tt)) }
+
+  pub undervoltage_whole : IsWhole undervoltage_settings
+  undervoltage_whole = record { known = refl; held = (refl, (refl, tt)) }
+
+  pub guard_whole : IsWhole (guard_settings true)
+  guard_whole = record { known = refl; held = (refl, (refl, tt)) }
+
+  pub weak_whole : IsWhole (weak_settings true)
+  weak_whole = record { known = refl; held = (refl, (refl, (refl, tt))) }
+
+  pub scheme_whole : (s : Scheme) → IsWhole (scheme_settings s)
+  scheme_whole Dcb = record { known = refl; held = (refl, (refl, tt)) }
+  scheme_whole Dtt = record { known = refl; held = (refl, tt) }
+  scheme_whole _ = record { known = refl; held = tt }
+
+  pub receiver_whole : (s : Scheme) → IsWhole (receiver_settings s)
+  receiver_whole Dcub = record { known = refl; held = (refl, (refl, (refl, tt))) }
+  receiver_whole _ = record { known = refl; held = tt }
+
+  -- a group is read back
+  group_back :
+      (path : List ℕ) (j : ℕ) (xs : List Setting) → IsWhole xs → ArePlaced line o j xs
+      → j + length xs ≤ length line.params.items
+      → times_in path xs unit (times_data unit line o xs) (take j (intervals line))
+      ≡ Ok (take (j + length xs) (intervals line))
+  unfolding times_in times_data all_known
+  group_back path j xs whole placed fits =
+      rw whole.known
+      (times_back path (table_of (map (setting_pair unit line o) xs)) xs j whole.held placed fits)
+
+  module _ (path : List ℕ) (ms : Members) (j : ℕ) where
+    pub required_back :
+        (xs : List Setting) → IsWhole xs → ArePlaced line o j xs
+        → j + length xs ≤ length line.params.items → get_member (group_key xs) ms ≡ value xs
+        → required_times path xs unit ms (take j (intervals line))
+        ≡ Ok (take (j + length xs) (intervals line))
+    unfolding required_times
+    required_back [] whole placed fits held = as_many line j (j + 0) (omega arith)
+    required_back (x ∷ xs) whole placed fits held =
+        rw held (group_back (key_path path (table_key x)) j (x ∷ xs) whole placed fits)
+
+    pub optional_back :
+        (absent : List Bounds) (xs : List Setting) → IsWhole xs → ArePlaced line o j xs
+        → j + length xs ≤ length line.params.items
+        → get_member (group_key xs) ms ≡ Some (times_data unit line o xs)
+        → optional_times absent path xs unit ms (take j (intervals line))
+        ≡ Ok (take (j + length xs) (intervals line))
+    unfolding optional_times
+    optional_back absent xs whole placed fits held =
+        rw held (group_back (key_path path (group_key xs)) j xs whole placed fits)
+
+    -- where it is absent, nothing is read
+    pub absent_back :
+        (xs : List Setting) → get_member (group_key xs) ms ≡ None
+        → optional_times [] path xs unit ms (take j (intervals line))
+        ≡ Ok (take (j + 0) (intervals line))
+    unfolding optional_times
+    absent_back xs held =
+        rw (held, append-nil (take j (intervals line))) (as_many line j (j + 0) (omega arith))

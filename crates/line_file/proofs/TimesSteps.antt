@@ -1,9 +1,10 @@
 -- Times, one after another.
-use Rattle.std.proofs.Common.{◌≡◌, ◌≢◌, ◌+◌, ◌++◌, ◌<◌, ℕ, List, [], ◌∷◌, map, drop, length, get_or}
-use Rattle.std.proofs.Common.{Err, Bor, refl}
+use Rattle.std.proofs.Common.{◌≡◌, ◌≢◌, ◌+◌, ◌++◌, ◌<◌, ℕ, List, [], ◌∷◌, drop, length, get_or}
+use Rattle.std.proofs.Common.{Err, refl}
 use Rattle.std.proofs.lemmas.List.{drop_more}
 use Rattle.toml.specs.{Data.Members, View.items_view, declared.value.Value.Value}
-use Rattle.line_model.specs.declared.bounds.Bounds.{Bounds}
+use Rattle.line_model.specs.{declared.bounds.Bounds.Bounds, declared.line.Setting.Setting}
+use Rattle.line_model.specs.Settings.{time_key}
 use Rattle.line_file.specs.declared.fault.LineFault.TheVariants as fault
 use Rattle.line_file.specs.{Reading.◌>>=◌, Times.ends_in, Times.time_at, Times.times_at}
 
@@ -16,15 +17,12 @@ ends_not_two path unit fewest (a ∷ []) other = refl
 ends_not_two path unit fewest (a ∷ b ∷ []) other = absurd (other refl)
 ends_not_two path unit fewest (a ∷ b ∷ c ∷ vs) other = refl
 
-abbrev pub names : List (Bor (List ℕ)) → List (List ℕ)
-names keys = map (λ name. name.now) keys
-
--- the next key's time, and then those after it
+-- the next setting's time, and then those after it
 pub times_more :
-    (path : List ℕ) (keys : List (Bor (List ℕ))) (i unit : ℕ) (ms : Members) (done : List Bounds)
-    (d : Bor (List ℕ)) → i < length keys
-    → times_at path (names (drop i keys)) unit ms done
-    ≡ (time_at path (get_or keys i d).now unit 0 ms
-    >>= λ time. times_at path (names (drop (i + 1) keys)) unit ms (done ++ time ∷ []))
+    (path : List ℕ) (xs : List Setting) (i unit : ℕ) (ms : Members) (done : List Bounds)
+    (d : Setting) → i < length xs
+    → times_at path (drop i xs) unit ms done
+    ≡ (time_at path (time_key (get_or xs i d)) unit 0 ms
+    >>= λ time. times_at path (drop (i + 1) xs) unit ms (done ++ time ∷ []))
 unfolding times_at
-times_more path keys i unit ms done d h = rw (drop_more keys i d h)
+times_more path xs i unit ms done d h = rw (drop_more xs i d h)

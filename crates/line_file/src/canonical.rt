@@ -9,8 +9,10 @@ ghost use Rattle.line_file.specs.Canonical.{channel_members, channels_data, sche
 ghost use Rattle.line_file.specs.Canonical.{head_pairs, canonical_in};
 
 use crate::table::{OwnerTimes, put};
-use line_model::{Channel, Line, Memory, Name, Owner, Scheme, Setting, Terminal};
-use line_model::{groups_of_terminal, receiver_settings};
+use line_model::{
+    Channel, Line, Memory, Name, Owner, Scheme, Setting, Terminal, groups_of_terminal,
+    receiver_settings,
+};
 use std::alloc::Global;
 use toml::{Table, Value};
 
@@ -110,7 +112,12 @@ fn channel_table(
     let mut table = Table::new(alloc);
     put_text(alloc, &mut table, "from", name_of(line, channel.from))?;
     put_text(alloc, &mut table, "to", name_of(line, channel.to))?;
-    put(alloc, &mut table, Setting::Delay.key(), times.time(Setting::Delay)?)?;
+    put(
+        alloc,
+        &mut table,
+        Setting::Delay.key(),
+        times.time(Setting::Delay)?,
+    )?;
     times.put_times(receiver_settings(line.scheme), &mut table)?;
     Ok(Value::Table(table))
 }

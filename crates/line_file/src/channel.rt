@@ -98,7 +98,7 @@ pub fn channel(unit: u32, path: Path, value: &Value, line: &mut Draft) -> Result
         (channel_at unit path (view value.now) (values_of line.old)) }
 {
     let table = table_of(path, value)?;
-    only(path, &[], keys(line.scheme), table)?;
+    only(path, keys(line.scheme), table)?;
     let channel = ends(path, &line.terminals, &line.channels, table)?;
     let times = TableTimes { unit, path, table };
     let delay = times.time(Setting::Delay, 1)?;

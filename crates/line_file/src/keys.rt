@@ -1,6 +1,6 @@
 //! The keys of a table and the values under them.
 
-ghost use Rattle.std.specs.Prelude.{◌≡◌, ◌≤◌, ◌+◌, ◌++◌, ◌||◌, IfOk, map, option_map, length};
+ghost use Rattle.std.specs.Prelude.{◌≡◌, ◌≤◌, ◌+◌, ◌++◌, IfOk, map, option_map, length};
 ghost use Rattle.std.specs.Str.{bytes_eq};
 ghost use Rattle.std.specs.List.{list_any};
 ghost use Rattle.toml.specs.{Data.get_member, View.view, View.table_view, View.items_view};
@@ -41,12 +41,19 @@ pub fn find<'a>(table: &'a Table, key: &str) -> Option<&'a Value>
     table.get(key)
 }
 
+fn is_key_of(settings: &[Setting], key: &str) -> bool
+    ensures { result ≡ list_any (λ setting. bytes_eq (time_key setting) key.now) settings.now }
+{
+    settings.iter().any(|setting| setting.key() == key)
+}
+
 fn is_among(settings: &[Setting], names: &[&str], key: &str) -> bool
     ensures { result
-        ≡ list_any (λ name. bytes_eq name key.now) (map time_key settings.now)
-        || list_any (λ name. bytes_eq name key.now) (map (λ name. name.now) names.now) }
+        ≡ list_any (λ name. bytes_eq name key.now)
+        (map time_key settings.now ++ map (λ name. name.now) names.now) }
 {
-    settings.iter().any(|setting| setting.key() == key) || names.contains(&key)
+    let named = names.contains(&key);
+    named || is_key_of(settings, key)
 }
 
 fn unknown_key<'a>(table: &'a Table, settings: &[Setting], names: &[&str]) -> Option<&'a str>
@@ -62,9 +69,8 @@ fn unknown_key<'a>(table: &'a Table, settings: &[Setting], names: &[&str]) -> Op
     None
 }
 
-/// Refuses a key of the table at the path that is neither of these settings' nor of these names.
 #[tactic(auto, unfolding(crate::specs::Keys::all_known))]
-pub fn only(
+fn only_among(
     path: Path,
     settings: &[Setting],
     names: &[&str],
@@ -79,6 +85,22 @@ pub fn only(
         Some(key) => Err(LineFault::Unknown(path.unknown_key(key))),
         None => Ok(()),
     }
+}
+
+/// Refuses a key of the table at the path that is not one of these.
+pub fn only(path: Path, known: &[&str], table: &Table) -> Result<(), LineFault>
+    requires { length path ≤ 31 }
+    ensures { result ≡ all_known path (map (λ name. name.now) known.now) (table_view table.now) }
+{
+    only_among(path, &[], known, table)
+}
+
+/// Refuses a key of the table at the path that is not one of these settings'.
+pub fn only_settings(path: Path, settings: &[Setting], table: &Table) -> Result<(), LineFault>
+    requires { length path ≤ 31 }
+    ensures { result ≡ all_known path (map time_key settings.now) (table_view table.now) }
+{
+    only_among(path, settings, &[], table)
 }
 
 /// The value of a required key of the table at the path.

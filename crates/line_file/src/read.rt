@@ -39,7 +39,7 @@ fn read_table(alloc: Global, table: &Table) -> Result<Draft, LineFault>
 {
     settings_are_counted();
     let version = number(Path::root(), "version", 1, 2, table)?;
-    only(Path::root(), &[], TOP_KEYS, table)?;
+    only(Path::root(), TOP_KEYS, table)?;
     let mut line = head(alloc, table)?;
     let terminal_values = terminal_tables(table)?;
     let channel_values = channel_tables(table)?;

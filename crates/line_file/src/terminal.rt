@@ -15,9 +15,10 @@ use crate::fault::LineFault;
 use crate::keys::{find, only, table_of, text};
 use crate::path::Path;
 use crate::times::{TableTimes, group_key};
-use line_model::{Bounds, Name, Scheme, Setting, Terminal, is_plain};
-use line_model::{REVERSE_SETTINGS, UNDERVOLTAGE_SETTINGS, ZONE1_SETTINGS, ZONE2_SETTINGS};
-use line_model::{guard_settings, scheme_settings, weak_settings};
+use line_model::{
+    Bounds, Name, REVERSE_SETTINGS, Scheme, Setting, Terminal, UNDERVOLTAGE_SETTINGS,
+    ZONE1_SETTINGS, ZONE2_SETTINGS, guard_settings, is_plain, scheme_settings, weak_settings,
+};
 use toml::{Table, Value};
 
 fn keys(scheme: Scheme) -> &'static [&'static str]
@@ -147,7 +148,7 @@ pub fn terminal(unit: u32, path: Path, value: &Value, line: &mut Draft) -> Resul
         (terminal_at unit path (view value.now) (values_of line.old)) }
 {
     let table = table_of(path, value)?;
-    only(path, &[], keys(line.scheme), table)?;
+    only(path, keys(line.scheme), table)?;
     let name = name(path, &line.terminals, table)?;
     let times = TableTimes { unit, path, table };
     elements(&times, &mut line.intervals)?;

@@ -9,7 +9,7 @@ ghost use Rattle.line_file.specs.{Reading.Becomes};
 ghost use Rattle.line_model.specs.{Settings.time_key, ParamNames.key_path};
 
 use crate::fault::LineFault;
-use crate::keys::{find, only, table_of, value};
+use crate::keys::{find, only_settings, table_of, value};
 use crate::path::Path;
 use line_model::{Bounds, Setting};
 use toml::{Table, Value};
@@ -140,7 +140,7 @@ impl<'a> TableTimes<'a> {
     {
         let path = self.path.key(key);
         let table = table_of(path, value)?;
-        only(path, settings, &[], table)?;
+        only_settings(path, settings, table)?;
         let inner = TableTimes {
             unit: self.unit,
             path,

@@ -48,9 +48,10 @@ pub use param_names::channel_name;
 pub use script::{Element, Kind, Place, Script, SeenSpan, What, loss, lost_in, seen, shown_in};
 pub use script_fits::fits;
 pub use setting_places::param_count;
-pub use settings::{REVERSE_SETTINGS, UNDERVOLTAGE_SETTINGS, ZONE1_SETTINGS, ZONE2_SETTINGS};
-pub use settings::{groups_of_channel, groups_of_terminal, guard_settings, receiver_settings};
-pub use settings::{scheme_settings, weak_settings};
+pub use settings::{
+    REVERSE_SETTINGS, UNDERVOLTAGE_SETTINGS, ZONE1_SETTINGS, ZONE2_SETTINGS, groups_of_channel,
+    groups_of_terminal, guard_settings, receiver_settings, scheme_settings, weak_settings,
+};
 
 #[cfg(test)]
 mod logic_tests;

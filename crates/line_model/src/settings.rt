@@ -11,8 +11,11 @@ use crate::line::{Scheme, Setting, Terminal};
 
 /// The pickup and dropout of each element.
 pub const ZONE1_SETTINGS: &[Setting] = &[Setting::Z1Pickup, Setting::Z1Dropout];
+
 pub const ZONE2_SETTINGS: &[Setting] = &[Setting::Z2Pickup, Setting::Z2Dropout];
+
 pub const REVERSE_SETTINGS: &[Setting] = &[Setting::RvPickup, Setting::RvDropout];
+
 pub const UNDERVOLTAGE_SETTINGS: &[Setting] = &[Setting::UvPickup, Setting::UvDropout];
 
 impl Setting {
@@ -79,11 +82,7 @@ pub fn weak_settings(weak: bool) -> &'static [Setting]
     ensures { result.now ≡ weak_settings weak }
 {
     if weak {
-        &[
-            Setting::EchoBlock,
-            Setting::EchoPickup,
-            Setting::EchoPulse,
-        ]
+        &[Setting::EchoBlock, Setting::EchoPickup, Setting::EchoPulse]
     } else {
         &[]
     }

@@ -1,8 +1,23 @@
-use Rattle.std.proofs.Common.{◌∙◌}
+use Rattle.std.proofs.Common.{Bor, List, ℕ, ◌||◌, ◌∙◌, ap, refl, sym}
+use Rattle.std.specs.List.{list_any}
 use Rattle.std.specs.Str.{bytes_eq}
-use Rattle.line_file.proofs.Documents.{any_map}
+use Rattle.line_model.specs.Settings.{time_key}
+use Rattle.line_file.proofs.Documents.{any_of_both}
 use Rattle.line_file.proofs.keys.is_among.Goals as goal
 
-pub returns : goal.returns
-returns c = c.contains.ensures.value
-    ∙ any_map (λ name. bytes_eq name c.args.key.now) c.args.known.now
+abbrev text : Bor (List ℕ) → List ℕ
+text name = name.now
+
+pub returns-then-named : goal.returns-then-named
+returns-then-named c =
+    let own = list_any (λ setting. bytes_eq (time_key setting) c.args.key.now) c.args.settings.now in
+    c.if-named.true ∙ ap (λ b. b || own) (sym c.if-named.true)
+    ∙ any_of_both time_key text (λ name. bytes_eq name c.args.key.now) c.args.settings.now
+    c.args.names.now own c.contains-named.result refl c.contains-named.ensures.value
+
+pub returns-else-named : goal.returns-else-named
+returns-else-named c =
+    ap (λ b. b || c.is_key_of.result) (sym c.if-named.false)
+    ∙ any_of_both time_key text (λ name. bytes_eq name c.args.key.now) c.args.settings.now
+    c.args.names.now c.is_key_of.result c.contains-named.result c.is_key_of.ensures
+    c.contains-named.ensures.value

@@ -1,11 +1,10 @@
 use Rattle.std.proofs.Common.{◌≡◌, drop, map}
 use Rattle.toml.specs.{Data.no_members, View.table_view}
 use Rattle.line_file.specs.Canonical.{put_all, setting_pair}
-use Rattle.line_file.proofs.Puts.{keyed}
 use Rattle.line_file.proofs.table.OwnerTimes.times.Given as goal
 
-abbrev pub invariant-loop-key : goal.invariant-loop-key
-invariant-loop-key l =
-    put_all (map (setting_pair l.self.unit l.self.line.now l.self.owner) (map keyed (drop l.key-index l.settings)))
-    (table_view l.table)
-    ≡ put_all (map (setting_pair l.self.unit l.self.line.now l.self.owner) (map keyed l.settings)) no_members
+abbrev pub invariant-loop-setting : goal.invariant-loop-setting
+invariant-loop-setting l =
+    put_all (map (setting_pair l.self.unit l.self.line.now l.self.owner)
+    (drop l.setting-index l.settings)) (table_view l.table)
+    ≡ put_all (map (setting_pair l.self.unit l.self.line.now l.self.owner) l.settings) no_members
