@@ -1,5 +1,5 @@
 -- A printed channel is read back.
-use Rattle.std.proofs.Common.{◌≡◌, ◌≢◌, ◌+◌, ◌*◌, ◌<◌, ◌≤◌, ◌||◌, ◌==◌, ◌++◌, ℕ, zero, suc, Bool}
+use Rattle.std.proofs.Common.{◌≡◌, ◌≢◌, ◌+◌, ◌*◌, ◌<◌, ◌≤◌, ◌==◌, ◌++◌, ℕ, zero, suc}
 use Rattle.std.proofs.Common.{true, false, List, [], ◌∷◌, length, take, drop, get_or, Some, Ok}
 use Rattle.std.proofs.Common.{refl, sym, ap, subst, ◌∙◌, arith, codes, length-append}
 use Rattle.std.proofs.Math.ListN.{get_or-map}
@@ -8,7 +8,7 @@ use Rattle.std.proofs.lemmas.Bool.{ne_eqb}
 use Rattle.std.proofs.lemmas.List.{drop_all, drop_more, get_or_default, take_all, take_more}
 use Rattle.std.proofs.lemmas.Slice.Eq.{bytes_eq-Decides}
 use Rattle.std.specs.Str.{bytes_eq}
-use Rattle.std.specs.List.{list_any, position_from}
+use Rattle.std.specs.List.{list_any}
 use Rattle.toml.specs.{Data.string, Data.table, Data.Members, Data.get_member, View.items_of}
 use Rattle.line_model.specs.declared.line.Scheme.TheVariants.{Dcub}
 use Rattle.line_model.specs.declared.line.Scheme.{Scheme}

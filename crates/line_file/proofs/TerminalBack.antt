@@ -1,10 +1,10 @@
 -- A printed terminal is read back.
 use Rattle.std.proofs.Common.{◌≡◌, ◌≢◌, ◌+◌, ◌<◌, ◌≤◌, ◌&&◌, ◌||◌, ◌++◌, ℕ, zero, suc, Bool, true}
-use Rattle.std.proofs.Common.{false, not, List, [], ◌∷◌, length, take, drop, get_or, Option, Some}
+use Rattle.std.proofs.Common.{false, not, List, [], ◌∷◌, length, take, drop, get_or, Option}
 use Rattle.std.proofs.Common.{Ok, refl, sym, ap, subst, ◌∙◌, arith, codes}
 use Rattle.std.proofs.Math.ListN.{get_or-map}
 use Rattle.std.proofs.lemmas.Bool.{false_from_ne_true}
-use Rattle.std.proofs.lemmas.List.{append-nil, drop_all, drop_more, get_or_default, take_more}
+use Rattle.std.proofs.lemmas.List.{drop_all, drop_more, get_or_default, take_more}
 use Rattle.std.proofs.lemmas.Slice.Eq.{bytes_eq-Decides}
 use Rattle.std.specs.Prelude.{is_some}
 use Rattle.std.specs.Str.{bytes_eq}
@@ -12,7 +12,7 @@ use Rattle.std.specs.List.{list_all, list_any}
 use Rattle.toml.specs.{Data.Data, Data.table, Data.Members, Data.get_member, View.items_of}
 use Rattle.line_model.specs.declared.line.Scheme.TheVariants.{Pott, Dcub}
 use Rattle.line_model.specs.declared.line.Terminal.{Terminal}
-use Rattle.line_model.specs.{declared.bounds.Bounds.Bounds, declared.line.Line.Line}
+use Rattle.line_model.specs.{declared.line.Line.Line}
 use Rattle.line_model.specs.{declared.line.Scheme.Scheme, declared.line.Owner.Owner}
 use Rattle.line_model.specs.declared.line.Owner.TheVariants as owner
 use Rattle.line_model.specs.PlainNames.{is_plain_name}
@@ -23,7 +23,7 @@ use Rattle.line_model.specs.Settings.{terminal_settings, channel_settings, setti
 use Rattle.line_model.specs.Terminals.{names_of, has_flags, has_no_flag}
 use Rattle.line_model.specs.{declared.line.Setting.Setting, Laws.LineLaws}
 use Rattle.line_file.specs.Times.{group_key, optional_times, required_times}
-use Rattle.line_file.specs.TerminalTables.{no_times, name_at, element_times, elements_times}
+use Rattle.line_file.specs.TerminalTables.{no_times, name_at, elements_times}
 use Rattle.line_file.specs.TerminalTables.{permissive_times, scheme_times}
 use Rattle.line_file.specs.TerminalTables.{terminal_named, terminal_at, terminals_at}
 use Rattle.line_file.specs.Canonical.{terminal_members, terminals_data}

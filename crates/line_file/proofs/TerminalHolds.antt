@@ -1,7 +1,7 @@
 -- What the printed table of a terminal holds under each key.
-use Rattle.std.proofs.Common.{◌≡◌, ◌||◌, ℕ, Bool, true, false, not, List, [], ◌∷◌, Option, Some}
+use Rattle.std.proofs.Common.{◌≡◌, ◌||◌, ℕ, Bool, true, false, not, List, [], ◌∷◌, Some}
 use Rattle.std.proofs.Common.{None, Ok, refl, ap, codes, map, get_or, ◌<◌}
-use Rattle.toml.specs.Data.{Data, string, Members, get_member}
+use Rattle.toml.specs.Data.{string, Members, get_member}
 use Rattle.line_model.specs.declared.line.Scheme.TheVariants.{Pott, Dcub}
 use Rattle.line_model.specs.{declared.line.Line.Line, Terminals.has_flags}
 use Rattle.line_model.specs.{declared.line.Scheme.Scheme, declared.line.Owner.Owner}

@@ -19,7 +19,7 @@ use Rattle.line_file.specs.TerminalTables.{terminal_named, terminal_at}
 use Rattle.line_file.specs.{Keys.all_known, Keys.table_in, Keys.text_at, Lines.LineValues}
 use Rattle.line_file.specs.Times.{group_key}
 use Rattle.line_file.proofs.Binds.{bind_ok, guard_ok, same_ok}
-use Rattle.line_file.proofs.TimeLaws.{IsTime, AreTimes, Grew, grew_none, grew_more, grew_as}
+use Rattle.line_file.proofs.TimeLaws.{IsTime, AreTimes, Grew, grew_more, grew_as}
 use Rattle.line_file.proofs.TimeLaws.{required_ok, optional_ok}
 
 no_times_are : AreTimes no_times

@@ -1,5 +1,5 @@
 -- Printed times are read back.
-use Rattle.std.proofs.Common.{◌≡◌, ◌+◌, ◌-◌, ◌*◌, ◌/◌, ◌<◌, ◌≤◌, ◌++◌, ◌∙◌, ℕ, true, List, [], ◌∷◌}
+use Rattle.std.proofs.Common.{◌≡◌, ◌+◌, ◌-◌, ◌*◌, ◌/◌, ◌<◌, ◌≤◌, ◌∙◌, ℕ, true, List, [], ◌∷◌}
 use Rattle.std.proofs.Common.{Ok, Option, Some, None, arith, ap, refl, take, length, map}
 use Rattle.std.proofs.Common.{mul-le-mul_right}
 use Rattle.std.proofs.Math.Nat.{mul-div_left}
@@ -10,7 +10,7 @@ use Rattle.toml.specs.Data.{Data, Members, get_member}
 use Rattle.line_model.specs.Settings.{time_key, zone1_settings, zone2_settings, reverse_settings}
 use Rattle.line_model.specs.Settings.{undervoltage_settings, guard_settings, weak_settings}
 use Rattle.line_model.specs.Settings.{scheme_settings, receiver_settings, table_key}
-use Rattle.line_model.specs.declared.line.Scheme.TheVariants.{Pott, Putt, Dcb, Dcub, Dtt}
+use Rattle.line_model.specs.declared.line.Scheme.TheVariants.{Dcb, Dcub, Dtt}
 use Rattle.line_model.specs.{declared.line.Scheme.Scheme, ParamNames.key_path}
 use Rattle.line_model.specs.{declared.bounds.Bounds.Bounds, declared.line.Setting.Setting}
 use Rattle.line_model.specs.{declared.line.Line.Line, declared.line.Owner.Owner}
@@ -18,7 +18,6 @@ use Rattle.line_file.specs.Keys.{all_known, first_unknown}
 use Rattle.line_file.specs.Times.{time_in, time_at, times_at, times_in, group_key, required_times}
 use Rattle.line_file.specs.Times.{optional_times}
 use Rattle.line_file.specs.Canonical.{table_of, time_data, setting_interval, setting_pair, times_data}
-use Rattle.line_file.specs.Canonical.{interval_of}
 use Rattle.line_file.proofs.ParamPlaces.{intervals, take_next, times_at_place, ArePlaced}
 use Rattle.line_file.proofs.{TimeLaws.IsTime, Binds.ok_of}
 

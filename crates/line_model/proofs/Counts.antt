@@ -6,11 +6,10 @@ use Rattle.std.proofs.Math.Nat.{mul-le-mul, mul-le-mul_right}
 use Rattle.std.proofs.lemmas.List.{take_more}
 use Rattle.std.specs.List.{list_all}
 use Rattle.line_model.specs.declared.line.Line.{Line}
-use Rattle.line_model.specs.declared.line.Scheme.TheVariants.{Pott, Putt, Dcb, Dcub, Dtt}
+use Rattle.line_model.specs.declared.line.Scheme.TheVariants.{Pott, Dcub}
 use Rattle.line_model.specs.{declared.line.Scheme.Scheme, declared.line.Terminal.Terminal}
-use Rattle.line_model.specs.{declared.line.Channel.Channel, declared.line.Owner.Owner}
+use Rattle.line_model.specs.{declared.line.Channel.Channel}
 use Rattle.line_model.specs.declared.line.Owner.TheVariants as owner
-use Rattle.line_model.specs.declared.line.Setting.{Setting}
 use Rattle.line_model.specs.Terminals.{has_flags, has_no_flag, flags_fit}
 use Rattle.line_model.specs.Settings.{OwnedSetting, owned_by, groups_with, all_of}
 use Rattle.line_model.specs.Settings.{settings_of_terminals}

@@ -2,11 +2,10 @@
 use Rattle.std.proofs.Common.{◌≡◌, ◌≢◌, ◌==◌, ℕ, zero, suc, ◌<◌, Bool, true, false, cond, Option}
 use Rattle.std.proofs.Common.{Some, None, refl, sym, subst, ap, ◌∙◌, arith}
 use Rattle.std.proofs.lemmas.Bool.{eqb-false}
-use Rattle.std.specs.Prelude.{unwrap_or, IfSome, List, [], get_or}
+use Rattle.std.specs.Prelude.{unwrap_or, IfSome, [], get_or}
 use Rattle.std.specs.List.{list_any}
 use Rattle.line_model.specs.declared.line.Scheme.TheVariants.{Pott, Putt, Dcb, Dcub, Dtt}
 use Rattle.line_model.specs.{declared.line.Line.Line, declared.line.Scheme.Scheme}
-use Rattle.line_model.specs.declared.line.Owner.TheVariants as owner
 use Rattle.line_model.specs.declared.line.Setting.{Setting}
 use Rattle.line_model.specs.declared.line.Setting.TheVariants.{Z1Pickup, Z1Dropout, Z2Pickup}
 use Rattle.line_model.specs.declared.line.Setting.TheVariants.{Z2Dropout, RvPickup, RvDropout}
@@ -23,7 +22,7 @@ use Rattle.line_model.specs.Settings.{same_setting, groups_with, guard_settings}
 use Rattle.line_model.specs.Settings.{weak_settings, scheme_settings, channel_settings}
 use Rattle.line_model.specs.Names.{Names, HasTime, HasOwnTime, IsLocal}
 use Rattle.line_model.specs.Tree.{Tree, Const, Seen, Loss, Raw, Not, And, Or, Timer, Seal}
-use Rattle.line_model.specs.Elements.{is_guarded, is_weak, setting_of, seen_timed, zone1}
+use Rattle.line_model.specs.Elements.{is_guarded, is_weak, seen_timed, zone1}
 use Rattle.line_model.specs.Elements.{reverse, undervoltage}
 use Rattle.line_model.specs.Received.{channel_to, received, joined, over_others, all_others}
 use Rattle.line_model.specs.Received.{any_received, all_received}
