@@ -11,16 +11,20 @@ pub record NetOf : Type 0 where
   pub keys : List GateId
   pub trips : List GateId
 
+-- the number of the k-th of these gates
+abbrev pub id_at : List GateId → ℕ → ℕ
+id_at ids k = get_or (map (λ id. id.0) ids) k 0
+
 -- the number of the gate of a terminal's key, and of its trip
 abbrev pub key_of : NetOf → ℕ → ℕ
-key_of net k = get_or (map (λ id. id.0) net.keys) k 0
+key_of net k = id_at net.keys k
 
 abbrev pub trip_of : NetOf → ℕ → ℕ
-trip_of net k = get_or (map (λ id. id.0) net.trips) k 0
+trip_of net k = id_at net.trips k
 
 -- each of these is the number of one of n gates
 abbrev pub AreGatesOf : List GateId → ℕ → Type 0
-AreGatesOf ids n = (k : ℕ) → k < length ids → get_or (map (λ id. id.0) ids) k 0 < n
+AreGatesOf ids n = (k : ℕ) → k < length ids → id_at ids k < n
 
 -- the laws of a net: those of its gates, and each key and trip is one of them
 pub record IsNet (net : NetOf) : Type 0 where

@@ -1,12 +1,12 @@
 -- The keys and trips of the terminals below some number.
 use Rattle.std.proofs.Common.{◌≡◌, ◌⊎◌, ℕ, zero, suc, ◌*◌, ◌<◌, ◌≤◌, List, [], ◌∷◌, ◌++◌, length}
-use Rattle.std.proofs.Common.{get_or, refl, sym, ◌∙◌, subst, arith, inl, inr, ⊎_elim, length-append}
-use Rattle.std.specs.Prelude.{map, Result, Ok, Err, IfOk}
+use Rattle.std.proofs.Common.{refl, sym, ◌∙◌, subst, arith, inl, inr, ⊎_elim, length-append}
+use Rattle.std.specs.Prelude.{Result, Ok, Err, IfOk}
 use Rattle.line_model.specs.declared.line.Line.{Line}
 use Rattle.line_model.specs.{Tree.Tree, Parameters.terminal_count, Logic.key_tree, Logic.trip_tree}
 use Rattle.gate_net.specs.Named.{NamedFrom}
 use Rattle.gate_net.specs.{declared.gate.Gate.Gate, declared.gate.GateId.GateId, Formulas.Stands}
-use Rattle.gate_net.specs.{NetOf.NetOf, NetOf.AreGatesOf, NetOf.IsNet, NetOf.IsNetOf}
+use Rattle.gate_net.specs.NetOf.{NetOf, AreGatesOf, IsNet, IsNetOf, id_at}
 use Rattle.gate_net.specs.Growing.{Grows, Extends}
 use Rattle.net_compile.specs.{declared.terminal_gates.Ends.Ends, Compiled.AreEnds}
 
@@ -14,7 +14,7 @@ use Rattle.net_compile.specs.{declared.terminal_gates.Ends.Ends, Compiled.AreEnd
 pub record StandInOrder (gates : List Gate) (ids : List GateId) (tree : ℕ → Tree) (j : ℕ)
     : Type 0 where
   pub count : length ids ≡ j
-  pub each : (k : ℕ) → k < j → Stands gates (get_or (map (λ id. id.0) ids) k 0) (tree k)
+  pub each : (k : ℕ) → k < j → Stands gates (id_at ids k) (tree k)
 
 -- the terminals below j have their gates
 pub record HaveEnds (line : Line) (gates : List Gate) (keys trips : List GateId) (j : ℕ)
@@ -34,8 +34,8 @@ stands_kept old new n id tree grows s = record {
 -- the number at a place of a list with one more at its end
 at_push : (ids : List GateId) (last : GateId) (k : ℕ) → k < suc (length ids)
     → ((k < length ids)
-    × (get_or (map (λ id. id.0) (ids ++ last ∷ [])) k 0 ≡ get_or (map (λ id. id.0) ids) k 0))
-    ⊎ ((k ≡ length ids) × (get_or (map (λ id. id.0) (ids ++ last ∷ [])) k 0 ≡ last.0))
+    × (id_at (ids ++ last ∷ []) k ≡ id_at ids k))
+    ⊎ ((k ≡ length ids) × (id_at (ids ++ last ∷ []) k ≡ last.0))
 at_push [] last zero lt = inr (refl, refl)
 at_push [] last (suc k) lt = absurd (omega arith)
 at_push (id ∷ ids) last zero lt = inl (omega arith, refl)
@@ -53,7 +53,7 @@ in_order_more old new n ids last tree j grows sofar next = record {
   each = λ k lt.
       ⊎_elim
       (λ p. subst (λ id. Stands new id (tree k)) (sym p.1)
-      (stands_kept old new n (get_or (map (λ id. id.0) ids) k 0) (tree k) grows
+      (stands_kept old new n (id_at ids k) (tree k) grows
       (sofar.each k (omega (arith, p.0, sofar.count)))))
       (λ p.
       let here : j ≡ k = omega (arith, p.0, sofar.count) in

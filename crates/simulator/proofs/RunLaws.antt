@@ -8,11 +8,11 @@ use Rattle.line_model.specs.{declared.line.Line.Line, declared.script.Script.Scr
 use Rattle.line_model.specs.{Parameters.terminal_count, Names.Names, Tree.Tree, Mean.mean}
 use Rattle.line_model.specs.{Logic.key_tree, Solution.SameBefore, Solution.the_keys, Laws.LineLaws}
 use Rattle.gate_net.specs.declared.gate.GateId.{GateId}
-use Rattle.gate_net.specs.NetOf.{NetOf, IsNet, IsNetOf, AreGatesOf, key_of, trip_of}
+use Rattle.gate_net.specs.NetOf.{NetOf, IsNet, IsNetOf, AreGatesOf, key_of, trip_of, id_at}
 use Rattle.gate_net.specs.{NetLaws.GatesStandForTheirTrees, Formulas.formula_of}
 use Rattle.simulator.specs.GatePairs.{GateSignals, gate_pairs, line_pairs}
 use Rattle.simulator.specs.Ticks.{ValuesTold}
-use Rattle.simulator.specs.WavesOf.{WavesOf, AreWaves, wave_pair, number_at, waves_history}
+use Rattle.simulator.specs.WavesOf.{WavesOf, AreWaves, wave_pair, waves_history}
 use Rattle.simulator.specs.Runs.{AreWavesOf, HavePairs, IsTheHistory, CoverChoices}
 use Rattle.simulator.proofs.ValueLaws.{wave_told}
 
@@ -68,11 +68,11 @@ module _ (laws : LineLaws) (gates : GatesStandForTheirTrees) (line : Line) (scri
 
     own_key : (k t : ℕ) → own.key k t ≡ wave_pair rails lane waves (key_of net k) t
     own_key k t =
-        ap (λ (ids : List GateId). wave_pair rails lane waves (number_at ids k) t) of.keys
+        ap (λ (ids : List GateId). wave_pair rails lane waves (id_at ids k) t) of.keys
 
     own_trip : (k t : ℕ) → own.trip k t ≡ wave_pair rails lane waves (trip_of net k) t
     own_trip k t =
-        ap (λ (ids : List GateId). wave_pair rails lane waves (number_at ids k) t) of.trips
+        ap (λ (ids : List GateId). wave_pair rails lane waves (id_at ids k) t) of.trips
 
     pub run_pairs : AreWaves waves
         → ValuesTold rails lane (line_pairs line script box net) (length net.gates) waves.values

@@ -7,7 +7,8 @@ use Rattle.std.specs.Prelude.{slice_get, option_map, map, get_or}
 use Rattle.timers.specs.Stretches.{ElementsInAStretch}
 use Rattle.gate_net.specs.declared.gate.GateId.{GateId}
 use Rattle.simulator.specs.Ticks.{HasKeys, ValuesAgree, AreFresh, AreSent, KeysSent, HasSent}
-use Rattle.simulator.specs.{WavesOf.number_at, GatePairs.GateSignals, ListLaws.at_push}
+use Rattle.gate_net.specs.NetOf.{id_at}
+use Rattle.simulator.specs.{GatePairs.GateSignals, ListLaws.at_push}
 use Rattle.history.specs.Rails.{Rails, Ends, rails_at, rails_delayed}
 use Rattle.history.specs.{Recorded.first_ticks, Laws.HistoryLaws}
 use Rattle.tick_signal.specs.Lanes.{in_lane}
@@ -64,7 +65,7 @@ map_replicate f (suc n) x =
 
 -- the number of a gate in a list
 pub number_read : (gates : List GateId) (k : ℕ) (d : GateId) → k < length gates
-    → number_at gates k ≡ (get_or gates k d).0
+    → id_at gates k ≡ (get_or gates k d).0
 number_read gates k d lt =
     get_or_from_slice_get _ k (get_or gates k d).0 0
     (slice_get-map (λ (id : GateId). id.0) gates k
@@ -96,12 +97,12 @@ keys_for horizon t n k old new x pushed same h = (
 pub one_tick_sent : {V : Type 0} (rails : V → ℕ → Rails) (lane : ℕ) (keys : PairSignals)
     (u : GateSignals) (t end : ℕ) (gates ids : List GateId) (column : List V) → end ≡ t + 1
     → ids ≡ gates → ValuesAgree rails lane u t column
-    → ((k : ℕ) → k < length gates → u (number_at gates k) t ≡ keys k t)
-    → (k : ℕ) (x : V) → k < length ids → slice_get column (number_at ids k) ≡ Some x
+    → ((k : ℕ) → k < length gates → u (id_at gates k) t ≡ keys k t)
+    → (k : ℕ) (x : V) → k < length ids → slice_get column (id_at ids k) ≡ Some x
     → (r : ℕ) → t ≤ r → r < end → keys k r ≡ rails x lane
 one_tick_sent rails lane keys u t end gates ids column is same agree are k x kn at r low high =
     let now : r ≡ t = omega (arith, is, low, high) in
     let there : k < length gates = subst (λ (l : List GateId). k < length l) same kn in
-    let here : slice_get column (number_at gates k) ≡ Some x =
-    subst (λ (l : List GateId). slice_get column (number_at l k) ≡ Some x) same at in
-    ap (keys k) now ∙ sym (are k there) ∙ sym (agree (number_at gates k) x here)
+    let here : slice_get column (id_at gates k) ≡ Some x =
+    subst (λ (l : List GateId). slice_get column (id_at l k) ≡ Some x) same at in
+    ap (keys k) now ∙ sym (are k there) ∙ sym (agree (id_at gates k) x here)

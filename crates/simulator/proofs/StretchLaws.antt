@@ -10,14 +10,14 @@ use Rattle.line_model.specs.{declared.script.Script.Script, declared.script.Seen
 use Rattle.line_model.specs.{Channels.from_of, Parameters.channel_count, PairMean.PairWorld}
 use Rattle.line_model.specs.{PairMean.PairSignals, Logic.key_tree, Solution.the_keys, Laws.LineLaws}
 use Rattle.gate_net.specs.declared.gate.Gate.{Gate}
-use Rattle.gate_net.specs.NetOf.{NetOf, IsNetOf, AreGatesOf, key_of}
+use Rattle.gate_net.specs.NetOf.{NetOf, IsNetOf, AreGatesOf, key_of, id_at}
 use Rattle.gate_net.specs.{declared.gate.GateId.GateId, NetLaws.GatesStandForTheirTrees}
 use Rattle.timing_box.specs.declared.step.Step.{Step}
 use Rattle.simulator.specs.declared.inputs.Delay.{Delay}
 use Rattle.simulator.specs.Quiet.{Keeps, ArrivalKeeps, TimerKeeps, AreGatePairs}
 use Rattle.simulator.specs.{GatePairs.GateSignals, GatePairs.line_pairs, LaneBox.lane_box}
 use Rattle.simulator.specs.{LaneBox.lane_world, Inputs.AreDelays, Inputs.DelaysHold}
-use Rattle.simulator.specs.{Ticks.ValuesAgree, WavesOf.number_at, Shown.ShownSpans, Shown.AreShown}
+use Rattle.simulator.specs.{Ticks.ValuesAgree, Shown.ShownSpans, Shown.AreShown}
 use Rattle.simulator.proofs.{GatePairLaws.gate_pairs-kind, GivenLaws.delay_keeps}
 use Rattle.simulator.proofs.{InputLaws.script_fewer, QuietLaws.gates_keep, RunLaws.key_pair}
 
@@ -28,10 +28,10 @@ keeps_one u t r low high = let e : r ≡ t = omega arith in ap u e
 pub held_values : {V : Type 0} (rails : V → ℕ → Rails) (lane : ℕ) (u : GateSignals) (t n len : ℕ)
     (column : List V) (ids : List GateId) → AreGatesOf ids len → ValuesAgree rails lane u t column
     → ((i : ℕ) → i < len → Keeps (u i) t n)
-    → (k : ℕ) (x : V) → k < length ids → slice_get column (number_at ids k) ≡ Some x
-    → (r : ℕ) → t ≤ r → r < t + n → u (number_at ids k) r ≡ rails x lane
+    → (k : ℕ) (x : V) → k < length ids → slice_get column (id_at ids k) ≡ Some x
+    → (r : ℕ) → t ≤ r → r < t + n → u (id_at ids k) r ≡ rails x lane
 held_values rails lane u t n len column ids are agree keeps k x lt at r low high =
-    keeps (number_at ids k) (are k lt) r low high ∙ sym (agree (number_at ids k) x at)
+    keeps (id_at ids k) (are k lt) r low high ∙ sym (agree (id_at ids k) x at)
 
 module _ {S : Type 0} (laws : LineLaws) (trees : GatesStandForTheirTrees)
     (stretch : ElementsInAStretch) (ends : S → ℕ → Ends) (line : Line) (script : Script)

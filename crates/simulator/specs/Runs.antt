@@ -1,5 +1,5 @@
 -- What a run is: in each lane the interval history over the lane's box, gate by gate.
-use Rattle.std.specs.Prelude.{◌≡◌, ◌<◌, ℕ, List, length}
+use Rattle.std.specs.Prelude.{◌≡◌, ◌<◌, ℕ, List, IsTrue, length}
 use Rattle.history.specs.Rails.{Rails, Ends, Covers, single}
 use Rattle.line_model.specs.Parameters.{param_count, channel_count}
 use Rattle.line_model.specs.Choice.{Choice, Box, IsWithin, LeastFromOne, world_of, pair_world_of}
@@ -8,8 +8,8 @@ use Rattle.line_model.specs.Histories.{IsSamePairHistory, IsBothRails, CoversHis
 use Rattle.line_model.specs.declared.script.Script.{Script}
 use Rattle.line_model.specs.{declared.line.Line.Line, Mean.mean, PairMean.pair_mean}
 use Rattle.line_model.specs.Histories.{must_history}
-use Rattle.gate_net.specs.{NetOf.NetOf, Formulas.formula_of}
-use Rattle.timing_box.specs.declared.step.Step.{Step}
+use Rattle.gate_net.specs.{NetOf.NetOf, NetOf.IsNetOf, Formulas.formula_of}
+use Rattle.timing_box.specs.{declared.step.Step.Step, Timing.ascend}
 use Rattle.simulator.specs.LaneBox.{lane_box}
 use Rattle.simulator.specs.WavesOf.{WavesOf, wave_pair, waves_history}
 
@@ -17,6 +17,15 @@ use Rattle.simulator.specs.WavesOf.{WavesOf, wave_pair, waves_history}
 abbrev pub AreDelayed : {S : Type 0} → ℕ → (S → ℕ → Ends) → Line → List S → List (Step S) → Type 0
 AreDelayed lanes ends line spans steps =
     (lane : ℕ) → lane < lanes → LeastFromOne line (lane_box ends line spans steps lane)
+
+-- a run is of a net of the line, with a span for each parameter and steps in order that leave
+-- every delay one tick at least
+pub record CanRun {S : Type 0} (lanes : ℕ) (ends : S → ℕ → Ends) (line : Line) (net : NetOf)
+    (spans : List S) (steps : List (Step S)) : Type 0 where
+  pub of_line : IsNetOf line net
+  pub ascending : IsTrue (ascend steps)
+  pub delayed : AreDelayed lanes ends line spans steps
+  pub one_each : length spans ≡ param_count line
 
 -- the waves are of the net and reach to the horizon
 pub record AreWavesOf {V : Type 0} (net : NetOf) (line : Line) (waves : WavesOf V) : Type 0 where

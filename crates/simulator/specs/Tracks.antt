@@ -1,5 +1,6 @@
 -- What a run by stretches holds before a tick, and what it gives.
-use Rattle.std.specs.Prelude.{ℕ, List, Option, Some, None, slice_get, false}
+use Rattle.std.specs.Prelude.{◌<◌, ◌≤◌, ℕ, List, Option, Some, None, slice_get, false, length}
+use Rattle.std.specs.Prelude.{vec_capacity}
 use Rattle.history.specs.Rails.{Rails, Ends, rails_at, both}
 use Rattle.tick_signal.specs.Lanes.{in_lane}
 use Rattle.channel.specs.SentKeys.{SentKeys}
@@ -10,7 +11,9 @@ use Rattle.gate_net.specs.{declared.gate.Gate.Gate, NetOf.NetOf, NetOf.trip_of}
 use Rattle.timing_box.specs.declared.step.Step.{Step}
 use Rattle.simulator.specs.GatePairs.{GateSignals, line_pairs}
 use Rattle.simulator.specs.LaneBox.{lane_box, lane_world}
-use Rattle.simulator.specs.{declared.cell.Cell.Cell, Ticks.KeysSent, Ticks.AllStand}
+use Rattle.simulator.specs.Ticks.{KeysSent, AllStand, HaveCells, AreSent}
+use Rattle.simulator.specs.{declared.cell.Cell.Cell, declared.kept.Kept.Kept, Shown.AreShown}
+use Rattle.simulator.specs.Inputs.{AreDelays, DelaysHold}
 
 -- in a lane, before tick t: the keys and the trips of the ticks before were kept, and the cells
 -- stand for them
@@ -29,12 +32,31 @@ trips_of net u k t = u (trip_of net k) t
 -- the same over the interval history of the line over the lane's box
 abbrev pub LineTracked : {C S V : Type 0} → (C → S → S → ℕ → List Rails → Type 0)
     → (S → ℕ → Ends) → (V → ℕ → Rails) → Line → Script → List S → List (Step S) → NetOf → ℕ → ℕ
-    → List (SentKeys V) → List (SentKeys V) → List (Cell C V S) → Type 0
-LineTracked stands_for ends rails line script spans steps net lane t keys trips cells =
+    → Kept C V S S → Type 0
+LineTracked stands_for ends rails line script spans steps net lane t kept =
     let w = lane_world ends line script spans steps lane in
     let u = line_pairs line script (lane_box ends line spans steps lane) net in
     LaneTracked stands_for ends rails lane w (the_keys w (key_tree line)) (trips_of net u) u t
-    net.gates keys trips cells
+    net.gates kept.keys.items kept.trips.items kept.cells.items
+
+-- what is kept can take tick t
+pub record CanTake {C S V : Type 0} (ends : S → ℕ → Ends) (line : Line) (net : NetOf)
+    (spans : List S) (steps : List (Step S)) (t : ℕ) (kept : Kept C V S S) : Type 0 where
+  pub room : length net.gates ≤ vec_capacity kept.column
+  pub delays : AreDelays line kept.inputs.delays.items
+  pub held : DelaysHold ends spans steps kept.inputs.delays.items t kept.inputs.until
+  pub cells : HaveCells net.gates kept.cells.items
+  pub keys : AreSent (length net.keys) line.horizon t kept.keys.items
+  pub trips : AreSent (length net.trips) line.horizon t kept.trips.items
+
+-- it is kept of a run over the script: what the script shows from tick t on, and in each lane the
+-- ticks before
+pub record IsKeptOf {C S V : Type 0} (lanes : ℕ) (stands_for : C → S → S → ℕ → List Rails → Type 0)
+    (ends : S → ℕ → Ends) (rails : V → ℕ → Rails) (line : Line) (script : Script) (spans : List S)
+    (steps : List (Step S)) (net : NetOf) (t : ℕ) (kept : Kept C V S S) : Type 0 where
+  pub shown : AreShown script.spans.items kept.inputs.shown t kept.inputs.until
+  pub tracked : (lane : ℕ) → lane < lanes
+      → LineTracked stands_for ends rails line script spans steps net lane t kept
 
 -- the pair of the value at a tick of a track in a lane; off where there is none
 abbrev pub pair_of : {V : Type 0} → (V → ℕ → Rails) → ℕ → ℕ → Option (SentKeys V) → Rails

@@ -1,9 +1,9 @@
 -- The values of a run, tick by tick.
-use Rattle.std.specs.Prelude.{◌≡◌, ◌≤◌, ◌+◌, ◌*◌, ℕ, List, Option, Some, None, false, length, map}
-use Rattle.std.specs.Prelude.{get_or, slice_get}
+use Rattle.std.specs.Prelude.{◌≡◌, ◌≤◌, ◌+◌, ◌*◌, ℕ, List, Option, Some, None, false, length}
+use Rattle.std.specs.Prelude.{slice_get}
 use Rattle.history.specs.Rails.{Rails, both}
 use Rattle.line_model.specs.Histories.{PairHistory}
-use Rattle.gate_net.specs.{declared.gate.GateId.GateId, NetOf.AreGatesOf}
+use Rattle.gate_net.specs.{declared.gate.GateId.GateId, NetOf.AreGatesOf, NetOf.id_at}
 
 -- a value for each tick and, in it, for each gate; and the gates of each terminal's key and trip
 pub record WavesOf (V : Type 0) : Type 0 where
@@ -12,6 +12,15 @@ pub record WavesOf (V : Type 0) : Type 0 where
   pub values : List V
   pub keys : List GateId
   pub trips : List GateId
+
+abbrev pub waves_of : {V : Type 0} → ℕ → ℕ → List V → List GateId → List GateId → WavesOf V
+waves_of width horizon values keys trips = record {
+  width = width;
+  horizon = horizon;
+  values = values;
+  keys = keys;
+  trips = trips;
+}
 
 pub record AreWaves {V : Type 0} (waves : WavesOf V) : Type 0 where
   pub count : length waves.values ≡ waves.horizon * waves.width
@@ -34,13 +43,9 @@ pair_in rails lane (Some x) = rails x lane
 abbrev pub wave_pair : {V : Type 0} → (V → ℕ → Rails) → ℕ → WavesOf V → ℕ → ℕ → Rails
 wave_pair rails lane waves gate t = pair_in rails lane (wave_value waves gate t)
 
--- the number of the k-th of these gates
-abbrev pub number_at : List GateId → ℕ → ℕ
-number_at ids k = get_or (map (λ id. id.0) ids) k 0
-
 -- the pairs of what each terminal keys and of its trip, in a lane
 abbrev pub waves_history : {V : Type 0} → (V → ℕ → Rails) → ℕ → WavesOf V → PairHistory
 waves_history rails lane waves = record {
-  key = λ k t. wave_pair rails lane waves (number_at waves.keys k) t;
-  trip = λ k t. wave_pair rails lane waves (number_at waves.trips k) t;
+  key = λ k t. wave_pair rails lane waves (id_at waves.keys k) t;
+  trip = λ k t. wave_pair rails lane waves (id_at waves.trips k) t;
 }

@@ -13,12 +13,11 @@ ghost use Rattle.simulator.specs.{CellStands.HasCell, CellStands.CellStands, Qui
 use crate::cell::{Cell, seal_answer, timer_answer, timer_stays};
 use crate::inputs::Delay;
 use crate::lesser::lesser;
-use crate::present::{lost_in, shown_in};
 use channel::{Carried, Track};
 use gate_net::{Gate, GateId};
 use history::laws::history_laws;
 use history::recorded_laws::recorded_ticks_suffice;
-use line_model::{Line, SeenSpan};
+use line_model::{Line, SeenSpan, lost_in, shown_in};
 use tick_signal::Signal;
 use timers::{SealCell, Timed, elements_stay_in_a_stretch};
 

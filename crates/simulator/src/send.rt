@@ -3,8 +3,8 @@
 ghost use Rattle.std.specs.Prelude.{◌≡◌, ℕ, ◌<◌, ◌≤◌, ◌+◌, ◌++◌, length, replicate, slice_get};
 ghost use Rattle.std.specs.Prelude.{Some};
 ghost use Rattle.line_model.specs.PairMean.{PairSignals};
-ghost use Rattle.gate_net.specs.NetOf.{AreGatesOf};
-ghost use Rattle.simulator.specs.{WavesOf.number_at, Ticks.KeysSent, Ticks.AreSent};
+ghost use Rattle.gate_net.specs.NetOf.{AreGatesOf, id_at};
+ghost use Rattle.simulator.specs.Ticks.{KeysSent, AreSent};
 
 use channel::Track;
 use gate_net::GateId;
@@ -27,7 +27,7 @@ pub fn send_all<V: Signal>(
     ensures count { AreSent (length gates.now) horizon (t + count) tracks.new.items }
     ensures keys { (lane : ℕ) (keys : PairSignals) → lane < V.LANES →
         ((k : ℕ) (x : V) → k < length gates.now →
-        slice_get column.now (number_at gates.now k) ≡ Some x →
+        slice_get column.now (id_at gates.now k) ≡ Some x →
         (r : ℕ) → t ≤ r → r < t + count → keys k r ≡ V.rails x lane) →
         KeysSent V.rails lane keys t tracks.old.items →
         KeysSent V.rails lane keys (t + count) tracks.new.items }

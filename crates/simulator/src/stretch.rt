@@ -1,20 +1,18 @@
 //! One stretch of ticks through which no gate changes.
 
-ghost use Rattle.std.specs.Prelude.{◌≡◌, ℕ, suc, ◌<◌, ◌≤◌, ◌+◌, List, length, vec_capacity, IsTrue};
-ghost use Rattle.line_model.specs.Parameters.{param_count};
+ghost use Rattle.std.specs.Prelude.{◌≡◌, ℕ, suc, ◌<◌, ◌≤◌, ◌+◌, length};
 ghost use Rattle.line_model.specs.PairMean.{PairWorld, PairSignals};
-ghost use Rattle.line_model.specs.declared.script.{SeenSpan.SeenSpan, Script.Script};
-ghost use Rattle.gate_net.specs.NetOf.{IsNet, IsNetOf, key_of};
-ghost use Rattle.timing_box.specs.Timing.{ascend};
+ghost use Rattle.line_model.specs.declared.script.Script.{Script};
+ghost use Rattle.gate_net.specs.NetOf.{IsNet, key_of};
 ghost use Rattle.simulator.specs.Ticks.{HaveCells, ValuesAgree, AreSent};
-ghost use Rattle.simulator.specs.Tracks.{LaneTracked, LineTracked, trips_of};
-ghost use Rattle.simulator.specs.{GatePairs.GateSignals, Inputs.AreDelays, Inputs.DelaysHold};
-ghost use Rattle.simulator.specs.{Shown.AreShown, Quiet.Keeps, Runs.AreDelayed};
+ghost use Rattle.simulator.specs.Tracks.{CanTake, IsKeptOf, LaneTracked, trips_of};
+ghost use Rattle.simulator.specs.{GatePairs.GateSignals, Quiet.Keeps, Runs.CanRun};
 
 use crate::arrivals::arrivals_stay;
 use crate::cell::Cell;
 use crate::hold::hold_all;
-use crate::inputs::{Inputs, turn};
+use crate::inputs::turn;
+use crate::kept::Kept;
 use crate::lesser::lesser;
 use crate::send::send_all;
 use crate::walk::walk;
@@ -31,81 +29,64 @@ use timing_box::Step;
 /// look ahead, and answers how many.
 pub fn take_stretch<V: Timed + Carried>(
     net: &Net,
-    cells: &mut Vec<Cell<V::Cells, SealCell<V>, V::Span>>,
-    column: &mut Vec<V>,
-    inputs: &mut Inputs<V::Span>,
-    keys: &mut Vec<Track<V>>,
-    trips: &mut Vec<Track<V>>,
     line: &Line,
     spans: &[V::Span],
     steps: &[Step<V::Span>],
+    kept: &mut Kept<V::Cells, V, V::Span>,
     t: u32,
     ahead: bool,
 ) -> u32
-    requires of_line { IsNetOf line.now net.now }
-    requires spans { length spans.now ≡ param_count line.now }
-    requires ascending { IsTrue (ascend steps.now) }
-    requires delayed { AreDelayed V.LANES V.ends line.now spans.now steps.now }
+    requires can { CanRun V.LANES V.ends line.now net.now spans.now steps.now }
     requires tick { t < line.now.horizon }
-    requires room { length net.now.gates ≤ vec_capacity column.old }
-    requires delays { AreDelays line.now inputs.old.delays.items }
-    requires held { DelaysHold V.ends spans.now steps.now inputs.old.delays.items t
-        inputs.old.until }
-    requires cells { HaveCells net.now.gates cells.old.items }
-    requires keys { AreSent (length net.now.keys) line.now.horizon t keys.old.items }
-    requires trips { AreSent (length net.now.trips) line.now.horizon t trips.old.items }
+    requires kept { CanTake V.ends line.now net.now spans.now steps.now t kept.old }
     ensures some { 1 ≤ result }
     ensures fits { t + result ≤ line.now.horizon }
-    ensures room { length net.now.gates ≤ vec_capacity column.new }
-    ensures delays { AreDelays line.now inputs.new.delays.items }
-    ensures held { DelaysHold V.ends spans.now steps.now inputs.new.delays.items (t + result)
-        inputs.new.until }
-    ensures shown { (all : List SeenSpan) → AreShown all inputs.old.shown t inputs.old.until →
-        AreShown all inputs.new.shown (t + result) inputs.new.until }
-    ensures cells { HaveCells net.now.gates cells.new.items }
-    ensures keys { AreSent (length net.now.keys) line.now.horizon (t + result) keys.new.items }
-    ensures trips { AreSent (length net.now.trips) line.now.horizon (t + result) trips.new.items }
+    ensures kept { CanTake V.ends line.now net.now spans.now steps.now (t + result) kept.new }
     ensures stands { (script : Script) →
-        AreShown script.spans.items inputs.old.shown t inputs.old.until →
-        ((lane : ℕ) → lane < V.LANES →
-        LineTracked V.stands_for V.ends V.rails line.now script spans.now steps.now net.now lane
-        t keys.old.items trips.old.items cells.old.items) →
-        (lane : ℕ) → lane < V.LANES →
-        LineTracked V.stands_for V.ends V.rails line.now script spans.now steps.now net.now lane
-        (t + result) keys.new.items trips.new.items cells.new.items }
+        IsKeptOf V.LANES V.stands_for V.ends V.rails line.now script spans.now steps.now net.now
+        t kept.old →
+        IsKeptOf V.LANES V.stands_for V.ends V.rails line.now script spans.now steps.now net.now
+        (t + result) kept.new }
 {
     line_laws();
     gates_stand_for_their_trees();
     elements_stay_in_a_stretch();
-    turn::<V>(line, spans, steps, inputs, t);
-    let limit = stretch_limit(ahead, inputs.until, line.horizon, t);
+    turn::<V>(line, spans, steps, &mut kept.inputs, t);
+    let limit = stretch_limit(ahead, kept.inputs.until, line.horizon, t);
     let timers = walk::<V>(
         net,
-        cells,
-        column,
+        &mut kept.cells,
+        &mut kept.column,
         line,
-        inputs.shown.present(),
-        inputs.delays.as_slice(),
-        keys.as_slice(),
+        kept.inputs.shown.present(),
+        kept.inputs.delays.as_slice(),
+        kept.keys.as_slice(),
         t,
         limit,
     );
-    send_all(net.key_gates(), column.as_slice(), keys, line.horizon, t, 1);
     send_all(
-        net.trip_gates(),
-        column.as_slice(),
-        trips,
+        net.key_gates(),
+        kept.column.as_slice(),
+        &mut kept.keys,
         line.horizon,
         t,
         1,
     );
-    let stays = arrivals_stay::<V>(line, &inputs.delays, keys.as_slice(), t, timers);
+    send_all(
+        net.trip_gates(),
+        kept.column.as_slice(),
+        &mut kept.trips,
+        line.horizon,
+        t,
+        1,
+    );
+    let stays = arrivals_stay::<V>(line, &kept.inputs.delays, kept.keys.as_slice(), t, timers);
     hold_stretch::<V>(
         net,
-        cells,
-        column.as_slice(),
-        keys,
-        trips,
+        &mut kept.cells,
+        kept.column.as_slice(),
+        &mut kept.keys,
+        &mut kept.trips,
         line.horizon,
         t,
         stays - 1,

@@ -1,11 +1,8 @@
 //! All ticks of a run.
 
-ghost use Rattle.std.specs.Prelude.{◌≡◌, ℕ, ◌<◌, ◌*◌, length, IfOk, IsTrue};
-ghost use Rattle.line_model.specs.Parameters.{param_count};
-ghost use Rattle.gate_net.specs.NetOf.{IsNetOf};
-ghost use Rattle.timing_box.specs.Timing.{ascend};
+ghost use Rattle.std.specs.Prelude.{◌≡◌, ℕ, ◌<◌, ◌*◌, length, IfOk};
 ghost use Rattle.simulator.specs.LaneBox.{lane_box};
-ghost use Rattle.simulator.specs.{GatePairs.line_pairs, Ticks.ValuesTold, Runs.AreDelayed};
+ghost use Rattle.simulator.specs.{GatePairs.line_pairs, Ticks.ValuesTold, Runs.CanRun};
 
 use crate::fresh::{fresh_cells, fresh_tracks};
 use crate::inputs::{fresh_inputs, turn};
@@ -30,10 +27,7 @@ pub fn run_ticks<V: Timed + Carried>(
     spans: &[V::Span],
     steps: &[Step<V::Span>],
 ) -> Result<Vec<V>, Memory>
-    requires of_line { IsNetOf line.now net.now }
-    requires spans { length spans.now ≡ param_count line.now }
-    requires ascending { IsTrue (ascend steps.now) }
-    requires delayed { AreDelayed V.LANES V.ends line.now spans.now steps.now }
+    requires { CanRun V.LANES V.ends line.now net.now spans.now steps.now }
     ensures count { IfOk result (λ values.
         length values.items ≡ line.now.horizon * length net.now.gates) }
     ensures told { IfOk result (λ values. (lane : ℕ) → lane < V.LANES →

@@ -1,18 +1,17 @@
 //! A run from one tick at which some gate may change to the next.
 
-ghost use Rattle.std.specs.Prelude.{◌≡◌, ℕ, ◌<◌, ◌≤◌, List, length, vec_capacity, IfOk, IsTrue};
-ghost use Rattle.line_model.specs.declared.script.{SeenSpan.SeenSpan, Script.Script};
-ghost use Rattle.line_model.specs.{Parameters.param_count, Choice.Choice};
+ghost use Rattle.std.specs.Prelude.{◌≡◌, ℕ, ◌<◌, ◌≤◌, length, IfOk, IsTrue};
+ghost use Rattle.line_model.specs.{declared.script.Script.Script, Choice.Choice};
+ghost use Rattle.line_model.specs.Parameters.{param_count};
 ghost use Rattle.gate_net.specs.NetOf.{IsNetOf};
 ghost use Rattle.timing_box.specs.Timing.{ascend};
-ghost use Rattle.simulator.specs.Runs.{AreDelayed, IsTheHistory, IsPoint, IsExactAt};
-ghost use Rattle.simulator.specs.Inputs.{AreDelays, DelaysHold};
-ghost use Rattle.simulator.specs.Tracks.{LineTracked, tracks_history};
-ghost use Rattle.simulator.specs.{LaneBox.lane_box, Shown.AreShown, Ticks.HaveCells, Ticks.AreSent};
+ghost use Rattle.simulator.specs.Runs.{CanRun, AreDelayed, IsTheHistory, IsPoint, IsExactAt};
+ghost use Rattle.simulator.specs.Tracks.{CanTake, IsKeptOf, tracks_history};
+ghost use Rattle.simulator.specs.{LaneBox.lane_box, Ticks.AreSent};
 
-use crate::cell::Cell;
 use crate::fresh::{fresh_cells, fresh_tracks};
-use crate::inputs::{Inputs, fresh_inputs};
+use crate::inputs::fresh_inputs;
+use crate::kept::Kept;
 use crate::stretch::take_stretch;
 use channel::{Carried, Track};
 use gate_net::Net;
@@ -22,7 +21,7 @@ use line_model::laws::line_laws;
 use line_model::{Line, Memory, Script};
 use std::alloc::Global;
 use tick_signal::Signal;
-use timers::{SealCell, Timed};
+use timers::Timed;
 use timing_box::Step;
 
 /// What each terminal keys, and whether it trips, in the order of the line.
@@ -33,8 +32,9 @@ pub struct Tracks<V: Signal> {
 }
 
 /// Runs the net of a line over a script as `run` does, from one tick at which some gate may change
-/// to the next, and keeps keys and trips alone: quiet ticks cost next to nothing. A span stands for each parameter, in the order of the line; a delay
-/// has at each tick the span of its step with the greatest `from` not after the tick, else its own.
+/// to the next, and keeps keys and trips alone: quiet ticks cost next to nothing. A span stands for
+/// each parameter, in the order of the line; a delay has at each tick the span of its step with the
+/// greatest `from` not after the tick, else its own.
 pub fn run_tracks<V: Timed + Carried>(
     alloc: Global,
     net: &Net,
@@ -65,66 +65,47 @@ pub fn run_tracks<V: Timed + Carried>(
     line_laws();
     gates_stand_for_their_trees();
     history_laws();
-    let mut cells = fresh_cells::<V>(alloc, net, line, spans)?;
-    let mut column: Vec<V> = Vec::with_capacity(alloc, net.len() as usize)?;
-    let mut inputs = fresh_inputs::<V>(alloc, line, script, spans)?;
-    let mut keys = fresh_tracks::<V>(alloc, net.key_gates().len() as u32, line.horizon)?;
-    let mut trips = fresh_tracks::<V>(alloc, net.trip_gates().len() as u32, line.horizon)?;
-    take_all::<V>(
-        net,
-        &mut cells,
-        &mut column,
-        &mut inputs,
-        &mut keys,
-        &mut trips,
-        line,
-        spans,
-        steps,
-    );
-    Ok(Tracks { keys, trips })
+    let cells = fresh_cells::<V>(alloc, net, line, spans)?;
+    let column: Vec<V> = Vec::with_capacity(alloc, net.len() as usize)?;
+    let inputs = fresh_inputs::<V>(alloc, line, script, spans)?;
+    let keys = fresh_tracks::<V>(alloc, net.key_gates().len() as u32, line.horizon)?;
+    let trips = fresh_tracks::<V>(alloc, net.trip_gates().len() as u32, line.horizon)?;
+    let mut kept = Kept {
+        cells,
+        column,
+        inputs,
+        keys,
+        trips,
+    };
+    take_all::<V>(net, line, spans, steps, &mut kept);
+    Ok(Tracks {
+        keys: kept.keys,
+        trips: kept.trips,
+    })
 }
 
 // Takes all ticks up to the horizon.
 fn take_all<V: Timed + Carried>(
     net: &Net,
-    cells: &mut Vec<Cell<V::Cells, SealCell<V>, V::Span>>,
-    column: &mut Vec<V>,
-    inputs: &mut Inputs<V::Span>,
-    keys: &mut Vec<Track<V>>,
-    trips: &mut Vec<Track<V>>,
     line: &Line,
     spans: &[V::Span],
     steps: &[Step<V::Span>],
+    kept: &mut Kept<V::Cells, V, V::Span>,
 )
-    requires of_line { IsNetOf line.now net.now }
-    requires spans { length spans.now ≡ param_count line.now }
-    requires ascending { IsTrue (ascend steps.now) }
-    requires delayed { AreDelayed V.LANES V.ends line.now spans.now steps.now }
-    requires room { length net.now.gates ≤ vec_capacity column.old }
-    requires delays { AreDelays line.now inputs.old.delays.items }
-    requires held { DelaysHold V.ends spans.now steps.now inputs.old.delays.items 0
-        inputs.old.until }
-    requires cells { HaveCells net.now.gates cells.old.items }
-    requires keys { AreSent (length net.now.keys) line.now.horizon 0 keys.old.items }
-    requires trips { AreSent (length net.now.trips) line.now.horizon 0 trips.old.items }
-    ensures keys { AreSent (length net.now.keys) line.now.horizon line.now.horizon keys.new.items }
-    ensures trips { AreSent (length net.now.trips) line.now.horizon line.now.horizon trips.new.items }
+    requires can { CanRun V.LANES V.ends line.now net.now spans.now steps.now }
+    requires kept { CanTake V.ends line.now net.now spans.now steps.now 0 kept.old }
+    ensures kept { CanTake V.ends line.now net.now spans.now steps.now line.now.horizon kept.new }
     ensures stands { (script : Script) →
-        AreShown script.spans.items inputs.old.shown 0 inputs.old.until →
-        ((lane : ℕ) → lane < V.LANES →
-        LineTracked V.stands_for V.ends V.rails line.now script spans.now steps.now net.now lane
-        0 keys.old.items trips.old.items cells.old.items) →
-        (lane : ℕ) → lane < V.LANES →
-        LineTracked V.stands_for V.ends V.rails line.now script spans.now steps.now net.now lane
-        line.now.horizon keys.new.items trips.new.items cells.new.items }
+        IsKeptOf V.LANES V.stands_for V.ends V.rails line.now script spans.now steps.now net.now
+        0 kept.old →
+        IsKeptOf V.LANES V.stands_for V.ends V.rails line.now script spans.now steps.now net.now
+        line.now.horizon kept.new }
 {
     let mut t = 0;
     let mut next_look = 0;
     while t < line.horizon {
         let ahead = next_look <= t;
-        let stays = take_stretch::<V>(
-            net, cells, column, inputs, keys, trips, line, spans, steps, t, ahead,
-        );
+        let stays = take_stretch::<V>(net, line, spans, steps, kept, t, ahead);
         t += stays;
         next_look = look_again(next_look, ahead, stays, t);
     }

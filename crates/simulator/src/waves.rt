@@ -1,7 +1,8 @@
 //! The values of a run.
 
 ghost use Rattle.std.specs.Prelude.{◌≡◌, ◌<◌, Some, length};
-ghost use Rattle.simulator.specs.WavesOf.{WavesOf, AreWaves, wave_value, number_at};
+ghost use Rattle.gate_net.specs.NetOf.{id_at};
+ghost use Rattle.simulator.specs.WavesOf.{WavesOf, AreWaves, waves_of, wave_value};
 
 use gate_net::GateId;
 use std::marker::Model;
@@ -20,21 +21,10 @@ pub struct Waves<V: Signal> {
 impl<V: Signal> Model for Waves<V> {
     ghost Value = { WavesOf V };
 
-    ghost view = { λ w. record {
-      width = w.width;
-      horizon = w.horizon;
-      values = w.values.items;
-      keys = w.keys.items;
-      trips = w.trips.items;
-    } };
+    ghost view = { λ w. waves_of w.width w.horizon w.values.items w.keys.items w.trips.items };
 
-    ghost invariant = { λ w. AreWaves {V = V} (record {
-      width = w.width;
-      horizon = w.horizon;
-      values = w.values.items;
-      keys = w.keys.items;
-      trips = w.trips.items;
-    }) };
+    ghost invariant = { λ w. AreWaves {V = V}
+        (waves_of w.width w.horizon w.values.items w.keys.items w.trips.items) };
 }
 
 impl<V: Signal> Waves<V> {
@@ -45,20 +35,9 @@ impl<V: Signal> Waves<V> {
         keys: Vec<GateId>,
         trips: Vec<GateId>,
     ) -> Self
-        requires { AreWaves {V = V} (record {
-          width = width;
-          horizon = horizon;
-          values = values.items;
-          keys = keys.items;
-          trips = trips.items;
-        }) }
-        ensures { result ≡ record {
-          width = width;
-          horizon = horizon;
-          values = values.items;
-          keys = keys.items;
-          trips = trips.items;
-        } }
+        requires { AreWaves {V = V}
+            (waves_of width horizon values.items keys.items trips.items) }
+        ensures { result ≡ waves_of width horizon values.items keys.items trips.items }
     {
         Waves {
             width,
@@ -80,7 +59,7 @@ impl<V: Signal> Waves<V> {
 
     pub(crate) fn key_gate(&self, terminal: u32) -> GateId
         requires { terminal < length self.now.keys }
-        ensures is { result.0 ≡ number_at self.now.keys terminal }
+        ensures is { result.0 ≡ id_at self.now.keys terminal }
         ensures exists { result.0 < self.now.width }
     {
         self.keys[terminal as usize]
@@ -88,7 +67,7 @@ impl<V: Signal> Waves<V> {
 
     pub(crate) fn trip_gate(&self, terminal: u32) -> GateId
         requires { terminal < length self.now.trips }
-        ensures is { result.0 ≡ number_at self.now.trips terminal }
+        ensures is { result.0 ≡ id_at self.now.trips terminal }
         ensures exists { result.0 < self.now.width }
     {
         self.trips[terminal as usize]
@@ -98,7 +77,7 @@ impl<V: Signal> Waves<V> {
     pub fn key(&self, terminal: u32, t: u32) -> V
         requires terminal { terminal < length self.now.keys }
         requires tick { t < self.now.horizon }
-        ensures { wave_value self.now (number_at self.now.keys terminal) t ≡ Some result }
+        ensures { wave_value self.now (id_at self.now.keys terminal) t ≡ Some result }
     {
         self.at(self.key_gate(terminal), t)
     }
@@ -107,7 +86,7 @@ impl<V: Signal> Waves<V> {
     pub fn trip(&self, terminal: u32, t: u32) -> V
         requires terminal { terminal < length self.now.trips }
         requires tick { t < self.now.horizon }
-        ensures { wave_value self.now (number_at self.now.trips terminal) t ≡ Some result }
+        ensures { wave_value self.now (id_at self.now.trips terminal) t ≡ Some result }
     {
         self.at(self.trip_gate(terminal), t)
     }

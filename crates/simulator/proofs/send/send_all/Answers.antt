@@ -2,7 +2,8 @@ use Rattle.std.proofs.Common.{◌≡◌, ℕ, ◌<◌, ◌≤◌, ◌+◌, Some,
 use Rattle.std.proofs.Common.{length-set}
 use Rattle.std.proofs.lemmas.Option.{slice_get_read, slice_get_within}
 use Rattle.std.specs.Prelude.{slice_get, get_or}
-use Rattle.simulator.specs.{WavesOf.number_at, Ticks.HasKeys, Ticks.HasSent}
+use Rattle.gate_net.specs.NetOf.{id_at}
+use Rattle.simulator.specs.Ticks.{HasKeys, HasSent}
 use Rattle.simulator.proofs.Lists.{part_more}
 use Rattle.simulator.proofs.SendLaws.{keys_for, sent_for, number_read}
 use Rattle.simulator.proofs.send.send_all.Goals as goal
@@ -62,9 +63,9 @@ loop-k-preserved g c =
     let at : slice_get tracks k ≡ Some s =
     slice_get_read tracks (length gates) k s (sym c.loop-k.invariant.count) c.loop-k-test.true
     c.index_mut.ensures.value in
-    let there : number_at gates k < length column = c.requires.gates k c.loop-k-test.true in
-    let key : slice_get column (number_at gates k) ≡ Some x =
-    slice_get_read column (length column) (number_at gates k) x refl there
+    let there : id_at gates k < length column = c.requires.gates k c.loop-k-test.true in
+    let key : slice_get column (id_at gates k) ≡ Some x =
+    slice_get_read column (length column) (id_at gates k) x refl there
     (c.index-column-gates.is ∙ ap (λ (i : ℕ). get_or column i x) (sym number)) in
     record {
       count = length-set tracks k new ∙ c.loop-k.invariant.count;

@@ -2,7 +2,7 @@ use Rattle.std.proofs.Common.{◌≡◌, ℕ, ◌<◌, ◌≤◌, ◌+◌, lengt
 use Rattle.std.specs.Prelude.{slice_get}
 use Rattle.line_model.specs.PairMean.{PairSignals}
 use Rattle.simulator.specs.Ticks.{PartDone, HasKeys, HasSent, KeysSent}
-use Rattle.simulator.specs.WavesOf.{number_at}
+use Rattle.gate_net.specs.NetOf.{id_at}
 use Rattle.simulator.proofs.send.send_all.Given as goal
 
 abbrev pub invariant-loop-k : goal.invariant-loop-k
@@ -14,7 +14,7 @@ invariant-loop-k g l =
           l.tracks.items;
       sent : (lane : ℕ) (keys : PairSignals) → lane < g.V.Signal.LANES
           → ((k : ℕ) (x : _) → k < length l.gates
-          → slice_get l.column (number_at l.gates k) ≡ Some x
+          → slice_get l.column (id_at l.gates k) ≡ Some x
           → (r : ℕ) → l.t ≤ r → r < l.t + l.count → keys k r ≡ rails x lane)
           → KeysSent rails lane keys l.t l.initial.tracks.items
           → PartDone (HasSent rails lane keys (l.t + l.count)) (HasSent rails lane keys l.t) l.k

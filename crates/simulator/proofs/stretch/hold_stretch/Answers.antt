@@ -1,7 +1,7 @@
 use Rattle.std.proofs.Common.{◌≡◌, ℕ, suc, ◌+◌, ◌<◌, ◌≤◌, Some, length, sym, ◌∙◌, arith, subst}
 use Rattle.std.specs.Prelude.{slice_get}
-use Rattle.gate_net.specs.NetOf.{AreGatesOf}
-use Rattle.simulator.specs.{WavesOf.number_at, Ticks.AllStand, Tracks.trips_of}
+use Rattle.gate_net.specs.NetOf.{AreGatesOf, id_at}
+use Rattle.simulator.specs.{Ticks.AllStand, Tracks.trips_of}
 use Rattle.simulator.proofs.StretchLaws.{held_values}
 use Rattle.simulator.proofs.stretch.hold_stretch.Goals as goal
 
@@ -34,8 +34,8 @@ returns-clause-stands g c = λ lane w key u inside agree keeps are before.
           (λ k x kn at r low high.
           let kn' : k < length net.keys =
           subst (λ ids. k < length ids) c.key_gates.ensures kn in
-          let at' : slice_get column (number_at net.keys k) ≡ Some x =
-          subst (λ ids. slice_get column (number_at ids k) ≡ Some x) c.key_gates.ensures at in
+          let at' : slice_get column (id_at net.keys k) ≡ Some x =
+          subst (λ ids. slice_get column (id_at ids k) ≡ Some x) c.key_gates.ensures at in
           are k r kn' (omega arith)
           ∙ held_values rails lane u t (suc n) (length net.gates) column net.keys
           c.requires.laws.keys agree keeps k x kn' at' r (omega arith) (omega arith))
@@ -44,8 +44,8 @@ returns-clause-stands g c = λ lane w key u inside agree keeps are before.
           (λ k x kn at r low high.
           let kn' : k < length net.trips =
           subst (λ ids. k < length ids) c.trip_gates.ensures kn in
-          let at' : slice_get column (number_at net.trips k) ≡ Some x =
-          subst (λ ids. slice_get column (number_at ids k) ≡ Some x) c.trip_gates.ensures at in
+          let at' : slice_get column (id_at net.trips k) ≡ Some x =
+          subst (λ ids. slice_get column (id_at ids k) ≡ Some x) c.trip_gates.ensures at in
           held_values rails lane u t (suc n) (length net.gates) column net.trips
           c.requires.laws.trips agree keeps k x kn' at' r (omega arith) (omega arith))
           before.trips_kept;

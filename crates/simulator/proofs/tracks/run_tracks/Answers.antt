@@ -1,4 +1,4 @@
-use Rattle.std.proofs.Common.{ℕ, ◌<◌, length, refl, sym, ◌∙◌, ap, subst}
+use Rattle.std.proofs.Common.{ℕ, ◌<◌, length, refl, sym, ◌∙◌, ap, subst, arith}
 use Rattle.line_model.specs.PairMean.{PairWorld, PairSignals}
 use Rattle.line_model.specs.{Logic.key_tree, Solution.the_keys, Choice.pair_world_of}
 use Rattle.simulator.specs.Tracks.{tracks_history, trips_of, LineTracked}
@@ -9,26 +9,24 @@ use Rattle.simulator.proofs.{SendLaws.fresh_sent, SendLaws.none_sent, TrackLaws.
 use Rattle.simulator.proofs.{TrackLaws.kept_history, GivenLaws.held_none, GivenLaws.shown_none}
 use Rattle.simulator.proofs.tracks.run_tracks.Goals as goal
 
-pub take_all-requires-clause-keys : goal.take_all-requires-clause-keys
-take_all-requires-clause-keys g c =
+pub take_all-requires-clause-kept : goal.take_all-requires-clause-kept
+take_all-requires-clause-kept g c =
     let h = c.args.line.now.horizon in
-    let n = length c.key_gates.result.now in
-    subst (λ (m : ℕ). AreSent m h 0 c.in_ok-keys.keys.items) (ap length c.key_gates.ensures)
-    (fresh_sent n h c.in_ok-keys.keys.items c.in_ok-keys.ensures)
-
-pub take_all-requires-clause-trips : goal.take_all-requires-clause-trips
-take_all-requires-clause-trips g c =
-    let h = c.args.line.now.horizon in
-    let n = length c.trip_gates.result.now in
-    subst (λ (m : ℕ). AreSent m h 0 c.in_ok-trips.trips.items) (ap length c.trip_gates.ensures)
-    (fresh_sent n h c.in_ok-trips.trips.items c.in_ok-trips.ensures)
-
-pub take_all-requires-clause-held : goal.take_all-requires-clause-held
-take_all-requires-clause-held g c =
+    let keys = c.in_ok-keys.keys.items in
+    let trips = c.in_ok-trips.trips.items in
     let delays = c.in_ok-inputs.inputs.delays.items in
-    subst (DelaysHold g.V.Signal.ends c.args.spans.now c.args.steps.now delays 0)
-    (sym c.in_ok-inputs.ensures.over)
-    (held_none g.V.Signal.ends c.args.spans.now c.args.steps.now delays)
+    record {
+      room = omega (arith, c.in_ok-column.ensures.exact, c.len.ensures.len);
+      delays = c.in_ok-inputs.ensures.delays;
+      held = subst (DelaysHold g.V.Signal.ends c.args.spans.now c.args.steps.now delays 0)
+          (sym c.in_ok-inputs.ensures.over)
+          (held_none g.V.Signal.ends c.args.spans.now c.args.steps.now delays);
+      cells = c.in_ok-cells.ensures.shape;
+      keys = subst (λ (m : ℕ). AreSent m h 0 keys) (ap length c.key_gates.ensures)
+          (fresh_sent (length c.key_gates.result.now) h keys c.in_ok-keys.ensures);
+      trips = subst (λ (m : ℕ). AreSent m h 0 trips) (ap length c.trip_gates.ensures)
+          (fresh_sent (length c.trip_gates.result.now) h trips c.in_ok-trips.ensures);
+    }
 
 pub returns-clause-history : goal.returns-clause-history
 unfolding pair_world_of lane_box
@@ -45,28 +43,29 @@ returns-clause-history g c = λ lane inside.
     let w : ℕ → PairWorld = λ l. lane_world ends line script spans steps l in
     let key : ℕ → PairSignals = λ l. the_keys (w l) (key_tree line) in
     let u : ℕ → GateSignals = λ l. line_pairs line script (lane_box ends line spans steps l) net in
+    let kept = c.take_all.new.kept in
     let stands : LineTracked g.V.Timed.stands_for ends rails line script spans steps net lane h
-    c.take_all.new.keys.items c.take_all.new.trips.items c.take_all.new.cells.items =
-    c.take_all.ensures.stands script
-    (subst (AreShown script.spans.items c.in_ok-inputs.inputs.shown 0)
-    (sym c.in_ok-inputs.ensures.over)
-    (shown_none script.spans.items c.in_ok-inputs.inputs.shown c.in_ok-inputs.ensures.shown))
-    (λ l il. record {
-      keys_kept = none_sent rails l (length c.key_gates.result.now) h (key l)
-          c.in_ok-keys.keys.items c.in_ok-keys.ensures;
-      trips_kept = none_sent rails l (length c.trip_gates.result.now) h (trips_of net (u l))
-          c.in_ok-trips.trips.items c.in_ok-trips.ensures;
-      stand = c.in_ok-cells.ensures.stands l (w l) (u l) il (λ x. refl);
-    })
-    lane inside in
+    kept =
+    (c.take_all.ensures.stands script (record {
+      shown = subst (AreShown script.spans.items c.in_ok-inputs.inputs.shown 0)
+          (sym c.in_ok-inputs.ensures.over)
+          (shown_none script.spans.items c.in_ok-inputs.inputs.shown c.in_ok-inputs.ensures.shown);
+      tracked = λ l il. record {
+        keys_kept = none_sent rails l (length c.key_gates.result.now) h (key l)
+            c.in_ok-keys.keys.items c.in_ok-keys.ensures;
+        trips_kept = none_sent rails l (length c.trip_gates.result.now) h (trips_of net (u l))
+            c.in_ok-trips.trips.items c.in_ok-trips.ensures;
+        stand = c.in_ok-cells.ensures.stands l (w l) (u l) il (λ x. refl);
+      };
+    })).tracked lane inside in
     kept_history c.line_laws.ensures c.gates_stand_for_their_trees.ensures line script (lane_box ends line spans steps lane) (c.requires.delayed lane inside)
     net of_line
-    (tracks_history rails lane c.take_all.new.keys.items c.take_all.new.trips.items)
+    (tracks_history rails lane kept.keys.items kept.trips.items)
     (λ k t kn lt. kept_pair c.history_laws.ensures rails lane (key lane) (length net.keys) h h k t
-    c.take_all.new.keys.items c.take_all.ensures.keys stands.keys_kept
+    kept.keys.items c.take_all.ensures.kept.keys stands.keys_kept
     (subst (λ (n : ℕ). k < n) (sym of_line.terminals) kn) lt)
     (λ k t kn lt. kept_pair c.history_laws.ensures rails lane (trips_of net (u lane)) (length net.trips) h h k t
-    c.take_all.new.trips.items c.take_all.ensures.trips stands.trips_kept
+    kept.trips.items c.take_all.ensures.kept.trips stands.trips_kept
     (subst (λ (n : ℕ). k < n) (sym (of_line.laws.same ∙ of_line.terminals)) kn) lt)
 
 pub returns-clause-exact : goal.returns-clause-exact
