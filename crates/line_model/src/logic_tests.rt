@@ -6,6 +6,7 @@ ghost use Rattle.line_model.specs.{Names.Names, Keys.AreValues, Keys.Reach, Keys
 
 use super::*;
 use crate::mean::mean;
+use crate::tests::channels_of;
 use std::alloc::Global;
 use std::process::Abort;
 use std::test::Fail;
@@ -24,14 +25,22 @@ struct Row {
     trip: &'static str,
 }
 
+// What a row does not say.
+const ROW: Row = Row {
+    scheme: Scheme::Pott,
+    count: 2,
+    terminal: 0,
+    weak: false,
+    guard: false,
+    zone1_trip: false,
+    key: "",
+    trip: "",
+};
+
 const ROWS: [Row; 9] = [
     Row {
-        scheme: Scheme::Pott,
-        count: 2,
-        terminal: 0,
         weak: true,
         guard: true,
-        zone1_trip: false,
         key: "Or(And(Timer(A.z2, A.z2.pickup, A.z2.dropout), Not(Timer(Timer(A.rv, A.rv.pickup, \
             A.rv.dropout), A.reversal.pickup, A.reversal.dropout))), \
             And(Timer(And(And(Raw(B>A), Not(Loss(B>A))), Not(Timer(Or(Timer(A.z2, A.z2.pickup, \
@@ -45,26 +54,22 @@ const ROWS: [Row; 9] = [
             Not(Loss(B>A))), Not(Timer(Or(Timer(A.z2, A.z2.pickup, A.z2.dropout), Timer(A.rv, \
             A.rv.pickup, A.rv.dropout)), 0, A.echo.block))), A.echo.pickup, 0), Timer(A.uv, \
             A.uv.pickup, A.uv.dropout))), A.cur)",
+        ..ROW
     },
     Row {
-        scheme: Scheme::Pott,
         count: 3,
         terminal: 1,
-        weak: false,
-        guard: false,
         zone1_trip: true,
         key: "Or(And(Timer(B.z2, B.z2.pickup, B.z2.dropout), Not(false)), false)",
         trip: "Seal(Or(Or(And(And(Timer(B.z2, B.z2.pickup, B.z2.dropout), And(And(Raw(A>B), \
             Not(Loss(A>B))), And(Raw(C>B), Not(Loss(C>B))))), Not(false)), false), Timer(B.z1, \
             B.z1.pickup, B.z1.dropout)), B.cur)",
+        ..ROW
     },
     Row {
-        scheme: Scheme::Pott,
         count: 3,
         terminal: 2,
         weak: true,
-        guard: false,
-        zone1_trip: false,
         key: "Or(And(Timer(C.z2, C.z2.pickup, C.z2.dropout), Not(false)), \
             And(Timer(And(And(And(Raw(A>C), Not(Loss(A>C))), And(Raw(B>C), Not(Loss(B>C)))), \
             Not(Timer(Or(Timer(C.z2, C.z2.pickup, C.z2.dropout), Timer(C.rv, C.rv.pickup, \
@@ -79,37 +84,31 @@ const ROWS: [Row; 9] = [
             Not(Timer(Or(Timer(C.z2, C.z2.pickup, C.z2.dropout), Timer(C.rv, C.rv.pickup, \
             C.rv.dropout)), 0, C.echo.block))), C.echo.pickup, 0), Timer(C.uv, C.uv.pickup, \
             C.uv.dropout))), C.cur)",
+        ..ROW
     },
     Row {
         scheme: Scheme::Putt,
-        count: 2,
         terminal: 1,
-        weak: false,
-        guard: false,
         zone1_trip: true,
         key: "Timer(B.z1, B.z1.pickup, B.z1.dropout)",
         trip: "Seal(Or(And(Timer(B.z2, B.z2.pickup, B.z2.dropout), And(Raw(A>B), Not(Loss(A>B)))), \
             Timer(B.z1, B.z1.pickup, B.z1.dropout)), B.cur)",
+        ..ROW
     },
     Row {
         scheme: Scheme::Dcb,
         count: 3,
         terminal: 1,
-        weak: false,
-        guard: false,
-        zone1_trip: false,
         key: "Timer(And(Timer(B.rv, B.rv.pickup, B.rv.dropout), Not(Timer(B.z2, B.z2.pickup, \
             B.z2.dropout))), 0, B.block.carry)",
         trip: "Seal(And(Timer(Timer(B.z2, B.z2.pickup, B.z2.dropout), B.block.coord, 0), \
             Not(Or(And(Raw(A>B), Not(Loss(A>B))), And(Raw(C>B), Not(Loss(C>B)))))), B.cur)",
+        ..ROW
     },
     Row {
         scheme: Scheme::Dcub,
-        count: 2,
-        terminal: 0,
         weak: true,
         guard: true,
-        zone1_trip: false,
         key: "Or(And(Timer(A.z2, A.z2.pickup, A.z2.dropout), Not(Timer(Timer(A.rv, A.rv.pickup, \
             A.rv.dropout), A.reversal.pickup, A.reversal.dropout))), \
             And(Timer(And(And(Or(And(Raw(B>A), Not(Loss(B>A))), And(Timer(Loss(B>A), \
@@ -135,14 +134,13 @@ const ROWS: [Row; 9] = [
             Not(Timer(Or(Timer(A.z2, A.z2.pickup, A.z2.dropout), Timer(A.rv, A.rv.pickup, \
             A.rv.dropout)), 0, A.echo.block))), A.echo.pickup, 0), Timer(A.uv, A.uv.pickup, \
             A.uv.dropout))), A.cur)",
+        ..ROW
     },
     Row {
         scheme: Scheme::Dcub,
         count: 3,
         terminal: 2,
-        weak: false,
         guard: true,
-        zone1_trip: false,
         key: "Or(And(Timer(C.z2, C.z2.pickup, C.z2.dropout), Not(Timer(Timer(C.rv, C.rv.pickup, \
             C.rv.dropout), C.reversal.pickup, C.reversal.dropout))), false)",
         trip: "Seal(Or(And(And(Timer(C.z2, C.z2.pickup, C.z2.dropout), And(And(Or(And(Raw(A>C), \
@@ -154,28 +152,24 @@ const ROWS: [Row; 9] = [
             B>C.unblock.window, 0), Not(Timer(And(Not(Raw(B>C)), Not(Loss(B>C))), \
             B>C.unblock.restore, 0))))))), Not(Timer(Timer(C.rv, C.rv.pickup, C.rv.dropout), \
             C.reversal.pickup, C.reversal.dropout))), false), C.cur)",
+        ..ROW
     },
     Row {
         scheme: Scheme::Dtt,
         count: 3,
-        terminal: 0,
-        weak: false,
-        guard: false,
-        zone1_trip: false,
         key: "Timer(A.z1, A.z1.pickup, A.z1.dropout)",
         trip: "Seal(Timer(Or(And(Raw(B>A), Not(Loss(B>A))), And(Raw(C>A), Not(Loss(C>A)))), \
             A.transfer.security, 0), A.cur)",
+        ..ROW
     },
     Row {
         scheme: Scheme::Dtt,
-        count: 2,
         terminal: 1,
-        weak: false,
-        guard: false,
         zone1_trip: true,
         key: "Timer(B.z1, B.z1.pickup, B.z1.dropout)",
         trip: "Seal(Or(Timer(And(Raw(A>B), Not(Loss(A>B))), B.transfer.security, 0), Timer(B.z1, \
             B.z1.pickup, B.z1.dropout)), B.cur)",
+        ..ROW
     },
 ];
 
@@ -200,18 +194,6 @@ fn terminals_of(alloc: Global, row: Row) -> Result<Vec<Terminal>, Fail> {
         }
     }
     Ok(terminals)
-}
-
-fn channels_of(alloc: Global, count: u32) -> Result<Vec<Channel>, Fail> {
-    let mut channels = Vec::new(alloc);
-    for from in 0..count {
-        for to in 0..count {
-            if from != to {
-                channels.push(Channel { from, to })?;
-            }
-        }
-    }
-    Ok(channels)
 }
 
 // A line whose intervals are all of one tick, over 12 ticks.

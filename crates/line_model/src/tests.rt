@@ -34,8 +34,8 @@ fn terminals_of(
     Ok(terminals)
 }
 
-// A channel for each ordered pair of `count` terminals.
-fn channels_of(alloc: Global, count: u32) -> Result<Vec<Channel>, Memory> {
+/// A channel for each ordered pair of `count` terminals.
+pub fn channels_of(alloc: Global, count: u32) -> Result<Vec<Channel>, Memory> {
     let mut channels = Vec::new(alloc);
     for from in 0..count {
         for to in 0..count {
