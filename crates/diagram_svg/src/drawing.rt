@@ -3,12 +3,12 @@
 use crate::axis::{AXIS_HEIGHT, axis};
 use crate::legend::{LEGEND_HEIGHT, legend};
 use crate::mark::marks;
-use crate::row::{is_drawn, row, terminal_name};
+use crate::row::{is_drawn, row};
 use crate::shape::{ended, label, rectangle, titles};
 use crate::style::style;
 use crate::trip::trip;
 use crate::words::Words;
-use line_model::{Element, Kind, Line, Memory, Name, Scheme, Script};
+use line_model::{Element, Kind, Line, Memory, Name, Scheme, Script, name_of_terminal};
 use std::alloc::Global;
 use svg_text::{Key, Markup, Tag, words};
 use timing_diagram::{Diagram, Row, Trace};
@@ -111,11 +111,13 @@ struct Drawn {
 fn rows(alloc: Global, line: &Line, diagram: &Diagram) -> Result<Drawn, Memory> {
     let mut rows = Markup::new(alloc);
     let mut y = TOP;
-    for row in &diagram.rows {
-        let base = y.saturating_add(height_above(row));
-        rows = rows.and(&block(alloc, line, diagram, row, base)?)?;
-        rows = rows.and(&label_of(alloc, line, diagram, row, base)?)?;
-        y = base.saturating_add(height_below(row));
+    for shown in &diagram.rows {
+        let base = y.saturating_add(height_above(shown));
+        if is_drawn(shown) {
+            rows = rows.and(&row(alloc, line, diagram.window, shown, base)?)?;
+        }
+        rows = rows.and(&label_of(alloc, line, diagram, shown, base)?)?;
+        y = base.saturating_add(height_below(shown));
     }
     Ok(Drawn { rows, bottom: y })
 }
@@ -132,7 +134,7 @@ fn label_of(
         Trace::Seen(place) if begins_terminal(shown.trace) => {
             let room = if is_drawn(shown) { 190 } else { 0 };
             let y = base.saturating_sub(room).saturating_sub(60);
-            let said = Words::new(alloc).word(terminal_name(line, place.terminal))?;
+            let said = Words::new(alloc).word(name_of_terminal(line, place.terminal))?;
             label(alloc, b"terminal", (140, y), &said)
         }
         Trace::Trip(terminal) => trip(alloc, line, diagram, terminal, base),
@@ -169,20 +171,5 @@ fn begins_terminal(trace: Trace) -> bool {
     match trace {
         Trace::Seen(place) => place.element == Element::Z1,
         Trace::Lost(_) | Trace::Key(_) | Trace::Trip(_) => false,
-    }
-}
-
-// The bars of a row, if it is drawn.
-fn block(
-    alloc: Global,
-    line: &Line,
-    diagram: &Diagram,
-    shown: &Row,
-    base: u32,
-) -> Result<Markup, Memory> {
-    if is_drawn(shown) {
-        row(alloc, line, diagram.window, shown, base)
-    } else {
-        Ok(Markup::new(alloc))
     }
 }

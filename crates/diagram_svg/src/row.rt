@@ -5,7 +5,7 @@ ghost use Rattle.std.specs.Prelude.{◌≤◌};
 use crate::scale::{LEFT, RIGHT, x_of};
 use crate::shape::{label, line, rectangle, titled};
 use crate::words::Words;
-use line_model::{Element, Line, Memory};
+use line_model::{Line, Memory, element_word, name_of_terminal};
 use std::alloc::Global;
 use svg_text::Markup;
 use tick_signal::Tern;
@@ -29,39 +29,21 @@ pub fn bar_height(trace: Trace) -> u32
     }
 }
 
-/// The name of a terminal of the line.
-pub fn terminal_name<'a>(of: &'a Line, terminal: u32) -> &'a [u8] {
-    match of.terminals.as_slice().get(terminal as usize) {
-        Some(terminal) => terminal.name.bytes(),
-        None => b"?",
-    }
-}
-
 // The name of a row within its terminal.
 fn row_name(alloc: Global, of: &Line, trace: Trace) -> Result<Words, Memory> {
     let words = Words::new(alloc);
     match trace {
-        Trace::Seen(place) => words.word(b"sees ")?.word(element_name(place.element)),
+        Trace::Seen(place) => words.word(b"sees ")?.word(element_word(place.element)),
         Trace::Lost(channel) => words.word(b"lost from ")?.word(sender_name(of, channel)),
         Trace::Key(_) => words.word(b"key"),
         Trace::Trip(_) => words.word(b"trip"),
     }
 }
 
-fn element_name(element: Element) -> &'static [u8] {
-    match element {
-        Element::Z1 => b"z1",
-        Element::Z2 => b"z2",
-        Element::Rv => b"rv",
-        Element::Uv => b"uv",
-        Element::Cur => b"cur",
-    }
-}
-
 fn sender_name<'a>(of: &'a Line, channel: u32) -> &'a [u8] {
     match of.channels.as_slice().get(channel as usize) {
-        Some(channel) => terminal_name(of, channel.from),
-        None => b"?",
+        Some(channel) => name_of_terminal(of, channel.from),
+        None => b"",
     }
 }
 
@@ -131,7 +113,7 @@ fn class_of(trace: Trace, value: Tern) -> &'static [u8] {
 fn row_title(alloc: Global, of: &Line, row: &Row) -> Result<Words, Memory> {
     let name = row_name(alloc, of, row.trace)?;
     let mut title = Words::new(alloc)
-        .word(terminal_name(of, terminal_of(of, row.trace)))?
+        .word(name_of_terminal(of, terminal_of(of, row.trace)))?
         .word(b" ")?
         .word(name.bytes.as_slice())?;
     let mut mark: &'static [u8] = b": ";

@@ -1,10 +1,13 @@
 //! Why there is no picture.
 
-ghost use Rattle.std.specs.Prelude.{◌≤◌};
+ghost use Rattle.std.specs.Prelude.{◌≡◌, ◌≤◌};
+ghost use Rattle.commands.specs.Sinks.{Puts, sink_view};
+ghost use Rattle.picture_core.specs.Halts.{halt_line};
 
+use commands::put_pieces;
 use line_model::Memory;
 use pilot_core::{Stop, put_message};
-use relay_base::{PutFailed, Sink, put_all};
+use relay_base::{PutFailed, Sink};
 use timing_box::TimingFault;
 
 /// Why there is no picture: what stops `pilot` too, or a name that its file has not.
@@ -16,9 +19,12 @@ pub enum Halt {
 }
 
 impl Halt {
+    ghost use Rattle.picture_core.specs.Halts.{halt_status};
+
     /// The exit status: that of `pilot`, 4 to 8; 9 where a name is unknown.
     pub fn status(&self) -> u8
-        ensures { 4 ≤ result }
+        ensures is { result ≡ halt_status self.now }
+        ensures stops { 4 ≤ result }
     {
         match self {
             Halt::Stopped(Stop::Usage) => 4,
@@ -32,11 +38,14 @@ impl Halt {
 }
 
 /// Pushes the line that says it: that of `pilot`, or `unknown script`, `unknown timing`.
-pub fn put_halt<K: Sink>(sink: &mut K, halt: &Halt) -> Result<(), PutFailed> {
+pub fn put_halt<K: Sink>(sink: &mut K, halt: &Halt) -> Result<(), PutFailed>
+    ensures { Puts (sink_view K.written K.faults sink.old) (sink_view K.written K.faults sink.new)
+        (halt_line halt.now) result }
+{
     match halt {
         Halt::Stopped(stop) => put_message(sink, stop),
-        Halt::UnknownScript => put_all(sink, b"unknown script\n"),
-        Halt::UnknownTiming => put_all(sink, b"unknown timing\n"),
+        Halt::UnknownScript => put_pieces(sink, &[b"unknown script\n"]),
+        Halt::UnknownTiming => put_pieces(sink, &[b"unknown timing\n"]),
     }
 }
 
