@@ -89,13 +89,17 @@ fn nodes_at(
     ensures { IfOk result (λ found. IfSome found (λ nodes.
         AreNodesIfTold line.now wide.now parts.now held.now i depth nodes.items)) }
 {
-    if i >= parts.len() || !is_narrowed(line, wide, &parts[i]) {
+    if i >= parts.len() {
+        return Ok(None);
+    }
+    let part = &parts[i];
+    if !is_narrowed(line, wide, part) {
         return Ok(None);
     }
     if held[i] {
         return Ok(Some(leaf(alloc, Node::Yes)?));
     }
-    let Some(param) = widest(&parts[i]) else {
+    let Some(param) = widest(part) else {
         return Ok(Some(leaf(alloc, Node::Undecided)?));
     };
     if depth == 0 {
@@ -107,7 +111,7 @@ fn nodes_at(
     let Some(second) = nodes_at(alloc, line, wide, parts, held, 2 * i + 3, depth - 1)? else {
         return Ok(None);
     };
-    let mid = middle(&parts[i], param);
+    let mid = middle(part, param);
     Ok(Some(split(alloc, param, mid, &first, &second)?))
 }
 

@@ -15,6 +15,7 @@ use Rattle.line_model.specs.{declared.line.Line.Line, declared.script.Script.Scr
 use Rattle.certify_core.specs.declared.verdict.Verdict.{Verdict}
 use Rattle.certify_core.specs.{declared.verdict.ScriptVerdict.ScriptVerdict, Piece.part_text}
 use Rattle.certify_core.specs.{Piece.piece_text, Verdicts.AreKeys, Verdicts.AreVerdicts}
+use Rattle.cert_checker.specs.ZipLaws.{zip_append, zip_exists, zip_once}
 use Rattle.engine.specs.Certified.{IsCertified}
 use Rattle.commands.specs.Certify.{certify_answer, IsCertificate, IsPart, Part, certificate_end}
 use Rattle.commands.specs.Certify.{certificate_head, is_no, is_undecided, some_verdict}
@@ -81,14 +82,7 @@ module _
 
   parts_once : (scripts : List Script) (ps qs : List Part) → All (Fits line) scripts
       → AllZip (IsPart line) scripts ps → AllZip (IsPart line) scripts qs → ps ≡ qs
-  parts_once [] [] [] fits are_ps are_qs = refl
-  parts_once [] [] (q ∷ qs) fits are_ps are_qs = absurd are_qs
-  parts_once [] (p ∷ ps) qs fits are_ps are_qs = absurd are_ps
-  parts_once (x ∷ xs) [] qs fits are_ps are_qs = absurd are_ps
-  parts_once (x ∷ xs) (p ∷ ps) [] fits are_ps are_qs = absurd are_qs
-  parts_once (x ∷ xs) (p ∷ ps) (q ∷ qs) fits are_ps are_qs =
-      ap (λ z. z ∷ ps) (part_once x p q (All-head (Fits line) x xs fits) are_ps.0 are_qs.0)
-      ∙ ap (λ zs. q ∷ zs) (parts_once xs ps qs (All-tail (Fits line) x xs fits) are_ps.1 are_qs.1)
+  parts_once = zip_once (Fits line) (IsPart line) (λ script p q. part_once script p q)
 
   pub certificate_once : (scripts : List Script) (s t : Done) (a b : List ℕ)
       → All (Fits line) scripts → IsCertificate line scripts s a → IsCertificate line scripts t b
@@ -132,11 +126,7 @@ module _ (line : Line) where
   module _ (part : (script : Script) → Fits line script → (p : Part) × IsPart line script p) where
     pub parts_exist : (scripts : List Script) → All (Fits line) scripts
         → (parts : List Part) × AllZip (IsPart line) scripts parts
-    parts_exist [] fits = ([], tt)
-    parts_exist (x ∷ xs) fits =
-        let first = part x (All-head (Fits line) x xs fits) in
-        let rest = parts_exist xs (All-tail (Fits line) x xs fits) in
-        (first.0 ∷ rest.0, (first.1, rest.1))
+    parts_exist = zip_exists (Fits line) (IsPart line) part
 
     pub certificate_exists : (scripts : List Script) → All (Fits line) scripts
         → (s : Done) × (text : List ℕ) × IsCertificate line scripts s text
@@ -157,13 +147,6 @@ parts_text-append xs ys =
 parts_text-first : (part : Part) (parts : List Part)
     → parts_text (part ∷ parts) ≡ part.text ++ parts_text parts
 parts_text-first part parts = refl
-
-pub zip_append : {A B : Type 0} (R : A → B → Type 0) (xs us : List A) (ys vs : List B)
-    → AllZip R xs ys → AllZip R us vs → AllZip R (xs ++ us) (ys ++ vs)
-zip_append R [] us [] vs zip more = more
-zip_append R [] us (y ∷ ys) vs zip more = absurd zip
-zip_append R (x ∷ xs) us [] vs zip more = absurd zip
-zip_append R (x ∷ xs) us (y ∷ ys) vs zip more = (zip.0, zip_append R xs us ys vs zip.1 more)
 
 -- some verdict of one part more
 some_more : (is_such : Verdict → Bool) (parts : List Part) (part : Part)

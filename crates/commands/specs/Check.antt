@@ -1,17 +1,14 @@
 -- The command `check`: whether a certificate is accepted, with its counts, or its first fault.
-use Rattle.std.specs.Prelude.{◌≡◌, ◌≢◌, ◌∷◌, ℕ, List, [], codes, decimal}
-use Rattle.std.specs.List.{concat}
+use Rattle.std.specs.Prelude.{◌∷◌, ℕ, List, [], codes, decimal}
 use Rattle.line_model.specs.{declared.line.Line.Line, declared.script.Script.Script}
 use Rattle.tick_signal.specs.declared.tern.Tern.{Tern}
 use Rattle.tick_signal.specs.declared.tern.Tern.TheVariants as tern
 use Rattle.cert_checker.specs.Check.{IsAccepted, IsCheckFault}
-use Rattle.cert_checker.specs.{declared.counts.Counts.Counts, declared.fault.CheckFault.CheckFault}
+use Rattle.cert_checker.specs.declared.fault.CheckFault.{CheckFault}
 use Rattle.cert_checker.specs.declared.fault.CheckFault.TheVariants as fault
 use Rattle.engine.specs.Calls.{AskedCheck}
-use Rattle.commands.specs.Checked.{accepted_pieces, line_pieces, outside_pieces, passes_pieces}
-use Rattle.commands.specs.Checked.{place}
-use Rattle.commands.specs.{Answers.Answers, Asked.Asks, declared.done.Done.Done}
-use Rattle.commands.specs.declared.done.Done.TheVariants as done
+use Rattle.commands.specs.Checked.{line_pieces, outside_pieces, passes_pieces, place}
+use Rattle.commands.specs.{Checked.IsCheckedText, Answers.Answers, Asked.Asks}
 
 -- ---- the lines
 
@@ -37,27 +34,11 @@ rejected_pieces line scripts fault.Memory = []
 
 -- ---- the answer
 
--- the certificate is accepted with such counts
-pub record Accepts (line : Line) (scripts : List Script) (cert text : List ℕ) : Type 0 where
-  pub counts : Counts
-  pub accepted : IsAccepted line scripts cert counts
-  pub text_is : text ≡ concat (accepted_pieces counts)
-
--- the certificate has such a first fault
-pub record Rejects (line : Line) (scripts : List Script) (cert text : List ℕ) : Type 0 where
-  pub why : CheckFault
-  pub first : IsCheckFault line scripts cert why
-  pub known : why ≢ fault.Memory
-  pub text_is : text ≡ concat (rejected_pieces line scripts why)
-
--- what status 0 and status 3 say of the text
-abbrev pub IsCheckText : Line → List Script → List ℕ → Done → List ℕ → Type 0
-IsCheckText line scripts cert done.Good text = Accepts line scripts cert text
-IsCheckText line scripts cert done.Rejected text = Rejects line scripts cert text
-IsCheckText line scripts cert s text = ⊥
-
+-- the certificate is accepted, or has such a first fault
 abbrev pub check_answer : Line → List Script → List ℕ → Answers
-check_answer line scripts cert = IsCheckText line scripts cert
+check_answer line scripts cert =
+    IsCheckedText (IsAccepted line scripts cert) (IsCheckFault line scripts cert) fault.Memory
+    (rejected_pieces line scripts)
 
 -- the engine is asked once
 abbrev pub check_asks : Line → Asks

@@ -7,7 +7,6 @@ ghost use Rattle.commands.specs.{Check.check_answer, Check.check_asks, Check.rej
 ghost use Rattle.commands.specs.{Check.level_word as word_of_level, Study.IsStudy};
 
 use crate::checked::{accepted_text, place, rejected_line, rejected_outside, rejected_passes};
-use crate::done::Done;
 use crate::said::Said;
 use crate::study::Study;
 use crate::text::text_of;
@@ -39,20 +38,9 @@ pub fn check<G: Engine>(
         study.scripts.as_slice(),
         cert,
     ) {
-        Ok(counts) => {
-            let text = accepted_text(alloc, counts)?;
-            Ok(Said::good(text))
-        }
-        Err(fault) => match fault {
-            CheckFault::Memory => Err(Memory),
-            fault => {
-                let text = rejected_text(alloc, study, fault)?;
-                Ok(Said {
-                    status: Done::Rejected,
-                    text,
-                })
-            }
-        },
+        Ok(counts) => Ok(Said::good(accepted_text(alloc, counts)?)),
+        Err(CheckFault::Memory) => Err(Memory),
+        Err(fault) => Ok(Said::rejected(rejected_text(alloc, study, fault)?)),
     }
 }
 

@@ -6,7 +6,6 @@ ghost use Rattle.commands.specs.Answers.{Says};
 ghost use Rattle.commands.specs.{Recheck.recheck_answer, Recheck.rejected_pieces, Study.IsStudy};
 
 use crate::checked::{accepted_text, place, rejected_line, rejected_outside, rejected_passes};
-use crate::done::Done;
 use crate::said::Said;
 use crate::study::Study;
 use crate::text::text_of;
@@ -29,20 +28,9 @@ pub fn recheck(alloc: Global, study: &Study, trees: &[u8]) -> Result<Said, Memor
         study.scripts.as_slice(),
         trees,
     ) {
-        Ok(counts) => {
-            let text = accepted_text(alloc, counts)?;
-            Ok(Said::good(text))
-        }
-        Err(fault) => match fault {
-            SplitFault::Memory => Err(Memory),
-            fault => {
-                let text = rejected_text(alloc, study, fault)?;
-                Ok(Said {
-                    status: Done::Rejected,
-                    text,
-                })
-            }
-        },
+        Ok(counts) => Ok(Said::good(accepted_text(alloc, counts)?)),
+        Err(SplitFault::Memory) => Err(Memory),
+        Err(fault) => Ok(Said::rejected(rejected_text(alloc, study, fault)?)),
     }
 }
 

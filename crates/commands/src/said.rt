@@ -1,6 +1,6 @@
 //! What a command says, before it is written.
 ghost use Rattle.std.specs.Prelude.{◌≡◌, IfOk};
-ghost use Rattle.commands.specs.declared.done.Done.TheVariants.{Good};
+ghost use Rattle.commands.specs.declared.done.Done.TheVariants.{Good, Rejected};
 ghost use Rattle.commands.specs.Sinks.{Writes, sink_view};
 
 use crate::done::Done;
@@ -21,6 +21,16 @@ impl Said {
     {
         Said {
             status: Done::Good,
+            text,
+        }
+    }
+
+    /// The text, and what was checked is rejected.
+    pub fn rejected(text: Vec<u8>) -> Said
+        ensures { result ≡ record { status = Rejected; text = text } }
+    {
+        Said {
+            status: Done::Rejected,
             text,
         }
     }

@@ -5,15 +5,9 @@ use Rattle.std.proofs.lemmas.List.{append-nil, map-append}
 use Rattle.std.proofs.lemmas.List.Folds.{concat-append}
 use Rattle.std.specs.List.{AllZip, concat, list_any}
 use Rattle.line_model.specs.{declared.line.Line.Line, declared.script.Script.Script}
+use Rattle.cert_checker.specs.ZipLaws.{zip_push}
 use Rattle.record_match.specs.Answer.{Head, IsHead, IsMatchAnswer, is_impossible, is_unsettled}
 use Rattle.record_match.specs.Waves.{SeenValues}
-
-zip_push : {A B : Type 0} (R : A → B → Type 0) (xs : List A) (ys : List B) (x : A) (y : B)
-    → AllZip R xs ys → R x y → AllZip R (xs ++ x ∷ []) (ys ++ y ∷ [])
-zip_push R [] [] x y zip one = (one, tt)
-zip_push R [] (b ∷ ys) x y zip one = absurd zip
-zip_push R (a ∷ xs) [] x y zip one = absurd zip
-zip_push R (a ∷ xs) (b ∷ ys) x y zip one = (zip.0, zip_push R xs ys x y zip.1 one)
 
 any_push : {A : Type 0} (p : A → Bool) (xs : List A) (x : A)
     → list_any p (xs ++ x ∷ []) ≡ (list_any p xs || p x)

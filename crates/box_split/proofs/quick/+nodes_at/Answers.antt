@@ -1,11 +1,10 @@
 use Rattle.std.proofs.Common.{◌≡◌, ◌+◌, ◌-◌, ◌*◌, ◌++◌, ◌∷◌, true, false, List, Some, refl, ◌∙◌, ap}
-use Rattle.std.proofs.Common.{subst, rules}
+use Rattle.std.proofs.Common.{rules}
 use Rattle.std.proofs.lemmas.Option.{slice_get_read}
 use Rattle.std.specs.Prelude.{slice_get}
-use Rattle.line_model.specs.declared.line.Line.{Line}
 use Rattle.box_split.specs.declared.node.Node.{Node}
 use Rattle.box_split.specs.declared.node.Node.TheVariants as node
-use Rattle.box_split.specs.{Quiet.AreNodesIfTold, Quiet.IsNarrowed, Widths.IsWidest}
+use Rattle.box_split.specs.Quiet.{AreNodesIfTold}
 use Rattle.box_split.proofs.NodeLaws.{yes_nodes, narrow_nodes, deepest_nodes, yes_told}
 use Rattle.box_split.proofs.NodeLaws.{undecided_told, split_part}
 use Rattle.box_split.proofs.ListLaws.{if_some_is}
@@ -31,14 +30,8 @@ returns-in_default t c script k told settled =
     let parts = c.args.parts.now in
     let held = c.args.held.now in
     let i = c.args.i in
-    let seen = c.index-parts-i.result in
-    let part = c.index-parts-i-2.result in
-    let was : slice_get parts i ≡ Some seen = search (rules, slice_get_read) in
+    let part = c.index-parts-i.result in
     let at : slice_get parts i ≡ Some part = search (rules, slice_get_read) in
-    let same : seen ≡ part = cc in
-    let narrowed : IsNarrowed c.args.line.now c.args.wide.now part =
-    subst (λ (l : Line). IsNarrowed c.args.line.now c.args.wide.now l) same
-    (c.if-not-is_narrowed.ensures refl) in
     let here : slice_get held i ≡ Some false = search (rules, slice_get_read) in
     record {
       part = part;
@@ -46,7 +39,8 @@ returns-in_default t c script k told settled =
       are = narrow_nodes script k c.args.depth part c.in_ok-leaf-2.field-0.items
           c.in_ok-leaf-2.ensures
           (undecided_told script k i parts held part false told at here c.args.line.now
-          c.args.wide.now refl settled (c.requires.parts.each i part at) narrowed)
+          c.args.wide.now refl settled (c.requires.parts.each i part at)
+          (c.if-not-is_narrowed.ensures refl))
           c.in_default.ensures;
     }
 
@@ -55,14 +49,8 @@ returns-then-depth-eq0 t c script k told settled =
     let parts = c.args.parts.now in
     let held = c.args.held.now in
     let i = c.args.i in
-    let seen = c.index-parts-i.result in
-    let part = c.index-parts-i-2.result in
-    let was : slice_get parts i ≡ Some seen = search (rules, slice_get_read) in
+    let part = c.index-parts-i.result in
     let at : slice_get parts i ≡ Some part = search (rules, slice_get_read) in
-    let same : seen ≡ part = cc in
-    let narrowed : IsNarrowed c.args.line.now c.args.wide.now part =
-    subst (λ (l : Line). IsNarrowed c.args.line.now c.args.wide.now l) same
-    (c.if-not-is_narrowed.ensures refl) in
     let here : slice_get held i ≡ Some false = search (rules, slice_get_read) in
     record {
       part = part;
@@ -70,7 +58,8 @@ returns-then-depth-eq0 t c script k told settled =
       are = deepest_nodes script k c.args.depth part c.in_ok-leaf-3.field-0.items
           c.in_ok-leaf-3.ensures c.if-depth-eq0.true
           (undecided_told script k i parts held part false told at here c.args.line.now
-          c.args.wide.now refl settled (c.requires.parts.each i part at) narrowed);
+          c.args.wide.now refl settled (c.requires.parts.each i part at)
+          (c.if-not-is_narrowed.ensures refl));
     }
 
 pub returns : goal.returns
@@ -80,16 +69,8 @@ returns t c script k told settled =
     let parts = c.args.parts.now in
     let held = c.args.held.now in
     let i = c.args.i in
-    let seen = c.index-parts-i.result in
-    let split = c.index-parts-i-2.result in
-    let part = c.index-parts-i-3.result in
-    let was : slice_get parts i ≡ Some seen = search (rules, slice_get_read) in
-    let was_split : slice_get parts i ≡ Some split = search (rules, slice_get_read) in
+    let part = c.index-parts-i.result in
     let at : slice_get parts i ≡ Some part = search (rules, slice_get_read) in
-    let same : seen ≡ part = cc in
-    let same_split : split ≡ part = cc in
-    let narrowed : IsNarrowed line wide part =
-    subst (λ (l : Line). IsNarrowed line wide l) same (c.if-not-is_narrowed.ensures refl) in
     let here : slice_get held i ≡ Some false = search (rules, slice_get_read) in
     let below : AreNodesIfTold line wide parts held (2 * i + 2) (c.args.depth - 1)
     c.in-Some-2.first.items =
@@ -111,7 +92,7 @@ returns t c script k told settled =
     c.middle-mid.ensures c.if-depth-eq0.false
     (record {
       undecided = undecided_told script k i parts held part false told at here line wide refl
-          settled (c.requires.parts.each i part at) narrowed;
-      widest = subst (λ (l : Line). IsWidest l c.in-Some.param) same_split c.in-Some.ensures;
+          settled (c.requires.parts.each i part at) (c.if-not-is_narrowed.ensures refl);
+      widest = c.in-Some.ensures;
     })
     (c.requires.halves i) (below script k told settled) (above script k told settled)
