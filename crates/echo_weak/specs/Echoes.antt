@@ -1,11 +1,21 @@
 -- The gates of a weak terminal, and of a terminal over a permission.
-use Rattle.std.specs.Prelude.{ℕ, List}
+use Rattle.std.specs.Prelude.{◌<◌, ℕ, List, length}
 use Rattle.line_model.specs.Permissive.{echo_wanted, echo, weak_infeed_trip, permissive_key}
 use Rattle.line_model.specs.Permissive.{permissive_pilot}
-use Rattle.line_model.specs.{declared.line.Line.Line, Tree.Tree}
-use Rattle.gate_net.specs.{declared.gate.Gate.Gate, Formulas.Stands}
+use Rattle.line_model.specs.{declared.line.Line.Line, Tree.Tree, Parameters.terminal_count}
+use Rattle.gate_net.specs.{declared.gate.Gate.Gate, declared.gate.GateId.GateId, Formulas.Stands}
+use Rattle.gate_net.specs.Growing.{HasRoom}
+use Rattle.zones.specs.{declared.elements.Local.Local, LocalGates.AreLocal}
 use Rattle.zones.specs.declared.outputs.Out.{Out}
 use Rattle.echo_weak.specs.declared.weak_end.EchoGates.{EchoGates}
+
+-- so many gates more can be made for terminal k, over its own gates and the gate of a permission
+pub record CanMakeOver (line : Line) (k : ℕ) (gates : List Gate) (local : Local) (perm : GateId)
+    (count : ℕ) : Type 0 where
+  pub exists : k < terminal_count line
+  pub room : HasRoom gates count
+  pub local_gates : AreLocal line k gates local
+  pub perm_gate : perm.0 < length gates
 
 -- each of the gates stands for terminal k's tree of its name, over this permission
 pub record AreEchoes (line : Line) (k : ℕ) (gates : List Gate) (permission : Tree)

@@ -1,13 +1,12 @@
 //! What a terminal sends and trips on, over a permission.
 
-ghost use Rattle.std.specs.Prelude.{◌<◌, length, IfOk};
-ghost use Rattle.line_model.specs.{Parameters.terminal_count, Permissive.echo as echo_tree};
-ghost use Rattle.line_model.specs.{Permissive.weak_infeed_trip as weak_infeed_trip_tree};
-ghost use Rattle.line_model.specs.{Permissive.permissive_key, Permissive.permissive_pilot};
+ghost use Rattle.std.specs.Prelude.{IfOk};
+ghost use Rattle.line_model.specs.Permissive.{echo as echo_tree};
+ghost use Rattle.line_model.specs.Permissive.{weak_infeed_trip as weak_infeed_trip_tree};
+ghost use Rattle.line_model.specs.Permissive.{permissive_key, permissive_pilot};
 ghost use Rattle.gate_net.specs.Formulas.{formula_of, Stands};
-ghost use Rattle.gate_net.specs.Growing.{HasRoom, Extends};
-ghost use Rattle.zones.specs.LocalGates.{AreLocal};
-ghost use Rattle.echo_weak.specs.Echoes.{ArePermissive};
+ghost use Rattle.gate_net.specs.Growing.{Extends};
+ghost use Rattle.echo_weak.specs.Echoes.{ArePermissive, CanMakeOver};
 
 use crate::weak_end::echo;
 use gate_net::{GateId, NetBuilder};
@@ -23,10 +22,7 @@ pub fn permissive(
     local: &Local,
     perm: GateId,
 ) -> Result<Out, Memory>
-    requires exists { terminal < terminal_count line.now }
-    requires room { HasRoom net.old 24 }
-    requires local { AreLocal line.now terminal net.old local.now }
-    requires perm { perm.0 < length net.old }
+    requires { CanMakeOver line.now terminal net.old local.now perm 24 }
     ensures adds { Extends line.now net.old net.new 24 }
     ensures made { IfOk result (λ out.
         ArePermissive line.now terminal net.new (formula_of net.old perm.0) out) }
@@ -47,10 +43,7 @@ fn key(
     perm: GateId,
     echo: GateId,
 ) -> Result<GateId, Memory>
-    requires exists { terminal < terminal_count line.now }
-    requires room { HasRoom net.old 3 }
-    requires local { AreLocal line.now terminal net.old local.now }
-    requires perm { perm.0 < length net.old }
+    requires over { CanMakeOver line.now terminal net.old local.now perm 3 }
     requires echo { Stands net.old echo.0
         (echo_tree line.now terminal (formula_of net.old perm.0)) }
     ensures adds { Extends line.now net.old net.new 3 }
@@ -72,10 +65,7 @@ fn pilot(
     perm: GateId,
     weak_trip: GateId,
 ) -> Result<GateId, Memory>
-    requires exists { terminal < terminal_count line.now }
-    requires room { HasRoom net.old 4 }
-    requires local { AreLocal line.now terminal net.old local.now }
-    requires perm { perm.0 < length net.old }
+    requires over { CanMakeOver line.now terminal net.old local.now perm 4 }
     requires weak_trip { Stands net.old weak_trip.0
         (weak_infeed_trip_tree line.now terminal (formula_of net.old perm.0)) }
     ensures adds { Extends line.now net.old net.new 4 }

@@ -8,7 +8,7 @@ ghost use Rattle.line_model.specs.Permissive.{weak_infeed_trip as weak_infeed_tr
 ghost use Rattle.gate_net.specs.Formulas.{formula_of, Stands};
 ghost use Rattle.gate_net.specs.Growing.{HasRoom, Extends};
 ghost use Rattle.zones.specs.LocalGates.{AreLocal};
-ghost use Rattle.echo_weak.specs.Echoes.{AreEchoes};
+ghost use Rattle.echo_weak.specs.Echoes.{AreEchoes, CanMakeOver};
 
 use gate_net::{GateId, NetBuilder};
 use line_model::{Line, Memory, Setting, Time, is_terminal_weak};
@@ -33,10 +33,7 @@ pub fn echo(
     local: &Local,
     perm: GateId,
 ) -> Result<EchoGates, Memory>
-    requires exists { terminal < terminal_count line.now }
-    requires room { HasRoom net.old 16 }
-    requires local { AreLocal line.now terminal net.old local.now }
-    requires perm { perm.0 < length net.old }
+    requires { CanMakeOver line.now terminal net.old local.now perm 16 }
     ensures adds { Extends line.now net.old net.new 16 }
     ensures made { IfOk result (λ gates.
         AreEchoes line.now terminal net.new (formula_of net.old perm.0) gates) }
@@ -74,10 +71,7 @@ fn wanted(
     local: &Local,
     perm: GateId,
 ) -> Result<GateId, Memory>
-    requires exists { terminal < terminal_count line.now }
-    requires room { HasRoom net.old 5 }
-    requires local { AreLocal line.now terminal net.old local.now }
-    requires perm { perm.0 < length net.old }
+    requires { CanMakeOver line.now terminal net.old local.now perm 5 }
     ensures adds { Extends line.now net.old net.new 5 }
     ensures made { IfOk result (λ id. Stands net.new id.0
         (echo_wanted_tree line.now terminal (formula_of net.old perm.0))) }
@@ -132,10 +126,7 @@ fn weak_trip(
     perm: GateId,
     want: GateId,
 ) -> Result<GateId, Memory>
-    requires exists { terminal < terminal_count line.now }
-    requires room { HasRoom net.old 1 }
-    requires local { AreLocal line.now terminal net.old local.now }
-    requires perm { perm.0 < length net.old }
+    requires over { CanMakeOver line.now terminal net.old local.now perm 1 }
     requires want { Stands net.old want.0
         (echo_wanted_tree line.now terminal (formula_of net.old perm.0)) }
     ensures adds { Extends line.now net.old net.new 1 }
