@@ -19,6 +19,7 @@ use Rattle.cert_checker.specs.declared.no.NoFault.TheVariants.{Outside, Passes}
 use Rattle.cert_checker.specs.Firsts.{IsFirstFailing, IsFirstOn}
 use Rattle.cert_checker.specs.Refutations.{IsMetAt, IsNumberIn, IsFirstOutside, IsMetInside}
 use Rattle.cert_checker.specs.{NoFaults.IsNoFault, ScriptLaws.same_number}
+use Rattle.cert_checker.specs.{ScriptLaws.wrong_once, Verdicts.IsSupported}
 use Rattle.cert_checker.specs.Verdicts.{IsNotHeld, IsWrongNo, IsFaultOf, IsCovered, IsKeyCovered}
 use Rattle.cert_checker.specs.Verdicts.{IsFirstUncovered, IsVerdictFault, IsFirstVerdictFault}
 use Rattle.cert_checker.specs.Verdicts.{IsFirstFault, derived_key, derived_trip}
@@ -152,31 +153,19 @@ module _ (line : Line) (script : Script) (have : HaveHistories line script) (k :
       cc
   fault_once trip verdict (No j v) Memory some other a b = absurd (other refl)
 
-module _ (line : Line) (script : Script) (have : HaveHistories line script) (claims : PairSignals)
-    (verdicts : List Verdict) where
-  -- the first verdict that does not stand is not after that of another fault
-  not_later : (f g : ClaimFault) → f ≢ Memory
-      → (a : IsVerdictFault line script claims verdicts f)
-      → (b : IsVerdictFault line script claims verdicts g) → ¬ (a.terminal < b.terminal)
-  not_later f g some a b lt =
-      verdict_refused line script have a.terminal (derived_trip line script claims a.terminal)
-      a.verdict f some a.wrong (b.before a.terminal a.verdict lt a.is)
-
-  verdict_fault_once : (f g : ClaimFault) → f ≢ Memory → g ≢ Memory
-      → IsVerdictFault line script claims verdicts f
-      → IsVerdictFault line script claims verdicts g → f ≡ g
-  verdict_fault_once f g some other a b =
-      let k : b.terminal ≡ a.terminal =
-      same_number b.terminal a.terminal (not_later g f other b a) (not_later f g some a b) in
-      let v : b.verdict ≡ a.verdict =
-      same_Some b.verdict a.verdict
-      (sym b.is ∙ ap (slice_get verdicts) k ∙ a.is) in
-      let P : ℕ → Type 0 = λ j.
-      IsFaultOf line script j (derived_trip line script claims j) b.verdict g in
-      let Q : Verdict → Type 0 = λ x.
-      IsFaultOf line script a.terminal (derived_trip line script claims a.terminal) x g in
-      fault_once line script have a.terminal (derived_trip line script claims a.terminal)
-      a.verdict f g some other a.wrong (subst Q v (subst P k b.wrong))
+-- the first verdict that does not stand has one fault
+verdict_fault_once : (line : Line) (script : Script) → HaveHistories line script
+    → (claims : PairSignals) (verdicts : List Verdict) (f g : ClaimFault) → f ≢ Memory → g ≢ Memory
+    → IsVerdictFault line script claims verdicts f → IsVerdictFault line script claims verdicts g
+    → f ≡ g
+verdict_fault_once line script have claims verdicts f g some other a b =
+    let trip = derived_trip line script claims in
+    wrong_once (λ k. IsSupported line script k (trip k)) (λ k. IsFaultOf line script k (trip k))
+    (λ f. f ≢ Memory)
+    (λ k verdict f told h stands.
+    verdict_refused line script have k (trip k) verdict f told h stands)
+    verdicts (λ k verdict f g. fault_once line script have k (trip k) verdict f g)
+    f g some other a b
 
 -- ---- both
 

@@ -66,8 +66,8 @@ module _ (line : Line) (script : Script) (have : HaveHistories line script) (sai
       → ⊥
   by_verdict fault some first =
       let h = first.verdict in
-      verdict_refused line script have h.terminal _ h.verdict fault some h.wrong
-      (accepted.supported h.terminal h.verdict h.is)
+      verdict_refused line script have h.place _ h.item fault some h.wrong
+      (accepted.supported h.place h.item h.is)
 
   pub fault_refuses : (fault : ClaimFault) → fault ≢ Memory
       → IsFirstFault line script said fault → ⊥

@@ -1,5 +1,5 @@
--- The first of several numbers.
-use Rattle.std.specs.Prelude.{◌<◌, ℕ, Bool, IsTrue, IsFalse}
+-- The first of several numbers, and of several things.
+use Rattle.std.specs.Prelude.{◌≡◌, ◌<◌, ℕ, Bool, List, Some, IsTrue, IsFalse, slice_get}
 
 -- n is the first number below `count` of which the fact does not hold
 pub record IsFirstFailing (fact : ℕ → Type 0) (count n : ℕ) : Type 0 where
@@ -16,3 +16,16 @@ pub record IsFirstOn (u : ℕ → Bool) (ticks t : ℕ) : Type 0 where
 -- u is on at none of so many ticks
 abbrev pub IsNeverOn : (ℕ → Bool) → ℕ → Type 0
 IsNeverOn u ticks = (t : ℕ) → t < ticks → IsFalse (u t)
+
+-- this holds of each of the first of several, so many
+abbrev pub EachOf : {X : Type 0} → (ℕ → X → Type 0) → List X → ℕ → Type 0
+EachOf {X} holds xs n = (k : ℕ) (x : X) → k < n → slice_get xs k ≡ Some x → holds k x
+
+-- this is wrong with the first of several that is not good
+pub record IsWrongFirst {X Fault : Type 0} (IsGood : ℕ → X → Type 0)
+    (IsWrong : ℕ → X → Fault → Type 0) (xs : List X) (fault : Fault) : Type 0 where
+  pub place : ℕ
+  pub item : X
+  pub is : slice_get xs place ≡ Some item
+  pub before : EachOf IsGood xs place
+  pub wrong : IsWrong place item fault

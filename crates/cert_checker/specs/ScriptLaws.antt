@@ -10,6 +10,7 @@ use Rattle.std.specs.List.{All}
 use Rattle.line_model.specs.declared.script.Script.{Script}
 use Rattle.certificate.specs.Grammar.{Verdict}
 use Rattle.cert_checker.specs.declared.counts.Counts.{Counts}
+use Rattle.cert_checker.specs.Firsts.{EachOf, IsWrongFirst}
 use Rattle.cert_checker.specs.Scripts.{EachBelow, IsAllGood, IsFirstWrong}
 
 -- neither of two numbers is below the other
@@ -38,9 +39,7 @@ module _ {A B : Type 0} (f : A → B) (xs : List A) (i : ℕ) (x : A) (inside : 
 
 -- what holds of each before one, and of that one, holds of one more
 pub one_more : {X : Type 0} (P : ℕ → X → Type 0) (xs : List X) (i : ℕ) (x : X)
-    → slice_get xs i ≡ Some x
-    → ((k : ℕ) (y : X) → k < i → slice_get xs k ≡ Some y → P k y) → P i x
-    → (k : ℕ) (y : X) → k < i + 1 → slice_get xs k ≡ Some y → P k y
+    → slice_get xs i ≡ Some x → EachOf P xs i → P i x → EachOf P xs (i + 1)
 one_more {X} P xs i x at before now k y lt is =
     ⊎_elim (λ early. before k y early is)
     (λ late.
@@ -48,6 +47,36 @@ one_more {X} P xs i x at before now k y lt is =
     let there : slice_get xs i ≡ Some y = ap (slice_get xs) here ∙ is in
     subst (λ (n : ℕ). P n y) here (subst (P i) (same_Some x y (sym at ∙ there)) now))
     (cases_lt k i)
+
+-- ---- what is wrong with the first of several
+
+module _ {X Fault : Type 0} (IsGood : ℕ → X → Type 0) (IsWrong : ℕ → X → Fault → Type 0)
+    (tells : Fault → Type 0)
+    (refused : (k : ℕ) (x : X) (f : Fault) → tells f → IsWrong k x f → ¬ (IsGood k x))
+    (xs : List X) where
+  pub wrong_refuses : (f : Fault) → tells f → IsWrongFirst IsGood IsWrong xs f
+      → EachOf IsGood xs (length xs) → ⊥
+  wrong_refuses f told h good =
+      refused h.place h.item f told h.wrong
+      (good h.place h.item (slice_get_within xs h.place h.item h.is) h.is)
+
+  -- the place of one is not before that of another
+  not_sooner : (f g : Fault) → tells f → (a : IsWrongFirst IsGood IsWrong xs f)
+      → (b : IsWrongFirst IsGood IsWrong xs g) → ¬ (a.place < b.place)
+  not_sooner f g told a b lt =
+      refused a.place a.item f told a.wrong (b.before a.place a.item lt a.is)
+
+  pub wrong_once : ((k : ℕ) (x : X) (f g : Fault) → tells f → tells g → IsWrong k x f
+      → IsWrong k x g → f ≡ g) → (f g : Fault) → tells f → tells g
+      → IsWrongFirst IsGood IsWrong xs f → IsWrongFirst IsGood IsWrong xs g → f ≡ g
+  wrong_once once f g told other a b =
+      let k : b.place ≡ a.place =
+      same_number b.place a.place (not_sooner g f other b a) (not_sooner f g told a b) in
+      let x : b.item ≡ a.item =
+      same_Some b.item a.item (sym b.is ∙ ap (slice_get xs) k ∙ a.is) in
+      once a.place a.item f g told other a.wrong
+      (subst (λ (y : X). IsWrong a.place y g) x
+      (subst (λ (j : ℕ). IsWrong j b.item g) k b.wrong))
 
 -- ---- what is said of each script
 

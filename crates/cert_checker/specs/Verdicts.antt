@@ -15,6 +15,7 @@ use Rattle.cert_checker.specs.declared.no.NoFault.{NoFault}
 use Rattle.cert_checker.specs.Claims.{declared_world, pairs_of}
 use Rattle.cert_checker.specs.{NoFaults.IsNoFault, Refutations.IsRefutation}
 use Rattle.cert_checker.specs.{declared.claim.Uncovered.Uncovered, Firsts.IsFirstFailing}
+use Rattle.cert_checker.specs.Firsts.{IsWrongFirst}
 
 -- ---- keys
 
@@ -78,14 +79,10 @@ AreSupported line script claims verdicts =
     → IsSupported line script k (derived_trip line script claims k) verdict
 
 -- this is what is wrong with the first verdict that does not stand
-pub record IsVerdictFault (line : Line) (script : Script) (claims : PairSignals)
-    (verdicts : List Verdict) (fault : ClaimFault) : Type 0 where
-  pub terminal : ℕ
-  pub verdict : Verdict
-  pub is : slice_get verdicts terminal ≡ Some verdict
-  pub before : (k : ℕ) (earlier : Verdict) → k < terminal → slice_get verdicts k ≡ Some earlier
-      → IsSupported line script k (derived_trip line script claims k) earlier
-  pub wrong : IsFaultOf line script terminal (derived_trip line script claims terminal) verdict fault
+abbrev pub IsVerdictFault : Line → Script → PairSignals → List Verdict → ClaimFault → Type 0
+IsVerdictFault line script claims verdicts fault =
+    IsWrongFirst (λ k. IsSupported line script k (derived_trip line script claims k))
+    (λ k. IsFaultOf line script k (derived_trip line script claims k)) verdicts fault
 
 -- ---- both
 

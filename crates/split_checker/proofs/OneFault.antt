@@ -6,7 +6,7 @@ use Rattle.line_model.specs.declared.line.Line.{Line}
 use Rattle.line_model.specs.{declared.script.Script.Script, Choice.declared_box}
 use Rattle.cert_checker.specs.declared.no.NoFault.{NoFault}
 use Rattle.cert_checker.specs.{NoFaults.IsNoFault, Refutations.IsRefutation}
-use Rattle.cert_checker.specs.ScriptLaws.{same_number}
+use Rattle.cert_checker.specs.ScriptLaws.{wrong_refuses, wrong_once}
 use Rattle.box_split.specs.declared.node.Node.{Node}
 use Rattle.box_split.specs.{Trees.SplitTree, Leaves.leaves, Leaves.AreSound}
 use Rattle.split_text.specs.Grammar.{SplitResult, tree, fails}
@@ -89,24 +89,13 @@ module _ (law : OneNo) (line : Line) (script : Script) (results : List SplitResu
   pub results_refused : (f : ResultFault) → f ≢ Memory → IsFirstFault line script results f
       → ¬ (AreSupported line script results)
   results_refused f some first supported =
-      refused law line script first.terminal first.result f some first.wrong
-      (supported first.terminal first.result
-      (slice_get_within results first.terminal first.result first.is) first.is)
-
-  -- the first result that is not supported is not after that of another fault
-  not_later : (f g : ResultFault) → f ≢ Memory → (a : IsFirstFault line script results f)
-      → (b : IsFirstFault line script results g) → ¬ (a.terminal < b.terminal)
-  not_later f g some a b lt =
-      refused law line script a.terminal a.result f some a.wrong
-      (b.before a.terminal a.result lt a.is)
+      wrong_refuses (IsSupported line script) (IsFaultOf line script) (λ f. f ≢ Memory)
+      (λ k result f told h stands. refused law line script k result f told h stands) results f some
+      first supported
 
   pub results_once : (f g : ResultFault) → f ≢ Memory → g ≢ Memory
       → IsFirstFault line script results f → IsFirstFault line script results g → f ≡ g
   results_once f g some other a b =
-      let k : b.terminal ≡ a.terminal =
-      same_number b.terminal a.terminal (not_later g f other b a) (not_later f g some a b) in
-      let result : b.result ≡ a.result =
-      same_Some b.result a.result (sym b.is ∙ ap (slice_get results) k ∙ a.is) in
-      fault_once law line script a.terminal a.result f g some other a.wrong
-      (subst (λ (x : SplitResult). IsFaultOf line script a.terminal x g) result
-      (subst (λ (j : ℕ). IsFaultOf line script j b.result g) k b.wrong))
+      wrong_once (IsSupported line script) (IsFaultOf line script) (λ f. f ≢ Memory)
+      (λ k result f told h stands. refused law line script k result f told h stands) results
+      (λ k result f g. fault_once law line script k result f g) f g some other a b

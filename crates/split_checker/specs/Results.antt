@@ -4,6 +4,7 @@ use Rattle.line_model.specs.declared.line.Line.{Line}
 use Rattle.line_model.specs.Histories.{History, IsLineHistory, Meets}
 use Rattle.line_model.specs.{declared.script.Script.Script, Choice.Choice, Choice.IsInside}
 use Rattle.cert_checker.specs.{NoFaults.IsNoFault, Refutations.IsRefutation}
+use Rattle.cert_checker.specs.Firsts.{EachOf, IsWrongFirst}
 use Rattle.box_split.specs.declared.node.Node.{Node}
 use Rattle.split_checker.specs.declared.fault.ResultFault.{ResultFault}
 use Rattle.split_checker.specs.declared.fault.ResultFault.TheVariants.{NotHeld, No, Memory}
@@ -45,23 +46,14 @@ IsTold line script k (fails values) = IsRefutation line script k values
 
 -- ---- the results of a script
 
--- this holds of the result of each of the first terminals, so many
-abbrev pub EachTerminal : (ℕ → SplitResult → Type 0) → List SplitResult → ℕ → Type 0
-EachTerminal holds results n =
-    (k : ℕ) (result : SplitResult) → k < n → slice_get results k ≡ Some result → holds k result
-
 -- each is supported, and what each says is so
 abbrev pub AreSupported : Line → Script → List SplitResult → Type 0
-AreSupported line script results = EachTerminal (IsSupported line script) results (length results)
+AreSupported line script results = EachOf (IsSupported line script) results (length results)
 
 abbrev pub AreTold : Line → Script → List SplitResult → Type 0
-AreTold line script results = EachTerminal (IsTold line script) results (length results)
+AreTold line script results = EachOf (IsTold line script) results (length results)
 
 -- this is what is wrong with the first result that is not supported
-pub record IsFirstFault (line : Line) (script : Script) (results : List SplitResult)
-    (fault : ResultFault) : Type 0 where
-  pub terminal : ℕ
-  pub result : SplitResult
-  pub is : slice_get results terminal ≡ Some result
-  pub before : EachTerminal (IsSupported line script) results terminal
-  pub wrong : IsFaultOf line script terminal result fault
+abbrev pub IsFirstFault : Line → Script → List SplitResult → ResultFault → Type 0
+IsFirstFault line script results fault =
+    IsWrongFirst (IsSupported line script) (IsFaultOf line script) results fault

@@ -49,8 +49,8 @@ returns-in_err-check_claim c =
     let inside : i < length verdicts = omega (arith, c.loop-i-test.true) in
     let there : i < terminal_count line = omega (arith, inside, c.requires.many) in
     rw (p.1, p.2) (λ claims are. record {
-      terminal = i;
-      verdict = verdict_in item;
+      place = i;
+      item = verdict_in item;
       is = slice_mapped (λ x. verdict_in x) verdicts i item inside c.index-verdicts-i.is;
       before = c.loop-i.invariant claims are;
       wrong = c.in_err-check_claim.ensures (derived_trip line script claims i)

@@ -42,8 +42,8 @@ returns-in_err-check_result c =
     let inside : i < length results = omega (arith, c.loop-i-test.true) in
     rw (p.1, p.2) (record {
       exact = record {
-        terminal = i;
-        result = result_in item;
+        place = i;
+        item = result_in item;
         is = slice_mapped result_in results i item inside c.index-results-i.is;
         before = c.loop-i.invariant;
         wrong = c.in_err-check_result.ensures;
