@@ -12,6 +12,7 @@ mod certify;
 mod check;
 mod derived_waves;
 mod line_and_migrate;
+mod long_files;
 mod margin;
 mod match_records;
 mod net;
@@ -28,8 +29,16 @@ mod stretches;
 mod usage;
 mod worked_files;
 
-// The words of `play` over the files that the store holds.
+// The words of commands over the files that the store holds.
 const PLAY: &[&str] = &["play", "l", "s", "t"];
+
+const CERTIFY: &[&str] = &["certify", "l", "s"];
+
+const CHECK: &[&str] = &["check", "l", "s", "t"];
+
+const MATCH: &[&str] = &["match", "l", "s", "t"];
+
+const RECHECK: &[&str] = &["recheck", "l", "s", "t"];
 
 // The bytes of the files `l`, `s` and `t`: a line, scripts and a third file.
 #[derive(Clone, Copy)]
@@ -52,8 +61,8 @@ fn line_alone(line: &str) -> Files<'_> {
     texts(line, "", "")
 }
 
-// A call over a line, scripts and a third file, one piece of text in them and what stands in its
-// place, and what the call ends with.
+// A call over a line, scripts and a third file, the texts in them that are changed, one after
+// another, with what stands in their places, and what the call ends with.
 #[derive(Clone, Copy)]
 struct Row<'a> {
     what: &'a str,
@@ -61,7 +70,7 @@ struct Row<'a> {
     line: &'a str,
     scripts: &'a str,
     third: &'a str,
-    edit: (&'a str, &'a str),
+    edits: &'a [(&'a str, &'a str)],
     status: Status,
     out: &'a str,
     err: &'a str,
@@ -74,7 +83,7 @@ const ROW: Row<'static> = Row {
     line: "",
     scripts: "",
     third: "",
-    edit: ("a text that stands in no file", ""),
+    edits: &[],
     status: Status::Good,
     out: "",
     err: "",
@@ -82,13 +91,48 @@ const ROW: Row<'static> = Row {
 
 fn run_rows(rt: &impl Abort, alloc: Global, rows: &[Row<'_>]) -> Result<(), Fail> {
     for row in rows {
-        let (old, new) = row.edit;
-        let line = row.line.replace(alloc, old, new)?;
-        let scripts = row.scripts.replace(alloc, old, new)?;
-        let third = row.third.replace(alloc, old, new)?;
-        let files = texts(line.as_str(), scripts.as_str(), third.as_str());
-        let got = call(alloc, row.words, files)?;
-        assert_ended(rt, row.what, &got, row.status, row.out, row.err);
+        run_row(rt, alloc, row)?;
+    }
+    Ok(())
+}
+
+fn run_row(rt: &impl Abort, alloc: Global, row: &Row<'_>) -> Result<(), Fail> {
+    let line = edited(alloc, row.line, row.edits)?;
+    let scripts = edited(alloc, row.scripts, row.edits)?;
+    let third = edited(alloc, row.third, row.edits)?;
+    let files = texts(line.as_str(), scripts.as_str(), third.as_str());
+    let got = call(alloc, row.words, files)?;
+    assert_ended(rt, row.what, &got, row.status, row.out, row.err);
+    Ok(())
+}
+
+// The text with each of these texts in it changed, one after another.
+fn edited(alloc: Global, text: &str, edits: &[(&str, &str)]) -> Result<String, Fail> {
+    let mut text = String::from_str(alloc, text)?;
+    for (old, new) in edits {
+        text = text.as_str().replace(alloc, *old, new)?;
+    }
+    Ok(text)
+}
+
+// Runs the row once for each of these changes: what is changed, the old text, the new one, and the
+// line of the third file that is told as none.
+fn run_lines(
+    rt: &impl Abort,
+    alloc: Global,
+    base: &Row<'_>,
+    changes: &[(&str, &str, &str, u32)],
+) -> Result<(), Fail> {
+    for (what, old, new, line) in changes {
+        let out = format!(in alloc; "rejected Line {line}\n")?;
+        let row = Row {
+            what: *what,
+            edits: &[(*old, *new)],
+            status: Status::Rejected,
+            out: out.as_str(),
+            ..*base
+        };
+        run_row(rt, alloc, &row)?;
     }
     Ok(())
 }

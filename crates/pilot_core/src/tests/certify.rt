@@ -4,8 +4,6 @@
 use super::worked_files::*;
 use super::*;
 
-const CERTIFY: &[&str] = &["certify", "l", "s"];
-
 #[test]
 fn permissive_certificates(rt: HostRuntime) -> Result<(), Fail> {
     run_rows(&rt, rt.alloc(), PERMISSIVE)
@@ -37,33 +35,19 @@ const CERTIFIED: Row<'static> = Row {
 const PERMISSIVE: &[Row<'static>] = &[
     Row {
         what: "no tick to spare",
-        out: "pilot-cert 1
-script F1
-key A 0:12 ?:2 1:87 ?:2 0:17
-key B 0:12 ?:2 1:87 ?:2 0:17
-verdict A yes
-verdict B yes
-end
-",
+        out: FAULT_CERTIFIED,
         ..CERTIFIED
     },
     Row {
         what: "a deadline that the slowest choice misses",
-        edit: (",19,", ",18,"),
+        edits: &[A_TICK_EARLIER],
         status: Status::SomeNo,
-        out: "pilot-cert 1
-script F1
-key A 0:12 ?:2 1:87 ?:2 0:17
-key B 0:12 ?:2 1:87 ?:2 0:17
-verdict A no 0 0 4 3 0 0 0 0 0 0 4 3 0 0 0 0 5 5
-verdict B no 0 0 4 3 0 0 0 0 0 0 4 3 0 0 0 0 5 5
-end
-",
+        out: SLOWEST_FAIL,
         ..CERTIFIED
     },
     Row {
         what: "a deadline that every choice misses",
-        edit: (",19,", ",14,"),
+        edits: &[(",19,", ",14,")],
         status: Status::SomeNo,
         out: "pilot-cert 1
 script F1
@@ -78,14 +62,7 @@ end
     Row {
         what: "an external fault",
         scripts: BEHIND_B,
-        out: "pilot-cert 1
-script X1
-key A 0:12 ?:2 1:87 ?:2 0:17
-key B 0:120
-verdict A yes
-verdict B yes
-end
-",
+        out: EXTERNAL_CERTIFIED,
         ..CERTIFIED
     },
     Row {
@@ -123,7 +100,7 @@ end
         what: "a coordination delay too short by one tick",
         line: DCB,
         scripts: BEHIND_B,
-        edit: ("coord = 5", "coord = 4"),
+        edits: &[("coord = 5", "coord = 4")],
         status: Status::SomeNo,
         out: "pilot-cert 1
 script X1
@@ -169,7 +146,7 @@ end
         what: "a weak end whose echo is long enough",
         line: WEAK_END,
         scripts: WEAK_FAULT,
-        edit: ("pulse = 3", "pulse = 8"),
+        edits: &[("pulse = 3", "pulse = 8")],
         out: "pilot-cert 1
 script W1
 key A 0:12 1:89 0:19
@@ -215,7 +192,7 @@ end
         what: "the same, underreaching",
         line: THREE_TERMINALS,
         scripts: THREE_ENDS,
-        edit: ("pott", "putt"),
+        edits: &[("pott", "putt")],
         out: "pilot-cert 1
 script M1
 key A 0:12 1:89 0:19
@@ -246,10 +223,10 @@ end
         what: "a current reversal, with a guard that ends a tick too early",
         line: GUARDED,
         scripts: REVERSAL,
-        edit: (
+        edits: &[(
             "reversal = { pickup = 2, dropout = 7 }",
             "reversal = { pickup = 2, dropout = 6 }",
-        ),
+        )],
         status: Status::SomeNo,
         out: "pilot-cert 1
 script C1
@@ -334,7 +311,7 @@ end
         scripts: "script,item,place,from,to
 Q1,external,,,
 ",
-        edit: ("horizon = 120", "horizon = 4000"),
+        edits: &[("horizon = 120", "horizon = 4000")],
         out: "pilot-cert 1
 script Q1
 key A 0:4000
@@ -348,105 +325,19 @@ end
     Row {
         what: "times in microseconds",
         line: MICROSECONDS,
-        out: "pilot-cert 1
-script F1
-key A 0:12 ?:2 1:87 ?:2 0:17
-key B 0:12 ?:2 1:87 ?:2 0:17
-verdict A yes
-verdict B yes
-end
-",
+        out: FAULT_CERTIFIED,
         ..CERTIFIED
-    },
-    Row {
-        what: "a line that is refused",
-        words: CERTIFY,
-        line: "horizon =",
-        status: Status::BadInput,
-        err: "refused line NotToml\n",
-        ..ROW
-    },
-    Row {
-        what: "scripts that are refused",
-        words: CERTIFY,
-        line: POTT,
-        status: Status::BadInput,
-        err: "refused scripts Header\n",
-        ..ROW
     },
 ];
 
-// Three ends with 42 settings, none of which has one number alone, so 86 candidates. C sees the
-// fault of A and B ten ticks after they did, and no end hears C. Their permission is there until
-// tick 19, and as long as their dropout and delay after it; C's zone 2 picks up at tick 30 and its
-// pickup. So C trips exactly where both sums are at least 11 and its pickup: at no candidate but
-// all greatest with that pickup least. It is the 29th setting, so this is number 72.
-const LATE_PERMISSION: &str = r#"version = 1
-tick_us = 1000
-horizon = 60
-scheme = "pott"
-
-[[terminal]]
-name = "A"
-z1 = { pickup = [0, 1], dropout = [0, 1] }
-z2 = { pickup = [0, 1], dropout = [1, 7] }
-rv = { pickup = [0, 1], dropout = [0, 1] }
-uv = { pickup = [0, 1], dropout = [0, 1] }
-reversal = { pickup = [0, 1], dropout = [0, 1] }
-echo = { block = [0, 1], pickup = [0, 1], pulse = [0, 1] }
-
-[[terminal]]
-name = "B"
-z1 = { pickup = [0, 1], dropout = [0, 1] }
-z2 = { pickup = [0, 1], dropout = [1, 7] }
-rv = { pickup = [0, 1], dropout = [0, 1] }
-uv = { pickup = [0, 1], dropout = [0, 1] }
-reversal = { pickup = [0, 1], dropout = [0, 1] }
-echo = { block = [0, 1], pickup = [0, 1], pulse = [0, 1] }
-
-[[terminal]]
-name = "C"
-z1 = { pickup = [0, 1], dropout = [0, 1] }
-z2 = { pickup = [0, 8], dropout = [0, 1] }
-rv = { pickup = [0, 1], dropout = [0, 1] }
-uv = { pickup = [0, 1], dropout = [0, 1] }
-reversal = { pickup = [0, 1], dropout = [0, 1] }
-
-[[channel]]
-from = "A"
-to = "B"
-delay = [1, 2]
-
-[[channel]]
-from = "A"
-to = "C"
-delay = [1, 7]
-
-[[channel]]
-from = "B"
-to = "A"
-delay = [1, 2]
-
-[[channel]]
-from = "B"
-to = "C"
-delay = [1, 7]
-
-[[channel]]
-from = "C"
-to = "A"
-delay = [1, 2]
-
-[[channel]]
-from = "C"
-to = "B"
-delay = [1, 2]
-"#;
-
+// C sees the fault of A and B ten ticks after they did, and no end hears C. Their permission is
+// there until tick 19, and as long as their dropout and delay after it; C's zone 2 picks up at tick
+// 30 and its pickup. So C trips exactly where both sums are at least 11 and its pickup: of the 86
+// candidates, at none but all greatest with that pickup least. It is the 29th setting, so this is
+// number 72.
 const SECOND_BLOCK: &[Row<'static>] = &[Row {
     what: "a candidate of the second block",
-    words: CERTIFY,
-    line: LATE_PERMISSION,
+    line: NO_SETTING_FIXED,
     scripts: "script,item,place,from,to
 L1,external,,,
 L1,z2,A,10,20
@@ -455,6 +346,7 @@ L1,z2,C,30,40
 L1,loss,C>A,0,60
 L1,loss,C>B,0,60
 ",
+    edits: &[("to = \"C\"\ndelay = [1, 2]", "to = \"C\"\ndelay = [1, 7]")],
     status: Status::SomeNo,
     out: "pilot-cert 1
 script L1
@@ -466,5 +358,5 @@ verdict B yes
 verdict C no 1 1 1 7 1 1 1 1 1 1 1 1 1 1 1 1 7 1 1 1 1 1 1 1 1 1 1 1 0 1 1 1 1 1 1 1 2 7 2 7 2 2
 end
 ",
-    ..ROW
+    ..CERTIFIED
 }];

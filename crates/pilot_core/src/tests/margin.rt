@@ -7,8 +7,6 @@ const DELAY: &[&str] = &["margin", "l", "s", "A>B.delay"];
 
 const PICKUP: &[&str] = &["margin", "l", "s", "A.z1.pickup"];
 
-const UNKNOWN: &[&str] = &["margin", "l", "s", "A.z3.pickup"];
-
 #[test]
 fn worked_margins(rt: HostRuntime) -> Result<(), Fail> {
     run_rows(&rt, rt.alloc(), MARGINS)
@@ -18,20 +16,6 @@ fn worked_margins(rt: HostRuntime) -> Result<(), Fail> {
 fn refused_parameters(rt: HostRuntime) -> Result<(), Fail> {
     run_rows(&rt, rt.alloc(), REFUSALS)
 }
-
-// A fault with 11 ticks to spare, and the same with two.
-const LATE_AND_EARLY: &str = "script,item,place,from,to
-F1,internal,,30,
-F1,z2,A,10,100
-F1,cur,A,10,100
-F1,z2,B,10,100
-F1,cur,B,10,100
-F2,internal,,21,
-F2,z2,A,10,100
-F2,cur,A,10,100
-F2,z2,B,10,100
-F2,cur,B,10,100
-";
 
 // A margin of a delay of the first line under its fault.
 const OF_THE_DELAY: Row<'static> = Row {
@@ -69,14 +53,14 @@ const MARGINS: &[Row<'static>] = &[
     Row {
         what: "none, since the deadline is missed without it",
         words: PICKUP,
-        edit: (",19,", ",18,"),
+        edits: &[A_TICK_EARLIER],
         status: Status::SomeUndecided,
         out: "margin A.z1.pickup none declared 0 lost F1 A\n",
         ..OF_THE_DELAY
     },
     Row {
         what: "a delay at its least, lower than declared",
-        edit: ("to = \"B\"\ndelay = [3, 5]", "to = \"B\"\ndelay = [5, 9]"),
+        edits: &[("to = \"B\"\ndelay = [3, 5]", "to = \"B\"\ndelay = [5, 9]")],
         out: "margin A>B.delay 5 declared 9 lost F1 B\n",
         ..OF_THE_DELAY
     },
@@ -93,8 +77,9 @@ const MARGINS: &[Row<'static>] = &[
         ..OF_THE_DELAY
     },
     Row {
-        what: "the second fault, which is lost before the first",
-        scripts: LATE_AND_EARLY,
+        what: "the second fault, which is lost before the first with its 11 ticks to spare",
+        scripts: FAULT_TWICE,
+        edits: &[(",19,", ",30,")],
         out: "margin A>B.delay 7 declared 5 lost F2 B\n",
         ..OF_THE_DELAY
     },
@@ -102,7 +87,7 @@ const MARGINS: &[Row<'static>] = &[
 
 // A parameter that the first line has not.
 const UNKNOWN_PARAMETER: Row<'static> = Row {
-    words: UNKNOWN,
+    words: &["margin", "l", "s", "A.z3.pickup"],
     line: POTT,
     scripts: FAULT,
     status: Status::BadInput,
@@ -124,21 +109,5 @@ const REFUSALS: &[Row<'static>] = &[
         what: "a step of a delay",
         words: &["margin", "l", "s", "A>B.delay@15"],
         ..UNKNOWN_PARAMETER
-    },
-    Row {
-        what: "an unknown name and a line that is refused",
-        words: UNKNOWN,
-        line: "horizon =",
-        status: Status::BadInput,
-        err: "refused line NotToml\n",
-        ..ROW
-    },
-    Row {
-        what: "an unknown name and scripts that are refused",
-        words: UNKNOWN,
-        line: POTT,
-        status: Status::BadInput,
-        err: "refused scripts Header\n",
-        ..ROW
     },
 ];

@@ -3,8 +3,6 @@
 use super::worked_files::*;
 use super::*;
 
-const MATCH: &[&str] = &["match", "l", "s", "t"];
-
 #[test]
 fn records_that_are_explained_or_not(rt: HostRuntime) -> Result<(), Fail> {
     run_rows(&rt, rt.alloc(), RECORDS)
@@ -12,32 +10,33 @@ fn records_that_are_explained_or_not(rt: HostRuntime) -> Result<(), Fail> {
 
 #[test]
 fn refused_record_files(rt: HostRuntime) -> Result<(), Fail> {
-    let alloc = rt.alloc();
-    for (what, records, fault) in REFUSED {
-        let told = format!(in alloc; "refused record {fault}\n")?;
-        let got = call(alloc, MATCH, texts(POTT, FAULT_AND_EXTERNAL, records))?;
-        assert_refused(&rt, what, &got, told.as_str());
+    for (what, records, fault) in REFUSED_FILES {
+        assert_record_refused(&rt, rt.alloc(), what, records, fault)?;
     }
     Ok(())
 }
 
-// A file of the greatest length is read, and a longer one is refused.
+// The rows stand behind the header.
 #[test]
-fn long_record_files(rt: HostRuntime) -> Result<(), Fail> {
+fn refused_record_rows(rt: HostRuntime) -> Result<(), Fail> {
     let alloc = rt.alloc();
-    let rows = [
-        ("the longest", 1_048_576, "refused record Fields 2\n"),
-        ("a longer one", 1_048_577, "refused record TooLong\n"),
-    ];
-    for (what, length, told) in rows {
-        let long = filled_up(alloc, RECORD_HEADER, b'x', length)?;
-        let files = Files {
-            third: &long,
-            ..texts(POTT, FAULT, "")
-        };
-        let got = call(alloc, MATCH, files)?;
-        assert_refused(&rt, what, &got, told);
+    for (what, rows, fault) in REFUSED_ROWS {
+        let records = format!(in alloc; "{RECORD_HEADER}{rows}")?;
+        assert_record_refused(&rt, alloc, what, records.as_str(), fault)?;
     }
+    Ok(())
+}
+
+fn assert_record_refused(
+    rt: &impl Abort,
+    alloc: Global,
+    what: &str,
+    records: &str,
+    fault: &str,
+) -> Result<(), Fail> {
+    let told = format!(in alloc; "refused record {fault}\n")?;
+    let got = call(alloc, MATCH, texts(POTT, FAULT_AND_EXTERNAL, records))?;
+    assert_refused(rt, what, &got, told.as_str());
     Ok(())
 }
 
@@ -111,22 +110,6 @@ F1,101,B,trip,0
 
 const AT_LEAST: &str = "F1 explained 0 0 2 1 0 0 0 0 0 0 2 1 0 0 0 0 3 3\n";
 
-// An external fault, and then the first one.
-const TWO_HEADS: &str = "script,tick,terminal,signal,level
-X1,,,,
-X1,12,A,key,1
-X1,101,A,key,0
-F1,,,,
-F1,12,A,key,1
-F1,12,B,key,1
-F1,15,A,trip,1
-F1,15,B,trip,1
-F1,101,A,key,0
-F1,101,A,trip,0
-F1,101,B,key,0
-F1,101,B,trip,0
-";
-
 // A record of the first line and its fault, and one of two scripts.
 const MATCHED: Row<'static> = Row {
     words: MATCH,
@@ -138,9 +121,17 @@ const MATCHED: Row<'static> = Row {
 
 const MATCHED_TWO: Row<'static> = Row {
     scripts: FAULT_AND_EXTERNAL,
-    third: TWO_HEADS,
     ..MATCHED
 };
+
+// The external fault stands first in the record.
+const EXTERNAL_FIRST: (&str, &str) = (
+    "level\nF1,,,,\n",
+    "level\nX1,,,,\nX1,12,A,key,1\nX1,101,A,key,0\nF1,,,,\n",
+);
+
+// B trips a tick later.
+const LATER_TRIP: (&str, &str) = ("F1,15,B,trip,1", "F1,16,B,trip,1");
 
 const RECORDS: &[Row<'static>] = &[
     Row {
@@ -150,31 +141,31 @@ const RECORDS: &[Row<'static>] = &[
     },
     Row {
         what: "a key a tick before its pickup",
-        edit: ("F1,12,A,key,1", "F1,11,A,key,1"),
+        edits: &[("F1,12,A,key,1", "F1,11,A,key,1")],
         status: Status::SomeNo,
         out: "F1 impossible A key 11 seen 1 derived 0\n",
         ..MATCHED
     },
     Row {
         what: "a trip that no candidate gives, while the keys agree",
-        edit: ("F1,15,B,trip,1", "F1,16,B,trip,1"),
+        edits: &[LATER_TRIP],
         status: Status::SomeUndecided,
         out: "F1 open\n",
         ..MATCHED
     },
     Row {
         what: "a trip before the other key is heard, while the keys agree",
-        edit: ("F1,15,A,trip,1", "F1,14,A,trip,1"),
+        edits: &[("F1,15,A,trip,1", "F1,14,A,trip,1")],
         status: Status::SomeNo,
         out: "F1 impossible A trip 14 seen 1 derived 0\n",
         ..MATCHED
     },
     Row {
         what: "a trip that never comes, while the keys agree",
-        edit: (
+        edits: &[(
             "F1,15,B,trip,1\nF1,101,A,key,0\nF1,101,A,trip,0\nF1,101,B,key,0\nF1,101,B,trip,0\n",
             "F1,101,A,key,0\nF1,101,A,trip,0\nF1,101,B,key,0\n",
-        ),
+        )],
         status: Status::SomeNo,
         out: "F1 impossible B trip 17 seen 0 derived 1\n",
         ..MATCHED
@@ -188,18 +179,19 @@ const RECORDS: &[Row<'static>] = &[
     },
     Row {
         what: "carriage returns",
-        edit: ("\n", "\r\n"),
+        edits: &[("\n", "\r\n")],
         out: AT_LEAST,
         ..MATCHED
     },
     Row {
         what: "quotes",
-        edit: ("F1,15,A,trip,1", "\"F1\",\"15\",A,\"trip\",\"1\""),
+        edits: &[("F1,15,A,trip,1", "\"F1\",\"15\",A,\"trip\",\"1\"")],
         out: AT_LEAST,
         ..MATCHED
     },
     Row {
         what: "two heads in another order than the scripts",
+        edits: &[EXTERNAL_FIRST],
         out: "X1 explained 0 0 2 1 0 0 0 0 0 0 2 1 0 0 0 0 3 3
 F1 explained 0 0 2 1 0 0 0 0 0 0 2 1 0 0 0 0 3 3
 ",
@@ -207,7 +199,7 @@ F1 explained 0 0 2 1 0 0 0 0 0 0 2 1 0 0 0 0 3 3
     },
     Row {
         what: "the first head impossible",
-        edit: ("X1,12,A,key,1\nX1,101,A,key,0\n", ""),
+        edits: &[("level\nF1,,,,\n", "level\nX1,,,,\nF1,,,,\n")],
         status: Status::SomeNo,
         out: "X1 impossible A key 14 seen 0 derived 1
 F1 explained 0 0 2 1 0 0 0 0 0 0 2 1 0 0 0 0 3 3
@@ -216,7 +208,7 @@ F1 explained 0 0 2 1 0 0 0 0 0 0 2 1 0 0 0 0 3 3
     },
     Row {
         what: "the last head open",
-        edit: ("F1,15,B,trip,1", "F1,16,B,trip,1"),
+        edits: &[EXTERNAL_FIRST, LATER_TRIP],
         status: Status::SomeUndecided,
         out: "X1 explained 0 0 2 1 0 0 0 0 0 0 2 1 0 0 0 0 3 3
 F1 open
@@ -225,35 +217,20 @@ F1 open
     },
     Row {
         what: "the first head open and the last impossible",
-        third: "script,tick,terminal,signal,level
-F1,,,,
-F1,12,A,key,1
-F1,12,B,key,1
-F1,15,A,trip,1
-F1,16,B,trip,1
-F1,101,A,key,0
-F1,101,A,trip,0
-F1,101,B,key,0
-F1,101,B,trip,0
-X1,,,,
-",
+        edits: &[
+            LATER_TRIP,
+            ("F1,101,B,trip,0\n", "F1,101,B,trip,0\nX1,,,,\n"),
+        ],
         status: Status::SomeNo,
         out: "F1 open
 X1 impossible A key 14 seen 0 derived 1
 ",
         ..MATCHED_TWO
     },
-    Row {
-        what: "scripts that are refused, before the record",
-        scripts: "",
-        third: "",
-        status: Status::BadInput,
-        err: "refused scripts Header\n",
-        ..MATCHED
-    },
 ];
 
-const REFUSED: &[(&str, &str, &str)] = &[
+// The file, and the fault.
+const REFUSED_FILES: &[(&str, &str, &str)] = &[
     ("an empty file", "", "Header"),
     (
         "the header of a play",
@@ -261,109 +238,81 @@ const REFUSED: &[(&str, &str, &str)] = &[
         "Header",
     ),
     ("no record", RECORD_HEADER, "Empty"),
-    (
-        "a field too few",
-        "script,tick,terminal,signal,level\nF1,,,\n",
-        "Fields 2",
-    ),
-    (
-        "a field too many",
-        "script,tick,terminal,signal,level\nF1,,,,\nF1,12,A,key,1,\n",
-        "Fields 3",
-    ),
-    (
-        "no script of that name",
-        "script,tick,terminal,signal,level\nF2,,,,\n",
-        "Name 2",
-    ),
-    (
-        "a head twice",
-        "script,tick,terminal,signal,level\nF1,,,,\nX1,,,,\nF1,,,,\n",
-        "Name 4",
-    ),
-    (
-        "a row before any head",
-        "script,tick,terminal,signal,level\nF1,12,A,key,1\n",
-        "Order 2",
-    ),
+];
+
+// The rows, and the fault.
+const REFUSED_ROWS: &[(&str, &str, &str)] = &[
+    ("a field too few", "F1,,,\n", "Fields 2"),
+    ("a field too many", "F1,,,,\nF1,12,A,key,1,\n", "Fields 3"),
+    ("no script of that name", "F2,,,,\n", "Name 2"),
+    ("a head twice", "F1,,,,\nX1,,,,\nF1,,,,\n", "Name 4"),
+    ("a row before any head", "F1,12,A,key,1\n", "Order 2"),
     (
         "a row of another head",
-        "script,tick,terminal,signal,level\nF1,,,,\nX1,12,A,key,1\n",
+        "F1,,,,\nX1,12,A,key,1\n",
         "Order 3",
     ),
-    (
-        "a row of no terminal",
-        "script,tick,terminal,signal,level\nF1,,,,\nF1,12,C,key,1\n",
-        "Place 3",
-    ),
-    (
-        "a row of no signal",
-        "script,tick,terminal,signal,level\nF1,,,,\nF1,12,A,z2,1\n",
-        "Place 3",
-    ),
+    ("a row of no terminal", "F1,,,,\nF1,12,C,key,1\n", "Place 3"),
+    ("a row of no signal", "F1,,,,\nF1,12,A,z2,1\n", "Place 3"),
     (
         "a tick at the horizon",
-        "script,tick,terminal,signal,level\nF1,,,,\nF1,120,A,key,1\n",
+        "F1,,,,\nF1,120,A,key,1\n",
         "Ticks 3",
     ),
     (
         "a tick with a leading zero",
-        "script,tick,terminal,signal,level\nF1,,,,\nF1,012,A,key,1\n",
+        "F1,,,,\nF1,012,A,key,1\n",
         "Ticks 3",
     ),
     (
         "a tick before the row above",
-        "script,tick,terminal,signal,level\nF1,,,,\nF1,12,A,key,1\nF1,11,B,key,1\n",
+        "F1,,,,\nF1,12,A,key,1\nF1,11,B,key,1\n",
         "Later 4",
     ),
     (
         "a trip before a key of its tick",
-        "script,tick,terminal,signal,level\nF1,,,,\nF1,12,A,trip,1\nF1,12,A,key,1\n",
+        "F1,,,,\nF1,12,A,trip,1\nF1,12,A,key,1\n",
         "Later 4",
     ),
     (
         "a signal that falls before it rose",
-        "script,tick,terminal,signal,level\nF1,,,,\nF1,12,A,key,0\n",
+        "F1,,,,\nF1,12,A,key,0\n",
         "Level 3",
     ),
     (
         "a level that is set twice",
-        "script,tick,terminal,signal,level\nF1,,,,\nF1,12,A,key,1\nF1,13,A,key,1\n",
+        "F1,,,,\nF1,12,A,key,1\nF1,13,A,key,1\n",
         "Level 4",
     ),
-    (
-        "a level that is none",
-        "script,tick,terminal,signal,level\nF1,,,,\nF1,12,A,key,?\n",
-        "Level 3",
-    ),
+    ("a level that is none", "F1,,,,\nF1,12,A,key,?\n", "Level 3"),
     (
         "a row of a name unknown, before any head",
-        "script,tick,terminal,signal,level\nF2,120,C,z2,?\n",
+        "F2,120,C,z2,?\n",
         "Name 2",
     ),
     (
         "a row before any head, of no place",
-        "script,tick,terminal,signal,level\nF1,120,C,z2,?\n",
+        "F1,120,C,z2,?\n",
         "Order 2",
     ),
     (
         "no place, no tick and no level",
-        "script,tick,terminal,signal,level\nF1,,,,\nF1,120,C,key,?\n",
+        "F1,,,,\nF1,120,C,key,?\n",
         "Place 3",
     ),
     (
         "no tick and no level",
-        "script,tick,terminal,signal,level\nF1,,,,\nF1,120,A,key,?\n",
+        "F1,,,,\nF1,120,A,key,?\n",
         "Ticks 3",
     ),
     (
         "too early, and no level",
-        "script,tick,terminal,signal,level\nF1,,,,\nF1,12,A,key,1\nF1,11,A,key,?\n",
+        "F1,,,,\nF1,12,A,key,1\nF1,11,A,key,?\n",
         "Later 4",
     ),
     (
         "a level, and then a record of too few fields",
-        "script,tick,terminal,signal,level\nF1,,,,\nF1,12,A,key,0\nF1\n",
+        "F1,,,,\nF1,12,A,key,0\nF1\n",
         "Level 3",
     ),
 ];

@@ -36,25 +36,28 @@ const PERMISSIVE: &[Row<'static>] = &[
     Row {
         what: "POTT at the greatest",
         third: GREATEST,
-        out: AT_THE_GREATEST,
+        out: PLAYED_AT_GREATEST,
         ..AT_LEAST
     },
     Row {
         what: "current for 10 ticks more",
-        scripts: FAULT_LONG_CURRENT,
+        edits: &[
+            ("cur,A,10,100", "cur,A,10,110"),
+            ("cur,B,10,100", "cur,B,10,110"),
+        ],
         out: WITH_LONG_CURRENT,
         ..AT_LEAST
     },
     Row {
         what: "no current",
-        scripts: FAULT_NO_CURRENT,
+        edits: &[("F1,cur,A,10,100\n", ""), ("F1,cur,B,10,100\n", "")],
         out: PLAYED,
         ..AT_LEAST
     },
     Row {
         what: "two timings",
         third: LEAST_AND_GREATEST,
-        out: AT_BOTH_TIMINGS,
+        out: PLAYED_AT_BOTH,
         ..AT_LEAST
     },
     Row {
@@ -172,17 +175,6 @@ const WEAK_ENDS_AND_EDGES: &[Row<'static>] = &[
     },
 ];
 
-const AT_THE_GREATEST: &str = "timing,script,tick,terminal,signal,level
-T2,F1,14,A,key,1
-T2,F1,14,B,key,1
-T2,F1,19,A,trip,1
-T2,F1,19,B,trip,1
-T2,F1,103,A,key,0
-T2,F1,103,A,trip,0
-T2,F1,103,B,key,0
-T2,F1,103,B,trip,0
-";
-
 const WITH_LONG_CURRENT: &str = "timing,script,tick,terminal,signal,level
 T1,F1,12,A,key,1
 T1,F1,12,B,key,1
@@ -192,25 +184,6 @@ T1,F1,101,A,key,0
 T1,F1,101,B,key,0
 T1,F1,110,A,trip,0
 T1,F1,110,B,trip,0
-";
-
-const AT_BOTH_TIMINGS: &str = "timing,script,tick,terminal,signal,level
-T1,F1,12,A,key,1
-T1,F1,12,B,key,1
-T1,F1,15,A,trip,1
-T1,F1,15,B,trip,1
-T1,F1,101,A,key,0
-T1,F1,101,A,trip,0
-T1,F1,101,B,key,0
-T1,F1,101,B,trip,0
-T2,F1,14,A,key,1
-T2,F1,14,B,key,1
-T2,F1,19,A,trip,1
-T2,F1,19,B,trip,1
-T2,F1,103,A,key,0
-T2,F1,103,A,trip,0
-T2,F1,103,B,key,0
-T2,F1,103,B,trip,0
 ";
 
 const OF_AN_EXTERNAL_FAULT: &str = "timing,script,tick,terminal,signal,level

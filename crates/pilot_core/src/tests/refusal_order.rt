@@ -86,3 +86,35 @@ fn name_of<'a>(flaw: Flaw, name: &'a str) -> &'a str {
         _ => name,
     }
 }
+
+// Commands over a line and scripts.
+const OVER_BOTH: &[&[&str]] = &[
+    CERTIFY,
+    MATCH,
+    &["report", "l", "s"],
+    &["split", "l", "s", "1"],
+    &["margin", "l", "s", "A.z3.pickup"],
+];
+
+#[test]
+fn the_line_and_then_the_scripts(rt: HostRuntime) -> Result<(), Fail> {
+    for words in OVER_BOTH {
+        let no_line = Row {
+            what: "a line that is refused",
+            words: *words,
+            line: "horizon =",
+            status: Status::BadInput,
+            err: "refused line NotToml\n",
+            ..ROW
+        };
+        run_row(&rt, rt.alloc(), &no_line)?;
+        let no_scripts = Row {
+            what: "scripts that are refused",
+            line: POTT,
+            err: "refused scripts Header\n",
+            ..no_line
+        };
+        run_row(&rt, rt.alloc(), &no_scripts)?;
+    }
+    Ok(())
+}

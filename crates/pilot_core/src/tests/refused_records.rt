@@ -3,14 +3,28 @@
 use super::worked_files::*;
 use super::*;
 
+// A play of the first line and its fault at the least numbers that is refused.
+const REFUSED: Row<'static> = Row {
+    words: PLAY,
+    line: POTT,
+    scripts: FAULT,
+    third: LEAST,
+    status: Status::BadInput,
+    ..ROW
+};
+
 #[test]
 fn refused_scripts(rt: HostRuntime) -> Result<(), Fail> {
     let alloc = rt.alloc();
     for (what, old, new, fault) in CHANGED_SCRIPTS {
-        let scripts = FAULT.replacen(alloc, *old, new, 1)?;
         let told = format!(in alloc; "refused scripts {fault}\n")?;
-        let got = call(alloc, PLAY, texts(POTT, scripts.as_str(), LEAST))?;
-        assert_refused(&rt, what, &got, told.as_str());
+        let row = Row {
+            what: *what,
+            edits: &[(*old, *new)],
+            err: told.as_str(),
+            ..REFUSED
+        };
+        run_row(&rt, alloc, &row)?;
     }
     Ok(())
 }
@@ -56,35 +70,22 @@ fn refused_timings(rt: HostRuntime) -> Result<(), Fail> {
     let alloc = rt.alloc();
     for (what, timings, fault) in REFUSED_TIMINGS {
         let told = format!(in alloc; "refused timings {fault}\n")?;
-        let got = call(alloc, PLAY, texts(POTT, FAULT, timings))?;
-        assert_refused(&rt, what, &got, told.as_str());
+        let row = Row {
+            what: *what,
+            third: *timings,
+            err: told.as_str(),
+            ..REFUSED
+        };
+        run_row(&rt, alloc, &row)?;
     }
-    let mut reopened = String::from_str(alloc, LEAST_AND_GREATEST)?;
-    reopened.push_str("T1,,\n")?;
-    let got = call(alloc, PLAY, texts(POTT, FAULT, reopened.as_str()))?;
-    assert_refused(&rt, "T1 opened again", &got, "refused timings Order 9\n");
-    Ok(())
-}
-
-// Empty lines are no records, so a file may be filled up with them.
-#[test]
-fn long_timings(rt: HostRuntime) -> Result<(), Fail> {
-    let alloc = rt.alloc();
-    let timings = filled_up(alloc, LEAST, b'\n', 4_194_304)?;
-    let longest = Files {
-        third: &timings,
-        ..texts(POTT, FAULT, "")
+    let reopened = Row {
+        what: "T1 opened again",
+        third: LEAST_AND_GREATEST,
+        edits: &[("T2,B>A.delay,5\n", "T2,B>A.delay,5\nT1,,\n")],
+        err: "refused timings Order 9\n",
+        ..REFUSED
     };
-    let got = call(alloc, PLAY, longest)?;
-    assert_ended(&rt, "longest file", &got, Status::Good, PLAYED, "");
-    let timings = filled_up(alloc, LEAST, b'\n', 4_194_305)?;
-    let longer = Files {
-        third: &timings,
-        ..texts(POTT, FAULT, "")
-    };
-    let got = call(alloc, PLAY, longer)?;
-    assert_refused(&rt, "longer file", &got, "refused timings TooLong\n");
-    Ok(())
+    run_row(&rt, alloc, &reopened)
 }
 
 // What is changed, the old text of the scripts, the new one, and the fault.

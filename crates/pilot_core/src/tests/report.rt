@@ -3,8 +3,6 @@
 use super::worked_files::*;
 use super::*;
 
-const REPORT: &[&str] = &["report", "l", "s"];
-
 #[test]
 fn worked_reports(rt: HostRuntime) -> Result<(), Fail> {
     run_rows(&rt, rt.alloc(), REPORTS)
@@ -12,7 +10,7 @@ fn worked_reports(rt: HostRuntime) -> Result<(), Fail> {
 
 // A report of the first line and its fault.
 const REPORTED: Row<'static> = Row {
-    words: REPORT,
+    words: &["report", "l", "s"],
     line: POTT,
     scripts: FAULT,
     ..ROW
@@ -68,7 +66,7 @@ D1,internal,B,16,18,18,0,0,held
     },
     Row {
         what: "a deadline before any trip",
-        edit: (",19,", ",14,"),
+        edits: &[(",19,", ",14,")],
         out: "script,kind,terminal,first_may,first_must,deadline,margin,margin_us,rule
 F1,internal,A,15,19,14,-5,-5000,broken
 F1,internal,B,15,19,14,-5,-5000,broken
@@ -83,21 +81,5 @@ X1,external,A,-,-,-,-,-,held
 X1,external,B,-,-,-,-,-,held
 ",
         ..REPORTED
-    },
-    Row {
-        what: "a line that is refused",
-        words: REPORT,
-        line: "horizon =",
-        status: Status::BadInput,
-        err: "refused line NotToml\n",
-        ..ROW
-    },
-    Row {
-        what: "scripts that are refused",
-        words: REPORT,
-        line: POTT,
-        status: Status::BadInput,
-        err: "refused scripts Header\n",
-        ..ROW
     },
 ];

@@ -3,8 +3,6 @@
 use super::worked_files::*;
 use super::*;
 
-const RECHECK: &[&str] = &["recheck", "l", "s", "t"];
-
 #[test]
 fn trees_that_are_found(rt: HostRuntime) -> Result<(), Fail> {
     run_rows(&rt, rt.alloc(), FOUND)
@@ -17,34 +15,12 @@ fn trees_that_stand_or_lie(rt: HostRuntime) -> Result<(), Fail> {
 
 #[test]
 fn lines_that_are_no_trees(rt: HostRuntime) -> Result<(), Fail> {
-    run_rows(&rt, rt.alloc(), LINES)
+    run_lines(&rt, rt.alloc(), &REJECTED, LINES)
 }
 
 #[test]
 fn splits_above_one_another(rt: HostRuntime) -> Result<(), Fail> {
     run_rows(&rt, rt.alloc(), DEPTHS)
-}
-
-// Split trees of the greatest length are read, and longer ones are refused.
-#[test]
-fn long_trees(rt: HostRuntime) -> Result<(), Fail> {
-    let alloc = rt.alloc();
-    let longest = filled_up(alloc, "", b'x', 4_194_304)?;
-    let files = Files {
-        third: &longest,
-        ..texts(POTT, FAULT, "")
-    };
-    let got = call(alloc, RECHECK, files)?;
-    let text = "rejected Line 1\n";
-    assert_ended(&rt, "the longest", &got, Status::Rejected, text, "");
-    let longer = filled_up(alloc, "", b'x', 4_194_305)?;
-    let files = Files {
-        third: &longer,
-        ..texts(POTT, FAULT, "")
-    };
-    let got = call(alloc, RECHECK, files)?;
-    assert_refused(&rt, "longer ones", &got, "refused trees TooLong\n");
-    Ok(())
 }
 
 // The obligation of the strong end is decided once the echo's pickup is split.
@@ -91,45 +67,44 @@ no 0 0 4 3 0 0 0 0 0 0 4 3 0 0 0 0 5 5
 end
 ";
 
+// The trees of the weak end.
+const SEARCHED: Row<'static> = Row {
+    words: &["split", "l", "s", "8"],
+    line: WEAK_END,
+    scripts: WEAK_FAULT,
+    out: SPLIT_ONCE,
+    ..ROW
+};
+
 const FOUND: &[Row<'static>] = &[
     Row {
         what: "a weak end, split once",
         words: &["split", "l", "s", "1"],
-        line: WEAK_END,
-        scripts: WEAK_FAULT,
-        out: SPLIT_ONCE,
-        ..ROW
+        ..SEARCHED
     },
     Row {
         what: "no more splits than it takes",
-        words: &["split", "l", "s", "8"],
-        line: WEAK_END,
-        scripts: WEAK_FAULT,
-        out: SPLIT_ONCE,
-        ..ROW
+        ..SEARCHED
     },
     Row {
         what: "no split at all",
         words: &["split", "l", "s", "0"],
-        line: WEAK_END,
-        scripts: WEAK_FAULT,
         status: Status::SomeUndecided,
         out: UNDECIDED,
-        ..ROW
+        ..SEARCHED
     },
     Row {
         what: "a timing that fails",
         words: &["split", "l", "s", "3"],
         line: POTT,
         scripts: FAULT,
-        edit: (",19,", ",18,"),
+        edits: &[A_TICK_EARLIER],
         status: Status::SomeNo,
         out: BOTH_FAIL,
-        ..ROW
+        ..SEARCHED
     },
     Row {
         what: "a weak end at both ends",
-        words: &["split", "l", "s", "8"],
         line: BOTH_WEAK,
         scripts: FLICKER,
         out: "pilot-split 1
@@ -140,23 +115,7 @@ tree B
 yes
 end
 ",
-        ..ROW
-    },
-    Row {
-        what: "a line that is refused",
-        words: &["split", "l", "s", "1"],
-        line: "horizon =",
-        status: Status::BadInput,
-        err: "refused line NotToml\n",
-        ..ROW
-    },
-    Row {
-        what: "scripts that are refused",
-        words: &["split", "l", "s", "1"],
-        line: POTT,
-        status: Status::BadInput,
-        err: "refused scripts Header\n",
-        ..ROW
+        ..SEARCHED
     },
 ];
 
@@ -199,20 +158,20 @@ const TREES: &[Row<'static>] = &[
         line: POTT,
         scripts: FAULT,
         third: BOTH_FAIL,
-        edit: (",19,", ",18,"),
+        edits: &[A_TICK_EARLIER],
         out: "accepted 0 2 0\n",
         ..ACCEPTED
     },
     Row {
         what: "a half in which the rule is not held",
-        edit: ("pickup 2\n", "pickup 1\n"),
+        edits: &[("pickup 2\n", "pickup 1\n")],
         out: "rejected NotHeld W1 A 1\n",
         ..REJECTED
     },
     Row {
         what: "no half at all",
         third: UNDECIDED,
-        edit: ("undecided", "yes"),
+        edits: &[("undecided", "yes")],
         out: "rejected NotHeld W1 A 0\n",
         ..REJECTED
     },
@@ -223,7 +182,7 @@ const TREES: &[Row<'static>] = &[
     },
     Row {
         what: "a number of the second script, which is outside",
-        edit: ("5 5\nend", "5 6\nend"),
+        edits: &[("5 5\nend", "5 6\nend")],
         out: "rejected Outside X1 B B>A.delay 6\n",
         ..REJECTED_OF_TWO
     },
@@ -232,97 +191,34 @@ const TREES: &[Row<'static>] = &[
         line: POTT,
         scripts: FAULT_AND_EXTERNAL,
         third: TWO,
-        edit: ("no 0 0 4 3 0 0 0 0 0 0 4 3 0 0 0 0 5 5", "yes"),
+        edits: &[("no 0 0 4 3 0 0 0 0 0 0 4 3 0 0 0 0 5 5", "yes")],
         out: "accepted 4 0 0\n",
         ..ACCEPTED
     },
 ];
 
-const LINES: &[Row<'static>] = &[
-    Row {
-        what: "no text",
-        words: RECHECK,
-        line: WEAK_END,
-        scripts: WEAK_FAULT,
-        status: Status::Rejected,
-        out: "rejected Line 1\n",
-        ..ROW
-    },
-    Row {
-        what: "no end",
-        edit: ("yes\nend\n", "yes\n"),
-        out: "rejected Line 9\n",
-        ..REJECTED
-    },
-    Row {
-        what: "a middle at the greatest",
-        edit: ("pickup 2\n", "pickup 5\n"),
-        out: "rejected Line 4\n",
-        ..REJECTED
-    },
-    Row {
-        what: "a split of a delay",
-        line: POTT,
-        edit: ("B.echo.pickup 2", "A>B.delay 4"),
-        out: "rejected Line 4\n",
-        ..REJECTED
-    },
-    Row {
-        what: "a split of a parameter that is not there",
-        edit: ("B.echo.pickup 2", "A.echo.pickup 2"),
-        out: "rejected Line 4\n",
-        ..REJECTED
-    },
-    Row {
-        what: "a timing inside a tree",
-        edit: (
-            "pickup 2\nyes",
-            "pickup 2\nno 0 0 2 1 0 0 0 0 0 0 0 0 0 0 0 0 10 0 3 3 3",
-        ),
-        out: "rejected Line 5\n",
-        ..REJECTED
-    },
-    Row {
-        what: "a leaf too many",
-        edit: ("yes\nyes\n", "yes\nyes\nyes\n"),
-        out: "rejected Line 7\n",
-        ..REJECTED
-    },
-    Row {
-        what: "the trees in the wrong order",
-        edit: ("tree A", "tree B"),
-        out: "rejected Line 3\n",
-        ..REJECTED
-    },
+// Texts that leave the grammar.
+const LINES: &[(&str, &str, &str, u32)] = &[
+    ("no text", SPLIT_ONCE, "", 1),
+    ("no end", "yes\nend\n", "yes\n", 9),
+    ("a middle at the greatest", "pickup 2\n", "pickup 5\n", 4),
+    (
+        "a split of a parameter that is not there",
+        "B.echo.pickup 2",
+        "A.echo.pickup 2",
+        4,
+    ),
+    (
+        "a timing inside a tree",
+        "pickup 2\nyes",
+        "pickup 2\nno 0 0 2 1 0 0 0 0 0 0 0 0 0 0 0 0 10 0 3 3 3",
+        5,
+    ),
+    ("a leaf too many", "yes\nyes\n", "yes\nyes\nyes\n", 7),
+    ("the trees in the wrong order", "tree A", "tree B", 3),
 ];
 
-// The permissive line with a parameter of 21 numbers.
-const WIDE: &str = r#"version = 1
-tick_us = 1000
-horizon = 120
-scheme = "pott"
-
-[[terminal]]
-name = "A"
-z1 = { pickup = [0, 20], dropout = 0 }
-z2 = { pickup = [2, 4], dropout = [1, 3] }
-
-[[terminal]]
-name = "B"
-z2 = { pickup = [2, 4], dropout = [1, 3] }
-
-[[channel]]
-from = "A"
-to = "B"
-delay = [3, 5]
-
-[[channel]]
-from = "B"
-to = "A"
-delay = [3, 5]
-"#;
-
-// Splits of that parameter, each in the lower half of the one above.
+// Splits of a setting of 21 numbers, each in the lower half of the one above.
 const EIGHT_DEEP: &str = "pilot-split 1
 script X1
 tree A
@@ -348,25 +244,35 @@ yes
 end
 ";
 
+const DEEP: Row<'static> = Row {
+    words: RECHECK,
+    line: WIDE,
+    scripts: BEHIND_B,
+    third: EIGHT_DEEP,
+    ..ROW
+};
+
 const DEPTHS: &[Row<'static>] = &[
     Row {
         what: "eight splits above one another",
-        words: RECHECK,
-        line: WIDE,
-        scripts: BEHIND_B,
-        third: EIGHT_DEEP,
         out: "accepted 1 0 1\n",
-        ..ROW
+        ..DEEP
     },
     Row {
         what: "nine splits above one another",
-        words: RECHECK,
-        line: WIDE,
-        scripts: BEHIND_B,
-        third: EIGHT_DEEP,
-        edit: ("undecided\n", "split A.z1.pickup 1\nyes\nyes\n"),
+        edits: &[("undecided\n", "split A.z1.pickup 1\nyes\nyes\n")],
         status: Status::Rejected,
         out: "rejected Line 12\n",
-        ..ROW
+        ..DEEP
+    },
+    Row {
+        what: "a split of a delay",
+        line: POTT,
+        scripts: WEAK_FAULT,
+        third: SPLIT_ONCE,
+        edits: &[("B.echo.pickup 2", "A>B.delay 4")],
+        status: Status::Rejected,
+        out: "rejected Line 4\n",
+        ..DEEP
     },
 ];

@@ -1,22 +1,45 @@
 //! Runs from change to change: what is quiet, what is not, and what moves while all else is quiet.
 
-use super::worked_files::HEADER;
+use super::worked_files::*;
 use super::*;
-
-const CERTIFY: &[&str] = &["certify", "l", "s"];
 
 #[test]
 fn stretches(rt: HostRuntime) -> Result<(), Fail> {
     run_rows(&rt, rt.alloc(), STRETCHES)
 }
 
+// A script that shows nothing, up to the longest horizon.
+const QUIET: Row<'static> = Row {
+    line: SLOW_CHANNELS,
+    scripts: "script,item,place,from,to
+Q,external,,,
+",
+    edits: &[("horizon = 120", "horizon = 4000")],
+    ..ROW
+};
+
+// An internal fault that is seen up to the horizon.
+const SEEN_TO_THE_END: Row<'static> = Row {
+    words: PLAY,
+    line: SLOW_CHANNELS,
+    scripts: "script,item,place,from,to
+M,internal,,110,
+M,z2,A,10,120
+M,z2,B,10,120
+M,cur,A,10,120
+M,cur,B,10,120
+",
+    ..ROW
+};
+
+const ONE_DELAY: &str = "timing,parameter,value
+T,A>B.delay,50
+";
+
 const STRETCHES: &[Row<'static>] = &[
     Row {
-        what: "a quiet script, up to the longest horizon",
+        what: "a quiet script",
         words: CERTIFY,
-        line: SHORT,
-        scripts: NO_ROWS,
-        edit: ("horizon = 120", "horizon = 4000"),
         out: "pilot-cert 1
 script Q
 key A 0:4000
@@ -25,24 +48,26 @@ verdict A yes
 verdict B yes
 end
 ",
-        ..ROW
+        ..QUIET
     },
     Row {
         what: "its play",
         words: PLAY,
-        line: SHORT,
-        scripts: NO_ROWS,
-        edit: ("horizon = 120", "horizon = 4000"),
         third: ONE_DELAY,
         out: HEADER,
-        ..ROW
+        ..QUIET
     },
     Row {
         what: "echoes that ring to the horizon",
         words: PLAY,
-        line: RINGING,
-        scripts: ONE_TICK_SEEN,
-        third: LEAST_DELAY,
+        line: SHORT_ECHO,
+        scripts: "script,item,place,from,to
+R,external,,,
+R,z2,A,3,4
+",
+        third: "timing,parameter,value
+T,A>B.delay,1
+",
         out: "timing,script,tick,terminal,signal,level
 T,R,3,A,key,1
 T,R,4,A,key,0
@@ -66,9 +91,6 @@ T,R,11,B,key,0
     },
     Row {
         what: "what is seen up to the horizon",
-        words: PLAY,
-        line: SHORT,
-        scripts: HELD,
         third: ONE_DELAY,
         out: "timing,script,tick,terminal,signal,level
 T,M,12,A,key,1
@@ -76,31 +98,39 @@ T,M,12,B,key,1
 T,M,17,A,trip,1
 T,M,62,B,trip,1
 ",
-        ..ROW
+        ..SEEN_TO_THE_END
     },
     Row {
         what: "delays that move while nothing else does",
-        words: PLAY,
-        line: SHORT,
-        scripts: HELD,
-        third: MOVES,
+        third: "timing,parameter,value
+T,A>B.delay,50
+T,B>A.delay,90
+T,A>B.delay@40,10
+T,B>A.delay@70,20
+",
         out: "timing,script,tick,terminal,signal,level
 T,M,12,A,key,1
 T,M,12,B,key,1
 T,M,40,B,trip,1
 T,M,70,A,trip,1
 ",
-        ..ROW
+        ..SEEN_TO_THE_END
     },
     Row {
         what: "lanes with different delays, of which one trips",
         words: CERTIFY,
-        line: SHORT,
-        scripts: BRIEF,
-        edit: (
+        line: SLOW_CHANNELS,
+        scripts: "script,item,place,from,to
+X,external,,,
+X,z2,A,10,18
+X,z2,B,100,110
+X,cur,A,0,120
+X,cur,B,0,120
+",
+        edits: &[(
             "\"B\"\nz2 = { pickup = [2, 3]",
             "\"B\"\nz2 = { pickup = [2, 30]",
-        ),
+        )],
         status: Status::SomeNo,
         out: "pilot-cert 1
 script X
@@ -113,93 +143,3 @@ end
         ..ROW
     },
 ];
-
-const SHORT: &str = "version = 1
-tick_us = 1000
-horizon = 120
-scheme = \"pott\"
-
-[[terminal]]
-name = \"A\"
-z2 = { pickup = [2, 3], dropout = 1 }
-
-[[terminal]]
-name = \"B\"
-z2 = { pickup = [2, 3], dropout = 1 }
-
-[[channel]]
-from = \"A\"
-to = \"B\"
-delay = [5, 90]
-
-[[channel]]
-from = \"B\"
-to = \"A\"
-delay = [5, 90]
-";
-
-const RINGING: &str = "version = 1
-tick_us = 1000
-horizon = 12
-scheme = \"pott\"
-
-[[terminal]]
-name = \"A\"
-z2 = { pickup = 0, dropout = 0 }
-echo = { block = 0, pickup = 0, pulse = 1 }
-
-[[terminal]]
-name = \"B\"
-z2 = { pickup = 0, dropout = 0 }
-echo = { block = 0, pickup = 0, pulse = 1 }
-
-[[channel]]
-from = \"A\"
-to = \"B\"
-delay = 1
-
-[[channel]]
-from = \"B\"
-to = \"A\"
-delay = 1
-";
-
-const NO_ROWS: &str = "script,item,place,from,to
-Q,external,,,
-";
-
-const ONE_TICK_SEEN: &str = "script,item,place,from,to
-R,external,,,
-R,z2,A,3,4
-";
-
-const HELD: &str = "script,item,place,from,to
-M,internal,,110,
-M,z2,A,10,120
-M,z2,B,10,120
-M,cur,A,10,120
-M,cur,B,10,120
-";
-
-const BRIEF: &str = "script,item,place,from,to
-X,external,,,
-X,z2,A,10,18
-X,z2,B,100,110
-X,cur,A,0,120
-X,cur,B,0,120
-";
-
-const ONE_DELAY: &str = "timing,parameter,value
-T,A>B.delay,50
-";
-
-const LEAST_DELAY: &str = "timing,parameter,value
-T,A>B.delay,1
-";
-
-const MOVES: &str = "timing,parameter,value
-T,A>B.delay,50
-T,B>A.delay,90
-T,A>B.delay@40,10
-T,B>A.delay@70,20
-";

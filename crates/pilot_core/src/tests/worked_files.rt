@@ -1,393 +1,250 @@
-//! The line files, scripts, timings and the first play text of the worked calls.
+//! The line files, scripts, timings, certificates and play texts of the worked calls.
+
+// A line file: its first lines, the lines of each terminal, and those of each channel.
+macro_rules! line_file {
+    (head: $head:literal, each: $each:literal, channel: $channel:literal) => {
+        line_file!(head: $head, A: $each, B: $each, channel: $channel)
+    };
+    (head: $head:literal, A: $a:literal, B: $b:literal, channel: $channel:literal) => {
+        concat!(
+            $head,
+            "\n\n[[terminal]]\nname = \"A\"\n", $a,
+            "\n\n[[terminal]]\nname = \"B\"\n", $b,
+            "\n\n[[channel]]\nfrom = \"A\"\nto = \"B\"\n", $channel,
+            "\n\n[[channel]]\nfrom = \"B\"\nto = \"A\"\n", $channel,
+            "\n"
+        )
+    };
+    (
+        head: $head:literal,
+        A: $a:literal, B: $b:literal, C: $c:literal,
+        channel: $channel:literal
+    ) => {
+        concat!(
+            $head,
+            "\n\n[[terminal]]\nname = \"A\"\n", $a,
+            "\n\n[[terminal]]\nname = \"B\"\n", $b,
+            "\n\n[[terminal]]\nname = \"C\"\n", $c,
+            "\n\n[[channel]]\nfrom = \"A\"\nto = \"B\"\n", $channel,
+            "\n\n[[channel]]\nfrom = \"A\"\nto = \"C\"\n", $channel,
+            "\n\n[[channel]]\nfrom = \"B\"\nto = \"A\"\n", $channel,
+            "\n\n[[channel]]\nfrom = \"B\"\nto = \"C\"\n", $channel,
+            "\n\n[[channel]]\nfrom = \"C\"\nto = \"A\"\n", $channel,
+            "\n\n[[channel]]\nfrom = \"C\"\nto = \"B\"\n", $channel,
+            "\n"
+        )
+    };
+}
 
 /// Two ends of a permissive overreaching scheme.
-pub const POTT: &str = r#"version = 1
-tick_us = 1000
-horizon = 120
-scheme = "pott"
-
-[[terminal]]
-name = "A"
-z2 = { pickup = [2, 4], dropout = [1, 3] }
-
-[[terminal]]
-name = "B"
-z2 = { pickup = [2, 4], dropout = [1, 3] }
-
-[[channel]]
-from = "A"
-to = "B"
-delay = [3, 5]
-
-[[channel]]
-from = "B"
-to = "A"
-delay = [3, 5]
-"#;
+pub const POTT: &str = line_file!(
+    head: "version = 1\ntick_us = 1000\nhorizon = 120\nscheme = \"pott\"",
+    each: "z2 = { pickup = [2, 4], dropout = [1, 3] }",
+    channel: "delay = [3, 5]"
+);
 
 /// The same with zone 1 keying and tripping at A.
-pub const PUTT: &str = r#"version = 1
-tick_us = 1000
-horizon = 120
-scheme = "putt"
-zone1_trip = true
-
-[[terminal]]
-name = "A"
-z1 = { pickup = 1, dropout = 0 }
-z2 = { pickup = [2, 4], dropout = [1, 3] }
-
-[[terminal]]
-name = "B"
-z2 = { pickup = [2, 4], dropout = [1, 3] }
-
-[[channel]]
-from = "A"
-to = "B"
-delay = [3, 5]
-
-[[channel]]
-from = "B"
-to = "A"
-delay = [3, 5]
-"#;
+pub const PUTT: &str = line_file!(
+    head: "version = 1\ntick_us = 1000\nhorizon = 120\nscheme = \"putt\"\nzone1_trip = true",
+    A: "z1 = { pickup = 1, dropout = 0 }
+z2 = { pickup = [2, 4], dropout = [1, 3] }",
+    B: "z2 = { pickup = [2, 4], dropout = [1, 3] }",
+    channel: "delay = [3, 5]"
+);
 
 /// Blocking, with a coordination delay of 5 ticks.
-pub const DCB: &str = r#"version = 1
-tick_us = 1000
-horizon = 120
-scheme = "dcb"
-
-[[terminal]]
-name = "A"
-z2 = { pickup = [2, 4], dropout = [1, 3] }
+pub const DCB: &str = line_file!(
+    head: "version = 1\ntick_us = 1000\nhorizon = 120\nscheme = \"dcb\"",
+    each: "z2 = { pickup = [2, 4], dropout = [1, 3] }
 rv = { pickup = [1, 2], dropout = [1, 3] }
-block = { carry = 0, coord = 5 }
-
-[[terminal]]
-name = "B"
-z2 = { pickup = [2, 4], dropout = [1, 3] }
-rv = { pickup = [1, 2], dropout = [1, 3] }
-block = { carry = 0, coord = 5 }
-
-[[channel]]
-from = "A"
-to = "B"
-delay = [3, 5]
-
-[[channel]]
-from = "B"
-to = "A"
-delay = [3, 5]
-"#;
+block = { carry = 0, coord = 5 }",
+    channel: "delay = [3, 5]"
+);
 
 /// Unblocking.
-pub const DCUB: &str = r#"version = 1
-tick_us = 1000
-horizon = 120
-scheme = "dcub"
-
-[[terminal]]
-name = "A"
-z2 = { pickup = 2, dropout = 1 }
-
-[[terminal]]
-name = "B"
-z2 = { pickup = 2, dropout = 1 }
-
-[[channel]]
-from = "A"
-to = "B"
-delay = 3
-unblock = { pickup = 2, window = 20, restore = 10 }
-
-[[channel]]
-from = "B"
-to = "A"
-delay = 3
-unblock = { pickup = 2, window = 20, restore = 10 }
-"#;
+pub const DCUB: &str = line_file!(
+    head: "version = 1\ntick_us = 1000\nhorizon = 120\nscheme = \"dcub\"",
+    each: "z2 = { pickup = 2, dropout = 1 }",
+    channel: "delay = 3\nunblock = { pickup = 2, window = 20, restore = 10 }"
+);
 
 /// Direct transfer trip.
-pub const DTT: &str = r#"version = 1
-tick_us = 1000
-horizon = 120
-scheme = "dtt"
-zone1_trip = true
-
-[[terminal]]
-name = "A"
-z1 = { pickup = 1, dropout = 0 }
-transfer = { security = 2 }
-
-[[terminal]]
-name = "B"
-z1 = { pickup = 1, dropout = 0 }
-transfer = { security = 2 }
-
-[[channel]]
-from = "A"
-to = "B"
-delay = [3, 5]
-
-[[channel]]
-from = "B"
-to = "A"
-delay = [3, 5]
-"#;
+pub const DTT: &str = line_file!(
+    head: "version = 1\ntick_us = 1000\nhorizon = 120\nscheme = \"dtt\"\nzone1_trip = true",
+    each: "z1 = { pickup = 1, dropout = 0 }\ntransfer = { security = 2 }",
+    channel: "delay = [3, 5]"
+);
 
 /// A permissive overreaching scheme whose end B is weak.
-pub const WEAK_END: &str = r#"version = 1
-tick_us = 1000
-horizon = 120
-scheme = "pott"
-
-[[terminal]]
-name = "A"
-z2 = { pickup = 2, dropout = 1 }
-
-[[terminal]]
-name = "B"
-echo = { block = 10, pickup = [0, 5], pulse = 3 }
-
-[[channel]]
-from = "A"
-to = "B"
-delay = 3
-
-[[channel]]
-from = "B"
-to = "A"
-delay = 3
-"#;
+pub const WEAK_END: &str = line_file!(
+    head: "version = 1\ntick_us = 1000\nhorizon = 120\nscheme = \"pott\"",
+    A: "z2 = { pickup = 2, dropout = 1 }",
+    B: "echo = { block = 10, pickup = [0, 5], pulse = 3 }",
+    channel: "delay = 3"
+);
 
 /// Both ends weak, and each echoes at once.
-pub const BOTH_WEAK: &str = r#"version = 1
-tick_us = 1000
-horizon = 30
-scheme = "pott"
-
-[[terminal]]
-name = "A"
-z2 = { pickup = 0, dropout = 0 }
-echo = { block = 4, pickup = 0, pulse = 5 }
-
-[[terminal]]
-name = "B"
-z2 = { pickup = 0, dropout = 0 }
-echo = { block = 4, pickup = 0, pulse = 5 }
-
-[[channel]]
-from = "A"
-to = "B"
-delay = 3
-
-[[channel]]
-from = "B"
-to = "A"
-delay = 3
-"#;
+pub const BOTH_WEAK: &str = line_file!(
+    head: "version = 1\ntick_us = 1000\nhorizon = 30\nscheme = \"pott\"",
+    each: "z2 = { pickup = 0, dropout = 0 }\necho = { block = 4, pickup = 0, pulse = 5 }",
+    channel: "delay = 3"
+);
 
 /// The same with echoes one tick late.
-pub const SLOW_ECHO: &str = r#"version = 1
-tick_us = 1000
-horizon = 30
-scheme = "pott"
+pub const SLOW_ECHO: &str = line_file!(
+    head: "version = 1\ntick_us = 1000\nhorizon = 30\nscheme = \"pott\"",
+    each: "z2 = { pickup = 0, dropout = 0 }\necho = { block = 4, pickup = 1, pulse = 5 }",
+    channel: "delay = 3"
+);
 
-[[terminal]]
-name = "A"
-z2 = { pickup = 0, dropout = 0 }
-echo = { block = 4, pickup = 1, pulse = 5 }
-
-[[terminal]]
-name = "B"
-z2 = { pickup = 0, dropout = 0 }
-echo = { block = 4, pickup = 1, pulse = 5 }
-
-[[channel]]
-from = "A"
-to = "B"
-delay = 3
-
-[[channel]]
-from = "B"
-to = "A"
-delay = 3
-"#;
+/// Both ends weak, with echoes of one tick over channels of one tick.
+pub const SHORT_ECHO: &str = line_file!(
+    head: "version = 1\ntick_us = 1000\nhorizon = 12\nscheme = \"pott\"",
+    each: "z2 = { pickup = 0, dropout = 0 }\necho = { block = 0, pickup = 0, pulse = 1 }",
+    channel: "delay = 1"
+);
 
 /// Both ends guarded after a current reversal.
-pub const GUARDED: &str = r#"version = 1
-tick_us = 1000
-horizon = 120
-scheme = "pott"
-
-[[terminal]]
-name = "A"
-z2 = { pickup = [2, 4], dropout = [1, 3] }
+pub const GUARDED: &str = line_file!(
+    head: "version = 1\ntick_us = 1000\nhorizon = 120\nscheme = \"pott\"",
+    each: "z2 = { pickup = [2, 4], dropout = [1, 3] }
 rv = { pickup = [1, 2], dropout = [1, 3] }
-reversal = { pickup = 2, dropout = 7 }
-
-[[terminal]]
-name = "B"
-z2 = { pickup = [2, 4], dropout = [1, 3] }
-rv = { pickup = [1, 2], dropout = [1, 3] }
-reversal = { pickup = 2, dropout = 7 }
-
-[[channel]]
-from = "A"
-to = "B"
-delay = [3, 5]
-
-[[channel]]
-from = "B"
-to = "A"
-delay = [3, 5]
-"#;
+reversal = { pickup = 2, dropout = 7 }",
+    channel: "delay = [3, 5]"
+);
 
 /// Three terminals, each permitted by both others.
-pub const THREE_TERMINALS: &str = r#"version = 1
-tick_us = 1000
-horizon = 120
-scheme = "pott"
+pub const THREE_TERMINALS: &str = line_file!(
+    head: "version = 1\ntick_us = 1000\nhorizon = 120\nscheme = \"pott\"",
+    A: "z1 = { pickup = 2, dropout = 1 }\nz2 = { pickup = 2, dropout = 1 }",
+    B: "z1 = { pickup = 2, dropout = 1 }\nz2 = { pickup = 2, dropout = 1 }",
+    C: "z1 = { pickup = 2, dropout = 1 }\nz2 = { pickup = 2, dropout = 1 }",
+    channel: "delay = 3"
+);
 
-[[terminal]]
-name = "A"
-z1 = { pickup = 2, dropout = 1 }
-z2 = { pickup = 2, dropout = 1 }
-
-[[terminal]]
-name = "B"
-z1 = { pickup = 2, dropout = 1 }
-z2 = { pickup = 2, dropout = 1 }
-
-[[terminal]]
-name = "C"
-z1 = { pickup = 2, dropout = 1 }
-z2 = { pickup = 2, dropout = 1 }
-
-[[channel]]
-from = "A"
-to = "B"
-delay = 3
-
-[[channel]]
-from = "A"
-to = "C"
-delay = 3
-
-[[channel]]
-from = "B"
-to = "A"
-delay = 3
-
-[[channel]]
-from = "B"
-to = "C"
-delay = 3
-
-[[channel]]
-from = "C"
-to = "A"
-delay = 3
-
-[[channel]]
-from = "C"
-to = "B"
-delay = 3
-"#;
+/// Three terminals with 42 settings, none of which has one number alone.
+pub const NO_SETTING_FIXED: &str = line_file!(
+    head: "version = 1\ntick_us = 1000\nhorizon = 60\nscheme = \"pott\"",
+    A: "z1 = { pickup = [0, 1], dropout = [0, 1] }
+z2 = { pickup = [0, 1], dropout = [1, 7] }
+rv = { pickup = [0, 1], dropout = [0, 1] }
+uv = { pickup = [0, 1], dropout = [0, 1] }
+reversal = { pickup = [0, 1], dropout = [0, 1] }
+echo = { block = [0, 1], pickup = [0, 1], pulse = [0, 1] }",
+    B: "z1 = { pickup = [0, 1], dropout = [0, 1] }
+z2 = { pickup = [0, 1], dropout = [1, 7] }
+rv = { pickup = [0, 1], dropout = [0, 1] }
+uv = { pickup = [0, 1], dropout = [0, 1] }
+reversal = { pickup = [0, 1], dropout = [0, 1] }
+echo = { block = [0, 1], pickup = [0, 1], pulse = [0, 1] }",
+    C: "z1 = { pickup = [0, 1], dropout = [0, 1] }
+z2 = { pickup = [0, 8], dropout = [0, 1] }
+rv = { pickup = [0, 1], dropout = [0, 1] }
+uv = { pickup = [0, 1], dropout = [0, 1] }
+reversal = { pickup = [0, 1], dropout = [0, 1] }",
+    channel: "delay = [1, 2]"
+);
 
 /// The smallest horizon.
-pub const ONE_TICK: &str = r#"version = 1
-tick_us = 1000
-horizon = 1
-scheme = "pott"
+pub const ONE_TICK: &str = line_file!(
+    head: "version = 1\ntick_us = 1000\nhorizon = 1\nscheme = \"pott\"",
+    each: "z2 = { pickup = 0, dropout = 0 }",
+    channel: "delay = [3, 5]"
+);
 
-[[terminal]]
-name = "A"
-z2 = { pickup = 0, dropout = 0 }
+/// Channels of 5 to 90 ticks.
+pub const SLOW_CHANNELS: &str = line_file!(
+    head: "version = 1\ntick_us = 1000\nhorizon = 120\nscheme = \"pott\"",
+    each: "z2 = { pickup = [2, 3], dropout = 1 }",
+    channel: "delay = [5, 90]"
+);
 
-[[terminal]]
-name = "B"
-z2 = { pickup = 0, dropout = 0 }
-
-[[channel]]
-from = "A"
-to = "B"
-delay = [3, 5]
-
-[[channel]]
-from = "B"
-to = "A"
-delay = [3, 5]
-"#;
+/// A setting of 21 numbers.
+pub const WIDE: &str = line_file!(
+    head: "version = 1\ntick_us = 1000\nhorizon = 120\nscheme = \"pott\"",
+    A: "z1 = { pickup = [0, 20], dropout = 0 }
+z2 = { pickup = [2, 4], dropout = [1, 3] }",
+    B: "z2 = { pickup = [2, 4], dropout = [1, 3] }",
+    channel: "delay = [3, 5]"
+);
 
 /// A line of 250 microseconds a tick with all elements.
-pub const REALISTIC: &str = r#"version = 1
-tick_us = 250
-horizon = 800
-scheme = "pott"
-zone1_trip = true
-
-[[terminal]]
-name = "A"
-z1 = { pickup = [40, 80], dropout = [20, 80] }
+pub const REALISTIC: &str = line_file!(
+    head: "version = 1\ntick_us = 250\nhorizon = 800\nscheme = \"pott\"\nzone1_trip = true",
+    each: "z1 = { pickup = [40, 80], dropout = [20, 80] }
 z2 = { pickup = [40, 100], dropout = [20, 80] }
 rv = { pickup = [40, 100], dropout = [20, 80] }
 uv = { pickup = [20, 60], dropout = [20, 80] }
-reversal = { pickup = [16, 24], dropout = [160, 200] }
-
-[[terminal]]
-name = "B"
-z1 = { pickup = [40, 80], dropout = [20, 80] }
-z2 = { pickup = [40, 100], dropout = [20, 80] }
-rv = { pickup = [40, 100], dropout = [20, 80] }
-uv = { pickup = [20, 60], dropout = [20, 80] }
-reversal = { pickup = [16, 24], dropout = [160, 200] }
-
-[[channel]]
-from = "A"
-to = "B"
-delay = [16, 48]
-
-[[channel]]
-from = "B"
-to = "A"
-delay = [16, 48]
-"#;
+reversal = { pickup = [16, 24], dropout = [160, 200] }",
+    channel: "delay = [16, 48]"
+);
 
 /// The first line in version 2, with times that are no whole numbers of ticks.
-pub const MICROSECONDS: &str = r#"version = 2
-tick_us = 1000
-horizon = 120
-scheme = "pott"
+pub const MICROSECONDS: &str = line_file!(
+    head: "version = 2\ntick_us = 1000\nhorizon = 120\nscheme = \"pott\"",
+    each: "z2 = { pickup = [2500, 3500], dropout = [1500, 2500] }",
+    channel: "delay = [3500, 4500]"
+);
 
-[[terminal]]
-name = "A"
-z2 = { pickup = [2500, 3500], dropout = [1500, 2500] }
+// A scripts file of these rows.
+macro_rules! scripts {
+    ($($row:literal)*) => { concat!("script,item,place,from,to\n", $($row, "\n"),*) };
+}
 
-[[terminal]]
-name = "B"
-z2 = { pickup = [2500, 3500], dropout = [1500, 2500] }
+// A scripts file of an internal fault that both ends see, and of the rows behind it.
+macro_rules! fault {
+    ($($more:literal)*) => {
+        scripts!(
+            "F1,internal,,19,"
+            "F1,z2,A,10,100"
+            "F1,cur,A,10,100"
+            "F1,z2,B,10,100"
+            "F1,cur,B,10,100"
+            $($more)*
+        )
+    };
+}
 
-[[channel]]
-from = "A"
-to = "B"
-delay = [3500, 4500]
-
-[[channel]]
-from = "B"
-to = "A"
-delay = [3500, 4500]
-"#;
+// An external fault behind B and the rows behind it, as the rows of that scripts file.
+macro_rules! behind_b {
+    ($file:ident $($more:literal)*) => {
+        $file!(
+            "X1,external,,,"
+            "X1,z2,A,10,100"
+            "X1,cur,A,10,100"
+            "X1,rv,B,10,100"
+            "X1,cur,B,10,100"
+            $($more)*
+        )
+    };
+}
 
 /// An internal fault that both ends see.
-pub const FAULT: &str = "script,item,place,from,to
-F1,internal,,19,
-F1,z2,A,10,100
-F1,cur,A,10,100
-F1,z2,B,10,100
-F1,cur,B,10,100
-";
+pub const FAULT: &str = fault!();
+
+/// The same while A hears nothing of B.
+pub const FAULT_UNHEARD: &str = fault!("F1,loss,B>A,0,120");
+
+/// The internal fault, and another one to be tripped by tick 21.
+pub const FAULT_TWICE: &str = fault!(
+    "F2,internal,,21,"
+    "F2,z2,A,10,100"
+    "F2,cur,A,10,100"
+    "F2,z2,B,10,100"
+    "F2,cur,B,10,100"
+);
+
+/// An external fault behind B.
+pub const BEHIND_B: &str = behind_b!(scripts);
+
+/// The same while A hears nothing of B.
+pub const BEHIND_B_UNHEARD: &str = behind_b!(scripts "X1,loss,B>A,0,120");
+
+/// The internal fault, and then the external one.
+pub const FAULT_AND_EXTERNAL: &str = behind_b!(fault);
+
+/// The deadline of the internal fault, a tick earlier.
+pub const A_TICK_EARLIER: (&str, &str) = (",19,", ",18,");
 
 /// An internal fault near A of the line in quarters of a millisecond.
 pub const REALISTIC_FAULT: &str = "script,item,place,from,to
@@ -409,39 +266,6 @@ F2,z2,A,10,100
 F2,cur,A,10,100
 F2,z2,B,10,100
 F2,cur,B,10,100
-";
-
-/// An external fault behind B.
-pub const BEHIND_B: &str = "script,item,place,from,to
-X1,external,,,
-X1,z2,A,10,100
-X1,cur,A,10,100
-X1,rv,B,10,100
-X1,cur,B,10,100
-";
-
-/// The first fault, and then an external one.
-pub const FAULT_AND_EXTERNAL: &str = "script,item,place,from,to
-F1,internal,,19,
-F1,z2,A,10,100
-F1,cur,A,10,100
-F1,z2,B,10,100
-F1,cur,B,10,100
-X1,external,,,
-X1,z2,A,10,100
-X1,cur,A,10,100
-X1,rv,B,10,100
-X1,cur,B,10,100
-";
-
-/// The same while A hears nothing of B.
-pub const BEHIND_B_UNHEARD: &str = "script,item,place,from,to
-X1,external,,,
-X1,z2,A,10,100
-X1,cur,A,10,100
-X1,rv,B,10,100
-X1,cur,B,10,100
-X1,loss,B>A,0,120
 ";
 
 /// Two internal faults; the channel to A is lost at each, and before the second.
@@ -516,85 +340,145 @@ S1,internal,,0,
 S1,z2,A,0,1
 ";
 
-/// The internal fault with current for 10 ticks more.
-pub const FAULT_LONG_CURRENT: &str = "script,item,place,from,to
-F1,internal,,19,
-F1,z2,A,10,100
-F1,cur,A,10,110
-F1,z2,B,10,100
-F1,cur,B,10,110
-";
-
-/// The internal fault without current.
-pub const FAULT_NO_CURRENT: &str = "script,item,place,from,to
-F1,internal,,19,
-F1,z2,A,10,100
-F1,z2,B,10,100
-";
-
-/// The internal fault while A hears nothing of B.
-pub const FAULT_UNHEARD: &str = "script,item,place,from,to
-F1,internal,,19,
-F1,z2,A,10,100
-F1,cur,A,10,100
-F1,z2,B,10,100
-F1,cur,B,10,100
-F1,loss,B>A,0,120
-";
-
 /// The internal fault, seen by nobody.
 pub const NOTHING_SEEN: &str = "script,item,place,from,to
 F1,internal,,19,
 ";
 
+// A timings file of these rows.
+macro_rules! timings {
+    ($($row:literal)*) => { concat!("timing,parameter,value\n", $($row, "\n"),*) };
+}
+
+// A timings file of these rows, and behind them of all numbers greatest.
+macro_rules! greatest_behind {
+    ($($row:literal)*) => {
+        timings!(
+            $($row)*
+            "T2,A.z2.pickup,4"
+            "T2,A.z2.dropout,3"
+            "T2,B.z2.pickup,4"
+            "T2,B.z2.dropout,3"
+            "T2,A>B.delay,5"
+            "T2,B>A.delay,5"
+        )
+    };
+}
+
 /// All numbers least.
-pub const LEAST: &str = "timing,parameter,value
-T1,,
-";
+pub const LEAST: &str = timings!("T1,,");
 
 /// All numbers greatest.
-pub const GREATEST: &str = "timing,parameter,value
-T2,A.z2.pickup,4
-T2,A.z2.dropout,3
-T2,B.z2.pickup,4
-T2,B.z2.dropout,3
-T2,A>B.delay,5
-T2,B>A.delay,5
-";
-
-/// The delay to B is 5 from tick 15 on.
-pub const ONE_STEP: &str = "timing,parameter,value
-T3,A>B.delay@15,5
-";
-
-/// The delay to B is 5 at tick 15 and 3 from tick 16 on.
-pub const TWO_STEPS: &str = "timing,parameter,value
-T3,A>B.delay@15,5
-T3,A>B.delay@16,3
-";
+pub const GREATEST: &str = greatest_behind!();
 
 /// All least, and then all greatest.
-pub const LEAST_AND_GREATEST: &str = "timing,parameter,value
-T1,,
-T2,A.z2.pickup,4
-T2,A.z2.dropout,3
-T2,B.z2.pickup,4
-T2,B.z2.dropout,3
-T2,A>B.delay,5
-T2,B>A.delay,5
-";
+pub const LEAST_AND_GREATEST: &str = greatest_behind!("T1,,");
+
+/// The delay to B is 5 from tick 15 on.
+pub const ONE_STEP: &str = timings!("T3,A>B.delay@15,5");
+
+/// The delay to B is 5 at tick 15 and 3 from tick 16 on.
+pub const TWO_STEPS: &str = timings!("T3,A>B.delay@15,5" "T3,A>B.delay@16,3");
+
+// A play text of these rows.
+macro_rules! play_text {
+    ($($row:literal)*) => {
+        concat!("timing,script,tick,terminal,signal,level\n", $($row, "\n"),*)
+    };
+}
+
+// What the first line plays with its fault at the least numbers, and the rows behind it.
+macro_rules! played_at_least {
+    ($($more:literal)*) => {
+        play_text!(
+            "T1,F1,12,A,key,1"
+            "T1,F1,12,B,key,1"
+            "T1,F1,15,A,trip,1"
+            "T1,F1,15,B,trip,1"
+            "T1,F1,101,A,key,0"
+            "T1,F1,101,A,trip,0"
+            "T1,F1,101,B,key,0"
+            "T1,F1,101,B,trip,0"
+            $($more)*
+        )
+    };
+}
+
+// What it plays at the greatest, as the rows of that play text.
+macro_rules! played_at_greatest {
+    ($text:ident) => {
+        $text!(
+            "T2,F1,14,A,key,1"
+            "T2,F1,14,B,key,1"
+            "T2,F1,19,A,trip,1"
+            "T2,F1,19,B,trip,1"
+            "T2,F1,103,A,key,0"
+            "T2,F1,103,A,trip,0"
+            "T2,F1,103,B,key,0"
+            "T2,F1,103,B,trip,0"
+        )
+    };
+}
 
 /// The first line of every play text.
-pub const HEADER: &str = "timing,script,tick,terminal,signal,level\n";
+pub const HEADER: &str = play_text!();
 
 /// What the first line plays with its fault at the least numbers.
-pub const PLAYED: &str = "timing,script,tick,terminal,signal,level
-T1,F1,12,A,key,1
-T1,F1,12,B,key,1
-T1,F1,15,A,trip,1
-T1,F1,15,B,trip,1
-T1,F1,101,A,key,0
-T1,F1,101,A,trip,0
-T1,F1,101,B,key,0
-T1,F1,101,B,trip,0
+pub const PLAYED: &str = played_at_least!();
+
+/// What it plays at the greatest.
+pub const PLAYED_AT_GREATEST: &str = played_at_greatest!(play_text);
+
+/// What it plays at the least numbers, and then at the greatest.
+pub const PLAYED_AT_BOTH: &str = played_at_greatest!(played_at_least);
+
+// A certificate of these lines.
+macro_rules! certificate {
+    ($($line:literal)*) => { concat!("pilot-cert 1\n", $($line, "\n",)* "end\n") };
+}
+
+// A certificate of the first line and its fault, and of the lines behind that.
+macro_rules! fault_certified {
+    ($($more:literal)*) => {
+        certificate!(
+            "script F1"
+            "key A 0:12 ?:2 1:87 ?:2 0:17"
+            "key B 0:12 ?:2 1:87 ?:2 0:17"
+            "verdict A yes"
+            "verdict B yes"
+            $($more)*
+        )
+    };
+}
+
+// What is certified of the external fault, as the lines of that certificate.
+macro_rules! external_certified {
+    ($text:ident) => {
+        $text!(
+            "script X1"
+            "key A 0:12 ?:2 1:87 ?:2 0:17"
+            "key B 0:120"
+            "verdict A yes"
+            "verdict B yes"
+        )
+    };
+}
+
+/// What is certified of the first line and its fault.
+pub const FAULT_CERTIFIED: &str = fault_certified!();
+
+/// What is certified of the external fault.
+pub const EXTERNAL_CERTIFIED: &str = external_certified!(certificate);
+
+/// What is certified of both.
+pub const BOTH_CERTIFIED: &str = external_certified!(fault_certified);
+
+/// What is certified of the fault with its deadline a tick earlier: the greatest numbers fail.
+pub const SLOWEST_FAIL: &str = "pilot-cert 1
+script F1
+key A 0:12 ?:2 1:87 ?:2 0:17
+key B 0:12 ?:2 1:87 ?:2 0:17
+verdict A no 0 0 4 3 0 0 0 0 0 0 4 3 0 0 0 0 5 5
+verdict B no 0 0 4 3 0 0 0 0 0 0 4 3 0 0 0 0 5 5
+end
 ";
