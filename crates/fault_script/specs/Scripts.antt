@@ -16,7 +16,8 @@ use Rattle.fault_script.specs.Row.{Row, header_record, row_in}
 use Rattle.fault_script.specs.Checks.{item_of, has_good_name, what_at, deadline_of, span_between}
 
 -- a head: fewer than 64 before it, no place, then its deadline
-unfoldable pub after_head : Line → SoFar ScriptValues → ℕ → Row → Kind → Result (SoFar ScriptValues) ScriptFault
+unfoldable pub after_head : Line → SoFar ScriptValues → ℕ → Row → Kind
+    → Result (SoFar ScriptValues) ScriptFault
 after_head line s n row kind = do
   room ← passes_or (nat_lt (length (all_of s)) 64) fault.TooMany
   place ← passes_or (is_empty row.place) (fault.BadPlace n)
@@ -24,7 +25,8 @@ after_head line s n row kind = do
   Ok (with_head s row.name kind deadline)
 
 -- any other row: the latest script's name, fewer than 200 before it, its place, then its ticks
-unfoldable pub after_row : Line → SoFar ScriptValues → ℕ → Row → Item → Result (SoFar ScriptValues) ScriptFault
+unfoldable pub after_row : Line → SoFar ScriptValues → ℕ → Row → Item
+    → Result (SoFar ScriptValues) ScriptFault
 after_row line s n row item = do
   latest ← ok_or (option_filter (λ v. bytes_eq v.name row.name) s.latest) (fault.Order n)
   room ← passes_or (nat_lt (length latest.spans) 200) fault.TooMany
@@ -33,7 +35,8 @@ after_row line s n row item = do
       (fault.Ticks n)
   Ok (with_row s latest span)
 
-abbrev pub after_item : Line → SoFar ScriptValues → ℕ → Row → Item → Result (SoFar ScriptValues) ScriptFault
+abbrev pub after_item : Line → SoFar ScriptValues → ℕ → Row → Item
+    → Result (SoFar ScriptValues) ScriptFault
 after_item line s n row (Head kind) = after_head line s n row kind
 after_item line s n row (Seen element) = after_row line s n row (Seen element)
 after_item line s n row Lost = after_row line s n row Lost

@@ -46,7 +46,8 @@ pub record ParametersAreNumbered : Type 0 where
   pub of_channel : (line : Line) (c : ℕ) (x : Setting) → c < channel_count line
       → param_number line (owner.Channel c) x ≡ option_map
       (λ i. length (settings_of_terminals line.scheme 0 line.terminals.items)
-      + c * length (channel_settings line.scheme) + i) (setting_place (channel_settings line.scheme) x)
+      + c * length (channel_settings line.scheme) + i)
+      (setting_place (channel_settings line.scheme) x)
 
 -- how many settings terminals and channels have, and the number of a channel's delay
 pub record SettingsAreCounted : Type 0 where

@@ -1,5 +1,14 @@
 //! Lines, fault scripts and formulas as data: what a line keeps, the number of each parameter, the
 //! key and trip formula of each terminal, and a formula's value at a tick.
+//!
+//! - The line: `line`, `name`, `terminals`, `channels`, `bounds`, `params`, made by `make`, `copy`.
+//! - Its settings and their numbers: `settings`, `setting_places`, `lookup`.
+//! - Names: `param_names`, `names` by number, `numbers_by_name`.
+//! - Scripts: `script`, and `script_fits` for a line.
+//! - The logic: `formula` and `build` make trees; `elements` and `received` over `others` are what a
+//!   terminal sees and hears; `permissive`, `unblocking`, `blocking`, `transfer` are the schemes, and
+//!   `logic` takes the line's own. `mean` is a tree's value at a tick.
+//! - Laws: `laws`, `interval_laws`, `name_laws`.
 #![tactic(auto)]
 
 mod blocking;

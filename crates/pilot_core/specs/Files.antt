@@ -45,7 +45,8 @@ abbrev pub StoreCause : (List ℕ → Option (List ℕ)) → (List ℕ → ℕ) 
 StoreCause files old new [] file = ⊥
 StoreCause files old new (a ∷ rest) file =
     ((a.file ≡ file) × Rose (old a.name) (new a.name))
-    ⊎ (IfSome (files a.name) (λ bytes. length bytes ≤ limit_of a.file) × StoreCause files old new rest file)
+    ⊎ (IfSome (files a.name) (λ bytes. length bytes ≤ limit_of a.file)
+    × StoreCause files old new rest file)
 
 -- the count of none of these files' names rose
 abbrev pub NoneRose : (List ℕ → ℕ) → (List ℕ → ℕ) → List NamedFile → Type 0

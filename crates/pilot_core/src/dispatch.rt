@@ -79,10 +79,12 @@ pub fn two_files<G: Engine, O: Sink>(
     engine: &mut G,
     out: &mut O,
 ) -> Result<Status, Stop>
-    ensures asked { OnOk result (asks_by (of_two_files (two_files_view work.entry) line.now scripts.now)
+    ensures asked { OnOk result
+        (asks_by (of_two_files (two_files_view work.entry) line.now scripts.now)
         (G.calls engine.old) (G.calls engine.new)) }
     ensures works { Works (sink_view O.written O.faults)
-        (answer_by (of_two_files (two_files_view work.entry) line.now scripts.now)) out.old out.new result }
+        (answer_by (of_two_files (two_files_view work.entry) line.now scripts.now))
+        out.old out.new result }
 {
     let study = read_study(alloc, line, scripts)?;
     match work {
@@ -108,7 +110,8 @@ fn margin_of<O: Sink>(
 ) -> Result<Status, Stop>
     requires { IsStudy study.now }
     ensures { Works (sink_view O.written O.faults)
-        (answer_by (no_other_file (margin_words parameter.now) study.now.line study.now.scripts.items))
+        (answer_by
+        (no_other_file (margin_words parameter.now) study.now.line study.now.scripts.items))
         out.old out.new result }
 {
     let Some(param) = parameter_of_name(&study.line, parameter.as_bytes()) else {

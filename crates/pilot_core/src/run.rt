@@ -92,7 +92,8 @@ fn run_two<G: Engine, S: Store, O: Sink>(
     store: &mut S,
     out: &mut O,
 ) -> Result<Status, Stop>
-    ensures asked { OnOk result (Asked (Some (two_files_command (two_files_view work.entry) line.now scripts.now))
+    ensures asked { OnOk result (Asked
+        (Some (two_files_command (two_files_view work.entry) line.now scripts.now))
         (S.held store.old) (G.calls engine.old) (G.calls engine.new)) }
     ensures ends { EndsOf (sink_view O.written O.faults)
         (Some (two_files_command (two_files_view work.entry) line.now scripts.now))

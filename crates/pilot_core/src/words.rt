@@ -115,7 +115,8 @@ fn split_depth(word: &str) -> Option<SplitDepth>
 // `split LINE SCRIPTS DEPTH`.
 fn split_command<'a>(line: &'a str, scripts: &'a str, word: &str) -> Option<Command<'a>>
     ensures { option_map command_view result
-        ≡ option_map (λ n. two_files (split n) line.now scripts.now) (depth_of (number_of word.now)) }
+        ≡ option_map (λ n. two_files (split n) line.now scripts.now)
+        (depth_of (number_of word.now)) }
 {
     match split_depth(word) {
         Some(depth) => Some(Command::TwoFiles {
