@@ -1,9 +1,9 @@
 //! The line files, scripts, timings, certificates and play texts of the worked calls.
 
 // A line file: its first lines, the lines of each terminal, and those of each channel.
-macro_rules! line_file {
+macro_rules! line_text {
     (head: $head:literal, each: $each:literal, channel: $channel:literal) => {
-        line_file!(head: $head, A: $each, B: $each, channel: $channel)
+        line_text!(head: $head, A: $each, B: $each, channel: $channel)
     };
     (head: $head:literal, A: $a:literal, B: $b:literal, channel: $channel:literal) => {
         concat!(
@@ -37,14 +37,14 @@ macro_rules! line_file {
 }
 
 /// Two ends of a permissive overreaching scheme.
-pub const POTT: &str = line_file!(
+pub const POTT: &str = line_text!(
     head: "version = 1\ntick_us = 1000\nhorizon = 120\nscheme = \"pott\"",
     each: "z2 = { pickup = [2, 4], dropout = [1, 3] }",
     channel: "delay = [3, 5]"
 );
 
 /// The same with zone 1 keying and tripping at A.
-pub const PUTT: &str = line_file!(
+pub const PUTT: &str = line_text!(
     head: "version = 1\ntick_us = 1000\nhorizon = 120\nscheme = \"putt\"\nzone1_trip = true",
     A: "z1 = { pickup = 1, dropout = 0 }
 z2 = { pickup = [2, 4], dropout = [1, 3] }",
@@ -53,7 +53,7 @@ z2 = { pickup = [2, 4], dropout = [1, 3] }",
 );
 
 /// Blocking, with a coordination delay of 5 ticks.
-pub const DCB: &str = line_file!(
+pub const DCB: &str = line_text!(
     head: "version = 1\ntick_us = 1000\nhorizon = 120\nscheme = \"dcb\"",
     each: "z2 = { pickup = [2, 4], dropout = [1, 3] }
 rv = { pickup = [1, 2], dropout = [1, 3] }
@@ -62,21 +62,21 @@ block = { carry = 0, coord = 5 }",
 );
 
 /// Unblocking.
-pub const DCUB: &str = line_file!(
+pub const DCUB: &str = line_text!(
     head: "version = 1\ntick_us = 1000\nhorizon = 120\nscheme = \"dcub\"",
     each: "z2 = { pickup = 2, dropout = 1 }",
     channel: "delay = 3\nunblock = { pickup = 2, window = 20, restore = 10 }"
 );
 
 /// Direct transfer trip.
-pub const DTT: &str = line_file!(
+pub const DTT: &str = line_text!(
     head: "version = 1\ntick_us = 1000\nhorizon = 120\nscheme = \"dtt\"\nzone1_trip = true",
     each: "z1 = { pickup = 1, dropout = 0 }\ntransfer = { security = 2 }",
     channel: "delay = [3, 5]"
 );
 
 /// A permissive overreaching scheme whose end B is weak.
-pub const WEAK_END: &str = line_file!(
+pub const WEAK_END: &str = line_text!(
     head: "version = 1\ntick_us = 1000\nhorizon = 120\nscheme = \"pott\"",
     A: "z2 = { pickup = 2, dropout = 1 }",
     B: "echo = { block = 10, pickup = [0, 5], pulse = 3 }",
@@ -84,28 +84,28 @@ pub const WEAK_END: &str = line_file!(
 );
 
 /// Both ends weak, and each echoes at once.
-pub const BOTH_WEAK: &str = line_file!(
+pub const BOTH_WEAK: &str = line_text!(
     head: "version = 1\ntick_us = 1000\nhorizon = 30\nscheme = \"pott\"",
     each: "z2 = { pickup = 0, dropout = 0 }\necho = { block = 4, pickup = 0, pulse = 5 }",
     channel: "delay = 3"
 );
 
 /// The same with echoes one tick late.
-pub const SLOW_ECHO: &str = line_file!(
+pub const SLOW_ECHO: &str = line_text!(
     head: "version = 1\ntick_us = 1000\nhorizon = 30\nscheme = \"pott\"",
     each: "z2 = { pickup = 0, dropout = 0 }\necho = { block = 4, pickup = 1, pulse = 5 }",
     channel: "delay = 3"
 );
 
 /// Both ends weak, with echoes of one tick over channels of one tick.
-pub const SHORT_ECHO: &str = line_file!(
+pub const SHORT_ECHO: &str = line_text!(
     head: "version = 1\ntick_us = 1000\nhorizon = 12\nscheme = \"pott\"",
     each: "z2 = { pickup = 0, dropout = 0 }\necho = { block = 0, pickup = 0, pulse = 1 }",
     channel: "delay = 1"
 );
 
 /// Both ends guarded after a current reversal.
-pub const GUARDED: &str = line_file!(
+pub const GUARDED: &str = line_text!(
     head: "version = 1\ntick_us = 1000\nhorizon = 120\nscheme = \"pott\"",
     each: "z2 = { pickup = [2, 4], dropout = [1, 3] }
 rv = { pickup = [1, 2], dropout = [1, 3] }
@@ -114,7 +114,7 @@ reversal = { pickup = 2, dropout = 7 }",
 );
 
 /// Three terminals, each permitted by both others.
-pub const THREE_TERMINALS: &str = line_file!(
+pub const THREE_TERMINALS: &str = line_text!(
     head: "version = 1\ntick_us = 1000\nhorizon = 120\nscheme = \"pott\"",
     A: "z1 = { pickup = 2, dropout = 1 }\nz2 = { pickup = 2, dropout = 1 }",
     B: "z1 = { pickup = 2, dropout = 1 }\nz2 = { pickup = 2, dropout = 1 }",
@@ -123,7 +123,7 @@ pub const THREE_TERMINALS: &str = line_file!(
 );
 
 /// Three terminals with 42 settings, none of which has one number alone.
-pub const NO_SETTING_FIXED: &str = line_file!(
+pub const NO_SETTING_FIXED: &str = line_text!(
     head: "version = 1\ntick_us = 1000\nhorizon = 60\nscheme = \"pott\"",
     A: "z1 = { pickup = [0, 1], dropout = [0, 1] }
 z2 = { pickup = [0, 1], dropout = [1, 7] }
@@ -146,21 +146,21 @@ reversal = { pickup = [0, 1], dropout = [0, 1] }",
 );
 
 /// The smallest horizon.
-pub const ONE_TICK: &str = line_file!(
+pub const ONE_TICK: &str = line_text!(
     head: "version = 1\ntick_us = 1000\nhorizon = 1\nscheme = \"pott\"",
     each: "z2 = { pickup = 0, dropout = 0 }",
     channel: "delay = [3, 5]"
 );
 
 /// Channels of 5 to 90 ticks.
-pub const SLOW_CHANNELS: &str = line_file!(
+pub const SLOW_CHANNELS: &str = line_text!(
     head: "version = 1\ntick_us = 1000\nhorizon = 120\nscheme = \"pott\"",
     each: "z2 = { pickup = [2, 3], dropout = 1 }",
     channel: "delay = [5, 90]"
 );
 
 /// A setting of 21 numbers.
-pub const WIDE: &str = line_file!(
+pub const WIDE: &str = line_text!(
     head: "version = 1\ntick_us = 1000\nhorizon = 120\nscheme = \"pott\"",
     A: "z1 = { pickup = [0, 20], dropout = 0 }
 z2 = { pickup = [2, 4], dropout = [1, 3] }",
@@ -169,7 +169,7 @@ z2 = { pickup = [2, 4], dropout = [1, 3] }",
 );
 
 /// A line of 250 microseconds a tick with all elements.
-pub const REALISTIC: &str = line_file!(
+pub const REALISTIC: &str = line_text!(
     head: "version = 1\ntick_us = 250\nhorizon = 800\nscheme = \"pott\"\nzone1_trip = true",
     each: "z1 = { pickup = [40, 80], dropout = [20, 80] }
 z2 = { pickup = [40, 100], dropout = [20, 80] }
@@ -180,7 +180,7 @@ reversal = { pickup = [16, 24], dropout = [160, 200] }",
 );
 
 /// The first line in version 2, with times that are no whole numbers of ticks.
-pub const MICROSECONDS: &str = line_file!(
+pub const MICROSECONDS: &str = line_text!(
     head: "version = 2\ntick_us = 1000\nhorizon = 120\nscheme = \"pott\"",
     each: "z2 = { pickup = [2500, 3500], dropout = [1500, 2500] }",
     channel: "delay = [3500, 4500]"
@@ -433,14 +433,14 @@ pub const PLAYED_AT_GREATEST: &str = played_at_greatest!(play_text);
 pub const PLAYED_AT_BOTH: &str = played_at_greatest!(played_at_least);
 
 // A certificate of these lines.
-macro_rules! certificate {
+macro_rules! certificate_text {
     ($($line:literal)*) => { concat!("pilot-cert 1\n", $($line, "\n",)* "end\n") };
 }
 
 // A certificate of the first line and its fault, and of the lines behind that.
 macro_rules! fault_certified {
     ($($more:literal)*) => {
-        certificate!(
+        certificate_text!(
             "script F1"
             "key A 0:12 ?:2 1:87 ?:2 0:17"
             "key B 0:12 ?:2 1:87 ?:2 0:17"
@@ -468,7 +468,7 @@ macro_rules! external_certified {
 pub const FAULT_CERTIFIED: &str = fault_certified!();
 
 /// What is certified of the external fault.
-pub const EXTERNAL_CERTIFIED: &str = external_certified!(certificate);
+pub const EXTERNAL_CERTIFIED: &str = external_certified!(certificate_text);
 
 /// What is certified of both.
 pub const BOTH_CERTIFIED: &str = external_certified!(fault_certified);
