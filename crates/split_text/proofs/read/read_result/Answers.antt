@@ -44,7 +44,7 @@ returns-in_err-read_below c =
     later_fault (grammar_of line) (result_over box ∷ later) (says_node root ∷ []) c.args.lines.now.rest.now
     c.args.lines.now.number (below 8 box root ++ later) c.take_line.new.self.rest.now
     c.take_line.new.self.number c.in_err-read_below.field-0.0 one
-    (c.in_err-read_below.ensures box later (c.laws_below.ensures.own line line (same_line line))))
+    (c.in_err-read_below.ensures box later (c.laws_below.ensures.parts.own line line (same_line line))))
 
 pub returns : goal.returns
 returns c = λ later.
@@ -56,7 +56,7 @@ returns c = λ later.
     c.args.lines.now.number c.take_line.new.self.number c.in_ok-bytes.ensures.0
     c.in-Some-node_in.ensures c.in_ok-bytes.ensures.1 in
     let b = c.in_ok-read_below.ensures box later
-    (c.laws_below.ensures.own line line (same_line line)) in
+    (c.laws_below.ensures.parts.own line line (same_line line)) in
     let nodes : c.read_below.new.nodes.items ≡ preorder b.tree =
     b.nodes ∙ ap (λ (l : List Node). l ++ preorder b.tree) c.new-nodes.ensures.items in (
       record { tree = b.tree; are = nodes; splits = b.splits; low = b.low },

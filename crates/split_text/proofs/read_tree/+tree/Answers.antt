@@ -13,7 +13,7 @@ use Rattle.split_text.proofs.read_tree.+tree.Goals as goal
 
 pub read_half-read_below-requires : goal.read_half-read_below-requires
 read_half-read_below-requires t c =
-    let own = c.laws_below.ensures.own c.args.line.now c.args.part.now c.requires in (
+    let own = c.laws_below.ensures.parts.own c.args.line.now c.args.part.now c.requires in (
       omega (arith, c.decreases),
       (
         c.requires,
@@ -59,7 +59,7 @@ read_below-read_half-requires t c =
     c.in-Split.mid c.in-Split.is c.requires.root in (
       omega (arith, can.left, c.decreases),
       (c.in_ok-half-in-Split.ensures line (declared_box part)
-          (c.laws_below.ensures.own line part c.requires.part)).rest,
+          (c.laws_below.ensures.parts.own line part c.requires.part)).rest,
     )
 
 pub read_below-read_half-requires-in-Split : goal.read_below-read_half-requires-in-Split
@@ -70,7 +70,7 @@ read_below-read_half-requires-in-Split t c =
     c.in-Split.mid c.in-Split.is c.requires.root in (
       omega (arith, can.left, c.decreases),
       (c.in_ok-other-in-Split.ensures line (declared_box part)
-          (c.laws_below.ensures.own line part c.requires.part)).rest,
+          (c.laws_below.ensures.parts.own line part c.requires.part)).rest,
     )
 
 pub read_below-returns-in-Yes : goal.read_below-returns-in-Yes

@@ -7,7 +7,7 @@ use Rattle.split_text.proofs.NodeLaws.{not_node}
 use Rattle.split_text.proofs.read_tree.next_node.Goals as goal
 
 pub node_in-requires : goal.node_in-requires
-node_in-requires c = c.laws_below.ensures.params c.args.line.now c.args.part.now c.requires
+node_in-requires c = c.laws_below.ensures.counts.params c.args.line.now c.args.part.now c.requires
 
 pub returns-in_err-bytes : goal.returns-in_err-bytes
 returns-in_err-bytes c =
