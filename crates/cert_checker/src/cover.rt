@@ -32,7 +32,7 @@ pub fn first_uncovered(line: &Line, net: &Net, keys: &[Runs], waves: &[Runs]) ->
         let terminal = k as u32;
         let claimed = nth(keys, terminal);
         let derived = nth(waves, net.key_gate(terminal).0);
-        if let Some(tick) = first_tick(claimed, derived) {
+        if let Some(tick) = first_uncovered_tick(claimed, derived) {
             return Some(Uncovered {
                 terminal,
                 tick,
@@ -44,8 +44,8 @@ pub fn first_uncovered(line: &Line, net: &Net, keys: &[Runs], waves: &[Runs]) ->
     None
 }
 
-// The first tick at which one wave does not cover the other.
-fn first_tick(wide: &Runs, narrow: &Runs) -> Option<u32>
+/// The first tick at which one wave does not cover the other.
+pub fn first_uncovered_tick(wide: &Runs, narrow: &Runs) -> Option<u32>
     requires { length narrow.now ≡ length wide.now }
     ensures { MatchOption result
         ((t : ℕ) → t < length wide.now → RailsCover (wave_at wide.now t) (wave_at narrow.now t))

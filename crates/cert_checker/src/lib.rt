@@ -24,7 +24,9 @@ mod whole;
 pub use certificate::{Claim, ScriptClaims};
 pub use claim::{ClaimFault, Uncovered};
 pub use counts::Counts;
+pub use cover::first_uncovered_tick;
 pub use fault::CheckFault;
+pub use gate::nth;
 pub use laws::{
     a_certificate_has_one_first_fault, a_fault_refuses_the_certificate, a_fault_refuses_the_claims,
     a_no_has_one_fault, claims_have_one_first_fault,

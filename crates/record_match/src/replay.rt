@@ -10,8 +10,8 @@ ghost use Rattle.timing_box.specs.{Candidates.candidate_value as value_of, Insid
 ghost use Rattle.simulator.specs.Played.{played};
 ghost use Rattle.record_match.specs.Seen.{AreSeen, Gives, IsSameAt, seen_history};
 
-use crate::clash::nth;
 use crate::seen::Seen;
+use cert_checker::nth;
 use gate_net::Net;
 use line_model::laws::line_laws;
 use line_model::{Line, Memory, Script};

@@ -3,7 +3,7 @@ use Rattle.history.specs.Rails.{RailsCover}
 use Rattle.tick_signal.specs.Terns.{tern_rails}
 use Rattle.wave_runs.specs.Waves.{wave_at}
 use Rattle.cert_checker.proofs.Firsts.{along, stretch_more, not_both, cover_same}
-use Rattle.cert_checker.proofs.cover.first_tick.Goals as goal
+use Rattle.cert_checker.proofs.cover.first_uncovered_tick.Goals as goal
 
 pub stretch-first-requires : goal.stretch-first-requires
 stretch-first-requires c =

@@ -1,7 +1,7 @@
 use Rattle.std.proofs.Common.{◌≡◌, ◌-◌, ℕ, ◌<◌, length}
 use Rattle.history.specs.Rails.{RailsCover}
 use Rattle.wave_runs.specs.Waves.{wave_at}
-use Rattle.cert_checker.proofs.cover.first_tick.Given as goal
+use Rattle.cert_checker.proofs.cover.first_uncovered_tick.Given as goal
 
 -- covered at every tick so far
 abbrev pub invariant-stretches : goal.invariant-stretches
