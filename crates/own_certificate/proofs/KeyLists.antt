@@ -28,7 +28,7 @@ wave_exists : (n : ℕ) (value : ℕ → Rails) → ((t : ℕ) → t < n → IsS
     → (wave : List Tern) × IsWaveOf wave n value
 wave_exists n value sound =
     let (wave, is) =
-    one_each_exists (λ t x. tern_rails x ≡ value t) n 
+    one_each_exists (λ t x. tern_rails x ≡ value t) n
     (λ t lt. (tern_with (value t), rails_told (value t) (sound t lt))) in (
       wave,
       record {
