@@ -2,7 +2,7 @@
 #![tactic(auto)]
 
 ghost use Rattle.std.specs.Prelude.{◌≡◌, ℕ, ◌<◌, ◌≤◌, ◌+◌, [], ◌∷◌, ◌++◌, length, IfOk, Some};
-ghost use Rattle.std.specs.Prelude.{slice_get, replicate, vec_capacity, IsFalse, ◌⊎◌};
+ghost use Rattle.std.specs.Prelude.{slice_get, replicate, vec_capacity, IsTrue, IsFalse, ◌⊎◌};
 ghost use Rattle.history.specs.Rails.{rails_at, rails_delayed};
 ghost use Rattle.tick_signal.specs.Lanes.{in_lane};
 ghost use Rattle.channel.specs.SentKeys.{SentKeys};
@@ -78,8 +78,9 @@ impl<V: Signal> Track<V> {
         fill_within(&mut self.values, value, count);
     }
 
-    /// Until when the values are those of this tick: the next change, or where the track ends. The
-    /// search takes as many looks as the number of changes has binary digits.
+    /// Until when the values are those of this tick: the next change, or where the track ends. It
+    /// takes one look where the next tick brings another value, and else as many as the number of
+    /// changes has binary digits.
     pub fn stays_until(&self, t: u32) -> u32
         requires { t < length self.now.keys }
         ensures later { t < result }
@@ -88,6 +89,9 @@ impl<V: Signal> Track<V> {
             StaysUntil (rails_at (in_lane V.rails lane self.now.keys)) t
             (length self.now.keys) result }
     {
+        if changes_next(&self.values, t) {
+            return t + 1;
+        }
         next_after(&self.changes, t, self.values.len() as u32)
     }
 }
@@ -116,7 +120,7 @@ fn note_change<V: Signal>(values: &[V], changes: &mut Vec<u32>, value: V)
     ensures room { vec_capacity changes.old ≤ vec_capacity changes.new }
 {
     if changes_to(values, value) {
-        changes.push(values.len() as u32).unwrap();
+        changes.push_reserved(values.len() as u32);
     }
 }
 
@@ -131,12 +135,25 @@ fn changes_to<V: Signal>(values: &[V], value: V) -> bool
     !is_same(values[count - 1], value)
 }
 
+// Whether there is a next tick, and its value may differ from that of this one.
+fn changes_next<V: Signal>(values: &[V], t: u32) -> bool
+    requires { t < length values.now }
+    ensures { IsTrue result → t + 1 < length values.now }
+{
+    let next = t as usize + 1;
+    next < values.len() && !is_same(values[next], values[t as usize])
+}
+
 // Appends a value so many times to a list with room for them.
 fn fill_within<V: Copy>(list: &mut Vec<V>, value: V, count: u32)
     requires { length list.old.items + count ≤ vec_capacity list.old }
     ensures items { list.new.items ≡ list.old.items ++ replicate count value }
     ensures room { vec_capacity list.old ≤ vec_capacity list.new }
 {
+    if count == 1 {
+        list.push_reserved(value);
+        return;
+    }
     let len = list.len() + count as usize;
     list.resize(len, value).unwrap();
 }
