@@ -1,5 +1,5 @@
 -- What a net is given from outside, from a tick on.
-use Rattle.std.proofs.Common.{◌≡◌, ℕ, zero, ◌+◌, ◌-◌, ◌<◌, ◌≤◌, List, length, Some, sym, ◌∙◌, ap}
+use Rattle.std.proofs.Common.{◌≡◌, ℕ, ◌+◌, ◌<◌, ◌≤◌, List, length, Some, sym, ◌∙◌, ap}
 use Rattle.std.proofs.Common.{arith, subst, ⊎_elim, length-set}
 use Rattle.std.proofs.lemmas.Option.{slice_get-map, slice_get_within, get_or_from_slice_get}
 use Rattle.std.specs.Prelude.{slice_get, slice_set, option_map}
@@ -9,7 +9,7 @@ use Rattle.line_model.specs.Parameters.{terminal_count, channel_count, param_cou
 use Rattle.line_model.specs.{declared.line.Line.Line, declared.line.Channel.Channel}
 use Rattle.line_model.specs.{declared.script.Script.Script, Channels.from_of, Choice.pair_world_of}
 use Rattle.timing_box.specs.declared.step.Step.{Step}
-use Rattle.simulator.specs.Inputs.{AreDelays, DelaysHold, AreDelaysOf, IsWorldAt, CanReceive}
+use Rattle.simulator.specs.Inputs.{AreDelays, DelaysHold, IsWorldAt, CanReceive}
 use Rattle.simulator.specs.Shown.{ShowTheSame, ShownSpans, AreShown, not_over}
 use Rattle.simulator.specs.{declared.inputs.Delay.Delay, LaneBox.ends_at, LaneBox.lane_box}
 use Rattle.simulator.specs.{LaneBox.lane_world, ListLaws.exists_at, Quiet.Keeps, Runs.AreDelayed}

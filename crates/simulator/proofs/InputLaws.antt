@@ -1,6 +1,6 @@
 -- What a script shows and what steps give, between their ticks.
 use Rattle.std.proofs.Common.{◌≡◌, ℕ, suc, ◌+◌, ◌<◌, ◌≤◌, List, [], ◌∷◌, Bool, ◌&&◌, ◌||◌, Some}
-use Rattle.std.proofs.Common.{refl, ◌∙◌, ap, arith, ⊎_elim, sym, subst, ◌++◌}
+use Rattle.std.proofs.Common.{refl, ◌∙◌, ap, arith, ⊎_elim}
 use Rattle.std.proofs.lemmas.Bool.{cases_lt, leb-true, le-leb, eqb-true}
 use Rattle.std.proofs.lemmas.Bool.Decides.{Decides-like, Decides-ltb, same_from_decides}
 use Rattle.std.specs.Prelude.{slice_get, nat_le, nat_lt, if◌then◌else◌, ◌==◌, Decides, true, false}
@@ -8,7 +8,7 @@ use Rattle.std.specs.List.{list_any}
 use Rattle.line_model.specs.declared.script.SeenSpan.{SeenSpan}
 use Rattle.line_model.specs.Seen.{is_of_place, is_of_loss, shows, loses}
 use Rattle.timing_box.specs.{declared.step.Step.Step, Timing.number_at}
-use Rattle.simulator.specs.Quiet.{Keeps, ScriptKeeps, SpanKeeps, AllKeep, NoStepIn}
+use Rattle.simulator.specs.Quiet.{Keeps, ScriptKeeps, SpanKeeps, NoStepIn}
 
 Decides-le : (a b : ℕ) → Decides (nat_le a b) (a ≤ b)
 Decides-le a b = (leb-true a b, le-leb a b)

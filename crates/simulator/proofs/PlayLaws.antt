@@ -1,19 +1,15 @@
 -- A timing is one choice of a box, and the run over it is the history at that choice.
-use Rattle.std.proofs.Common.{◌≡◌, ℕ, ◌<◌, ◌≤◌, Bool, true, false, ◌&&◌, cond, List, [], ◌∷◌}
-use Rattle.std.proofs.Common.{length, Option, Some, None, refl, sym, ◌∙◌, ap, subst, arith, ⊎_elim}
-use Rattle.std.proofs.lemmas.Bool.{cases_lt, eqb-true}
-use Rattle.std.proofs.lemmas.List.{get_or_past, length-map}
-use Rattle.std.proofs.lemmas.List.Elements.{All-head, All-tail}
+use Rattle.std.proofs.Common.{◌≡◌, ℕ, ◌<◌, ◌≤◌}
+use Rattle.std.proofs.Common.{length, Option, Some, None, refl, sym, ◌∙◌, ap, subst}
 use Rattle.std.proofs.lemmas.Option.{unwrap_or-slice_get, get_or_from_slice_get}
-use Rattle.std.specs.Prelude.{slice_get, option_map, unwrap_or, get_or, nat_le, ◌==◌, if◌then◌else◌}
-use Rattle.std.specs.List.{All}
+use Rattle.std.specs.Prelude.{slice_get, option_map, unwrap_or}
 use Rattle.history.specs.Rails.{Ends, single}
 use Rattle.line_model.specs.declared.line.Line.{Line}
-use Rattle.line_model.specs.Parameters.{channel_count, param_count, delay_param, declared_ends}
+use Rattle.line_model.specs.Parameters.{param_count, delay_param}
 use Rattle.line_model.specs.Choice.{DelaysFromOne}
-use Rattle.line_model.specs.{declared.line.Param.Param, Intervals.leasts, Laws.LineLaws}
-use Rattle.timing_box.specs.{declared.step.Step.Step, Timing.TimingValues, Timing.number_at}
-use Rattle.timing_box.specs.{Inside.IsStepInside, Inside.IsTimingInside, Choice.timing_choice}
+use Rattle.line_model.specs.{Laws.LineLaws}
+use Rattle.timing_box.specs.{Timing.TimingValues, Timing.number_at}
+use Rattle.timing_box.specs.{Inside.IsTimingInside, Choice.timing_choice}
 use Rattle.simulator.specs.LaneBox.{ends_in, lane_box}
 use Rattle.simulator.specs.{Runs.AreDelayed, Runs.IsPoint, Played.ends_of_tick, ListLaws.exists_at}
 

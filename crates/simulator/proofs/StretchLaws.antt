@@ -6,7 +6,7 @@ use Rattle.history.specs.Rails.{Rails, Ends}
 use Rattle.timers.specs.Stretches.{ElementsInAStretch}
 use Rattle.line_model.specs.declared.line.Line.{Line}
 use Rattle.line_model.specs.Choice.{Box, LeastFromOne, pair_world_of}
-use Rattle.line_model.specs.{declared.script.Script.Script, declared.script.SeenSpan.SeenSpan}
+use Rattle.line_model.specs.{declared.script.Script.Script}
 use Rattle.line_model.specs.{Channels.from_of, Parameters.channel_count, PairMean.PairWorld}
 use Rattle.line_model.specs.{PairMean.PairSignals, Logic.key_tree, Solution.the_keys, Laws.LineLaws}
 use Rattle.gate_net.specs.declared.gate.Gate.{Gate}

@@ -1,7 +1,7 @@
 -- From what was kept to the interval history of the run's own keys.
 use Rattle.std.proofs.Common.{◌≡◌, ℕ, ◌<◌, List, length, sym, ◌∙◌, ap, arith}
 use Rattle.std.specs.Prelude.{slice_get}
-use Rattle.history.specs.{Rails.Rails, Rails.rails_at, Recorded.first_ticks, Laws.HistoryLaws}
+use Rattle.history.specs.{Rails.Rails, Rails.rails_at, Laws.HistoryLaws}
 use Rattle.line_model.specs.declared.script.Script.{Script}
 use Rattle.line_model.specs.PairMean.{PairWorld, PairSignals, pair_mean}
 use Rattle.line_model.specs.Choice.{Box, LeastFromOne, pair_world_of}

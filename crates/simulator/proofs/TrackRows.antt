@@ -1,11 +1,11 @@
 -- What the tracks of a list show.
-use Rattle.std.proofs.Common.{◌≡◌, ◌<◌, ◌≤◌, ℕ, Bool, List, Some, Option, length, sym, ◌∙◌, ap}
+use Rattle.std.proofs.Common.{◌≡◌, ◌<◌, ◌≤◌, ℕ, Bool, List, Some, length, sym, ◌∙◌, ap}
 use Rattle.std.proofs.Common.{arith}
 use Rattle.std.specs.Prelude.{slice_get}
-use Rattle.tick_signal.specs.{declared.level.Level.Level, Levels.level_rails}
+use Rattle.tick_signal.specs.{declared.level.Level.Level}
 use Rattle.channel.specs.SentKeys.{SentKeys}
 use Rattle.simulator.specs.PlayedTracks.{is_shown, shown_is, StaysOn}
-use Rattle.simulator.specs.{ListLaws.exists_at, Ticks.AreSent, Tracks.pair_of}
+use Rattle.simulator.specs.{ListLaws.exists_at, Ticks.AreSent}
 
 -- where each track stays on to `end`, so does what is shown
 pub shown_stays : (n horizon t end : ℕ) (tracks : List (SentKeys Level))

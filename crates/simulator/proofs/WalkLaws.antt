@@ -1,6 +1,6 @@
 -- One tick, gate by gate.
 use Rattle.std.proofs.Common.{◌≡◌, ◌≢◌, ℕ, suc, ◌+◌, List, [], ◌∷◌, ◌++◌, length, Some, sym, ◌∙◌}
-use Rattle.std.proofs.Common.{ap, subst, arith, ⊎_elim, length-set, ◌≤◌, ◌<◌}
+use Rattle.std.proofs.Common.{ap, subst, arith, ⊎_elim, length-set, ◌≤◌}
 use Rattle.std.specs.Prelude.{slice_get, slice_set}
 use Rattle.history.specs.Rails.{Rails, Ends}
 use Rattle.line_model.specs.PairMean.{PairWorld, PairSignals}

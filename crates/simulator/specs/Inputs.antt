@@ -2,7 +2,7 @@
 use Rattle.std.specs.Prelude.{◌≡◌, ◌<◌, ◌≤◌, ℕ, List, Some, length, slice_get}
 use Rattle.history.specs.Rails.{Ends}
 use Rattle.line_model.specs.Parameters.{terminal_count, channel_count, param_count, delay_param}
-use Rattle.line_model.specs.{declared.line.Line.Line, declared.script.Script.Script}
+use Rattle.line_model.specs.{declared.line.Line.Line}
 use Rattle.line_model.specs.{declared.script.Place.Place, declared.script.SeenSpan.SeenSpan}
 use Rattle.line_model.specs.{Channels.from_of, PairMean.PairWorld, Seen.is_seen, Seen.is_lost}
 use Rattle.timing_box.specs.declared.step.Step.{Step}

@@ -1,5 +1,5 @@
 -- The spans of a script that hold a tick, and those that begin later.
-use Rattle.std.specs.Prelude.{◌≡◌, ◌<◌, ◌≤◌, ◌-◌, ◌++◌, ℕ, List, Some, length, slice_get}
+use Rattle.std.specs.Prelude.{◌≡◌, ◌<◌, ◌≤◌, ◌-◌, ◌++◌, ℕ, List, length}
 use Rattle.std.specs.List.Sorted.{IsNonDecreasingBy}
 use Rattle.line_model.specs.declared.script.Place.{Place}
 use Rattle.line_model.specs.{declared.script.SeenSpan.SeenSpan, Seen.is_seen, Seen.is_lost}

@@ -1,4 +1,4 @@
-//! What each kind of gate answers at the next tick.
+//! What each kind of gate answers at the next tick, and for how long it stays.
 
 ghost use Rattle.std.specs.Prelude.{◌≡◌, ℕ, suc, ◌<◌, ◌≤◌, length, Some, slice_get};
 ghost use Rattle.history.specs.Rails.{rails_delayed};
@@ -50,8 +50,9 @@ fn argument<V: Copy>(earlier: &[V], id: GateId) -> V
     earlier[id.0 as usize]
 }
 
-// For how many ticks, up to a limit, a gate that is a timer answers the same if its input stays.
-fn gate_stays<V: Timed>(
+/// For how many ticks, up to a limit, a gate that is a timer answers the same if its input stays as
+/// it is, over the values of the earlier gates at the next tick.
+pub fn gate_stays<V: Timed>(
     gate: &Gate,
     cell: &Cell<V::Cells, SealCell<V>, V::Span>,
     earlier: &[V],
@@ -78,8 +79,8 @@ fn gate_stays<V: Timed>(
     }
 }
 
-// What a gate answers at the next tick, over the values of the earlier gates at that tick.
-fn answer<V: Timed + Carried>(
+/// What a gate answers at the next tick, over the values of the earlier gates at that tick.
+pub fn answer<V: Timed + Carried>(
     gate: &Gate,
     cell: &mut Cell<V::Cells, SealCell<V>, V::Span>,
     earlier: &[V],
@@ -118,54 +119,4 @@ fn answer<V: Timed + Carried>(
         Gate::Timer(x, _, _) => timer_answer::<V>(cell, argument(earlier, x)),
         Gate::Seal(x, y) => seal_answer::<V>(cell, argument(earlier, x), argument(earlier, y)),
     }
-}
-
-/// What a gate answers at a tick, and for how many ticks, up to a limit, it answers the same if it is
-/// a timer and its input stays as it is.
-#[derive(Clone, Copy)]
-pub struct Taken<V: Copy> {
-    pub value: V,
-    pub stays: u32,
-}
-
-/// A gate takes the next tick, over the values of the earlier gates at that tick.
-pub fn take_tick<V: Timed + Carried>(
-    gate: &Gate,
-    cell: &mut Cell<V::Cells, SealCell<V>, V::Span>,
-    earlier: &[V],
-    line: &Line,
-    present: &[SeenSpan],
-    delays: &[Delay<V::Span>],
-    sent: &[Track<V>],
-    t: u32,
-    limit: u32,
-) -> Taken<V>
-    requires names { GateNames line.now gate.now }
-    requires arguments { HasArguments (length earlier.now) gate.now }
-    requires cell { HasCell gate.now cell.old }
-    requires tick { t < line.now.horizon }
-    requires delays { CanReceive V.LANES V.ends line.now delays.now }
-    requires sent { AreSent (terminal_count line.now) line.now.horizon t sent.now }
-    requires limit { 1 ≤ limit }
-    ensures shape { HasCell gate.now cell.new }
-    ensures stands { (lane : ℕ) (w : PairWorld) (u : GateSignals) → lane < V.LANES →
-        ValuesAgree V.rails lane u t earlier.now →
-        CellStands V.stands_for V.ends V.rails lane w u t gate.now cell.old →
-        CellStands V.stands_for V.ends V.rails lane w u (suc t) gate.now cell.new }
-    ensures answers { (lane : ℕ) (w : PairWorld) (keys : PairSignals) (u : GateSignals) →
-        lane < V.LANES → IsWorldAt V.ends lane present.now delays.now w t →
-        KeysSent V.rails lane keys t sent.now → ValuesAgree V.rails lane u t earlier.now →
-        CellStands V.stands_for V.ends V.rails lane w u t gate.now cell.old →
-        V.rails result.value lane ≡ kind_pair w keys u gate.now t }
-    ensures some { 1 ≤ result.stays }
-    ensures limited { result.stays ≤ limit }
-    ensures keeps { (w : ℕ → PairWorld) (u : ℕ → GateSignals) →
-        ((lane : ℕ) → lane < V.LANES → ValuesAgree V.rails lane (u lane) t earlier.now) →
-        ((lane : ℕ) → lane < V.LANES →
-        CellStands V.stands_for V.ends V.rails lane (w lane) (u lane) t gate.now cell.old) →
-        (lane : ℕ) → lane < V.LANES → TimerKeeps (w lane) (u lane) t result.stays gate.now }
-{
-    let stays = gate_stays::<V>(gate, cell, earlier, limit);
-    let value = answer::<V>(gate, cell, earlier, line, present, delays, sent, t);
-    Taken { value, stays }
 }

@@ -9,7 +9,6 @@ ghost use Rattle.simulator.specs.Quiet.{ScriptKeeps, SpanKeeps, AllKeep};
 ghost use Rattle.simulator.specs.Shown.{ShowTheSame, not_over};
 
 use crate::lesser::lesser;
-use crate::within::push_within;
 use line_model::{Memory, Script, SeenSpan};
 use std::alloc::Global;
 use std::marker::Model;
@@ -100,7 +99,7 @@ fn take_begun(ordered: &[SeenSpan], begun: usize, present: &mut Vec<SeenSpan>, t
 {
     let mut taken = begun;
     while taken < ordered.len() && ordered[taken].from <= t {
-        push_within(present, ordered[taken]);
+        present.push_reserved(ordered[taken]);
         taken += 1;
     }
     taken

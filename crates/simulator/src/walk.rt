@@ -8,10 +8,9 @@ ghost use Rattle.simulator.specs.Inputs.{CanReceive, IsWorldAt};
 ghost use Rattle.simulator.specs.Ticks.{HaveCells, AllStand, ValuesAgree, AreSent, IsReady};
 ghost use Rattle.simulator.specs.{GatePairs.GateSignals, Quiet.TimerKeeps};
 
-use crate::answer::take_tick;
+use crate::answer::{answer, gate_stays};
 use crate::cell::Cell;
 use crate::inputs::Delay;
-use crate::within::push_within;
 use channel::{Carried, Track};
 use gate_net::{GateId, Net};
 use line_model::{Line, SeenSpan};
@@ -61,8 +60,10 @@ pub fn walk<V: Timed + Carried>(
     column.clear();
     let mut stays = limit;
     for i in 0..net.len() {
-        let taken = take_tick::<V>(
-            net.gate(GateId(i)),
+        let gate = net.gate(GateId(i));
+        stays = gate_stays::<V>(gate, &cells[i as usize], column.as_slice(), stays);
+        let value = answer::<V>(
+            gate,
             &mut cells[i as usize],
             column.as_slice(),
             line,
@@ -70,10 +71,8 @@ pub fn walk<V: Timed + Carried>(
             delays,
             sent,
             t,
-            stays,
         );
-        stays = taken.stays;
-        push_within(column, taken.value);
+        column.push_reserved(value);
     }
     stays
 }

@@ -1,15 +1,6 @@
 //! Lists that grow within the room that they have, so that no memory is taken.
 
-ghost use Rattle.std.specs.Prelude.{◌≡◌, ◌<◌, ◌≤◌, ◌+◌, [], ◌∷◌, ◌++◌, length, vec_capacity};
-
-/// Appends a value to a list with room for it.
-pub fn push_within<V: Copy>(list: &mut Vec<V>, value: V)
-    requires { length list.old.items < vec_capacity list.old }
-    ensures items { list.new.items ≡ list.old.items ++ value ∷ [] }
-    ensures room { vec_capacity list.old ≤ vec_capacity list.new }
-{
-    list.push(value).unwrap();
-}
+ghost use Rattle.std.specs.Prelude.{◌≡◌, ◌≤◌, ◌+◌, ◌++◌, length, vec_capacity};
 
 /// Appends values to a list with room for them.
 pub fn extend_within<V: Copy>(list: &mut Vec<V>, values: &[V])

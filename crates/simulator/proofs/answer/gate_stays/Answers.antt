@@ -1,4 +1,4 @@
-use Rattle.std.proofs.Common.{◌≤◌, sym, subst, arith}
+use Rattle.std.proofs.Common.{sym, subst}
 use Rattle.history.specs.Recorded.{first_ticks}
 use Rattle.simulator.specs.{CellStands.CellStands, Quiet.TimerKeeps}
 use Rattle.simulator.proofs.{QuietLaws.timer_fewer, QuietLaws.timer_one, TickLaws.timer_keeps}

@@ -1,4 +1,4 @@
-use Rattle.std.proofs.Common.{◌≡◌, ◌<◌, ◌≤◌, ℕ, Some, refl, sym, ap, length, arith, subst}
+use Rattle.std.proofs.Common.{◌≡◌, ◌≤◌, Some, refl, sym, length, arith, subst}
 use Rattle.std.proofs.Common.{below_more}
 use Rattle.std.proofs.lemmas.Option.{slice_get_read}
 use Rattle.std.specs.Prelude.{slice_get}

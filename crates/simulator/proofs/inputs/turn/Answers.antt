@@ -1,4 +1,4 @@
-use Rattle.std.proofs.Common.{◌≡◌, ◌≤◌, ◌<◌, ◌+◌, ◌-◌, ℕ, arith, subst, sym}
+use Rattle.std.proofs.Common.{◌≡◌, ◌≤◌, ◌+◌, ◌-◌, arith, subst, sym}
 use Rattle.simulator.specs.{Shown.not_over, Quiet.ScriptKeeps}
 use Rattle.simulator.proofs.{InputLaws.script_fewer, ShownLaws.same_trans, ShownLaws.keeps_alike}
 use Rattle.simulator.proofs.inputs.turn.Goals as goal

@@ -1,4 +1,4 @@
-use Rattle.std.proofs.Common.{◌≡◌, ℕ, List, ◌++◌, length, sym, ◌∙◌, ap, arith, subst}
+use Rattle.std.proofs.Common.{ℕ, List, ◌++◌, length, sym, ◌∙◌, ap, arith, subst}
 use Rattle.std.specs.Prelude.{IsTrue}
 use Rattle.line_model.specs.{Choice.Choice, Histories.History, Histories.IsSameHistory}
 use Rattle.timing_box.specs.declared.step.Step.{Step}

@@ -1,10 +1,10 @@
-use Rattle.std.proofs.Common.{◌≡◌, ◌<◌, ◌≤◌, ◌+◌, ◌++◌, ℕ, List, Some, sym, ◌∙◌, ap, arith}
+use Rattle.std.proofs.Common.{◌<◌, ◌≤◌, ◌+◌, ◌++◌, ℕ, List, ◌∙◌, ap, arith}
 use Rattle.std.specs.Prelude.{slice_get}
 use Rattle.tick_signal.specs.declared.level.Level.{Level}
 use Rattle.channel.specs.SentKeys.{SentKeys}
 use Rattle.line_model.specs.Parameters.{terminal_count}
-use Rattle.simulator.specs.PlayRows.{each_below, tick_rows}
-use Rattle.simulator.specs.{RowLaws.texts_more, PlayedTracks.played, PlayedTracks.StaysOn}
+use Rattle.simulator.specs.PlayRows.{tick_rows}
+use Rattle.simulator.specs.{RowLaws.texts_more, PlayedTracks.played}
 use Rattle.simulator.proofs.QuietRows.{no_rows, no_more_texts}
 use Rattle.simulator.proofs.TrackRows.{all_ticks, shown_stays}
 use Rattle.simulator.proofs.play.push_run.Goals as goal

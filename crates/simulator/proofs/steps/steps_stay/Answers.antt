@@ -1,4 +1,4 @@
-use Rattle.std.proofs.Common.{◌≡◌, ◌≢◌, ◌≤◌, ◌<◌, ◌+◌, Some, refl, arith, length}
+use Rattle.std.proofs.Common.{◌≡◌, ◌≤◌, Some, refl, arith, length}
 use Rattle.std.proofs.lemmas.Option.{slice_get_read}
 use Rattle.std.specs.Prelude.{slice_get}
 use Rattle.simulator.proofs.SearchLaws.{all_ascend, next_comes}

@@ -1,10 +1,10 @@
-use Rattle.std.proofs.Common.{◌≡◌, ◌≢◌, ℕ, ◌<◌, ◌≤◌, ◌+◌, ◌-◌, ◌/◌, List, Some, refl, sym, ◌∙◌}
+use Rattle.std.proofs.Common.{◌≡◌, ◌≢◌, ℕ, ◌≤◌, ◌-◌, List, Some, refl}
 use Rattle.std.proofs.Common.{arith, length, get_or}
 use Rattle.std.proofs.lemmas.Option.{slice_get_read}
 use Rattle.std.specs.Prelude.{slice_get}
 use Rattle.timing_box.specs.{declared.step.Step.Step, Timing.number_at}
 use Rattle.simulator.specs.Steps.{IsParted}
-use Rattle.simulator.proofs.SearchLaws.{AreAscending, Halves, all_ascend, halves_up, halves_down}
+use Rattle.simulator.proofs.SearchLaws.{AreAscending, all_ascend}
 use Rattle.simulator.proofs.SearchLaws.{value_none, value_last, value_other}
 use Rattle.simulator.proofs.steps.value_at.Goals as goal
 

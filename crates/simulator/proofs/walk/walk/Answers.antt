@@ -31,36 +31,41 @@ loop-i-preserved g c =
     let column = c.loop-i.column.items in
     let gates = c.args.net.now.gates in
     let cells = c.loop-i.cells.items in
-    let x = c.take_tick-taken.result.value in
-    let n = c.take_tick-taken.result.stays in
+    let x = c.answer-value.result in
+    let n = c.gate_stays-stays.result in
     let rails = g.V.Signal.rails in
-    let pushed : c.push_within.new.list.items ≡ column ++ x ∷ [] = c.push_within.ensures.items in
+    let pushed : c.push_reserved.new.self.items ≡ column ++ x ∷ [] = c.push_reserved.ensures.items in
     let old_room : length gates ≤ vec_capacity c.loop-i.column = c.loop-i.invariant.room in
-    let more_room : vec_capacity c.loop-i.column ≤ vec_capacity c.push_within.new.list =
-    c.push_within.ensures.room in
-    let inside : i < length gates = slice_get_within gates i c.gate.result.now c.gate.ensures.is in
+    let same_room : vec_capacity c.push_reserved.new.self ≡ vec_capacity c.loop-i.column =
+    c.push_reserved.ensures.capacity in
+    let here = c.gate-gate.result.now in
+    let gate_is = c.gate-gate.ensures.is in
+    let inside : i < length gates = slice_get_within gates i here gate_is in
     let old : slice_get cells i ≡ Some c.index_mut.result.now =
     slice_get_read cells (length gates) i c.index_mut.result.now
     (sym c.loop-i.invariant.cells.count) inside c.index_mut.ensures.value in
-    let less : n ≤ c.loop-i.stays = c.take_tick-taken.ensures.limited in
+    let read : slice_get cells i ≡ Some c.index.result.now =
+    slice_get_read cells (length gates) i c.index.result.now
+    (sym c.loop-i.invariant.cells.count) inside c.index.ensures in
+    let less : n ≤ c.loop-i.stays = c.gate_stays-stays.ensures.limited in
     let limit : c.loop-i.stays ≤ c.args.limit = c.loop-i.invariant.limited in
     record {
       room = omega arith;
       count = ap length pushed ∙ length-append column (x ∷ [])
           ∙ ap (λ (n : ℕ). n + 1) c.loop-i.invariant.count;
-      cells = have_more gates cells i c.gate.result.now c.take_tick-taken.new.cell c.gate.ensures.is
-          c.loop-i.invariant.cells c.take_tick-taken.ensures.shape;
+      cells = have_more gates cells i here c.answer-value.new.cell gate_is
+          c.loop-i.invariant.cells c.answer-value.ensures.shape;
       walked = λ lane w keys u inside world ready.
           let before = c.loop-i.invariant.walked lane w keys u inside world ready in
-          let agree : ValuesAgree rails lane u t c.as_slice.result.now =
-          subst (ValuesAgree rails lane u t) (sym c.as_slice.ensures.value) before.0 in
+          let agree : ValuesAgree rails lane u t c.as_slice-in-loop-i.result.now =
+          subst (ValuesAgree rails lane u t) (sym c.as_slice-in-loop-i.ensures.value) before.0 in
           let more = walked_more g.V.Timed.stands_for g.V.Signal.ends rails lane w keys u t gates
-          i (i + 1) c.gate.result.now c.index_mut.result.now c.take_tick-taken.new.cell x column
-          cells refl c.gate.ensures.is old c.loop-i.invariant.count ready.told before
-          (λ h. c.take_tick-taken.ensures.stands lane w u inside agree h)
-          (λ h. c.take_tick-taken.ensures.answers lane w keys u inside world ready.sent agree h) in
+          i (i + 1) here c.index_mut.result.now c.answer-value.new.cell x column
+          cells refl gate_is old c.loop-i.invariant.count ready.told before
+          (λ h. c.answer-value.ensures.stands lane w u inside agree h)
+          (λ h. c.answer-value.ensures.answers lane w keys u inside world ready.sent agree h) in
           (subst (ValuesAgree rails lane u t) (sym pushed) more.0, more.1);
-      some = c.take_tick-taken.ensures.some;
+      some = c.gate_stays-stays.ensures.some;
       limited = omega arith;
       timers = λ w keys u ready lane j gate inside below at.
           below_more
@@ -68,14 +73,14 @@ loop-i-preserved g c =
           (λ k low h ha. timer_fewer (w lane) (u lane) t n c.loop-i.stays h less
           (c.loop-i.invariant.timers w keys u ready lane k h inside low ha))
           (λ h ha. subst (λ k. TimerKeeps (w lane) (u lane) t n k)
-          (one_value gates i i c.gate.result.now h refl c.gate.ensures.is ha)
-          (c.take_tick-taken.ensures.keeps w u
+          (one_value gates i i here h refl gate_is ha)
+          (c.gate_stays-stays.ensures.keeps w u t
           (λ l il. subst (ValuesAgree rails l (u l) t) (sym c.as_slice.ensures.value)
           (let p = ready l il in
           c.loop-i.invariant.walked l (w l) (keys l) (u l) il p.0 p.1).0)
           (λ l il. (let p = ready l il in
-          c.loop-i.invariant.walked l (w l) (keys l) (u l) il p.0 p.1).1.left i c.gate.result.now
-          c.index_mut.result.now (omega arith) c.gate.ensures.is old)
+          c.loop-i.invariant.walked l (w l) (keys l) (u l) il p.0 p.1).1.left i here
+          c.index.result.now (omega arith) gate_is read)
           lane inside))
           j below gate at;
     }

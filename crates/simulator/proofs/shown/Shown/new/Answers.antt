@@ -1,7 +1,6 @@
-use Rattle.std.proofs.Common.{◌≡◌, ◌≤◌, ◌++◌, length, drop, sym, ap, arith, subst}
+use Rattle.std.proofs.Common.{◌≡◌, ◌++◌, length, drop, sym, ap, arith, subst}
 use Rattle.std.proofs.lemmas.List.Sorted.{length_permutation}
 use Rattle.std.specs.List.Sorted.{IsPermutation}
-use Rattle.std.specs.Prelude.{vec_capacity}
 use Rattle.simulator.specs.Shown.{ShowTheSame}
 use Rattle.simulator.proofs.ShownLaws.{same_in_order}
 use Rattle.simulator.proofs.shown.Shown.new.Goals as goal

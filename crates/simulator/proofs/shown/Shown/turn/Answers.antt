@@ -1,6 +1,5 @@
-use Rattle.std.proofs.Common.{◌≡◌, ◌≤◌, ◌<◌, ◌+◌, ◌++◌, ℕ, Some, drop, sym, ◌∙◌, ap, arith, subst}
+use Rattle.std.proofs.Common.{◌≡◌, ◌≤◌, ◌+◌, ◌++◌, Some, drop, sym, arith, subst}
 use Rattle.std.specs.Prelude.{slice_get}
-use Rattle.line_model.specs.declared.script.SeenSpan.{SeenSpan}
 use Rattle.simulator.specs.Shown.{ShowTheSame, ShownSpans, not_over}
 use Rattle.simulator.specs.Quiet.{ScriptKeeps, AllKeep}
 use Rattle.simulator.proofs.InputLaws.{span_fewer}
