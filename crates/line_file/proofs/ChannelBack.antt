@@ -1,11 +1,10 @@
 -- A printed channel is read back.
 use Rattle.std.proofs.Common.{◌≡◌, ◌≢◌, ◌+◌, ◌*◌, ◌<◌, ◌≤◌, ◌==◌, ◌++◌, ℕ, zero, suc}
-use Rattle.std.proofs.Common.{true, false, List, [], ◌∷◌, length, take, drop, get_or, Some, Ok}
+use Rattle.std.proofs.Common.{true, false, List, [], ◌∷◌, length, take, get_or, Some, Ok}
 use Rattle.std.proofs.Common.{refl, sym, ap, subst, ◌∙◌, arith, codes, length-append}
-use Rattle.std.proofs.Math.ListN.{get_or-map}
 use Rattle.std.proofs.Math.Nat.{mul-le-mul_right}
 use Rattle.std.proofs.lemmas.Bool.{ne_eqb}
-use Rattle.std.proofs.lemmas.List.{drop_all, drop_more, get_or_default, take_all, take_more}
+use Rattle.std.proofs.lemmas.List.{get_or-map, get_or_default, take_all, take_more}
 use Rattle.std.proofs.lemmas.Slice.Eq.{bytes_eq-Decides}
 use Rattle.std.specs.Str.{bytes_eq}
 use Rattle.std.specs.List.{list_any}
@@ -20,7 +19,7 @@ use Rattle.line_model.specs.Settings.{time_key, receiver_settings, channel_setti
 use Rattle.line_model.specs.Settings.{settings_of_terminals}
 use Rattle.line_model.specs.FirstPositions.{is_some-position, position_from-first, none_before}
 use Rattle.line_model.specs.FirstPositions.{list_any-take_none}
-use Rattle.line_model.specs.{Channels.is_pair, Channels.from_of, Channels.to_of}
+use Rattle.line_model.specs.{Channels.is_pair}
 use Rattle.line_model.specs.ParamNames.{name_at, key_path}
 use Rattle.line_model.specs.{Intervals.leasts, Intervals.delay_number_of, Laws.LineLaws}
 use Rattle.line_file.specs.LineFiles.{two_pairs, three_pairs, pairs_of, all_joined, whole}
@@ -35,7 +34,8 @@ use Rattle.line_file.proofs.TimesBack.{time_back, value, required_back, receiver
 use Rattle.line_file.proofs.ParamPlaces.{intervals, length-intervals, take_next, times_at_place}
 use Rattle.line_file.proofs.ParamPlaces.{ArePlaced, placed_parts, in_place, placed_from}
 use Rattle.line_file.proofs.TerminalBack.{read_terminals, new_name}
-use Rattle.line_file.proofs.{Binds.ok_of, TerminalCounts.name_at-is, TimeLaws.IsTime}
+use Rattle.line_file.proofs.ChannelEnds.{from_is, to_is}
+use Rattle.line_file.proofs.{ItemSteps.items_back, TimeLaws.IsTime}
 
 -- the settings of the terminals, and those of each channel
 abbrev pub terminal_count : Line → ℕ
@@ -97,7 +97,7 @@ called_back line k lt =
     let d : Terminal = record { name = []; weak = false; guard = false } in
     let t : Terminal = get_or ts k d in
     let is : t ≡ get_or ts k t = get_or_default ts k d t lt in
-    let name : t.name ≡ name_at ts k = name_at-is ts k d lt in
+    let name : t.name ≡ name_at ts k = sym (get_or-map (λ (u : Terminal). u.name) ts k d [] lt) in
     let none = new_name line k t lt is in
     let here : bytes_eq t.name t.name ≡ true = (bytes_eq-Decides t.name t.name).1 refl in
     let zero_first : 0 + k ≡ k = omega arith in
@@ -108,20 +108,6 @@ called_back line k lt =
 module _
     (laws : LineLaws) (unit : ℕ) (line : Line) (some : 0 < unit) (path : List ℕ) (c : ℕ) (h : Channel)
     (lt : c < length line.channels.items) (is : h ≡ get_or line.channels.items c h) where
-  from_is : from_of line.channels.items c ≡ h.from
-  from_is =
-      let d : Channel = record { from = 0; to = 0 } in
-      let f : Channel → ℕ = λ x. x.from in
-      get_or-map f line.channels.items c d
-      ∙ ap f (get_or_default line.channels.items c d h lt) ∙ ap f (sym is)
-
-  to_is : to_of line.channels.items c ≡ h.to
-  to_is =
-      let d : Channel = record { from = 0; to = 0 } in
-      let f : Channel → ℕ = λ x. x.to in
-      get_or-map f line.channels.items c d
-      ∙ ap f (get_or_default line.channels.items c d h lt) ∙ ap f (sym is)
-
   pub ends_back :
       (ms : Members)
       → get_member (codes "from") ms ≡ Some (string (name_at line.terminals.items h.from))
@@ -129,12 +115,14 @@ module _
       → ends_at path line.terminals.items (take c line.channels.items) ms ≡ Ok h
   unfolding ends_at from_at to_at text_at
   ends_back ms from_held to_held =
+      let from = from_is line.channels.items c h lt is in
+      let to = to_is line.channels.items c h lt is in
       let from_within : h.from < length line.terminals.items =
-      rw from_is at (line.pairs_once.from c lt) in
-      let to_within : h.to < length line.terminals.items = rw to_is at (line.pairs_once.to c lt) in
-      let apart = rw (from_is, to_is) at (line.pairs_once.apart c lt) in
+      rw from at (line.pairs_once.from c lt) in
+      let to_within : h.to < length line.terminals.items = rw to at (line.pairs_once.to c lt) in
+      let apart = rw (from, to) at (line.pairs_once.apart c lt) in
       let other : (h.to == h.from) ≡ false = ne_eqb h.to h.from (λ e. apart (sym e)) in
-      let once = rw (from_is, to_is) at (line.pairs_once.once c lt) in
+      let once = rw (from, to) at (line.pairs_once.once c lt) in
       let zero_first : c ≡ 0 + c = omega arith in
       let new : list_any (is_pair h.from h.to) (take c line.channels.items) ≡ false =
       list_any-take_none (is_pair h.from h.to) c line.channels.items
@@ -219,26 +207,15 @@ module _
       ≡ terminal_count line + (c + 1) * each_count line = omega arith in
       rw (held.known, ends, held.delay_is, time, next, besides, ← taken, count)
 
--- all channels are read back, from number c on
+-- all channels are read back
 pub channels_back : LineLaws →
-    (unit : ℕ) (line : Line) (m c : ℕ) → 0 < unit → c + m ≡ length line.channels.items
-    → channels_at unit c (items_of (channels_data unit line c (drop c line.channels.items)))
-    (read_channels line c)
+    (unit : ℕ) (line : Line) → 0 < unit
+    → channels_at unit (items_of (channels_data unit line)) (read_channels line 0)
     ≡ Ok (read_channels line (length line.channels.items))
-unfolding channels_at
-channels_back laws unit line zero c some sum =
-    let cs : List Channel = line.channels.items in
-    let none : drop c cs ≡ [] = drop_all c cs (omega arith) in
-    let last : c ≡ length cs = omega arith in
-    rw none (ap (λ i. ok_of (read_channels line i)) last)
-channels_back laws unit line (suc m) c some sum =
-    let cs : List Channel = line.channels.items in
-    let d : Channel = record { from = 0; to = 0 } in
-    let h : Channel = get_or cs c d in
-    let lt : c < length cs = omega arith in
-    let is : h ≡ get_or cs c h = get_or_default cs c d h lt in
-    rw (drop_more cs c d lt, channel_back laws unit line some (item_path (codes "channel") c) c h lt is)
-    (channels_back laws unit line m (c + 1) some (omega arith))
+channels_back laws unit line some =
+    items_back (channel_at unit) (codes "channel") (channel_members unit line)
+    line.channels.items (read_channels line)
+    (λ c h. channel_back laws unit line some (item_path (codes "channel") c) c h)
 
 -- when all terminals are read
 pub between_back :

@@ -1,13 +1,11 @@
--- Channels, one after another.
+-- What one more channel is.
 use Rattle.std.proofs.Common.{◌≡◌, ◌≢◌, ◌+◌, ◌<◌, ◌==◌, ℕ, false, List, [], ◌∷◌, ◌++◌, Option, Some}
-use Rattle.std.proofs.Common.{None, Ok, drop, length, get_or, refl, codes, sym, ap, subst, ◌∙◌}
+use Rattle.std.proofs.Common.{None, Ok, length, get_or, refl, codes, sym, ap, subst, ◌∙◌}
 use Rattle.std.proofs.Common.{arith, ◌≤◌, length-append}
 use Rattle.std.proofs.lemmas.Bool.{eqb-false}
 use Rattle.std.specs.Str.{bytes_eq}
 use Rattle.std.specs.List.{list_any}
 use Rattle.toml.specs.Data.{Data, Members}
-use Rattle.toml.specs.{View.view, View.items_view, declared.value.Value.Value}
-use Rattle.toml.proofs.Views.{items_view-drop}
 use Rattle.line_model.specs.{declared.line.Terminal.Terminal, Channels.is_pair}
 use Rattle.line_model.specs.{declared.line.Channel.Channel, declared.bounds.Bounds.Bounds}
 use Rattle.line_model.specs.Settings.{time_key, receiver_settings, channel_settings}
@@ -17,21 +15,12 @@ use Rattle.line_model.specs.{Making.least_ends, FirstPositions.position_within}
 use Rattle.line_file.specs.Keys.{all_known, table_in, text_at}
 use Rattle.line_file.specs.ChannelTables.{channel_keys, terminal_called, sender}
 use Rattle.line_file.specs.ChannelTables.{receiver, from_at, to_at, ends_at}
-use Rattle.line_file.specs.ChannelTables.{channel_at, channels_at}
-use Rattle.line_file.specs.{Paths.item_path, Reading.◌>>=◌, Times.time_at, Times.required_times}
+use Rattle.line_file.specs.ChannelTables.{channel_at}
+use Rattle.line_file.specs.{Times.time_at, Times.required_times}
 use Rattle.line_file.specs.Lines.{LineValues}
 use Rattle.line_file.proofs.Binds.{bind_ok, guard_ok, same_ok}
 use Rattle.line_file.proofs.TimeLaws.{IsTime, Grew, grew_one, grew_more, grew_as}
 use Rattle.line_file.proofs.TimeLaws.{any_fewest, time_ok, required_ok}
-
--- the next channel, and then those after it
-pub channels_at-more :
-    (unit i : ℕ) (vs : List Value) (line : LineValues) (d : Value) → i < length vs
-    → channels_at unit i (items_view (drop i vs)) line
-    ≡ (channel_at unit (item_path (codes "channel") i) (view (get_or vs i d)) line
-    >>= λ more. channels_at unit (i + 1) (items_view (drop (i + 1) vs)) more)
-unfolding channels_at
-channels_at-more unit i vs line d h = rw (items_view-drop vs i d h)
 
 -- two terminals of the line, and no channel between them before
 pub record AreNewEnds (ts : List Terminal) (before : List Channel) (x : Channel) : Type 0 where

@@ -9,8 +9,8 @@ use Rattle.line_model.specs.declared.line.Line.{Line}
 use Rattle.line_model.specs.{declared.line.Terminal.Terminal, declared.line.Channel.Channel}
 use Rattle.line_model.specs.{declared.line.Owner.Owner, declared.line.Setting.Setting}
 use Rattle.line_file.specs.Canonical.{put_member, put_all, table_of, setting_pair, times_data}
-use Rattle.line_file.specs.Canonical.{terminal_members, terminals_data, channel_members}
-use Rattle.line_file.specs.Canonical.{channels_data, head_pairs, table_pairs, canonical_in}
+use Rattle.line_file.specs.Canonical.{terminal_members, channel_members}
+use Rattle.line_file.specs.Canonical.{tables_from, head_pairs, table_pairs, canonical_in}
 use Rattle.line_file.proofs.PairLaws.{Each, all_put, terminal_put, channel_put}
 
 abbrev pub IsDated : Data → Type 0
@@ -60,19 +60,11 @@ channel_dated :
 channel_dated unit line c h =
     channel_put IsDated AreDated put_dated unit line (times_dated unit line) c h refl
 
-terminals_dated :
-    (unit : ℕ) (line : Line) (k : ℕ) (ts : List Terminal)
-    → items_have_valid_dates (items_of (terminals_data unit line k ts)) ≡ true
-terminals_dated unit line k [] = refl
-terminals_dated unit line k (t ∷ ts) =
-    rw (terminal_dated unit line k t) (terminals_dated unit line (k + 1) ts)
-
-channels_dated :
-    (unit : ℕ) (line : Line) (c : ℕ) (hs : List Channel)
-    → items_have_valid_dates (items_of (channels_data unit line c hs)) ≡ true
-channels_dated unit line c [] = refl
-channels_dated unit line c (h ∷ hs) =
-    rw (channel_dated unit line c h) (channels_dated unit line (c + 1) hs)
+tables_dated :
+    {X : Type 0} (members : ℕ → X → Members) → ((k : ℕ) (x : X) → AreDated (members k x))
+    → (k : ℕ) (xs : List X) → items_have_valid_dates (items_of (tables_from members k xs)) ≡ true
+tables_dated members each k [] = refl
+tables_dated members each k (x ∷ xs) = rw (each k x) (tables_dated members each (k + 1) xs)
 
 -- so `toml` prints it, unless memory runs out
 pub canonical_dated :
@@ -81,7 +73,7 @@ pub canonical_dated :
 unfolding canonical_in
 canonical_dated version unit line =
     all_dated (table_pairs unit line) (table_of (head_pairs version line)) (
-      terminals_dated unit line 0 line.terminals.items,
-      (channels_dated unit line 0 line.channels.items, tt),
+      tables_dated (terminal_members unit line) (terminal_dated unit line) 0 line.terminals.items,
+      (tables_dated (channel_members unit line) (channel_dated unit line) 0 line.channels.items, tt),
     )
     refl

@@ -8,8 +8,8 @@ use Rattle.line_model.specs.declared.line.Line.{Line}
 use Rattle.line_model.specs.{declared.line.Terminal.Terminal, declared.line.Channel.Channel}
 use Rattle.line_model.specs.{declared.line.Owner.Owner, declared.line.Setting.Setting}
 use Rattle.line_file.specs.Canonical.{put_member, put_all, table_of, setting_pair, times_data}
-use Rattle.line_file.specs.Canonical.{terminal_members, terminals_data, channel_members}
-use Rattle.line_file.specs.Canonical.{channels_data, head_pairs, table_pairs, canonical_in}
+use Rattle.line_file.specs.Canonical.{terminal_members, channel_members}
+use Rattle.line_file.specs.Canonical.{tables_from, head_pairs, table_pairs, canonical_in}
 use Rattle.line_file.proofs.PairLaws.{Each, all_put, terminal_put, channel_put}
 
 -- a value, or the members of a table, nest at most so deep
@@ -66,19 +66,12 @@ channel_depth unit line c h =
     channel_put (IsShallow 2) (AreShallow 2) (put_depth 2) unit line (times_depth unit line) c h
     (omega arith)
 
-terminals_depth :
-    (unit : ℕ) (line : Line) (k : ℕ) (ts : List Terminal)
-    → items_depth (items_of (terminals_data unit line k ts)) ≤ 3
-terminals_depth unit line k [] = omega arith
-terminals_depth unit line k (t ∷ ts) =
-    omega (arith, terminal_depth unit line k t, terminals_depth unit line (k + 1) ts)
-
-channels_depth :
-    (unit : ℕ) (line : Line) (c : ℕ) (hs : List Channel)
-    → items_depth (items_of (channels_data unit line c hs)) ≤ 3
-channels_depth unit line c [] = omega arith
-channels_depth unit line c (h ∷ hs) =
-    omega (arith, channel_depth unit line c h, channels_depth unit line (c + 1) hs)
+tables_depth :
+    {X : Type 0} (members : ℕ → X → Members) → ((k : ℕ) (x : X) → AreShallow 2 (members k x))
+    → (k : ℕ) (xs : List X) → items_depth (items_of (tables_from members k xs)) ≤ 3
+tables_depth members each k [] = omega arith
+tables_depth members each k (x ∷ xs) =
+    omega (arith, each k x, tables_depth members each (k + 1) xs)
 
 -- far less deep than `toml` reads
 pub canonical_depth :
@@ -87,7 +80,7 @@ unfolding canonical_in
 canonical_depth version unit line =
     let base : members_depth (table_of (head_pairs version line)) ≤ 4 = omega arith in
     all_depth 4 (table_pairs unit line) (table_of (head_pairs version line)) (
-      omega (arith, terminals_depth unit line 0 line.terminals.items),
-      (omega (arith, channels_depth unit line 0 line.channels.items), tt),
+      omega (arith, tables_depth (terminal_members unit line) (terminal_depth unit line) 0 line.terminals.items),
+      (omega (arith, tables_depth (channel_members unit line) (channel_depth unit line) 0 line.channels.items), tt),
     )
     base

@@ -2,7 +2,7 @@ pub mod Documents
 pub mod Readings
 pub mod TimesSteps
 pub mod TerminalCounts
-pub mod TerminalSteps
+pub mod ItemSteps
 pub mod ChannelPairs
 pub mod Binds
 pub mod ChannelSteps
@@ -18,6 +18,7 @@ pub mod TimesBack
 pub mod TerminalHolds
 pub mod ParamPlaces
 pub mod TerminalBack
+pub mod ChannelEnds
 pub mod ChannelBack
 pub mod LineBack
 pub mod Dates

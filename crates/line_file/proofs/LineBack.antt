@@ -4,13 +4,14 @@ use Rattle.std.proofs.Common.{ap, ◌∙◌, arith, codes, nat_le}
 use Rattle.std.proofs.lemmas.Bool.{le-leb}
 use Rattle.toml.specs.View.{items_of}
 use Rattle.line_model.specs.declared.line.Scheme.TheVariants.{Pott, Putt, Dcb, Dcub, Dtt}
-use Rattle.line_model.specs.declared.line.Terminal.{Terminal}
 use Rattle.line_model.specs.{declared.line.Line.Line, declared.line.Scheme.Scheme, Laws.LineLaws}
 use Rattle.line_file.specs.Keys.{document_of, all_known, number_at, text_at, array_at}
 use Rattle.line_file.specs.Lines.{LineValues, line_values, scheme_named, scheme_of, zone1_trip_of}
 use Rattle.line_file.specs.Lines.{head_of, two_or_three, terminal_items, channel_items}
 use Rattle.line_file.specs.LineFiles.{top_keys, line_in, line_of}
-use Rattle.line_file.specs.Canonical.{terminals_data, channels_data, scheme_text, canonical_in}
+use Rattle.toml.specs.Data.{Members}
+use Rattle.line_file.specs.Canonical.{terminal_members, tables_from, terminals_data}
+use Rattle.line_file.specs.Canonical.{channels_data, scheme_text, canonical_in}
 use Rattle.line_file.specs.Times.{units_per_tick}
 use Rattle.line_file.specs.{TerminalTables.terminals_at, ChannelTables.channels_at}
 use Rattle.line_file.proofs.Binds.{ok_of}
@@ -26,14 +27,13 @@ scheme_back Dcub = refl
 scheme_back Dtt = refl
 
 few_back :
-    (unit : ℕ) (line : Line) (ts : List Terminal) → 2 ≤ length ts → length ts ≤ 3
-    → two_or_three (items_of (terminals_data unit line 0 ts))
-    ≡ Ok (items_of (terminals_data unit line 0 ts))
-few_back unit line [] some few = absurd (omega arith)
-few_back unit line (a ∷ []) some few = absurd (omega arith)
-few_back unit line (a ∷ b ∷ []) some few = refl
-few_back unit line (a ∷ b ∷ c ∷ []) some few = refl
-few_back unit line (a ∷ b ∷ c ∷ d ∷ ts) some few = absurd (omega arith)
+    {X : Type 0} (members : ℕ → X → Members) (xs : List X) → 2 ≤ length xs → length xs ≤ 3
+    → two_or_three (items_of (tables_from members 0 xs)) ≡ Ok (items_of (tables_from members 0 xs))
+few_back members [] some few = absurd (omega arith)
+few_back members (a ∷ []) some few = absurd (omega arith)
+few_back members (a ∷ b ∷ []) some few = refl
+few_back members (a ∷ b ∷ c ∷ []) some few = refl
+few_back members (a ∷ b ∷ c ∷ d ∷ xs) some few = absurd (omega arith)
 
 module _ (laws : LineLaws) (version unit : ℕ) (line : Line) where
   version_back :
@@ -59,14 +59,14 @@ module _ (laws : LineLaws) (version unit : ℕ) (line : Line) where
 
   terminal_items_back :
       terminal_items (canonical_in version unit line)
-      ≡ Ok (items_of (terminals_data unit line 0 line.terminals.items))
+      ≡ Ok (items_of (terminals_data unit line))
   unfolding terminal_items array_at canonical_in
   terminal_items_back =
-      few_back unit line line.terminals.items line.two_or_three.0 line.two_or_three.1
+      few_back (terminal_members unit line) line.terminals.items line.two_or_three.0 line.two_or_three.1
 
   channel_items_back :
       channel_items (canonical_in version unit line)
-      ≡ Ok (items_of (channels_data unit line 0 line.channels.items))
+      ≡ Ok (items_of (channels_data unit line))
   unfolding array_at canonical_in
   channel_items_back = refl
 
@@ -76,15 +76,15 @@ module _ (laws : LineLaws) (version unit : ℕ) (line : Line) where
       → 0 < unit → line_in (canonical_in version unit line) ≡ Ok (line_values line)
   unfolding line_in
   line_back range units some =
-      let terminals : terminals_at unit 0
-      (items_of (terminals_data unit line 0 line.terminals.items)) (read_terminals line 0)
+      let terminals : terminals_at unit
+      (items_of (terminals_data unit line)) (read_terminals line 0)
       ≡ Ok (read_channels line 0) =
-      terminals_back laws unit line (length line.terminals.items) 0 some (omega arith)
+      terminals_back laws unit line some
       ∙ ap (λ (v : LineValues). ok_of v) (between_back line) in
-      let channels : channels_at unit 0
-      (items_of (channels_data unit line 0 line.channels.items)) (read_channels line 0)
+      let channels : channels_at unit
+      (items_of (channels_data unit line)) (read_channels line 0)
       ≡ Ok (line_values line) =
-      channels_back laws unit line (length line.channels.items) 0 some (omega arith)
+      channels_back laws unit line some
       ∙ ap (λ (v : LineValues). ok_of v) (whole_back laws line) in
       rw (
         version_back range,

@@ -12,7 +12,7 @@ use borrow.Author.Count.{below_more}
 use Rattle.std.proofs.lemmas.List.{map-append, length-map}
 use Rattle.std.proofs.lemmas.List.Folds.{list_all-append, list_any_at}
 use Rattle.std.proofs.lemmas.Slice.Eq.{bytes_eq-Decides}
-use Rattle.toml.specs.Data.{Items, no_items, item}
+use Rattle.toml.specs.Data.{Items}
 use Rattle.line_model.specs.declared.line.Scheme.TheVariants.{Pott, Putt, Dcb, Dcub, Dtt}
 use Rattle.line_model.specs.Settings.{OwnedSetting, owned_by, terminal_settings, channel_settings}
 use Rattle.line_model.specs.Settings.{settings_of_terminals}
@@ -25,7 +25,6 @@ use Rattle.line_model.specs.declared.line.Owner.TheVariants as owner
 use Rattle.line_model.specs.Intervals.{leasts, greatests, AreIntervals, delay_number_of}
 use Rattle.line_model.specs.Making.{least_ends, greatest_ends, MakesLine, IsMadeOf}
 use Rattle.line_model.specs.Laws.{SettingsAreCounted}
-use Rattle.line_file.specs.Paths.{item_path}
 use Rattle.line_file.specs.Lines.{LineValues, intervals_of, line_values}
 use Rattle.line_file.specs.TerminalTables.{terminal_at, terminals_at}
 use Rattle.line_file.specs.{ChannelTables.channel_at, ChannelTables.channels_at, LineFiles.whole}
@@ -33,7 +32,7 @@ use Rattle.line_file.proofs.TimeLaws.{AreTimes, AreTimes-append, Grew, grew_coun
 use Rattle.line_file.proofs.TerminalLaws.{IsOneMoreTerminal, terminal_at-ok}
 use Rattle.line_file.proofs.ChannelSteps.{IsOneMoreChannel, channel_at-ok}
 use Rattle.line_file.proofs.ChannelPairs.{channels_more}
-use Rattle.line_file.proofs.{Binds.bind_ok, Binds.same_ok, WholePairs.whole_are}
+use Rattle.line_file.proofs.{ItemSteps.items_kept, WholePairs.whole_are}
 
 -- what is kept while terminals are read
 pub record TerminalsKept (v : LineValues) : Type 0 where
@@ -170,16 +169,12 @@ start_kept v none nothing =
     }
 
 pub terminals_kept :
-    (unit i : ℕ) (ds : Items) (line more : LineValues) → 0 < unit
-    → terminals_at unit i ds line ≡ Ok more → TerminalsKept line → TerminalsKept more
-unfolding terminals_at
-terminals_kept unit i no_items line more some e kept =
-    subst TerminalsKept (same_ok line more e) kept
-terminals_kept unit i (item d ds) line more some e kept =
-    let (mid, mid_is, rest) =
-    bind_ok (terminal_at unit (item_path (codes "terminal") i) d line) _ more e in
-    let one = terminal_at-ok unit (item_path (codes "terminal") i) d line mid some mid_is in
-    terminals_kept unit (i + 1) ds mid more some rest (terminal_kept line mid kept one)
+    (unit : ℕ) (ds : Items) (line more : LineValues) → 0 < unit
+    → terminals_at unit ds line ≡ Ok more → TerminalsKept line → TerminalsKept more
+terminals_kept unit ds line more some =
+    items_kept (terminal_at unit) (codes "terminal") TerminalsKept
+    (λ path d old new is kept. terminal_kept old new kept (terminal_at-ok unit path d old new some is))
+    0 ds line more
 
 delays_more :
     (n k : ℕ) (old new : List Bounds) (m : ℕ) → 1 ≤ k → length old ≡ n + m * k → Grew k old new
@@ -237,15 +232,12 @@ channel_kept line more kept one =
     })
 
 pub channels_kept :
-    (unit i : ℕ) (ds : Items) (line more : LineValues) → 0 < unit
-    → channels_at unit i ds line ≡ Ok more → ChannelsKept line → ChannelsKept more
-unfolding channels_at
-channels_kept unit i no_items line more some e kept = subst ChannelsKept (same_ok line more e) kept
-channels_kept unit i (item d ds) line more some e kept =
-    let (mid, mid_is, rest) =
-    bind_ok (channel_at unit (item_path (codes "channel") i) d line) _ more e in
-    let one = channel_at-ok unit (item_path (codes "channel") i) d line mid some mid_is in
-    channels_kept unit (i + 1) ds mid more some rest (channel_kept line mid kept one)
+    (unit : ℕ) (ds : Items) (line more : LineValues) → 0 < unit
+    → channels_at unit ds line ≡ Ok more → ChannelsKept line → ChannelsKept more
+channels_kept unit ds line more some =
+    items_kept (channel_at unit) (codes "channel") ChannelsKept
+    (λ path d old new is kept. channel_kept old new kept (channel_at-ok unit path d old new some is))
+    0 ds line more
 
 -- when the terminals are read, no channel is
 pub between :

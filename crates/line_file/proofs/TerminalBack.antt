@@ -1,10 +1,9 @@
 -- A printed terminal is read back.
-use Rattle.std.proofs.Common.{◌≡◌, ◌≢◌, ◌+◌, ◌<◌, ◌≤◌, ◌&&◌, ◌||◌, ◌++◌, ℕ, zero, suc, Bool, true}
-use Rattle.std.proofs.Common.{false, not, List, [], ◌∷◌, length, take, drop, get_or, Option}
+use Rattle.std.proofs.Common.{◌≡◌, ◌≢◌, ◌+◌, ◌<◌, ◌≤◌, ◌&&◌, ◌||◌, ◌++◌, ℕ, Bool, true}
+use Rattle.std.proofs.Common.{false, not, List, [], ◌∷◌, length, take, get_or, Option}
 use Rattle.std.proofs.Common.{Ok, refl, sym, ap, subst, ◌∙◌, arith, codes}
-use Rattle.std.proofs.Math.ListN.{get_or-map}
 use Rattle.std.proofs.lemmas.Bool.{false_from_ne_true}
-use Rattle.std.proofs.lemmas.List.{drop_all, drop_more, get_or_default, take_more}
+use Rattle.std.proofs.lemmas.List.{get_or-map, take_more}
 use Rattle.std.proofs.lemmas.Slice.Eq.{bytes_eq-Decides}
 use Rattle.std.specs.Prelude.{is_some}
 use Rattle.std.specs.Str.{bytes_eq}
@@ -21,20 +20,21 @@ use Rattle.line_model.specs.Settings.{undervoltage_settings, groups_with, all_of
 use Rattle.line_model.specs.Settings.{guard_settings, weak_settings, scheme_settings}
 use Rattle.line_model.specs.Settings.{terminal_settings, channel_settings, settings_of_terminals}
 use Rattle.line_model.specs.Terminals.{names_of, has_flags, has_no_flag}
+use Rattle.line_model.specs.FirstPositions.{list_any-take_none}
 use Rattle.line_model.specs.{declared.line.Setting.Setting, Laws.LineLaws}
-use Rattle.line_file.specs.Times.{group_key, optional_times, required_times}
+use Rattle.line_file.specs.Times.{group_key, required_times}
 use Rattle.line_file.specs.TerminalTables.{no_times, name_at, elements_times}
 use Rattle.line_file.specs.TerminalTables.{permissive_times, scheme_times}
 use Rattle.line_file.specs.TerminalTables.{terminal_named, terminal_at, terminals_at}
 use Rattle.line_file.specs.Canonical.{terminal_members, terminals_data}
 use Rattle.line_file.specs.{Paths.item_path, Keys.text_at, Lines.LineValues}
-use Rattle.line_file.proofs.TimesBack.{value, as_many, required_back, optional_back, absent_back}
+use Rattle.line_file.proofs.TimesBack.{value, as_many, required_back, optional_back, flagged_back}
 use Rattle.line_file.proofs.TimesBack.{zone1_whole, zone2_whole, reverse_whole}
 use Rattle.line_file.proofs.TimesBack.{undervoltage_whole, guard_whole, weak_whole, scheme_whole}
 use Rattle.line_file.proofs.TerminalHolds.{members, Holds, holds}
 use Rattle.line_file.proofs.ParamPlaces.{intervals, ArePlaced, placed_parts, in_place, placed_from}
 use Rattle.line_file.proofs.ParamPlaces.{settings_within}
-use Rattle.line_file.proofs.{TerminalLaws.own_settings_count, PlainTexts.passes, Binds.ok_of}
+use Rattle.line_file.proofs.{TerminalLaws.own_settings_count, PlainTexts.passes, ItemSteps.items_back}
 
 abbrev pub before : Line → ℕ → ℕ
 before line k = length (settings_of_terminals line.scheme 0 (take k line.terminals.items))
@@ -52,30 +52,9 @@ read_terminals line k =
       intervals = take (before line k) (intervals line);
     }
 
-any_none :
-    {X : Type 0} (p : X → Bool) (xs : List X) (d : X)
-    → ((i : ℕ) → i < length xs → p (get_or xs i d) ≡ false) → list_any p xs ≡ false
-any_none p [] d all = refl
-any_none p (x ∷ xs) d all =
-    rw (all 0 (omega arith)) (any_none p xs d (λ i lt. all (suc i) (omega arith)))
-
 other_bytes : (x y : List ℕ) → x ≢ y → bytes_eq x y ≡ false
 other_bytes x y ne =
     false_from_ne_true (bytes_eq x y) (λ e. ne ((bytes_eq-Decides x y).0 e))
-
-get_or-take_below :
-    {X : Type 0} (xs : List X) (k i : ℕ) (d : X) → i < k → get_or (take k xs) i d ≡ get_or xs i d
-get_or-take_below [] zero i d lt = absurd (omega arith)
-get_or-take_below [] (suc k) i d lt = refl
-get_or-take_below (x ∷ xs) zero i d lt = absurd (omega arith)
-get_or-take_below (x ∷ xs) (suc k) zero d lt = refl
-get_or-take_below (x ∷ xs) (suc k) (suc i) d lt = get_or-take_below xs k i d (omega arith)
-
-length-take_most : {X : Type 0} (xs : List X) (k : ℕ) → length (take k xs) ≤ k
-length-take_most [] zero = omega arith
-length-take_most [] (suc k) = omega arith
-length-take_most (x ∷ xs) zero = omega arith
-length-take_most (x ∷ xs) (suc k) = omega (arith, length-take_most xs k)
 
 -- no terminal before has the name of terminal k
 pub new_name :
@@ -84,36 +63,27 @@ pub new_name :
     → list_any (λ u. bytes_eq u.name t.name) (take k line.terminals.items) ≡ false
 new_name line k t lt is =
     let ts : List Terminal = line.terminals.items in
-    let d : Terminal = record { name = []; weak = false; guard = false } in
-    let f : Terminal → List ℕ = λ u. u.name in
-    any_none (λ u. bytes_eq u.name t.name) (take k ts) d (λ j jt.
-    let below : j < k = omega (arith, length-take_most ts k) in
-    let here : get_or (take k ts) j d ≡ get_or ts j d = get_or-take_below ts k j d below in
+    let name : Terminal → List ℕ = λ u. u.name in
     let mine : get_or (names_of ts) k [] ≡ t.name =
-    get_or-map f ts k d ∙ ap f (get_or_same ts k d t lt) ∙ ap f (sym is) in
-    let theirs : get_or (names_of ts) j [] ≡ (get_or ts j d).name = get_or-map f ts j d in
-    rw here (other_bytes (get_or ts j d).name t.name
-    (λ e. line.names_once j k below lt (theirs ∙ e ∙ sym mine))))
-  where
-    get_or_same :
-        (xs : List Terminal) (i : ℕ) (a b : Terminal) → i < length xs → get_or xs i a
-        ≡ get_or xs i b
-    get_or_same [] i a b h = absurd (omega arith)
-    get_or_same (x ∷ xs) zero a b h = refl
-    get_or_same (x ∷ xs) (suc i) a b h = get_or_same xs i a b (omega arith)
+    get_or-map name ts k t [] lt ∙ ap name (sym is) in
+    list_any-take_none (λ u. bytes_eq u.name t.name) k ts t
+    (λ j before. other_bytes (get_or ts j t).name t.name
+    (λ same. line.names_once j k before lt
+    (get_or-map name ts j t [] (omega arith) ∙ same ∙ sym mine)))
 
+-- what may stand by the scheme stands where it is found
 flag_back :
-    (b w g : Bool) (o : Option Data) → b || not (w || g) ≡ true → is_some o ≡ w → b && is_some o ≡ w
-flag_back true w g o h e = e
-flag_back false true g o h e = absurd (cc)
-flag_back false false g o h e = refl
+    (b f : Bool) (o : Option Data) → b || not f ≡ true → is_some o ≡ f → b && is_some o ≡ f
+flag_back true f o h e = e
+flag_back false true o h e = absurd (cc)
+flag_back false false o h e = refl
 
-flag_back_too :
-    (b w g : Bool) (o : Option Data) → b || not (w || g) ≡ true → is_some o ≡ g → b && is_some o ≡ g
-flag_back_too true w g o h e = e
-flag_back_too false true g o h e = absurd (cc)
-flag_back_too false false true o h e = absurd (cc)
-flag_back_too false false false o h e = refl
+each_flag :
+    (b w g : Bool) → b || not (w || g) ≡ true → (b || not w ≡ true) × (b || not g ≡ true)
+each_flag true w g h = (refl, refl)
+each_flag false true g h = absurd (cc)
+each_flag false false true h = absurd (cc)
+each_flag false false false h = (refl, refl)
 
 -- each setting of a terminal stands where it is counted
 terminal_in_place :
@@ -159,30 +129,6 @@ module _ (unit : ℕ) (line : Line) (some : 0 < unit) (o : Owner) (path : List �
       (rw is held.undervoltage_is) in
       (rw (z1, z2, rv) uv, one.1)
 
-  guard_back :
-      (g : Bool) (j : ℕ) → ArePlaced line o j (guard_settings g)
-      → j + length (guard_settings g) ≤ length line.params.items
-      → get_member (group_key (guard_settings true)) ms ≡ value unit line o some (guard_settings g)
-      → optional_times [] path (guard_settings true) unit ms (take j (intervals line))
-      ≡ Ok (take (j + length (guard_settings g)) (intervals line))
-  guard_back true j placed fits held =
-      optional_back unit line o some path ms j [] (guard_settings true)
-      (guard_whole unit line o some) placed fits held
-  guard_back false j placed fits held =
-      absent_back unit line o some path ms j (guard_settings true) held
-
-  weak_back :
-      (w : Bool) (j : ℕ) → ArePlaced line o j (weak_settings w)
-      → j + length (weak_settings w) ≤ length line.params.items
-      → get_member (group_key (weak_settings true)) ms ≡ value unit line o some (weak_settings w)
-      → optional_times [] path (weak_settings true) unit ms (take j (intervals line))
-      ≡ Ok (take (j + length (weak_settings w)) (intervals line))
-  weak_back true j placed fits held =
-      optional_back unit line o some path ms j [] (weak_settings true)
-      (weak_whole unit line o some) placed fits held
-  weak_back false j placed fits held =
-      absent_back unit line o some path ms j (weak_settings true) held
-
   permissive_back :
       (s : Scheme) (g w : Bool) (j : ℕ) (name : List ℕ) (rest : List Setting)
       → ArePlaced line o j (guard_settings g ++ (weak_settings w ++ rest))
@@ -195,8 +141,11 @@ module _ (unit : ℕ) (line : Line) (some : 0 < unit) (o : Owner) (path : List �
       let more = placed_parts line o j (guard_settings g) (weak_settings w ++ rest) placed in
       let last = placed_parts line o (j + length (guard_settings g)) (weak_settings w) rest more.1
       in
-      rw (guard_back g j more.0 (omega arith) (rw is held.guard_is))
-      (weak_back w (j + length (guard_settings g)) last.0 fits (rw is held.weak_is))
+      let guard = flagged_back unit line o some path ms j guard_settings
+      (guard_whole unit line o some) refl refl g more.0 (omega arith) (rw is held.guard_is) in
+      let weak = flagged_back unit line o some path ms (j + length (guard_settings g))
+      weak_settings (weak_whole unit line o some) refl refl w last.0 fits (rw is held.weak_is) in
+      rw guard weak
 
   -- what a scheme with no flags has
   own_back :
@@ -291,16 +240,17 @@ terminal_back laws unit line path k t some lt is =
     (omega arith) refl held in
     let besides = scheme_back unit line some o path ms s t.guard t.weak (n + 2 + 2 + 2 + 2) t.name
     flags elements.1 (omega arith) refl held in
+    let flag = each_flag (has_flags s) t.weak t.guard flags in
     let weak_is : has_flags s && is_some (get_member (group_key (weak_settings true)) ms)
     ≡ t.weak =
     rw held.weak_is
-    (flag_back (has_flags s) t.weak t.guard (value unit line o some (weak_settings t.weak)) flags
+    (flag_back (has_flags s) t.weak (value unit line o some (weak_settings t.weak)) flag.0
     (weak_stands unit line o some t.weak)) in
     let guard_is : has_flags s && is_some (get_member (group_key (guard_settings true)) ms)
     ≡ t.guard =
     rw held.guard_is
-    (flag_back_too (has_flags s) t.weak t.guard (value unit line o some (guard_settings t.guard))
-    flags (guard_stands unit line o some t.guard)) in
+    (flag_back (has_flags s) t.guard (value unit line o some (guard_settings t.guard)) flag.1
+    (guard_stands unit line o some t.guard)) in
     let named : terminal_named s ms t.name ≡ t = rw (weak_is, guard_is) in
     let taken : take (k + 1) ts ≡ take k ts ++ t ∷ [] =
     take_more ts k t lt ∙ ap (λ (u : Terminal). take k ts ++ u ∷ []) (sym is) in
@@ -322,27 +272,12 @@ terminal_back laws unit line path k t some lt is =
     flags_at true ts k t lt is all = refl
     flags_at false ts k t lt is all = rw is (passes has_no_flag ts k t lt all)
 
--- all terminals are read back, from number k on
+-- all terminals are read back
 pub terminals_back : LineLaws →
-    (unit : ℕ) (line : Line) (m k : ℕ) → 0 < unit → k + m ≡ length line.terminals.items
-    → terminals_at unit k (items_of (terminals_data unit line k (drop k line.terminals.items)))
-    (read_terminals line k)
+    (unit : ℕ) (line : Line) → 0 < unit
+    → terminals_at unit (items_of (terminals_data unit line)) (read_terminals line 0)
     ≡ Ok (read_terminals line (length line.terminals.items))
-unfolding terminals_at
-terminals_back laws unit line zero k some sum =
-    let ts : List Terminal = line.terminals.items in
-    let none : drop k ts ≡ [] = drop_all k ts (omega arith) in
-    let last : k ≡ length ts = omega arith in
-    rw none (ap (λ i. ok_of (read_terminals line i)) last)
-terminals_back laws unit line (suc m) k some sum =
-    let ts : List Terminal = line.terminals.items in
-    let d : Terminal = record { name = []; weak = false; guard = false } in
-    let t : Terminal = get_or ts k d in
-    let lt : k < length ts = omega arith in
-    let is : t ≡ get_or ts k t = get_or_default ts k d t lt in
-    rw (
-      drop_more ts k d lt,
-      terminal_back laws unit line
-          (item_path (codes "terminal") k) k t some lt is,
-    )
-    (terminals_back laws unit line m (k + 1) some (omega arith))
+terminals_back laws unit line some =
+    items_back (terminal_at unit) (codes "terminal") (terminal_members unit line)
+    line.terminals.items (read_terminals line)
+    (λ k t. terminal_back laws unit line (item_path (codes "terminal") k) k t some)

@@ -1,8 +1,7 @@
--- How many terminals a file has, and their names.
-use Rattle.std.proofs.Common.{◌≡◌, ◌≤◌, ◌<◌, ℕ, zero, suc, List, [], ◌∷◌, length, get_or, Ok, Err}
+-- How many terminals a file has.
+use Rattle.std.proofs.Common.{◌≡◌, ◌≤◌, ◌<◌, List, [], ◌∷◌, length, Ok, Err}
 use Rattle.std.proofs.Common.{codes, refl, arith}
 use Rattle.toml.specs.{View.items_view, declared.value.Value.Value}
-use Rattle.line_model.specs.{declared.line.Terminal.Terminal, ParamNames.name_at}
 use Rattle.line_file.specs.declared.fault.LineFault.TheVariants as fault
 use Rattle.line_file.specs.Lines.{two_or_three}
 
@@ -30,11 +29,3 @@ more_than_three (a ∷ []) many = refl
 more_than_three (a ∷ b ∷ []) many = absurd (omega arith)
 more_than_three (a ∷ b ∷ c ∷ []) many = absurd (omega arith)
 more_than_three (a ∷ b ∷ c ∷ d ∷ vs) many = refl
-
--- the name of a terminal by its place
-pub name_at-is :
-    (ts : List Terminal) (k : ℕ) (d : Terminal) → k < length ts → (get_or ts k d).name
-    ≡ name_at ts k
-name_at-is [] k d h = absurd (omega arith)
-name_at-is (t ∷ ts) zero d h = refl
-name_at-is (t ∷ ts) (suc k) d h = name_at-is ts k d (omega arith)

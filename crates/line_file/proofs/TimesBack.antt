@@ -1,5 +1,5 @@
 -- Printed times are read back.
-use Rattle.std.proofs.Common.{◌≡◌, ◌+◌, ◌-◌, ◌*◌, ◌/◌, ◌<◌, ◌≤◌, ◌∙◌, ℕ, true, List, [], ◌∷◌}
+use Rattle.std.proofs.Common.{◌≡◌, ◌+◌, ◌-◌, ◌*◌, ◌/◌, ◌<◌, ◌≤◌, ◌∙◌, ℕ, Bool, true, false, List, [], ◌∷◌}
 use Rattle.std.proofs.Common.{Ok, Option, Some, None, arith, ap, refl, take, length, map}
 use Rattle.std.proofs.Common.{mul-le-mul_right}
 use Rattle.std.proofs.Math.Nat.{mul-div_left}
@@ -140,10 +140,24 @@ module _ (unit : ℕ) (line : Line) (o : Owner) (some : 0 < unit) where
         rw held (group_back (key_path path (group_key xs)) j xs whole placed fits)
 
     -- where it is absent, nothing is read
-    pub absent_back :
+    absent_back :
         (xs : List Setting) → get_member (group_key xs) ms ≡ None
         → optional_times [] path xs unit ms (take j (intervals line))
         ≡ Ok (take (j + 0) (intervals line))
     unfolding optional_times
     absent_back xs held =
         rw (held, append-nil (take j (intervals line))) (as_many line j (j + 0) (omega arith))
+
+    -- a group that stands where a flag is set is read back
+    pub flagged_back :
+        (settings : Bool → List Setting) → IsWhole (settings true) → settings false ≡ []
+        → value (settings true) ≡ Some (times_data unit line o (settings true))
+        → (flag : Bool) → ArePlaced line o j (settings flag)
+        → j + length (settings flag) ≤ length line.params.items
+        → get_member (group_key (settings true)) ms ≡ value (settings flag)
+        → optional_times [] path (settings true) unit ms (take j (intervals line))
+        ≡ Ok (take (j + length (settings flag)) (intervals line))
+    flagged_back settings whole none some_are true placed fits held =
+        optional_back [] (settings true) whole placed fits (held ∙ some_are)
+    flagged_back settings whole none some_are false placed fits held =
+        rw none (absent_back (settings true) (rw none at held))

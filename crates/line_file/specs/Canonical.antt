@@ -76,12 +76,6 @@ terminal_members unit line k t =
     put_groups unit line (owner.Terminal k) (terminal_groups line.scheme t)
     (table_of ((codes "name", string t.name) ∷ []))
 
--- the terminals, from the one with the number k on
-abbrev pub terminals_data : ℕ → Line → ℕ → List Terminal → List Data
-terminals_data unit line k [] = []
-terminals_data unit line k (t ∷ ts) =
-    table (terminal_members unit line k t) ∷ terminals_data unit line (k + 1) ts
-
 -- the members of channel c
 abbrev pub channel_members : ℕ → Line → ℕ → Channel → Members
 channel_members unit line c h =
@@ -91,11 +85,18 @@ channel_members unit line c h =
     ∷ (codes "to", string (name_at line.terminals.items h.to))
     ∷ setting_pair unit line (owner.Channel c) Delay ∷ []))
 
--- the channels, from the one with the number c on
-abbrev pub channels_data : ℕ → Line → ℕ → List Channel → List Data
-channels_data unit line c [] = []
-channels_data unit line c (h ∷ hs) =
-    table (channel_members unit line c h) ∷ channels_data unit line (c + 1) hs
+-- a table for each of these, the first of which has the number k
+abbrev pub tables_from : {X : Type 0} → (ℕ → X → Members) → ℕ → List X → List Data
+tables_from members k [] = []
+tables_from members k (x ∷ xs) = table (members k x) ∷ tables_from members (k + 1) xs
+
+-- the tables of the terminals
+abbrev pub terminals_data : ℕ → Line → List Data
+terminals_data unit line = tables_from (terminal_members unit line) 0 line.terminals.items
+
+-- the tables of the channels
+abbrev pub channels_data : ℕ → Line → List Data
+channels_data unit line = tables_from (channel_members unit line) 0 line.channels.items
 
 -- a scheme as it is written
 abbrev pub scheme_text : Scheme → List ℕ
@@ -117,8 +118,8 @@ head_pairs version line =
 -- the tables of the terminals and of the channels
 abbrev pub table_pairs : ℕ → Line → List (List ℕ × Data)
 table_pairs unit line =
-    (codes "terminal", array (items_of (terminals_data unit line 0 line.terminals.items)))
-    ∷ (codes "channel", array (items_of (channels_data unit line 0 line.channels.items))) ∷ []
+    (codes "terminal", array (items_of (terminals_data unit line)))
+    ∷ (codes "channel", array (items_of (channels_data unit line))) ∷ []
 
 -- the canonical table of a line, with times in units
 unfoldable pub canonical_in : ℕ → ℕ → Line → Members

@@ -1,9 +1,9 @@
 -- What the table of a channel says.
-use Rattle.std.specs.Prelude.{◌++◌, ◌+◌, ◌==◌, ℕ, List, [], ◌∷◌, Option, None, Some, Result, Ok}
+use Rattle.std.specs.Prelude.{◌++◌, ◌==◌, ℕ, List, [], ◌∷◌, Option, None, Some, Result, Ok}
 use Rattle.std.specs.Prelude.{Err, codes, if◌then◌else◌}
 use Rattle.std.specs.Str.{bytes_eq}
 use Rattle.std.specs.List.{list_any, position_from}
-use Rattle.toml.specs.Data.{Data, Members, Items, no_items, item}
+use Rattle.toml.specs.Data.{Data, Members, Items}
 use Rattle.line_model.specs.Settings.{time_key, receiver_settings}
 use Rattle.line_model.specs.{declared.line.Scheme.Scheme, declared.line.Scheme.TheVariants.Dcub}
 use Rattle.line_model.specs.{declared.line.Terminal.Terminal, declared.line.Channel.Channel}
@@ -11,10 +11,9 @@ use Rattle.line_model.specs.declared.line.Setting.TheVariants.{Delay}
 use Rattle.line_model.specs.{Channels.is_pair, ParamNames.key_path}
 use Rattle.line_file.specs.declared.fault.LineFault.{LineFault}
 use Rattle.line_file.specs.declared.fault.LineFault.TheVariants as fault
-use Rattle.line_file.specs.Paths.{item_path}
 use Rattle.line_file.specs.Keys.{all_known, text_at, table_in}
 use Rattle.line_file.specs.Times.{group_key, time_at, required_times}
-use Rattle.line_file.specs.{Reading.◌>>=◌, Lines.LineValues}
+use Rattle.line_file.specs.{Reading.◌>>=◌, Lines.LineValues, Lines.items_at}
 
 -- the keys of a channel
 abbrev pub channel_keys : Scheme → List (List ℕ)
@@ -71,9 +70,6 @@ channel_at unit path d line = do
       (line.intervals ++ delay ∷ [])
   Ok (record line { channels = line.channels ++ channel ∷ []; intervals = whole })
 
--- the line with these channels, the first of which has the number i
-unfoldable pub channels_at : ℕ → ℕ → Items → LineValues → Result LineValues LineFault
-channels_at unit i no_items line = Ok line
-channels_at unit i (item d ds) line = do
-  more ← channel_at unit (item_path (codes "channel") i) d line
-  channels_at unit (i + 1) ds more
+-- the line with these channels
+abbrev pub channels_at : ℕ → Items → LineValues → Result LineValues LineFault
+channels_at unit ds line = items_at (channel_at unit) (codes "channel") 0 ds line

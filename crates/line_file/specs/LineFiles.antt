@@ -53,8 +53,8 @@ line_in ms = do
   head ← head_of ms
   terminals ← terminal_items ms
   channels ← channel_items ms
-  with_terminals ← terminals_at (units_per_tick version head.tick_us) 0 terminals head
-  with_channels ← channels_at (units_per_tick version head.tick_us) 0 channels with_terminals
+  with_terminals ← terminals_at (units_per_tick version head.tick_us) terminals head
+  with_channels ← channels_at (units_per_tick version head.tick_us) channels with_terminals
   _ ← whole with_channels.terminals with_channels.channels
   Ok with_channels
 

@@ -1,15 +1,15 @@
 -- The values of a line, as its file gives them.
-use Rattle.std.specs.Prelude.{ℕ, Bool, List, [], Result, Ok, Err, codes, map, Option, None, Some}
+use Rattle.std.specs.Prelude.{◌+◌, ℕ, Bool, List, [], Result, Ok, Err, codes, map, Option, None, Some}
 use Rattle.std.specs.Prelude.{if◌then◌else◌}
 use Rattle.std.specs.Str.{bytes_eq}
-use Rattle.toml.specs.Data.{Members, Items, no_items, item, get_member}
+use Rattle.toml.specs.Data.{Data, Members, Items, no_items, item, get_member}
 use Rattle.line_model.specs.declared.line.Scheme.TheVariants.{Pott, Putt, Dcb, Dcub, Dtt}
 use Rattle.line_model.specs.{declared.bounds.Bounds.Bounds, declared.line.Line.Line}
 use Rattle.line_model.specs.{declared.line.Scheme.Scheme, declared.line.Param.Param}
 use Rattle.line_model.specs.{declared.line.Terminal.Terminal, declared.line.Channel.Channel}
 use Rattle.line_file.specs.{declared.draft.Draft.Draft, declared.fault.LineFault.LineFault}
 use Rattle.line_file.specs.declared.fault.LineFault.TheVariants as fault
-use Rattle.line_file.specs.Reading.{◌>>=◌}
+use Rattle.line_file.specs.{Paths.item_path, Reading.◌>>=◌}
 use Rattle.line_file.specs.Keys.{number_at, text_at, flag_or_false, array_at}
 
 -- The values of a line, or of the part of it that was read: the intervals are those of its
@@ -22,6 +22,16 @@ pub record LineValues : Type 0 where
   pub terminals : List Terminal
   pub channels : List Channel
   pub intervals : List Bounds
+
+-- The line with what the items of an array say, one after another, each read from its own place;
+-- the first of them has the number i.
+unfoldable pub items_at :
+    (List ℕ → Data → LineValues → Result LineValues LineFault)
+    → List ℕ → ℕ → Items → LineValues → Result LineValues LineFault
+items_at read array i no_items line = Ok line
+items_at read array i (item d ds) line = do
+  more ← read (item_path array i) d line
+  items_at read array (i + 1) ds more
 
 -- what the reader holds of a line
 abbrev pub values_of : Draft → LineValues

@@ -1,9 +1,9 @@
 -- What the table of a terminal says.
-use Rattle.std.specs.Prelude.{◌++◌, ◌&&◌, ◌+◌, ℕ, true, not, List, [], ◌∷◌, Result, Ok, Err, codes}
+use Rattle.std.specs.Prelude.{◌++◌, ◌&&◌, ℕ, true, not, List, [], ◌∷◌, Result, Ok, Err, codes}
 use Rattle.std.specs.Prelude.{is_some, if◌then◌else◌, map}
 use Rattle.std.specs.Str.{bytes_eq}
 use Rattle.std.specs.List.{list_any}
-use Rattle.toml.specs.Data.{Data, Members, Items, no_items, item, get_member}
+use Rattle.toml.specs.Data.{Data, Members, Items, get_member}
 use Rattle.line_model.specs.declared.line.Scheme.TheVariants.{Pott, Putt, Dcb, Dcub, Dtt}
 use Rattle.line_model.specs.Settings.{zone1_settings, zone2_settings, reverse_settings}
 use Rattle.line_model.specs.Settings.{undervoltage_settings, guard_settings, weak_settings}
@@ -13,10 +13,9 @@ use Rattle.line_model.specs.{declared.bounds.Bounds.Bounds, declared.line.Termin
 use Rattle.line_model.specs.{PlainNames.is_plain_name, Terminals.has_flags, ParamNames.key_path}
 use Rattle.line_file.specs.declared.fault.LineFault.{LineFault}
 use Rattle.line_file.specs.declared.fault.LineFault.TheVariants as fault
-use Rattle.line_file.specs.Paths.{item_path}
 use Rattle.line_file.specs.{Reading.◌>>=◌, Keys.all_known, Keys.text_at, Keys.table_in}
 use Rattle.line_file.specs.Times.{group_key, optional_times, required_times}
-use Rattle.line_file.specs.Lines.{LineValues}
+use Rattle.line_file.specs.Lines.{LineValues, items_at}
 
 -- what a terminal may have besides its elements, by the scheme
 abbrev pub groups_besides : Scheme → List (List Setting)
@@ -101,9 +100,6 @@ terminal_at unit path d line = do
     intervals = whole;
   })
 
--- the line with these terminals, the first of which has the number i
-unfoldable pub terminals_at : ℕ → ℕ → Items → LineValues → Result LineValues LineFault
-terminals_at unit i no_items line = Ok line
-terminals_at unit i (item d ds) line = do
-  more ← terminal_at unit (item_path (codes "terminal") i) d line
-  terminals_at unit (i + 1) ds more
+-- the line with these terminals
+abbrev pub terminals_at : ℕ → Items → LineValues → Result LineValues LineFault
+terminals_at unit ds line = items_at (terminal_at unit) (codes "terminal") 0 ds line

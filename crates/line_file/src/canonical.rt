@@ -1,11 +1,13 @@
 //! The canonical table of a line.
 
-ghost use Rattle.std.specs.Prelude.{◌≡◌, ◌<◌, ◌≤◌, true, pos, IfOk, OnOk, map, length};
-ghost use Rattle.toml.specs.{Data.table, Data.string, Data.integer, View.view, View.table_view};
+ghost use Rattle.std.specs.Prelude.{◌≡◌, ◌<◌, ◌≤◌, ℕ, true, pos, Ok, IfOk, OnOk, map, length};
+ghost use Rattle.std.specs.Prelude.{get_or};
+ghost use Rattle.toml.specs.{Data.table, Data.string, Data.integer, Data.Members};
+ghost use Rattle.toml.specs.{View.view, View.table_view, declared.value.Value.Value};
 ghost use Rattle.line_model.specs.{PlainNames.is_plain_name, ParamNames.name_at};
 ghost use Rattle.line_model.specs.declared.line.Owner.TheVariants as owner;
-ghost use Rattle.line_file.specs.Canonical.{put_member, put_all, terminal_members, terminals_data};
-ghost use Rattle.line_file.specs.Canonical.{channel_members, channels_data, scheme_text};
+ghost use Rattle.line_file.specs.Canonical.{put_member, put_all, terminal_members, tables_from};
+ghost use Rattle.line_file.specs.Canonical.{channel_members, scheme_text};
 ghost use Rattle.line_file.specs.Canonical.{head_pairs, canonical_in};
 
 use crate::table::{OwnerTimes, put};
@@ -68,19 +70,6 @@ fn terminal_table(
     Ok(Value::Table(table))
 }
 
-fn terminal_tables(alloc: Global, unit: u32, line: &Line) -> Result<Vec<Value>, Memory>
-    requires { unit ≤ 1000000 }
-    ensures { IfOk result
-        (λ vs. map view vs.items ≡ terminals_data unit line.now 0 line.now.terminals.items) }
-{
-    let mut tables = Vec::new(alloc);
-    for (k, terminal) in line.terminals.iter().enumerate() {
-        let table = terminal_table(alloc, unit, line, k as u32, *terminal)?;
-        tables.push(table)?;
-    }
-    Ok(tables)
-}
-
 // The name of a terminal as a text.
 fn name_of(line: &Line, k: u32) -> &str
     requires { k < length line.now.terminals.items }
@@ -99,8 +88,7 @@ fn channel_table(
 ) -> Result<Value, Memory>
     requires exists { c < length line.now.channels.items }
     requires few { unit ≤ 1000000 }
-    requires from { channel.from < length line.now.terminals.items }
-    requires to { channel.to < length line.now.terminals.items }
+    requires is { channel ≡ get_or line.now.channels.items c channel }
     ensures { IfOk result (λ v. view v ≡ table (channel_members unit line.now c channel)) }
 {
     let times = OwnerTimes {
@@ -122,15 +110,22 @@ fn channel_table(
     Ok(Value::Table(table))
 }
 
-fn channel_tables(alloc: Global, unit: u32, line: &Line) -> Result<Vec<Value>, Memory>
-    requires { unit ≤ 1000000 }
-    ensures { IfOk result
-        (λ vs. map view vs.items ≡ channels_data unit line.now 0 line.now.channels.items) }
+// A table for each of these, by its number and itself.
+fn tables<X, F>(alloc: Global, items: &[X], table_of: F) -> Result<Vec<Value>, Memory>
+where
+    X: Copy,
+    F: Fn(u32, X) -> Result<Value, Memory>,
+    requires few { length items.now ≤ 6 }
+    requires callable { (k : ℕ) (x : X) → k < length items.now → x ≡ get_or items.now k x
+        → F.pre table_of k x }
+    ensures { (members : ℕ → X → Members)
+        → ((k : ℕ) (x : X) (v : Value) → F.post table_of k x (Ok v)
+        → view v ≡ table (members k x))
+        → IfOk result (λ vs. map view vs.items ≡ tables_from members 0 items.now) }
 {
     let mut tables = Vec::new(alloc);
-    for (c, channel) in line.channels.iter().enumerate() {
-        let table = channel_table(alloc, unit, line, c as u32, *channel)?;
-        tables.push(table)?;
+    for (k, item) in items.iter().enumerate() {
+        tables.push(table_of(k as u32, *item)?)?;
     }
     Ok(tables)
 }
@@ -168,9 +163,13 @@ pub fn canonical(alloc: Global, version: u32, unit: u32, line: &Line) -> Result<
 {
     let mut table = Table::new(alloc);
     put_head(alloc, version, line, &mut table)?;
-    let terminals = terminal_tables(alloc, unit, line)?;
+    let terminals = tables(alloc, &line.terminals, |k, terminal| {
+        terminal_table(alloc, unit, line, k, terminal)
+    })?;
     put(alloc, &mut table, "terminal", Value::Array(terminals))?;
-    let channels = channel_tables(alloc, unit, line)?;
+    let channels = tables(alloc, &line.channels, |c, channel| {
+        channel_table(alloc, unit, line, c, channel)
+    })?;
     put(alloc, &mut table, "channel", Value::Array(channels))?;
     Ok(table)
 }

@@ -115,7 +115,7 @@ pub fn channels(unit: u32, values: &[Value], line: &mut Draft) -> Result<(), Lin
     requires terminals { length line.old.terminals.items ≤ 3 }
     requires none { line.old.channels.items ≡ [] }
     ensures values { Becomes result (values_of line.new)
-        (channels_at unit 0 (items_view values.now) (values_of line.old)) }
+        (channels_at unit (items_view values.now) (values_of line.old)) }
     ensures terminals { OnOk result (line.new.terminals.items ≡ line.old.terminals.items) }
 {
     for (i, value) in values.iter().enumerate() {

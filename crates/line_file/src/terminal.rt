@@ -49,10 +49,7 @@ fn new_name(path: Path, before: &[Terminal], text: &str) -> Result<Name, LineFau
     if is_taken(before, text) {
         return Err(LineFault::Twice(path));
     }
-    match Name::from_bytes(text.as_bytes()) {
-        Some(name) => Ok(name),
-        None => unreachable!(),
-    }
+    Ok(Name::plain(text.as_bytes()))
 }
 
 #[tactic(auto, unfolding(crate::specs::TerminalTables::name_at))]
@@ -163,7 +160,7 @@ pub fn terminals(unit: u32, values: &[Value], line: &mut Draft) -> Result<(), Li
     requires few { unit ≤ 1000000 }
     requires three { length values.now ≤ 3 }
     ensures values { Becomes result (values_of line.new)
-        (terminals_at unit 0 (items_view values.now) (values_of line.old)) }
+        (terminals_at unit (items_view values.now) (values_of line.old)) }
     ensures count { OnOk result
         (length line.new.terminals.items
         ≡ length line.old.terminals.items + length values.now) }

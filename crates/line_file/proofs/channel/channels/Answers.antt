@@ -1,17 +1,18 @@
-use Rattle.std.proofs.Common.{◌≡◌, ◌≤◌, ◌+◌, [], ◌∷◌, ◌++◌, length, length-append, ap, sym, ◌∙◌}
+use Rattle.std.proofs.Common.{◌≡◌, ◌≤◌, ◌+◌, [], ◌∷◌, ◌++◌, length, length-append, ap, sym, ◌∙◌, codes}
 use Rattle.std.proofs.Common.{arith}
 use Rattle.std.proofs.lemmas.Result.{err_from_is_err_and}
 use Rattle.std.proofs.lemmas.List.{drop_all}
-use Rattle.line_file.specs.{Lines.LineValues, Lines.values_of, ChannelTables.channels_at}
+use Rattle.line_file.specs.{Lines.LineValues, Lines.values_of, Lines.items_at}
+use Rattle.line_file.specs.ChannelTables.{channel_at}
 use Rattle.line_file.proofs.Readings.{fails_ends}
-use Rattle.line_file.proofs.ChannelSteps.{channels_at-more, channel_at-ok}
+use Rattle.line_file.proofs.{ItemSteps.items_more, ChannelSteps.channel_at-ok}
 use Rattle.line_file.proofs.ChannelPairs.{channels_few, channels_more}
 use Rattle.line_file.proofs.channel.channels.Goals as goal
 
 pub returns-in_err-channel-clause-values : goal.returns-in_err-channel-clause-values
 returns-in_err-channel-clause-values c =
     let p = err_from_is_err_and c.from_residual.result c.from_residual.ensures.1 in
-    let more = channels_at-more c.args.unit c.loop-i.i c.args.values.now (values_of c.loop-i.line)
+    let more = items_more (channel_at c.args.unit) (codes "channel") c.loop-i.i c.args.values.now (values_of c.loop-i.line)
     c.index-values-i.result c.loop-i-test.true in
     let here = rw (← c.index-values-i.is, ← c.item.ensures.place) at more in
     rw (p.1, p.2)
@@ -30,7 +31,7 @@ item-requires-clause-digit c =
 
 pub loop-i-preserved : goal.loop-i-preserved
 loop-i-preserved c =
-    let more = channels_at-more c.args.unit c.loop-i.i c.args.values.now (values_of c.loop-i.line)
+    let more = items_more (channel_at c.args.unit) (codes "channel") c.loop-i.i c.args.values.now (values_of c.loop-i.line)
     c.index-values-i.result c.loop-i-test.true in
     let here =
     rw (← c.index-values-i.is, ← c.item.ensures.place, c.in_ok-channel.ensures) at more in
@@ -56,7 +57,7 @@ loop-i-preserved c =
     }
 
 pub returns-clause-values : goal.returns-clause-values
-unfolding channels_at
+unfolding items_at
 returns-clause-values c =
     let none = drop_all c.loop-i.i c.args.values.now c.loop-i-test.false in
     sym (rw none at c.loop-i.invariant.read)

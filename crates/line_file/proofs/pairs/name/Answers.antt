@@ -1,5 +1,10 @@
-use Rattle.line_file.proofs.TerminalCounts.{name_at-is}
+use Rattle.std.proofs.Common.{List, ℕ, [], sym}
+use Rattle.std.proofs.lemmas.List.{get_or-map}
+use Rattle.line_model.specs.declared.line.Terminal.{Terminal}
 use Rattle.line_file.proofs.pairs.name.Goals as goal
 
 pub returns : goal.returns
-returns c = name_at-is c.args.terminals.now c.args.place c.index-terminals-place.result c.requires
+returns c =
+    let name : Terminal → List ℕ = λ t. t.name in
+    sym (get_or-map name c.args.terminals.now c.args.place c.index-terminals-place.result []
+    c.requires)

@@ -12,10 +12,10 @@ returns-clause-makes c =
     let empty = c.in_ok-line.ensures.empty in
     let some = c.units-unit.ensures.within.0 in
     let head = start_kept (values_of line0) empty.0 empty.2 in
-    let ended = terminals_kept _ 0 _ (values_of line0) (values_of line1) some
+    let ended = terminals_kept _ _ (values_of line0) (values_of line1) some
     c.in_ok-terminals.ensures.values head in
     let none = c.in_ok-terminals.ensures.channels ∙ empty.1 in
-    let whole = channels_kept _ 0 _ (values_of line1) (values_of line2) some
+    let whole = channels_kept _ _ (values_of line1) (values_of line2) some
     c.in_ok-channels.ensures.values (between (values_of line1) ended none) in
     let joined =
     rw (c.deref.ensures.value, c.deref-2.ensures.value) at c.in_ok-all_joined.ensures in

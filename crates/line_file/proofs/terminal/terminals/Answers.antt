@@ -1,15 +1,16 @@
-use Rattle.std.proofs.Common.{◌≡◌, ◌++◌, [], ◌∷◌, length-append, ap, sym, ◌∙◌, arith}
+use Rattle.std.proofs.Common.{◌≡◌, ◌++◌, [], ◌∷◌, length-append, ap, sym, ◌∙◌, arith, codes}
 use Rattle.std.proofs.lemmas.Result.{err_from_is_err_and}
 use Rattle.std.proofs.lemmas.List.{drop_all}
-use Rattle.line_file.specs.{Lines.LineValues, Lines.values_of, TerminalTables.terminals_at}
+use Rattle.line_file.specs.{Lines.LineValues, Lines.values_of, Lines.items_at}
+use Rattle.line_file.specs.TerminalTables.{terminal_at}
 use Rattle.line_file.proofs.Readings.{fails_ends}
-use Rattle.line_file.proofs.{TerminalSteps.terminals_more, TerminalLaws.terminal_at-ok}
+use Rattle.line_file.proofs.{ItemSteps.items_more, TerminalLaws.terminal_at-ok}
 use Rattle.line_file.proofs.terminal.terminals.Goals as goal
 
 pub returns-in_err-terminal-clause-values : goal.returns-in_err-terminal-clause-values
 returns-in_err-terminal-clause-values c =
     let p = err_from_is_err_and c.from_residual.result c.from_residual.ensures.1 in
-    let more = terminals_more c.args.unit c.loop-i.i c.args.values.now (values_of c.loop-i.line)
+    let more = items_more (terminal_at c.args.unit) (codes "terminal") c.loop-i.i c.args.values.now (values_of c.loop-i.line)
     c.index-values-i.result c.loop-i-test.true in
     let here = rw (← c.index-values-i.is, ← c.item.ensures.place) at more in
     rw (p.1, p.2)
@@ -18,7 +19,7 @@ returns-in_err-terminal-clause-values c =
 
 pub loop-i-preserved : goal.loop-i-preserved
 loop-i-preserved c =
-    let more = terminals_more c.args.unit c.loop-i.i c.args.values.now (values_of c.loop-i.line)
+    let more = items_more (terminal_at c.args.unit) (codes "terminal") c.loop-i.i c.args.values.now (values_of c.loop-i.line)
     c.index-values-i.result c.loop-i-test.true in
     let here =
     rw (← c.index-values-i.is, ← c.item.ensures.place, c.in_ok-terminal.ensures) at more in
@@ -37,7 +38,7 @@ loop-i-preserved c =
     }
 
 pub returns-clause-values : goal.returns-clause-values
-unfolding terminals_at
+unfolding items_at
 returns-clause-values c =
     let none = drop_all c.loop-i.i c.args.values.now c.loop-i-test.false in
     sym (rw none at c.loop-i.invariant.read)

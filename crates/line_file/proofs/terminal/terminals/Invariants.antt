@@ -1,14 +1,15 @@
-use Rattle.std.proofs.Common.{◌≡◌, ◌+◌, drop, length}
+use Rattle.std.proofs.Common.{◌≡◌, ◌+◌, drop, length, codes}
 use Rattle.toml.specs.View.{items_view}
-use Rattle.line_file.specs.{Lines.values_of, TerminalTables.terminals_at}
+use Rattle.line_file.specs.{Lines.values_of, Lines.items_at}
+use Rattle.line_file.specs.TerminalTables.{terminal_at, terminals_at}
 use Rattle.line_file.proofs.terminal.terminals.Given as goal
 
 abbrev pub invariant-loop-i : goal.invariant-loop-i
 invariant-loop-i l =
     record {
       read :
-          terminals_at l.unit l.i (items_view (drop l.i l.values)) (values_of l.line)
-          ≡ terminals_at l.unit 0 (items_view l.values) (values_of l.initial.line);
+          items_at (terminal_at l.unit) (codes "terminal") l.i (items_view (drop l.i l.values)) (values_of l.line)
+          ≡ terminals_at l.unit (items_view l.values) (values_of l.initial.line);
       count : length l.line.terminals.items ≡ length l.initial.line.terminals.items + l.i;
       channels : l.line.channels.items ≡ l.initial.line.channels.items;
     }
