@@ -1,7 +1,7 @@
 -- Tests of every number below a bound, as loops make them one number at a time.
 use Rattle.std.proofs.Common.{◌≡◌, ◌&&◌, ◌||◌, ℕ, zero, suc, ◌+◌, ◌-◌, ◌<◌, ◌≤◌, Bool, true, false}
 use Rattle.std.proofs.Common.{refl, sym, ap, ◌∙◌, ⊎_elim, arith, le-leb}
-use Rattle.std.proofs.lemmas.Bool.{cases_lt}
+use Rattle.std.proofs.lemmas.Bool.{cases_lt, cases_Bool}
 use Rattle.std.specs.Prelude.{nat_le}
 use Rattle.history.specs.Elements.{some_below, every_below, hold, timed, sealed}
 
@@ -22,6 +22,19 @@ some_below-some f (suc n) k h here =
     (λ le. let e : k ≡ n = omega arith in
     ap (λ m. f m || some_below f n) (sym e) ∙ ap (λ b. b || some_below f n) here)
     (cases_lt k n)
+
+-- and where one passes there is one
+pub some_below-where : (f : ℕ → Bool) (n : ℕ) → some_below f n ≡ true
+    → (k : ℕ) × (k < n) × (f k ≡ true)
+some_below-where f zero some = absurd (cc)
+some_below-where f (suc n) some =
+    ⊎_elim
+    (λ here. (n, omega arith, here))
+    (λ other.
+    let (k, below, passes) =
+    some_below-where f n (sym (ap (λ b. b || some_below f n) other) ∙ some) in
+    (k, omega (arith, below), passes))
+    (cases_Bool (f n))
 
 -- one that fails, below a bound
 pub every_below-fails : (f : ℕ → Bool) (n k : ℕ) → k < n → f k ≡ false → every_below f n ≡ false

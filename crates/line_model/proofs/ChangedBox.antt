@@ -3,12 +3,13 @@ use Rattle.std.proofs.Common.{◌≡◌, ◌<◌, ℕ, List, length, get_or, set
 use Rattle.std.proofs.Common.{eq-eqb, cond}
 use Rattle.std.proofs.lemmas.Bool.{cases_eq, ne_eqb}
 use Rattle.std.proofs.lemmas.List.{length-map, get_or-set_same, get_or-set_other}
-use Rattle.std.specs.Prelude.{Bool}
+use Rattle.std.specs.Prelude.{Bool, IsTrue}
 use Rattle.history.specs.Rails.{Ends}
-use Rattle.line_model.specs.Parameters.{param_count, channel_count, delay_param, declared_ends}
+use Rattle.line_model.specs.Parameters.{param_count, channel_count, delay_param, is_delay}
+use Rattle.line_model.specs.Parameters.{declared_ends}
 use Rattle.line_model.specs.Boxes.{ends_with, box_with, declared_with, IsSameBox}
 use Rattle.line_model.specs.{declared.line.Line.Line, Intervals.leasts, Intervals.greatests}
-use Rattle.line_model.specs.{SetBounds.IsDelayAt, Choice.declared_box, WithBounds.IsWithBounds}
+use Rattle.line_model.specs.{Choice.declared_box, WithBounds.IsWithBounds}
 use Rattle.line_model.proofs.{DeclaredLaws.delay_at, SameCounts.delay_same}
 
 -- at the parameter the new interval, elsewhere the old one
@@ -76,11 +77,11 @@ module _ (line other : Line) (param least greatest : ℕ) (here : param < param_
   }
 
   -- a delay's number is another one
-  delay_apart : (IsDelayAt line param → ⊥) → (c : ℕ) → c < channel_count line
+  delay_apart : ¬ (IsTrue (is_delay line param)) → (c : ℕ) → c < channel_count line
       → delay_param line c ≡ param → ⊥
   delay_apart no_delay c lt same = no_delay (delay_at line c param lt same)
 
-  pub number_changed : (IsDelayAt line param → ⊥)
+  pub number_changed : ¬ (IsTrue (is_delay line param))
       → IsSameBox line (declared_box other) (box_with (declared_box line) param new_ends)
   unfolding declared_box
   number_changed no_delay = record {

@@ -1,12 +1,14 @@
 -- The choices inside a line with another interval for one parameter that is no delay.
 use Rattle.std.proofs.Common.{◌<◌, ℕ, refl, sym, subst, inl, inr}
 use Rattle.std.proofs.lemmas.Bool.{cases_eq}
+use Rattle.std.specs.Prelude.{IsTrue}
 use Rattle.history.specs.Rails.{Ends}
 use Rattle.line_model.specs.declared.line.Line.{Line}
-use Rattle.line_model.specs.SetBounds.{SameButParams, IsDelayAt}
+use Rattle.line_model.specs.SetBounds.{SameButParams}
 use Rattle.line_model.specs.Choice.{Choice, Box, IsIn, IsWithin, IsInside, declared_box}
 use Rattle.line_model.specs.WithBounds.{IsWithBounds}
-use Rattle.line_model.specs.{Parameters.param_count, Boxes.box_with, Boxes.IsSameBox}
+use Rattle.line_model.specs.{Parameters.param_count, Parameters.is_delay, Boxes.box_with}
+use Rattle.line_model.specs.Boxes.{IsSameBox}
 use Rattle.line_model.proofs.SameCounts.{channels_same, params_same}
 use Rattle.line_model.proofs.ChangedBox.{ends_with-here, ends_with-elsewhere, number_changed}
 
@@ -57,7 +59,7 @@ same_line_within old new same choice box within = record {
 
 -- a choice inside whose number lies in the new interval is inside the changed line
 pub inside_changed : (line other : Line) (param least greatest : ℕ) → param < param_count line
-    → (IsDelayAt line param → ⊥) → IsWithBounds line param least greatest other
+    → ¬ (IsTrue (is_delay line param)) → IsWithBounds line param least greatest other
     → (choice : Choice) → IsInside line choice
     → IsIn (choice.number param) (record { least = least; greatest = greatest })
     → IsInside other choice

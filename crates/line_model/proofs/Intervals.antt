@@ -1,15 +1,15 @@
 -- The intervals of a line's parameters, where one is replaced.
-use Rattle.std.proofs.Common.{◌≡◌, ℕ, ◌≤◌, ◌<◌, List, Some, length, get_or, set, sym, ap, ◌∙◌}
+use Rattle.std.proofs.Common.{◌≡◌, ℕ, ◌≤◌, ◌<◌, List, length, get_or, set, ap, ◌∙◌}
 use Rattle.std.proofs.Common.{arith, inl, inr}
 use Rattle.std.proofs.Math.Seq.{map-set_same}
 use Rattle.std.proofs.lemmas.Bool.{cases_eq}
 use Rattle.std.proofs.lemmas.List.{length-map, length-set, map-set, get_or-set_same}
 use Rattle.std.proofs.lemmas.List.{get_or-set_other}
-use Rattle.std.specs.Prelude.{unwrap_or}
+use Rattle.std.specs.Prelude.{IsTrue}
 use Rattle.line_model.specs.declared.line.Line.{Line}
 use Rattle.line_model.specs.Intervals.{leasts, greatests, AreIntervals, LeastDelaysFromOne}
-use Rattle.line_model.specs.{declared.line.Param.Param, SetBounds.IsDelayAt, SetBounds.WithBounds}
-use Rattle.line_model.proofs.Numbers.{delay_number}
+use Rattle.line_model.specs.{declared.line.Param.Param, SetBounds.WithBounds, Parameters.is_delay}
+use Rattle.line_model.proofs.DeclaredLaws.{delay_at}
 
 -- an interval is replaced by one with its ends in order
 pub intervals_set :
@@ -69,17 +69,12 @@ param_intervals_set ps i p lt all ordered within =
 
 pub delays_set :
     (line : Line) (i : ℕ) (p : Param) → i < length line.params.items →
-    (IsDelayAt line i → 1 ≤ p.least) →
+    (IsTrue (is_delay line i) → 1 ≤ p.least) →
     LeastDelaysFromOne line.scheme line.terminals.items line.channels.items
     (leasts (set line.params.items i p))
 delays_set line i p lt from_one c has =
     let ps : List Param = line.params.items in
     let n : length (leasts ps) ≡ length ps = simp length-map in
-    let at = delay_number line c has in
     rw (map-set (λ q. q.least) ps i p)
     (from_one_set (leasts ps) i p.least _ (omega arith) (line.delays_from_one c has)
-    (λ same. from_one (record {
-      channel = c;
-      exists = has;
-      number = at.1 ∙ ap Some (sym (ap (λ o. unwrap_or o 0) at.1) ∙ same);
-    })))
+    (λ same. from_one (delay_at line c i has same)))

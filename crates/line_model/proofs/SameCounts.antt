@@ -1,8 +1,9 @@
 -- Lines that agree in all but their intervals have the same counts, and the same scripts fit them.
 use Rattle.std.proofs.Common.{◌≡◌, ℕ, List, sym, ◌∙◌, ap, subst, length}
 use Rattle.std.proofs.Math.Path.{fun_ext}
-use Rattle.std.specs.Prelude.{◌&&◌, Bool, IsTrue, nat_le, nat_lt, unwrap_or}
+use Rattle.std.specs.Prelude.{◌&&◌, ◌==◌, Bool, IsTrue, nat_le, nat_lt, unwrap_or}
 use Rattle.std.specs.List.{list_all}
+use Rattle.history.specs.Elements.{some_below}
 use Rattle.line_model.specs.declared.line.Line.{Line}
 use Rattle.line_model.specs.{declared.line.Terminal.Terminal, declared.line.Channel.Channel}
 use Rattle.line_model.specs.declared.line.Owner.TheVariants as owner
@@ -10,6 +11,7 @@ use Rattle.line_model.specs.{declared.line.Setting.TheVariants.Delay, declared.s
 use Rattle.line_model.specs.{declared.script.SeenSpan.SeenSpan, declared.script.What.What}
 use Rattle.line_model.specs.declared.script.What.TheVariants as what
 use Rattle.line_model.specs.Parameters.{terminal_count, channel_count, param_count, delay_param}
+use Rattle.line_model.specs.Parameters.{is_delay}
 use Rattle.line_model.specs.Settings.{line_settings, setting_number}
 use Rattle.line_model.specs.SetBounds.{SameButParams}
 use Rattle.line_model.specs.Fits.{exists_in, span_fits, deadline_fits, Fits}
@@ -32,6 +34,13 @@ module _ (old new : Line) (same : SameButParams old new) where
   delay_same c =
       along old new same
       (λ s ts cs. unwrap_or (setting_number (line_settings s ts cs) (owner.Channel c) Delay) 0)
+
+  pub is_delay_same : (i : ℕ) → is_delay new i ≡ is_delay old i
+  unfolding is_delay
+  is_delay_same i =
+      let told : (ℕ → ℕ) → ℕ → Bool = λ at n. some_below (λ c. at c == i) n in
+      ap (λ (at : ℕ → ℕ). told at (channel_count new)) (fun_ext delay_same)
+      ∙ ap (told (delay_param old)) channels_same
 
   span_same : (span : SeenSpan) → span_fits new span ≡ span_fits old span
   span_same span =

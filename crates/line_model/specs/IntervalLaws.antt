@@ -1,19 +1,19 @@
 -- What lines that agree in all but their intervals have in common, and what boxes keep, as laws
 -- that proofs above cite, each under the name of the function that ensures it.
-use Rattle.std.specs.Prelude.{◌≡◌, ◌≤◌, ◌<◌, ◌↔◌, ℕ}
+use Rattle.std.specs.Prelude.{◌≡◌, ◌≤◌, ◌<◌, ◌↔◌, ℕ, IsTrue}
 use Rattle.history.specs.Rails.{Ends}
 use Rattle.line_model.specs.Boxes.{IsSameBox, box_with, declared_with}
 use Rattle.line_model.specs.Choice.{Choice, Box, IsIn, IsInside, IsWithin, IsBoxWithin}
 use Rattle.line_model.specs.Choice.{LeastFromOne, declared_box}
 use Rattle.line_model.specs.Histories.{History, IsLineHistory, Meets, PairHistory, IsPairHistory}
 use Rattle.line_model.specs.Parameters.{terminal_count, channel_count, param_count, delay_param}
-use Rattle.line_model.specs.Parameters.{declared_ends}
+use Rattle.line_model.specs.Parameters.{is_delay, declared_ends}
 use Rattle.line_model.specs.{declared.line.Line.Line, declared.script.Script.Script}
-use Rattle.line_model.specs.{SetBounds.SameButParams, SetBounds.IsDelayAt, WithBounds.IsWithBounds}
+use Rattle.line_model.specs.{SetBounds.SameButParams, WithBounds.IsWithBounds}
 use Rattle.line_model.specs.{Logic.key_tree, Logic.trip_tree, HeldOver.IsHeldOver, Rule.Held}
 use Rattle.line_model.specs.{Rule.rule_of}
 
--- each has as many terminals, channels and parameters, and the same number for each delay
+-- each has as many terminals, channels and parameters, and the same delays under the same numbers
 pub record CountsRestOnNoInterval : Type 0 where
   pub terminals : (line other : Line) → SameButParams line other
       → terminal_count other ≡ terminal_count line
@@ -23,6 +23,8 @@ pub record CountsRestOnNoInterval : Type 0 where
       → param_count other ≡ param_count line
   pub delays : (line other : Line) (c : ℕ) → SameButParams line other
       → delay_param other c ≡ delay_param line c
+  pub told : (line other : Line) (i : ℕ) → SameButParams line other
+      → is_delay other i ≡ is_delay line i
 
 -- each terminal keys and trips on the same trees
 pub record TreesRestOnNoInterval : Type 0 where
@@ -57,11 +59,11 @@ pub record AChangedIntervalChangesTheBox : Type 0 where
       → IsSameBox line (declared_box other)
       (declared_with line param (record { least = least; greatest = greatest }))
   pub number : (line other : Line) (param least greatest : ℕ) → param < param_count line
-      → ¬ (IsDelayAt line param) → IsWithBounds line param least greatest other
+      → ¬ (IsTrue (is_delay line param)) → IsWithBounds line param least greatest other
       → IsSameBox line (declared_box other)
       (box_with (declared_box line) param (record { least = least; greatest = greatest }))
   pub choices : (line other : Line) (param least greatest : ℕ) (choice : Choice)
-      → param < param_count line → ¬ (IsDelayAt line param)
+      → param < param_count line → ¬ (IsTrue (is_delay line param))
       → IsWithBounds line param least greatest other → IsInside line choice
       → IsIn (choice.number param) (record { least = least; greatest = greatest })
       → IsInside other choice

@@ -1,14 +1,14 @@
 -- The laws of lines and histories, each under the name of the function that ensures it, so that the
 -- proofs above can take them as arguments.
 use Rattle.std.specs.Prelude.{◌≡◌, ◌+◌, ◌*◌, ◌≤◌, ◌<◌, ◌↔◌, ℕ, Decides, List, Some, length, take}
-use Rattle.std.specs.Prelude.{get_or, option_map}
+use Rattle.std.specs.Prelude.{IsTrue, get_or, option_map}
 use Rattle.history.specs.Rails.{Rails, Covers}
 use Rattle.line_model.specs.declared.line.Line.{Line}
 use Rattle.line_model.specs.{declared.line.Scheme.Scheme, declared.line.Terminal.Terminal}
 use Rattle.line_model.specs.{declared.line.Channel.Channel, declared.line.Owner.Owner}
 use Rattle.line_model.specs.declared.line.Owner.TheVariants as owner
 use Rattle.line_model.specs.Parameters.{terminal_count, channel_count, param_count, param_number}
-use Rattle.line_model.specs.Parameters.{delay_param}
+use Rattle.line_model.specs.Parameters.{delay_param, is_delay, declared_ends}
 use Rattle.line_model.specs.PairMean.{PairSignals, pair_mean}
 use Rattle.line_model.specs.Choice.{Choice, Box, IsWithin, IsBoxWithin, IsInside, DelaysFromOne}
 use Rattle.line_model.specs.Choice.{LeastFromOne, point_box, declared_box, steady_choice, world_of}
@@ -61,6 +61,15 @@ pub record SettingsAreCounted : Type 0 where
   pub delays : (s : Scheme) (ts : List Terminal) (cs : List Channel) (c n k : ℕ) → c < length cs
       → n ≡ length (settings_of_terminals s 0 ts) → k ≡ length (channel_settings s)
       → n + c * k ≡ delay_number_of s ts cs c
+
+-- each channel's delay is a delay, and each delay is one of the line's parameters and is declared
+-- from 1 on
+pub record DelaysAreParameters : Type 0 where
+  pub told : (line : Line) (c : ℕ) → c < channel_count line
+      → IsTrue (is_delay line (delay_param line c))
+  pub exists : (line : Line) (i : ℕ) → IsTrue (is_delay line i) → i < param_count line
+  pub from_one : (line : Line) (i : ℕ) → IsTrue (is_delay line i)
+      → 1 ≤ (declared_ends line i).least
 
 -- the logic of each line names only terminals, channels and parameters of the line
 pub record TreesNameTheLine : Type 0 where
@@ -225,6 +234,7 @@ pub record TheRuleSpeaksForEveryChoice : Type 0 where
 pub record LineLaws : Type 0 where
   pub parameters : ParametersAreNumbered
   pub settings : SettingsAreCounted
+  pub delays : DelaysAreParameters
   pub trees : TreesNameTheLine
   pub local_trees : TreesAreLocal
   pub values : ValuesRestOnEarlierKeys

@@ -1,6 +1,6 @@
 -- A line's parameters by number: where a setting stands, what is declared for it.
-use Rattle.std.specs.Prelude.{◌<◌, ℕ, Option, length, map, get_or, unwrap_or}
-use Rattle.history.specs.Rails.{Ends}
+use Rattle.std.specs.Prelude.{◌<◌, ◌==◌, ℕ, Bool, Option, length, map, get_or, unwrap_or}
+use Rattle.history.specs.{Elements.some_below, Rails.Ends}
 use Rattle.line_model.specs.{declared.line.Line.Line, declared.line.Owner.Owner}
 use Rattle.line_model.specs.declared.line.Owner.TheVariants as owner
 use Rattle.line_model.specs.Settings.{line_settings, setting_number}
@@ -29,6 +29,10 @@ param_number line o x =
 -- the number of a channel's delay
 abbrev pub delay_param : Line → ℕ → ℕ
 delay_param line c = unwrap_or (param_number line (owner.Channel c) Delay) 0
+
+-- parameter i is the delay of some channel
+unfoldable pub is_delay : Line → ℕ → Bool
+is_delay line i = some_below (λ c. delay_param line c == i) (channel_count line)
 
 -- the declared interval of a parameter
 abbrev pub declared_ends : Line → ℕ → Ends

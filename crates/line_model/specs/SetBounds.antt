@@ -1,15 +1,7 @@
 -- A line with another interval for one parameter.
-use Rattle.std.specs.Prelude.{◌≡◌, ◌<◌, ℕ, List, Some, length, map, slice_set}
+use Rattle.std.specs.Prelude.{◌≡◌, ℕ, List, map, slice_set}
 use Rattle.line_model.specs.{declared.line.Line.Line, declared.line.Param.Param}
-use Rattle.line_model.specs.declared.line.Owner.TheVariants as owner
-use Rattle.line_model.specs.declared.line.Setting.TheVariants.{Delay}
-use Rattle.line_model.specs.{Intervals.leasts, Intervals.greatests, Parameters.param_number}
-
--- parameter i is the delay of a channel
-pub record IsDelayAt (line : Line) (i : ℕ) : Type 0 where
-  pub channel : ℕ
-  pub exists : channel < length line.channels.items
-  pub number : param_number line (owner.Channel channel) Delay ≡ Some i
+use Rattle.line_model.specs.Intervals.{leasts, greatests}
 
 -- the interval of parameter i is replaced
 pub record WithBounds (old new : List Param) (i least greatest : ℕ) : Type 0 where

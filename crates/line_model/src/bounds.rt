@@ -4,7 +4,8 @@ ghost use Rattle.std.specs.Prelude.{◌≡◌, ◌≤◌, ◌<◌, ◌↔◌, le
 ghost use Rattle.line_model.specs.Settings.{line_settings};
 ghost use Rattle.line_model.specs.Intervals.{IsInterval, AreIntervals, LeastDelaysFromOne};
 ghost use Rattle.line_model.specs.Making.{AreBounds, least_ends, greatest_ends};
-ghost use Rattle.line_model.specs.SetBounds.{IsDelayAt, WithBounds, SameButParams};
+ghost use Rattle.line_model.specs.SetBounds.{WithBounds, SameButParams};
+ghost use Rattle.line_model.specs.Parameters.{is_delay};
 
 use crate::line::{Channel, Line, Param, Scheme, Terminal};
 use crate::setting_places::{delay_index, param_count};
@@ -22,7 +23,7 @@ impl Line {
         requires exists { param < length self.old.params.items }
         requires ordered { least ≤ greatest }
         requires within { greatest ≤ 4000 }
-        requires delay { IsDelayAt self.old param → 1 ≤ least }
+        requires delay { IsTrue (is_delay self.old param) → 1 ≤ least }
         ensures params { WithBounds self.old.params.items self.new.params.items
             param least greatest }
         ensures rest { SameButParams self.old self.new }

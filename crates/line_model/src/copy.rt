@@ -1,8 +1,8 @@
 //! Copies of a line.
 
-ghost use Rattle.std.specs.Prelude.{◌≤◌, ◌<◌, IfOk};
-ghost use Rattle.line_model.specs.Parameters.{param_count};
-ghost use Rattle.line_model.specs.{SetBounds.IsDelayAt, WithBounds.IsWithBounds, SameLine.SameLine};
+ghost use Rattle.std.specs.Prelude.{◌≤◌, ◌<◌, IfOk, IsTrue};
+ghost use Rattle.line_model.specs.Parameters.{param_count, is_delay};
+ghost use Rattle.line_model.specs.{WithBounds.IsWithBounds, SameLine.SameLine};
 
 use crate::line::Line;
 use memory::Memory;
@@ -38,7 +38,7 @@ impl Line {
         requires exists { param < param_count self.now }
         requires ordered { least ≤ greatest }
         requires within { greatest ≤ 4000 }
-        requires delay { IsDelayAt self.now param → 1 ≤ least }
+        requires delay { IsTrue (is_delay self.now param) → 1 ≤ least }
         ensures { IfOk result (λ other. IsWithBounds self.now param least greatest other) }
     {
         let mut other = self.copy(alloc)?;

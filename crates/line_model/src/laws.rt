@@ -1,6 +1,7 @@
 //! The laws of the definitions: what every choice of delays, every box and every claim keeps.
 
 ghost use Rattle.line_model.specs.Laws.{ParametersAreNumbered, SettingsAreCounted};
+ghost use Rattle.line_model.specs.Laws.{DelaysAreParameters};
 ghost use Rattle.line_model.specs.Laws.{TreesNameTheLine, TreesAreLocal, ValuesRestOnEarlierKeys};
 ghost use Rattle.line_model.specs.Laws.{EachLineHasAChoiceInside, EachChoiceHasOneHistory};
 ghost use Rattle.line_model.specs.Laws.{EachBoxHasOneIntervalHistory, APointBoxGivesTheHistory};
@@ -22,6 +23,12 @@ pub fn parameters_are_numbered()
 /// How many settings terminals and channels have, and the number of a channel's delay.
 pub fn settings_are_counted()
     ensures { SettingsAreCounted }
+{}
+
+/// Each channel's delay is a delay, and each delay is one of the line's parameters and is declared
+/// from 1 on.
+pub fn delays_are_parameters()
+    ensures { DelaysAreParameters }
 {}
 
 /// The logic of each line names only terminals, channels and parameters of the line.
@@ -151,6 +158,7 @@ pub fn line_laws()
 {
     parameters_are_numbered();
     settings_are_counted();
+    delays_are_parameters();
     trees_name_the_line();
     trees_are_local();
     values_rest_on_earlier_keys();

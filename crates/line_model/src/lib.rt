@@ -2,7 +2,8 @@
 //! key and trip formula of each terminal, and a formula's value at a tick.
 //!
 //! - The line: `line`, `name`, `terminals`, `channels`, `bounds`, `params`, made by `make`, `copy`.
-//! - Its settings and their numbers: `settings`, `setting_places`, `lookup`.
+//! - Its settings, their numbers and their intervals: `settings`, `setting_places`, `lookup`,
+//!   `interval`.
 //! - Names: `param_names`, `names` by number, `numbers_by_name`.
 //! - Scripts: `script`, and `script_fits` for a line.
 //! - The logic: `formula` and `build` make trees; `elements` and `received` over `others` are what a
@@ -18,6 +19,7 @@ mod channels;
 mod copy;
 mod elements;
 mod formula;
+mod interval;
 pub mod interval_laws;
 pub mod laws;
 mod line;

@@ -1,11 +1,10 @@
 //! The number of a parameter and of a channel.
 
-ghost use Rattle.std.specs.Prelude.{◌≡◌, ◌≢◌, ◌≤◌, ◌<◌, ◌+◌, ◌↔◌, length, IsSome, IfSome, IsTrue};
+ghost use Rattle.std.specs.Prelude.{◌≡◌, ◌≢◌, ◌≤◌, ◌<◌, ◌+◌, ◌↔◌, length, IsSome, IfSome};
 ghost use Rattle.std.specs.Prelude.{option_map};
 ghost use Rattle.line_model.specs.Channels.{channel_number, from_of, to_of};
 ghost use Rattle.line_model.specs.Parameters.{param_number, IsOwner, channel_count, param_count};
-ghost use Rattle.line_model.specs.Parameters.{delay_param};
-ghost use Rattle.line_model.specs.SetBounds.{IsDelayAt};
+ghost use Rattle.line_model.specs.Parameters.{delay_param, is_delay};
 
 use crate::channels::find_channel;
 use crate::line::{Line, Owner, Param, Setting};
@@ -43,8 +42,9 @@ impl Line {
     }
 
     /// Whether a parameter is the delay of a channel.
+    #[tactic(auto, unfolding(crate::specs::Parameters::is_delay))]
     pub fn is_delay(&self, param: u32) -> bool
-        ensures { IsTrue result ↔ IsDelayAt self.now param }
+        ensures { result ≡ is_delay self.now param }
     {
         for channel in 0..self.channels.len() {
             if self.delay_of(channel as u32) == param {

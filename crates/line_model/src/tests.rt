@@ -232,8 +232,8 @@ fn a_copy_keeps_its_intervals(rt: HostRuntime) -> Result<(), Fail> {
     let copy = line.copy(rt.alloc())?;
     assert!(rt; line.params.len() == 28);
     line.set_bounds(27, 3, 5);
-    assert_eq!(rt; line.params[27].least, 3);
-    assert_eq!(rt; line.params[27].greatest, 5);
+    assert_eq!(rt; (line.least(27), line.greatest(27)), (3, 5));
+    assert!(rt; line.is_delay(27) && !line.is_delay(25));
     assert!(rt; copy.params.len() == 28);
     for i in 0..28 {
         let (was, is) = (copy.params[i], line.params[i]);

@@ -1,6 +1,6 @@
 -- Each choice inside is a timing: its numbers, and a step for each delay and tick.
-use Rattle.std.proofs.Common.{◌≡◌, ◌==◌, ◌+◌, ◌-◌, ℕ, zero, suc, ◌<◌, ◌≤◌, true, List, [], ◌∷◌}
-use Rattle.std.proofs.Common.{◌++◌, get_or, map, refl, sym, ◌∙◌, subst, arith, ⊎_elim, eq-eqb}
+use Rattle.std.proofs.Common.{◌≡◌, ◌+◌, ◌-◌, ℕ, zero, suc, ◌<◌, ◌≤◌, true, List, [], ◌∷◌}
+use Rattle.std.proofs.Common.{◌++◌, get_or, map, refl, sym, ◌∙◌, subst, arith, ⊎_elim}
 use Rattle.std.proofs.lemmas.Bool.{cases_lt, and_from}
 use Rattle.std.proofs.lemmas.List.{length-map}
 use Rattle.std.proofs.lemmas.List.FromFn.{get_or-map-range_with_len, length-range_with_len}
@@ -11,13 +11,14 @@ use Rattle.std.specs.List.{All, Contains, range_with_len}
 use Rattle.line_model.specs.Parameters.{param_count, channel_count, delay_param, declared_ends}
 use Rattle.line_model.specs.Choice.{Choice, IsIn, IsInside, declared_box}
 use Rattle.line_model.specs.{declared.line.Line.Line, Laws.SettingsAreCounted}
+use Rattle.line_model.specs.Laws.{DelaysAreParameters}
 use Rattle.timing_box.specs.declared.step.Step.{Step}
 use Rattle.timing_box.specs.Timing.{TimingValues, comes_before, ascend, IsLatest}
 use Rattle.timing_box.specs.Choice.{timing_choice, IsSameChoice}
-use Rattle.timing_box.specs.{Delays.is_delay, Inside.IsStepInside, Inside.IsTimingInside}
+use Rattle.timing_box.specs.Inside.{IsStepInside, IsTimingInside}
 use Rattle.timing_box.proofs.LatestStep.{before_by_param, before_by_tick, ascend-append}
 use Rattle.timing_box.proofs.LatestStep.{number_at-latest}
-use Rattle.timing_box.proofs.{DelayLaws.some_at, DelayOrder.delays_ascend}
+use Rattle.timing_box.proofs.DelayOrder.{delays_ascend}
 
 -- ---- the steps of one delay
 
@@ -124,27 +125,26 @@ module _ (line : Line) (choice : Choice) where
   same_number i below =
       get_or-map-range_with_len choice.number 0 (param_count line) i i 0 below (omega arith)
 
-  step_inside : IsInside line choice → (c t : ℕ) → c < channel_count line → 1 ≤ t
-      → t < line.horizon → IsStepInside line (step_at c t)
-  unfolding is_delay declared_box
-  step_inside inside c t below late early = record {
-    delay = some_at (λ k. delay_param line k == delay_param line c) (channel_count line) c below
-        (eq-eqb (delay_param line c) (delay_param line c) refl);
+  step_inside : DelaysAreParameters → IsInside line choice → (c t : ℕ) → c < channel_count line
+      → 1 ≤ t → t < line.horizon → IsStepInside line (step_at c t)
+  unfolding declared_box
+  step_inside delays inside c t below late early = record {
+    delay = delays.told line c below;
     late = late;
     early = early;
     value = inside.delays c t below early;
   }
 
-  pub timing_inside : IsInside line choice → IsTimingInside line timing_of
+  pub timing_inside : DelaysAreParameters → IsInside line choice → IsTimingInside line timing_of
   unfolding declared_box
-  timing_inside inside = record {
+  timing_inside delays inside = record {
     count = length-map (range_with_len 0 (param_count line)) choice.number
         ∙ length-range_with_len 0 (param_count line);
     values = λ i below.
         subst (λ (n : ℕ). IsIn n (declared_ends line i)) (sym (same_number i below))
         (inside.numbers i below);
     steps = all_from (IsStepInside line) 0 (channel_count line)
-        (λ d t low high late early. step_inside inside d t (omega arith) late early);
+        (λ d t low high late early. step_inside delays inside d t (omega arith) late early);
   }
 
   -- the step at a tick is the latest of its delay then

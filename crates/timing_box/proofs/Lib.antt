@@ -1,7 +1,6 @@
 pub mod CandidatesInside
 pub mod ChoiceInside
 pub mod ChoiceSteps
-pub mod DelayLaws
 pub mod DelayOrder
 pub mod Earlier
 pub mod LatestStep

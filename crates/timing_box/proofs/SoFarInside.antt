@@ -13,7 +13,8 @@ use Rattle.std.specs.declared.alloc.Global.{Global}
 use Rattle.std.specs.List.{All, before_first, after_first}
 use Rattle.relay_base.specs.Number.{number_of}
 use Rattle.line_model.specs.declared.line.Line.{Line}
-use Rattle.line_model.specs.{Choice.IsIn, Parameters.declared_ends, Intervals.leasts}
+use Rattle.line_model.specs.Parameters.{is_delay, declared_ends}
+use Rattle.line_model.specs.{Choice.IsIn, Intervals.leasts}
 use Rattle.line_model.specs.{NumbersByName.param_named, PlainNames.is_plain_name}
 use Rattle.timing_box.specs.declared.fault.TimingFault.{TimingFault}
 use Rattle.timing_box.specs.declared.fault.TimingFault.TheVariants as fault
@@ -28,7 +29,7 @@ use Rattle.timing_box.specs.Checks.{Opening, is_earlier, check_timing, after_lat
 use Rattle.timing_box.specs.Checks.{is_at, step_at, number_or_step, named_in, number_within}
 use Rattle.timing_box.specs.Checks.{value_for}
 use Rattle.timing_box.specs.Timings.{after_row, after_record}
-use Rattle.timing_box.specs.{Delays.is_delay, Gives.Gives, Row.Row, Row.row_in}
+use Rattle.timing_box.specs.{Gives.Gives, Row.Row, Row.row_in}
 use Rattle.csv_records.specs.CheckLaws.{choice_passed, filtered, found, passed, refusal_passed}
 use Rattle.csv_records.specs.CheckLaws.{same_ok, tested}
 use Rattle.csv_records.specs.Gives.{◌>>=◌, passes_or}

@@ -18,10 +18,11 @@ use Rattle.std.specs.List.{prefix_len}
 use Rattle.std.specs.Str.{bytes_eq}
 use Rattle.std.specs.Fmt.{decimal}
 use Rattle.relay_base.specs.{Number.number_of, DecimalLaws.number_of-decimal}
-use Rattle.line_model.specs.Parameters.{param_count, declared_ends}
+use Rattle.line_model.specs.Parameters.{param_count, is_delay, declared_ends}
 use Rattle.line_model.specs.ParamNamesApart.{name_of_param, has_no, ParamNamesApart}
 use Rattle.line_model.specs.{declared.line.Line.Line, declared.line.Param.Param, Choice.IsIn}
 use Rattle.line_model.specs.{Intervals.leasts, NumbersByName.param_named, PlainNames.is_plain_name}
+use Rattle.line_model.specs.Laws.{DelaysAreParameters}
 use Rattle.timing_box.specs.{declared.step.Step.Step, declared.named.Named.Named}
 use Rattle.timing_box.specs.declared.named.Named.TheVariants as named
 use Rattle.timing_box.specs.Inside.{IsStepInside, IsTimingInside}
@@ -32,10 +33,10 @@ use Rattle.timing_box.specs.Checks.{number_within, step_at, step_named, number_o
 use Rattle.timing_box.specs.Timings.{after_row, after_record, timing_file, timings_in}
 use Rattle.timing_box.specs.Printed.{name_record, number_records, step_record, timing_records}
 use Rattle.timing_box.specs.Printed.{file_records, MayStand, AreOfOneFile}
-use Rattle.timing_box.specs.{Delays.is_delay, Timing.comes_before, Timing.ascend, Timing.with_step}
+use Rattle.timing_box.specs.Timing.{comes_before, ascend, with_step}
 use Rattle.csv_records.specs.{Gives.◌>>=◌, RecordFile.after_header, RecordFile.after_records}
 use Rattle.timing_box.proofs.LatestStep.{all_after, ascend-tail}
-use Rattle.timing_box.proofs.{StepOrder.same_place, DelayLaws.delay_below}
+use Rattle.timing_box.proofs.StepOrder.{same_place}
 
 bytes_same : (bytes : List ℕ) → bytes_eq bytes bytes ≡ true
 bytes_same bytes = (bytes_eq-Decides bytes bytes).1 refl
@@ -52,7 +53,7 @@ at_timing done t = record { done = done; latest = Some t }
 
 -- ---- what a row names
 
-module _ (line : Line) (apart : ParamNamesApart line) where
+module _ (delays : DelaysAreParameters) (line : Line) (apart : ParamNamesApart line) where
   named_by : (field : List ℕ) (i : ℕ) → 0 < length field → param_named line field ≡ Some i
       → named_in line field ≡ Some (named.Number i)
   named_by [] i some found = absurd (omega arith)
@@ -342,7 +343,7 @@ module _ (line : Line) (apart : ParamNamesApart line) where
   steps_there (s ∷ steps) all =
       let here : IsStepInside line s = All-head (IsStepInside line) s steps all in
       All-cons (λ (x : Step ℕ). x.param < param_count line) s steps
-      (delay_below line s.param here.delay)
+      (delays.exists line s.param here.delay)
       (steps_there steps (All-tail (IsStepInside line) s steps all))
 
   -- ---- a whole timing

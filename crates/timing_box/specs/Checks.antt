@@ -5,14 +5,14 @@ use Rattle.std.specs.List.{list_any, before_first, after_first}
 use Rattle.std.specs.Str.{bytes_eq}
 use Rattle.std.proofs.lemmas.Map.Entries.{option_filter}
 use Rattle.line_model.specs.declared.line.Line.{Line}
-use Rattle.line_model.specs.{NumbersByName.param_named, Parameters.declared_ends}
+use Rattle.line_model.specs.{NumbersByName.param_named, Parameters.is_delay}
+use Rattle.line_model.specs.Parameters.{declared_ends}
 use Rattle.csv_records.specs.Fields.{is_empty}
 use Rattle.relay_base.specs.Number.{number_of}
 use Rattle.timing_box.specs.declared.fault.TimingFault.{TimingFault}
 use Rattle.timing_box.specs.declared.fault.TimingFault.TheVariants as fault
 use Rattle.timing_box.specs.declared.named.Named.{Named}
 use Rattle.timing_box.specs.declared.named.Named.TheVariants as named
-use Rattle.timing_box.specs.Delays.{is_delay}
 use Rattle.timing_box.specs.SoFar.{NamedValues, OpenTiming, closed, opened}
 
 -- the timings before the row's, and the row's own timing, which it may open

@@ -2,8 +2,9 @@
 use Rattle.std.specs.Prelude.{◌≡◌, ◌≤◌, ◌<◌, ℕ, length, get_or, IsTrue}
 use Rattle.std.specs.List.{All}
 use Rattle.line_model.specs.declared.line.Line.{Line}
-use Rattle.line_model.specs.{Parameters.param_count, Parameters.declared_ends, Choice.IsIn}
-use Rattle.timing_box.specs.{declared.step.Step.Step, Delays.is_delay, Timing.TimingValues}
+use Rattle.line_model.specs.Parameters.{param_count, is_delay, declared_ends}
+use Rattle.line_model.specs.Choice.{IsIn}
+use Rattle.timing_box.specs.{declared.step.Step.Step, Timing.TimingValues}
 
 -- a step of a delay, within the run, with a number of its interval
 pub record IsStepInside (line : Line) (step : Step ℕ) : Type 0 where

@@ -1,5 +1,4 @@
 pub mod Timing
-pub mod Delays
 pub mod Inside
 pub mod Candidates
 pub mod Choice

@@ -1,15 +1,18 @@
 //! The candidate timings.
 
-ghost use Rattle.std.specs.Prelude.{◌≡◌, ◌≤◌, ◌<◌, length};
+ghost use Rattle.std.specs.Prelude.{◌≡◌, ◌≤◌, ◌<◌, length, IfOk};
 ghost use Rattle.std.specs.List.{count_by};
 ghost use Rattle.line_model.specs.Parameters.{param_count};
 ghost use Rattle.timing_box.specs.Candidates.{is_free as is_free_param};
 ghost use Rattle.timing_box.specs.Candidates.{candidate_count as count_of_candidates};
 ghost use Rattle.timing_box.specs.Candidates.{candidate_value as value_of_candidate};
-ghost use Rattle.timing_box.specs.Candidates.{is_free_number};
+ghost use Rattle.timing_box.specs.Candidates.{is_free_number, candidate as candidate_timing};
 
+use crate::timing::Timing;
 use line_model::laws::parameters_are_numbered;
-use line_model::{Line, Param};
+use line_model::{Line, Memory, Param};
+use std::alloc::Global;
+use tick_signal::Tick;
 
 /// How many candidates a line has: 2, and 2 more for each parameter that is free.
 pub fn candidate_count(line: &Line) -> u32
@@ -21,31 +24,44 @@ pub fn candidate_count(line: &Line) -> u32
 
 /// The number of a parameter in a candidate.
 #[tactic(auto, unfolding(crate::specs::Candidates::candidate_value))]
-pub fn candidate_value(line: &Line, index: u32, param: u32) -> u32
+pub fn candidate_value(line: &Line, index: u32, param: u32) -> Tick
     requires candidate { index < count_of_candidates line.now }
     requires param { param < param_count line.now }
     ensures { result ≡ value_of_candidate line.now index param }
 {
     parameters_are_numbered();
-    let bounds = line.params[param as usize];
+    let least = Tick::new(line.least(param));
+    let greatest = Tick::new(line.greatest(param));
     if index == 0 {
-        return bounds.least;
+        return least;
     }
     if index == 1 {
-        return bounds.greatest;
+        return greatest;
     }
     let free = free_count(line.params.as_slice());
     if index <= 1 + free {
         if is_number(line, index - 1, param) {
-            bounds.greatest
+            greatest
         } else {
-            bounds.least
+            least
         }
     } else if is_number(line, index - 1 - free, param) {
-        bounds.least
+        least
     } else {
-        bounds.greatest
+        greatest
     }
+}
+
+/// A candidate.
+pub fn candidate(alloc: Global, line: &Line, index: u32) -> Result<Timing, Memory>
+    requires { index < count_of_candidates line.now }
+    ensures { IfOk result (λ timing. timing ≡ candidate_timing line.now index) }
+{
+    let mut values = Vec::new(alloc);
+    for param in 0..line.param_count() {
+        values.push(candidate_value(line, index, param))?;
+    }
+    Ok(Timing::new(values))
 }
 
 // Whether the parameter is the i-th free one.
@@ -54,8 +70,7 @@ fn is_number(line: &Line, i: u32, param: u32) -> bool
     ensures { result ≡ is_free_number line.now i param }
 {
     parameters_are_numbered();
-    let bounds = line.params[param as usize];
-    bounds.least < bounds.greatest && free_count(&line.params[..param as usize]) + 1 == i
+    line.least(param) < line.greatest(param) && free_count(&line.params[..param as usize]) + 1 == i
 }
 
 fn free_count(params: &[Param]) -> u32

@@ -7,7 +7,6 @@ ghost use Rattle.timing_box.specs.SoFar.{open_of, IsNamedIn};
 ghost use Rattle.timing_box.specs.Checks.{is_at, step_named, named_in, value_for, number_within};
 ghost use Rattle.timing_box.specs.Checks.{is_given as is_given_in};
 
-use crate::delays::is_delay;
 use crate::intervals::is_in;
 use crate::named::Named;
 use crate::places::has_step;
@@ -45,7 +44,7 @@ fn step(line: &Line, field: &[u8]) -> Option<Named>
     let at = place_of_at(field);
     let i = parameter_of_name(line, &field[..at])?;
     let from = number(after(field, at))?;
-    if is_delay(line, i) && 1 <= from && from < line.horizon {
+    if line.is_delay(i) && 1 <= from && from < line.horizon {
         Some(Named::Step(i, from))
     } else {
         None

@@ -4,7 +4,6 @@ ghost use Rattle.std.specs.Prelude.{◌≡◌, ◌<◌, ◌↔◌, ℕ, length, 
 ghost use Rattle.line_model.specs.{Choice.IsIn, Parameters.param_count, Parameters.declared_ends};
 ghost use Rattle.timing_box.specs.Inside.{IsStepInside, IsTimingInside};
 
-use crate::delays::is_delay;
 use crate::step::Step;
 use crate::timing::Timing;
 use line_model::Line;
@@ -39,7 +38,7 @@ fn are_values_inside(line: &Line, values: &[Tick]) -> bool
 fn is_step_inside(line: &Line, step: &Step<Tick>) -> bool
     ensures { IsTrue result ↔ IsStepInside line.now step.now }
 {
-    is_delay(line, step.param)
+    line.is_delay(step.param)
         && step.from >= 1
         && step.from < line.horizon
         && is_in(line, step.param, step.value.value())

@@ -13,7 +13,9 @@ ghost use Rattle.timing_box.specs.Printed.{MayStand, AreOfOneFile, file_records}
 ghost use Rattle.timing_box.specs.{declared.step.Step.Step, SoFar.NamedValues, Timings.timings_in};
 
 use history::element_laws::elements_read_the_past;
-use line_model::laws::{each_line_has_a_choice_inside, settings_are_counted, trees_name_the_line};
+use line_model::laws::{
+    delays_are_parameters, each_line_has_a_choice_inside, settings_are_counted, trees_name_the_line,
+};
 use line_model::name_laws::parameters_have_names_of_their_own;
 
 /// Each candidate is inside the declared intervals.
@@ -60,6 +62,7 @@ pub fn each_choice_inside_is_a_timing()
 {
     each_line_has_a_choice_inside();
     settings_are_counted();
+    delays_are_parameters();
     elements_read_the_past();
     trees_name_the_line();
 }
@@ -78,4 +81,5 @@ pub fn timings_are_read_back()
 {
     parameters_have_names_of_their_own();
     settings_are_counted();
+    delays_are_parameters();
 }

@@ -5,7 +5,6 @@
 
 mod candidates;
 mod check;
-mod delays;
 mod fault;
 mod fields;
 mod intervals;
@@ -18,7 +17,7 @@ mod reading;
 mod step;
 mod timing;
 
-pub use candidates::{candidate_count, candidate_value};
+pub use candidates::{candidate, candidate_count, candidate_value};
 pub use fault::TimingFault;
 pub use intervals::inside;
 pub use laws::{

@@ -15,7 +15,7 @@ use crate::timing::NamedTiming;
 use csv_records::{Memory, push_record};
 use itoa::Buffer;
 use line_model::Line;
-use line_model::laws::parameters_are_numbered;
+use line_model::laws::{delays_are_parameters, parameters_are_numbered};
 use std::alloc::Global;
 use tick_signal::Tick;
 
@@ -32,6 +32,7 @@ pub fn print_timings(alloc: Global, line: &Line, timings: &[NamedTiming]) -> Res
         ≡ Ok (map values_of timings.now) }
 {
     timings_are_read_back();
+    delays_are_parameters();
     let mut text = Vec::new(alloc);
     push_fields(alloc, &mut text, b"timing", b"parameter", b"value")?;
     for timing in timings {

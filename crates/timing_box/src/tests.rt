@@ -177,9 +177,9 @@ fn candidates(rt: HostRuntime) -> Result<(), Fail> {
     for (index, values) in rows {
         assert!(rt; index < candidate_count(&line));
         for k in 0..6 {
-            assert_eq!(rt; candidate_value(&line, index, FREE[k]), values[k]);
+            assert_eq!(rt; candidate_value(&line, index, FREE[k]).value(), values[k]);
         }
-        assert_eq!(rt; candidate_value(&line, index, 0), 0);
+        assert_eq!(rt; candidate_value(&line, index, 0).value(), 0);
     }
     let point = |value: u32| Bounds {
         least: value,

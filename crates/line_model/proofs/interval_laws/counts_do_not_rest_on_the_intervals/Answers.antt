@@ -1,4 +1,5 @@
 use Rattle.line_model.proofs.SameCounts.{terminals_same, channels_same, params_same, delay_same}
+use Rattle.line_model.proofs.SameCounts.{is_delay_same}
 use Rattle.line_model.proofs.interval_laws.counts_do_not_rest_on_the_intervals.Goals as goal
 
 pub returns : goal.returns
@@ -7,4 +8,5 @@ returns c = record {
   channels = channels_same;
   params = params_same;
   delays = λ line other k same. delay_same line other same k;
+  told = λ line other i same. is_delay_same line other same i;
 }

@@ -4,6 +4,7 @@ pub returns : goal.returns
 returns c = record {
   parameters = c.parameters_are_numbered.ensures;
   settings = c.settings_are_counted.ensures;
+  delays = c.delays_are_parameters.ensures;
   trees = c.trees_name_the_line.ensures;
   local_trees = c.trees_are_local.ensures;
   values = c.values_rest_on_earlier_keys.ensures;

@@ -9,7 +9,7 @@ pub returns : goal.returns
 returns c = record {
   choice = λ line choice inside. (
     timing_of line choice,
-    timing_inside line choice inside,
+    timing_inside line choice c.delays_are_parameters.ensures inside,
     timing_ascends line choice c.settings_are_counted.ensures,
     timing_same line choice c.settings_are_counted.ensures,
   );
@@ -18,10 +18,10 @@ returns c = record {
       let from_choice : DelaysFromOne line choice = c.each_line_has_a_choice_inside.ensures.choices line choice inside in
       let from_played : DelaysFromOne line played =
       c.each_line_has_a_choice_inside.ensures.choices line played
-      (choice_inside line (timing_of line choice) (timing_inside line choice inside)) in
+      (choice_inside line (timing_of line choice) (timing_inside line choice c.delays_are_parameters.ensures inside)) in
       let same : IsSameChoice line choice played = timing_same line choice c.settings_are_counted.ensures in (
         timing_of line choice,
-        timing_inside line choice inside,
+        timing_inside line choice c.delays_are_parameters.ensures inside,
         timing_ascends line choice c.settings_are_counted.ensures,
         λ script h. (
           same_history c.elements_read_the_past.ensures c.trees_name_the_line.ensures line script choice played from_choice from_played same h,

@@ -7,7 +7,7 @@ use Rattle.timing_box.proofs.laws.timings_are_read_back.Goals as goal
 
 pub returns-clause-records : goal.returns-clause-records
 returns-clause-records c = λ line timings may one_file.
-    records_stand line (c.parameters_have_names_of_their_own.ensures line) timings may one_file
+    records_stand c.delays_are_parameters.ensures line (c.parameters_have_names_of_their_own.ensures line) timings may one_file
 
 pub returns-clause-choices : goal.returns-clause-choices
 returns-clause-choices c = λ line choice name inside plain.
@@ -15,11 +15,11 @@ returns-clause-choices c = λ line choice name inside plain.
     let v : NamedValues = record { name = name; timing = timing } in (
       timing,
       timing_same line choice c.settings_are_counted.ensures,
-      records_stand line (c.parameters_have_names_of_their_own.ensures line) (v ∷ [])
+      records_stand c.delays_are_parameters.ensures line (c.parameters_have_names_of_their_own.ensures line) (v ∷ [])
           (All-cons (MayStand line) v []
           (record {
             plain_name = plain;
-            inside = timing_inside line choice inside;
+            inside = timing_inside line choice c.delays_are_parameters.ensures inside;
             ascending = timing_ascends line choice c.settings_are_counted.ensures;
           })
           (All-nil (MayStand line)))

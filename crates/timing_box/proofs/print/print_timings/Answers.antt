@@ -5,7 +5,6 @@ use Rattle.std.specs.List.{All}
 use Rattle.line_model.specs.declared.line.Line.{Line}
 use Rattle.timing_box.specs.declared.timing.NamedTiming.{NamedTiming}
 use Rattle.timing_box.specs.{SoFar.values_of, Printed.MayStand}
-use Rattle.timing_box.proofs.DelayLaws.{delay_below}
 use Rattle.timing_box.proofs.print.print_timings.Goals as goal
 
 -- the timing at a place
@@ -26,6 +25,6 @@ push_timing-requires-clause-count c =
 
 pub push_timing-requires-clause-steps : goal.push_timing-requires-clause-steps
 push_timing-requires-clause-steps c = λ k d lt.
-    delay_below c.args.line.now _
+    c.delays_are_parameters.ensures.exists c.args.line.now _
     ((stands_at c.args.line.now c.args.timings.now c.loop-timing.timing-index c.timing-item.result
     c.requires.may_stand c.loop-timing-test.true c.timing-item.is).inside.steps k d lt).delay

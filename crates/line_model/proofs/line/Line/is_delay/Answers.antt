@@ -1,10 +1,8 @@
-use Rattle.std.proofs.Common.{◌∙◌, refl, sym, arith}
+use Rattle.std.proofs.Common.{◌∙◌, sym, arith}
 use Rattle.line_model.proofs.DeclaredLaws.{delay_at}
 use Rattle.line_model.proofs.line.Line.is_delay.Goals as goal
 
 pub returns-then-delay_of-param : goal.returns-then-delay_of-param
-returns-then-delay_of-param c = (
-  λ told. delay_at c.args.self.now c.loop-channel.channel c.args.param (omega arith)
-      (sym c.delay_of.ensures.number ∙ c.if-delay_of-param.true),
-  λ is. refl,
-)
+returns-then-delay_of-param c =
+    sym (delay_at c.args.self.now c.loop-channel.channel c.args.param (omega arith)
+    (sym c.delay_of.ensures.number ∙ c.if-delay_of-param.true))
