@@ -4,7 +4,7 @@ ghost use Rattle.std.specs.Prelude.{◌≡◌, ◌<◌, ◌≤◌, ◌*◌, ◌/
 ghost use Rattle.history.specs.Elements.{some_below};
 ghost use Rattle.tick_signal.specs.Bits.{bit_on};
 ghost use Rattle.channel.specs.SentKeys.{SentKeys};
-ghost use Rattle.line_model.specs.Parameters.{param_count, declared_ends, terminal_count};
+ghost use Rattle.line_model.specs.Parameters.{param_count, terminal_count};
 ghost use Rattle.line_model.specs.{declared.line.Line.Line, Rule.is_held, SetBounds.SameButParams};
 ghost use Rattle.gate_net.specs.NetOf.{IsNetOf};
 ghost use Rattle.box_lanes.specs.Terns.{terns_rails};
@@ -142,42 +142,10 @@ fn part_span(line: &Line, parts: &[Line], first: usize, param: u32) -> Spans64
     let mut greatest = [Tick::new(0); 64];
     for lane in 0..64 {
         let part = &parts[part_at(parts.len(), first, lane)];
-        least[lane] = least_of(part, param);
-        greatest[lane] = greatest_of(part, param);
+        least[lane] = Tick::new(part.least(param));
+        greatest[lane] = Tick::new(part.greatest(param));
     }
     Spans64::new(Ticks64::new(least), Ticks64::new(greatest))
-}
-
-// The least number that is declared.
-fn least_of(line: &Line, param: u32) -> Tick
-    requires { param < param_count line.now }
-    ensures { result ≡ (declared_ends line.now param).least }
-{
-    declared_intervals_are_in_order();
-    Tick::new(least_number(line, param))
-}
-
-fn least_number(line: &Line, param: u32) -> u32
-    requires { param < param_count line.now }
-    ensures { result ≡ (declared_ends line.now param).least }
-{
-    line.params[param as usize].least
-}
-
-// The greatest number that is declared.
-fn greatest_of(line: &Line, param: u32) -> Tick
-    requires { param < param_count line.now }
-    ensures { result ≡ (declared_ends line.now param).greatest }
-{
-    declared_intervals_are_in_order();
-    Tick::new(greatest_number(line, param))
-}
-
-fn greatest_number(line: &Line, param: u32) -> u32
-    requires { param < param_count line.now }
-    ensures { result ≡ (declared_ends line.now param).greatest }
-{
-    line.params[param as usize].greatest
 }
 
 // The number of the part in a lane of a block. The lanes past the last part repeat it.

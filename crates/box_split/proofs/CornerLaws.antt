@@ -2,12 +2,12 @@
 use Rattle.std.proofs.Common.{◌≡◌, ◌≤◌, ◌<◌, ◌+◌, ℕ, Bool, true, false, List, [], ◌∷◌, ◌++◌, Some}
 use Rattle.std.proofs.Common.{length, get_or, inl, inr, sym, ◌∙◌, ap, subst, arith, ⊎_elim}
 use Rattle.std.proofs.lemmas.Bool.{cases_lt, cases_eq}
-use Rattle.std.specs.Prelude.{slice_get, unwrap_or, if◌then◌else◌}
+use Rattle.std.specs.Prelude.{slice_get, if◌then◌else◌}
 use Rattle.history.specs.Rails.{Ends, single}
 use Rattle.tick_signal.specs.Spans.{ends_of}
 use Rattle.line_model.specs.Parameters.{param_count, declared_ends}
 use Rattle.line_model.specs.{declared.line.Line.Line, declared.line.Param.Param, Intervals.leasts}
-use Rattle.line_model.specs.{Intervals.greatests, SetBounds.SameButParams, SetBounds.IsDelayAt}
+use Rattle.line_model.specs.{Intervals.greatests, SetBounds.SameButParams}
 use Rattle.line_model.specs.{SameLine.SameLine, WithBounds.IsWithBounds, Boxes.ends_with}
 use Rattle.box_split.specs.Known.{Known}
 use Rattle.box_split.specs.Quiet.{IsCorner, AreCorners, is_wide, number_of, corner_number}
@@ -32,14 +32,7 @@ pub record CornerSoFar (line : Line) (wide : List Bool) (high : Bool) (but n : �
 pub no_corner_yet : (line : Line) (wide : List Bool) (high : Bool) (but : ℕ) (corner : Line)
     → SameLine line corner → CornerSoFar line wide high but 0 corner
 no_corner_yet line wide high but corner same = record {
-  rest = record {
-    tick_us = same.tick_us;
-    horizon = same.horizon;
-    scheme = same.scheme;
-    zone1_trip = same.zone1_trip;
-    terminals = same.terminals;
-    channels = same.channels;
-  };
+  rest = same.rest;
   done = λ i there lt. absurd (omega arith);
   left = λ i there lt. ap (λ (ps : List Param). ends_of (get_or (leasts ps) i 0)
       (get_or (greatests ps) i 0)) same.params;
@@ -101,12 +94,6 @@ closed_more known line wide high but n number corner new there off is bounds so_
           ∙ ends_with-elsewhere (declared_ends corner) n (single number) i apart
           ∙ so_far.left i inside (omega arith);
     }
-
--- the least number of a delay
-pub delay_from_one : (line : Line) (i : ℕ) → IsDelayAt line i → 1 ≤ (declared_ends line i).least
-delay_from_one line i at =
-    subst (λ (n : ℕ). 1 ≤ (declared_ends line n).least) (ap (λ o. unwrap_or o 0) at.number)
-    (line.delays_from_one at.channel at.exists)
 
 -- two corners more
 pub corners_more : (line : Line) (wide : List Bool) (n : ℕ) (old new : List Line) (low top : Line)

@@ -1,9 +1,10 @@
 -- Halves of a part of a box, and what can be split in it.
 use Rattle.std.proofs.Common.{◌≡◌, ◌<◌, ◌≤◌, ◌+◌, ℕ, refl, sym, ◌∙◌, subst, arith}
-use Rattle.std.specs.Prelude.{◌↔◌}
+use Rattle.std.specs.Prelude.{◌↔◌, IsTrue}
 use Rattle.line_model.specs.declared.line.Line.{Line}
 use Rattle.line_model.specs.{declared.script.Script.Script, Parameters.param_count}
-use Rattle.line_model.specs.{Parameters.declared_ends, SetBounds.IsDelayAt, SetBounds.SameButParams}
+use Rattle.line_model.specs.{Parameters.is_delay, Parameters.declared_ends}
+use Rattle.line_model.specs.SetBounds.{SameButParams}
 use Rattle.line_model.specs.{Choice.Box, Choice.declared_box, Boxes.box_with, Boxes.IsSameBox}
 use Rattle.line_model.specs.{HeldOver.IsHeldOver, WithBounds.IsWithBounds}
 use Rattle.box_split.specs.Known.{Known}
@@ -19,7 +20,7 @@ unfolding declared_box
 can_split_when line param mid can = (can.above, can.below)
 
 pub splits_when : (line : Line) (param mid : ℕ) → param < param_count line
-    → ¬ (IsDelayAt line param) → (declared_ends line param).least ≤ mid
+    → ¬ (IsTrue (is_delay line param)) → (declared_ends line param).least ≤ mid
     → mid < (declared_ends line param).greatest → CanSplit line (declared_box line) param mid
 unfolding declared_box
 splits_when line param mid here number above below = record {

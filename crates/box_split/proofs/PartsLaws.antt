@@ -151,16 +151,6 @@ module _ (line : Line) (param n : ℕ) (old new : List Line) (part first second 
 
 -- ---- the halves of one part
 
-pub same_rest : (line copy : Line) → SameLine line copy → SameButParams line copy
-same_rest line copy same = record {
-  tick_us = same.tick_us;
-  horizon = same.horizon;
-  scheme = same.scheme;
-  zone1_trip = same.zone1_trip;
-  terminals = same.terminals;
-  channels = same.channels;
-}
-
 pub no_halves : (part a b : Line) → IsNarrow part → HalvesIfAny part a b
 no_halves part a b none = λ param widest.
     let free = widest.free in

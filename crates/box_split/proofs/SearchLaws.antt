@@ -10,7 +10,8 @@ use Rattle.line_model.specs.declared.script.Kind.TheVariants.{Internal, External
 use Rattle.line_model.specs.Parameters.{terminal_count, param_count, declared_ends}
 use Rattle.line_model.specs.Choice.{Choice, IsIn, IsInside, DelaysFromOne, declared_box}
 use Rattle.line_model.specs.Histories.{History, IsLineHistory, IsSameHistory, Meets, MeetsBy}
-use Rattle.line_model.specs.{declared.line.Line.Line, SetBounds.SameButParams, SetBounds.IsDelayAt}
+use Rattle.line_model.specs.{declared.line.Line.Line, SetBounds.SameButParams}
+use Rattle.line_model.specs.Parameters.{is_delay}
 use Rattle.line_model.specs.{declared.script.Kind.Kind, declared.script.Script.Script}
 use Rattle.timing_box.specs.{Timing.TimingValues, Choice.timing_choice, Candidates.candidate}
 use Rattle.certify_core.specs.declared.verdict.Verdict.TheVariants as verdict
@@ -101,7 +102,7 @@ module _ (known : Known) (script : Script) (k : ℕ) where
       })
 
   module _ (line : Line) (param : ℕ) (at : IsSplitAt line script k param) where
-    no_delay : IsDelayAt line param → ⊥
+    no_delay : ¬ (IsTrue (is_delay line param))
     no_delay = split_no_delay line param at.widest.free
 
     lower_part : IsPartOf

@@ -5,7 +5,7 @@ use Rattle.std.proofs.lemmas.Bool.{cases_eq}
 use Rattle.std.specs.Prelude.{IsTrue, slice_get}
 use Rattle.history.specs.Rails.{Ends}
 use Rattle.line_model.specs.Parameters.{terminal_count, param_count, declared_ends}
-use Rattle.line_model.specs.SetBounds.{SameButParams, IsDelayAt}
+use Rattle.line_model.specs.SetBounds.{SameButParams}
 use Rattle.line_model.specs.Choice.{Choice, Box, IsWithin, LeastFromOne, declared_box}
 use Rattle.line_model.specs.Histories.{History, IsLineHistory, Meets}
 use Rattle.line_model.specs.Settings.{line_settings, setting_number}
@@ -94,21 +94,11 @@ module _ (known : Known) (line : Line) (script : Script) (k : ℕ) where
 
 -- ---- lines that are the same but for their intervals
 
-module _ (known : Known) (old new : Line) (same : SameButParams old new) where
-  delay_kept : (param : ℕ) → IsDelayAt old param → IsDelayAt new param
-  delay_kept param at = record {
-    channel = at.channel;
-    exists = subst (λ (n : ℕ). at.channel < n) (sym (known.counts.channels old new same)) at.exists;
-    number = along old new same
-        (λ s ts cs. setting_number (line_settings s ts cs) (owner.Channel at.channel) Delay)
-        ∙ at.number;
-  }
-
 pub can_split_kept : Known → (old new : Line) → SameButParams old new → (box : Box) (param mid : ℕ)
     → CanSplit old box param mid → CanSplit new box param mid
 can_split_kept known old new same box param mid can = record {
   exists = subst (λ (n : ℕ). param < n) (sym (known.counts.params old new same)) can.exists;
-  number = λ at. can.number (delay_kept known new old (exchanged old new same) param at);
+  number = λ told. can.number (sym (known.counts.told old new param same) ∙ told);
   above = can.above;
   below = can.below;
 }

@@ -1,8 +1,8 @@
 -- The leaves of a tree of splits, each with its part of a box.
 use Rattle.std.specs.Prelude.{◌≡◌, ◌≤◌, ◌<◌, ◌+◌, ◌++◌, ℕ, Bool, true, false, List, [], ◌∷◌, Some}
-use Rattle.std.specs.Prelude.{slice_get}
+use Rattle.std.specs.Prelude.{IsTrue, slice_get}
 use Rattle.line_model.specs.{declared.line.Line.Line, declared.script.Script.Script}
-use Rattle.line_model.specs.{Parameters.param_count, SetBounds.IsDelayAt, Choice.Choice, Choice.Box}
+use Rattle.line_model.specs.{Parameters.param_count, Parameters.is_delay, Choice.Choice, Choice.Box}
 use Rattle.line_model.specs.{Choice.IsWithin, Boxes.box_with, HeldOver.IsHeldOver}
 use Rattle.box_split.specs.Trees.{SplitTree, Yes, Undecided, Split}
 
@@ -31,7 +31,7 @@ leaves box (Split param mid first second) =
 -- empty
 pub record CanSplit (line : Line) (box : Box) (param mid : ℕ) : Type 0 where
   pub exists : param < param_count line
-  pub number : ¬ (IsDelayAt line param)
+  pub number : ¬ (IsTrue (is_delay line param))
   pub above : (box.ends param).least ≤ mid
   pub below : mid < (box.ends param).greatest
 

@@ -5,7 +5,7 @@ ghost use Rattle.line_model.specs.Parameters.{param_count};
 ghost use Rattle.box_split.specs.Quiet.{AreCorners, IsCorner, corner_number};
 
 use crate::known::laws_below;
-use crate::widest::{greatest, least, widest};
+use crate::widest::widest;
 use line_model::{Line, Memory};
 use std::alloc::Global;
 
@@ -71,13 +71,13 @@ fn number_in(line: &Line, high: bool, but: u32, param: u32) -> u32
 {
     if param == but {
         if high {
-            least(line, param)
+            line.least(param)
         } else {
-            greatest(line, param)
+            line.greatest(param)
         }
     } else if high {
-        greatest(line, param)
+        line.greatest(param)
     } else {
-        least(line, param)
+        line.least(param)
     }
 }

@@ -5,7 +5,7 @@ ghost use Rattle.line_model.specs.{Parameters.declared_ends, WithBounds.IsWithBo
 ghost use Rattle.box_split.specs.Widths.{IsWidest, middle as middle_of};
 
 use crate::known::laws_below;
-use crate::widest::{greatest, least, middle};
+use crate::widest::middle;
 use line_model::{Line, Memory};
 use std::alloc::Global;
 
@@ -16,7 +16,7 @@ pub fn lower(alloc: Global, line: &Line, param: u32) -> Result<Line, Memory>
         (declared_ends line.now param).least (middle_of line.now param) first) }
 {
     laws_below();
-    let from = least(line, param);
+    let from = line.least(param);
     let mid = middle(line, param);
     line.with_bounds(alloc, param, from, mid)
 }
@@ -28,7 +28,7 @@ pub fn upper(alloc: Global, line: &Line, param: u32) -> Result<Line, Memory>
         (middle_of line.now param + 1) (declared_ends line.now param).greatest second) }
 {
     laws_below();
-    let to = greatest(line, param);
+    let to = line.greatest(param);
     let mid = middle(line, param);
     line.with_bounds(alloc, param, mid + 1, to)
 }

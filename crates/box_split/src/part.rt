@@ -8,7 +8,6 @@ ghost use Rattle.box_split.specs.Leaves.{CanSplit, lower_half, upper_half};
 ghost use Rattle.box_split.specs.Parts.{IsPart};
 
 use crate::known::laws_below;
-use crate::widest::{greatest, least};
 use line_model::{Line, Memory};
 use std::alloc::Global;
 
@@ -20,10 +19,10 @@ pub fn can_split(line: &Line, param: u32, mid: u32) -> bool
     if line.is_delay(param) {
         return false;
     }
-    if mid < least(line, param) {
+    if mid < line.least(param) {
         return false;
     }
-    mid < greatest(line, param)
+    mid < line.greatest(param)
 }
 
 /// The line of the lower half of a part, whatever line and box it is a part of.
@@ -33,7 +32,7 @@ pub fn lower_part(alloc: Global, part: &Line, param: u32, mid: u32) -> Result<Li
         IsPart line (lower_half box param mid) half) }
 {
     laws_below();
-    let from = least(part, param);
+    let from = part.least(param);
     part.with_bounds(alloc, param, from, mid)
 }
 
@@ -44,6 +43,6 @@ pub fn upper_part(alloc: Global, part: &Line, param: u32, mid: u32) -> Result<Li
         IsPart line (upper_half box param mid) half) }
 {
     laws_below();
-    let to = greatest(part, param);
+    let to = part.greatest(param);
     part.with_bounds(alloc, param, mid + 1, to)
 }

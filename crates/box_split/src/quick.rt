@@ -16,7 +16,7 @@ use crate::known::laws_below;
 use crate::leaf::{leaf, split};
 use crate::node::Node;
 use crate::parts::parts_of;
-use crate::widest::{greatest, least, middle, widest};
+use crate::widest::{middle, widest};
 use box_lanes::held_each;
 use gate_net::Net;
 use line_model::{Line, Memory, Script};
@@ -140,10 +140,10 @@ fn is_narrowed_at(line: &Line, wide: &[bool], part: &Line, param: u32) -> bool
     ensures same { IsTrue result → is_wide wide.now param ≡ false →
         declared_ends part.now param ≡ declared_ends line.now param }
 {
-    let from = least(line, param);
-    let to = greatest(line, param);
-    let own_from = least(part, param);
-    let own_to = greatest(part, param);
+    let from = line.least(param);
+    let to = line.greatest(param);
+    let own_from = part.least(param);
+    let own_to = part.greatest(param);
     if wide[param as usize] {
         from <= own_from && own_to <= to
     } else {

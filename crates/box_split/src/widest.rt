@@ -1,12 +1,10 @@
 //! The parameter that a line is split at.
 
 ghost use Rattle.std.specs.Prelude.{◌≡◌, ◌≤◌, ◌<◌, ◌+◌, ◌-◌};
-ghost use Rattle.line_model.specs.Parameters.{param_count, declared_ends};
-ghost use Rattle.timing_box.specs.Delays.{is_delay as is_delay_param};
+ghost use Rattle.line_model.specs.Parameters.{param_count};
 ghost use Rattle.box_split.specs.Widths.{width as width_of_param, middle as middle_of, IsChoiceOf};
 
 use line_model::Line;
-use line_model::interval_laws::declared_intervals_are_in_order;
 
 /// Among the parameters that are no delays, the first one of the greatest width, if that is not 0.
 pub fn widest(line: &Line) -> Option<u32>
@@ -43,11 +41,10 @@ fn width(line: &Line, param: u32) -> u32
     requires { param < param_count line.now }
     ensures { result ≡ width_of_param line.now param }
 {
-    declared_intervals_are_in_order();
-    if is_delay(line, param) {
+    if line.is_delay(param) {
         0
     } else {
-        greatest(line, param) - least(line, param)
+        line.greatest(param) - line.least(param)
     }
 }
 
@@ -56,35 +53,5 @@ pub fn middle(line: &Line, param: u32) -> u32
     requires { param < param_count line.now }
     ensures { result ≡ middle_of line.now param }
 {
-    declared_intervals_are_in_order();
-    (least(line, param) + greatest(line, param)) / 2
-}
-
-// Whether the parameter is the delay of a channel.
-#[tactic(auto, unfolding(timing_box::specs::Delays::is_delay))]
-fn is_delay(line: &Line, param: u32) -> bool
-    ensures { result ≡ is_delay_param line.now param }
-{
-    for c in 0..line.channels.len() {
-        if line.delay_of(c as u32) == param {
-            return true;
-        }
-    }
-    false
-}
-
-/// The least number that is declared.
-pub fn least(line: &Line, param: u32) -> u32
-    requires { param < param_count line.now }
-    ensures { result ≡ (declared_ends line.now param).least }
-{
-    line.params[param as usize].least
-}
-
-/// The greatest number that is declared.
-pub fn greatest(line: &Line, param: u32) -> u32
-    requires { param < param_count line.now }
-    ensures { result ≡ (declared_ends line.now param).greatest }
-{
-    line.params[param as usize].greatest
+    (line.least(param) + line.greatest(param)) / 2
 }

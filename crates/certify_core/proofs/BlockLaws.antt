@@ -52,21 +52,11 @@ candidate_before line first lane i before late =
 
 -- ---- a candidate's values
 
-pub value_at : (line : Line) (number param : ℕ) → param < param_count line
+value_at : (line : Line) (number param : ℕ) → param < param_count line
     → get_or (candidate line number).values param 0 ≡ candidate_value line number param
 value_at line number param inside =
     get_or-map-range_with_len (candidate_value line number) 0 (param_count line) param param 0
     inside (omega arith)
-
-pub value_limited : (line : Line) (number param : ℕ) → param < param_count line
-    → IsTimingInside line (candidate line number) → candidate_value line number param ≤ 4000
-value_limited line number param there inside =
-    let below : param < length (leasts line.params.items) =
-    omega (arith, length-map line.params.items (λ p. p.least)) in
-    let limited = (line.ends_in_range param below).1 in
-    let within = (inside.values param there).greatest in
-    let same = value_at line number param there in
-    omega arith
 
 -- ---- the box of a lane
 

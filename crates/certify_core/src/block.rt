@@ -3,8 +3,7 @@
 ghost use Rattle.std.specs.Prelude.{◌≡◌, ◌<◌, IfOk};
 ghost use Rattle.line_model.specs.Parameters.{param_count};
 ghost use Rattle.gate_net.specs.NetOf.{IsNetOf};
-ghost use Rattle.timing_box.specs.Candidates.{candidate, candidate_count as count_of};
-ghost use Rattle.timing_box.specs.Candidates.{candidate_value as value_of};
+ghost use Rattle.timing_box.specs.Candidates.{candidate_count as count_of};
 ghost use Rattle.certify_core.specs.Candidates.{candidate_in, IsBlockSpan, AreBlockSpans};
 ghost use Rattle.certify_core.specs.Candidates.{IsBlockRun};
 
@@ -15,8 +14,7 @@ use simulator::{Tracks, run_tracks};
 use std::alloc::Global;
 use tick_signal::{Lanes64, Tick, Ticks64};
 use timing_box::{
-    Step, Timing, candidate_count, candidate_value, candidates_are_inside,
-    timings_inside_are_choices_inside,
+    Step, candidate_count, candidate_value, candidates_are_inside, timings_inside_are_choices_inside,
 };
 
 /// The number of the candidate in a lane of the block that begins with candidate `first`. The lanes
@@ -36,16 +34,6 @@ pub fn number_in(line: &Line, first: u32, lane: u32) -> u32
     }
 }
 
-// A parameter's number in a candidate.
-fn tick(line: &Line, number: u32, param: u32) -> Tick
-    requires candidate { number < count_of line.now }
-    requires param { param < param_count line.now }
-    ensures { result ≡ value_of line.now number param }
-{
-    candidates_are_inside();
-    Tick::new(candidate_value(line, number, param))
-}
-
 // A parameter's number in each candidate of a block.
 fn block_span(line: &Line, first: u32, param: u32) -> Ticks64
     requires first { first < count_of line.now }
@@ -54,7 +42,7 @@ fn block_span(line: &Line, first: u32, param: u32) -> Ticks64
 {
     let mut ticks = [Tick::new(0); 64];
     for lane in 0..64 {
-        ticks[lane] = tick(line, number_in(line, first, lane as u32), param);
+        ticks[lane] = candidate_value(line, number_in(line, first, lane as u32), param);
     }
     Ticks64::new(ticks)
 }
@@ -92,16 +80,4 @@ pub fn run_block(
     let steps: [Step<Ticks64>; 0] = [];
     let tracks = run_tracks::<Lanes64>(alloc, net, line, script, &spans, &steps)?;
     Ok(tracks)
-}
-
-/// A candidate.
-pub fn timing_of(alloc: Global, line: &Line, number: u32) -> Result<Timing, Memory>
-    requires { number < count_of line.now }
-    ensures { IfOk result (λ timing. timing ≡ candidate line.now number) }
-{
-    let mut values = Vec::new(alloc);
-    for param in 0..line.param_count() {
-        values.push(tick(line, number, param))?;
-    }
-    Ok(Timing::new(values))
 }

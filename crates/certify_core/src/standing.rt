@@ -10,7 +10,7 @@ ghost use Rattle.certify_core.specs.Candidates.{IsBlockRun};
 ghost use Rattle.certify_core.specs.Standings.{IsStanding, AllStand, IsOfLine, verdict_as};
 ghost use Rattle.certify_core.specs.declared.standing.Standing.{Standing};
 
-use crate::block::{number_in, run_block, timing_of};
+use crate::block::{number_in, run_block};
 use crate::failing::{failing, first_lane};
 use crate::verdict::Verdict;
 use gate_net::Net;
@@ -20,7 +20,7 @@ use line_model::{Line, Memory, Script};
 use simulator::Tracks;
 use std::alloc::Global;
 use tick_signal::Lanes64;
-use timing_box::candidate_count;
+use timing_box::{candidate, candidate_count};
 
 /// The rule is held, a candidate fails, or none that was tried does.
 #[derive(Clone, Copy)]
@@ -197,7 +197,7 @@ fn verdict(alloc: Global, line: &Line, standing: Standing) -> Result<Verdict, Me
 {
     Ok(match standing {
         Standing::Held => Verdict::Yes,
-        Standing::Failing(number) => Verdict::No(timing_of(alloc, line, number)?),
+        Standing::Failing(number) => Verdict::No(candidate(alloc, line, number)?),
         Standing::Open => Verdict::Undecided,
     })
 }

@@ -3,7 +3,6 @@
 #![tactic(auto)]
 
 mod answer;
-mod declared;
 mod known;
 mod laws;
 mod loss;

@@ -9,7 +9,6 @@ ghost use Rattle.interval_wave.specs.PairWavesOf.{pair_history};
 ghost use Rattle.margin_search.specs.Raised.{raised};
 ghost use Rattle.margin_search.specs.Lost.{IsScriptHeld, IsFirstTerminal, IsLoss};
 
-use crate::declared::least;
 use crate::known::laws_below;
 use crate::upper_end::Lost;
 use gate_net::Net;
@@ -41,7 +40,7 @@ pub fn lost_at(
     laws_below();
     nets_do_not_rest_on_the_intervals();
     scripts_fit_whatever_the_intervals();
-    let other = line.with_bounds(alloc, param, least(line, param), greatest)?;
+    let other = line.with_bounds(alloc, param, line.least(param), greatest)?;
     first_lost(alloc, &other, net, scripts)
 }
 

@@ -10,13 +10,11 @@ ghost use Rattle.gate_net.specs.NetOf.{IsNetOf};
 ghost use Rattle.margin_search.specs.Raised.{raised};
 ghost use Rattle.margin_search.specs.Margin.{IsUpperEnd, IsMargin, IsBracket, IsHeldTo, IsLostAt};
 
-use crate::declared::least;
 use crate::known::laws_below;
 use crate::laws::what_is_held_to_a_number_is_met;
 use crate::loss::lost_at;
 use crate::upper_end::{Lost, UpperEnd};
 use gate_net::Net;
-use line_model::interval_laws::declared_intervals_are_in_order;
 use line_model::{Line, Memory, Script};
 use std::alloc::Global;
 
@@ -42,8 +40,7 @@ pub fn margin(
 {
     laws_below();
     what_is_held_to_a_number_is_met();
-    declared_intervals_are_in_order();
-    let least = least(line, param);
+    let least = line.least(param);
     if let Some(lost) = lost_at(alloc, line, net, scripts, param, least)? {
         return Ok(UpperEnd {
             greatest: None,

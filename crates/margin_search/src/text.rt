@@ -4,7 +4,6 @@ ghost use Rattle.std.specs.Prelude.{◌≡◌, ◌++◌, ◌<◌, length, OnOk, 
 ghost use Rattle.line_model.specs.Parameters.{terminal_count, param_count};
 ghost use Rattle.margin_search.specs.MarginText.{greatest_words, lost_words, margin_line};
 
-use crate::declared::greatest;
 use crate::upper_end::{Lost, UpperEnd};
 use itoa::Buffer;
 use line_model::{Line, Memory, Script, name_of_parameter, name_of_script, name_of_terminal};
@@ -29,7 +28,7 @@ pub fn margin_text(
     text.extend_from_slice(b" ")?;
     push_greatest(&mut text, margin.greatest)?;
     text.extend_from_slice(b" declared ")?;
-    push_number(&mut text, greatest(line, param))?;
+    push_number(&mut text, line.greatest(param))?;
     push_lost(&mut text, line, scripts, margin.lost)?;
     text.extend_from_slice(b"\n")?;
     Ok(text)

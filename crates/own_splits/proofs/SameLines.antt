@@ -5,16 +5,15 @@ use Rattle.std.proofs.Math.Path.{fun_ext}
 use Rattle.std.proofs.lemmas.Bool.{cases_lt}
 use Rattle.std.specs.Prelude.{◌&&◌, length, take, nat_le, nat_lt, slice_set, if◌then◌else◌}
 use Rattle.std.specs.List.{count_by, range_with_len}
-use Rattle.history.specs.{Elements.some_below, Rails.Ends, Rails.Rails}
+use Rattle.history.specs.Rails.{Ends, Rails}
 use Rattle.line_model.specs.declared.script.Script.{Script}
-use Rattle.line_model.specs.Parameters.{channel_count, delay_param, declared_ends}
+use Rattle.line_model.specs.Parameters.{delay_param, is_delay, declared_ends}
 use Rattle.line_model.specs.Choice.{Box, Choice, declared_box}
 use Rattle.line_model.specs.Histories.{History, IsLineHistory, Meets, MeetsBy, PairHistory}
 use Rattle.line_model.specs.Histories.{IsPairHistory}
 use Rattle.line_model.specs.{declared.line.Line.Line, declared.line.Param.Param, SameLine.SameLine}
 use Rattle.line_model.specs.{SetBounds.SameButParams, WithBounds.IsWithBounds, Intervals.leasts}
 use Rattle.line_model.specs.{Intervals.greatests, Rule.Held, Rule.rule_by, Rule.rule_of}
-use Rattle.timing_box.specs.Delays.{is_delay}
 use Rattle.timing_box.specs.Candidates.{is_free, candidate, candidate_count, candidate_value}
 use Rattle.timing_box.specs.{Timing.TimingValues, Timing.number_at, Choice.timing_choice}
 use Rattle.certify_core.specs.declared.verdict.Verdict.{Verdict}
@@ -80,12 +79,14 @@ params_by (x ∷ a) (y ∷ b) names low high =
 
 pub own_line : (line : Line) → SameLine line line
 own_line line = record {
-  tick_us = refl;
-  horizon = refl;
-  scheme = refl;
-  zone1_trip = refl;
-  terminals = refl;
-  channels = refl;
+  rest = record {
+    tick_us = refl;
+    horizon = refl;
+    scheme = refl;
+    zone1_trip = refl;
+    terminals = refl;
+    channels = refl;
+  };
   params = refl;
 }
 
@@ -93,14 +94,7 @@ own_line line = record {
 
 module _ (known : LinesKnown) (old new : Line) (same : SameLine old new) where
   rest : SameButParams old new
-  rest = record {
-    tick_us = same.tick_us;
-    horizon = same.horizon;
-    scheme = same.scheme;
-    zone1_trip = same.zone1_trip;
-    terminals = same.terminals;
-    channels = same.channels;
-  }
+  rest = same.rest
 
   delays_same : delay_param new ≡ delay_param old
   delays_same = fun_ext (λ c. known.counts.delays old new c rest)
@@ -146,11 +140,11 @@ module _ (known : LinesKnown) (old new : Line) (same : SameLine old new) where
   module _ (script : Script) (k : ℕ) where
     meets_new : (h : History) → Meets old script k h → Meets new script k h
     meets_new h met =
-        subst (λ (n : ℕ). MeetsBy script.kind script.deadline n (h.trip k)) (sym same.horizon) met
+        subst (λ (n : ℕ). MeetsBy script.kind script.deadline n (h.trip k)) (sym rest.horizon) met
 
     meets_old : (h : History) → Meets new script k h → Meets old script k h
     meets_old h met =
-        subst (λ (n : ℕ). MeetsBy script.kind script.deadline n (h.trip k)) same.horizon met
+        subst (λ (n : ℕ). MeetsBy script.kind script.deadline n (h.trip k)) rest.horizon met
 
     fails_old : (timing : TimingValues) → FailsAt new script k timing → FailsAt old script k timing
     fails_old timing f = record {
@@ -172,11 +166,11 @@ module _ (known : LinesKnown) (old new : Line) (same : SameLine old new) where
 
     held_old : (trip : ℕ → Rails) → rule_of new script trip ≡ Held → rule_of old script trip ≡ Held
     held_old trip held =
-        subst (λ (n : ℕ). rule_by script.kind script.deadline n trip ≡ Held) same.horizon held
+        subst (λ (n : ℕ). rule_by script.kind script.deadline n trip ≡ Held) rest.horizon held
 
     held_new : (trip : ℕ → Rails) → rule_of old script trip ≡ Held → rule_of new script trip ≡ Held
     held_new trip held =
-        subst (λ (n : ℕ). rule_by script.kind script.deadline n trip ≡ Held) (sym same.horizon) held
+        subst (λ (n : ℕ). rule_by script.kind script.deadline n trip ≡ Held) (sym rest.horizon) held
 
     verdict_old : (w : PairHistory) (v : Verdict) → IsVerdict new script k w v
         → IsVerdict old script k w v
@@ -205,14 +199,12 @@ module _ (known : LinesKnown) (old new : Line) (same : SameLine old new) where
   -- ---- widths
 
   width_same : (p : ℕ) → width new p ≡ width old p
-  unfolding width is_delay
+  unfolding width
   width_same p =
-      let made : (ℕ → ℕ) → ℕ → (ℕ → Ends) → ℕ = λ at n ends.
-      cond (some_below (λ c. at c == p) n) 0 ((ends p).greatest - (ends p).least) in
-      ap (λ (at : ℕ → ℕ). made at (channel_count new) (declared_ends new)) delays_same
-      ∙ ap (λ (n : ℕ). made (delay_param old) n (declared_ends new))
-      (known.counts.channels old new rest)
-      ∙ ap (made (delay_param old) (channel_count old)) ends_same
+      let made : Bool → (ℕ → Ends) → ℕ = λ told ends.
+      cond told 0 ((ends p).greatest - (ends p).least) in
+      ap (λ (told : Bool). made told (declared_ends new)) (known.counts.told old new p rest)
+      ∙ ap (made (is_delay old p)) ends_same
 
   pub middle_same : (p : ℕ) → middle new p ≡ middle old p
   middle_same p = ap (λ (ends : ℕ → Ends). ((ends p).least + (ends p).greatest) / 2) ends_same
@@ -273,12 +265,14 @@ module _ (known : LinesKnown) (old new : Line) (same : SameLine old new) where
       → IsWithBounds old param least greatest first
       → IsWithBounds new param least greatest second → SameLine first second
   half_same param least greatest first second a b = record {
-    tick_us = b.rest.tick_us ∙ same.tick_us ∙ sym a.rest.tick_us;
-    horizon = b.rest.horizon ∙ same.horizon ∙ sym a.rest.horizon;
-    scheme = b.rest.scheme ∙ same.scheme ∙ sym a.rest.scheme;
-    zone1_trip = b.rest.zone1_trip ∙ same.zone1_trip ∙ sym a.rest.zone1_trip;
-    terminals = b.rest.terminals ∙ same.terminals ∙ sym a.rest.terminals;
-    channels = b.rest.channels ∙ same.channels ∙ sym a.rest.channels;
+    rest = record {
+      tick_us = b.rest.tick_us ∙ same.rest.tick_us ∙ sym a.rest.tick_us;
+      horizon = b.rest.horizon ∙ same.rest.horizon ∙ sym a.rest.horizon;
+      scheme = b.rest.scheme ∙ same.rest.scheme ∙ sym a.rest.scheme;
+      zone1_trip = b.rest.zone1_trip ∙ same.rest.zone1_trip ∙ sym a.rest.zone1_trip;
+      terminals = b.rest.terminals ∙ same.rest.terminals ∙ sym a.rest.terminals;
+      channels = b.rest.channels ∙ same.rest.channels ∙ sym a.rest.channels;
+    };
     params = params_by second.params.items first.params.items
         (b.params.names ∙ ap (λ (ps : List Param). map (λ p. p.name) ps) same.params
         ∙ sym a.params.names)

@@ -1,6 +1,5 @@
 pub mod AllowedLaws
 pub mod ClashLaws
-pub mod CandidateLaws
 pub mod Taken
 pub mod WaveLaws
 pub mod NamedLaws

@@ -1,12 +1,10 @@
 //! Whether a timing gives a record.
 
 ghost use Rattle.std.specs.Prelude.{◌≡◌, ◌<◌, ◌↔◌, ℕ, length, IsTrue, IfOk};
-ghost use Rattle.line_model.specs.Parameters.{terminal_count, param_count};
+ghost use Rattle.line_model.specs.Parameters.{terminal_count};
 ghost use Rattle.line_model.specs.Histories.{IsSameHistory};
 ghost use Rattle.gate_net.specs.NetOf.{IsNetOf};
-ghost use Rattle.timing_box.specs.{Candidates.candidate as candidate_timing};
-ghost use Rattle.timing_box.specs.{Candidates.candidate_count as count_of};
-ghost use Rattle.timing_box.specs.{Candidates.candidate_value as value_of, Inside.IsTimingInside};
+ghost use Rattle.timing_box.specs.Inside.{IsTimingInside};
 ghost use Rattle.simulator.specs.Played.{played};
 ghost use Rattle.record_match.specs.Seen.{AreSeen, Gives, IsSameAt, seen_history};
 
@@ -18,8 +16,8 @@ use line_model::{Line, Memory, Script};
 use simulator::laws::a_timing_is_one_choice;
 use simulator::{Waves, run};
 use std::alloc::Global;
-use tick_signal::{Level, Signal, Tick};
-use timing_box::{Timing, candidate_value, candidates_are_inside};
+use tick_signal::{Level, Signal};
+use timing_box::Timing;
 
 /// Whether the history of a timing is what was seen.
 pub fn gives(
@@ -90,26 +88,4 @@ fn is_same_at(line: &Line, waves: &Waves<Level>, seen: &Seen, terminal: u32, t: 
     let key = nth(seen.keys.as_slice(), terminal).at(t).must(0);
     let trip = nth(seen.trips.as_slice(), terminal).at(t).must(0);
     waves.key(terminal, t).must(0) == key && waves.trip(terminal, t).must(0) == trip
-}
-
-/// A candidate.
-pub fn candidate(alloc: Global, line: &Line, number: u32) -> Result<Timing, Memory>
-    requires { number < count_of line.now }
-    ensures { IfOk result (λ timing. timing ≡ candidate_timing line.now number) }
-{
-    let mut values = Vec::new(alloc);
-    for param in 0..line.param_count() {
-        values.push(tick(line, number, param))?;
-    }
-    Ok(Timing::new(values))
-}
-
-// The number of a parameter in a candidate.
-fn tick(line: &Line, number: u32, param: u32) -> Tick
-    requires candidate { number < count_of line.now }
-    requires param { param < param_count line.now }
-    ensures { result ≡ value_of line.now number param }
-{
-    candidates_are_inside();
-    Tick::new(candidate_value(line, number, param))
 }

@@ -10,13 +10,13 @@ ghost use Rattle.record_match.specs.{declared.seen.Match.Match, Match.IsMatch, M
 
 use crate::clash::first_clash;
 use crate::laws::what_a_choice_gives_is_allowed;
-use crate::replay::{candidate, gives};
+use crate::replay::gives;
 use crate::seen::{Match, Seen};
 use cert_checker::gate_waves;
 use gate_net::Net;
 use line_model::{Line, Memory, Script};
 use std::alloc::Global;
-use timing_box::{candidate_count, candidates_are_inside};
+use timing_box::{candidate, candidate_count, candidates_are_inside};
 
 /// Settles a record of a script: impossible at the first place where what follows from the keys
 /// that were seen does not allow what was seen; else explained by the first candidate that gives

@@ -9,6 +9,6 @@ with_bounds-requires-clause-ordered c =
     let line = c.args.line.now in
     let below : middle line c.args.param < (declared_ends line c.args.param).greatest =
     (middle_inside line c.args.param c.requires.free).1 in
-    let same = c.greatest-to.ensures in
+    let same = c.greatest-to.ensures.number in
     let mid = c.middle-mid.ensures in
     omega arith

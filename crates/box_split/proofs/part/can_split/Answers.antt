@@ -9,7 +9,7 @@ returns-then-mid-least c = (
   λ can. absurd (omega (
     arith,
     (can_split_when c.args.line.now c.args.param c.args.mid can).0,
-    c.least.ensures,
+    c.least.ensures.number,
     c.if-mid-least.true,
   )),
 )
@@ -20,12 +20,12 @@ returns c = (
       let below : c.args.mid < c.greatest.result =
       (Decides-ltb c.args.mid c.greatest.result).0 yes in
       splits_when c.args.line.now c.args.param c.args.mid c.requires
-      (λ at. (let t = c.is_delay.ensures.1 at in let f = c.if-is_delay.false in cc))
-      (omega (arith, c.least.ensures, c.if-mid-least.false))
-      (omega (arith, c.greatest.ensures, below)),
+      (λ told. (let is = c.is_delay.ensures in let not = c.if-is_delay.false in cc))
+      (omega (arith, c.least.ensures.number, c.if-mid-least.false))
+      (omega (arith, c.greatest.ensures.number, below)),
   λ can. lt-ltb _ _ (omega (
     arith,
     (can_split_when c.args.line.now c.args.param c.args.mid can).1,
-    c.greatest.ensures,
+    c.greatest.ensures.number,
   )),
 )

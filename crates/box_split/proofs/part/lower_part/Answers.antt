@@ -8,7 +8,7 @@ pub with_bounds-requires-clause-ordered : goal.with_bounds-requires-clause-order
 with_bounds-requires-clause-ordered c =
     omega (
       arith,
-      c.least-from.ensures,
+      c.least-from.ensures.number,
       (can_split_when c.args.part.now c.args.param c.args.mid c.requires).0,
     )
 
@@ -22,5 +22,5 @@ returns c =
     (λ half. IsWithBounds c.args.part.now c.args.param c.least-from.result c.args.mid half) _
     (λ half is line box p.
     lower_of c.laws_below.ensures line c.args.part.now half box c.args.param c.args.mid
-    c.least-from.result c.requires c.least-from.ensures is p)
+    c.least-from.result c.requires c.least-from.ensures.number is p)
     c.with_bounds.ensures

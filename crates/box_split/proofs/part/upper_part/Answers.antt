@@ -8,7 +8,7 @@ pub with_bounds-requires-clause-ordered : goal.with_bounds-requires-clause-order
 with_bounds-requires-clause-ordered c =
     omega (
       arith,
-      c.greatest-to.ensures,
+      c.greatest-to.ensures.number,
       (can_split_when c.args.part.now c.args.param c.args.mid c.requires).1,
     )
 
@@ -22,5 +22,5 @@ returns c =
     (λ half. IsWithBounds c.args.part.now c.args.param (c.args.mid + 1) c.greatest-to.result half) _
     (λ half is line box p.
     upper_of c.laws_below.ensures line c.args.part.now half box c.args.param c.args.mid
-    c.greatest-to.result c.requires c.greatest-to.ensures is p)
+    c.greatest-to.result c.requires c.greatest-to.ensures.number is p)
     c.with_bounds.ensures

@@ -10,7 +10,7 @@ loop-lane-preserved c =
     let line = c.args.line.now in
     let i : ℕ = c.loop-lane.lane in
     let ticks = c.loop-lane.ticks in
-    let v : ℕ = c.tick.result in
+    let v : ℕ = c.candidate_value.result in
     let long : length c.loop-lane.ticks ≡ 64 = c.loop-lane.invariant.long in
     let lt : i < length ticks = omega arith in
     record {
@@ -22,6 +22,6 @@ loop-lane-preserved c =
           let ne : k ≢ i = omega arith in
           get_or-set_other ticks i k v 0 ne ∙ c.loop-lane.invariant.values k before)
           (get_or-set_same ticks i v 0 lt
-          ∙ c.tick.ensures
+          ∙ c.candidate_value.ensures
           ∙ ap (λ (n : ℕ). candidate_value line n c.args.param) c.number_in.ensures.number);
     }

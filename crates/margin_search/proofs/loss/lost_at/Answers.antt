@@ -14,6 +14,6 @@ returns c =
     (λ (o : Option Lost). IsLoss line scripts (raised line c.args.param c.args.greatest) o)
     (λ o is. loss_moved c.laws_below.ensures line other c.args.param c.args.greatest
     c.requires.exists
-    (subst (λ (n : ℕ). IsWithBounds line c.args.param n c.args.greatest other) c.least.ensures
+    (subst (λ (n : ℕ). IsWithBounds line c.args.param n c.args.greatest other) c.least.ensures.number
     c.in_ok-other.ensures) scripts o is)
     c.first_lost.ensures

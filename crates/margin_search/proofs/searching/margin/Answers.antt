@@ -53,24 +53,13 @@ module _ (known : Known) (line : Line) (scripts : List Script) (param : ℕ)
       held_met known line scripts param fit v s k script (margin_of end.greatest end.lost v is e) at kn
       choice h within is_h
 
-pub lost_at-requires-clause-within : goal.lost_at-requires-clause-within
-lost_at-requires-clause-within c =
-    let least = c.least-least.ensures in
-    let ordered =
-    c.declared_intervals_are_in_order.ensures.ordered c.args.line.now c.args.param
-    c.requires.exists in
-    let within =
-    c.declared_intervals_are_in_order.ensures.within c.args.line.now c.args.param
-    c.requires.exists in
-    omega arith
-
 pub returns-in-Some-clause-margin : goal.returns-in-Some-clause-margin
 returns-in-Some-clause-margin c =
     let line = c.args.line.now in
     let scripts = c.args.scripts.now in
     let param = c.args.param in
     let at : IsLostAt line scripts param (declared_ends line param).least c.in-Some.lost =
-    subst (λ (n : ℕ). IsLostAt line scripts param n c.in-Some.lost) c.least-least.ensures
+    subst (λ (n : ℕ). IsLostAt line scripts param n c.in-Some.lost) c.least-least.ensures.number
     (subst (λ (o : Option Lost). IsLoss line scripts (raised line param c.least-least.result) o)
     c.in-Some.is c.in_ok-lost.ensures) in
     (none_held c.laws_below.ensures line scripts param c.requires.fit c.in-Some.lost at, at)
@@ -81,12 +70,8 @@ between-requires-clause-bracket c =
     let scripts = c.args.scripts.now in
     let param = c.args.param in
     let least = c.least-least.result in
-    let same = c.least-least.ensures in
-    let ordered =
-    c.declared_intervals_are_in_order.ensures.ordered line param c.requires.exists in
-    let within = c.declared_intervals_are_in_order.ensures.within line param c.requires.exists in
     opened c.laws_below.ensures line scripts param c.requires.fit least c.in-Some-2.lost
-    (omega arith) (omega arith)
+    (omega (arith, c.least-least.ensures.number)) c.least-least.ensures.small
     (subst (λ (o : Option Lost). IsLoss line scripts (raised line param least) o)
     c.in_default.is c.in_ok-lost.ensures)
     (subst (λ (o : Option Lost). IsLoss line scripts (raised line param 4000) o)
