@@ -5,8 +5,8 @@ use Rattle.box_lanes.specs.Held.{part_in}
 use Rattle.box_lanes.proofs.HeldLaws.{part_exists}
 use Rattle.box_lanes.proofs.held.part_span.Goals as goal
 
-pub new-requires-3 : goal.new-requires-3
-new-requires-3 c = λ lane inside.
+pub new-requires-4 : goal.new-requires-4
+new-requires-4 c = λ lane inside.
     let parts = c.args.parts.now in
     let before : lane < c.loop-lane.lane = omega arith in
     let place : ℕ = part_in (length parts) c.args.first lane in
@@ -17,6 +17,6 @@ new-requires-3 c = λ lane inside.
     let ordered = c.declared_intervals_are_in_order.ensures.ordered part c.args.param there in
     let least = c.loop-lane.invariant.least lane part before at in
     let greatest = c.loop-lane.invariant.greatest lane part before at in
-    let low = ap (λ (l : List ℕ). slice_index l lane) c.new.ensures in
-    let high = ap (λ (l : List ℕ). slice_index l lane) c.new-2.ensures in
+    let low = ap (λ (l : List ℕ). slice_index l lane) c.new-2.ensures in
+    let high = ap (λ (l : List ℕ). slice_index l lane) c.new-3.ensures in
     omega arith
