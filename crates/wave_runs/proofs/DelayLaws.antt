@@ -93,73 +93,70 @@ alike f u delay t end h = record {
   passes = λ past r low high. ap f (h.passes past r low high);
 }
 
-all_on : (u : ℕ → Bool) (ends : Ends) (t k a b : ℕ) → ends.least ≤ ends.greatest
-    → ArrivesAlike u ends.least t a → ArrivesAlike u ends.greatest t b → t ≤ k → k < a → k < b
-    → AllCome u ends t → AllCome u ends k
-all_on u ends t k a b ordered first last low high below all c least greatest =
-    let past : ends.greatest ≤ t = (all ends.greatest ordered (omega arith)).past in
-    record {
-      past = omega arith;
-      on = ⊎_elim
-          (λ new. first.passes (omega arith) (k - c) (omega arith) (omega arith)
-          ∙ (all ends.least (omega arith) ordered).on)
-          (λ old. came u ends.least ends.greatest t (k - c) all (omega arith) old)
-          (cases_lt t (k - c + ends.least));
-    }
-
-all_back : (u : ℕ → Bool) (ends : Ends) (t k a b : ℕ) → ends.least ≤ ends.greatest
-    → ArrivesAlike u ends.least t a → ArrivesAlike u ends.greatest t b → t ≤ k → k < a → k < b
-    → AllCome u ends k → AllCome u ends t
-all_back u ends t k a b ordered first last low high below all c least greatest =
-    let reaches : ends.greatest ≤ k = (all ends.greatest ordered (omega arith)).past in
-    let past : ends.greatest ≤ t = ⊎_elim
-    (λ early. let shut : b ≤ ends.greatest = last.shut early in absurd (omega arith))
-    (λ late. late)
-    (cases_lt t ends.greatest) in
-    record {
-      past = omega arith;
-      on = ⊎_elim
-          (λ gone. last.passes past (t - c) (omega arith) (omega arith)
-          ∙ sym (last.passes past (k - ends.greatest) (omega arith) (omega arith))
-          ∙ (all ends.greatest ordered (omega arith)).on)
-          (λ still. came u ends.least ends.greatest k (t - c) all still (omega arith))
-          (cases_lt (t - c + ends.greatest) k);
-    }
-
-some_on : (u : ℕ → Bool) (ends : Ends) (t k a b : ℕ) → ends.least ≤ ends.greatest
-    → ArrivesAlike u ends.least t a → ArrivesAlike u ends.greatest t b → t ≤ k → k < a → k < b
-    → SomeComes u ends t → SomeComes u ends k
-some_on u ends t k a b ordered first last low high below some =
-    let past : some.c ≤ t = some.comes.past in
-    let least : ends.least ≤ some.c = some.least in
-    let greatest : some.c ≤ ends.greatest = some.greatest in
+-- what arrives alike until past the delay has begun to arrive
+has_begun : (u : ℕ → Bool) (delay t k end : ℕ) → ArrivesAlike u delay t end → delay ≤ k → k < end
+    → delay ≤ t
+has_begun u delay t k end arrives reaches below =
     ⊎_elim
-    (λ gone. let far : ends.greatest ≤ t = ⊎_elim
-    (λ early. let shut : b ≤ ends.greatest = last.shut early in absurd (omega arith))
+    (λ early. let shut : end ≤ delay = arrives.shut early in absurd (omega arith))
     (λ late. late)
-    (cases_lt t ends.greatest) in
-    comes u ends.least ends.greatest k (k - ends.greatest) (omega arith) (omega arith)
-    (last.passes far (k - ends.greatest) (omega arith) (omega arith)
-    ∙ sym (last.passes far (t - some.c) (omega arith) (omega arith)) ∙ some.comes.on))
-    (λ still. comes u ends.least ends.greatest k (t - some.c) still (omega arith) some.comes.on)
-    (cases_lt (t - some.c + ends.greatest) k)
+    (cases_lt t delay)
 
-some_back : (u : ℕ → Bool) (ends : Ends) (t k a b : ℕ) → ends.least ≤ ends.greatest
-    → ArrivesAlike u ends.least t a → ArrivesAlike u ends.greatest t b → t ≤ k → k < a → k < b
-    → SomeComes u ends k → SomeComes u ends t
-some_back u ends t k a b ordered first last low high below some =
-    let past : some.c ≤ k = some.comes.past in
-    let least : ends.least ≤ some.c = some.least in
-    let greatest : some.c ≤ ends.greatest = some.greatest in
-    ⊎_elim
-    (λ new. let near : ends.least ≤ t = ⊎_elim
-    (λ early. let shut : a ≤ ends.least = first.shut early in absurd (omega arith))
-    (λ late. late)
-    (cases_lt t ends.least) in
-    comes u ends.least ends.greatest t (t - ends.least) (omega arith) (omega arith)
-    (sym (first.passes near (k - some.c) (omega arith) (omega arith)) ∙ some.comes.on))
-    (λ old. comes u ends.least ends.greatest t (k - some.c) (omega arith) old some.comes.on)
-    (cases_lt t (k - some.c + ends.least))
+module _ (u : ℕ → Bool) (ends : Ends) (t k a b : ℕ) (ordered : ends.least ≤ ends.greatest)
+    (first : ArrivesAlike u ends.least t a) (last : ArrivesAlike u ends.greatest t b) (low : t ≤ k)
+    (high : k < a) (below : k < b) where
+  all_on : AllCome u ends t → AllCome u ends k
+  all_on all c least greatest =
+      let past : ends.greatest ≤ t = (all ends.greatest ordered (omega arith)).past in
+      record {
+        past = omega arith;
+        on = ⊎_elim
+            (λ new. first.passes (omega arith) (k - c) (omega arith) (omega arith)
+            ∙ (all ends.least (omega arith) ordered).on)
+            (λ old. came u ends.least ends.greatest t (k - c) all (omega arith) old)
+            (cases_lt t (k - c + ends.least));
+      }
+
+  all_back : AllCome u ends k → AllCome u ends t
+  all_back all c least greatest =
+      let reaches : ends.greatest ≤ k = (all ends.greatest ordered (omega arith)).past in
+      let past : ends.greatest ≤ t = has_begun u ends.greatest t k b last reaches below in
+      record {
+        past = omega arith;
+        on = ⊎_elim
+            (λ gone. last.passes past (t - c) (omega arith) (omega arith)
+            ∙ sym (last.passes past (k - ends.greatest) (omega arith) (omega arith))
+            ∙ (all ends.greatest ordered (omega arith)).on)
+            (λ still. came u ends.least ends.greatest k (t - c) all still (omega arith))
+            (cases_lt (t - c + ends.greatest) k);
+      }
+
+  some_on : SomeComes u ends t → SomeComes u ends k
+  some_on some =
+      let past : some.c ≤ t = some.comes.past in
+      let least : ends.least ≤ some.c = some.least in
+      let greatest : some.c ≤ ends.greatest = some.greatest in
+      ⊎_elim
+      (λ gone. let far : ends.greatest ≤ t =
+      has_begun u ends.greatest t k b last (omega arith) below in
+      comes u ends.least ends.greatest k (k - ends.greatest) (omega arith) (omega arith)
+      (last.passes far (k - ends.greatest) (omega arith) (omega arith)
+      ∙ sym (last.passes far (t - some.c) (omega arith) (omega arith)) ∙ some.comes.on))
+      (λ still. comes u ends.least ends.greatest k (t - some.c) still (omega arith) some.comes.on)
+      (cases_lt (t - some.c + ends.greatest) k)
+
+  some_back : SomeComes u ends k → SomeComes u ends t
+  some_back some =
+      let past : some.c ≤ k = some.comes.past in
+      let least : ends.least ≤ some.c = some.least in
+      let greatest : some.c ≤ ends.greatest = some.greatest in
+      ⊎_elim
+      (λ new. let near : ends.least ≤ t =
+      has_begun u ends.least t k a first (omega arith) high in
+      comes u ends.least ends.greatest t (t - ends.least) (omega arith) (omega arith)
+      (sym (first.passes near (k - some.c) (omega arith) (omega arith)) ∙ some.comes.on))
+      (λ old. comes u ends.least ends.greatest t (k - some.c) (omega arith) old some.comes.on)
+      (cases_lt t (k - some.c + ends.least))
 
 -- two that have the same facts are the same
 same_received : (facts : DelaysAreTheirFacts) (u v : ℕ → Rails) (ends : Ends)
@@ -187,12 +184,12 @@ pub received_alike : (facts : DelaysAreTheirFacts) (u : ℕ → Rails) (ends : E
 received_alike facts u ends t k a b ordered first last low high below =
     let must : ℕ → Bool = λ r. (u r).must in
     let may : ℕ → Bool = λ r. (u r).may in
+    let first_must = alike must_of u ends.least t a first in
+    let last_must = alike must_of u ends.greatest t b last in
+    let first_may = alike may_of u ends.least t a first in
+    let last_may = alike may_of u ends.greatest t b last in
     sym (same_received facts u u ends t k
-    (all_on must ends t k a b ordered (alike must_of u ends.least t a first)
-    (alike must_of u ends.greatest t b last) low high below)
-    (all_back must ends t k a b ordered (alike must_of u ends.least t a first)
-    (alike must_of u ends.greatest t b last) low high below)
-    (some_on may ends t k a b ordered (alike may_of u ends.least t a first)
-    (alike may_of u ends.greatest t b last) low high below)
-    (some_back may ends t k a b ordered (alike may_of u ends.least t a first)
-    (alike may_of u ends.greatest t b last) low high below))
+    (all_on must ends t k a b ordered first_must last_must low high below)
+    (all_back must ends t k a b ordered first_must last_must low high below)
+    (some_on may ends t k a b ordered first_may last_may low high below)
+    (some_back may ends t k a b ordered first_may last_may low high below))

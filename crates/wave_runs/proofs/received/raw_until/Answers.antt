@@ -1,8 +1,9 @@
-use Rattle.std.proofs.Common.{◌≡◌, ◌≢◌, ◌≤◌, ◌+◌, ◌++◌, ℕ, List, length, sym, ◌∙◌, ap, arith}
+use Rattle.std.proofs.Common.{◌≡◌, ◌≢◌, ◌≤◌, ◌<◌, ◌+◌, ◌++◌, ℕ, List, length, sym, ◌∙◌, ap, arith}
 use Rattle.std.proofs.Common.{⊎_elim, rules}
 use Rattle.std.proofs.lemmas.Bool.{cases_lt}
 use denote.Enum.Bare.{same_true, same_false}
-use Rattle.history.specs.Rails.{Rails, rails_delayed}
+use Rattle.history.specs.{Rails.Rails, Rails.Ends, Rails.rails_delayed}
+use Rattle.history.specs.Laws.{DelaysReadEarlierTicks}
 use Rattle.tick_signal.specs.contracts.tern.Tern.{the_type}
 use Rattle.tick_signal.specs.Terns.{tern_rails, tern_once}
 use Rattle.tick_signal.specs.declared.tern.Tern.{Tern}
@@ -53,13 +54,7 @@ stretches-preserved c =
       newest = next.ensures.newest ∙ newest;
       oldest = next.ensures.oldest ∙ oldest;
       later = omega (arith, next.ensures.later, c.stretches.invariant.later);
-      limited = omega (
-        arith,
-        next.ensures.inside,
-        ap length newest,
-        c.len.ensures.length,
-        c.least.ensures.least,
-      );
+      limited = omega (arith, next.ensures.inside, ap length newest);
       same = λ k low high. ⊎_elim
           (λ before. c.stretches.invariant.same k low before)
           (λ after. ap (λ (w : List Tern). value w k) (sym newest)
@@ -79,12 +74,7 @@ returns-else-eq-clause-same c =
     same_false the_type _ _ (sym c.eq.ensures ∙ c.if-eq.false) in
     record {
       later = c.stretches.invariant.later;
-      limited = omega (
-        arith,
-        c.stretches.invariant.limited,
-        c.len.ensures.length,
-        c.least.ensures.least,
-      );
+      limited = c.stretches.invariant.limited;
       same = c.stretches.invariant.same;
       greatest = λ m past most alike. ⊎_elim
           (λ longer. absurd (differs (tern_once c.received.result c.received-first.result
@@ -96,30 +86,22 @@ returns-else-eq-clause-same c =
           (cases_lt end m);
     }
 
+-- it is so too where more of the key is known
+with_more : DelaysReadEarlierTicks → (key more : List Tern) (delay : Ends) (t end k : ℕ)
+    → end ≤ length key + delay.least → k < end
+    → rails_delayed (wave_at key) delay k ≡ rails_delayed (wave_at key) delay t
+    → rails_delayed (wave_at (key ++ more)) delay k ≡ rails_delayed (wave_at key) delay t
+with_more law key more delay t end k limited high same =
+    law.rails (wave_at (key ++ more)) (wave_at key) (λ _. delay) k
+    (λ r early _. wave_at-front key more r (omega arith))
+    ∙ same
+
 pub returns-else-eq-clause-longer : goal.returns-else-eq-clause-longer
 returns-else-eq-clause-longer c = λ more k low high.
-    let key = c.args.key.now in
-    let limited : c.stretches.end ≤ length key + c.args.delay.least =
-    omega (
-      arith,
-      c.stretches.invariant.limited,
-      c.len.ensures.length,
-      c.least.ensures.least,
-    ) in
-    c.delays_read_earlier_ticks.ensures.rails (wave_at (key ++ more)) (wave_at key)
-    (λ _. c.args.delay) k (λ r early _. wave_at-front key more r (omega arith))
-    ∙ c.stretches.invariant.same k low high
+    with_more c.delays_read_earlier_ticks.ensures c.args.key.now more c.args.delay c.args.t
+    c.stretches.end k c.stretches.invariant.limited high (c.stretches.invariant.same k low high)
 
 pub returns-after-stretches-clause-longer : goal.returns-after-stretches-clause-longer
 returns-after-stretches-clause-longer c = λ more k low high.
-    let key = c.args.key.now in
-    let limited : c.stretches.end ≤ length key + c.args.delay.least =
-    omega (
-      arith,
-      c.stretches.invariant.limited,
-      c.len.ensures.length,
-      c.least.ensures.least,
-    ) in
-    c.delays_read_earlier_ticks.ensures.rails (wave_at (key ++ more)) (wave_at key)
-    (λ _. c.args.delay) k (λ r early _. wave_at-front key more r (omega arith))
-    ∙ c.stretches.invariant.same k low high
+    with_more c.delays_read_earlier_ticks.ensures c.args.key.now more c.args.delay c.args.t
+    c.stretches.end k c.stretches.invariant.limited high (c.stretches.invariant.same k low high)

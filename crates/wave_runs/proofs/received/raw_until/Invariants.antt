@@ -1,4 +1,4 @@
-use Rattle.std.proofs.Common.{◌≡◌, ℕ, ◌-◌, ◌<◌, ◌≤◌}
+use Rattle.std.proofs.Common.{◌≡◌, ℕ, ◌+◌, ◌-◌, ◌<◌, ◌≤◌, length}
 use Rattle.history.specs.Rails.{rails_delayed}
 use Rattle.wave_runs.specs.Waves.{wave_at}
 use Rattle.wave_runs.proofs.received.raw_until.Given as goal
@@ -9,7 +9,7 @@ invariant-stretches l = record {
   newest : l.newest ≡ l.key;
   oldest : l.oldest ≡ l.key;
   later : l.fn.t < l.end;
-  limited : l.end ≤ l.last;
+  limited : l.end ≤ length l.key + l.delay.least;
   same : (k : ℕ) → l.fn.t ≤ k → k < l.end
       → rails_delayed (wave_at l.key) l.delay k ≡ rails_delayed (wave_at l.key) l.delay l.fn.t;
 }
