@@ -4,8 +4,9 @@ use Rattle.std.proofs.Common.{◌||◌, cond, List, [], ◌∷◌, ◌++◌, len
 use Rattle.std.proofs.Common.{◌∙◌, ap, subst, arith, inl, inr, ⊎_elim}
 use Rattle.std.proofs.lemmas.Bool.{cases_lt, ne_eqb, ltb-true, leb-true, le-leb}
 use Rattle.std.proofs.lemmas.List.{take-append-drop}
+use Rattle.std.proofs.lemmas.Option.{slice_get_read}
 use Rattle.std.proofs.lemmas.Bool.Decides.{Decides-or, Decides-and, Decides-ltb, Decides-eqb}
-use Rattle.std.specs.Prelude.{slice_get, nat_le, nat_lt, ◌==◌, Decides}
+use Rattle.std.specs.Prelude.{get_or, slice_get, nat_le, nat_lt, ◌==◌, Decides}
 use Rattle.timing_box.specs.declared.step.Step.{Step}
 use Rattle.timing_box.specs.Timing.{ascend, comes_before, number_at, is_passed}
 use Rattle.simulator.specs.Steps.{IsParted}
@@ -271,7 +272,7 @@ module _ {S : Type 0} (param t : ℕ) where
   }
 
   -- the first step that is not passed comes no later than any of the parameter that is to come
-  pub next_comes : (xs : List (Step S)) (count i : ℕ) (next s : Step S) → AreAscending xs
+  next_comes : (xs : List (Step S)) (count i : ℕ) (next s : Step S) → AreAscending xs
       → IsParted param t xs count → slice_get xs count ≡ Some next → slice_get xs i ≡ Some s
       → s.param ≡ param → t < s.from → (next.param ≡ param) × (next.from ≤ s.from)
   next_comes xs count i next s up parted at_next at_s of to_come =
@@ -297,3 +298,12 @@ module _ {S : Type 0} (param t : ℕ) where
       ))
       (cases_lt count i))
       (cases_lt i count)
+
+  -- so does what is read at its place
+  pub read_comes : (xs : List (Step S)) (count i : ℕ) (next s : Step S) → ascend xs ≡ true
+      → IsParted param t xs count → count < length xs → next ≡ get_or xs count next
+      → slice_get xs i ≡ Some s → s.param ≡ param → t < s.from
+      → (next.param ≡ param) × (next.from ≤ s.from)
+  read_comes xs count i next s up parted inside read =
+      next_comes xs count i next s (all_ascend xs up) parted
+      (slice_get_read xs (length xs) count next refl inside read)

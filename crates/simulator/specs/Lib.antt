@@ -8,6 +8,7 @@ pub mod Runs
 pub mod PlayRows
 pub mod Played
 pub mod ListLaws
+pub mod LaneLaws
 pub mod RowLaws
 pub mod Quiet
 pub mod Shown

@@ -1,13 +1,11 @@
 -- A run at known numbers.
-use Rattle.std.specs.Prelude.{◌≡◌, ◌<◌, ◌≤◌, ℕ, Bool, List, Option, Some, slice_get, false}
-use Rattle.std.specs.Prelude.{option_map}
-use Rattle.std.proofs.Common.{◌∙◌, ap}
-use Rattle.std.proofs.lemmas.Option.{slice_get-map, get_or_from_slice_get}
-use Rattle.history.specs.Rails.{both, rails_at, must_of}
+use Rattle.std.specs.Prelude.{◌≡◌, ◌<◌, ◌≤◌, ℕ, Bool, List, Option, Some, slice_get}
+use Rattle.std.proofs.Common.{ap}
+use Rattle.history.specs.Rails.{rails_at, must_of}
 use Rattle.tick_signal.specs.{declared.level.Level.Level, Lanes.in_lane, Levels.level_rails}
 use Rattle.channel.specs.SentKeys.{SentKeys}
 use Rattle.line_model.specs.Histories.{History, must_history}
-use Rattle.simulator.specs.Tracks.{pair_of, tracks_history}
+use Rattle.simulator.specs.{LaneLaws.lane_at, Tracks.pair_of, Tracks.tracks_history}
 
 -- whether a signal is on at a tick
 abbrev pub is_on : SentKeys Level → ℕ → Bool
@@ -16,10 +14,7 @@ is_on track t = (rails_at (in_lane (λ x _. level_rails x) 0 track.keys) t).must
 -- it is as the value at the tick
 pub on_is : (track : SentKeys Level) (t : ℕ) (level : Level) → slice_get track.keys t ≡ Some level
     → is_on track t ≡ (level_rails level).must
-on_is track t level at =
-    ap must_of (get_or_from_slice_get (in_lane (λ x _. level_rails x) 0 track.keys) t
-    (level_rails level) (both false)
-    (slice_get-map level_rails track.keys t ∙ ap (option_map level_rails) at))
+on_is track t level at = ap must_of (lane_at (λ x _. level_rails x) track.keys level 0 t at)
 
 -- from tick t until `end` it is as at t
 abbrev pub StaysOn : SentKeys Level → ℕ → ℕ → Type 0

@@ -4,42 +4,37 @@ use Rattle.simulator.specs.{LaneBox.lane_box, GatePairs.line_pairs, Ticks.Values
 use Rattle.simulator.specs.{WavesOf.WavesOf, WavesOf.AreWaves, Runs.AreWavesOf}
 use Rattle.simulator.proofs.RunLaws.{made_waves, run_pairs, own_history, run_history, run_covers}
 use Rattle.simulator.proofs.PointLaws.{exact_at}
+use Rattle.simulator.proofs.run_net.run.Given.{Over}
 use Rattle.simulator.proofs.run_net.run.Goals as goal
+use Rattle.simulator.proofs.run_net.run.Goals.{In_ok-values}
+
+-- the waves that are made
+abbrev made : (g : Over) → In_ok-values g → WavesOf g.row.V.Denot
+made g c = record {
+  width = c.len-width.result;
+  horizon = c.args.line.now.horizon;
+  values = c.in_ok-values.values.items;
+  keys = c.in_ok-keys.keys.items;
+  trips = c.in_ok-trips.trips.items;
+}
+
+made_of : (g : Over) (c : In_ok-values g) → AreWavesOf c.args.net.now c.args.line.now (made g c)
+made_of g c = record {
+  width = c.len-width.ensures.len;
+  horizon = refl;
+  keys = c.in_ok-keys.ensures.items ∙ c.key_gates.ensures;
+  trips = c.in_ok-trips.ensures.items ∙ c.trip_gates.ensures;
+}
 
 pub new-requires : goal.new-requires
 new-requires g c =
-    let made : WavesOf g.row.V.Denot = record {
-      width = c.len-width.result;
-      horizon = c.args.line.now.horizon;
-      values = c.in_ok-values.values.items;
-      keys = c.in_ok-keys.keys.items;
-      trips = c.in_ok-trips.trips.items;
-    } in
-    let of : AreWavesOf c.args.net.now c.args.line.now made = record {
-      width = c.len-width.ensures.len;
-      horizon = refl;
-      keys = c.in_ok-keys.ensures.items ∙ c.key_gates.ensures;
-      trips = c.in_ok-trips.ensures.items ∙ c.trip_gates.ensures;
-    } in
-    made_waves c.args.line.now c.args.net.now made c.requires.of_line.laws
-    c.args.line.now.horizon_in_range.1 of c.in_ok-values.ensures.count
+    made_waves c.args.line.now c.args.net.now (made g c) c.requires.of_line.laws
+    c.args.line.now.horizon_in_range.1 (made_of g c) c.in_ok-values.ensures.count
 
 pub returns-clause-waves : goal.returns-clause-waves
 returns-clause-waves g c =
-    let made : WavesOf g.row.V.Denot = record {
-      width = c.len-width.result;
-      horizon = c.args.line.now.horizon;
-      values = c.in_ok-values.values.items;
-      keys = c.in_ok-keys.keys.items;
-      trips = c.in_ok-trips.trips.items;
-    } in
-    let of : AreWavesOf c.args.net.now c.args.line.now made = record {
-      width = c.len-width.ensures.len;
-      horizon = refl;
-      keys = c.in_ok-keys.ensures.items ∙ c.key_gates.ensures;
-      trips = c.in_ok-trips.ensures.items ∙ c.trip_gates.ensures;
-    } in
-    subst (AreWavesOf c.args.net.now c.args.line.now) (sym c.new.ensures) of
+    subst (AreWavesOf c.args.net.now c.args.line.now) (sym c.new.ensures)
+    (made_of g (goal.at.returns-clause-waves g c).In_ok-values)
 
 pub returns-clause-pairs : goal.returns-clause-pairs
 returns-clause-pairs g c = λ lane inside.
