@@ -5,19 +5,22 @@ ghost use Rattle.line_model.specs.Parameters.{terminal_count};
 ghost use Rattle.line_model.specs.Histories.{IsSameHistory};
 ghost use Rattle.gate_net.specs.NetOf.{IsNetOf};
 ghost use Rattle.timing_box.specs.Inside.{IsTimingInside};
-ghost use Rattle.simulator.specs.Played.{played};
-ghost use Rattle.record_match.specs.Seen.{AreSeen, Gives, IsSameAt, seen_history};
+ghost use Rattle.cert_checker.specs.Claims.{AreWaves};
+ghost use Rattle.simulator.specs.{PlayedTracks.played, Ticks.AreSent};
+ghost use Rattle.record_match.specs.Seen.{AreSeen, IsAsSeen, AreAsSeen, Gives, seen_history};
 
 use crate::seen::Seen;
 use cert_checker::nth;
+use channel::Track;
 use gate_net::Net;
 use line_model::laws::line_laws;
 use line_model::{Line, Memory, Script};
 use simulator::laws::a_timing_is_one_choice;
-use simulator::{Waves, run};
+use simulator::{Tracks, run_tracks};
 use std::alloc::Global;
 use tick_signal::{Level, Signal};
 use timing_box::Timing;
+use wave_runs::Runs;
 
 /// Whether the history of a timing is what was seen.
 pub fn gives(
@@ -37,55 +40,53 @@ pub fn gives(
     a_timing_is_one_choice();
     let values = timing.values();
     let steps = timing.steps();
-    let waves = run::<Level>(alloc, net, line, script, values, steps)?;
-    Ok(is_same(line, &waves, seen))
+    let tracks = run_tracks::<Level>(alloc, net, line, script, values, steps)?;
+    Ok(is_same(line, &tracks, seen))
 }
 
 // Whether a run is what was seen.
-fn is_same(line: &Line, waves: &Waves<Level>, seen: &Seen) -> bool
+fn is_same(line: &Line, tracks: &Tracks<Level>, seen: &Seen) -> bool
     requires seen { AreSeen line.now seen.now }
-    requires horizon { waves.now.horizon ≡ line.now.horizon }
-    requires keys { length waves.now.keys ≡ terminal_count line.now }
-    requires trips { length waves.now.trips ≡ terminal_count line.now }
-    ensures { IsTrue result
-        ↔ IsSameHistory line.now (played waves.now) (seen_history seen.now) }
+    requires keys { AreSent (terminal_count line.now) line.now.horizon line.now.horizon
+        tracks.now.keys.items }
+    requires trips { AreSent (terminal_count line.now) line.now.horizon line.now.horizon
+        tracks.now.trips.items }
+    ensures { IsTrue result ↔ IsSameHistory line.now
+        (played tracks.now.keys.items tracks.now.trips.items) (seen_history seen.now) }
 {
-    for k in 0..line.terminals.len() {
-        if !is_same_terminal(line, waves, seen, k as u32) {
+    are_as_seen(line, &tracks.keys, &seen.keys) && are_as_seen(line, &tracks.trips, &seen.trips)
+}
+
+// Whether each terminal's track is as the wave that was seen.
+fn are_as_seen(line: &Line, tracks: &[Track<Level>], waves: &[Runs]) -> bool
+    requires tracks { AreSent (terminal_count line.now) line.now.horizon line.now.horizon
+        tracks.now }
+    requires waves { AreWaves (terminal_count line.now) line.now.horizon waves.now }
+    ensures { IsTrue result ↔ AreAsSeen line.now tracks.now waves.now }
+{
+    for k in 0..tracks.len() {
+        let track = &tracks[k];
+        let wave = nth(waves, k as u32);
+        if !is_as_seen(track, wave) {
             return false;
         }
     }
     true
 }
 
-fn is_same_terminal(line: &Line, waves: &Waves<Level>, seen: &Seen, terminal: u32) -> bool
-    requires seen { AreSeen line.now seen.now }
-    requires terminal { terminal < terminal_count line.now }
-    requires horizon { waves.now.horizon ≡ line.now.horizon }
-    requires keys { length waves.now.keys ≡ terminal_count line.now }
-    requires trips { length waves.now.trips ≡ terminal_count line.now }
-    ensures { IsTrue result ↔ ((t : ℕ) → t < line.now.horizon →
-        IsSameAt (played waves.now) (seen_history seen.now) terminal t) }
+// Whether a track is as the wave that was seen, stretch by stretch of both.
+fn is_as_seen(track: &Track<Level>, wave: &Runs) -> bool
+    requires { length wave.now ≡ length track.now.keys }
+    ensures { IsTrue result ↔ IsAsSeen track.now wave.now }
 {
-    for t in 0..line.horizon {
-        if !is_same_at(line, waves, seen, terminal, t) {
+    let mut runs = wave.cursor();
+    let mut t = 0;
+    'stretches: while t < track.len() {
+        let seen = runs.stretch(t);
+        if track.at(t).must(0) != seen.level.must(0) {
             return false;
         }
+        t = track.stays_until(t).min(seen.end);
     }
     true
-}
-
-fn is_same_at(line: &Line, waves: &Waves<Level>, seen: &Seen, terminal: u32, t: u32) -> bool
-    requires seen { AreSeen line.now seen.now }
-    requires terminal { terminal < terminal_count line.now }
-    requires tick { t < line.now.horizon }
-    requires horizon { waves.now.horizon ≡ line.now.horizon }
-    requires keys { length waves.now.keys ≡ terminal_count line.now }
-    requires trips { length waves.now.trips ≡ terminal_count line.now }
-    ensures { IsTrue result
-        ↔ IsSameAt (played waves.now) (seen_history seen.now) terminal t }
-{
-    let key = nth(seen.keys.as_slice(), terminal).at(t).must(0);
-    let trip = nth(seen.trips.as_slice(), terminal).at(t).must(0);
-    waves.key(terminal, t).must(0) == key && waves.trip(terminal, t).must(0) == trip
 }
