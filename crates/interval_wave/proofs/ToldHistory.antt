@@ -1,6 +1,6 @@
 -- What waves tell is an interval history.
 use Rattle.std.proofs.Common.{◌≡◌, ◌<◌, ℕ, List, [], Some, map, get_or, sym, ◌∙◌, ap, arith}
-use Rattle.std.proofs.lemmas.Option.{slice_get-map, get_or_from_slice_get}
+use Rattle.std.proofs.lemmas.Option.{slice_get-map, slice_get_read, get_or_from_slice_get}
 use Rattle.std.specs.Prelude.{slice_get, option_map}
 use Rattle.history.specs.Rails.{Rails, rails_at}
 use Rattle.tick_signal.specs.{declared.tern.Tern.Tern, Terns.tern_rails}
@@ -9,6 +9,7 @@ use Rattle.line_model.specs.Histories.{PairHistory, IsPairHistory, IsSamePairHis
 use Rattle.line_model.specs.{declared.script.Script.Script, Parameters.terminal_count}
 use Rattle.line_model.specs.{PairMean.PairSignals, Choice.Box, Choice.LeastFromOne, Logic.key_tree}
 use Rattle.line_model.specs.{Logic.trip_tree, Laws.TreesNameTheLine, Laws.ValuesRestOnEarlierKeys}
+use Rattle.wave_runs.specs.Waves.{IsWaveOf}
 use Rattle.simulator.specs.ListLaws.{exists_at}
 use Rattle.interval_wave.specs.PairWavesOf.{pairs_of, told_by, AreWaves, AreWavesOf, pair_at}
 use Rattle.interval_wave.specs.PairWavesOf.{pair_history}
@@ -20,6 +21,18 @@ wave_pairs waves k wave at =
     sym (get_or_from_slice_get (pairs_of waves) k (map tern_rails wave) []
     (slice_get-map (λ (w : List Tern). map tern_rails w) waves k
     ∙ ap (option_map (λ (w : List Tern). map tern_rails w)) at))
+
+-- the wave that is read at a place of them is one of the pairs there
+pub wave_read : (n horizon : ℕ) (waves : List (List Tern)) → AreWaves n horizon waves → (k : ℕ)
+    (wave : List Tern) → k < n → wave ≡ get_or waves k wave
+    → IsWaveOf wave horizon (pair_at (pairs_of waves) k)
+wave_read n horizon waves are k wave kn read =
+    let at : slice_get waves k ≡ Some wave = slice_get_read waves n k wave (sym are.count) kn read in
+    record {
+      long = are.long k wave at;
+      values = λ t early.
+          ap (λ (rails : List Rails). rails_at rails t) (wave_pairs waves k wave at);
+    }
 
 -- waves that have these pairs tell them
 pub pair_told : (n horizon : ℕ) (pairs : PairSignals) (waves : List (List Tern))

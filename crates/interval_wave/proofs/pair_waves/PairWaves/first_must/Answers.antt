@@ -1,20 +1,14 @@
-use Rattle.std.proofs.Common.{ℕ, ◌<◌, length, ◌∙◌, ap, subst, arith}
+use Rattle.std.proofs.Common.{ℕ, ◌<◌, ◌∙◌, subst}
 use Rattle.std.specs.Prelude.{IfSome}
-use Rattle.history.specs.Rails.{Rails, must_of}
-use Rattle.wave_runs.specs.{FirstTick.first_on, FirstTick.first_on-same, Waves.wave_at}
-use Rattle.interval_wave.specs.PairWavesOf.{pair_at}
+use Rattle.history.specs.Rails.{must_of}
+use Rattle.interval_wave.proofs.FirstTicks.{first_of_wave}
 use Rattle.interval_wave.proofs.pair_waves.PairWaves.first_must.Goals as goal
 
 pub returns : goal.returns
 returns c =
-    let wave = c.trip_runs.result.now in
     let is = c.trip_runs.ensures in
-    let trip : ℕ → Rails = pair_at c.args.self.now.trips c.args.terminal in
     record {
-      first = c.first_must.ensures.first
-          ∙ first_on-same (λ t. must_of (wave_at wave t)) (λ t. must_of (trip t)) (length wave)
-          (λ t early. ap must_of (is.values t (omega (arith, is.long))))
-          ∙ ap (first_on (λ t. must_of (trip t))) is.long;
+      first = c.first_must.ensures.first ∙ first_of_wave must_of c.trip_runs.result.now _ _ is;
       within = subst (λ (n : ℕ). IfSome c.first_must.result (λ t. t < n)) is.long
           c.first_must.ensures.within;
     }
