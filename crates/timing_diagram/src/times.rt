@@ -1,15 +1,16 @@
 //! The first ticks of trips, and the margin to the deadline.
 
-ghost use Rattle.std.specs.Prelude.{◌≡◌, ◌<◌, IfOk};
-ghost use Rattle.history.specs.Recorded.{first_ticks};
+ghost use Rattle.std.specs.Prelude.{◌≡◌, ◌<◌, Bool, IfOk};
+ghost use Rattle.history.specs.{Rails.Rails, Recorded.first_ticks};
 ghost use Rattle.line_model.specs.Parameters.{terminal_count};
+ghost use Rattle.tick_signal.specs.declared.tern.Tern.{Tern};
 ghost use Rattle.timing_diagram.specs.Times.{trip_times_of};
-ghost use Rattle.wave_runs.specs.FirstTick.{first_on};
+ghost use Rattle.wave_runs.specs.{FirstTick.first_on, Waves.Tells};
 
 use crate::shown::Shown;
 use line_model::{Line, Memory, Script};
 use std::alloc::Global;
-use tick_signal::Signal;
+use tick_signal::{Signal, Tern};
 use timing_report::margin;
 use wave_runs::the_first_tick_is_the_least;
 
@@ -50,38 +51,27 @@ fn trip_times<H: Shown>(line: &Line, script: &Script, shown: &H, k: u32) -> Trip
     ensures { result
         ≡ trip_times_of script.now line.now.horizon ((H.pairs shown.now).trip k) }
 {
-    let first_must = first_must(shown, k, line.horizon);
+    let first_must = first_trip(shown, k, line.horizon, |value| value.must(0));
     TripTimes {
-        first_may: first_may(shown, k, line.horizon),
+        first_may: first_trip(shown, k, line.horizon, |value| value.may(0)),
         first_must,
         margin: margin(script.kind, script.deadline, first_must),
     }
 }
 
-// The first tick at which a terminal must trip.
-fn first_must<H: Shown>(shown: &H, k: u32, horizon: u32) -> Option<u32>
+// The first tick at which the value of a terminal's trip is one of these.
+fn first_trip<H: Shown, F>(shown: &H, k: u32, horizon: u32, is: F) -> Option<u32>
+where
+    F: Fn(Tern) -> bool,
     requires terminal { k < H.terminals shown.now }
     requires ticks { H.ticks shown.now ≡ horizon }
-    ensures { result ≡ first_on (λ t. ((H.pairs shown.now).trip k t).must) horizon }
+    requires callable { (value : Tern) → F.pre is value }
+    ensures { (rail : Rails → Bool) → Tells (F.post is) rail →
+        result ≡ first_on (λ t. rail ((H.pairs shown.now).trip k t)) horizon }
 {
     the_first_tick_is_the_least();
     for t in 0..horizon {
-        if shown.trip_at(k, t).must(0) {
-            return Some(t);
-        }
-    }
-    None
-}
-
-// The first tick at which a terminal may trip.
-fn first_may<H: Shown>(shown: &H, k: u32, horizon: u32) -> Option<u32>
-    requires terminal { k < H.terminals shown.now }
-    requires ticks { H.ticks shown.now ≡ horizon }
-    ensures { result ≡ first_on (λ t. ((H.pairs shown.now).trip k t).may) horizon }
-{
-    the_first_tick_is_the_least();
-    for t in 0..horizon {
-        if shown.trip_at(k, t).may(0) {
+        if is(shown.trip_at(k, t)) {
             return Some(t);
         }
     }
