@@ -2,6 +2,5 @@ pub mod SpanLaws
 pub mod RailLaws
 pub mod CellLaws
 pub mod SentLaws
-pub mod TripLaws
 pub mod ListLaws
 pub mod HeldLaws

@@ -1,31 +1,35 @@
-use Rattle.std.proofs.Common.{◌<◌, Bool, ◌||◌, sym, ◌∙◌, ap, arith}
-use Rattle.history.specs.Rails.{must_of, may_of}
-use Rattle.box_lanes.specs.{Terns.terns_rails, Held.must_trip, Held.may_trip}
-use Rattle.box_lanes.proofs.TripLaws.{lane_at, some_through}
+use Rattle.std.proofs.Common.{◌≡◌, ◌<◌, ◌||◌, ℕ, Bool, sym, ◌∙◌, ap, arith}
+use Rattle.history.specs.Rails.{Rails, must_of, may_of}
+use Rattle.history.specs.Elements.{some_below}
+use Rattle.simulator.specs.LaneLaws.{lane_at, some_through}
+use Rattle.box_lanes.specs.{Terns.terns_rails, Held.trip_rails}
 use Rattle.box_lanes.proofs.held.tripped.Goals as goal
+use Rattle.box_lanes.proofs.held.tripped.Goals.{After-min-t}
+
+-- on a rail of a lane: whether the trip is on below the end of a stretch
+through : (rail : Rails → Bool) (c : After-min-t) (lane : ℕ) → lane < 64 → (before : Bool)
+    → before ≡ some_below (λ r. rail (trip_rails c.args.trip.now lane r)) c.stretches.t
+    → (rail (terns_rails c.at.result lane) || before)
+    ≡ some_below (λ r. rail (trip_rails c.args.trip.now lane r)) c.min-t.result
+through rail c lane inside before so_far =
+    let trip = c.args.trip.now in
+    let t = c.stretches.t in
+    let stays = c.stays_until.ensures.stays lane inside in
+    some_through (λ r. rail (trip_rails trip lane r)) t c.min-t.result
+    (rail (terns_rails c.at.result lane)) before
+    (omega (arith, c.min-t.ensures, c.stays_until.ensures.later))
+    (λ r low high. ap rail (stays.same r low (omega (arith, high, c.min-t.ensures))))
+    (ap rail (sym (lane_at terns_rails trip.keys c.at.result lane t c.at.ensures))) so_far
 
 pub stretches-preserved : goal.stretches-preserved
 stretches-preserved c =
-    let t = c.stretches.t in
-    let end = c.min-t.result in
-    let trip = c.args.trip.now in
-    let later : t < end = omega (arith, c.min-t.ensures, c.stays_until.ensures.later) in
+    let stretch = (goal.at.stretches-preserved c).After-min-t in
     record {
       inside = omega (arith, c.min-t.ensures);
       must = λ lane inside.
-          let stays = c.stays_until.ensures.stays lane inside in
           ap must_of (c.or-lanes.ensures lane inside)
-          ∙ ap (λ (b : Bool). b || (terns_rails c.stretches.lanes lane).must)
-          (ap must_of (sym (lane_at trip.keys c.at.result lane t c.at.ensures)))
-          ∙ ap (λ (b : Bool). must_trip trip lane t || b) (c.stretches.invariant.must lane inside)
-          ∙ sym (some_through (must_trip trip lane) t end later
-          (λ r low high. ap must_of (stays.same r low (omega (arith, c.min-t.ensures)))));
+          ∙ through must_of stretch lane inside _ (c.stretches.invariant.must lane inside);
       may = λ lane inside.
-          let stays = c.stays_until.ensures.stays lane inside in
           ap may_of (c.or-lanes.ensures lane inside)
-          ∙ ap (λ (b : Bool). b || (terns_rails c.stretches.lanes lane).may)
-          (ap may_of (sym (lane_at trip.keys c.at.result lane t c.at.ensures)))
-          ∙ ap (λ (b : Bool). may_trip trip lane t || b) (c.stretches.invariant.may lane inside)
-          ∙ sym (some_through (may_trip trip lane) t end later
-          (λ r low high. ap may_of (stays.same r low (omega (arith, c.min-t.ensures)))));
+          ∙ through may_of stretch lane inside _ (c.stretches.invariant.may lane inside);
     }
