@@ -1,4 +1,3 @@
-pub mod DeclaredIntervals
 pub mod Waves
 pub mod GateLaws
 pub mod Firsts

@@ -1,8 +1,6 @@
 -- Claims have one first fault.
-use Rattle.std.proofs.Common.{◌≡◌, ◌≢◌, ◌<◌, ℕ, suc, Bool, true, false, List, get_or, refl, sym}
+use Rattle.std.proofs.Common.{◌≡◌, ◌≢◌, ℕ, suc, Bool, List, get_or, refl, sym}
 use Rattle.std.proofs.Common.{◌∙◌, ap, subst}
-use Rattle.std.proofs.lemmas.Option.{same_Some}
-use Rattle.std.specs.Prelude.{slice_get}
 use Rattle.history.specs.Rails.{Rails}
 use Rattle.tick_signal.specs.{declared.tern.Tern.Tern, Terns.tern_once}
 use Rattle.line_model.specs.declared.line.Line.{Line}
