@@ -5,7 +5,7 @@ pub mod HeldRules
 pub mod Refutations
 pub mod Acceptance
 pub mod Refusal
-pub mod CountLaws
+pub mod FirstVerdicts
 pub mod OneFault
 pub mod OneCheckFault
 pub mod StretchLaws

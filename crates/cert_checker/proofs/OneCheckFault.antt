@@ -1,5 +1,5 @@
 -- The fault of a certificate is one of its text, or of a script.
-use Rattle.std.proofs.Common.{◌≢◌, ◌⊎◌, inl, inr, ℕ, List, refl}
+use Rattle.std.proofs.Common.{◌≢◌, inl, inr, ℕ, List, refl}
 use Rattle.line_model.specs.{declared.line.Line.Line, declared.script.Script.Script}
 use Rattle.certificate.specs.Grammar.{IsCertificate, LeavesGrammar}
 use Rattle.cert_checker.specs.declared.claim.ClaimFault.{ClaimFault}
@@ -9,7 +9,7 @@ use Rattle.cert_checker.specs.declared.fault.CheckFault.{CheckFault}
 use Rattle.cert_checker.specs.declared.fault.CheckFault.TheVariants as check
 use Rattle.cert_checker.specs.Check.{IsScriptFault, IsCheckFault, fault_in}
 use Rattle.cert_checker.specs.Verdicts.{AreAccepted, IsFirstFault}
-use Rattle.cert_checker.specs.ScriptLaws.{IsOfText, IsOfScript}
+use Rattle.cert_checker.specs.ScriptLaws.{IsOfEither}
 
 -- the fault of a script, told with the script
 pub told : (line : Line) (scripts : List Script) (bytes : List ℕ) (i : ℕ) (f : ClaimFault)
@@ -21,24 +21,19 @@ told line scripts bytes i (wrong.No k (no.Passes t)) h = h
 told line scripts bytes i wrong.Memory h = tt
 
 module _ (line : Line) (scripts : List Script) (bytes : List ℕ) where
-  abbrev pub OfText : CheckFault → Type 0
-  OfText f =
-      IsOfText (λ claims. IsCertificate line scripts claims bytes) (LeavesGrammar line scripts bytes)
-      (AreAccepted line) (IsFirstFault line) (λ f. f ≢ wrong.Memory) scripts check.Line fault_in f
-
-  abbrev pub OfScript : CheckFault → Type 0
-  OfScript f =
-      IsOfScript (λ claims. IsCertificate line scripts claims bytes)
-      (LeavesGrammar line scripts bytes) (AreAccepted line) (IsFirstFault line)
-      (λ f. f ≢ wrong.Memory) scripts check.Line fault_in f
+  -- the fault is one of the text, or of a script
+  abbrev pub IsOne : CheckFault → Type 0
+  IsOne =
+      IsOfEither (λ claims. IsCertificate line scripts claims bytes) (LeavesGrammar line scripts bytes)
+      (AreAccepted line) (IsFirstFault line) (λ f. f ≢ wrong.Memory) scripts check.Line fault_in
 
   in_script : (i : ℕ) (f : ClaimFault) → f ≢ wrong.Memory → IsScriptFault line scripts bytes i f
-      → OfText (fault_in i f) ⊎ OfScript (fault_in i f)
+      → IsOne (fault_in i f)
   in_script i f some h =
       inr (record { place = i; fault = f; told = some; first = h; same = refl })
 
   pub of_text_or_script : (f : CheckFault) → f ≢ check.Memory → IsCheckFault line scripts bytes f
-      → OfText f ⊎ OfScript f
+      → IsOne f
   of_text_or_script (check.Line n) some h =
       inl (record { number = n; leaves_there = h; same = refl })
   of_text_or_script (check.NotCovered i k t claimed derived) some h =

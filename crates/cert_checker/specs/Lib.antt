@@ -1,6 +1,7 @@
 pub mod Check
 pub mod Claims
 pub mod Counts
+pub mod CountLaws
 pub mod Firsts
 pub mod NoFaults
 pub mod Refutations

@@ -37,6 +37,16 @@ module _ {A B : Type 0} (f : A → B) (xs : List A) (i : ℕ) (x : A) (inside : 
       slice_get_read (map f xs) (length (map f xs)) i (f x) refl
       (omega (arith, inside, length-map xs f)) (sym mapped_at)
 
+-- script i, and what is said of it, where that is made of an item of a list
+pub script_at : {A Said : Type 0} (f : A → Said) (scripts : List Script) (items : List A) (i : ℕ)
+    (script : Script) (item : A) → i < length scripts → length items ≡ length scripts
+    → script ≡ get_or scripts i script → item ≡ get_or items i item
+    → (slice_get scripts i ≡ Some script) × (slice_get (map f items) i ≡ Some (f item))
+script_at f scripts items i script item inside many script_is item_is = (
+  slice_get_read scripts (length scripts) i script refl inside script_is,
+  slice_mapped f items i item (omega (arith, inside, many)) item_is,
+)
+
 -- what holds of each before one, and of that one, holds of one more
 pub one_more : {X : Type 0} (P : ℕ → X → Type 0) (xs : List X) (i : ℕ) (x : X)
     → slice_get xs i ≡ Some x → EachOf P xs i → P i x → EachOf P xs (i + 1)
@@ -139,9 +149,13 @@ module _ {Said Fault Whole : Type 0} (Says : List Said → Type 0) (leaves : ℕ
     pub first : IsFirstWrong Says IsGood IsWrong scripts place fault
     pub same : f ≡ in_script place fault
 
+  -- a fault of either
+  abbrev pub IsOfEither : Whole → Type 0
+  IsOfEither f = IsOfText f ⊎ IsOfScript f
+
   module _ (text : IsOneText Says leaves) (apart : AreApart IsGood IsWrong tells) where
     pub refuses : (all_verdicts : List Said → List Verdict) (counts : Counts) (f : Whole)
-        → IsOfText f ⊎ IsOfScript f → ¬ (IsAllGood Says IsGood all_verdicts scripts counts)
+        → IsOfEither f → ¬ (IsAllGood Says IsGood all_verdicts scripts counts)
     refuses all_verdicts counts f of good =
         ⊎_elim (λ x. text.none good.claims x.number x.leaves_there good.is)
         (λ y.
@@ -182,7 +196,7 @@ module _ {Said Fault Whole : Type 0} (Says : List Said → Type 0) (leaves : ℕ
         (subst (λ (s : Script). IsWrong s k.said g) script k.wrong)) in
         ap (λ (n : ℕ). in_script n f) place ∙ ap (in_script j) fault
 
-    pub one_fault : (f g : Whole) → IsOfText f ⊎ IsOfScript f → IsOfText g ⊎ IsOfScript g → f ≡ g
+    pub one_fault : (f g : Whole) → IsOfEither f → IsOfEither g → f ≡ g
     one_fault f g of other =
         ⊎_elim
         (λ x. ⊎_elim

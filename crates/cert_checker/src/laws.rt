@@ -2,13 +2,13 @@
 
 ghost use Rattle.std.specs.Prelude.{◌≡◌, ◌≢◌, ℕ, List};
 ghost use Rattle.line_model.specs.{declared.line.Line.Line, declared.script.Script.Script};
-ghost use Rattle.certificate.specs.Grammar.{Claims};
+ghost use Rattle.certificate.specs.Grammar.{Claims, IsCertificate, LeavesGrammar};
 ghost use Rattle.cert_checker.specs.declared.claim.ClaimFault.{ClaimFault};
 ghost use Rattle.cert_checker.specs.declared.fault.CheckFault.{CheckFault};
 ghost use Rattle.cert_checker.specs.Check.{IsAccepted, IsCheckFault};
 ghost use Rattle.cert_checker.specs.declared.no.NoFault.{NoFault};
 ghost use Rattle.cert_checker.specs.{Verdicts.AreAccepted, Verdicts.IsFirstFault};
-ghost use Rattle.cert_checker.specs.{NoFaults.IsNoFault};
+ghost use Rattle.cert_checker.specs.{NoFaults.IsNoFault, ScriptLaws.IsOneText, ScriptLaws.AreApart};
 ghost use Rattle.cert_checker.specs.{declared.counts.Counts.Counts, Refutations.IsRefutation};
 
 use certificate::{a_text_has_one_meaning, a_text_leaves_at_one_line};
@@ -52,6 +52,21 @@ pub fn a_no_has_one_fault()
     timings_inside_are_choices_inside();
 }
 
+// A text says one thing or leaves its grammar at one line, and claims are accepted or have one first
+// fault.
+fn texts_and_claims_are_told_apart()
+    ensures texts { (line : Line) (scripts : List Script) (bytes : List ℕ) →
+        IsOneText (λ claims. IsCertificate line scripts claims bytes)
+        (LeavesGrammar line scripts bytes) }
+    ensures claims { (line : Line) →
+        AreApart (AreAccepted line) (IsFirstFault line) (λ fault. fault ≢ ClaimFault.Memory) }
+{
+    a_fault_refuses_the_claims();
+    claims_have_one_first_fault();
+    a_text_has_one_meaning();
+    a_text_leaves_at_one_line();
+}
+
 /// A certificate that has a first fault is not accepted, whatever the counts. So `check` is good
 /// exactly where there is none, but for want of memory.
 pub fn a_fault_refuses_the_certificate()
@@ -59,10 +74,7 @@ pub fn a_fault_refuses_the_certificate()
         (fault : CheckFault) → fault ≢ CheckFault.Memory →
         IsCheckFault line scripts bytes fault → ¬ (IsAccepted line scripts bytes counts) }
 {
-    a_fault_refuses_the_claims();
-    claims_have_one_first_fault();
-    a_text_has_one_meaning();
-    a_text_leaves_at_one_line();
+    texts_and_claims_are_told_apart();
 }
 
 /// A certificate has at most one first fault. So the error of `check` is the fault of the text, but
@@ -73,8 +85,5 @@ pub fn a_certificate_has_one_first_fault()
         IsCheckFault line scripts bytes fault → IsCheckFault line scripts bytes other →
         fault ≡ other }
 {
-    a_fault_refuses_the_claims();
-    claims_have_one_first_fault();
-    a_text_has_one_meaning();
-    a_text_leaves_at_one_line();
+    texts_and_claims_are_told_apart();
 }

@@ -3,7 +3,8 @@ use Rattle.std.proofs.lemmas.List.{take_all, length-map}
 use Rattle.certificate.specs.Grammar.{Verdict, verdict_in, claims_in}
 use Rattle.certificate.specs.{declared.claim.Claim.Claim, declared.claim.ScriptClaims.ScriptClaims}
 use Rattle.cert_checker.specs.Counts.{Adds, AreCounts, all_verdicts, is_yes, is_no, is_undecided}
-use Rattle.cert_checker.proofs.CountLaws.{adds_scripts, first_scripts, adds_few, few_verdicts}
+use Rattle.cert_checker.specs.CountLaws.{counts_then, adds_few}
+use Rattle.cert_checker.proofs.FirstVerdicts.{first_scripts, few_verdicts}
 use Rattle.cert_checker.proofs.counts.counts_of.Goals as goal
 
 pub with_all-sum-requires-clause-few : goal.with_all-sum-requires-clause-few
@@ -32,7 +33,7 @@ loop-i-preserved c =
     let P : List Verdict → Type 0 = λ l. AreCounts l next in
     record {
       counts = subst P (first_scripts claims i item inside c.index-claims-i.is)
-          (adds_scripts c.loop-i.sum next (all_verdicts (map claims_in (take i claims))) said
+          (counts_then c.loop-i.sum next (all_verdicts (map claims_in (take i claims))) said
           before.counts added);
       yes = omega (arith, before.yes, adds_few is_yes said c.loop-i.sum.yes next.yes 3 added.yes short);
       no = omega (arith, before.no, adds_few is_no said c.loop-i.sum.no next.no 3 added.no short);

@@ -2,7 +2,8 @@ use Rattle.std.proofs.Common.{◌≤◌, ◌<◌, ◌∷◌, [], ℕ, List, leng
 use Rattle.std.proofs.lemmas.List.{take_all}
 use Rattle.certificate.specs.{declared.claim.Claim.Claim, Grammar.Verdict, Grammar.verdict_in}
 use Rattle.cert_checker.specs.Counts.{Adds, is_yes, is_no, is_undecided}
-use Rattle.cert_checker.proofs.CountLaws.{adds_then, first_verdicts, adds_few, few_first}
+use Rattle.cert_checker.specs.CountLaws.{adds_then, adds_few}
+use Rattle.cert_checker.proofs.FirstVerdicts.{first_verdicts, few_first}
 use Rattle.cert_checker.proofs.counts.with_all.Goals as goal
 
 pub with_one-sum-requires : goal.with_one-sum-requires

@@ -1,11 +1,9 @@
-use Rattle.std.proofs.Common.{◌≡◌, ◌<◌, ◌≤◌, ℕ, List, Some, length, map, refl, sym, arith, subst}
-use Rattle.std.proofs.lemmas.Option.{slice_get_read}
-use Rattle.std.specs.Prelude.{slice_get}
+use Rattle.std.proofs.Common.{◌<◌, ◌≤◌, ℕ, List, length, map, sym, arith, subst}
 use Rattle.line_model.specs.{declared.script.Script.Script, Fits.Fits}
 use Rattle.certificate.specs.declared.claim.ScriptClaims.{ScriptClaims}
 use Rattle.certificate.specs.{Grammar.claims_in, Text.CanBeWritten}
 use Rattle.cert_checker.specs.{Check.IsCheckFault, Verdicts.AreAccepted, Verdicts.AreSound}
-use Rattle.cert_checker.specs.ScriptLaws.{each_mapped, slice_mapped, one_script}
+use Rattle.cert_checker.specs.ScriptLaws.{each_mapped, script_at, one_script}
 use Rattle.cert_checker.proofs.OneCheckFault.{told}
 use Rattle.cert_checker.proofs.whole.check_scripts.Goals as goal
 
@@ -32,16 +30,13 @@ loop-i-preserved c =
     let i : ℕ = c.loop-i.i in
     let script : Script = c.index-scripts-i.result in
     let said : ScriptClaims = c.index-claims-i.result in
-    let inside : i < length scripts = omega (arith, c.loop-i-test.true) in
-    let at : slice_get scripts i ≡ Some script =
-    slice_get_read scripts (length scripts) i script refl inside c.index-scripts-i.is in
-    let there : slice_get (map claims_in claims) i ≡ Some (claims_in said) =
-    slice_mapped (λ x. claims_in x) claims i said (omega (arith, inside, c.requires.many)) c.index-claims-i.is in
+    let at = script_at (λ x. claims_in x) scripts claims i script said
+    (omega (arith, c.loop-i-test.true)) c.requires.many c.index-scripts-i.is c.index-claims-i.is in
     record {
       accepted = one_script (AreAccepted line) scripts (map claims_in claims) i script
-          (claims_in said) at there c.loop-i.invariant.accepted c.in_default.ensures.exact;
+          (claims_in said) at.0 at.1 c.loop-i.invariant.accepted c.in_default.ensures.exact;
       sound = one_script (AreSound line) scripts (map claims_in claims) i script
-          (claims_in said) at there c.loop-i.invariant.sound c.in_default.ensures.yes;
+          (claims_in said) at.0 at.1 c.loop-i.invariant.sound c.in_default.ensures.yes;
     }
 
 pub returns-in-Err : goal.returns-in-Err
@@ -52,11 +47,8 @@ returns-in-Err c =
     let i : ℕ = c.loop-i.i in
     let script : Script = c.index-scripts-i.result in
     let said : ScriptClaims = c.index-claims-i.result in
-    let inside : i < length scripts = omega (arith, c.loop-i-test.true) in
-    let at : slice_get scripts i ≡ Some script =
-    slice_get_read scripts (length scripts) i script refl inside c.index-scripts-i.is in
-    let there : slice_get (map claims_in claims) i ≡ Some (claims_in said) =
-    slice_mapped (λ x. claims_in x) claims i said (omega (arith, inside, c.requires.many)) c.index-claims-i.is in
+    let at = script_at (λ x. claims_in x) scripts claims i script said
+    (omega (arith, c.loop-i-test.true)) c.requires.many c.index-scripts-i.is c.index-claims-i.is in
     record {
       exact = λ bytes is. subst (IsCheckFault line scripts bytes) (sym c.in_script.ensures)
           (told line scripts bytes i c.in-Err.fault (record {
@@ -64,8 +56,8 @@ returns-in-Err c =
             is = is;
             script = script;
             said = claims_in said;
-            script_is = at;
-            said_is = there;
+            script_is = at.0;
+            said_is = at.1;
             before = c.loop-i.invariant.accepted;
             wrong = c.in-Err.ensures.exact;
           }));

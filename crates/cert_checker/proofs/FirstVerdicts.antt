@@ -1,30 +1,13 @@
--- Counts grow verdict by verdict and script by script.
-use Rattle.std.proofs.Common.{◌≡◌, ◌<◌, ◌≤◌, ◌+◌, ◌++◌, ℕ, Bool, List, [], ◌∷◌, length, map, take}
+-- The verdicts of the first claims and scripts, one by one.
+use Rattle.std.proofs.Common.{◌≡◌, ◌<◌, ◌≤◌, ◌+◌, ◌++◌, ℕ, List, [], ◌∷◌, length, map, take}
 use Rattle.std.proofs.Common.{get_or, sym, ◌∙◌, ap, arith}
 use Rattle.std.proofs.lemmas.List.{map-append, take_more, append-nil, length-map, length-take-le}
-use Rattle.std.proofs.lemmas.List.Sums.{sum_by-append, count_by-le-length}
 use Rattle.std.proofs.lemmas.Grind.{flat_map-append}
-use Rattle.std.specs.List.{All, count_by}
+use Rattle.std.specs.List.{All}
 use Rattle.certificate.specs.Grammar.{Claims, Verdict, verdict_in, claims_in}
 use Rattle.certificate.specs.{declared.claim.Claim.Claim, declared.claim.ScriptClaims.ScriptClaims}
-use Rattle.cert_checker.specs.declared.counts.Counts.{Counts}
-use Rattle.cert_checker.specs.Counts.{Adds, AreCounts, all_verdicts, is_yes, is_no, is_undecided}
+use Rattle.cert_checker.specs.Counts.{all_verdicts}
 use Rattle.cert_checker.specs.ScriptLaws.{each_mapped}
-
-count_then : (p : Verdict → Bool) (xs ys : List Verdict) (a b c : ℕ) → b ≡ a + count_by p xs
-    → c ≡ b + count_by p ys → c ≡ a + count_by p (xs ++ ys)
-count_then p xs ys a b c first second =
-    let both : count_by p (xs ++ ys) ≡ count_by p xs + count_by p ys = sum_by-append _ xs ys in
-    omega (arith, first, second, both)
-
--- some verdicts, and then others
-pub adds_then : (a b c : Counts) (xs ys : List Verdict) → Adds a xs b → Adds b ys c
-    → Adds a (xs ++ ys) c
-adds_then a b c xs ys first second = record {
-  yes = count_then is_yes xs ys a.yes b.yes c.yes first.yes second.yes;
-  no = count_then is_no xs ys a.no b.no c.no first.no second.no;
-  undecided = count_then is_undecided xs ys a.undecided b.undecided c.undecided first.undecided second.undecided;
-}
 
 -- the first verdicts, one more
 pub first_verdicts : (written : List Claim) (i : ℕ) (item : Claim) → i < length written
@@ -49,13 +32,6 @@ first_scripts claims i item inside is =
     (sym (map-append (λ x. claims_in x) (take i claims) (now ∷ []))
     ∙ ap (λ (l : List ScriptClaims). map claims_in l) (sym (take_more claims i item inside)))
 
--- no count grows by more than the verdicts are
-pub adds_few : (p : Verdict → Bool) (verdicts : List Verdict) (a b n : ℕ)
-    → b ≡ a + count_by p verdicts → length verdicts ≤ n → b ≤ a + n
-adds_few p verdicts a b n grown few =
-    let bound : count_by p verdicts ≤ length verdicts = count_by-le-length p verdicts in
-    omega (arith, grown, few, bound)
-
 -- what is said of one of the scripts has few verdicts
 pub few_verdicts : (claims : List ScriptClaims) (i : ℕ) (item : ScriptClaims) → i < length claims
     → item ≡ get_or claims i item → All (λ said. length said.verdicts ≤ 3) (map claims_in claims)
@@ -64,15 +40,6 @@ few_verdicts claims i item inside is each =
     let few : length (map verdict_in item.verdicts.items) ≤ 3 =
     each_mapped (λ x. claims_in x) claims i item inside is (λ said. length said.verdicts ≤ 3) each in
     omega (arith, few, length-map item.verdicts.items (λ x. verdict_in x))
-
--- counts from nothing
-pub adds_scripts : (a b : Counts) (xs ys : List Verdict) → AreCounts xs a → Adds a ys b
-    → AreCounts (xs ++ ys) b
-adds_scripts a b xs ys are added = record {
-  yes = omega (arith, count_then is_yes xs ys 0 a.yes b.yes (omega (arith, are.yes)) added.yes);
-  no = omega (arith, count_then is_no xs ys 0 a.no b.no (omega (arith, are.no)) added.no);
-  undecided = omega (arith, count_then is_undecided xs ys 0 a.undecided b.undecided (omega (arith, are.undecided)) added.undecided);
-}
 
 -- the first of few verdicts are few
 pub few_first : (written : List Claim) (i : ℕ) → i ≤ length written → length written ≤ 3
