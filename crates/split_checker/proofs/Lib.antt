@@ -1,7 +1,7 @@
 pub mod FirstLeafLaws
 pub mod WalkLaws
 pub mod ResultLaws
-pub mod CountLaws
+pub mod FirstVerdicts
 pub mod OneTree
 pub mod OneFault
 pub mod OneSplitFault

@@ -1,7 +1,5 @@
 -- The results of a script have one first fault, and none where they are supported.
-use Rattle.std.proofs.Common.{◌≡◌, ◌≢◌, ◌<◌, ℕ, List, refl, sym, ◌∙◌, ap, subst}
-use Rattle.std.proofs.lemmas.Option.{same_Some, slice_get_within}
-use Rattle.std.specs.Prelude.{slice_get}
+use Rattle.std.proofs.Common.{◌≡◌, ◌≢◌, ℕ, List, refl, sym, ◌∙◌, subst}
 use Rattle.line_model.specs.declared.line.Line.{Line}
 use Rattle.line_model.specs.{declared.script.Script.Script, Choice.declared_box}
 use Rattle.cert_checker.specs.declared.no.NoFault.{NoFault}

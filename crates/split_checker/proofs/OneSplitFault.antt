@@ -1,8 +1,8 @@
 -- The fault of a text of split trees is one of the text, or of a script.
-use Rattle.std.proofs.Common.{◌≢◌, ◌⊎◌, inl, inr, ℕ, List, refl}
+use Rattle.std.proofs.Common.{◌≢◌, inl, inr, ℕ, List, refl}
 use Rattle.line_model.specs.{declared.line.Line.Line, declared.script.Script.Script}
 use Rattle.cert_checker.specs.declared.no.NoFault.TheVariants as no
-use Rattle.cert_checker.specs.ScriptLaws.{IsOfText, IsOfScript}
+use Rattle.cert_checker.specs.ScriptLaws.{IsOfEither}
 use Rattle.split_text.specs.Grammar.{IsSplitText, LeavesGrammar}
 use Rattle.split_checker.specs.declared.fault.ResultFault.{ResultFault}
 use Rattle.split_checker.specs.declared.fault.ResultFault.TheVariants as wrong
@@ -20,23 +20,19 @@ told line scripts bytes i (wrong.No k (no.Passes t)) h = h
 told line scripts bytes i wrong.Memory h = tt
 
 module _ (line : Line) (scripts : List Script) (bytes : List ℕ) where
-  abbrev pub OfText : SplitFault → Type 0
-  OfText f =
-      IsOfText (λ parts. IsSplitText line scripts parts bytes) (LeavesGrammar line scripts bytes)
-      (AreSupported line) (IsFirstFault line) (λ f. f ≢ wrong.Memory) scripts split.Line fault_in f
-
-  abbrev pub OfScript : SplitFault → Type 0
-  OfScript f =
-      IsOfScript (λ parts. IsSplitText line scripts parts bytes) (LeavesGrammar line scripts bytes)
-      (AreSupported line) (IsFirstFault line) (λ f. f ≢ wrong.Memory) scripts split.Line fault_in f
+  -- the fault is one of the text, or of a script
+  abbrev pub IsOne : SplitFault → Type 0
+  IsOne =
+      IsOfEither (λ parts. IsSplitText line scripts parts bytes) (LeavesGrammar line scripts bytes)
+      (AreSupported line) (IsFirstFault line) (λ f. f ≢ wrong.Memory) scripts split.Line fault_in
 
   in_script : (i : ℕ) (f : ResultFault) → f ≢ wrong.Memory → IsScriptFault line scripts bytes i f
-      → OfText (fault_in i f) ⊎ OfScript (fault_in i f)
+      → IsOne (fault_in i f)
   in_script i f some h =
       inr (record { place = i; fault = f; told = some; first = h; same = refl })
 
   pub of_text_or_script : (f : SplitFault) → f ≢ split.Memory → IsSplitFault line scripts bytes f
-      → OfText f ⊎ OfScript f
+      → IsOne f
   of_text_or_script (split.Line n) some h =
       inl (record { number = n; leaves_there = h; same = refl })
   of_text_or_script (split.NotHeld i k n) some h =

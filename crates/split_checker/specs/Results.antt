@@ -1,5 +1,5 @@
 -- When the results of a script are supported, and the first fault where they are not.
-use Rattle.std.specs.Prelude.{◌≡◌, ◌<◌, ℕ, List, Some, length, slice_get, IsTrue}
+use Rattle.std.specs.Prelude.{◌≡◌, ℕ, List, length, IsTrue}
 use Rattle.line_model.specs.declared.line.Line.{Line}
 use Rattle.line_model.specs.Histories.{History, IsLineHistory, Meets}
 use Rattle.line_model.specs.{declared.script.Script.Script, Choice.Choice, Choice.IsInside}

@@ -4,10 +4,28 @@ ghost use Rattle.std.specs.Prelude.{◌≡◌, ◌≢◌, ℕ, List};
 ghost use Rattle.line_model.specs.{declared.line.Line.Line, declared.script.Script.Script};
 ghost use Rattle.cert_checker.specs.declared.counts.Counts.{Counts};
 ghost use Rattle.split_checker.specs.declared.fault.SplitFault.{SplitFault};
+ghost use Rattle.cert_checker.specs.ScriptLaws.{IsOneText, AreApart};
+ghost use Rattle.split_text.specs.Grammar.{IsSplitText, LeavesGrammar};
+ghost use Rattle.split_checker.specs.declared.fault.ResultFault.{ResultFault};
+ghost use Rattle.split_checker.specs.{Results.AreSupported, Results.IsFirstFault};
 ghost use Rattle.split_checker.specs.Check.{IsAccepted, IsSplitFault};
 
 use cert_checker::a_no_has_one_fault;
 use split_text::{a_split_text_has_one_meaning, a_split_text_leaves_at_one_line};
+
+// A text says one thing or leaves its grammar at one line, and results are supported or have one
+// first fault.
+fn texts_and_results_are_told_apart()
+    ensures texts { (line : Line) (scripts : List Script) (bytes : List ℕ) →
+        IsOneText (λ parts. IsSplitText line scripts parts bytes)
+        (LeavesGrammar line scripts bytes) }
+    ensures results { (line : Line) →
+        AreApart (AreSupported line) (IsFirstFault line) (λ fault. fault ≢ ResultFault.Memory) }
+{
+    a_no_has_one_fault();
+    a_split_text_has_one_meaning();
+    a_split_text_leaves_at_one_line();
+}
 
 /// A text of split trees that has a first fault is not accepted, whatever the counts. So
 /// `check_split` is good exactly where there is none, but for want of memory.
@@ -16,9 +34,7 @@ pub fn a_fault_refuses_the_split_text()
         (fault : SplitFault) → fault ≢ SplitFault.Memory →
         IsSplitFault line scripts bytes fault → ¬ (IsAccepted line scripts bytes counts) }
 {
-    a_no_has_one_fault();
-    a_split_text_has_one_meaning();
-    a_split_text_leaves_at_one_line();
+    texts_and_results_are_told_apart();
 }
 
 /// A text of split trees has at most one first fault. So the error of `check_split` is the fault of
@@ -29,7 +45,5 @@ pub fn a_split_text_has_one_first_fault()
         IsSplitFault line scripts bytes fault → IsSplitFault line scripts bytes other →
         fault ≡ other }
 {
-    a_no_has_one_fault();
-    a_split_text_has_one_meaning();
-    a_split_text_leaves_at_one_line();
+    texts_and_results_are_told_apart();
 }

@@ -7,8 +7,8 @@ use Rattle.split_text.specs.declared.claim.SplitClaim.{SplitClaim}
 use Rattle.split_text.specs.{Grammar.SplitResult, Reading.result_in, Reading.results_in}
 use Rattle.split_checker.specs.Counts.{all_verdicts, CountResults}
 use Rattle.cert_checker.specs.ScriptLaws.{each_mapped}
-use Rattle.split_checker.proofs.CountLaws.{verdicts_in, counts_then}
-use Rattle.split_checker.proofs.{CountLaws.parts_more, CountLaws.adds_few, CountLaws.few_verdicts}
+use Rattle.cert_checker.specs.CountLaws.{counts_then, adds_few}
+use Rattle.split_checker.proofs.FirstVerdicts.{verdicts_in, parts_more, few_verdicts}
 use Rattle.split_checker.proofs.counts.counts_of.Goals as goal
 
 -- what is said of one of the scripts has few results

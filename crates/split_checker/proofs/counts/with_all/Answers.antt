@@ -4,7 +4,8 @@ use Rattle.certificate.specs.Grammar.{Verdict}
 use Rattle.cert_checker.specs.Counts.{Adds, is_yes, is_no, is_undecided}
 use Rattle.split_text.specs.{declared.claim.SplitClaim.SplitClaim, Reading.result_in}
 use Rattle.split_checker.specs.Counts.{verdict_of}
-use Rattle.split_checker.proofs.CountLaws.{verdicts_in, adds_then, claims_more, adds_few, few_first}
+use Rattle.cert_checker.specs.CountLaws.{adds_then, adds_few}
+use Rattle.split_checker.proofs.FirstVerdicts.{verdicts_in, claims_more, few_first}
 use Rattle.split_checker.proofs.counts.with_all.Goals as goal
 
 pub with_one-sum-requires : goal.with_one-sum-requires

@@ -1,14 +1,12 @@
-use Rattle.std.proofs.Common.{◌≡◌, ◌<◌, ◌≤◌, ℕ, List, Some, length, map, refl, sym, arith, subst}
+use Rattle.std.proofs.Common.{◌<◌, ◌≤◌, ℕ, List, length, map, sym, arith, subst}
 use Rattle.std.proofs.Common.{Vec}
-use Rattle.std.proofs.lemmas.Option.{slice_get_read}
-use Rattle.std.specs.Prelude.{slice_get}
 use Rattle.std.specs.declared.alloc.Global.{Global}
 use Rattle.line_model.specs.{declared.script.Script.Script, Fits.Fits}
 use Rattle.split_text.specs.declared.claim.SplitClaim.{SplitClaim}
 use Rattle.split_text.specs.{Grammar.HasOneEach, Reading.result_in, Reading.results_in}
 use Rattle.split_checker.specs.Results.{AreSupported, AreTold, IsFirstFault}
 use Rattle.split_checker.specs.{declared.fault.ResultFault.ResultFault, Check.IsSplitFault}
-use Rattle.cert_checker.specs.ScriptLaws.{each_mapped, slice_mapped, one_script}
+use Rattle.cert_checker.specs.ScriptLaws.{each_mapped, script_at, one_script}
 use Rattle.split_checker.proofs.OneSplitFault.{told}
 use Rattle.split_checker.proofs.whole.check_scripts.Goals as goal
 
@@ -39,19 +37,15 @@ loop-i-preserved c =
     let i : ℕ = c.loop-i.i in
     let script : Script = c.index-scripts-i.result in
     let item : Vec SplitClaim Global = c.index-parts-i.result in
-    let inside : i < length scripts = omega (arith, c.loop-i-test.true) in
-    let at : slice_get scripts i ≡ Some script =
-    slice_get_read scripts (length scripts) i script refl inside c.index-scripts-i.is in
-    let there : slice_get (map results_in parts) i ≡ Some (results_in item) =
-    slice_mapped results_in parts i item (omega (arith, inside, c.requires.many))
-    c.index-parts-i.is in
+    let at = script_at results_in scripts parts i script item (omega (arith, c.loop-i-test.true))
+    c.requires.many c.index-scripts-i.is c.index-parts-i.is in
     record {
       supported = one_script (AreSupported line) scripts (map results_in parts) i script
-          (results_in item) at there c.loop-i.invariant.supported
+          (results_in item) at.0 at.1 c.loop-i.invariant.supported
           (subst (λ (l : List SplitClaim). AreSupported line script (map result_in l))
           c.as_slice.ensures.value c.in_default.ensures.exact);
       told = one_script (AreTold line) scripts (map results_in parts) i script
-          (results_in item) at there c.loop-i.invariant.told
+          (results_in item) at.0 at.1 c.loop-i.invariant.told
           (subst (λ (l : List SplitClaim). AreTold line script (map result_in l))
           c.as_slice.ensures.value c.in_default.ensures.told);
     }
@@ -65,12 +59,8 @@ returns-in-Err c =
     let script : Script = c.index-scripts-i.result in
     let item : Vec SplitClaim Global = c.index-parts-i.result in
     let fault : ResultFault = c.in-Err.fault in
-    let inside : i < length scripts = omega (arith, c.loop-i-test.true) in
-    let at : slice_get scripts i ≡ Some script =
-    slice_get_read scripts (length scripts) i script refl inside c.index-scripts-i.is in
-    let there : slice_get (map results_in parts) i ≡ Some (results_in item) =
-    slice_mapped results_in parts i item (omega (arith, inside, c.requires.many))
-    c.index-parts-i.is in
+    let at = script_at results_in scripts parts i script item (omega (arith, c.loop-i-test.true))
+    c.requires.many c.index-scripts-i.is c.index-parts-i.is in
     record {
       exact = λ bytes is. subst (IsSplitFault line scripts bytes) (sym c.in_script.ensures)
           (told line scripts bytes i fault (record {
@@ -78,8 +68,8 @@ returns-in-Err c =
             is = is;
             script = script;
             said = results_in item;
-            script_is = at;
-            said_is = there;
+            script_is = at.0;
+            said_is = at.1;
             before = c.loop-i.invariant.supported;
             wrong = subst (λ (l : List SplitClaim).
                 IsFirstFault line script (map result_in l) fault)
