@@ -1,5 +1,5 @@
 -- That what passes the checks fits the line.
-use Rattle.std.proofs.Common.{◌≡◌, ◌&&◌, ◌==◌, ℕ, ◌+◌, ◌<◌, ◌≤◌, Bool, true, false, cond, List, []}
+use Rattle.std.proofs.Common.{◌≡◌, ◌&&◌, ◌==◌, ℕ, ◌<◌, true, List, []}
 use Rattle.std.proofs.Common.{◌∷◌, ◌++◌, length, Option, Some, None, refl, sym, ap, subst, arith}
 use Rattle.std.proofs.Common.{◌∙◌}
 use Rattle.std.proofs.lemmas.List.Folds.{list_all-append}
@@ -15,7 +15,6 @@ use Rattle.line_model.specs.{declared.script.Kind.Kind, declared.script.What.Wha
 use Rattle.line_model.specs.declared.script.What.TheVariants as what
 use Rattle.line_model.specs.Fits.{exists_in, span_fits, deadline_fits}
 use Rattle.line_model.specs.NumbersByName.{terminal_named, channel_named, has_name}
-use Rattle.line_model.specs.PlainNames.{is_plain_name}
 use Rattle.fault_script.specs.declared.item.Item.{Item}
 use Rattle.fault_script.specs.declared.item.Item.TheVariants.{Head, Seen, Lost}
 use Rattle.fault_script.specs.Checks.{deadline_of, span_between, what_at}

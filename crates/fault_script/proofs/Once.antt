@@ -1,20 +1,17 @@
 -- Names of which no two are the same.
-use Rattle.std.proofs.Common.{◌≡◌, ◌≢◌, ℕ, ◌<◌, Bool, true, false, List, [], ◌∷◌, ◌++◌, length}
-use Rattle.std.proofs.Common.{get_or, sym, ap, ◌∙◌, arith, length-append, inl, inr}
+use Rattle.std.proofs.Common.{◌≡◌, ℕ, ◌<◌, true, false, List, [], ◌∷◌, ◌++◌, length}
+use Rattle.std.proofs.Common.{get_or, refl, sym, ap, ◌∙◌, arith, length-append, inl, inr}
 use Rattle.std.proofs.lemmas.Bool.{cases_lt}
 use Rattle.std.proofs.lemmas.List.{get_or_append_left}
 use Rattle.std.proofs.Math.Seq.{get_or-append_seam}
 use Rattle.std.proofs.lemmas.List.Folds.{list_any_at}
+use Rattle.std.proofs.lemmas.Slice.Eq.{bytes_eq-Decides}
 use Rattle.std.specs.List.{list_any}
 use Rattle.std.specs.Str.{bytes_eq}
 use Rattle.fault_script.specs.SoFar.{AreOnce}
-use Rattle.fault_script.proofs.Naming.{bytes_same}
 
 pub once_none : AreOnce []
 once_none = λ j k less below same. absurd (omega arith)
-
-not_both : (b : Bool) → b ≡ true → b ≡ false → ⊥
-not_both b p q = cc
 
 -- one name more, that none of them has
 pub once_more : (names : List (List ℕ)) (name : List ℕ) → AreOnce names
@@ -32,7 +29,7 @@ once_more names name once new = λ j k less below same.
           ap (λ i. get_or (names ++ name ∷ []) i []) last
           ∙ get_or-append_seam names name [] [] in
           let here : bytes_eq (get_or names j []) name ≡ true =
-          ap (λ x. bytes_eq x name) (sym at_j ∙ same ∙ at_k) ∙ bytes_same name in
-          not_both (list_any (λ x. bytes_eq x name) names)
-          (list_any_at (λ x. bytes_eq x name) names j [] early here) new
+          ap (λ x. bytes_eq x name) (sym at_j ∙ same ∙ at_k) ∙ (bytes_eq-Decides name name).1 refl in
+          let some = list_any_at (λ x. bytes_eq x name) names j [] early here in
+          absurd (let e : true ≡ false = sym some ∙ new in cc)
     ]

@@ -3,10 +3,12 @@ use Rattle.std.specs.Prelude.{[], nat_lt, nat_le, option_map}
 use Rattle.std.specs.List.{list_all, flat_map, All}
 use Rattle.std.specs.Str.{bytes_eq}
 use Rattle.std.specs.Fmt.{decimal}
-use Rattle.std.proofs.Common.{◌≡◌, ◌&&◌, ℕ, suc, ◌+◌, ◌<◌, ◌≤◌, Bool, true, false, cond, List, ◌∷◌}
+use Rattle.std.proofs.Common.{◌≡◌, ◌&&◌, ℕ, suc, ◌+◌, ◌<◌, ◌≤◌, true, false, cond, List, ◌∷◌}
 use Rattle.std.proofs.Common.{◌++◌, length, map, get_or, Some, None, Ok, refl, sym, ap, ◌∙◌, ◌≢◌}
-use Rattle.std.proofs.Common.{◌||◌, arith, append_assoc, length-append, inl, inr}
-use Rattle.std.proofs.lemmas.Bool.{lt-ltb, ltb-true, leb-true, eqb-true, cases_Bool}
+use Rattle.std.proofs.Common.{◌||◌, arith, append_assoc, length-append}
+use Rattle.std.proofs.lemmas.Bool.{lt-ltb, ltb-true, leb-true, eqb-true, and_parts}
+use Rattle.std.proofs.lemmas.Slice.Eq.{bytes_eq-Decides}
+use Rattle.std.proofs.lemmas.Option.{slice_get-get_or}
 use Rattle.std.proofs.lemmas.List.{append-nil, get_or-map}
 use Rattle.std.proofs.lemmas.List.Folds.{list_any-append}
 use Rattle.std.proofs.lemmas.List.Elements.{All-nil, All-cons, All-head, All-tail, All-get_or}
@@ -38,8 +40,7 @@ use Rattle.line_model.specs.NumbersByName.{channel_named}
 use Rattle.std.proofs.lemmas.Map.Entries.{option_filter}
 use Rattle.csv_records.specs.{Gives.◌>>=◌, RecordFile.after_header, RecordFile.after_records}
 use Rattle.relay_base.specs.DecimalLaws.{number_of-decimal}
-use Rattle.fault_script.proofs.Naming.{bytes_same, bytes_are, terminal_found, channel_found}
-use Rattle.fault_script.proofs.Naming.{slice_get-at}
+use Rattle.fault_script.proofs.Naming.{bytes_differ, terminal_found, channel_found}
 
 -- the item of what a span shows
 abbrev item_for : What → Item
@@ -84,14 +85,10 @@ place_read line (what.Loss channel) there =
     let below = ltb-true channel (length line.channels.items) there in
     ap (λ o. option_map (λ c. what.Loss c)
     (channel_named line (channel_name line.terminals.items o)))
-    (slice_get-at line.channels.items channel d below)
+    (slice_get-get_or line.channels.items channel d below)
     ∙ ap (λ o. option_map (λ c. what.Loss c) o)
     (channel_found line.terminals.items line.channels.items line.plain_names line.names_once
     line.pairs_once channel d below)
-
-both : (a b : Bool) → a && b ≡ true → (a ≡ true) × (b ≡ true)
-both true b e = (refl, e)
-both false b e = absurd (cc)
 
 -- a script in the making: its head is read, and the rows so far
 abbrev at_script : List ScriptValues → ScriptValues → SoFar ScriptValues
@@ -107,15 +104,15 @@ row_stands : (line : Line) (done : List ScriptValues) (v : ScriptValues) (n : �
 unfolding after_record after_row
 row_stands line done v n x plain room fits =
     let there =
-    both (exists_in line x.what) (nat_lt x.from x.to && nat_le x.to line.horizon) fits in
-    let ends = both (nat_lt x.from x.to) (nat_le x.to line.horizon) there.1 in
+    and_parts (exists_in line x.what) (nat_lt x.from x.to && nat_le x.to line.horizon) fits in
+    let ends = and_parts (nat_lt x.from x.to) (nat_le x.to line.horizon) there.1 in
     let before = ltb-true x.from x.to ends.0 in
     let within = leb-true x.to line.horizon ends.1 in
     let small : line.horizon ≤ 4000 = line.horizon_in_range.1 in
     let from : number_of (decimal x.from) ≡ Some x.from =
     number_of-decimal x.from (omega arith) in
     let to : number_of (decimal x.to) ≡ Some x.to = number_of-decimal x.to (omega arith) in
-    let same = bytes_same v.name in
+    let same = (bytes_eq-Decides v.name v.name).1 refl in
     let count : nat_lt (length v.spans) 200 ≡ true = lt-ltb (length v.spans) 200 room in
     let place = place_read line x.what there.0 in
     rw (
@@ -145,7 +142,7 @@ rows_stand line done v n [] rest plain room fit =
     (sym (append-nil v.spans))
     ∙ ap (λ m. after_records (script_file line) (at_script done (record v { spans = v.spans ++ [] })) m rest) same
 rows_stand line done v n (x ∷ spans) rest plain room fit =
-    let p = both (span_fits line x) (list_all (span_fits line) spans) fit in
+    let p = and_parts (span_fits line x) (list_all (span_fits line) spans) fit in
     let count = length-append v.spans (x ∷ []) in
     let first = row_stands line done v n x plain (omega arith) p.0 in
     let behind : List (List (List ℕ)) = map (row_record line v.name) spans ++ rest in
@@ -217,19 +214,13 @@ new_behind s v vs new = record {
       let old : is_taken s u.name ≡ false =
       All-get_or (λ u. is_taken s u.name ≡ false) (v ∷ vs) (suc i) v (omega arith) new.names in
       let other : bytes_eq v.name u.name ≡ false =
-      apart (λ same. new.once 0 (suc i) (omega arith) (omega arith)
+      bytes_differ v.name u.name (λ same. new.once 0 (suc i) (omega arith) (omega arith)
       (same ∙ sym (name_at-rest vs i v below))) in
       list_any-append (λ w. bytes_eq w.name u.name) (all_of s) (v ∷ [])
       ∙ ap (λ b. b || (bytes_eq v.name u.name || false)) old
       ∙ ap (λ b. b || false) other);
   once = λ j k less below. new.once (suc j) (suc k) (omega arith) (omega arith);
 }
-  where
-    apart : {xs ys : List ℕ} → (xs ≡ ys → ⊥) → bytes_eq xs ys ≡ false
-    apart {xs} {ys} other = elim (cases_Bool (bytes_eq xs ys)) [
-      | inl same ↦ absurd (other (bytes_are xs ys same))
-      | inr none ↦ none
-    ]
 
 scripts_stand : (line : Line) (s : SoFar ScriptValues) (n : ℕ) (vs : List ScriptValues)
     → All (ValuesFit line) vs → AreNew s vs → length (all_of s) + length vs ≤ 64

@@ -1,5 +1,5 @@
 -- The checks of one record, each of them alone.
-use Rattle.std.specs.Prelude.{◌&&◌, ℕ, Bool, true, false, not, List, [], ◌∷◌, nat_le, nat_lt}
+use Rattle.std.specs.Prelude.{◌&&◌, ℕ, Bool, true, false, not, List, nat_le, nat_lt}
 use Rattle.std.specs.Prelude.{codes, Option, None, Some, option_map, if◌then◌else◌}
 use Rattle.std.specs.List.{list_any}
 use Rattle.std.specs.Str.{bytes_eq}

@@ -1,7 +1,7 @@
 //! Why a file of scripts is refused.
 
 use csv_records::{Memory, print_fault};
-use std::alloc::{AllocError, AllocFailed};
+use std::alloc::AllocFailed;
 use std::error::Error;
 use std::fmt;
 
@@ -76,17 +76,6 @@ impl fmt::Display for ScriptFault {
 }
 
 impl Error for ScriptFault {}
-
-impl From<AllocError> for ScriptFault {
-    ghost use Rattle.std.specs.Prelude.{◌≡◌};
-    ghost use Rattle.fault_script.specs.declared.fault.ScriptFault.TheVariants as fault;
-
-    ghost from_gives = { λ _ e. e ≡ fault.Memory };
-
-    fn from(_: AllocError) -> Self {
-        ScriptFault::Memory
-    }
-}
 
 impl<T: Drop> From<AllocFailed<T>> for ScriptFault {
     ghost use Rattle.std.specs.Prelude.{◌≡◌};
