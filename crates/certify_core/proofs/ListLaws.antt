@@ -1,21 +1,11 @@
 -- Lists with one element for each number, made one by one.
-use Rattle.std.proofs.Common.{◌≡◌, ℕ, ◌+◌, ◌<◌, List, [], ◌∷◌, ◌++◌, Some, length, length-append}
+use Rattle.std.proofs.Common.{◌≡◌, ℕ, ◌+◌, ◌<◌, List, [], ◌∷◌, ◌++◌, length, length-append}
 use Rattle.std.proofs.Common.{map, take, get_or, sym, ◌∙◌, ap, subst, ⊎_elim}
 use Rattle.std.proofs.lemmas.List.{map-append, take_more}
-use Rattle.std.specs.Prelude.{slice_get}
 use Rattle.simulator.specs.ListLaws.{at_push}
 use Rattle.certify_core.specs.OneEach.{OneEach}
 
 module _ {X : Type 0} (said : ℕ → X → Type 0) where
-  pub none_yet : (xs : List X) → xs ≡ [] → OneEach said 0 xs
-  none_yet xs none = record {
-    count = ap length none;
-    each = λ k x at.
-        let nothing : slice_get [] k ≡ Some x =
-        ap (λ (l : List X). slice_get l k) (sym none) ∙ at in
-        absurd (cc);
-  }
-
   pub one_more : (n : ℕ) (xs new : List X) (x : X) → new ≡ xs ++ x ∷ [] → said n x
       → OneEach said n xs → OneEach said (n + 1) new
   one_more n xs new x is here so_far =

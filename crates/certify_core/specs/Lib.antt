@@ -1,5 +1,6 @@
 pub mod OneEach
 pub mod Verdicts
+pub mod VerdictLaws
 pub mod Candidates
 pub mod Standings
 pub mod Piece

@@ -1,10 +1,10 @@
 -- An interval history has exactly one list of key waves.
-use Rattle.std.proofs.Common.{◌≡◌, ℕ, ◌<◌, Bool, true, false, List, Some, get_or, map, refl, sym}
+use Rattle.std.proofs.Common.{◌≡◌, ℕ, ◌<◌, false, List, Some, get_or, map, sym}
 use Rattle.std.proofs.Common.{◌∙◌, ap, arith}
 use Rattle.std.proofs.lemmas.Option.{get_or_from_slice_get, slice_get-get_or, slice_get-map}
 use Rattle.std.proofs.lemmas.Option.{slice_get_within}
-use Rattle.std.specs.Prelude.{slice_get, IsTrue, option_map}
-use Rattle.history.specs.Rails.{Rails, IsSound, both, must_of, may_of}
+use Rattle.std.specs.Prelude.{slice_get, option_map}
+use Rattle.history.specs.Rails.{Rails, IsSound, both}
 use Rattle.tick_signal.specs.Terns.{tern_rails, tern_with, tern_once, rails_told}
 use Rattle.tick_signal.specs.{declared.tern.Tern.Tern, declared.tern.Tern.TheVariants.Zero}
 use Rattle.line_model.specs.{declared.line.Line.Line, declared.script.Script.Script}

@@ -1,5 +1,5 @@
 -- A script that fits has exactly one list of verdicts.
-use Rattle.std.proofs.Common.{◌≡◌, ◌⊎◌, ℕ, zero, suc, ◌<◌, ◌≤◌, List, refl, sym, ◌∙◌, ap, subst}
+use Rattle.std.proofs.Common.{◌≡◌, ◌⊎◌, ℕ, zero, suc, ◌<◌, ◌≤◌, List, refl, sym, subst}
 use Rattle.std.proofs.Common.{arith, inl, inr, ⊎_elim}
 use Rattle.std.proofs.lemmas.Bool.{cases_lt}
 use Rattle.line_model.specs.declared.line.Line.{Line}
@@ -9,49 +9,11 @@ use Rattle.line_model.specs.{declared.script.Script.Script, Parameters.terminal_
 use Rattle.timing_box.specs.{Candidates.candidate, Candidates.candidate_count, Choice.timing_choice}
 use Rattle.certify_core.specs.declared.verdict.Verdict.{Verdict}
 use Rattle.certify_core.specs.declared.verdict.Verdict.TheVariants.{Yes, No, Undecided}
-use Rattle.certify_core.specs.Verdicts.{AreVerdicts, FailsAt, IsFirstFailing, IsRuleHeld, IsVerdict}
-use Rattle.certify_core.specs.Verdicts.{PassesAt}
+use Rattle.certify_core.specs.Verdicts.{AreVerdicts, FailsAt, IsFirstFailing, IsVerdict}
+use Rattle.certify_core.specs.{Verdicts.PassesAt, VerdictLaws.verdict_once}
 use Rattle.own_certificate.specs.Known.{Known}
 use Rattle.own_certificate.proofs.Lists.{one_each_once, one_each_exists}
 use Rattle.own_certificate.proofs.Obligations.{held_same, met_or_not, rule_held_or_not, same_meets}
-
--- ---- one verdict at most
-
-module _ (line : Line) (script : Script) (k : ℕ) where
-  -- a candidate that passes does not fail
-  pass_or_fail : (i j : ℕ) → i ≡ j → PassesAt line script k (candidate line i)
-      → FailsAt line script k (candidate line j) → ⊥
-  pass_or_fail i j same passes fails =
-      let here : PassesAt line script k (candidate line j) =
-      subst (λ (n : ℕ). PassesAt line script k (candidate line n)) same passes in
-      fails.fails (here.meets fails.h fails.is)
-
-  -- one candidate alone is the first that fails
-  first_once : (i j : ℕ) → IsFirstFailing line script k i → IsFirstFailing line script k j → i ≡ j
-  first_once i j p q =
-      ⊎_elim (λ before. absurd (pass_or_fail i i refl (q.earlier i before) p.fails))
-      (λ late.
-      ⊎_elim (λ after. absurd (pass_or_fail j j refl (p.earlier j after) q.fails))
-      (λ even. omega arith)
-      (cases_lt j i))
-      (cases_lt i j)
-
-  -- over two interval histories whose rules are held together
-  verdict_once : (v w : PairHistory) → (IsRuleHeld line script k v → IsRuleHeld line script k w)
-      → (IsRuleHeld line script k w → IsRuleHeld line script k v) → (a b : Verdict)
-      → IsVerdict line script k v a → IsVerdict line script k w b → a ≡ b
-  verdict_once v w there back Yes Yes p q = refl
-  verdict_once v w there back Yes (No timing) p q = absurd (q.not_held (there p))
-  verdict_once v w there back Yes Undecided p q = absurd (q.not_held (there p))
-  verdict_once v w there back (No timing) Yes p q = absurd (p.not_held (back q))
-  verdict_once v w there back (No timing) (No other) p q =
-      ap No (p.is ∙ ap (candidate line) (first_once p.number q.number p.first q.first) ∙ sym q.is)
-  verdict_once v w there back (No timing) Undecided p q =
-      absurd (pass_or_fail p.number p.number refl (q.passes p.number p.first.below) p.first.fails)
-  verdict_once v w there back Undecided Yes p q = absurd (p.not_held (back q))
-  verdict_once v w there back Undecided (No timing) p q =
-      absurd (pass_or_fail q.number q.number refl (p.passes q.number q.first.below) q.first.fails)
-  verdict_once v w there back Undecided Undecided p q = refl
 
 -- ---- one verdict at least
 

@@ -9,7 +9,7 @@ use Rattle.certify_core.specs.declared.verdict.Verdict.TheVariants as verdict
 use Rattle.box_split.specs.Search.{Found, Tree, Fails, IsVerdictOf, IsSplitAt, IsLower, IsUpper}
 use Rattle.box_split.specs.Search.{IsSearch, yes, no, deepest, narrow, first_fails, second_fails}
 use Rattle.box_split.specs.Search.{split}
-use Rattle.box_split.specs.{Trees.Yes, Trees.Undecided, Trees.Split, Widths.middle, Widths.IsNarrow}
+use Rattle.box_split.specs.{Trees.SplitTree, Trees.Yes, Trees.Undecided, Trees.Split, Widths.middle, Widths.IsNarrow}
 use Rattle.own_splits.specs.Known.{LinesKnown}
 use Rattle.own_splits.proofs.SameLines.{own_line, said_once, middle_same, widest_once}
 use Rattle.own_splits.proofs.SameLines.{narrow_or_widest, widest_or_narrow, half_same, same_least}
@@ -40,6 +40,25 @@ record InHalves (script : Script) (k m : ℕ) (line : Line) (found : Found) : Ty
   after : IsAbove script k m line param below above
   is : found ≡ both param (middle line param) below above
 
+-- where the lower half has a tree
+above_tree : (script : Script) (k m : ℕ) (line : Line) (param : ℕ) (at : IsSplitAt line script k param)
+    (first : Line) (is_lower : IsLower line param first) (lower : SplitTree)
+    (searched : IsSearch script k m first (Tree lower)) (second : Line)
+    (is_upper : IsUpper line param second) (above : Found) (after : IsSearch script k m second above)
+    → InHalves script k m line (both param (middle line param) (Tree lower) above)
+above_tree script k m line param at first is_lower lower searched second is_upper above after =
+    record {
+      param = param;
+      at = at;
+      first = first;
+      is_lower = is_lower;
+      below = Tree lower;
+      searched = searched;
+      above = above;
+      after = (second, (is_upper, after));
+      is = refl;
+    }
+
 data First (script : Script) (k n : ℕ) (line : Line) (found : Found) : Type 0 where
   is_yes : IsVerdictOf line script k verdict.Yes → found ≡ Tree Yes → First script k n line found
   is_no : (timing : TimingValues) → IsVerdictOf line script k (verdict.No timing)
@@ -68,30 +87,12 @@ first_of script k _ _ _ (first_fails n line param first timing at is_lower below
     })
 first_of script k _ _ _ (second_fails n line param first second lower timing at is_lower below
     is_upper above) =
-    in_halves n refl (record {
-      param = param;
-      at = at;
-      first = first;
-      is_lower = is_lower;
-      below = Tree lower;
-      searched = below;
-      above = Fails timing;
-      after = (second, (is_upper, above));
-      is = refl;
-    })
+    in_halves n refl
+    (above_tree script k n line param at first is_lower lower below second is_upper (Fails timing) above)
 first_of script k _ _ _ (split n line param first second lower upper at is_lower below is_upper
     above) =
-    in_halves n refl (record {
-      param = param;
-      at = at;
-      first = first;
-      is_lower = is_lower;
-      below = Tree lower;
-      searched = below;
-      above = Tree upper;
-      after = (second, (is_upper, above));
-      is = refl;
-    })
+    in_halves n refl
+    (above_tree script k n line param at first is_lower lower below second is_upper (Tree upper) above)
 
 -- ---- two searches
 

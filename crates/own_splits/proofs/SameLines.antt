@@ -18,7 +18,8 @@ use Rattle.timing_box.specs.Candidates.{is_free, candidate, candidate_count, can
 use Rattle.timing_box.specs.{Timing.TimingValues, Timing.number_at, Choice.timing_choice}
 use Rattle.certify_core.specs.declared.verdict.Verdict.{Verdict}
 use Rattle.certify_core.specs.declared.verdict.Verdict.TheVariants.{Yes, No, Undecided}
-use Rattle.certify_core.specs.Verdicts.{FailsAt, PassesAt, IsFirstFailing, IsVerdict}
+use Rattle.certify_core.specs.Verdicts.{FailsAt, PassesAt, IsVerdict}
+use Rattle.certify_core.specs.VerdictLaws.{verdict_once}
 use Rattle.box_split.specs.Widths.{width, middle, IsWidest, IsNarrow}
 use Rattle.box_split.specs.Search.{IsVerdictOf}
 use Rattle.own_splits.specs.Known.{LinesKnown}
@@ -291,44 +292,12 @@ module _ (known : LinesKnown) (old new : Line) (same : SameLine old new) where
 
 -- ---- one verdict
 
-module _ (line : Line) (script : Script) (k : ℕ) where
-  pass_or_fail : (i j : ℕ) → i ≡ j → PassesAt line script k (candidate line i)
-      → FailsAt line script k (candidate line j) → ⊥
-  pass_or_fail i j same passes fails =
-      let here : PassesAt line script k (candidate line j) =
-      subst (λ (n : ℕ). PassesAt line script k (candidate line n)) same passes in
-      fails.fails (here.meets fails.h fails.is)
-
-  first_once : (i j : ℕ) → IsFirstFailing line script k i → IsFirstFailing line script k j → i ≡ j
-  first_once i j p q =
-      ⊎_elim (λ before. absurd (pass_or_fail i i refl (q.earlier i before) p.fails))
-      (λ late.
-      ⊎_elim (λ after. absurd (pass_or_fail j j refl (p.earlier j after) q.fails))
-      (λ even. omega (arith, late, even))
-      (cases_lt j i))
-      (cases_lt i j)
-
-  verdict_once : (w : PairHistory) (a b : Verdict) → IsVerdict line script k w a
-      → IsVerdict line script k w b → a ≡ b
-  verdict_once w Yes Yes p q = refl
-  verdict_once w Yes (No timing) p q = absurd (q.not_held p)
-  verdict_once w Yes Undecided p q = absurd (q.not_held p)
-  verdict_once w (No timing) Yes p q = absurd (p.not_held q)
-  verdict_once w (No timing) (No other) p q =
-      ap No (p.is ∙ ap (candidate line) (first_once p.number q.number p.first q.first) ∙ sym q.is)
-  verdict_once w (No timing) Undecided p q =
-      absurd (pass_or_fail p.number p.number refl (q.passes p.number p.first.below) p.first.fails)
-  verdict_once w Undecided Yes p q = absurd (p.not_held q)
-  verdict_once w Undecided (No timing) p q =
-      absurd (pass_or_fail q.number q.number refl (p.passes q.number q.first.below) q.first.fails)
-  verdict_once w Undecided Undecided p q = refl
-
 -- lines that are the same have one verdict
 pub said_once : LinesKnown → (old new : Line) → SameLine old new → (script : Script) (k : ℕ)
     (a b : Verdict) → IsVerdictOf old script k a → IsVerdictOf new script k b → a ≡ b
 said_once known old new same script k a b one two =
     let (w, is_w) = known.lines.interval_histories.exists old script (declared_box old)
     (known.lines.inside.declared old) in
-    verdict_once old script k w a b (one w is_w)
+    verdict_once old script k w w (λ held. held) (λ held. held) a b (one w is_w)
     (verdict_old known old new same script k w b
     (two w (history_new known old new same script w is_w)))
