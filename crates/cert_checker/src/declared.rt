@@ -5,7 +5,6 @@ ghost use Rattle.line_model.specs.Parameters.{param_count, channel_count, delay_
 ghost use Rattle.line_model.specs.Parameters.{declared_ends};
 ghost use Rattle.line_model.specs.{Names.HasTime, Choice.ends_by};
 
-use line_model::interval_laws::declared_intervals_are_in_order;
 use line_model::{Line, Time};
 use tick_signal::Within;
 
@@ -34,7 +33,5 @@ pub fn declared_param(line: &Line, param: u32) -> Within
     requires { param < param_count line.now }
     ensures { result ≡ declared_ends line.now param }
 {
-    declared_intervals_are_in_order();
-    let bounds = line.params[param as usize];
-    Within::new(bounds.least, bounds.greatest)
+    Within::new(line.least(param), line.greatest(param))
 }
