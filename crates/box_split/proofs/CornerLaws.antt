@@ -11,9 +11,9 @@ use Rattle.line_model.specs.{Intervals.greatests, SetBounds.SameButParams}
 use Rattle.line_model.specs.{SameLine.SameLine, WithBounds.IsWithBounds, Boxes.ends_with}
 use Rattle.box_split.specs.Known.{Known}
 use Rattle.box_split.specs.Quiet.{IsCorner, AreCorners, is_wide, number_of, corner_number}
-use Rattle.box_split.proofs.EndsWith.{ends_with-here, ends_with-elsewhere}
+use Rattle.box_split.proofs.EndsWith.{ends_with-here, ends_with-elsewhere, on_from}
 use Rattle.box_split.proofs.ListLaws.{at_two, at_kept, at_end}
-use Rattle.box_split.proofs.{PartLaws.ends_changed, PartsLaws.on_from}
+use Rattle.box_split.proofs.PartLaws.{ends_changed}
 
 -- the interval of a parameter in a corner
 abbrev pub corner_ends : Line → List Bool → Bool → ℕ → ℕ → Ends

@@ -1,9 +1,8 @@
 -- Intervals with another one for a parameter; two lines that agree in all but their intervals.
-use Rattle.std.proofs.Common.{◌≡◌, ℕ, Bool, cond, List, sym, ◌∙◌, ap, eq-eqb}
+use Rattle.std.proofs.Common.{◌≡◌, ℕ, Bool, cond, sym, ◌∙◌, ap, eq-eqb}
 use Rattle.std.proofs.lemmas.Bool.{ne_eqb}
 use Rattle.history.specs.Rails.{Ends}
-use Rattle.line_model.specs.{declared.line.Line.Line, declared.line.Scheme.Scheme}
-use Rattle.line_model.specs.{declared.line.Terminal.Terminal, declared.line.Channel.Channel}
+use Rattle.line_model.specs.declared.line.Line.{Line}
 use Rattle.line_model.specs.{SetBounds.SameButParams, Boxes.ends_with}
 
 -- at the parameter the new interval, elsewhere the old one
@@ -28,12 +27,14 @@ exchanged line other same = record {
   channels = sym same.channels;
 }
 
--- whatever is made of scheme, terminals and channels is the same for both
-pub along : {A : Type 0} (old new : Line) → SameButParams old new
-    → (f : Scheme → List Terminal → List Channel → A)
-    → f new.scheme new.terminals.items new.channels.items
-    ≡ f old.scheme old.terminals.items old.channels.items
-along old new same f =
-    ap (λ (s : Scheme). f s new.terminals.items new.channels.items) same.scheme
-    ∙ ap (λ (ts : List Terminal). f old.scheme ts new.channels.items) same.terminals
-    ∙ ap (λ (cs : List Channel). f old.scheme old.terminals.items cs) same.channels
+-- and one after another
+pub on_from : (line part other : Line) → SameButParams line part → SameButParams part other
+    → SameButParams line other
+on_from line part other first second = record {
+  tick_us = second.tick_us ∙ first.tick_us;
+  horizon = second.horizon ∙ first.horizon;
+  scheme = second.scheme ∙ first.scheme;
+  zone1_trip = second.zone1_trip ∙ first.zone1_trip;
+  terminals = second.terminals ∙ first.terminals;
+  channels = second.channels ∙ first.channels;
+}

@@ -9,7 +9,7 @@ use Rattle.line_model.specs.{Choice.Box, Choice.declared_box, Boxes.box_with, Bo
 use Rattle.line_model.specs.{HeldOver.IsHeldOver, WithBounds.IsWithBounds}
 use Rattle.box_split.specs.Known.{Known}
 use Rattle.box_split.specs.{Leaves.CanSplit, Leaves.lower_half, Leaves.upper_half, Parts.IsPart}
-use Rattle.box_split.proofs.EndsWith.{exchanged}
+use Rattle.box_split.proofs.EndsWith.{exchanged, on_from}
 use Rattle.box_split.proofs.SoundLaws.{same_lower, same_upper, can_split_same, can_split_kept}
 
 -- ---- the declared box, number by number
@@ -61,17 +61,6 @@ module _ (known : Known) where
     delays = λ c t lt early. sym (same.delays c t lt early);
   }
 
-  rest_then : (line part other : Line) → SameButParams line part → SameButParams part other
-      → SameButParams line other
-  rest_then line part other a b = record {
-    tick_us = b.tick_us ∙ a.tick_us;
-    horizon = b.horizon ∙ a.horizon;
-    scheme = b.scheme ∙ a.scheme;
-    zone1_trip = b.zone1_trip ∙ a.zone1_trip;
-    terminals = b.terminals ∙ a.terminals;
-    channels = b.channels ∙ a.channels;
-  }
-
   -- ---- halves
 
   -- the declared box of a part with another interval for a number
@@ -83,43 +72,37 @@ module _ (known : Known) where
   changed part half param mid least greatest can is =
       known.changed.number part half param least greatest can.exists can.number is
 
-  pub lower_of : (line part half : Line) (box : Box) (param mid least : ℕ)
+  pub lower_of : (line part half : Line) (box : Box) (param mid : ℕ)
       → CanSplit part (declared_box part) param mid
-      → least ≡ (declared_ends part param).least
-      → IsWithBounds part param least mid half → IsPart line box part
+      → IsWithBounds part param (declared_ends part param).least mid half → IsPart line box part
       → IsPart line (lower_half box param mid) half
   unfolding declared_box
-  lower_of line part half box param mid least can low is p =
+  lower_of line part half box param mid can is p =
       let here : param < param_count line =
       subst (λ (n : ℕ). param < n) (known.counts.params line part p.rest) can.exists in
-      let P : ℕ → Type 0 = λ n. IsSameBox part (declared_box half)
-      (box_with (declared_box part) param (record { least = n; greatest = mid })) in
-      let is_half : IsSameBox part (declared_box half) (lower_half (declared_box part) param mid) =
-      subst P low (changed part half param mid least mid can is) in
       record {
-        rest = rest_then line part half p.rest is.rest;
+        rest = on_from line part half p.rest is.rest;
         intervals = same_then line (declared_box half) (lower_half (declared_box part) param mid)
-            (lower_half box param mid) (same_on line part _ _ p.rest is_half)
+            (lower_half box param mid)
+            (same_on line part _ _ p.rest
+            (changed part half param mid (declared_ends part param).least mid can is))
             (same_lower line (declared_box part) box param mid here p.intervals);
       }
 
-  pub upper_of : (line part half : Line) (box : Box) (param mid greatest : ℕ)
+  pub upper_of : (line part half : Line) (box : Box) (param mid : ℕ)
       → CanSplit part (declared_box part) param mid
-      → greatest ≡ (declared_ends part param).greatest
-      → IsWithBounds part param (mid + 1) greatest half → IsPart line box part
-      → IsPart line (upper_half box param mid) half
+      → IsWithBounds part param (mid + 1) (declared_ends part param).greatest half
+      → IsPart line box part → IsPart line (upper_half box param mid) half
   unfolding declared_box
-  upper_of line part half box param mid greatest can high is p =
+  upper_of line part half box param mid can is p =
       let here : param < param_count line =
       subst (λ (n : ℕ). param < n) (known.counts.params line part p.rest) can.exists in
-      let P : ℕ → Type 0 = λ n. IsSameBox part (declared_box half)
-      (box_with (declared_box part) param (record { least = mid + 1; greatest = n })) in
-      let is_half : IsSameBox part (declared_box half) (upper_half (declared_box part) param mid) =
-      subst P high (changed part half param mid (mid + 1) greatest can is) in
       record {
-        rest = rest_then line part half p.rest is.rest;
+        rest = on_from line part half p.rest is.rest;
         intervals = same_then line (declared_box half) (upper_half (declared_box part) param mid)
-            (upper_half box param mid) (same_on line part _ _ p.rest is_half)
+            (upper_half box param mid)
+            (same_on line part _ _ p.rest
+            (changed part half param mid (mid + 1) (declared_ends part param).greatest can is))
             (same_upper line (declared_box part) box param mid here p.intervals);
       }
 

@@ -1,18 +1,18 @@
 -- The nodes that a search finds, from those of its halves.
 use Rattle.std.proofs.Common.{◌≡◌, ◌+◌, ◌-◌, ◌*◌, ◌++◌, ◌∷◌, [], ℕ, Bool, true, false, List, Some}
-use Rattle.std.proofs.Common.{suc, sym, ◌∙◌, ap, subst, arith}
+use Rattle.std.proofs.Common.{suc, refl, sym, ◌∙◌, ap, subst, arith}
 use Rattle.std.specs.Prelude.{slice_get}
 use Rattle.line_model.specs.declared.line.Line.{Line}
-use Rattle.line_model.specs.{declared.script.Script.Script, SetBounds.SameButParams}
+use Rattle.line_model.specs.declared.script.Script.{Script}
 use Rattle.certify_core.specs.declared.verdict.Verdict.TheVariants as verdict
-use Rattle.box_lanes.specs.Held.{TellHeld}
+use Rattle.box_lanes.specs.Held.{AreParts, TellHeld}
 use Rattle.box_split.specs.declared.node.Node.{Node}
 use Rattle.box_split.specs.declared.node.Node.TheVariants as node
 use Rattle.box_split.specs.Search.{Tree, IsVerdictOf, IsSplitAt, IsLower, IsUpper, IsSearch, yes}
 use Rattle.box_split.specs.Search.{deepest, narrow, split}
 use Rattle.box_split.specs.Trees.{Yes, Undecided, Split, preorder}
-use Rattle.box_split.specs.Quiet.{AreSettled, IsNarrowed, HasHalves, ArePartNodes, AreNodesIfTold}
-use Rattle.box_split.specs.{Widths.middle, Widths.IsNarrow, Found.AreNodes}
+use Rattle.box_split.specs.Quiet.{AreSettled, IsNarrowed, HasHalves, AreNodesIfTold}
+use Rattle.box_split.specs.{Widths.middle, Widths.IsNarrow, Widths.IsWidest, Found.AreNodes}
 
 module _ (script : Script) (k n : ℕ) (line : Line) (nodes : List Node) where
   pub yes_nodes : nodes ≡ node.Yes ∷ [] → IsVerdictOf line script k verdict.Yes
@@ -57,40 +57,69 @@ module _ (script : Script) (k n : ℕ) (line : Line) (nodes : List Node) where
             is_upper above.found);
       }
 
--- so it is for a part that has its halves among the parts
-pub split_part : (script : Script) (k i n : ℕ) (parts : List Line) (part : Line)
-    (nodes first second : List Node) (param mid : ℕ) → slice_get parts i ≡ Some part
-    → nodes ≡ node.Split param mid ∷ (first ++ second) → mid ≡ middle part param → (n ≡ 0 → ⊥)
-    → IsSplitAt part script k param → HasHalves parts i
-    → ArePartNodes script k parts (2 * i + 2) (n - 1) first
-    → ArePartNodes script k parts (2 * i + 3) (n - 1) second
-    → ArePartNodes script k parts i n nodes
-split_part script k i n parts part nodes first second param mid at is is_mid some split_at has below
-    above =
-    let (is_lower, is_upper) =
-    has.halves part below.part above.part param at below.at above.at split_at.widest in
-    record {
+-- the nodes of two trees behind a split
+pub joined : (param mid : ℕ) (nodes first second a b : List Node)
+    → nodes ≡ node.Split param mid ∷ (a ++ b) → a ≡ first → b ≡ second
+    → nodes ≡ node.Split param mid ∷ (first ++ second)
+joined param mid nodes first second a b is e f =
+    is ∙ ap (λ (xs : List Node). node.Split param mid ∷ (xs ++ b)) e
+    ∙ ap (λ (ys : List Node). node.Split param mid ∷ (first ++ ys)) f
+
+-- a part of this number, over which the rule is told to be held or not
+module _ (line : Line) (wide : List Bool) (parts : List Line) (held : List Bool) (i n : ℕ)
+    (part : Line) (nodes : List Node) (at : slice_get parts i ≡ Some part) where
+  pub yes_if_told : slice_get held i ≡ Some true → nodes ≡ node.Yes ∷ []
+      → AreNodesIfTold line wide parts held i n nodes
+  yes_if_told on is script k told settled = record {
+    part = part;
+    at = at;
+    are = yes_nodes script k n part nodes is
+        (λ w is_w. ((told.each i true part on at).0 refl).held w is_w);
+  }
+
+  module _ (are : AreParts line parts) (off : slice_get held i ≡ Some false)
+      (narrowed : IsNarrowed line wide part) where
+    undecided : (script : Script) (k : ℕ) → TellHeld script k parts held
+        → AreSettled script k line wide → IsVerdictOf part script k verdict.Undecided
+    undecided script k told settled =
+        settled.undecided part (are.each i part at) narrowed
+        (λ is_held. let wrong = (told.each i false part off at).1 is_held in cc)
+
+    pub narrow_if_told : nodes ≡ node.Undecided ∷ [] → IsNarrow part
+        → AreNodesIfTold line wide parts held i n nodes
+    narrow_if_told is none script k told settled = record {
       part = part;
       at = at;
-      are = split_nodes script k n part nodes param mid below.part above.part first second is is_mid
-          some split_at is_lower is_upper below.are above.are;
+      are = narrow_nodes script k n part nodes is (undecided script k told settled) none;
     }
 
--- what is told of a part by whether the rule is held over it
-module _ (script : Script) (k i : ℕ) (parts : List Line) (held : List Bool) (part : Line) (b : Bool)
-    (told : TellHeld script k parts held) (at : slice_get parts i ≡ Some part)
-    (here : slice_get held i ≡ Some b) where
-  pub yes_told : b ≡ true → IsVerdictOf part script k verdict.Yes
-  yes_told on w is_w = ((told.each i b part here at).0 on).held w is_w
+    pub deepest_if_told : nodes ≡ node.Undecided ∷ [] → n ≡ 0
+        → AreNodesIfTold line wide parts held i n nodes
+    deepest_if_told is none script k told settled = record {
+      part = part;
+      at = at;
+      are = deepest_nodes script k n part nodes is none (undecided script k told settled);
+    }
 
-  pub undecided_told : (line : Line) (wide : List Bool) → b ≡ false → AreSettled script k line wide
-      → SameButParams line part → IsNarrowed line wide part
-      → IsVerdictOf part script k verdict.Undecided
-  undecided_told line wide off settled same narrowed =
-      settled.undecided part same narrowed
-      (λ is_held.
-      let on : b ≡ true = (told.each i b part here at).1 is_held in
-      let wrong : true ≡ false = sym on ∙ off in cc)
+    -- with the nodes of its halves, which are among the parts
+    pub split_if_told : (param mid : ℕ) (first second : List Node)
+        → nodes ≡ node.Split param mid ∷ (first ++ second) → mid ≡ middle part param → (n ≡ 0 → ⊥)
+        → IsWidest part param → HasHalves parts i
+        → AreNodesIfTold line wide parts held (2 * i + 2) (n - 1) first
+        → AreNodesIfTold line wide parts held (2 * i + 3) (n - 1) second
+        → AreNodesIfTold line wide parts held i n nodes
+    split_if_told param mid first second is is_mid some widest has below above script k told settled =
+        let low = below script k told settled in
+        let high = above script k told settled in
+        let (is_lower, is_upper) =
+        has.halves part low.part high.part param at low.at high.at widest in
+        record {
+          part = part;
+          at = at;
+          are = split_nodes script k n part nodes param mid low.part high.part first second is is_mid
+              some (record { undecided = undecided script k told settled; widest = widest })
+              is_lower is_upper low.are high.are;
+        }
 
 pub told_of_same : (line : Line) (wide w : List Bool) (parts p : List Line) (held h : List Bool)
     (i n : ℕ) (nodes : List Node) → w ≡ wide → p ≡ parts → h ≡ held

@@ -7,7 +7,7 @@ use Rattle.std.specs.Prelude.{slice_get}
 use Rattle.line_model.specs.{declared.line.Line.Line, SetBounds.SameButParams, SameLine.SameLine}
 use Rattle.box_split.specs.Search.{IsLower, IsUpper}
 use Rattle.box_split.specs.{Widths.IsWidest, Widths.IsNarrow, Quiet.HasHalves, Quiet.HalvesIfAny}
-use Rattle.box_split.proofs.ListLaws.{at_two, two_longer}
+use Rattle.box_split.proofs.{EndsWith.on_from, ListLaws.at_two, ListLaws.two_longer}
 
 -- a line has one widest parameter
 pub one_widest : (line : Line) (p q : ℕ) → IsWidest line p → IsWidest line q → p ≡ q
@@ -20,17 +20,6 @@ one_widest line p q a b =
     (λ same. omega arith)
     (cases_lt q p))
     (cases_lt p q)
-
-pub on_from : (line part other : Line) → SameButParams line part → SameButParams part other
-    → SameButParams line other
-on_from line part other first second = record {
-  tick_us = second.tick_us ∙ first.tick_us;
-  horizon = second.horizon ∙ first.horizon;
-  scheme = second.scheme ∙ first.scheme;
-  zone1_trip = second.zone1_trip ∙ first.zone1_trip;
-  terminals = second.terminals ∙ first.terminals;
-  channels = second.channels ∙ first.channels;
-}
 
 -- the two halves, and those of the first n parts
 pub record SoFar (line : Line) (param n : ℕ) (parts : List Line) : Type 0 where

@@ -1,6 +1,6 @@
 -- The tree that a search finds splits the declared box, and its yes leaves are held.
 use Rattle.std.proofs.Common.{◌≡◌, ◌<◌, ◌≤◌, ◌+◌, ℕ, zero, suc, Some, sym, ◌∙◌, ap, subst, ⊎_elim}
-use Rattle.std.proofs.Common.{inl, inr}
+use Rattle.std.proofs.Common.{inl, inr, refl, arith}
 use Rattle.std.proofs.lemmas.Bool.{cases_eq}
 use Rattle.std.specs.Prelude.{IsTrue, slice_get}
 use Rattle.history.specs.Rails.{Ends}
@@ -8,10 +8,7 @@ use Rattle.line_model.specs.Parameters.{terminal_count, param_count, declared_en
 use Rattle.line_model.specs.SetBounds.{SameButParams}
 use Rattle.line_model.specs.Choice.{Choice, Box, IsWithin, LeastFromOne, declared_box}
 use Rattle.line_model.specs.Histories.{History, IsLineHistory, Meets}
-use Rattle.line_model.specs.Settings.{line_settings, setting_number}
 use Rattle.line_model.specs.{declared.line.Line.Line, declared.script.Script.Script}
-use Rattle.line_model.specs.declared.line.Owner.TheVariants as owner
-use Rattle.line_model.specs.declared.line.Setting.TheVariants.{Delay}
 use Rattle.certify_core.specs.declared.verdict.Verdict.TheVariants as verdict
 use Rattle.line_model.specs.{Boxes.box_with, Boxes.IsSameBox, HeldOver.IsHeldOver}
 use Rattle.box_split.specs.Trees.{SplitTree, Yes, Undecided, Split, are_yes}
@@ -19,8 +16,8 @@ use Rattle.box_split.specs.Leaves.{Leaf, lower_half, upper_half, leaves, CanSpli
 use Rattle.box_split.specs.Search.{Found, Tree, Fails, IsVerdictOf, IsSplitAt, IsLower, IsUpper}
 use Rattle.box_split.specs.Search.{IsSearch, yes, no, deepest, narrow, first_fails, second_fails}
 use Rattle.box_split.specs.Search.{split}
-use Rattle.box_split.specs.{Known.Known, Widths.middle}
-use Rattle.box_split.proofs.EndsWith.{along, ends_with-elsewhere, ends_with-here, exchanged}
+use Rattle.box_split.specs.{Known.Known, Widths.middle, Widths.IsWidest}
+use Rattle.box_split.proofs.EndsWith.{ends_with-elsewhere, ends_with-here, exchanged}
 use Rattle.box_split.proofs.WidthLaws.{split_no_delay, middle_inside}
 use Rattle.box_split.specs.ListLaws.{at_append}
 use Rattle.box_split.proofs.{LeafLaws.held_leaves, SearchLaws.both_true}
@@ -119,20 +116,23 @@ sound_kept known old new same script k (Split param mid first second) box sound 
 
 -- ---- the tree of a search
 
+-- the declared box can be split at the middle of the widest parameter
+pub split_at_middle : (line : Line) (param mid : ℕ) → IsWidest line param → mid ≡ middle line param
+    → CanSplit line (declared_box line) param mid
+unfolding declared_box
+split_at_middle line param mid widest is =
+    let (above, below) = middle_inside line param widest.free in
+    record {
+      exists = widest.exists;
+      number = split_no_delay line param widest.free;
+      above = omega (arith, above, is);
+      below = omega (arith, below, is);
+    }
+
 module _ (known : Known) (script : Script) (k : ℕ) where
   yes_held : (line : Line) → IsVerdictOf line script k verdict.Yes
       → IsHeldOver line script k (declared_box line)
   yes_held line said = record { held = said }
-
-  can_split : (line : Line) (param : ℕ) → IsSplitAt line script k param
-      → CanSplit line (declared_box line) param (middle line param)
-  unfolding declared_box
-  can_split line param at = record {
-    exists = at.widest.exists;
-    number = split_no_delay line param at.widest.free;
-    above = (middle_inside line param at.widest.free).0;
-    below = (middle_inside line param at.widest.free).1;
-  }
 
   lower_box : (line : Line) (param : ℕ) (first : Line) → IsSplitAt line script k param
       → IsLower line param first
@@ -167,7 +167,7 @@ module _ (known : Known) (script : Script) (k : ℕ) where
   sound _ _ _ (second_fails n line param first second lower timing at is_lower below is_upper found)
       = tt
   sound _ _ _ (split n line param first second lower upper at is_lower below is_upper above) = (
-    can_split line param at,
+    split_at_middle line param (middle line param) at.widest refl,
     (
       sound_same known line script k lower (declared_box first)
           (lower_half (declared_box line) param (middle line param))

@@ -1,9 +1,10 @@
 //! Parts of a box, each as the declared box of a line of its own, and their halves.
 
-ghost use Rattle.std.specs.Prelude.{◌<◌, ℕ, IfOk};
+ghost use Rattle.std.specs.Prelude.{◌<◌, ◌+◌, ℕ, IfOk};
 ghost use Rattle.std.specs.Bool.{Decides};
 ghost use Rattle.line_model.specs.declared.line.Line.{Line};
-ghost use Rattle.line_model.specs.{Parameters.param_count, Choice.Box, Choice.declared_box};
+ghost use Rattle.line_model.specs.{Parameters.param_count, Parameters.declared_ends};
+ghost use Rattle.line_model.specs.{Choice.Box, Choice.declared_box, WithBounds.IsWithBounds};
 ghost use Rattle.box_split.specs.Leaves.{CanSplit, lower_half, upper_half};
 ghost use Rattle.box_split.specs.Parts.{IsPart};
 
@@ -28,7 +29,9 @@ pub fn can_split(line: &Line, param: u32, mid: u32) -> bool
 /// The line of the lower half of a part, whatever line and box it is a part of.
 pub fn lower_part(alloc: Global, part: &Line, param: u32, mid: u32) -> Result<Line, Memory>
     requires { CanSplit part.now (declared_box part.now) param mid }
-    ensures { IfOk result (λ half. (line : Line) (box : Box) → IsPart line box part.now →
+    ensures line { IfOk result (λ half. IsWithBounds part.now param
+        (declared_ends part.now param).least mid half) }
+    ensures part { IfOk result (λ half. (line : Line) (box : Box) → IsPart line box part.now →
         IsPart line (lower_half box param mid) half) }
 {
     laws_below();
@@ -39,7 +42,9 @@ pub fn lower_part(alloc: Global, part: &Line, param: u32, mid: u32) -> Result<Li
 /// The line of the upper half of a part, whatever line and box it is a part of.
 pub fn upper_part(alloc: Global, part: &Line, param: u32, mid: u32) -> Result<Line, Memory>
     requires { CanSplit part.now (declared_box part.now) param mid }
-    ensures { IfOk result (λ half. (line : Line) (box : Box) → IsPart line box part.now →
+    ensures line { IfOk result (λ half. IsWithBounds part.now param
+        (mid + 1) (declared_ends part.now param).greatest half) }
+    ensures part { IfOk result (λ half. (line : Line) (box : Box) → IsPart line box part.now →
         IsPart line (upper_half box param mid) half) }
 {
     laws_below();

@@ -6,7 +6,7 @@ ghost use Rattle.box_lanes.specs.Held.{AreParts};
 ghost use Rattle.box_split.specs.Search.{IsLower, IsUpper};
 ghost use Rattle.box_split.specs.{Widths.IsWidest, Quiet.HasHalves, Quiet.HalvesIfAny};
 
-use crate::halves::{lower, upper};
+use crate::halves::halves;
 use crate::widest::widest;
 use line_model::{Line, Memory};
 use std::alloc::Global;
@@ -23,8 +23,7 @@ pub fn parts_of(alloc: Global, line: &Line, param: u32, depth: u32) -> Result<Ve
     ensures halves { IfOk result (λ parts. (i : ℕ) → HasHalves parts.items i) }
 {
     let mut parts = Vec::new(alloc);
-    let first = lower(alloc, line, param)?;
-    let second = upper(alloc, line, param)?;
+    let (first, second) = halves(alloc, line, param)?;
     parts.push(first)?;
     parts.push(second)?;
     for i in 0..inner_parts(depth) {
@@ -57,7 +56,5 @@ fn halves_of(alloc: Global, part: &Line) -> Result<(Line, Line), Memory>
         let twice = part.copy(alloc)?;
         return Ok((again, twice));
     };
-    let first = lower(alloc, part, param)?;
-    let second = upper(alloc, part, param)?;
-    Ok((first, second))
+    halves(alloc, part, param)
 }

@@ -9,7 +9,7 @@ ghost use Rattle.timing_box.specs.Timing.{TimingValues};
 ghost use Rattle.certify_core.specs.Verdicts.{IsRefutation};
 ghost use Rattle.box_split.specs.{declared.node.Outcome.Outcome, Found.IsFound, Found.IsAllYes};
 
-use crate::halves::{lower, upper};
+use crate::halves::halves;
 use crate::known::laws_below;
 use crate::leaf::{leaf, split};
 use crate::node::{Node, Outcome};
@@ -84,12 +84,11 @@ fn search_part(
             return Ok(Outcome::Tree(nodes));
         }
     }
-    let lower_line = lower(alloc, line, param)?;
+    let (lower_line, upper_line) = halves(alloc, line, param)?;
     let lower_nodes = match search_part(alloc, &lower_line, net, script, terminal, depth - 1)? {
         Outcome::Tree(nodes) => nodes,
         Outcome::Fails(timing) => return Ok(Outcome::Fails(timing)),
     };
-    let upper_line = upper(alloc, line, param)?;
     let upper_nodes = match search_part(alloc, &upper_line, net, script, terminal, depth - 1)? {
         Outcome::Tree(nodes) => nodes,
         Outcome::Fails(timing) => return Ok(Outcome::Fails(timing)),

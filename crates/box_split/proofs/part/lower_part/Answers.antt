@@ -1,6 +1,7 @@
-use Rattle.std.proofs.Common.{arith}
+use Rattle.std.proofs.Common.{ℕ, subst, arith}
 use Rattle.std.proofs.lemmas.Result.{IfOk-weaker}
-use Rattle.line_model.specs.WithBounds.{IsWithBounds}
+use Rattle.std.specs.Prelude.{IfOk}
+use Rattle.line_model.specs.{Parameters.declared_ends, WithBounds.IsWithBounds}
 use Rattle.box_split.proofs.HalfLaws.{can_split_when, lower_of, mid_small}
 use Rattle.box_split.proofs.part.lower_part.Goals as goal
 
@@ -16,11 +17,14 @@ pub with_bounds-requires-clause-within : goal.with_bounds-requires-clause-within
 with_bounds-requires-clause-within c =
     omega (arith, mid_small c.laws_below.ensures c.args.part.now c.args.param c.args.mid c.requires)
 
-pub returns : goal.returns
-returns c =
+pub returns-clause-part : goal.returns-clause-part
+returns-clause-part c =
+    let part = c.args.part.now in
+    let least = (declared_ends part c.args.param).least in
     IfOk-weaker c.with_bounds.result
-    (λ half. IsWithBounds c.args.part.now c.args.param c.least-from.result c.args.mid half) _
+    (λ half. IsWithBounds part c.args.param least c.args.mid half) _
     (λ half is line box p.
-    lower_of c.laws_below.ensures line c.args.part.now half box c.args.param c.args.mid
-    c.least-from.result c.requires c.least-from.ensures.number is p)
-    c.with_bounds.ensures
+    lower_of c.laws_below.ensures line part half box c.args.param c.args.mid c.requires is p)
+    (subst
+    (λ (n : ℕ). IfOk c.with_bounds.result (λ half. IsWithBounds part c.args.param n c.args.mid half))
+    c.least-from.ensures.number c.with_bounds.ensures)

@@ -8,12 +8,12 @@ use Rattle.box_split.proofs.parts.parts_of.Goals as goal
 pub loop-i-init : goal.loop-i-init
 loop-i-init c =
     two_parts c.args.line.now c.args.param c.push-2.new.self.items c.in_ok-first.first
-    c.in_ok-second.second
+    c.in_ok-first.second
     (c.in_ok-push-2.ensures.items
-    ∙ ap (λ (l : List Line). l ++ c.in_ok-second.second ∷ []) c.in_ok-push.ensures.items
-    ∙ ap (λ (l : List Line). (l ++ c.in_ok-first.first ∷ []) ++ c.in_ok-second.second ∷ [])
+    ∙ ap (λ (l : List Line). l ++ c.in_ok-first.second ∷ []) c.in_ok-push.ensures.items
+    ∙ ap (λ (l : List Line). (l ++ c.in_ok-first.first ∷ []) ++ c.in_ok-first.second ∷ [])
     c.new-parts.ensures.items)
-    c.in_ok-first.ensures c.in_ok-second.ensures
+    c.in_ok-first.ensures.0 c.in_ok-first.ensures.1
 
 pub loop-i-preserved : goal.loop-i-preserved
 loop-i-preserved c =

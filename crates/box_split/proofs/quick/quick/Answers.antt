@@ -1,12 +1,10 @@
-use Rattle.std.proofs.Common.{◌≡◌, ◌+◌, ◌-◌, ◌++◌, ◌∷◌, ℕ, Bool, List, refl, sym, ◌∙◌, ap, subst}
+use Rattle.std.proofs.Common.{◌≡◌, ◌+◌, ◌-◌, ℕ, Bool, List, refl, sym, subst}
 use Rattle.std.proofs.Common.{arith}
 use Rattle.std.specs.Prelude.{IsTrue, Some, slice_get}
 use Rattle.line_model.specs.{declared.line.Line.Line, Parameters.param_count}
 use Rattle.box_lanes.specs.Held.{AreParts, TellHeld}
-use Rattle.box_split.specs.declared.node.Node.{Node}
-use Rattle.box_split.specs.declared.node.Node.TheVariants as node
 use Rattle.box_split.specs.Quiet.{AreCorners, AreNodesIfTold, AreSettled, ArePartNodes}
-use Rattle.box_split.proofs.NodeLaws.{split_nodes, told_of_same}
+use Rattle.box_split.proofs.NodeLaws.{split_nodes, joined, told_of_same}
 use Rattle.box_split.proofs.{ListLaws.if_some_is, SettledLaws.settled_if_quiet}
 use Rattle.box_split.proofs.quick.quick.Goals as goal
 
@@ -61,10 +59,8 @@ returns c =
     let upper : ArePartNodes script k parts 1 (c.args.depth - 1) second = above script k told settled in
     split_nodes script k c.args.depth line c.in_ok-split.field-0.items param mid lower.part upper.part
     first second
-    (c.in_ok-split.ensures
-    ∙ ap (λ (xs : List Node). node.Split param mid ∷ (xs ++ c.deref-13.result.now))
-    c.deref-12.ensures.value
-    ∙ ap (λ (ys : List Node). node.Split param mid ∷ (first ++ ys)) c.deref-13.ensures.value)
+    (joined param mid c.in_ok-split.field-0.items first second c.deref-12.result.now
+    c.deref-13.result.now c.in_ok-split.ensures c.deref-12.ensures.value c.deref-13.ensures.value)
     c.middle-mid.ensures (λ e. absurd (omega (arith, c.requires.depth)))
     (record { undecided = c.requires.undecided; widest = c.requires.widest })
     (c.in_ok-parts.ensures.first lower.part lower.at)
