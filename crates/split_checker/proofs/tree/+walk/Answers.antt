@@ -84,7 +84,7 @@ walk-requires t c =
     let here = split_next r.line r.box r.tree r.after nodes c.args.passed.nodes c.in-Split.param
     c.in-Split.mid r.splits r.are
     (root_at r.tree r.after nodes c.args.passed.nodes node.Yes _ r.are c.in-Split.is) in
-    let half = c.in_ok-lower-in-Split.ensures part (declared_box part)
+    let half = c.in_ok-lower-in-Split.ensures.part part (declared_box part)
     (c.a_part_stands_for_its_box.ensures.own part part (same_line part)) in (
       omega (arith, inside, c.after_split.ensures.nodes, c.decreases),
       (
@@ -104,7 +104,7 @@ walk-requires t c =
                 record {
                   line = r.line;
                   box = lower_half r.box c.in-Split.param c.in-Split.mid;
-                  is_part = c.in_ok-lower-in-Split.ensures r.line r.box r.is_part;
+                  is_part = c.in_ok-lower-in-Split.ensures.part r.line r.box r.is_part;
                   tree = here.first;
                   after = preorder here.second ++ r.after;
                   are = subst (λ (n : ℕ).
@@ -133,7 +133,7 @@ returns-in_err-between-in-Split t c =
     let here = split_next line box tree after nodes c.args.passed.nodes param mid splits are
     (root_at tree after nodes c.args.passed.nodes node.Yes _ are c.in-Split.is) in
     let found = c.in_err-between-in-Split.ensures line (lower_half box param mid) here.first
-    (preorder here.second ++ after) (c.in_ok-lower-in-Split.ensures line box is_part) here.lower
+    (preorder here.second ++ after) (c.in_ok-lower-in-Split.ensures.part line box is_part) here.lower
     (subst (λ (n : ℕ). drop n nodes ≡ preorder here.first ++ (preorder here.second ++ after))
     (sym c.after_split.ensures.nodes) here.first_next) in
     subst (λ (x : SplitTree). IsWalkFault line script k box x c.args.passed.leaves fault)
@@ -162,11 +162,11 @@ walk-requires-in-Split t c =
     let here = split_next r.line r.box r.tree r.after nodes c.args.passed.nodes c.in-Split.param
     c.in-Split.mid r.splits r.are
     (root_at r.tree r.after nodes c.args.passed.nodes node.Yes _ r.are c.in-Split.is) in
-    let half = c.in_ok-upper-in-Split.ensures part (declared_box part)
+    let half = c.in_ok-upper-in-Split.ensures.part part (declared_box part)
     (c.a_part_stands_for_its_box.ensures.own part part (same_line part)) in
     let walked = c.in_ok-between-in-Split.ensures r.line
     (lower_half r.box c.in-Split.param c.in-Split.mid) here.first (preorder here.second ++ r.after)
-    (c.in_ok-lower-in-Split.ensures r.line r.box r.is_part) here.lower
+    (c.in_ok-lower-in-Split.ensures.part r.line r.box r.is_part) here.lower
     (subst (λ (n : ℕ). drop n nodes ≡ preorder here.first ++ (preorder here.second ++ r.after))
     (sym c.after_split.ensures.nodes) here.first_next) in
     let few = few_leaves here.first (lower_half r.box c.in-Split.param c.in-Split.mid) in
@@ -198,7 +198,7 @@ walk-requires-in-Split t c =
                 record {
                   line = r.line;
                   box = upper_half r.box c.in-Split.param c.in-Split.mid;
-                  is_part = c.in_ok-upper-in-Split.ensures r.line r.box r.is_part;
+                  is_part = c.in_ok-upper-in-Split.ensures.part r.line r.box r.is_part;
                   tree = here.second;
                   after = r.after;
                   are = subst (λ (n : ℕ). drop n nodes ≡ preorder here.second ++ r.after) past
@@ -224,13 +224,13 @@ returns-in_ok-upper-in-Split t c = λ line box tree after is_part splits are.
     let here = split_next line box tree after nodes c.args.passed.nodes param mid splits are
     (root_at tree after nodes c.args.passed.nodes node.Yes _ are c.in-Split.is) in
     let lower = c.in_ok-between-in-Split.ensures line (lower_half box param mid) here.first
-    (preorder here.second ++ after) (c.in_ok-lower-in-Split.ensures line box is_part) here.lower
+    (preorder here.second ++ after) (c.in_ok-lower-in-Split.ensures.part line box is_part) here.lower
     (subst (λ (n : ℕ). drop n nodes ≡ preorder here.first ++ (preorder here.second ++ after))
     (sym c.after_split.ensures.nodes) here.first_next) in
     let past : (c.args.passed.nodes + 1) + length (preorder here.first) ≡ between.nodes =
     omega (arith, lower.nodes, c.after_split.ensures.nodes) in
     let upper = c.walk-in-Split.ensures line (upper_half box param mid) here.second after
-    (c.in_ok-upper-in-Split.ensures line box is_part) here.upper
+    (c.in_ok-upper-in-Split.ensures.part line box is_part) here.upper
     (subst (λ (n : ℕ). drop n nodes ≡ preorder here.second ++ after) past here.second_next) in
     MatchResult-weaker c.walk-in-Split.result upper
     (λ walked above.

@@ -58,7 +58,7 @@ read_below-read_half-requires t c =
     let can = split_can part c.args.depth (declared_box part) c.args.root c.in-Split.param
     c.in-Split.mid c.in-Split.is c.requires.root in (
       omega (arith, can.left, c.decreases),
-      (c.in_ok-half-in-Split.ensures line (declared_box part)
+      (c.in_ok-half-in-Split.ensures.part line (declared_box part)
           (c.laws_below.ensures.parts.own line part c.requires.part)).rest,
     )
 
@@ -69,7 +69,7 @@ read_below-read_half-requires-in-Split t c =
     let can = split_can part c.args.depth (declared_box part) c.args.root c.in-Split.param
     c.in-Split.mid c.in-Split.is c.requires.root in (
       omega (arith, can.left, c.decreases),
-      (c.in_ok-other-in-Split.ensures line (declared_box part)
+      (c.in_ok-other-in-Split.ensures.part line (declared_box part)
           (c.laws_below.ensures.parts.own line part c.requires.part)).rest,
     )
 
@@ -93,7 +93,7 @@ read_below-returns-in_err-read_half-in-Split t c =
     let line = c.args.line.now in
     let lower : Box = lower_half box c.in-Split.param c.in-Split.mid in
     let upper : Box = upper_half box c.in-Split.param c.in-Split.mid in
-    let half = c.in_ok-half-in-Split.ensures line box p in
+    let half = c.in_ok-half-in-Split.ensures.part line box p in
     halves_fault line c.args.depth box c.args.root c.in-Split.param c.in-Split.mid later
     c.args.lines.now.rest.now c.args.lines.now.number c.in_err-read_half-in-Split.field-0.0
     c.in-Split.is
@@ -114,8 +114,8 @@ read_below-returns-in_ok-other-in-Split t c = λ box later p.
     let upper : Box = upper_half box param mid in
     let last : List Place = node_over (n - 1) upper ∷ later in
     let one = c.in_ok-read_half-in-Split.ensures lower last
-    (c.in_ok-half-in-Split.ensures line box p) in
-    let other = c.in_ok-other-in-Split.ensures line box p in
+    (c.in_ok-half-in-Split.ensures.part line box p) in
+    let other = c.in_ok-other-in-Split.ensures.part line box p in
     let can = split_can line n box root param mid c.in-Split.is
     (may_in_box c.laws_below.ensures line c.args.part.now n box root p c.requires.root) in
     MatchResult-weaker c.read_half-in-Split.result
