@@ -39,11 +39,7 @@ one_verdict line undecided undecided a b same = refl
 
 pub stands_once : WavesAreTold → (line : Line) (place : Place) (m n : Said) (text : List ℕ)
     → Stands line place m text → Stands line place n text → m ≡ n
-stands_once told line (fixed t) says_nothing says_nothing text a b = refl
-stands_once told line (fixed t) says_nothing (says_key w) text a b = absurd b
-stands_once told line (fixed t) says_nothing (says_verdict v) text a b = absurd b
-stands_once told line (fixed t) (says_key w) n text a b = absurd a
-stands_once told line (fixed t) (says_verdict v) n text a b = absurd a
+stands_once told line (fixed t) m n text a b = a.0 ∙ sym b.0
 stands_once told line (key_of name) says_nothing n text a b = absurd a
 stands_once told line (key_of name) (says_key w) says_nothing text a b = absurd b
 stands_once told line (key_of name) (says_key w) (says_key u) text a b =
@@ -62,9 +58,7 @@ stands_once told line (verdict_of name) (says_verdict v) (says_verdict u) text a
 
 pub stands_as : (line : Line) (place : Place) (m : Said) (text other : List ℕ)
     → Stands line place m text → Stands line place m other → text ≡ other
-stands_as line (fixed t) says_nothing text other a b = a ∙ sym b
-stands_as line (fixed t) (says_key w) text other a b = absurd a
-stands_as line (fixed t) (says_verdict v) text other a b = absurd a
+stands_as line (fixed t) m text other a b = a.1 ∙ sym b.1
 stands_as line (key_of name) says_nothing text other a b = absurd a
 stands_as line (key_of name) (says_key w) text other a b = a.1 ∙ sym b.1
 stands_as line (key_of name) (says_verdict v) text other a b = absurd a

@@ -8,12 +8,13 @@ use Rattle.tick_signal.specs.declared.tern.Tern.{Tern}
 use Rattle.line_model.specs.{declared.line.Line.Line, declared.line.Terminal.Terminal}
 use Rattle.line_model.specs.{declared.script.Script.Script, Fits.Fits, PlainNames.is_plain_name}
 use Rattle.wave_runs.specs.Text.{runs_text}
+use Rattle.text_lines.specs.Grammar.{text_places, text_said}
 use Rattle.text_lines.specs.Lines.{Lines, is_one_line}
 use Rattle.text_lines.specs.{LineLaws.both_true, NamedLaws.named_whole, NamedLaws.whole_append}
 use Rattle.certificate.specs.Grammar.{Place, fixed, key_of, verdict_of, Stands, opens_none, Said}
 use Rattle.certificate.specs.Grammar.{says_nothing, says_key, says_verdict, Claims, Verdict, yes}
 use Rattle.certificate.specs.Grammar.{no, undecided, HasNumbers, verdict_words, part_places}
-use Rattle.certificate.specs.Grammar.{part_said, certificate_places, certificate_said}
+use Rattle.certificate.specs.Grammar.{part_said, script_parts, head_text}
 use Rattle.certificate.specs.Grammar.{terminal_names, HasOneEach, IsCertificate, end_text}
 use Rattle.certificate.specs.Text.{line_text, lines_text, CanBeWritten, certificate_text}
 use Rattle.certificate.proofs.{ReadLaws.names_count, WholeLaws.name_whole, WholeLaws.numbers_whole}
@@ -120,7 +121,7 @@ part_says lines line script claims fits can =
     let names : List (List ℕ) = terminal_names line in
     let plain : All (λ name. is_one_line name ≡ true) names =
     plain_names line.terminals.items line.plain_names in (
-      refl,
+      (refl, refl),
       (
         whole_append (codes "script ") script.name refl
             (name_whole script.name fits.plain_name),
@@ -152,13 +153,14 @@ pub text_is_certificate : WavesAreLines → (line : Line) (scripts : List Script
 text_is_certificate lines line scripts claims long fits can = record {
   many = long;
   each = All-weaker (CanBeWritten line) (HasOneEach line) (λ c is. is.each) claims can;
-  lines = lines_stand line (certificate_places line scripts) (certificate_said claims) (
-    refl,
-    (
-      refl,
-      say_append line (flat_map (part_places line) scripts)
-          (flat_map part_said claims) (fixed end_text ∷ []) (says_nothing ∷ [])
-          (parts_say lines line scripts claims long fits can) (refl, (refl, tt)),
-    ),
-  );
+  lines = lines_stand line (text_places (script_parts line) head_text scripts end_text)
+      (text_said (script_parts line) claims) (
+        (refl, refl),
+        (
+          refl,
+          say_append line (flat_map (part_places line) scripts)
+              (flat_map part_said claims) (fixed end_text ∷ []) (says_nothing ∷ [])
+              (parts_say lines line scripts claims long fits can) ((refl, refl), (refl, tt)),
+        ),
+      );
 }

@@ -6,8 +6,8 @@ use Rattle.tick_signal.specs.declared.tern.Tern.{Tern}
 use Rattle.line_model.specs.Parameters.{terminal_count, param_count}
 use Rattle.line_model.specs.{declared.line.Line.Line, declared.script.Script.Script}
 use Rattle.wave_runs.specs.Text.{runs_text}
-use Rattle.text_lines.specs.{Lines.Lines, Lines.LeavesAt, Named.named, Grammar.Grammar}
-use Rattle.text_lines.specs.{Grammar.IsFault, declared.fault.TextFault.TextFault}
+use Rattle.text_lines.specs.{Named.named, declared.fault.TextFault.TextFault}
+use Rattle.text_lines.specs.Grammar.{Grammar, IsFixed, Parts, IsText, LeavesText, IsTextFault}
 use Rattle.certificate.specs.declared.claim.Claim.TheVariants.{Yes, No, Undecided}
 use Rattle.certificate.specs.{declared.claim.Claim.Claim, declared.claim.ScriptClaims.ScriptClaims}
 
@@ -57,11 +57,6 @@ claim_places line = map key_of (terminal_names line) ++ map verdict_of (terminal
 abbrev pub part_places : Line → Script → List Place
 part_places line script = fixed (script_text script.name) ∷ claim_places line
 
--- the head, the lines of each script in order, and the end
-abbrev pub certificate_places : Line → List Script → List Place
-certificate_places line scripts =
-    fixed head_text ∷ (flat_map (part_places line) scripts ++ fixed end_text ∷ [])
-
 -- ---- what can stand in a line
 
 -- what a line says: nothing more than that it stands there, a key wave, or a verdict
@@ -102,12 +97,6 @@ HasNumbers line yes = Unit {0}
 HasNumbers line (no numbers) = AreNumbers (param_count line) numbers
 HasNumbers line undecided = Unit {0}
 
--- the line is this text alone
-abbrev pub IsFixed : List ℕ → Said → List ℕ → Type 0
-IsFixed text says_nothing bytes = bytes ≡ text
-IsFixed text (says_key w) bytes = ⊥
-IsFixed text (says_verdict v) bytes = ⊥
-
 -- it is the key line of a terminal, with a wave of the horizon's length
 abbrev pub IsKey : Line → List ℕ → Said → List ℕ → Type 0
 IsKey line name says_nothing bytes = ⊥
@@ -122,7 +111,7 @@ IsVerdict line name (says_verdict v) bytes = HasNumbers line v × (bytes ≡ ver
 
 -- this text can stand at that place, where it says this
 abbrev pub Stands : Line → Place → Said → List ℕ → Type 0
-Stands line (fixed text) said bytes = IsFixed text said bytes
+Stands line (fixed text) said bytes = IsFixed says_nothing text said bytes
 Stands line (key_of name) said bytes = IsKey line name said bytes
 Stands line (verdict_of name) said bytes = IsVerdict line name said bytes
 
@@ -130,19 +119,16 @@ Stands line (verdict_of name) said bytes = IsVerdict line name said bytes
 abbrev pub opens_none : Place → Said → List Place
 opens_none place said = []
 
-pub only_text : (text line : List ℕ) (said : Said) → IsFixed text said line → line ≡ text
-only_text text line says_nothing is = is
-only_text text line (says_key w) is = absurd is
-only_text text line (says_verdict v) is = absurd is
-
-abbrev pub grammar_of : Line → Grammar Place Said
+abbrev pub grammar_of : Line → Grammar
 grammar_of line = record {
-  stands = λ place said bytes. Stands line place said bytes;
-  opens = λ place said. opens_none place said;
-  fixed = λ text. fixed text;
+  Place = Place;
+  Said = Said;
+  stands = Stands line;
+  opens = opens_none;
+  fixed = fixed;
   nothing = says_nothing;
-  there = λ text. refl;
-  alone = λ text line said is. only_text text line said is;
+  there = λ text. (refl, refl);
+  alone = λ text line said is. is;
   opens_none = λ text. refl;
 }
 
@@ -156,28 +142,29 @@ claims_said claims = map says_key claims.keys ++ map says_verdict claims.verdict
 abbrev pub part_said : Claims → List Said
 part_said claims = says_nothing ∷ claims_said claims
 
--- what all its lines say
-abbrev pub certificate_said : List Claims → List Said
-certificate_said claims = says_nothing ∷ (flat_map part_said claims ++ says_nothing ∷ [])
-
 -- one key and one verdict for each terminal
 pub record HasOneEach (line : Line) (claims : Claims) : Type 0 where
   pub keys : length claims.keys ≡ terminal_count line
   pub verdicts : length claims.verdicts ≡ terminal_count line
 
--- The bytes are a certificate of the scripts, which says this: they are its lines, each with its
--- line feed, and nothing more.
-pub record IsCertificate (line : Line) (scripts : List Script) (claims : List Claims)
-    (bytes : List ℕ) : Type 0 where
-  pub many : length claims ≡ length scripts
-  pub each : All (HasOneEach line) claims
-  pub lines : Lines (Stands line) opens_none (certificate_places line scripts)
-      (certificate_said claims) bytes [] []
+-- what is said of scripts, and where
+abbrev pub script_parts : Line → Parts Script Claims
+script_parts line = record {
+  grammar = grammar_of line;
+  places = part_places line;
+  IsWhole = HasOneEach line;
+  said = part_said;
+}
+
+-- the bytes are a certificate of the scripts, which says this
+abbrev pub IsCertificate : Line → List Script → List Claims → List ℕ → Type 0
+IsCertificate line scripts claims bytes =
+    IsText (script_parts line) head_text scripts end_text claims bytes
 
 -- line n, counted from 1, is the first that leaves the grammar
 abbrev pub LeavesGrammar : Line → List Script → List ℕ → ℕ → Type 0
 LeavesGrammar line scripts bytes n =
-    LeavesAt (Stands line) opens_none (certificate_places line scripts) bytes 1 n
+    LeavesText (script_parts line) head_text scripts end_text bytes n
 
 -- ---- as the reader answers
 
@@ -195,4 +182,4 @@ claims_in claims = record {
 -- the fault of a whole text: the first line that leaves the grammar
 abbrev pub IsCertificateFault : Line → List Script → List ℕ → TextFault → Type 0
 IsCertificateFault line scripts bytes f =
-    IsFault (grammar_of line) (certificate_places line scripts) bytes 1 f
+    IsTextFault (script_parts line) head_text scripts end_text bytes f

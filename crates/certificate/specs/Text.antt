@@ -2,9 +2,10 @@
 use Rattle.std.specs.Prelude.{◌≡◌, ◌++◌, ℕ, List, [], ◌∷◌, length}
 use Rattle.std.specs.List.{All}
 use Rattle.line_model.specs.{declared.line.Line.Line, declared.script.Script.Script}
+use Rattle.text_lines.specs.Grammar.{text_places, text_said}
 use Rattle.certificate.specs.Grammar.{Place, fixed, key_of, verdict_of, key_text, verdict_text}
 use Rattle.certificate.specs.Grammar.{Said, says_nothing, says_key, says_verdict, Claims}
-use Rattle.certificate.specs.Grammar.{part_places, part_said, certificate_places, certificate_said}
+use Rattle.certificate.specs.Grammar.{part_places, part_said, script_parts, head_text, end_text}
 use Rattle.certificate.specs.Grammar.{HasOneEach, HasNumbers}
 
 -- the line that says this at that place; empty where nothing can say it there
@@ -41,7 +42,8 @@ parts_text line (script ∷ scripts) (c ∷ claims) =
 -- the certificate of the scripts that claims this
 abbrev pub certificate_text : Line → List Script → List Claims → List ℕ
 certificate_text line scripts claims =
-    lines_text (certificate_places line scripts) (certificate_said claims)
+    lines_text (text_places (script_parts line) head_text scripts end_text)
+    (text_said (script_parts line) claims)
 
 -- what can be written of a script: waves of the horizon's length, and a number for each parameter
 -- in each `no`

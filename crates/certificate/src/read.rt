@@ -3,18 +3,17 @@
 ghost use Rattle.std.specs.Prelude.{◌≡◌, ◌<◌, ◌++◌, [], List, map, get_or, MatchResult, refl};
 ghost use Rattle.line_model.specs.Parameters.{terminal_count};
 ghost use Rattle.text_lines.specs.Grammar.{Reads, IsFault};
-ghost use Rattle.certificate.specs.Grammar.{Place, Said, key_of, verdict_of, says_key, says_verdict};
+ghost use Rattle.certificate.specs.Grammar.{Place, key_of, verdict_of, says_key, says_verdict};
 ghost use Rattle.certificate.specs.Grammar.{Claims, HasOneEach, verdict_in, claims_in, grammar_of};
-ghost use Rattle.certificate.specs.Grammar.{terminal_names, claim_places, claims_said, part_places};
-ghost use Rattle.certificate.specs.Grammar.{part_said, head_text, end_text, IsCertificate};
-ghost use Rattle.certificate.specs.Grammar.{IsCertificateFault};
+ghost use Rattle.certificate.specs.Grammar.{terminal_names, claim_places, claims_said};
+ghost use Rattle.certificate.specs.Grammar.{script_parts, IsCertificate, IsCertificateFault};
 
 use crate::claim::{Claim, ScriptClaims};
 use crate::words::read_words;
 use line_model::{Line, Memory, Name, Script, Terminal};
 use std::alloc::Global;
 use text_lines::{
-    LineCursor, LineReader, PartReader, TextFault, TextReader, after_name, read_lines, read_text,
+    LineCursor, LineReader, PartReader, TextFault, after_name, read_lines, read_text,
 };
 use wave_runs::{Runs, read_runs};
 
@@ -37,15 +36,11 @@ impl<'a> LineReader for KeyReader<'a> {
 
     type Part = Runs;
 
-    ghost Place = { Place };
-
-    ghost Said = { Said };
-
     ghost grammar = { λ reader. grammar_of reader.line.now };
 
-    ghost place = { λ terminal. key_of terminal.name };
+    ghost place = { λ _ terminal. key_of terminal.name };
 
-    ghost says = { λ wave. says_key wave };
+    ghost says = { λ _ wave. says_key wave };
 
     fn read_line(
         &self,
@@ -73,15 +68,11 @@ impl<'a> LineReader for VerdictReader<'a> {
 
     type Part = Claim;
 
-    ghost Place = { Place };
-
-    ghost Said = { Said };
-
     ghost grammar = { λ reader. grammar_of reader.line.now };
 
-    ghost place = { λ terminal. verdict_of terminal.name };
+    ghost place = { λ _ terminal. verdict_of terminal.name };
 
-    ghost says = { λ claim. says_verdict (verdict_in claim) };
+    ghost says = { λ _ claim. says_verdict (verdict_in claim) };
 
     fn read_line(
         &self,
@@ -128,21 +119,11 @@ impl<'a> PartReader for ScriptReader<'a> {
 
     type Part = ScriptClaims;
 
-    ghost Place = { Place };
-
-    ghost Said = { Said };
-
-    ghost grammar = { λ reader. grammar_of reader.line.now };
-
-    ghost places = { λ reader script. part_places reader.line.now script };
-
     ghost Meaning = { Claims };
 
     ghost meaning = { claims_in };
 
-    ghost said = { part_said };
-
-    ghost IsWhole = { λ reader. HasOneEach reader.line.now };
+    ghost parts = { λ reader. script_parts reader.line.now };
 
     fn read(
         &self,
@@ -152,20 +133,6 @@ impl<'a> PartReader for ScriptReader<'a> {
     ) -> Result<ScriptClaims, TextFault> {
         lines.take_named(b"script ", script.name.bytes())?;
         read_claims(alloc, self.line, lines)
-    }
-}
-
-impl<'a> TextReader for ScriptReader<'a> {
-    ghost head = { head_text };
-
-    ghost last = { end_text };
-
-    fn head(&self) -> &[u8] {
-        b"pilot-cert 1"
-    }
-
-    fn last(&self) -> &[u8] {
-        b"end"
     }
 }
 
@@ -181,5 +148,12 @@ pub fn read_certificate(
         (λ claims. IsCertificate line.now scripts.now (map claims_in claims.items) bytes.now)
         (λ fault. IsCertificateFault line.now scripts.now bytes.now fault) }
 {
-    read_text(alloc, &ScriptReader { line }, scripts, bytes)
+    read_text(
+        alloc,
+        &ScriptReader { line },
+        b"pilot-cert 1",
+        scripts,
+        b"end",
+        bytes,
+    )
 }

@@ -8,44 +8,25 @@ use std::alloc::Global;
 use std::test::Fail;
 use text_lines::TextFault;
 
-const LINES: [&[u8]; 7] = [
-    b"pilot-cert 1",
-    b"script F1",
-    b"key A 0:12 ?:2 1:87 ?:2 0:17",
-    b"key B 0:12 ?:2 1:87 ?:2 0:17",
-    b"verdict A no 0 0 4 3 0 0 0 0 0 0 4 3 0 0 0 0 5 4294967295",
-    b"verdict B yes",
-    b"end",
-];
+const TEXT: &str = "pilot-cert 1
+script F1
+key A 0:12 ?:2 1:87 ?:2 0:17
+key B 0:12 ?:2 1:87 ?:2 0:17
+verdict A no 0 0 4 3 0 0 0 0 0 0 4 3 0 0 0 0 5 4294967295
+verdict B yes
+end
+";
 
-// The lines, each with this end, where one of them, counted from 1, is another.
-fn lines_but(alloc: Global, place: usize, line: &[u8], end: &[u8]) -> Result<Vec<u8>, Fail> {
-    let mut text = Vec::new(alloc);
-    for (i, usual) in LINES.iter().enumerate() {
-        text.extend_from_slice(if i + 1 == place { line } else { usual })?;
-        text.extend_from_slice(end)?;
-    }
-    Ok(text)
-}
-
-// The line at which the text leaves the grammar.
-fn leaves_at(alloc: Global, text: &[u8]) -> Result<Option<usize>, Fail> {
+// What the text claims of the script, or its fault.
+fn read(alloc: Global, text: &[u8]) -> Result<Result<Vec<ScriptClaims>, TextFault>, Fail> {
     let line = two_terminals(alloc, &ONE_TO_FIVE)?.ok_or("no line")?;
     let scripts = vec![in alloc; unseen_fault(alloc, Name::from_bytes(b"F1").unwrap())]?;
-    match read_certificate(alloc, &line, &scripts, text) {
-        Ok(_) => Ok(None),
-        Err(TextFault::Line(number)) => Ok(Some(number)),
-        Err(TextFault::Memory) => Err("no memory")?,
-    }
+    Ok(read_certificate(alloc, &line, &scripts, text))
 }
 
 #[test]
 fn what_a_certificate_says(rt: HostRuntime) -> Result<(), Fail> {
-    let alloc = rt.alloc();
-    let line = two_terminals(alloc, &ONE_TO_FIVE)?.ok_or("no line")?;
-    let scripts = vec![in alloc; unseen_fault(alloc, Name::from_bytes(b"F1").unwrap())]?;
-    let text = lines_but(alloc, 0, b"", b"\n")?;
-    let claims = read_certificate(alloc, &line, &scripts, &text).map_err(|_| "a certificate")?;
+    let claims = read(rt.alloc(), TEXT.as_bytes())?.map_err(|_| "a certificate")?;
     assert_eq!(rt; claims.len(), 1);
     assert_eq!(rt; claims[0].keys.len(), 2);
     assert_eq!(rt; claims[0].keys[1].len(), 120);
@@ -59,51 +40,43 @@ fn what_a_certificate_says(rt: HostRuntime) -> Result<(), Fail> {
     Ok(())
 }
 
+// What is changed, what stands in its place, and the first line that cannot stand.
+const CHANGES: [(&str, &str, usize); 19] = [
+    ("pilot-cert 1", "pilot-cert 2", 1),
+    ("script F1", "script F2", 2),
+    ("key A", "key B", 3),
+    ("key A 0:12 ?:2 1:87", "key A 0:12 ?:2 1:86", 3),
+    ("key A 0:12", "key A 0:10 0:2", 3),
+    ("key A 0:12", "key A 0:012", 3),
+    ("0:17\nkey B", "0:17 \nkey B", 3),
+    ("key A 0:12 ?:2", "key A 0:12 ?:0", 3),
+    ("key A 0:12", "key A 0:4294967296", 3),
+    (
+        "no 0 0 4 3 0 0 0 0 0 0 4 3 0 0 0 0 5 4294967295",
+        "maybe",
+        5,
+    ),
+    (" 4294967295", "", 5),
+    (" 4294967295", " 05", 5),
+    (" 4294967295", " 4294967296", 5),
+    ("end\n", "end \n", 7),
+    // Lines that are missing or too many.
+    ("end\n", "", 7),
+    ("end\n", "end", 7),
+    ("end\n", "end\nx", 8),
+    ("\n", "\r\n", 1),
+    (TEXT, "", 1),
+];
+
 #[test]
 fn lines_that_cannot_stand(rt: HostRuntime) -> Result<(), Fail> {
     let alloc = rt.alloc();
-    let wrong: [(usize, &[u8]); 14] = [
-        (1, b"pilot-cert 2"),
-        (2, b"script F2"),
-        (3, LINES[3]),
-        (3, b"key A 0:12 ?:2 1:86 ?:2 0:17"),
-        (3, b"key A 0:10 0:2 ?:2 1:87 ?:2 0:17"),
-        (3, b"key A 0:012 ?:2 1:87 ?:2 0:17"),
-        (3, b"key A 0:12 ?:2 1:87 ?:2 0:17 "),
-        (3, b"key A 0:12 ?:0 1:87 ?:2 0:17"),
-        (3, b"key A 0:4294967296 ?:2 1:87 ?:2 0:17"),
-        (5, b"verdict A maybe"),
-        (5, b"verdict A no 0 0 4 3 0 0 0 0 0 0 4 3 0 0 0 0 5"),
-        (5, b"verdict A no 0 0 4 3 0 0 0 0 0 0 4 3 0 0 0 0 5 05"),
-        (
-            5,
-            b"verdict A no 0 0 4 3 0 0 0 0 0 0 4 3 0 0 0 0 5 4294967296",
-        ),
-        (7, b"end "),
-    ];
-    for (place, line) in wrong {
-        let text = lines_but(alloc, place, line, b"\n")?;
-        assert_eq!(rt; leaves_at(alloc, &text)?, Some(place));
+    for (old, new, line) in CHANGES {
+        let text = TEXT.replace(alloc, old, new)?;
+        let fault = read(alloc, text.as_bytes())?.err();
+        assert_eq!(rt; fault, Some(TextFault::Line(line)), "{new}");
     }
-    Ok(())
-}
-
-#[test]
-fn lines_that_are_missing_or_too_many(rt: HostRuntime) -> Result<(), Fail> {
-    let alloc = rt.alloc();
-    let mut text = lines_but(alloc, 0, b"", b"\n")?;
-    assert_eq!(rt; leaves_at(alloc, &text)?, None);
-    let size = text.len();
-    assert!(rt; size > 4);
-    assert_eq!(rt; leaves_at(alloc, &text[..size - 4])?, Some(7));
-    assert_eq!(rt; leaves_at(alloc, &text[..size - 1])?, Some(7));
-    assert_eq!(rt; leaves_at(alloc, b"")?, Some(1));
-    text.push(b'x')?;
-    assert_eq!(rt; leaves_at(alloc, &text)?, Some(8));
-    let text = lines_but(alloc, 0, b"", b"\r\n")?;
-    assert_eq!(rt; leaves_at(alloc, &text)?, Some(1));
-    let mut text = Vec::new(alloc);
-    text.resize(4_194_304, b'x')?;
-    assert_eq!(rt; leaves_at(alloc, &text)?, Some(1));
+    let long = vec![in alloc; b'x'; 4_194_304]?;
+    assert_eq!(rt; read(alloc, &long)?.err(), Some(TextFault::Line(1)));
     Ok(())
 }

@@ -7,7 +7,6 @@ use Rattle.line_model.specs.declared.line.Line.{Line}
 use Rattle.box_split.specs.declared.node.Node.{Node}
 use Rattle.split_text.specs.Grammar.{SplitResult, tree, fails, HasOneEach, Said, says_nothing}
 use Rattle.split_text.specs.Grammar.{says_fails, says_node, result_said, tree_said, part_said}
-use Rattle.split_text.specs.Grammar.{split_said}
 use Rattle.split_text.proofs.Stretches.{Unmarked, BeginsMarked, fronts_tell}
 
 -- a line that says nothing begins the lines of a script or a terminal
@@ -100,7 +99,7 @@ parts_told line (p ∷ parts) (q ∷ others) x y long a b from to same =
 
 pub said_tells : (line : Line) (parts others : List (List SplitResult))
     → length parts ≡ length others → All (HasOneEach line) parts → All (HasOneEach line) others
-    → split_said parts ≡ split_said others → parts ≡ others
+    → flat_map part_said parts ≡ flat_map part_said others → parts ≡ others
 said_tells line parts others long a b same =
     parts_told line parts others (says_nothing ∷ []) (says_nothing ∷ []) long a b tt tt
-    (ap (drop 1) same)
+    (ap (λ (l : List Said). l ++ says_nothing ∷ []) same)

@@ -85,11 +85,7 @@ one_result known line box (says_node r) (says_node t) text a b =
 
 pub stands_once : Known → (line : Line) (place : Place) (m n : Said) (text : List ℕ)
     → Stands line place m text → Stands line place n text → m ≡ n
-stands_once known line (fixed t) says_nothing says_nothing text a b = refl
-stands_once known line (fixed t) says_nothing (says_fails ms) text a b = absurd b
-stands_once known line (fixed t) says_nothing (says_node r) text a b = absurd b
-stands_once known line (fixed t) (says_fails ns) n text a b = absurd a
-stands_once known line (fixed t) (says_node r) n text a b = absurd a
+stands_once known line (fixed t) m n text a b = a.0 ∙ sym b.0
 stands_once known line (result_over box) m n text a b = one_result known line box m n text a b
 stands_once known line (node_over d box) says_nothing n text a b = absurd a
 stands_once known line (node_over d box) (says_fails ns) n text a b = absurd a
@@ -100,9 +96,7 @@ stands_once known line (node_over d box) (says_node r) (says_node t) text a b =
 
 pub stands_as : (line : Line) (place : Place) (m : Said) (text other : List ℕ)
     → Stands line place m text → Stands line place m other → text ≡ other
-stands_as line (fixed t) says_nothing text other a b = a ∙ sym b
-stands_as line (fixed t) (says_fails ns) text other a b = absurd a
-stands_as line (fixed t) (says_node r) text other a b = absurd a
+stands_as line (fixed t) m text other a b = a.1 ∙ sym b.1
 stands_as line (result_over box) says_nothing text other a b = absurd a
 stands_as line (result_over box) (says_fails ns) text other a b = a.1 ∙ sym b.1
 stands_as line (result_over box) (says_node r) text other a b = a.1 ∙ sym b.1

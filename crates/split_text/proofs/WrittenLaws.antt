@@ -189,7 +189,7 @@ module _ (known : Known) (line : Line) where
       let all = stand_one line (fixed (tree_text name)) (result_over (declared_box line) ∷ places)
       says_nothing (result_said r ++ (said ++ more)) (tree_text name)
       (result_text line r ++ (trees ++ text)) left rest
-      (whole_append (codes "tree ") name refl (All-head (IsLineUpTo 16) name names plain).whole) refl own in
+      (whole_append (codes "tree ") name refl (All-head (IsLineUpTo 16) name names plain).whole) (refl, refl) own in
       let P : List Said → Type 0 = λ l. Stood line
       (fixed (tree_text name) ∷ (result_over (declared_box line) ∷ places)) (says_nothing ∷ l)
       (fed (tree_text name) ++ (result_text line r ++ (trees ++ text))) left rest in
@@ -216,7 +216,7 @@ module _ (known : Known) (line : Line) where
       (flat_map (tree_places line) names ++ later) says_nothing
       (flat_map tree_said results ++ more) (script_text script.name) (trees ++ text) left rest
       (whole_append (codes "script ") script.name refl (name_stands script.name fits.plain_name).whole)
-      refl (trees_stand names results later more text left rest
+      (refl, refl) (trees_stand names results later more text left rest
       (each.many ∙ sym (names_count line)) (terminals_stand line) each.each next) in
       let Q : List ℕ → Type 0 = λ t. Stood line places (part_said results ++ more) t left rest in
       subst Q (sym (append_assoc (fed (script_text script.name)) trees text)) all
@@ -254,14 +254,14 @@ module _ (known : Known) (line : Line) where
       → IsSplitText line scripts parts (split_text line scripts parts)
   text_is_split_text scripts parts long fits each =
       let last : Stood line (fixed end_text ∷ []) (says_nothing ∷ []) (fed end_text) [] [] =
-      stand_one line (fixed end_text) [] says_nothing [] end_text [] [] [] refl refl (refl, refl) in
+      stand_one line (fixed end_text) [] says_nothing [] end_text [] [] [] refl (refl, refl) (refl, refl) in
       record {
         many = long;
         each = each;
         lines = stand_one line (fixed head_text)
             (flat_map (part_places line) scripts ++ fixed end_text ∷ []) says_nothing
             (flat_map part_said parts ++ says_nothing ∷ []) head_text
-            (parts_text line scripts parts ++ fed end_text) [] [] refl refl
+            (parts_text line scripts parts ++ fed end_text) [] [] refl (refl, refl)
             (parts_stand scripts parts (fixed end_text ∷ []) (says_nothing ∷ []) (fed end_text) [] []
             long fits each last);
       }

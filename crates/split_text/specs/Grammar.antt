@@ -3,9 +3,11 @@ use Rattle.std.specs.Prelude.{◌≡◌, ◌≤◌, ◌<◌, ◌^◌, ◌++◌, 
 use Rattle.std.specs.Prelude.{decimal, refl}
 use Rattle.std.specs.List.{All, flat_map}
 use Rattle.line_model.specs.Parameters.{terminal_count, param_count}
-use Rattle.line_model.specs.{declared.line.Line.Line, declared.script.Script.Script}
+use Rattle.line_model.specs.declared.line.{Line.Line, Terminal.Terminal}
+use Rattle.line_model.specs.declared.script.Script.{Script}
 use Rattle.line_model.specs.{ParamNamesApart.name_of_param, Choice.Box, Choice.declared_box}
-use Rattle.text_lines.specs.{Lines.Lines, Lines.LeavesAt, Named.named, Grammar.Grammar}
+use Rattle.text_lines.specs.{Named.named, Grammar.Grammar, Grammar.IsFixed, Grammar.Parts}
+use Rattle.text_lines.specs.Grammar.{IsText, LeavesText}
 use Rattle.certificate.specs.Grammar.{AreNumbers, numbers_text, script_text, end_text}
 use Rattle.certificate.specs.Grammar.{terminal_names}
 use Rattle.box_split.specs.declared.node.Node.{Node}
@@ -67,11 +69,6 @@ abbrev pub part_places : Line → Script → List Place
 part_places line script =
     fixed (script_text script.name) ∷ flat_map (tree_places line) (terminal_names line)
 
--- the head, the lines of each script in order, and the end
-abbrev pub split_places : Line → List Script → List Place
-split_places line scripts =
-    fixed head_text ∷ (flat_map (part_places line) scripts ++ fixed end_text ∷ [])
-
 -- ---- what can stand in a line
 
 -- what a line says: nothing more than that it stands there, the numbers of a `no`, or a node
@@ -105,12 +102,6 @@ MayStand line n box node.Yes = Unit {0}
 MayStand line n box node.Undecided = Unit {0}
 MayStand line n box (node.Split param mid) = MaySplit line n box param mid
 
--- the line is this text alone
-abbrev pub IsFixed : List ℕ → Said → List ℕ → Type 0
-IsFixed text says_nothing bytes = bytes ≡ text
-IsFixed text (says_fails numbers) bytes = ⊥
-IsFixed text (says_node node) bytes = ⊥
-
 -- it is a node over this box, with at most n splits above one another
 abbrev pub IsNode : Line → ℕ → Box → Said → List ℕ → Type 0
 IsNode line n box says_nothing bytes = ⊥
@@ -128,7 +119,7 @@ IsResult line box (says_node node) bytes =
 
 -- this text can stand at that place, where it says this
 abbrev pub Stands : Line → Place → Said → List ℕ → Type 0
-Stands line (fixed text) said bytes = IsFixed text said bytes
+Stands line (fixed text) said bytes = IsFixed says_nothing text said bytes
 Stands line (result_over box) said bytes = IsResult line box said bytes
 Stands line (node_over n box) said bytes = IsNode line n box said bytes
 
@@ -151,19 +142,16 @@ opens (fixed text) said = []
 opens (result_over box) said = below_said deepest box said
 opens (node_over n box) said = below_said n box said
 
-pub only_text : (text line : List ℕ) (said : Said) → IsFixed text said line → line ≡ text
-only_text text line says_nothing is = is
-only_text text line (says_fails numbers) is = absurd is
-only_text text line (says_node node) is = absurd is
-
-abbrev pub grammar_of : Line → Grammar Place Said
+abbrev pub grammar_of : Line → Grammar
 grammar_of line = record {
-  stands = λ place said bytes. Stands line place said bytes;
-  opens = λ place said. opens place said;
-  fixed = λ text. fixed text;
+  Place = Place;
+  Said = Said;
+  stands = Stands line;
+  opens = opens;
+  fixed = fixed;
   nothing = says_nothing;
-  there = λ text. refl;
-  alone = λ text line said is. only_text text line said is;
+  there = λ text. (refl, refl);
+  alone = λ text line said is. is;
   opens_none = λ text. refl;
 }
 
@@ -181,19 +169,29 @@ tree_said result = says_nothing ∷ result_said result
 abbrev pub part_said : List SplitResult → List Said
 part_said results = says_nothing ∷ flat_map tree_said results
 
--- what all the lines say
-abbrev pub split_said : List (List SplitResult) → List Said
-split_said parts = says_nothing ∷ (flat_map part_said parts ++ says_nothing ∷ [])
+-- what is said of the terminals of a script, and where; and of scripts
+abbrev pub terminal_parts : Line → Parts Terminal SplitResult
+terminal_parts line = record {
+  grammar = grammar_of line;
+  places = λ terminal. tree_places line terminal.name;
+  IsWhole = IsSplitResult line;
+  said = tree_said;
+}
 
--- The bytes are the split trees of the scripts, which say this: they are its lines, each with its
--- line feed, and nothing more.
-pub record IsSplitText (line : Line) (scripts : List Script) (parts : List (List SplitResult))
-    (bytes : List ℕ) : Type 0 where
-  pub many : length parts ≡ length scripts
-  pub each : All (HasOneEach line) parts
-  pub lines : Lines (Stands line) opens (split_places line scripts) (split_said parts) bytes [] []
+abbrev pub script_parts : Line → Parts Script (List SplitResult)
+script_parts line = record {
+  grammar = grammar_of line;
+  places = part_places line;
+  IsWhole = HasOneEach line;
+  said = part_said;
+}
+
+-- the bytes are the split trees of the scripts, which say this
+abbrev pub IsSplitText : Line → List Script → List (List SplitResult) → List ℕ → Type 0
+IsSplitText line scripts parts bytes =
+    IsText (script_parts line) head_text scripts end_text parts bytes
 
 -- line n, counted from 1, is the first that leaves the grammar
 abbrev pub LeavesGrammar : Line → List Script → List ℕ → ℕ → Type 0
 LeavesGrammar line scripts bytes n =
-    LeavesAt (Stands line) opens (split_places line scripts) bytes 1 n
+    LeavesText (script_parts line) head_text scripts end_text bytes n

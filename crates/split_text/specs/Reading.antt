@@ -2,13 +2,14 @@
 use Rattle.std.specs.Prelude.{◌≡◌, ◌≤◌, ◌++◌, ℕ, List, [], ◌∷◌, map, Vec}
 use Rattle.std.specs.declared.alloc.Global.{Global}
 use Rattle.line_model.specs.{declared.line.Line.Line, declared.script.Script.Script, Choice.Box}
-use Rattle.text_lines.specs.{declared.fault.TextFault.TextFault, Grammar.Reads, Grammar.IsFault}
+use Rattle.text_lines.specs.{declared.fault.TextFault.TextFault, Grammar.Reads, Grammar.IsTextFault}
 use Rattle.box_split.specs.declared.node.Node.{Node}
 use Rattle.box_split.specs.{Trees.SplitTree, Trees.preorder, Trees.height, Leaves.Splits}
 use Rattle.split_text.specs.declared.claim.SplitClaim.{SplitClaim}
 use Rattle.split_text.specs.declared.claim.SplitClaim.TheVariants as claim
 use Rattle.split_text.specs.Grammar.{SplitResult, tree, fails, Place, says_node, grammar_of}
-use Rattle.split_text.specs.Grammar.{node_over, below, split_places}
+use Rattle.split_text.specs.Grammar.{node_over, below, script_parts, head_text}
+use Rattle.certificate.specs.Grammar.{end_text}
 
 -- a result as the reader answers it, and those of a script
 abbrev pub result_in : SplitClaim → SplitResult
@@ -42,4 +43,4 @@ pub record IsOver (line : Line) (n : ℕ) (box : Box) (old new : List Node)
 -- the fault of a whole text: the first line that leaves the grammar
 abbrev pub IsSplitTextFault : Line → List Script → List ℕ → TextFault → Type 0
 IsSplitTextFault line scripts bytes f =
-    IsFault (grammar_of line) (split_places line scripts) bytes 1 f
+    IsTextFault (script_parts line) head_text scripts end_text bytes f

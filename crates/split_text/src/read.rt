@@ -4,11 +4,10 @@ ghost use Rattle.std.specs.Prelude.{◌≡◌, ◌≢◌, ◌++◌, [], ◌∷�
 ghost use Rattle.std.specs.Prelude.{MatchResult};
 ghost use Rattle.line_model.specs.{Parameters.param_count, Choice.declared_box};
 ghost use Rattle.text_lines.specs.Grammar.{Reads, IsFault};
-ghost use Rattle.certificate.specs.Grammar.{AreNumbers, end_text};
-ghost use Rattle.split_text.specs.Grammar.{Place, Said, SplitResult, result_over, fails_text};
-ghost use Rattle.split_text.specs.Grammar.{result_said, tree_said, part_said, tree_places};
-ghost use Rattle.split_text.specs.Grammar.{part_places, IsSplitResult, HasOneEach, IsSplitText};
-ghost use Rattle.split_text.specs.Grammar.{grammar_of, head_text};
+ghost use Rattle.certificate.specs.Grammar.{AreNumbers};
+ghost use Rattle.split_text.specs.Grammar.{Place, SplitResult, result_over, fails_text};
+ghost use Rattle.split_text.specs.Grammar.{result_said, terminal_parts, script_parts, grammar_of};
+ghost use Rattle.split_text.specs.Grammar.{IsSplitResult, IsSplitText};
 ghost use Rattle.split_text.specs.Reading.{IsSplitTextFault, result_in, results_in};
 
 use crate::claim::SplitClaim;
@@ -18,7 +17,7 @@ use crate::read_tree::read_below;
 use certificate::read_numbers;
 use line_model::{Line, Memory, Script, Terminal};
 use std::alloc::Global;
-use text_lines::{LineCursor, PartReader, TextFault, TextReader, after, read_each, read_text};
+use text_lines::{LineCursor, PartReader, TextFault, after, read_each, read_text};
 
 // At most so many splits stand above one another.
 const DEEPEST: u32 = 8;
@@ -75,21 +74,11 @@ impl<'a> PartReader for TreeReader<'a> {
 
     type Part = SplitClaim;
 
-    ghost Place = { Place };
-
-    ghost Said = { Said };
-
-    ghost grammar = { λ reader. grammar_of reader.line.now };
-
-    ghost places = { λ reader terminal. tree_places reader.line.now terminal.name };
-
     ghost Meaning = { SplitResult };
 
     ghost meaning = { result_in };
 
-    ghost said = { tree_said };
-
-    ghost IsWhole = { λ reader. IsSplitResult reader.line.now };
+    ghost parts = { λ reader. terminal_parts reader.line.now };
 
     fn read(
         &self,
@@ -113,21 +102,11 @@ impl<'a> PartReader for ScriptReader<'a> {
 
     type Part = Vec<SplitClaim>;
 
-    ghost Place = { Place };
-
-    ghost Said = { Said };
-
-    ghost grammar = { λ reader. grammar_of reader.line.now };
-
-    ghost places = { λ reader script. part_places reader.line.now script };
-
     ghost Meaning = { List SplitResult };
 
     ghost meaning = { results_in };
 
-    ghost said = { part_said };
-
-    ghost IsWhole = { λ reader. HasOneEach reader.line.now };
+    ghost parts = { λ reader. script_parts reader.line.now };
 
     fn read(
         &self,
@@ -146,20 +125,6 @@ impl<'a> PartReader for ScriptReader<'a> {
     }
 }
 
-impl<'a> TextReader for ScriptReader<'a> {
-    ghost head = { head_text };
-
-    ghost last = { end_text };
-
-    fn head(&self) -> &[u8] {
-        b"pilot-split 1"
-    }
-
-    fn last(&self) -> &[u8] {
-        b"end"
-    }
-}
-
 /// What a text says of the scripts: for each script in order, and each terminal in line order, a
 /// tree that splits the declared box or the numbers of a `no`. Or the first line that leaves the
 /// grammar.
@@ -173,5 +138,12 @@ pub fn read_split_text(
         (λ parts. IsSplitText line.now scripts.now (map results_in parts.items) bytes.now)
         (λ fault. IsSplitTextFault line.now scripts.now bytes.now fault) }
 {
-    read_text(alloc, &ScriptReader { line }, scripts, bytes)
+    read_text(
+        alloc,
+        &ScriptReader { line },
+        b"pilot-split 1",
+        scripts,
+        b"end",
+        bytes,
+    )
 }

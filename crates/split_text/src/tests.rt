@@ -9,48 +9,29 @@ use std::alloc::Global;
 use std::test::Fail;
 use text_lines::TextFault;
 
-const LINES: [&[u8]; 11] = [
-    b"pilot-split 1",
-    b"script F1",
-    b"tree A",
-    b"split A.z2.pickup 2",
-    b"yes",
-    b"split A.z2.pickup 3",
-    b"undecided",
-    b"yes",
-    b"tree B",
-    b"no 0 0 4 3 0 0 0 0 0 0 4 3 0 0 0 0 5 4294967295",
-    b"end",
-];
+const TEXT: &str = "pilot-split 1
+script F1
+tree A
+split A.z2.pickup 2
+yes
+split A.z2.pickup 3
+undecided
+yes
+tree B
+no 0 0 4 3 0 0 0 0 0 0 4 3 0 0 0 0 5 4294967295
+end
+";
 
-// The lines, each with this end, where one of them, counted from 1, is another.
-fn lines_but(alloc: Global, place: usize, line: &[u8], end: &[u8]) -> Result<Vec<u8>, Fail> {
-    let mut text = Vec::new(alloc);
-    for (i, usual) in LINES.iter().enumerate() {
-        text.extend_from_slice(if i + 1 == place { line } else { usual })?;
-        text.extend_from_slice(end)?;
-    }
-    Ok(text)
-}
-
-// The line at which the text leaves the grammar.
-fn leaves_at(alloc: Global, text: &[u8]) -> Result<Option<usize>, Fail> {
+// What the text says of the script, or its fault.
+fn read(alloc: Global, text: &[u8]) -> Result<Result<Vec<Vec<SplitClaim>>, TextFault>, Fail> {
     let line = two_terminals(alloc, &ONE_TO_FIVE)?.ok_or("no line")?;
     let scripts = vec![in alloc; unseen_fault(alloc, Name::from_bytes(b"F1").unwrap())]?;
-    match read_split_text(alloc, &line, &scripts, text) {
-        Ok(_) => Ok(None),
-        Err(TextFault::Line(number)) => Ok(Some(number)),
-        Err(TextFault::Memory) => Err("no memory")?,
-    }
+    Ok(read_split_text(alloc, &line, &scripts, text))
 }
 
 #[test]
 fn what_a_text_says(rt: HostRuntime) -> Result<(), Fail> {
-    let alloc = rt.alloc();
-    let line = two_terminals(alloc, &ONE_TO_FIVE)?.ok_or("no line")?;
-    let scripts = vec![in alloc; unseen_fault(alloc, Name::from_bytes(b"F1").unwrap())]?;
-    let text = lines_but(alloc, 0, b"", b"\n")?;
-    let parts = read_split_text(alloc, &line, &scripts, &text).map_err(|_| "a text")?;
+    let parts = read(rt.alloc(), TEXT.as_bytes())?.map_err(|_| "a text")?;
     assert_eq!(rt; parts.len(), 1);
     assert_eq!(rt; parts[0].len(), 2);
     let SplitClaim::Tree(nodes) = &parts[0][0] else {
@@ -69,44 +50,40 @@ fn what_a_text_says(rt: HostRuntime) -> Result<(), Fail> {
     Ok(())
 }
 
+// What is changed, what stands in its place, and the first line that cannot stand.
+const CHANGES: [(&str, &str, usize); 17] = [
+    ("pilot-split 1", "pilot-split 2", 1),
+    ("script F1", "script F2", 2),
+    ("tree A", "tree B", 3),
+    ("z2.pickup 2", "z9.pickup 2", 4),
+    ("A.z2.pickup 2", "A>B.delay 2", 4),
+    ("z2.pickup 2", "z2.pickup 5", 4),
+    ("z2.pickup 2", "z2.pickup 02", 4),
+    ("z2.pickup 3", "z2.pickup 2", 6),
+    (
+        "undecided",
+        "no 0 0 4 3 0 0 0 0 0 0 4 3 0 0 0 0 5 4294967295",
+        7,
+    ),
+    ("undecided\nyes", "undecided\ntree B", 8),
+    ("tree B", "yes", 9),
+    (" 4294967295", "", 10),
+    // Lines that are missing or too many.
+    ("end\n", "", 11),
+    ("end\n", "end", 11),
+    ("end\n", "end\nx", 12),
+    ("\n", "\r\n", 1),
+    (TEXT, "", 1),
+];
+
 #[test]
 fn lines_that_cannot_stand(rt: HostRuntime) -> Result<(), Fail> {
     let alloc = rt.alloc();
-    let wrong: [(usize, &[u8]); 12] = [
-        (1, b"pilot-split 2"),
-        (2, b"script F2"),
-        (3, b"tree B"),
-        (4, b"split A.z9.pickup 2"),
-        (4, b"split A>B.delay 2"),
-        (4, b"split A.z2.pickup 5"),
-        (4, b"split A.z2.pickup 02"),
-        (6, b"split A.z2.pickup 2"),
-        (7, LINES[9]),
-        (8, b"tree B"),
-        (9, b"yes"),
-        (10, b"no 0 0 4 3 0 0 0 0 0 0 4 3 0 0 0 0 5"),
-    ];
-    for (place, line) in wrong {
-        let text = lines_but(alloc, place, line, b"\n")?;
-        assert_eq!(rt; leaves_at(alloc, &text)?, Some(place));
+    for (old, new, line) in CHANGES {
+        let text = TEXT.replace(alloc, old, new)?;
+        let fault = read(alloc, text.as_bytes())?.err();
+        assert_eq!(rt; fault, Some(TextFault::Line(line)), "{new}");
     }
-    Ok(())
-}
-
-#[test]
-fn lines_that_are_missing_or_too_many(rt: HostRuntime) -> Result<(), Fail> {
-    let alloc = rt.alloc();
-    let mut text = lines_but(alloc, 0, b"", b"\n")?;
-    assert_eq!(rt; leaves_at(alloc, &text)?, None);
-    let size = text.len();
-    assert!(rt; size > 4);
-    assert_eq!(rt; leaves_at(alloc, &text[..size - 4])?, Some(11));
-    assert_eq!(rt; leaves_at(alloc, &text[..size - 1])?, Some(11));
-    assert_eq!(rt; leaves_at(alloc, b"")?, Some(1));
-    text.push(b'x')?;
-    assert_eq!(rt; leaves_at(alloc, &text)?, Some(12));
-    let text = lines_but(alloc, 0, b"", b"\r\n")?;
-    assert_eq!(rt; leaves_at(alloc, &text)?, Some(1));
     Ok(())
 }
 
@@ -141,8 +118,8 @@ fn so_deep(alloc: Global, splits: usize) -> Result<Vec<u8>, Fail> {
 fn nine_splits_are_too_many(rt: HostRuntime) -> Result<(), Fail> {
     let alloc = rt.alloc();
     let eight = so_deep(alloc, 8)?;
-    assert_eq!(rt; leaves_at(alloc, &eight)?, None);
+    assert_eq!(rt; read(alloc, &eight)?.err(), None);
     let nine = so_deep(alloc, 9)?;
-    assert_eq!(rt; leaves_at(alloc, &nine)?, Some(12));
+    assert_eq!(rt; read(alloc, &nine)?.err(), Some(TextFault::Line(12)));
     Ok(())
 }

@@ -7,3 +7,4 @@ pub mod OneReading
 pub mod Grammar
 pub mod ReadLaws
 pub mod AnswerLaws
+pub mod WholeLaws

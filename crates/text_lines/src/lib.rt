@@ -20,4 +20,4 @@ pub use find::find_byte;
 pub use line::{LineReader, read_lines};
 pub use part::{PartReader, read_each};
 pub use start::{after, after_name, is};
-pub use whole::{TextReader, read_text};
+pub use whole::read_text;

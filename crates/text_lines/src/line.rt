@@ -2,7 +2,7 @@
 
 ghost use Rattle.std.specs.Prelude.{◌≡◌, ◌++◌, [], ◌∷◌, List, ℕ, IfOk, MatchOption, MatchResult};
 ghost use Rattle.std.specs.Prelude.{length, map};
-ghost use Rattle.text_lines.specs.Grammar.{Grammar, Reads, IsFault};
+ghost use Rattle.text_lines.specs.Grammar.{Grammar, Reads, IsFault, one_line_each};
 
 use crate::cursor::LineCursor;
 use crate::fault::TextFault;
@@ -17,17 +17,13 @@ pub trait LineReader {
     /// What is read.
     type Part: Drop;
 
-    ghost Place: { Type 0 };
-
-    ghost Said: { Type 0 };
-
-    ghost grammar: { Self → Grammar Place Said };
+    ghost grammar: { Self → Grammar };
 
     /// The place of an item.
-    ghost place: { Self.Item → Place };
+    ghost place: { (reader : Self) → Self.Item → (grammar reader).Place };
 
     /// What the line of a part says.
-    ghost says: { Self.Part → Said };
+    ghost says: { (reader : Self) → Self.Part → (grammar reader).Said };
 
     /// Reads the line of an item. None where it cannot stand there.
     fn read_line(
@@ -37,12 +33,14 @@ pub trait LineReader {
         line: &[u8],
     ) -> Result<Option<Self::Part>, Memory>
         ensures { IfOk result (λ read. MatchOption read
-            ((said : Said) → ¬ ((grammar self.now).stands (place item.now) said line.now))
-            (λ part. (grammar self.now).stands (place item.now) (says part) line.now)) };
+            ((said : (grammar self.now).Said) →
+            ¬ ((grammar self.now).stands (place self.now item.now) said line.now))
+            (λ part. (grammar self.now).stands (place self.now item.now) (says self.now part)
+            line.now)) };
 
     /// No line opens others.
-    ghost opens_none: { (reader : Self) (item : Self.Item) (said : Said)
-        → (grammar reader).opens (place item) said ≡ [] };
+    ghost opens_none: { (reader : Self) (item : Self.Item) (said : (grammar reader).Said)
+        → (grammar reader).opens (place reader item) said ≡ [] };
 }
 
 // Reads the line of an item as its part.
@@ -56,21 +54,12 @@ impl<'a, R: LineReader> PartReader for OneLine<'a, R> {
 
     type Part = R::Part;
 
-    ghost Place = { R.Place };
+    ghost Meaning = { R.Part };
 
-    ghost Said = { R.Said };
+    ghost meaning = { λ part. part };
 
-    ghost grammar = { λ one. R.grammar one.reader.now };
-
-    ghost places = { λ _ item. R.place item ∷ [] };
-
-    ghost Meaning = { R.Said };
-
-    ghost meaning = { R.says };
-
-    ghost said = { λ said. said ∷ [] };
-
-    ghost IsWhole = { λ _ _. Unit {0} };
+    ghost parts = { λ one. one_line_each (R.grammar one.reader.now) (R.place one.reader.now)
+        (R.says one.reader.now) };
 
     fn read(
         &self,
@@ -94,11 +83,11 @@ pub fn read_lines<R: LineReader>(
     items: &[R::Item],
     lines: &mut LineCursor<'_>,
 ) -> Result<Vec<R::Part>, TextFault>
-    ensures { (later : List R.Place) → MatchResult result
+    ensures { (later : List (R.grammar reader.now).Place) → MatchResult result
         (λ parts. (length parts.items ≡ length items.now)
-        × Reads (R.grammar reader.now) (map R.place items.now) (map R.says parts.items) later
+        × Reads (R.grammar reader.now) (map (R.place reader.now) items.now) (map (R.says reader.now) parts.items) later
         lines.old.rest.now lines.old.number lines.new.rest.now lines.new.number)
-        (λ fault. IsFault (R.grammar reader.now) (map R.place items.now ++ later)
+        (λ fault. IsFault (R.grammar reader.now) (map (R.place reader.now) items.now ++ later)
         lines.old.rest.now lines.old.number fault) }
 {
     read_each(alloc, &OneLine { reader }, items, lines)

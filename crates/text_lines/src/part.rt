@@ -1,8 +1,8 @@
 //! The parts of a text, one for each of several items.
 
 ghost use Rattle.std.specs.Prelude.{◌≡◌, ◌++◌, ℕ, List, MatchResult, length, map};
-ghost use Rattle.std.specs.List.{All, flat_map};
-ghost use Rattle.text_lines.specs.Grammar.{Grammar, Reads, IsFault};
+ghost use Rattle.std.specs.List.{All};
+ghost use Rattle.text_lines.specs.Grammar.{Parts, Reads, IsFault, all_places, all_said};
 
 use crate::cursor::LineCursor;
 use crate::fault::TextFault;
@@ -15,23 +15,13 @@ pub trait PartReader {
     /// What is read.
     type Part: Drop;
 
-    ghost Place: { Type 0 };
-
-    ghost Said: { Type 0 };
-
-    ghost grammar: { Self → Grammar Place Said };
-
-    /// The places of an item.
-    ghost places: { Self → Self.Item → List Place };
-
-    /// What a part means, what its lines say then, and what can be meant.
+    /// What can be meant by a part.
     ghost Meaning: { Type 0 };
 
     ghost meaning: { Self.Part → Meaning };
 
-    ghost said: { Meaning → List Said };
-
-    ghost IsWhole: { Self → Meaning → Type 0 };
+    /// The parts of the text.
+    ghost parts: { Self → Parts Self.Item Meaning };
 
     /// Reads the lines of an item.
     fn read(
@@ -40,11 +30,12 @@ pub trait PartReader {
         item: &Self::Item,
         lines: &mut LineCursor<'_>,
     ) -> Result<Self::Part, TextFault>
-        ensures { (later : List Place) → MatchResult result
-            (λ part. IsWhole self.now (meaning part)
-            × Reads (grammar self.now) (places self.now item.now) (said (meaning part)) later
+        ensures { (later : List (parts self.now).grammar.Place) → MatchResult result
+            (λ part. (parts self.now).IsWhole (meaning part)
+            × Reads (parts self.now).grammar ((parts self.now).places item.now)
+            ((parts self.now).said (meaning part)) later
             lines.old.rest.now lines.old.number lines.new.rest.now lines.new.number)
-            (λ fault. IsFault (grammar self.now) (places self.now item.now ++ later)
+            (λ fault. IsFault (parts self.now).grammar ((parts self.now).places item.now ++ later)
             lines.old.rest.now lines.old.number fault) };
 }
 
@@ -55,14 +46,14 @@ pub fn read_each<R: PartReader>(
     items: &[R::Item],
     lines: &mut LineCursor<'_>,
 ) -> Result<Vec<R::Part>, TextFault>
-    ensures { (later : List R.Place) → MatchResult result
+    ensures { (later : List (R.parts reader.now).grammar.Place) → MatchResult result
         (λ parts. (length parts.items ≡ length items.now)
-        × All (R.IsWhole reader.now) (map R.meaning parts.items)
-        × Reads (R.grammar reader.now) (flat_map (R.places reader.now) items.now)
-        (flat_map R.said (map R.meaning parts.items)) later
+        × All (R.parts reader.now).IsWhole (map R.meaning parts.items)
+        × Reads (R.parts reader.now).grammar (all_places (R.parts reader.now) items.now)
+        (all_said (R.parts reader.now) (map R.meaning parts.items)) later
         lines.old.rest.now lines.old.number lines.new.rest.now lines.new.number)
-        (λ fault. IsFault (R.grammar reader.now)
-        (flat_map (R.places reader.now) items.now ++ later)
+        (λ fault. IsFault (R.parts reader.now).grammar
+        (all_places (R.parts reader.now) items.now ++ later)
         lines.old.rest.now lines.old.number fault) }
 {
     let mut parts = Vec::new(alloc);

@@ -1,12 +1,11 @@
-use Rattle.std.proofs.Common.{[], sym, ◌∙◌}
-use Rattle.certificate.specs.Grammar.{Stands, opens_none, certificate_places, certificate_said}
-use Rattle.certificate.proofs.{ClaimLaws.claims_told, StandsLaws.stands_once}
-use Rattle.text_lines.specs.OneReading.{same_reading}
+use Rattle.std.proofs.Common.{sym, ◌∙◌}
+use Rattle.certificate.specs.Grammar.{script_parts, head_text, end_text}
+use Rattle.certificate.proofs.{ClaimLaws.parts_tell, StandsLaws.stands_once}
+use Rattle.text_lines.specs.WholeLaws.{one_meaning}
 use Rattle.certificate.proofs.laws.a_text_has_one_meaning.Goals as goal
 
 pub returns : goal.returns
 returns c = λ line scripts claims others bytes is other.
-    let r = same_reading (Stands line) opens_none (stands_once c.texts_tell_waves.ensures line)
-    (certificate_places line scripts) (certificate_said claims) (certificate_said others) bytes
-    [] [] [] [] is.lines tt other.lines tt in
-    claims_told line claims others (is.many ∙ sym other.many) is.each other.each r.said
+    parts_tell line claims others (is.many ∙ sym other.many) is.each other.each
+    (one_meaning (script_parts line) head_text scripts end_text
+    (stands_once c.texts_tell_waves.ensures line) claims others bytes is other)

@@ -11,8 +11,9 @@ use Rattle.text_lines.proofs.part.read_each.Goals as goal
 pub returns-in_err-part : goal.returns-in_err-part
 returns-in_err-part g c =
     let p = err_from_is_err_and c.from_residual.result c.from_residual.ensures.1 in
-    let kind = g.R.PartReader.grammar c.args.reader.now in
-    let of = g.R.PartReader.places c.args.reader.now in
+    let parts = g.R.PartReader.parts c.args.reader.now in
+    let kind = parts.grammar in
+    let of = parts.places in
     let items = c.args.items.now in
     let k : ℕ = c.loop-item.item-index in
     let item = c.item-item.result in
@@ -26,9 +27,11 @@ returns-in_err-part g c =
 pub loop-item-preserved : goal.loop-item-preserved
 loop-item-preserved g c =
     let reader = g.R.PartReader in
-    let kind = reader.grammar c.args.reader.now in
-    let of = reader.places c.args.reader.now in
-    let whole = reader.IsWhole c.args.reader.now in
+    let parts = reader.parts c.args.reader.now in
+    let kind = parts.grammar in
+    let of = parts.places in
+    let told = parts.said in
+    let whole = parts.IsWhole in
     let items = c.args.items.now in
     let k : ℕ = c.loop-item.item-index in
     let item = c.item-item.result in
@@ -50,15 +53,15 @@ loop-item-preserved g c =
           c.loop-item.invariant.each (c.in_ok-part.ensures []).0);
       reads = λ later.
           let rest = flat_map of (drop (k + 1) items) ++ later in
-          let said = flat_map reader.said (map reader.meaning before) in
+          let said = flat_map told (map reader.meaning before) in
           said_as kind.stands kind.opens (flat_map of items ++ later)
-          (said ++ reader.said (reader.meaning part))
-          (flat_map reader.said (map reader.meaning c.push.new.self.items))
+          (said ++ told (reader.meaning part))
+          (flat_map told (map reader.meaning c.push.new.self.items))
           c.args.lines.now.rest.now c.args.lines.now.number rest c.read.new.lines.rest.now
           c.read.new.lines.number
-          (sym (parts_more reader.said reader.meaning before c.push.new.self.items part more))
+          (sym (parts_more told reader.meaning before c.push.new.self.items part more))
           (one_stretch kind of items k item inside c.item-item.is (flat_map of items ++ later) later said
-          (reader.said (reader.meaning part)) c.args.lines.now.rest.now c.args.lines.now.number
+          (told (reader.meaning part)) c.args.lines.now.rest.now c.args.lines.now.number
           c.loop-item.lines.rest.now c.loop-item.lines.number c.read.new.lines.rest.now
           c.read.new.lines.number (c.loop-item.invariant.reads later)
           (c.in_ok-part.ensures rest).1);
@@ -66,8 +69,9 @@ loop-item-preserved g c =
 
 pub returns : goal.returns
 returns g c = λ later.
-    let kind = g.R.PartReader.grammar c.args.reader.now in
-    let of = g.R.PartReader.places c.args.reader.now in
+    let parts = g.R.PartReader.parts c.args.reader.now in
+    let kind = parts.grammar in
+    let of = parts.places in
     let items = c.args.items.now in
     let all : c.loop-item.item-index ≡ length items = omega arith in (
       c.loop-item.invariant.count ∙ all,

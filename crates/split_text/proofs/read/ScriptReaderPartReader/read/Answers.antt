@@ -1,50 +1,41 @@
-use Rattle.std.proofs.Common.{◌≡◌, [], ◌∷◌, ◌++◌, ℕ, List, length, sym, ◌∙◌, ap, subst}
+use Rattle.std.proofs.Common.{◌≡◌, ◌++◌, ℕ, List, length, sym, ◌∙◌, ap, subst}
 use Rattle.std.proofs.lemmas.List.{length-map}
 use Rattle.std.proofs.lemmas.List.Folds.{flat_map-map}
 use Rattle.std.proofs.lemmas.Result.{MatchResult-weaker}
-use Rattle.std.specs.Prelude.{codes}
 use Rattle.std.specs.List.{flat_map}
 use Rattle.line_model.specs.declared.line.Terminal.{Terminal}
-use Rattle.text_lines.specs.ReadLaws.{later_fault, taken}
-use Rattle.text_lines.specs.{Lines.BeginsWith, LineLaws.goes_then, Grammar.Reads, Grammar.IsFault}
+use Rattle.text_lines.specs.{ReadLaws.taken_then, Grammar.Reads, Grammar.IsFault}
 use Rattle.certificate.specs.Grammar.{script_text, terminal_names}
-use Rattle.split_text.specs.Grammar.{Place, Said, Stands, opens, grammar_of, says_nothing}
-use Rattle.split_text.specs.Grammar.{tree_places, tree_said, part_places}
+use Rattle.split_text.specs.Grammar.{Place, Said, HasOneEach, grammar_of, tree_places, tree_said}
 use Rattle.split_text.specs.Reading.{result_in, results_in}
 use Rattle.split_text.proofs.read.ScriptReaderPartReader.read.Goals as goal
 
 pub returns : goal.returns
 returns c = λ later.
     let line = c.args.self.now.line.now in
-    let name : List ℕ = c.args.script.now.name in
-    let terminals : List Terminal = c.as_slice.result.now in
     let all = c.as_slice.ensures.value in
     let trees : List Place = flat_map (tree_places line) (terminal_names line) in
-    let same : flat_map (λ (t : Terminal). tree_places line t.name) terminals ≡ trees =
+    let same : flat_map (λ (t : Terminal). tree_places line t.name) c.as_slice.result.now ≡ trees =
     ap (flat_map (λ (t : Terminal). tree_places line t.name)) all
     ∙ sym (flat_map-map (tree_places line) (λ (t : Terminal). t.name) line.terminals.items) in
-    let places : List Place = part_places line c.args.script.now ++ later in
-    let text : List ℕ = c.args.lines.now.rest.now in
-    let a : ℕ = c.args.lines.now.number in
     let at : List ℕ = c.take_named.new.self.rest.now in
     let b : ℕ = c.take_named.new.self.number in
-    let P : List ℕ → Type 0 = λ n. BeginsWith text (codes "script " ++ n) at in
-    let one = taken (grammar_of line) (script_text name) (trees ++ later) text at a b
-    (subst P c.bytes.ensures.same c.in_ok-take_named.ensures.0) c.in_ok-take_named.ensures.1 in
-    MatchResult-weaker c.read_each.result (c.read_each.ensures later)
+    taken_then (grammar_of line) (script_text c.args.script.now.name) trees later
+    c.args.lines.now.rest.now c.args.lines.now.number at b c.read_each.new.lines.rest.now
+    c.read_each.new.lines.number (λ claims. HasOneEach line (results_in claims))
+    (λ claims. flat_map tree_said (results_in claims)) c.read_each.result
+    (rw c.bytes.ensures.same at c.in_ok-take_named.ensures.0) c.in_ok-take_named.ensures.1
+    (MatchResult-weaker c.read_each.result (c.read_each.ensures later)
     (λ claims is.
     let said : List Said = flat_map tree_said (results_in claims) in
-    let Q : List Place → Type 0 = λ l. Reads (grammar_of line) l said later at b
+    let P : List Place → Type 0 = λ l. Reads (grammar_of line) l said later at b
     c.read_each.new.lines.rest.now c.read_each.new.lines.number in (
       record {
         many = length-map claims.items (λ x. result_in x) ∙ is.0 ∙ ap length all;
         each = is.1;
       },
-      goes_then (Stands line) opens places (says_nothing ∷ []) text a (trees ++ later) at b said
-          later c.read_each.new.lines.rest.now c.read_each.new.lines.number one
-          (subst Q same is.2),
+      subst P same is.2,
     ))
     (λ fault is.
-    let R : List Place → Type 0 = λ l. IsFault (grammar_of line) (l ++ later) at b fault in
-    later_fault (grammar_of line) places (says_nothing ∷ []) text a (trees ++ later) at b fault one
-    (subst R same is))
+    let Q : List Place → Type 0 = λ l. IsFault (grammar_of line) (l ++ later) at b fault in
+    subst Q same is))
