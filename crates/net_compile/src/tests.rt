@@ -27,18 +27,17 @@ fn terminals_of(
     Ok(terminals)
 }
 
-// A channel for each ordered pair of `count` terminals.
-fn channels_of(alloc: Global, count: u32) -> Result<Vec<Channel>, Memory> {
-    let mut channels = Vec::new(alloc);
-    for from in 0..count {
-        for to in 0..count {
-            if from != to {
-                channels.push(Channel { from, to })?;
-            }
-        }
-    }
-    Ok(channels)
-}
+// The channels of two terminals, and of three.
+const OF_TWO: &[Channel] = &[Channel { from: 0, to: 1 }, Channel { from: 1, to: 0 }];
+
+const OF_THREE: &[Channel] = &[
+    Channel { from: 0, to: 1 },
+    Channel { from: 0, to: 2 },
+    Channel { from: 1, to: 0 },
+    Channel { from: 1, to: 2 },
+    Channel { from: 2, to: 0 },
+    Channel { from: 2, to: 1 },
+];
 
 // A line of 120 ticks of 1 ms, each interval [1, 2].
 fn line_of(
@@ -50,7 +49,7 @@ fn line_of(
     zone1_trip: bool,
 ) -> Result<Line, Memory> {
     let terminals = terminals_of(rt, alloc, count, flags)?;
-    let channels = channels_of(alloc, terminals.len().min(3) as u32)?;
+    let channels = Vec::from_slice(alloc, if count == 2 { OF_TWO } else { OF_THREE })?;
     assert!(rt; terminals.len() <= 3 && channels.len() <= 6);
     let count = param_count(scheme, &terminals, &channels);
     let bounds = vec![in alloc; Bounds {
@@ -61,6 +60,13 @@ fn line_of(
     Line::new(
         alloc, 1000, 120, scheme, zone1_trip, terminals, channels, &bounds,
     )
+}
+
+// How many gates the net of the line has, and its text.
+fn net_of(alloc: Global, line: &Line) -> Result<(u32, String), Fail> {
+    let net = compile(alloc, line)?;
+    let text = String::from_utf8_lossy(alloc, &net_text(alloc, line, &net)?)?;
+    Ok((net.len(), text))
 }
 
 // What stands behind the first word of the first line that begins with it.
@@ -207,9 +213,8 @@ fn net_texts_tell_the_logic(rt: HostRuntime) -> Result<(), Fail> {
     ];
     for (scheme, count, flags, zone1_trip, gates) in rows {
         let line = line_of(&rt, alloc, scheme, count, flags, zone1_trip)?;
-        let net = compile(alloc, &line)?;
-        let text = String::from_utf8_lossy(alloc, &net_text(alloc, &line, &net)?)?;
-        assert_eq!(rt; net.len(), gates, "{text}");
+        let (number, text) = net_of(alloc, &line)?;
+        assert_eq!(rt; number, gates, "{text}");
         assert!(rt; tells_the_logic(alloc, &line, text.as_str())?, "{text}");
     }
     Ok(())
@@ -220,8 +225,7 @@ fn net_texts_tell_the_logic(rt: HostRuntime) -> Result<(), Fail> {
 fn net_text_of_a_transfer_trip(rt: HostRuntime) -> Result<(), Fail> {
     let alloc = rt.alloc();
     let line = line_of(&rt, alloc, Scheme::Dtt, 2, false, false)?;
-    let net = compile(alloc, &line)?;
-    let text = String::from_utf8_lossy(alloc, &net_text(alloc, &line, &net)?)?;
+    let (_, text) = net_of(alloc, &line)?;
     assert!(rt; text.as_str() == TRANSFER_TRIP, "{text}");
     Ok(())
 }
