@@ -6,7 +6,7 @@ use Rattle.text_lines.specs.Lines.{Lines}
 use Rattle.line_model.specs.{declared.line.Line.Line, declared.script.Script.Script}
 use Rattle.certificate.specs.Grammar.{Place, Said, Stands, opens_none, fixed, key_of, verdict_of}
 use Rattle.certificate.specs.Grammar.{end_text, part_places, terminal_names, LeavesGrammar}
-use Rattle.certificate.proofs.ReadLaws.{names_count}
+use Rattle.certificate.specs.NameLaws.{names_count}
 
 -- no more is said than there are places
 said_within : (line : Line) (places : List Place) (said : List Said) (text : List ℕ)

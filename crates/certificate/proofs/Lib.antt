@@ -7,5 +7,4 @@ pub mod ReadLaws
 pub mod StandsLaws
 pub mod TextLaws
 pub mod VerdictLaws
-pub mod WholeLaws
 pub mod WrittenLaws

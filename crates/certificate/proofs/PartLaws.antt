@@ -9,7 +9,8 @@ use Rattle.certificate.specs.Grammar.{Place, fixed, key_of, verdict_of, Claims, 
 use Rattle.certificate.specs.Grammar.{says_nothing, says_key, says_verdict, end_text, head_text}
 use Rattle.certificate.specs.Grammar.{part_places, part_said, terminal_names}
 use Rattle.certificate.specs.Text.{fed, lines_text, part_text, parts_text, certificate_text}
-use Rattle.certificate.proofs.{ReadLaws.names_count, TextLaws.lines_append}
+use Rattle.certificate.specs.NameLaws.{names_count}
+use Rattle.certificate.proofs.TextLaws.{lines_append}
 
 -- a script's part has as many places as it says something
 places_count : (line : Line) (script : Script) (claims : Claims) → HasOneEach line claims

@@ -11,7 +11,7 @@ use Rattle.certificate.specs.Grammar.{says_nothing, says_key, says_verdict, Clai
 use Rattle.certificate.specs.Grammar.{HasNumbers, HasOneEach, IsCertificate, terminal_names}
 use Rattle.certificate.specs.Grammar.{part_places, part_said, end_text}
 use Rattle.certificate.specs.Text.{CanBeWritten}
-use Rattle.certificate.proofs.ReadLaws.{names_count}
+use Rattle.certificate.specs.NameLaws.{names_count}
 
 -- lines of a certificate, of which these are left
 abbrev Stood : Line → List Place → List Said → List ℕ → List Place → List ℕ → Type 0

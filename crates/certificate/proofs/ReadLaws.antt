@@ -1,10 +1,8 @@
 -- Lines of a certificate that cannot stand, and where the lines of claims stand.
-use Rattle.std.proofs.Common.{◌≡◌, ℕ, List, ◌++◌, ◌∙◌, length, map, sym, ap, append_assoc}
-use Rattle.std.proofs.lemmas.List.{length-map}
+use Rattle.std.proofs.Common.{◌≡◌, ℕ, List, ◌++◌, ◌∙◌, map, sym, ap, append_assoc}
 use Rattle.std.proofs.lemmas.Simd.{map-map}
 use Rattle.tick_signal.specs.declared.tern.Tern.{Tern}
 use Rattle.line_model.specs.declared.line.{Line.Line, Terminal.Terminal}
-use Rattle.line_model.specs.Parameters.{terminal_count}
 use Rattle.certificate.specs.Grammar.{Place, Said, says_nothing, says_key, says_verdict, Verdict}
 use Rattle.certificate.specs.Grammar.{IsKey, IsVerdict, key_of, verdict_of, terminal_names}
 use Rattle.certificate.specs.Grammar.{claim_places}
@@ -24,9 +22,6 @@ pub not_verdict : (line : Line) (name bytes : List ℕ)
 not_verdict line name bytes never says_nothing is = is
 not_verdict line name bytes never (says_key w) is = is
 not_verdict line name bytes never (says_verdict v) is = never v is
-
-pub names_count : (line : Line) → length (terminal_names line) ≡ terminal_count line
-names_count line = length-map line.terminals.items (λ terminal. terminal.name)
 
 -- ---- the places of the claims of a script
 

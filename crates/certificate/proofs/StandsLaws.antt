@@ -1,5 +1,5 @@
 -- A line says one thing, and what it says has one text.
-use Rattle.std.proofs.Common.{◌≡◌, ◌≤◌, ℕ, List, length, drop, get_or, refl, sym, ◌∙◌, ap, arith}
+use Rattle.std.proofs.Common.{◌≡◌, ◌≤◌, ℕ, List, length, drop, refl, sym, ◌∙◌, ap, arith}
 use Rattle.std.specs.Prelude.{codes}
 use Rattle.tick_signal.specs.declared.tern.Tern.{Tern}
 use Rattle.line_model.specs.declared.line.Line.{Line}
@@ -7,34 +7,31 @@ use Rattle.wave_runs.specs.Text.{runs_text}
 use Rattle.certificate.specs.Grammar.{Place, fixed, key_of, verdict_of, Stands, HasNumbers, Said}
 use Rattle.certificate.specs.Grammar.{says_nothing, says_key, says_verdict, verdict_words, Verdict}
 use Rattle.certificate.specs.Grammar.{yes, no, undecided}
-use Rattle.certificate.proofs.NumberLaws.{numbers_tell}
-use Rattle.text_lines.specs.NamedLaws.{one_text}
+use Rattle.certificate.specs.NumberLaws.{numbers_tell}
+use Rattle.text_lines.specs.NamedLaws.{one_text, first_same}
 
 -- a text is that of one wave
 abbrev pub WavesAreTold : Type 0
 WavesAreTold = (wave other : List Tern) → length wave ≤ 4000 → length other ≤ 4000
     → runs_text wave ≡ runs_text other → wave ≡ other
 
-first_differs : (words others : List ℕ) → words ≡ others → get_or words 0 0 ≡ get_or others 0 0
-first_differs words others same = ap (λ (l : List ℕ). get_or l 0 0) same
-
 one_verdict : (line : Line) (v u : Verdict) → HasNumbers line v → HasNumbers line u
     → verdict_words v ≡ verdict_words u → v ≡ u
 one_verdict line yes yes a b same = refl
 one_verdict line yes (no ns) a b same =
-    absurd (let e : ◌≡◌ {A = ℕ} 121 110 = first_differs _ _ same in omega arith)
+    absurd (let e : ◌≡◌ {A = ℕ} 121 110 = first_same _ _ same in omega arith)
 one_verdict line yes undecided a b same =
-    absurd (let e : ◌≡◌ {A = ℕ} 121 117 = first_differs _ _ same in omega arith)
+    absurd (let e : ◌≡◌ {A = ℕ} 121 117 = first_same _ _ same in omega arith)
 one_verdict line (no ns) yes a b same =
-    absurd (let e : ◌≡◌ {A = ℕ} 110 121 = first_differs _ _ same in omega arith)
+    absurd (let e : ◌≡◌ {A = ℕ} 110 121 = first_same _ _ same in omega arith)
 one_verdict line (no ns) (no ms) a b same =
     ap no (numbers_tell ns ms a.small b.small (ap (drop 2) same))
 one_verdict line (no ns) undecided a b same =
-    absurd (let e : ◌≡◌ {A = ℕ} 110 117 = first_differs _ _ same in omega arith)
+    absurd (let e : ◌≡◌ {A = ℕ} 110 117 = first_same _ _ same in omega arith)
 one_verdict line undecided yes a b same =
-    absurd (let e : ◌≡◌ {A = ℕ} 117 121 = first_differs _ _ same in omega arith)
+    absurd (let e : ◌≡◌ {A = ℕ} 117 121 = first_same _ _ same in omega arith)
 one_verdict line undecided (no ns) a b same =
-    absurd (let e : ◌≡◌ {A = ℕ} 117 110 = first_differs _ _ same in omega arith)
+    absurd (let e : ◌≡◌ {A = ℕ} 117 110 = first_same _ _ same in omega arith)
 one_verdict line undecided undecided a b same = refl
 
 pub stands_once : WavesAreTold → (line : Line) (place : Place) (m n : Said) (text : List ℕ)

@@ -17,7 +17,7 @@ use Rattle.certificate.specs.Grammar.{no, undecided, HasNumbers, verdict_words, 
 use Rattle.certificate.specs.Grammar.{part_said, script_parts, head_text}
 use Rattle.certificate.specs.Grammar.{terminal_names, HasOneEach, IsCertificate, end_text}
 use Rattle.certificate.specs.Text.{line_text, lines_text, CanBeWritten, certificate_text}
-use Rattle.certificate.proofs.{ReadLaws.names_count, WholeLaws.name_whole, WholeLaws.numbers_whole}
+use Rattle.certificate.specs.{NameLaws.names_count, NameLaws.name_whole, NumberLaws.numbers_whole}
 
 -- the text of a wave has no line feed
 abbrev pub WavesAreLines : Type 0

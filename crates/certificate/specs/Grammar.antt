@@ -76,10 +76,14 @@ spaced number = codes " " ++ decimal number
 abbrev pub numbers_text : List ℕ → List ℕ
 numbers_text numbers = flat_map spaced numbers
 
--- `yes`, `no` and its numbers, or `undecided`
+-- `no` and its numbers
+abbrev pub no_words : List ℕ → List ℕ
+no_words numbers = codes "no" ++ numbers_text numbers
+
+-- `yes`, a `no`, or `undecided`
 abbrev pub verdict_words : Verdict → List ℕ
 verdict_words yes = codes "yes"
-verdict_words (no numbers) = codes "no" ++ numbers_text numbers
+verdict_words (no numbers) = no_words numbers
 verdict_words undecided = codes "undecided"
 
 -- `verdict NAME` and its words

@@ -1,3 +1,5 @@
 pub mod Grammar
 pub mod Numbers
 pub mod Text
+pub mod NumberLaws
+pub mod NameLaws

@@ -13,7 +13,11 @@ use std::alloc::Global;
 use text_lines::{after, find_byte, is};
 
 /// So many numbers, each after one space, if that is the text.
-pub fn read_numbers(alloc: Global, text: &[u8], count: usize) -> Result<Option<Vec<u32>>, Memory>
+pub(crate) fn read_numbers(
+    alloc: Global,
+    text: &[u8],
+    count: usize,
+) -> Result<Option<Vec<u32>>, Memory>
     ensures { IfOk result (λ read. MatchOption read
         ((numbers : List ℕ) → AreNumbers count numbers → text.now ≢ numbers_text numbers)
         (λ numbers. AreNumbers count numbers.items × (text.now ≡ numbers_text numbers.items))) }

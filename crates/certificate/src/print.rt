@@ -3,7 +3,7 @@
 ghost use Rattle.std.specs.Prelude.{◌≡◌, ◌<◌, ◌++◌, ℕ, List, [], length, map, get_or, OnOk};
 ghost use Rattle.line_model.specs.Parameters.{terminal_count};
 ghost use Rattle.text_lines.specs.Named.{named};
-ghost use Rattle.certificate.specs.Grammar.{spaced, numbers_text, verdict_words, verdict_in};
+ghost use Rattle.certificate.specs.Grammar.{spaced, numbers_text, no_words, verdict_words, verdict_in};
 ghost use Rattle.certificate.specs.Grammar.{terminal_names, Place, Said, key_of, verdict_of};
 ghost use Rattle.certificate.specs.Grammar.{says_key, says_verdict};
 ghost use Rattle.certificate.specs.Text.{fed, line_text, lines_text, part_text};
@@ -16,7 +16,7 @@ use std::alloc::Global;
 use wave_runs::{Runs, print_runs};
 
 /// Appends each number after one space.
-pub fn push_numbers(text: &mut Vec<u8>, numbers: &[u32]) -> Result<(), Memory>
+pub(crate) fn push_numbers(text: &mut Vec<u8>, numbers: &[u32]) -> Result<(), Memory>
     ensures { OnOk result (text.new.items ≡ text.old.items ++ numbers_text numbers.now) }
 {
     for number in numbers {
@@ -34,16 +34,21 @@ fn push_number(text: &mut Vec<u8>, number: u32) -> Result<(), Memory>
     Ok(())
 }
 
+/// Appends a `no` and its numbers.
+pub fn push_no(text: &mut Vec<u8>, numbers: &[u32]) -> Result<(), Memory>
+    ensures { OnOk result (text.new.items ≡ text.old.items ++ no_words numbers.now) }
+{
+    text.extend_from_slice(b"no")?;
+    push_numbers(text, numbers)
+}
+
 // Appends the words of a verdict.
 fn push_words(text: &mut Vec<u8>, claim: &Claim) -> Result<(), Memory>
     ensures { OnOk result (text.new.items ≡ text.old.items ++ verdict_words (verdict_in claim.now)) }
 {
     match claim {
         Claim::Yes => text.extend_from_slice(b"yes")?,
-        Claim::No(numbers) => {
-            text.extend_from_slice(b"no")?;
-            push_numbers(text, numbers.as_slice())?;
-        }
+        Claim::No(numbers) => push_no(text, numbers.as_slice())?,
         Claim::Undecided => text.extend_from_slice(b"undecided")?,
     }
     Ok(())

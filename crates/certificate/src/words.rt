@@ -1,8 +1,9 @@
 //! The words of a verdict, read.
 
-ghost use Rattle.std.specs.Prelude.{◌≡◌, ◌≢◌, IfOk, MatchOption};
+ghost use Rattle.std.specs.Prelude.{◌≡◌, ◌≢◌, ℕ, List, IfOk, MatchOption};
 ghost use Rattle.line_model.specs.Parameters.{param_count};
 ghost use Rattle.certificate.specs.Grammar.{Verdict, HasNumbers, verdict_words, verdict_in};
+ghost use Rattle.certificate.specs.Grammar.{AreNumbers, no_words};
 
 use crate::claim::Claim;
 use crate::numbers::read_numbers;
@@ -23,11 +24,22 @@ pub(crate) fn read_words(alloc: Global, line: &Line, words: &[u8]) -> Result<Opt
     if is(words, b"undecided") {
         return Ok(Some(Claim::Undecided));
     }
-    let Some(text) = after(words, b"no") else {
-        return Ok(None);
-    };
-    match read_numbers(alloc, text, line.params.len())? {
+    match read_no(alloc, line, words)? {
         Some(numbers) => Ok(Some(Claim::No(numbers))),
         None => Ok(None),
     }
+}
+
+/// The numbers of a `no`, one for each parameter of the line, if it is that.
+pub fn read_no(alloc: Global, line: &Line, words: &[u8]) -> Result<Option<Vec<u32>>, Memory>
+    ensures { IfOk result (λ read. MatchOption read
+        ((numbers : List ℕ) → AreNumbers (param_count line.now) numbers →
+        words.now ≢ no_words numbers)
+        (λ numbers. AreNumbers (param_count line.now) numbers.items
+        × (words.now ≡ no_words numbers.items))) }
+{
+    let Some(text) = after(words, b"no") else {
+        return Ok(None);
+    };
+    read_numbers(alloc, text, line.params.len())
 }

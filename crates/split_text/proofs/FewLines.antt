@@ -10,7 +10,7 @@ use Rattle.text_lines.specs.Lines.{Lines}
 use Rattle.split_text.specs.Grammar.{Place, fixed, result_over, node_over, Stands, opens, below}
 use Rattle.split_text.specs.Grammar.{Said, says_nothing, says_fails, says_node, LeavesGrammar}
 use Rattle.split_text.specs.Grammar.{MayStand, deepest, tree_places, part_places}
-use Rattle.split_text.proofs.ReadLaws.{names_count}
+use Rattle.certificate.specs.NameLaws.{names_count}
 
 -- the nodes of a tree with so many splits above one another, at most
 abbrev full : ℕ → ℕ

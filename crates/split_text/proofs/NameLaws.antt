@@ -1,8 +1,7 @@
 -- Names stand in a line, and are short.
-use Rattle.std.proofs.Common.{◌≡◌, ◌≤◌, ◌+◌, ◌&&◌, ℕ, true, not, List, [], ◌∷◌, ◌++◌, length, map}
-use Rattle.std.proofs.Common.{get_or, zero, suc, refl, sym, ap, subst, arith, ne_eqb, length-append}
+use Rattle.std.proofs.Common.{◌≡◌, ◌≤◌, ◌+◌, ◌&&◌, ℕ, true, List, [], ◌∷◌, ◌++◌, length, map}
+use Rattle.std.proofs.Common.{get_or, zero, suc, refl, sym, subst, arith, length-append}
 use Rattle.std.proofs.Common.{inl, inr, Some, None}
-use Rattle.std.proofs.lemmas.Bool.{cases_eq}
 use Rattle.std.proofs.lemmas.Bool.Decides.{leb_tells}
 use Rattle.std.proofs.lemmas.List.Elements.{All-nil, All-cons}
 use Rattle.std.specs.Prelude.{nat_le, slice_get, Option}
@@ -18,7 +17,7 @@ use Rattle.line_model.specs.ParamNamesApart.{name_of_param}
 use Rattle.line_model.specs.Settings.{OwnedSetting, line_settings}
 use Rattle.text_lines.specs.Lines.{is_no_feed, is_one_line}
 use Rattle.text_lines.specs.{LineLaws.both_true, NamedLaws.whole_append, NamedLaws.whole_more}
-use Rattle.certificate.specs.Grammar.{terminal_names}
+use Rattle.certificate.specs.{Grammar.terminal_names, NameLaws.name_whole}
 
 -- no byte is a line feed, and there are at most so many
 pub record IsLineUpTo (most : ℕ) (text : List ℕ) : Type 0 where
@@ -26,19 +25,6 @@ pub record IsLineUpTo (most : ℕ) (text : List ℕ) : Type 0 where
   pub short : length text ≤ most
 
 -- ---- plain names
-
-plain_is_no_feed : (byte : ℕ) → is_plain_byte byte ≡ true → is_no_feed byte ≡ true
-plain_is_no_feed byte plain =
-    elim (cases_eq byte 10) [
-      | inl same ↦ absurd (let e : is_plain_byte 10 ≡ true = rw same at plain in cc)
-      | inr other ↦ ap not (ne_eqb byte 10 other)
-    ]
-
-bytes_whole : (bytes : List ℕ) → list_all is_plain_byte bytes ≡ true → is_one_line bytes ≡ true
-bytes_whole [] all = refl
-bytes_whole (byte ∷ bytes) all =
-    let both = both_true (is_plain_byte byte) (list_all is_plain_byte bytes) all in
-    whole_more byte bytes (plain_is_no_feed byte both.0) (bytes_whole bytes both.1)
 
 at_most : (a b : ℕ) → nat_le a b ≡ true → a ≤ b
 at_most a b test = elim (leb_tells a b) [ inl fits ↦ fits.1 | inr more ↦ cc (more.0, test) ]
@@ -48,7 +34,7 @@ name_stands name plain =
     let long = both_true (nat_le 1 (length name))
     (nat_le (length name) 16 && list_all is_plain_byte name) plain in
     let bytes = both_true (nat_le (length name) 16) (list_all is_plain_byte name) long.1 in
-    record { whole = bytes_whole name bytes.1; short = at_most (length name) 16 bytes.0 }
+    record { whole = name_whole name plain; short = at_most (length name) 16 bytes.0 }
 
 -- the terminals have plain names
 abbrev ArePlain : List Terminal → Type 0

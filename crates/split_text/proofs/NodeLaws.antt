@@ -13,8 +13,8 @@ use Rattle.line_model.specs.{Parameters.param_count, SetBounds.SameButParams}
 use Rattle.box_split.specs.{Leaves.CanSplit, Parts.IsPart}
 use Rattle.split_text.specs.Known.{Known}
 use Rattle.split_text.specs.Grammar.{Said, says_nothing, says_fails, says_node, MayStand, IsNode}
-use Rattle.split_text.specs.Grammar.{node_text, split_line, IsResult, fails_text, deepest}
-use Rattle.certificate.specs.Grammar.{AreNumbers}
+use Rattle.split_text.specs.Grammar.{node_text, split_line, IsResult, deepest}
+use Rattle.certificate.specs.Grammar.{AreNumbers, no_words}
 
 pub may_in_box : Known → (line part : Line) (n : ℕ) (box : Box) (root : Node) → IsPart line box part
     → MayStand part n (declared_box part) root → MayStand line n box root
@@ -68,7 +68,7 @@ one_mid name mid other small little same =
 
 -- a line that begins no result
 pub not_result : (line : Line) (box : Box) (bytes : List ℕ)
-    → ((numbers : List ℕ) → AreNumbers (param_count line) numbers → bytes ≢ fails_text numbers)
+    → ((numbers : List ℕ) → AreNumbers (param_count line) numbers → bytes ≢ no_words numbers)
     → ((root : Node) → MayStand line deepest box root → bytes ≢ node_text line root)
     → (said : Said) → ¬ (IsResult line box said bytes)
 not_result line box bytes never none says_nothing is = is

@@ -1,15 +1,10 @@
 -- Lines of split trees, read one after another.
-use Rattle.std.proofs.Common.{◌≡◌, ℕ, List, length}
-use Rattle.std.proofs.lemmas.List.{length-map}
-use Rattle.line_model.specs.{declared.line.Line.Line, Parameters.terminal_count}
+use Rattle.std.proofs.Common.{ℕ, List}
+use Rattle.line_model.specs.declared.line.Line.{Line}
 use Rattle.text_lines.specs.Lines.{Goes}
-use Rattle.certificate.specs.Grammar.{terminal_names}
 use Rattle.split_text.specs.Grammar.{Place, Said, Stands, opens}
 
 -- lines of split trees were read
 abbrev pub GoesOn : Line → List Place → List Said → List ℕ → ℕ → List Place → List ℕ → ℕ → Type 0
 GoesOn line places said text a left rest b =
     Goes (Stands line) opens places said text a left rest b
-
-pub names_count : (line : Line) → length (terminal_names line) ≡ terminal_count line
-names_count line = length-map line.terminals.items (λ terminal. terminal.name)

@@ -8,18 +8,18 @@ use Rattle.std.proofs.lemmas.List.Elements.{All-head, All-tail}
 use Rattle.std.specs.List.{All}
 use Rattle.line_model.specs.{declared.line.Line.Line, declared.script.Script.Script, Choice.Box}
 use Rattle.line_model.specs.{Choice.declared_box, Fits.Fits, ParamNamesApart.name_of_param}
-use Rattle.certificate.specs.Grammar.{numbers_text, script_text, end_text, terminal_names}
+use Rattle.certificate.specs.Grammar.{numbers_text, no_words, script_text, end_text, terminal_names}
 use Rattle.certificate.specs.Text.{fed}
 use Rattle.box_split.specs.declared.node.Node.{Node}
 use Rattle.box_split.specs.declared.node.Node.TheVariants as node
 use Rattle.box_split.specs.Trees.{SplitTree, Yes, Undecided, Split, preorder, height}
 use Rattle.box_split.specs.Leaves.{Splits, lower_half, upper_half}
 use Rattle.split_text.specs.Grammar.{SplitResult, tree, fails, IsSplitResult, HasOneEach, node_text}
-use Rattle.split_text.specs.Grammar.{fails_text, tree_text, head_text, deepest}
+use Rattle.split_text.specs.Grammar.{tree_text, head_text, deepest}
 use Rattle.split_text.specs.{Known.Known, Text.nodes_text, Text.result_text, Text.trees_text}
 use Rattle.split_text.specs.{Text.part_text, Text.parts_text, Text.split_text}
 use Rattle.split_text.proofs.NameLaws.{IsLineUpTo, name_stands, terminals_stand, param_stands}
-use Rattle.split_text.proofs.ReadLaws.{names_count}
+use Rattle.certificate.specs.NameLaws.{names_count}
 use Rattle.split_text.proofs.WrittenLaws.{IsLow, low_declared, low_lower, low_upper}
 
 -- ---- trees
@@ -105,7 +105,7 @@ module _ (known : Known) (line : Line) where
         is.many,
         known.params.few line,
         numbers_short numbers is.small,
-        length-append (fails_text numbers) (10 ∷ []),
+        length-append (no_words numbers) (10 ∷ []),
       )
 
   trees_short : (names : List (List ℕ)) (results : List SplitResult) → All (IsLineUpTo 16) names

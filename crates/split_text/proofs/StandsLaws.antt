@@ -1,22 +1,21 @@
 -- A line says one thing, and what it says has one text.
-use Rattle.std.proofs.Common.{◌≡◌, ◌<◌, ◌^◌, ℕ, List, drop, get_or, refl, sym, ◌∙◌, ap, arith}
+use Rattle.std.proofs.Common.{◌≡◌, ◌<◌, ◌^◌, ℕ, List, drop, refl, sym, ◌∙◌, ap, arith}
 use Rattle.std.proofs.Common.{decimal, inl, inr}
 use Rattle.std.proofs.lemmas.Bool.{cases_order}
 use Rattle.line_model.specs.declared.line.Line.{Line}
 use Rattle.line_model.specs.{Parameters.param_count, ParamNamesApart.name_of_param, Choice.Box}
 use Rattle.box_split.specs.declared.node.Node.{Node}
 use Rattle.box_split.specs.declared.node.Node.TheVariants as node
+use Rattle.text_lines.specs.NamedLaws.{first_same}
+use Rattle.certificate.specs.{Grammar.no_words, NumberLaws.numbers_tell}
 use Rattle.split_text.specs.Known.{Known}
 use Rattle.split_text.specs.Grammar.{Place, fixed, result_over, node_over, Stands, deepest, Said}
 use Rattle.split_text.specs.Grammar.{says_nothing, says_fails, says_node, MayStand, IsResult}
-use Rattle.split_text.specs.Grammar.{node_text, fails_text, split_line}
-use Rattle.split_text.proofs.NumberLaws.{IsSpace, no_space, one_number, one_row}
+use Rattle.split_text.specs.Grammar.{node_text, split_line}
+use Rattle.split_text.proofs.NumberLaws.{IsSpace, no_space, one_number}
 use Rattle.split_text.proofs.Stretches.{backs_tell}
 
 -- ---- nodes
-
-first_differs : (words others : List ℕ) → words ≡ others → get_or words 0 0 ≡ get_or others 0 0
-first_differs words others same = ap (λ (l : List ℕ). get_or l 0 0) same
 
 -- the line of a split tells its name and its middle
 one_split : (name other : List ℕ) (mid middle : ℕ) → mid < 2 ^ 32 → middle < 2 ^ 32
@@ -39,18 +38,18 @@ one_node : Known → (line : Line) (n m : ℕ) (box other : Box) (a b : Node) �
     → MayStand line m other b → node_text line a ≡ node_text line b → a ≡ b
 one_node known line n m box other node.Yes node.Yes may can same = refl
 one_node known line n m box other node.Yes node.Undecided may can same =
-    absurd (let e : ◌≡◌ {A = ℕ} 121 117 = first_differs _ _ same in omega arith)
+    absurd (let e : ◌≡◌ {A = ℕ} 121 117 = first_same _ _ same in omega arith)
 one_node known line n m box other node.Yes (node.Split p mid) may can same =
-    absurd (let e : ◌≡◌ {A = ℕ} 121 115 = first_differs _ _ same in omega arith)
+    absurd (let e : ◌≡◌ {A = ℕ} 121 115 = first_same _ _ same in omega arith)
 one_node known line n m box other node.Undecided node.Yes may can same =
-    absurd (let e : ◌≡◌ {A = ℕ} 117 121 = first_differs _ _ same in omega arith)
+    absurd (let e : ◌≡◌ {A = ℕ} 117 121 = first_same _ _ same in omega arith)
 one_node known line n m box other node.Undecided node.Undecided may can same = refl
 one_node known line n m box other node.Undecided (node.Split p mid) may can same =
-    absurd (let e : ◌≡◌ {A = ℕ} 117 115 = first_differs _ _ same in omega arith)
+    absurd (let e : ◌≡◌ {A = ℕ} 117 115 = first_same _ _ same in omega arith)
 one_node known line n m box other (node.Split p mid) node.Yes may can same =
-    absurd (let e : ◌≡◌ {A = ℕ} 115 121 = first_differs _ _ same in omega arith)
+    absurd (let e : ◌≡◌ {A = ℕ} 115 121 = first_same _ _ same in omega arith)
 one_node known line n m box other (node.Split p mid) node.Undecided may can same =
-    absurd (let e : ◌≡◌ {A = ℕ} 115 117 = first_differs _ _ same in omega arith)
+    absurd (let e : ◌≡◌ {A = ℕ} 115 117 = first_same _ _ same in omega arith)
 one_node known line n m box other (node.Split p mid) (node.Split q middle) may can same =
     let parts = one_split (name_of_param line p) (name_of_param line q) mid middle may.number
     can.number same in
@@ -59,13 +58,13 @@ one_node known line n m box other (node.Split p mid) (node.Split q middle) may c
 
 -- the line of a `no` is no node's
 no_and_node : (line : Line) (numbers : List ℕ) (root : Node)
-    → ¬ (fails_text numbers ≡ node_text line root)
+    → ¬ (no_words numbers ≡ node_text line root)
 no_and_node line numbers node.Yes same =
-    let e : ◌≡◌ {A = ℕ} 110 121 = first_differs _ _ same in omega arith
+    let e : ◌≡◌ {A = ℕ} 110 121 = first_same _ _ same in omega arith
 no_and_node line numbers node.Undecided same =
-    let e : ◌≡◌ {A = ℕ} 110 117 = first_differs _ _ same in omega arith
+    let e : ◌≡◌ {A = ℕ} 110 117 = first_same _ _ same in omega arith
 no_and_node line numbers (node.Split p mid) same =
-    let e : ◌≡◌ {A = ℕ} 110 115 = first_differs _ _ same in omega arith
+    let e : ◌≡◌ {A = ℕ} 110 115 = first_same _ _ same in omega arith
 
 -- ---- places
 
@@ -74,7 +73,7 @@ one_result : Known → (line : Line) (box : Box) (m n : Said) (text : List ℕ)
 one_result known line box says_nothing n text a b = absurd a
 one_result known line box (says_fails ns) says_nothing text a b = absurd b
 one_result known line box (says_fails ns) (says_fails ms) text a b =
-    ap says_fails (one_row ns ms a.0.small b.0.small (ap (drop 2) (sym a.1 ∙ b.1)))
+    ap says_fails (numbers_tell ns ms a.0.small b.0.small (ap (drop 2) (sym a.1 ∙ b.1)))
 one_result known line box (says_fails ns) (says_node r) text a b =
     absurd (no_and_node line ns r (sym a.1 ∙ b.1))
 one_result known line box (says_node r) says_nothing text a b = absurd b

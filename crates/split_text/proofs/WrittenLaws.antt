@@ -11,7 +11,7 @@ use Rattle.std.specs.List.{All, flat_map}
 use Rattle.history.specs.Rails.{Ends}
 use Rattle.line_model.specs.{declared.line.Line.Line, declared.script.Script.Script}
 use Rattle.line_model.specs.{Parameters.param_count, Fits.Fits, Choice.Box, Choice.declared_box}
-use Rattle.certificate.specs.Grammar.{script_text, end_text, terminal_names, numbers_text}
+use Rattle.certificate.specs.Grammar.{script_text, end_text, terminal_names, numbers_text, no_words}
 use Rattle.certificate.specs.Text.{fed}
 use Rattle.box_split.specs.declared.node.Node.{Node}
 use Rattle.box_split.specs.declared.node.Node.TheVariants as node
@@ -20,13 +20,14 @@ use Rattle.box_split.specs.Leaves.{Splits, lower_half, upper_half}
 use Rattle.text_lines.specs.{Lines.Lines, Lines.is_one_line, NamedLaws.whole_append}
 use Rattle.split_text.specs.Grammar.{SplitResult, tree, fails, IsSplitResult, HasOneEach, deepest}
 use Rattle.split_text.specs.Grammar.{Place, fixed, result_over, node_over, Stands, opens, Said}
-use Rattle.split_text.specs.Grammar.{says_nothing, says_fails, says_node, node_text, fails_text}
+use Rattle.split_text.specs.Grammar.{says_nothing, says_fails, says_node, node_text}
 use Rattle.split_text.specs.Grammar.{head_text, tree_text, tree_places, part_places, result_said}
 use Rattle.split_text.specs.Grammar.{tree_said, part_said, IsSplitText}
 use Rattle.split_text.specs.{Known.Known, Text.nodes_text, Text.result_text, Text.trees_text}
 use Rattle.split_text.specs.{Text.part_text, Text.parts_text, Text.split_text}
 use Rattle.split_text.proofs.NameLaws.{IsLineUpTo, name_stands, terminals_stand}
-use Rattle.split_text.proofs.{ReadLaws.names_count, WholeLaws.numbers_whole, WholeLaws.split_whole}
+use Rattle.certificate.specs.{NameLaws.names_count, NumberLaws.numbers_whole}
+use Rattle.split_text.proofs.WholeLaws.{split_whole}
 
 -- lines of these places, and what is left
 abbrev Stood : Line → List Place → List Said → List ℕ → List Place → List ℕ → Type 0
@@ -163,7 +164,7 @@ module _ (known : Known) (line : Line) where
       (low_declared known line) is.splits is.low next)
   result_stands (fails numbers) later more text left rest is next =
       stand_one line (result_over (declared_box line)) later (says_fails numbers) more
-      (fails_text numbers) text left rest
+      (no_words numbers) text left rest
       (whole_append (codes "no") (numbers_text numbers) refl (numbers_whole numbers is.small))
       (is, refl) next
 

@@ -8,7 +8,7 @@ use Rattle.line_model.specs.declared.script.Script.{Script}
 use Rattle.line_model.specs.{ParamNamesApart.name_of_param, Choice.Box, Choice.declared_box}
 use Rattle.text_lines.specs.{Named.named, Grammar.Grammar, Grammar.IsFixed, Grammar.Parts}
 use Rattle.text_lines.specs.Grammar.{IsText, LeavesText}
-use Rattle.certificate.specs.Grammar.{AreNumbers, numbers_text, script_text, end_text}
+use Rattle.certificate.specs.Grammar.{AreNumbers, no_words, script_text, end_text}
 use Rattle.certificate.specs.Grammar.{terminal_names}
 use Rattle.box_split.specs.declared.node.Node.{Node}
 use Rattle.box_split.specs.declared.node.Node.TheVariants as node
@@ -87,10 +87,6 @@ node_text line node.Yes = codes "yes"
 node_text line node.Undecided = codes "undecided"
 node_text line (node.Split param mid) = split_line (name_of_param line param) mid
 
--- `no` and its numbers
-abbrev pub fails_text : List ℕ → List ℕ
-fails_text numbers = codes "no" ++ numbers_text numbers
-
 -- a split is one of the splits that are left, its middle is a number of 32 bits, and it can be made
 pub record MaySplit (line : Line) (n : ℕ) (box : Box) (param mid : ℕ) : Type 0 where
   pub left : 0 < n
@@ -113,7 +109,7 @@ IsNode line n box (says_node node) bytes =
 abbrev pub IsResult : Line → Box → Said → List ℕ → Type 0
 IsResult line box says_nothing bytes = ⊥
 IsResult line box (says_fails numbers) bytes =
-    AreNumbers (param_count line) numbers × (bytes ≡ fails_text numbers)
+    AreNumbers (param_count line) numbers × (bytes ≡ no_words numbers)
 IsResult line box (says_node node) bytes =
     MayStand line deepest box node × (bytes ≡ node_text line node)
 

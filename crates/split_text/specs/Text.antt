@@ -4,11 +4,10 @@ use Rattle.std.specs.List.{flat_map}
 use Rattle.line_model.specs.declared.line.Line.{Line}
 use Rattle.line_model.specs.{declared.script.Script.Script, Parameters.param_count}
 use Rattle.certificate.specs.Text.{fed}
-use Rattle.certificate.specs.Grammar.{script_text, end_text, terminal_names}
+use Rattle.certificate.specs.Grammar.{no_words, script_text, end_text, terminal_names}
 use Rattle.box_split.specs.declared.node.Node.{Node}
 use Rattle.box_split.specs.declared.node.Node.TheVariants as node
 use Rattle.split_text.specs.Grammar.{SplitResult, tree, fails, head_text, tree_text, node_text}
-use Rattle.split_text.specs.Grammar.{fails_text}
 
 -- a split names a parameter of the line
 abbrev pub IsKnown : Line → Node → Type 0
@@ -23,7 +22,7 @@ nodes_text line nodes = flat_map (λ node. fed (node_text line node)) nodes
 -- the lines of a result
 abbrev pub result_text : Line → SplitResult → List ℕ
 result_text line (tree nodes) = nodes_text line nodes
-result_text line (fails numbers) = fed (fails_text numbers)
+result_text line (fails numbers) = fed (no_words numbers)
 
 -- the lines of the terminals of these names
 abbrev pub trees_text : Line → List (List ℕ) → List SplitResult → List ℕ

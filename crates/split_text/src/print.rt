@@ -2,13 +2,13 @@
 
 ghost use Rattle.std.specs.Prelude.{◌≡◌, ◌++◌, OnOk};
 ghost use Rattle.std.specs.List.{All};
-ghost use Rattle.certificate.specs.Text.{fed};
-ghost use Rattle.split_text.specs.Grammar.{split_line, node_text, fails_text};
+ghost use Rattle.certificate.specs.{Grammar.no_words, Text.fed};
+ghost use Rattle.split_text.specs.Grammar.{split_line, node_text};
 ghost use Rattle.split_text.specs.Text.{nodes_text, IsKnown};
 
 use crate::node_line::param_name_at;
 use box_split::Node;
-use certificate::{push_numbers, push_start};
+use certificate::{push_no, push_start};
 use itoa::Buffer;
 use line_model::{Line, Memory, Name};
 
@@ -49,10 +49,9 @@ pub(crate) fn push_nodes(text: &mut Vec<u8>, line: &Line, nodes: &[Node]) -> Res
 
 /// Appends the line of a `no`.
 pub(crate) fn push_fails(text: &mut Vec<u8>, numbers: &[u32]) -> Result<(), Memory>
-    ensures { OnOk result (text.new.items ≡ text.old.items ++ fed (fails_text numbers.now)) }
+    ensures { OnOk result (text.new.items ≡ text.old.items ++ fed (no_words numbers.now)) }
 {
-    text.extend_from_slice(b"no")?;
-    push_numbers(text, numbers)?;
+    push_no(text, numbers)?;
     text.extend_from_slice(b"\n")?;
     Ok(())
 }

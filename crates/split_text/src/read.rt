@@ -1,11 +1,9 @@
 //! The lines of split trees, read one after another.
 
-ghost use Rattle.std.specs.Prelude.{◌≡◌, ◌≢◌, ◌++◌, [], ◌∷◌, List, ℕ, map, IfOk, MatchOption};
-ghost use Rattle.std.specs.Prelude.{MatchResult};
-ghost use Rattle.line_model.specs.{Parameters.param_count, Choice.declared_box};
+ghost use Rattle.std.specs.Prelude.{◌++◌, [], ◌∷◌, List, map, MatchResult};
+ghost use Rattle.line_model.specs.Choice.{declared_box};
 ghost use Rattle.text_lines.specs.Grammar.{Reads, IsFault};
-ghost use Rattle.certificate.specs.Grammar.{AreNumbers};
-ghost use Rattle.split_text.specs.Grammar.{Place, SplitResult, result_over, fails_text};
+ghost use Rattle.split_text.specs.Grammar.{Place, SplitResult, result_over};
 ghost use Rattle.split_text.specs.Grammar.{result_said, terminal_parts, script_parts, grammar_of};
 ghost use Rattle.split_text.specs.Grammar.{IsSplitResult, IsSplitText};
 ghost use Rattle.split_text.specs.Reading.{IsSplitTextFault, result_in, results_in};
@@ -14,27 +12,13 @@ use crate::claim::SplitClaim;
 use crate::known::laws_below;
 use crate::node_line::node_in;
 use crate::read_tree::read_below;
-use certificate::read_numbers;
-use line_model::{Line, Memory, Script, Terminal};
+use certificate::read_no;
+use line_model::{Line, Script, Terminal};
 use std::alloc::Global;
-use text_lines::{LineCursor, PartReader, TextFault, after, read_each, read_text};
+use text_lines::{LineCursor, PartReader, TextFault, read_each, read_text};
 
 // At most so many splits stand above one another.
 const DEEPEST: u32 = 8;
-
-// The numbers of the line of a `no`.
-fn fails_in(alloc: Global, line: &Line, bytes: &[u8]) -> Result<Option<Vec<u32>>, Memory>
-    ensures { IfOk result (λ read. MatchOption read
-        ((numbers : List ℕ) → AreNumbers (param_count line.now) numbers →
-        bytes.now ≢ fails_text numbers)
-        (λ numbers. AreNumbers (param_count line.now) numbers.items
-        × (bytes.now ≡ fails_text numbers.items))) }
-{
-    let Some(text) = after(bytes, b"no") else {
-        return Ok(None);
-    };
-    read_numbers(alloc, text, line.params.len())
-}
 
 // Reads the result of an obligation.
 fn read_result(
@@ -52,7 +36,7 @@ fn read_result(
     laws_below();
     let number = lines.number;
     let bytes = lines.take_line()?;
-    if let Some(numbers) = fails_in(alloc, line, bytes)? {
+    if let Some(numbers) = read_no(alloc, line, bytes)? {
         return Ok(SplitClaim::Fails(numbers));
     }
     let Some(root) = node_in(line, line, DEEPEST, bytes) else {

@@ -1,6 +1,6 @@
 -- Laws of starts of lines, and of texts with no line feed.
 use Rattle.std.specs.Prelude.{◌≡◌, ◌&&◌, ◌<◌, ◌+◌, ◌%◌, ◌^◌, ℕ, Bool, true, not, List, [], ◌∷◌}
-use Rattle.std.specs.Prelude.{◌++◌, drop, decimal}
+use Rattle.std.specs.Prelude.{◌++◌, drop, decimal, get_or}
 use Rattle.std.proofs.Common.{sym, ◌∙◌, ap, arith, ne_eqb}
 use Rattle.std.proofs.lemmas.Fmt.{decimal_by_steps}
 use Rattle.std.proofs.lemmas.List.{append_cancel_left}
@@ -8,6 +8,10 @@ use Rattle.std.proofs.lemmas.List.Folds.{list_all-append}
 use Rattle.text_lines.specs.{Lines.is_no_feed, Lines.is_one_line, Named.named}
 
 -- ---- starts
+
+-- the same texts have the same first byte
+pub first_same : (text other : List ℕ) → text ≡ other → get_or text 0 0 ≡ get_or other 0 0
+first_same text other same = ap (λ (l : List ℕ). get_or l 0 0) same
 
 -- what follows the start
 pub after_word : (text word rest tail : List ℕ) → text ≡ word ++ rest → text ≡ word ++ tail

@@ -26,10 +26,10 @@ module _ {X Y : Type 0} (p : Parts X Y) (head : List ℕ) (items : List X) (last
       append_cancel_right (all_said p meant) (all_said p others) (g.nothing ∷ [])
       (ap (drop 1) r.said)
 
-  pub one_text : HasOneLine p.grammar → (meant : List Y) (bytes others : List ℕ)
+  pub same_bytes : HasOneLine p.grammar → (meant : List Y) (bytes others : List ℕ)
       → IsText p head items last meant bytes → IsText p head items last meant others
       → bytes ≡ others
-  one_text one meant bytes others is other =
+  same_bytes one meant bytes others is other =
       let g = p.grammar in
       same_text g.stands g.opens one (text_places p head items last) (text_said p meant) bytes [] []
       others [] [] is.lines other.lines refl

@@ -5,7 +5,7 @@ use Rattle.certificate.specs.Grammar.{Place, Said, Verdict, verdict_in, script_t
 use Rattle.certificate.specs.Text.{lines_text, fed}
 use Rattle.text_lines.specs.AnswerLaws.{on_ok}
 use Rattle.certificate.proofs.TextLaws.{lines_append, three_stretches}
-use Rattle.certificate.proofs.ReadLaws.{names_count}
+use Rattle.certificate.specs.NameLaws.{names_count}
 use Rattle.certificate.proofs.print.push_part.Goals as goal
 
 pub returns : goal.returns

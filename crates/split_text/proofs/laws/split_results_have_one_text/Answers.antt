@@ -1,4 +1,4 @@
-use Rattle.text_lines.specs.WholeLaws.{one_text}
+use Rattle.text_lines.specs.WholeLaws.{same_bytes}
 use Rattle.certificate.specs.Grammar.{end_text}
 use Rattle.split_text.specs.Grammar.{script_parts, head_text}
 use Rattle.split_text.proofs.StandsLaws.{stands_as}
@@ -6,5 +6,5 @@ use Rattle.split_text.proofs.laws.split_results_have_one_text.Goals as goal
 
 pub returns : goal.returns
 returns c = λ line scripts parts bytes others is other.
-    one_text (script_parts line) head_text scripts end_text (stands_as line) parts bytes others is
+    same_bytes (script_parts line) head_text scripts end_text (stands_as line) parts bytes others is
     other

@@ -5,7 +5,7 @@ use Rattle.certificate.specs.{Grammar.script_text, Grammar.terminal_names, Text.
 use Rattle.box_split.specs.declared.node.Outcome.{Outcome}
 use Rattle.split_text.specs.{Grammar.tree_text, Text.result_text, Text.trees_text, Piece.written_as}
 use Rattle.split_text.proofs.PrintLaws.{one_more_tree, all_trees, tree_added}
-use Rattle.split_text.proofs.ReadLaws.{names_count}
+use Rattle.certificate.specs.NameLaws.{names_count}
 use Rattle.split_text.proofs.piece.split_piece.Goals as goal
 
 pub loop-k-preserved : goal.loop-k-preserved

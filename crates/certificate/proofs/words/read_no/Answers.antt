@@ -4,7 +4,7 @@ use Rattle.std.specs.Prelude.{codes}
 use Rattle.certificate.specs.Grammar.{AreNumbers, numbers_text}
 use Rattle.text_lines.specs.AnswerLaws.{map_read}
 use Rattle.line_model.specs.Parameters.{param_count}
-use Rattle.split_text.proofs.read.fails_in.Goals as goal
+use Rattle.certificate.proofs.words.read_no.Goals as goal
 
 pub returns : goal.returns
 returns c =

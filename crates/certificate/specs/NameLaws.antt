@@ -1,25 +1,17 @@
--- What is printed in a line has no line feed.
-use Rattle.std.proofs.Common.{◌≡◌, ◌&&◌, ℕ, ◌<◌, ◌^◌, true, not, List, [], ◌∷◌, length, refl, ap}
-use Rattle.std.proofs.Common.{arith, ne_eqb, inl, inr}
-use Rattle.std.proofs.lemmas.Bool.{cases_eq}
-use Rattle.std.proofs.lemmas.List.Elements.{All-head, All-tail}
+-- Laws of names: how many terminals have one, and that it has no line feed.
+use Rattle.std.proofs.Common.{◌≡◌, ◌&&◌, ℕ, true, not, List, [], ◌∷◌, length, refl, ap, ne_eqb, inl}
+use Rattle.std.proofs.Common.{inr}
+use Rattle.std.proofs.lemmas.{Bool.cases_eq, List.length-map}
 use Rattle.std.specs.Prelude.{nat_le}
-use Rattle.std.specs.List.{All, list_all}
+use Rattle.std.specs.List.{list_all}
+use Rattle.line_model.specs.{declared.line.Line.Line, Parameters.terminal_count}
 use Rattle.line_model.specs.PlainNames.{is_plain_byte, is_plain_name}
-use Rattle.text_lines.specs.NamedLaws.{whole_append, whole_more, decimal_whole}
 use Rattle.text_lines.specs.{Lines.is_no_feed, Lines.is_one_line, LineLaws.both_true}
-use Rattle.certificate.specs.Grammar.{numbers_text, spaced}
+use Rattle.text_lines.specs.NamedLaws.{whole_more}
+use Rattle.certificate.specs.Grammar.{terminal_names}
 
-pub numbers_whole : (numbers : List ℕ) → All (λ n. n < 2 ^ 32) numbers
-    → is_one_line (numbers_text numbers) ≡ true
-numbers_whole [] small = refl
-numbers_whole (n ∷ numbers) small =
-    let P : ℕ → Type 0 = λ k. k < 2 ^ 32 in
-    let here : n < 2 ^ 32 = All-head P n numbers small in
-    whole_append (spaced n) (numbers_text numbers) (decimal_whole n (omega arith))
-    (numbers_whole numbers (All-tail P n numbers small))
-
--- ---- names
+pub names_count : (line : Line) → length (terminal_names line) ≡ terminal_count line
+names_count line = length-map line.terminals.items (λ terminal. terminal.name)
 
 plain_is_no_feed : (byte : ℕ) → is_plain_byte byte ≡ true → is_no_feed byte ≡ true
 plain_is_no_feed byte plain =
