@@ -2,7 +2,6 @@
 
 ghost use Rattle.std.specs.Prelude.{◌≡◌, IfOk, IsTrue, map};
 ghost use Rattle.std.specs.List.{All};
-ghost use Rattle.csv.specs.Records.{fields_of};
 ghost use Rattle.line_model.specs.{Fits.Fits, PlainNames.is_plain_name};
 ghost use Rattle.csv_records.specs.SoFar.{SoFar, all_of, so_far_of};
 ghost use Rattle.fault_script.specs.Values.{ScriptValues, values_of, AreOfOneFile};
@@ -48,6 +47,7 @@ impl<'a> RecordReader for ScriptReader<'a> {
         Reading::new(alloc)
     }
 
+    #[tactic(auto, unfolding(crate::specs::Scripts::after_record))]
     fn after(
         &self,
         alloc: Global,
@@ -55,7 +55,17 @@ impl<'a> RecordReader for ScriptReader<'a> {
         n: u32,
         row: &ByteRecord,
     ) -> Result<Reading<Script>, ScriptFault> {
-        after(alloc, self.line, reading, n, row)
+        let Some(fields) = fields_in(row) else {
+            return Err(ScriptFault::Fields(n));
+        };
+        if !is_named_well(&reading, fields) {
+            return Err(ScriptFault::BadName(n));
+        }
+        match item_named(fields.item) {
+            None => Err(ScriptFault::Item(n)),
+            Some(Item::Head(kind)) => with_head(alloc, self.line, reading, n, fields, kind),
+            Some(item) => with_row(self.line, reading, n, fields, item),
+        }
     }
 
     fn no_header(&self) -> ScriptFault {
@@ -71,31 +81,7 @@ impl<'a> RecordReader for ScriptReader<'a> {
     }
 }
 
-// What record n makes of the scripts before it.
-#[tactic(auto, unfolding(crate::specs::Scripts::after_record))]
-fn after(
-    alloc: Global,
-    line: &Line,
-    reading: Reading<Script>,
-    n: u32,
-    row: &ByteRecord,
-) -> Result<Reading<Script>, ScriptFault>
-    ensures { Gives (so_far_of values_of) result
-        (after_record line.now (so_far_of values_of reading) n (fields_of row.now)) }
-{
-    let Some(fields) = fields_in(row) else {
-        return Err(ScriptFault::Fields(n));
-    };
-    if !is_named_well(&reading, fields) {
-        return Err(ScriptFault::BadName(n));
-    }
-    match item_named(fields.item) {
-        None => Err(ScriptFault::Item(n)),
-        Some(Item::Head(kind)) => with_head(alloc, line, reading, n, fields, kind),
-        Some(item) => with_row(line, reading, n, fields, item),
-    }
-}
-
+// A head opens a script that has no span yet.
 #[tactic(auto, unfolding(crate::specs::Scripts::after_head))]
 fn with_head(
     alloc: Global,
@@ -130,6 +116,7 @@ fn with_head(
     })
 }
 
+// A row adds its span to the latest script.
 #[tactic(auto, unfolding(crate::specs::Scripts::after_row))]
 fn with_row(
     line: &Line,

@@ -2,7 +2,6 @@
 
 ghost use Rattle.std.specs.Prelude.{◌≤◌, ◌+◌, IfOk, IfSome, IsFalse, length, map};
 ghost use Rattle.std.specs.List.{All};
-ghost use Rattle.csv.specs.Records.{fields_of};
 ghost use Rattle.timing_box.specs.SoFar.{values_of, open_of, so_far_of, TimingsSoFar};
 ghost use Rattle.timing_box.specs.SoFar.{with_row as with_row_of, IsFull, IsNamedIn};
 ghost use Rattle.timing_box.specs.Timings.{timings_of, timing_file, after_record, after_row};
@@ -64,6 +63,7 @@ impl<'a> RecordReader for TimingReader<'a> {
         nothing_read(alloc)
     }
 
+    #[tactic(auto, unfolding(crate::specs::Timings::after_record))]
     fn after(
         &self,
         alloc: Global,
@@ -71,7 +71,18 @@ impl<'a> RecordReader for TimingReader<'a> {
         n: u32,
         row: &ByteRecord,
     ) -> Result<Reading, TimingFault> {
-        after(alloc, self.line, reading, n, row)
+        let Some(fields) = fields_in(row) else {
+            return Err(TimingFault::Fields(n));
+        };
+        if !is_plain(fields.name) {
+            return Err(TimingFault::BadName(n));
+        }
+        let Opened { done, timing } = opened_by(alloc, self.line, reading, n, fields.name)?;
+        let timing = with_row(self.line, timing, n, fields)?;
+        Ok(Reading {
+            done,
+            latest: Some(timing),
+        })
     }
 
     fn no_header(&self) -> TimingFault {
@@ -87,33 +98,7 @@ impl<'a> RecordReader for TimingReader<'a> {
     }
 }
 
-// What record n makes of the timings before it.
-#[tactic(auto, unfolding(crate::specs::Timings::after_record))]
-fn after(
-    alloc: Global,
-    line: &Line,
-    reading: Reading,
-    n: u32,
-    row: &ByteRecord,
-) -> Result<Reading, TimingFault>
-    requires { IfSome reading.latest (λ t. IsFull line.now (open_of t)) }
-    ensures { Gives so_far_of result
-        (after_record line.now (so_far_of reading) n (fields_of row.now)) }
-{
-    let Some(fields) = fields_in(row) else {
-        return Err(TimingFault::Fields(n));
-    };
-    if !is_plain(fields.name) {
-        return Err(TimingFault::BadName(n));
-    }
-    let Opened { done, timing } = opened_by(alloc, line, reading, n, fields.name)?;
-    let timing = with_row(line, timing, n, fields)?;
-    Ok(Reading {
-        done,
-        latest: Some(timing),
-    })
-}
-
+// The open timing with a row, where the row passes its checks.
 #[tactic(auto, unfolding(crate::specs::Timings::after_row))]
 fn with_row(line: &Line, timing: Open, n: u32, fields: Fields) -> Result<Open, TimingFault>
     requires { IsFull line.now (open_of timing) }
