@@ -245,9 +245,20 @@ fn assert_ended(rt: &impl Abort, what: &str, got: &Ended, status: Status, out: &
     assert!(rt; ended == status, "{what}: {ended:?}");
 }
 
-// A call that a file is refused in: status 5, nothing on out, and the line on err.
-fn assert_refused(rt: &impl Abort, what: &str, got: &Ended, told: &str) {
-    assert_ended(rt, what, got, Status::BadInput, "", told);
+// A call that refuses one of its files with this fault: status 5, nothing on out, a line on err.
+fn run_refused(
+    rt: &impl Abort,
+    alloc: Global,
+    what: &str,
+    words: &[&str],
+    files: Files<'_>,
+    file: &str,
+    fault: &str,
+) -> Result<(), Fail> {
+    let told = format!(in alloc; "refused {file} {fault}\n")?;
+    let got = call(alloc, words, files)?;
+    assert_ended(rt, what, &got, Status::BadInput, "", told.as_str());
+    Ok(())
 }
 
 // The text, filled up with the byte to a file of so many bytes.

@@ -34,10 +34,8 @@ fn assert_record_refused(
     records: &str,
     fault: &str,
 ) -> Result<(), Fail> {
-    let told = format!(in alloc; "refused record {fault}\n")?;
-    let got = call(alloc, MATCH, texts(POTT, FAULT_AND_EXTERNAL, records))?;
-    assert_refused(rt, what, &got, told.as_str());
-    Ok(())
+    let files = texts(POTT, FAULT_AND_EXTERNAL, records);
+    run_refused(rt, alloc, what, MATCH, files, "record", fault)
 }
 
 // What `play` prints of one timing and one script is a record, once its header and the name of the

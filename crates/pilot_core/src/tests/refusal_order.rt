@@ -16,41 +16,87 @@ enum Flaw {
     Refused,
 }
 
-// The flaws of the line, the scripts and the timings, and the fault that is told.
-const REFUSED: &[([Flaw; 3], &str)] = &[
-    ([Refused, Refused, Refused], "line NotToml"),
-    ([Refused, Sound, Refused], "line NotToml"),
-    ([Sound, Refused, Refused], "scripts Header"),
-    ([Sound, Sound, Refused], "timings Header"),
-    ([Refused, Refused, Long], "timings TooLong"),
-    ([Refused, Long, Refused], "scripts TooLong"),
-    ([Refused, Long, Long], "scripts TooLong"),
-    ([Long, Long, Long], "line TooLong"),
-    ([Long, Missing, Missing], "line TooLong"),
-    ([Sound, Long, Missing], "scripts TooLong"),
-];
-
-// The flaws of the line, the scripts and the timings, and the file that cannot be read.
-const NOT_READ: &[([Flaw; 3], &str)] = &[
-    ([Missing, Long, Refused], "line"),
-    ([Refused, Missing, Missing], "scripts"),
-    ([Sound, Missing, Long], "scripts"),
-    ([Refused, Refused, Missing], "timings"),
+// The flaws of the line, the scripts and the timings, how the call ends, and what it tells.
+const FLAWED: &[([Flaw; 3], Status, &str)] = &[
+    (
+        [Refused, Refused, Refused],
+        Status::BadInput,
+        "refused line NotToml\n",
+    ),
+    (
+        [Refused, Sound, Refused],
+        Status::BadInput,
+        "refused line NotToml\n",
+    ),
+    (
+        [Sound, Refused, Refused],
+        Status::BadInput,
+        "refused scripts Header\n",
+    ),
+    (
+        [Sound, Sound, Refused],
+        Status::BadInput,
+        "refused timings Header\n",
+    ),
+    (
+        [Refused, Refused, Long],
+        Status::BadInput,
+        "refused timings TooLong\n",
+    ),
+    (
+        [Refused, Long, Refused],
+        Status::BadInput,
+        "refused scripts TooLong\n",
+    ),
+    (
+        [Refused, Long, Long],
+        Status::BadInput,
+        "refused scripts TooLong\n",
+    ),
+    (
+        [Long, Long, Long],
+        Status::BadInput,
+        "refused line TooLong\n",
+    ),
+    (
+        [Long, Missing, Missing],
+        Status::BadInput,
+        "refused line TooLong\n",
+    ),
+    (
+        [Sound, Long, Missing],
+        Status::BadInput,
+        "refused scripts TooLong\n",
+    ),
+    (
+        [Missing, Long, Refused],
+        Status::StoreFault,
+        "store fault line\n",
+    ),
+    (
+        [Refused, Missing, Missing],
+        Status::StoreFault,
+        "store fault scripts\n",
+    ),
+    (
+        [Sound, Missing, Long],
+        Status::StoreFault,
+        "store fault scripts\n",
+    ),
+    (
+        [Refused, Refused, Missing],
+        Status::StoreFault,
+        "store fault timings\n",
+    ),
 ];
 
 #[test]
 fn the_first_fault_is_told(rt: HostRuntime) -> Result<(), Fail> {
     let alloc = rt.alloc();
     let long = filled_up(alloc, "", b'\n', 4_194_305)?;
-    for (flaws, fault) in REFUSED {
-        let told = format!(in alloc; "refused {fault}\n")?;
+    for (flaws, status, told) in FLAWED {
         let got = play_flawed(alloc, flaws, &long)?;
-        assert_refused(&rt, fault, &got, told.as_str());
-    }
-    for (flaws, file) in NOT_READ {
-        let told = format!(in alloc; "store fault {file}\n")?;
-        let got = play_flawed(alloc, flaws, &long)?;
-        assert_ended(&rt, file, &got, Status::StoreFault, "", told.as_str());
+        assert_ended(&rt, told, &got, *status, "", told);
     }
     Ok(())
 }

@@ -16,10 +16,8 @@ fn assert_line_refused(
         line,
         ..texts("", FAULT, LEAST)
     };
-    let told = format!(in alloc; "refused line {fault}\n")?;
     for words in COMMANDS {
-        let got = call(alloc, words, files)?;
-        assert_refused(rt, fault, &got, told.as_str());
+        run_refused(rt, alloc, fault, words, files, "line", fault)?;
     }
     Ok(())
 }

@@ -3,28 +3,12 @@
 use super::worked_files::*;
 use super::*;
 
-// A play of the first line and its fault at the least numbers that is refused.
-const REFUSED: Row<'static> = Row {
-    words: PLAY,
-    line: POTT,
-    scripts: FAULT,
-    third: LEAST,
-    status: Status::BadInput,
-    ..ROW
-};
-
 #[test]
 fn refused_scripts(rt: HostRuntime) -> Result<(), Fail> {
     let alloc = rt.alloc();
     for (what, old, new, fault) in CHANGED_SCRIPTS {
-        let told = format!(in alloc; "refused scripts {fault}\n")?;
-        let row = Row {
-            what: *what,
-            edits: &[(*old, *new)],
-            err: told.as_str(),
-            ..REFUSED
-        };
-        run_row(&rt, alloc, &row)?;
+        let scripts = FAULT.replace(alloc, *old, new)?;
+        assert_scripts_refused(&rt, alloc, what, scripts.as_bytes(), fault)?;
     }
     Ok(())
 }
@@ -59,33 +43,28 @@ fn assert_scripts_refused(
         scripts,
         ..texts(POTT, "", LEAST)
     };
-    let told = format!(in alloc; "refused scripts {fault}\n")?;
-    let got = call(alloc, PLAY, files)?;
-    assert_refused(rt, what, &got, told.as_str());
-    Ok(())
+    run_refused(rt, alloc, what, PLAY, files, "scripts", fault)
 }
 
 #[test]
 fn refused_timings(rt: HostRuntime) -> Result<(), Fail> {
     let alloc = rt.alloc();
     for (what, timings, fault) in REFUSED_TIMINGS {
-        let told = format!(in alloc; "refused timings {fault}\n")?;
-        let row = Row {
-            what: *what,
-            third: *timings,
-            err: told.as_str(),
-            ..REFUSED
-        };
-        run_row(&rt, alloc, &row)?;
+        assert_timings_refused(&rt, alloc, what, timings, fault)?;
     }
-    let reopened = Row {
-        what: "T1 opened again",
-        third: LEAST_AND_GREATEST,
-        edits: &[("T2,B>A.delay,5\n", "T2,B>A.delay,5\nT1,,\n")],
-        err: "refused timings Order 9\n",
-        ..REFUSED
-    };
-    run_row(&rt, alloc, &reopened)
+    let reopened = format!(in alloc; "{LEAST_AND_GREATEST}T1,,\n")?;
+    assert_timings_refused(&rt, alloc, "T1 opened again", reopened.as_str(), "Order 9")
+}
+
+fn assert_timings_refused(
+    rt: &impl Abort,
+    alloc: Global,
+    what: &str,
+    timings: &str,
+    fault: &str,
+) -> Result<(), Fail> {
+    let files = texts(POTT, FAULT, timings);
+    run_refused(rt, alloc, what, PLAY, files, "timings", fault)
 }
 
 // What is changed, the old text of the scripts, the new one, and the fault.

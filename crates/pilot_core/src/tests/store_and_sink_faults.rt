@@ -152,7 +152,7 @@ fn err_fails(rt: HostRuntime) -> Result<(), Fail> {
     for (what, faults, told) in rows {
         let files = texts(line.as_str(), FAULT, LEAST);
         let got = call_with(alloc, PLAY, files, faults)?;
-        assert_refused(&rt, what, &got, told);
+        assert_ended(&rt, what, &got, Status::BadInput, "", told);
     }
     Ok(())
 }

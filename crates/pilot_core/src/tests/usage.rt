@@ -40,17 +40,17 @@ fn names_that_are_not_held(rt: HostRuntime) -> Result<(), Fail> {
 fn names_given_twice(rt: HostRuntime) -> Result<(), Fail> {
     let alloc = rt.alloc();
     let files = texts(POTT, FAULT, LEAST);
-    let got = call(alloc, &["play", "l", "l", "t"], files)?;
-    let told = "refused scripts Header\n";
-    assert_refused(&rt, "a line file as scripts", &got, told);
-    let got = call(alloc, &["play", "l", "s", "s"], files)?;
-    let told = "refused timings Header\n";
-    assert_refused(&rt, "a scripts file as timings", &got, told);
+    let line_twice = &["play", "l", "l", "t"];
+    let what = "a line file as scripts";
+    run_refused(&rt, alloc, what, line_twice, files, "scripts", "Header")?;
+    let scripts_twice = &["play", "l", "s", "s"];
+    let what = "a scripts file as timings";
+    run_refused(&rt, alloc, what, scripts_twice, files, "timings", "Header")?;
     let second_read = Faults {
         pull: 3,
         ..NO_FAULTS
     };
-    let got = call_with(alloc, &["play", "l", "l", "t"], files, second_read)?;
+    let got = call_with(alloc, line_twice, files, second_read)?;
     let told = "store fault scripts\n";
     let what = "the second read of the line file";
     assert_ended(&rt, what, &got, Status::StoreFault, "", told);
