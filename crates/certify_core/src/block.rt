@@ -14,7 +14,8 @@ use simulator::{Tracks, run_tracks};
 use std::alloc::Global;
 use tick_signal::{Lanes64, Tick, Ticks64};
 use timing_box::{
-    Step, candidate_count, candidate_value, candidates_are_inside, timings_inside_are_choices_inside,
+    Step, candidate_count, candidate_value, candidates_are_inside,
+    timings_inside_are_choices_inside,
 };
 
 /// The number of the candidate in a lane of the block that begins with candidate `first`. The lanes
