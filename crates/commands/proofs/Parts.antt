@@ -1,24 +1,26 @@
 -- The parts of a certificate: each script has one, and what is written of them.
-use Rattle.std.proofs.Common.{◌≡◌, ℕ, ◌+◌, ◌<◌, ◌≤◌, Bool, true, false, ◌||◌, List, [], ◌∷◌, ◌++◌}
+use Rattle.std.proofs.Common.{◌≡◌, ℕ, ◌+◌, ◌<◌, ◌≤◌, Bool, false, ◌||◌, List, [], ◌∷◌, ◌++◌}
 use Rattle.std.proofs.Common.{length, get_or, take, drop, map, Result, Ok, Err, refl, sym, ap, ◌∙◌}
 use Rattle.std.proofs.Common.{subst}
 use Rattle.std.proofs.Math.Bool.{or-false}
 use Rattle.std.proofs.lemmas.List.{append-nil, drop_more, map-append, take-append-drop, take_all}
 use Rattle.std.proofs.lemmas.List.{take_more}
-use Rattle.std.proofs.lemmas.List.Elements.{All-drop, All-head, All-tail}
+use Rattle.std.proofs.lemmas.List.Elements.{All-drop}
 use Rattle.std.proofs.lemmas.List.Folds.{concat-append, list_any-append}
-use Rattle.std.specs.List.{All, AllZip, concat, list_any}
+use Rattle.std.specs.List.{All, AllZip, concat}
 use Rattle.tick_signal.specs.declared.tern.Tern.{Tern}
 use Rattle.line_model.specs.Choice.{Box, LeastFromOne, declared_box}
 use Rattle.line_model.specs.Histories.{PairHistory, IsPairHistory}
 use Rattle.line_model.specs.{declared.line.Line.Line, declared.script.Script.Script, Fits.Fits}
+use Rattle.certificate.specs.Grammar.{Verdict as Written}
 use Rattle.certify_core.specs.declared.verdict.Verdict.{Verdict}
 use Rattle.certify_core.specs.{declared.verdict.ScriptVerdict.ScriptVerdict, Piece.part_text}
 use Rattle.certify_core.specs.{Piece.piece_text, Verdicts.AreKeys, Verdicts.AreVerdicts}
 use Rattle.cert_checker.specs.ZipLaws.{zip_append, zip_exists, zip_once}
 use Rattle.engine.specs.Certified.{IsCertified}
 use Rattle.commands.specs.Certify.{certify_answer, IsCertificate, IsPart, Part, certificate_end}
-use Rattle.commands.specs.Certify.{certificate_head, is_no, is_undecided, some_verdict}
+use Rattle.cert_checker.specs.Counts.{is_no, is_undecided}
+use Rattle.commands.specs.Certify.{certificate_head, some_written, some_verdict}
 use Rattle.commands.specs.PartWrites.{WritesPart, WritesParts, parts_text}
 use Rattle.commands.specs.Sinks.{SinkView, GrewByAll, WriteStops}
 use Rattle.commands.specs.{Answers.WritesAnswer, Answers.status_by, declared.found.Found.Found}
@@ -149,12 +151,12 @@ parts_text-first : (part : Part) (parts : List Part)
 parts_text-first part parts = refl
 
 -- some verdict of one part more
-some_more : (is_such : Verdict → Bool) (parts : List Part) (part : Part)
+some_more : (is_such : Written → Bool) (parts : List Part) (part : Part)
     → some_verdict is_such (parts ++ part ∷ [])
-    ≡ some_verdict is_such parts || list_any is_such part.verdicts
+    ≡ some_verdict is_such parts || some_written is_such part.verdicts
 some_more is_such parts part =
-    list_any-append (λ (p : Part). list_any is_such p.verdicts) parts (part ∷ [])
-    ∙ ap (λ b. some_verdict is_such parts || b) (or-false (list_any is_such part.verdicts))
+    list_any-append (λ (p : Part). some_written is_such p.verdicts) parts (part ∷ [])
+    ∙ ap (λ b. some_verdict is_such parts || b) (or-false (some_written is_such part.verdicts))
 
 pub both_found : (a b c d : Bool) → a ≡ b → c ≡ d → a || c ≡ b || d
 both_found a b c d e f = ap (λ x. x || c) e ∙ ap (λ x. b || x) f

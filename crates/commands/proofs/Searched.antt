@@ -1,42 +1,19 @@
 -- The text of split trees, as it is made script by script.
-use Rattle.std.proofs.Common.{◌≡◌, ℕ, ◌+◌, ◌<◌, ◌≤◌, ◌||◌, List, [], ◌∷◌, ◌++◌, Some, length}
-use Rattle.std.proofs.Common.{length-append, get_or, map, false, take, refl, sym, ap, ◌∙◌, subst}
-use Rattle.std.proofs.Common.{⊎_elim}
+use Rattle.std.proofs.Common.{◌≡◌, ℕ, ◌+◌, ◌<◌, ◌≤◌, ◌||◌, List, [], ◌∷◌, ◌++◌, length}
+use Rattle.std.proofs.Common.{get_or, map, false, take, refl, sym, ap, ◌∙◌, subst}
 use Rattle.std.proofs.Math.Bool.{or-false}
 use Rattle.std.proofs.lemmas.List.{append_assoc, append-nil, take_all, take_more}
 use Rattle.std.proofs.lemmas.List.Folds.{list_any-append}
 use Rattle.std.specs.List.{list_any}
-use Rattle.std.specs.Prelude.{Bool, slice_get}
+use Rattle.std.specs.Prelude.{Bool}
 use Rattle.line_model.specs.{declared.line.Line.Line, declared.script.Script.Script}
-use Rattle.simulator.specs.ListLaws.{at_push}
 use Rattle.certificate.specs.{Grammar.end_text, Text.fed}
-use Rattle.certify_core.specs.OneEach.{OneEach}
 use Rattle.split_text.specs.Grammar.{SplitResult, head_text}
 use Rattle.split_text.specs.Text.{part_text, parts_text}
 use Rattle.own_splits.specs.Searched.{AllSearched, AreSearched}
 use Rattle.commands.specs.Split.{HasSplits, IsSplitOf, is_fails, is_open, some_result}
 use Rattle.commands.specs.{Answers.status_by, declared.found.Found.Found}
 use Rattle.commands.proofs.Parts.{both_found}
-
--- ---- one element for each number
-
-module _ {X : Type 0} (said : ℕ → X → Type 0) where
-  pub none_yet : OneEach said 0 []
-  none_yet = record { count = refl; each = λ k x at. absurd (cc) }
-
-  pub one_more : (n : ℕ) (xs new : List X) (x : X) → new ≡ xs ++ x ∷ [] → said n x
-      → OneEach said n xs → OneEach said (n + 1) new
-  one_more n xs new x is here so_far =
-      subst (OneEach said (n + 1)) (sym is)
-      (record {
-        count = length-append xs (x ∷ []) ∙ ap (λ (k : ℕ). k + 1) so_far.count;
-        each = λ k y at.
-            ⊎_elim (λ before. so_far.each k y before)
-            (λ last.
-            subst (said k) (sym last.1)
-            (subst (λ (j : ℕ). said j x) (sym (last.0 ∙ so_far.count)) here))
-            (at_push xs x y k at);
-      })
 
 -- some image of an element is such
 pub any_map : {X Y : Type 0} (p : Y → Bool) (f : X → Y) (xs : List X)

@@ -1,5 +1,5 @@
 -- Writers one after another: a writer that stops names the whole text.
-use Rattle.std.proofs.Common.{◌≡◌, ℕ, ◌+◌, List, ◌++◌, Option, Result, Ok, Err, refl, ◌∙◌, length}
+use Rattle.std.proofs.Common.{ℕ, ◌+◌, List, ◌++◌, Option, Result, Ok, Err, refl, ◌∙◌, length}
 use Rattle.std.proofs.Common.{take, ◌≤◌, length-append, arith}
 use Rattle.std.proofs.lemmas.List.{take-append-le}
 use Rattle.std.specs.Io.KnownBytes.{Appends}

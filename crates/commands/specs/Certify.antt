@@ -1,14 +1,15 @@
 -- The command `certify`: its text is the certificate of the scripts, which has the verdict of each
 -- obligation and the keys that show it.
-use Rattle.std.specs.Prelude.{◌≡◌, ◌++◌, ℕ, Bool, true, false, List, [], length, map, codes}
+use Rattle.std.specs.Prelude.{◌≡◌, ◌++◌, ℕ, Bool, List, length, map, codes}
 use Rattle.std.specs.List.{AllZip, concat, list_any}
 use Rattle.line_model.specs.{declared.line.Line.Line, declared.script.Script.Script}
 use Rattle.line_model.specs.{Choice.declared_box, Histories.PairHistory, Histories.IsPairHistory}
 use Rattle.tick_signal.specs.declared.tern.Tern.{Tern}
-use Rattle.certify_core.specs.Piece.{part_text}
+use Rattle.certificate.specs.Grammar.{Verdict as Written}
+use Rattle.certify_core.specs.Piece.{part_text, written_as}
 use Rattle.certify_core.specs.Verdicts.{AreKeys, AreVerdicts}
 use Rattle.certify_core.specs.declared.verdict.Verdict.{Verdict}
-use Rattle.certify_core.specs.declared.verdict.Verdict.TheVariants.{Yes, No, Undecided}
+use Rattle.cert_checker.specs.Counts.{is_no, is_undecided}
 use Rattle.engine.specs.Calls.{AskedVerdicts}
 use Rattle.commands.specs.{Answers.Answers, Answers.status_by, Asked.Asks, declared.done.Done.Done}
 
@@ -33,19 +34,13 @@ pub record IsPart (line : Line) (script : Script) (part : Part) : Type 0 where
   pub are_verdicts : AreVerdicts line script history part.verdicts
   pub text_is : part.text ≡ part_text line script keys part.verdicts
 
-abbrev pub is_no : Verdict → Bool
-is_no Yes = false
-is_no (No timing) = true
-is_no Undecided = false
+-- some verdict is such, as it is written
+abbrev pub some_written : (Written → Bool) → List Verdict → Bool
+some_written is_such verdicts = list_any (λ verdict. is_such (written_as verdict)) verdicts
 
-abbrev pub is_undecided : Verdict → Bool
-is_undecided Yes = false
-is_undecided (No timing) = false
-is_undecided Undecided = true
-
--- some verdict of the parts is such
-abbrev pub some_verdict : (Verdict → Bool) → List Part → Bool
-some_verdict is_such parts = list_any (λ part. list_any is_such part.verdicts) parts
+-- some verdict of the parts is
+abbrev pub some_verdict : (Written → Bool) → List Part → Bool
+some_verdict is_such parts = list_any (λ part. some_written is_such part.verdicts) parts
 
 -- the head, the part of each script in order, and the end, with the status of all verdicts
 pub record IsCertificate (line : Line) (scripts : List Script) (s : Done) (text : List ℕ)

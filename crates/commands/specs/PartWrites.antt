@@ -1,8 +1,9 @@
 -- The parts of a certificate as they are written, one script after another.
 use Rattle.std.specs.Prelude.{◌≡◌, ℕ, List, map, IfOk, Result}
-use Rattle.std.specs.List.{AllZip, concat, list_any}
+use Rattle.std.specs.List.{AllZip, concat}
 use Rattle.line_model.specs.{declared.line.Line.Line, declared.script.Script.Script}
-use Rattle.commands.specs.Certify.{IsPart, Part, is_no, is_undecided, some_verdict}
+use Rattle.cert_checker.specs.Counts.{is_no, is_undecided}
+use Rattle.commands.specs.Certify.{IsPart, Part, some_written, some_verdict}
 use Rattle.commands.specs.Sinks.{SinkView, Writes}
 use Rattle.commands.specs.{declared.found.Found.Found, declared.put.WriteStop.WriteStop}
 
@@ -16,9 +17,9 @@ pub record WritesPart (line : Line) (script : Script) (old new : SinkView)
   pub part : Part
   pub is_part : IsPart line script part
   pub writes : Writes old new part.text result
-  pub some_no : IfOk result (λ found. found.some_no ≡ list_any is_no part.verdicts)
+  pub some_no : IfOk result (λ found. found.some_no ≡ some_written is_no part.verdicts)
   pub some_undecided : IfOk result
-      (λ found. found.some_open ≡ list_any is_undecided part.verdicts)
+      (λ found. found.some_open ≡ some_written is_undecided part.verdicts)
 
 -- the parts of the scripts are written, or a front of them, and what their verdicts are is told
 pub record WritesParts (line : Line) (scripts : List Script) (old new : SinkView)

@@ -1,11 +1,13 @@
 //! The command `certify`: the verdict of each obligation, for every choice of delays.
 ghost use Rattle.std.specs.Prelude.{◌≡◌, OnOk, length};
-ghost use Rattle.std.specs.List.{All, list_any};
+ghost use Rattle.std.specs.List.{All};
 ghost use Rattle.line_model.specs.Fits.{Fits};
 ghost use Rattle.gate_net.specs.NetOf.{IsNetOf};
 ghost use Rattle.engine.specs.Calls.{AskedCertify, AskedVerdicts, NoneFell};
-ghost use Rattle.commands.specs.Certify.{certify_answer, certify_asks, is_no as no_verdict};
-ghost use Rattle.commands.specs.Certify.{is_undecided as undecided_verdict};
+ghost use Rattle.certify_core.specs.Piece.{written_as};
+ghost use Rattle.cert_checker.specs.Counts.{is_no as no_verdict};
+ghost use Rattle.cert_checker.specs.Counts.{is_undecided as undecided_verdict};
+ghost use Rattle.commands.specs.Certify.{certify_answer, certify_asks, some_written};
 ghost use Rattle.commands.specs.PartWrites.{WritesPart, WritesParts};
 ghost use Rattle.commands.specs.{Answers.WritesAnswer, Sinks.sink_view, Study.IsStudy};
 
@@ -101,19 +103,19 @@ fn write_part<G: Engine, O: Sink>(
 }
 
 fn some_no(verdicts: &[Verdict]) -> bool
-    ensures { result ≡ list_any no_verdict verdicts.now }
+    ensures { result ≡ some_written no_verdict verdicts.now }
 {
     verdicts.iter().any(|verdict| is_no(verdict))
 }
 
 fn some_undecided(verdicts: &[Verdict]) -> bool
-    ensures { result ≡ list_any undecided_verdict verdicts.now }
+    ensures { result ≡ some_written undecided_verdict verdicts.now }
 {
     verdicts.iter().any(|verdict| is_undecided(verdict))
 }
 
 fn is_no(verdict: &Verdict) -> bool
-    ensures { result ≡ no_verdict verdict.now }
+    ensures { result ≡ no_verdict (written_as verdict.now) }
 {
     match verdict {
         Verdict::No(_) => true,
@@ -122,7 +124,7 @@ fn is_no(verdict: &Verdict) -> bool
 }
 
 fn is_undecided(verdict: &Verdict) -> bool
-    ensures { result ≡ undecided_verdict verdict.now }
+    ensures { result ≡ undecided_verdict (written_as verdict.now) }
 {
     match verdict {
         Verdict::Undecided => true,

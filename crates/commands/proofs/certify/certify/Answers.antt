@@ -1,7 +1,8 @@
 use Rattle.std.proofs.Common.{◌++◌, ap, ◌∙◌}
 use Rattle.std.proofs.lemmas.Result.{err_from_is_err_and}
 use Rattle.commands.specs.{Answers.status_by, Certify.certificate_end, Certify.certificate_head}
-use Rattle.commands.specs.{Certify.is_no, Certify.is_undecided, Certify.some_verdict}
+use Rattle.cert_checker.specs.Counts.{is_no, is_undecided}
+use Rattle.commands.specs.Certify.{some_verdict}
 use Rattle.commands.specs.{PartWrites.parts_text, SinkLaws.grew_both, Sinks.sink_view}
 use Rattle.commands.proofs.Parts.{certificate_of, certificate_stops, parts_exist}
 use Rattle.commands.proofs.{Counts.none_fell_same, Writing.stops_more, Writing.stops_then}

@@ -1,8 +1,8 @@
 use Rattle.std.proofs.Common.{ap, ◌∙◌}
 use Rattle.std.proofs.lemmas.Result.{err_from_is_err_and}
-use Rattle.std.specs.List.{list_any}
 use Rattle.line_model.specs.Choice.{declared_box}
-use Rattle.commands.specs.Certify.{is_no, is_undecided}
+use Rattle.cert_checker.specs.Counts.{is_no, is_undecided}
+use Rattle.commands.specs.Certify.{some_written}
 use Rattle.commands.proofs.Parts.{part_said}
 use Rattle.commands.proofs.certify.write_part.Goals as goal
 
@@ -35,6 +35,6 @@ returns-clause-writes g c =
           (declared_box line) (c.each_line_has_a_choice_inside.ensures.declared line))
           c.in_ok-said.ensures.certified c.in_ok-piece.ensures;
       writes = rw c.as_slice.ensures.value at c.in_ok-put_text.ensures;
-      some_no = c.some_no.ensures ∙ ap (list_any is_no) verdicts;
-      some_undecided = c.some_undecided.ensures ∙ ap (list_any is_undecided) verdicts;
+      some_no = c.some_no.ensures ∙ ap (some_written is_no) verdicts;
+      some_undecided = c.some_undecided.ensures ∙ ap (some_written is_undecided) verdicts;
     }
