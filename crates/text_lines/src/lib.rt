@@ -2,7 +2,8 @@
 //! of lines, and what it means that lines stand where they are expected.
 //!
 //! `specs/Lines.antt` has a text as a list of places, each with what can stand there and what it
-//! opens. The laws that every such text has stand beside it (`LineLaws`, `Reading`, `OneReading`), since
+//! opens; `specs/Grammar.antt` has a text of several items, between a first and a last line. The laws
+//! that every such text has stand beside them (`LineLaws`, `Reading`, `OneReading`, `WholeLaws`), since
 //! they range over relations, of which no clause can speak.
 #![tactic(auto)]
 
