@@ -2,7 +2,7 @@
 use Rattle.std.specs.Prelude.{ℕ, List, [], ◌∷◌, Option, Some, None}
 use Rattle.std.specs.List.{position_from}
 use Rattle.std.specs.Str.{bytes_eq}
-use Rattle.line_model.specs.declared.script.Script.{Script}
+use Rattle.line_model.specs.{declared.script.Script.Script, NumbersByName.script_named}
 use Rattle.timing_box.specs.declared.timing.NamedTiming.{NamedTiming}
 
 -- the first place, where there is one
@@ -10,17 +10,14 @@ abbrev pub first_place : {A : Type 0} → List A → Option ℕ
 first_place [] = None
 first_place (x ∷ rest) = Some 0
 
--- the place of the first script, or timing, of this name
-abbrev pub place_of_script : List Script → List ℕ → Option ℕ
-place_of_script scripts name = position_from (λ s. bytes_eq s.name name) 0 scripts
-
+-- the place of the first timing of this name
 abbrev pub place_of_timing : List NamedTiming → List ℕ → Option ℕ
 place_of_timing timings name = position_from (λ t. bytes_eq t.name name) 0 timings
 
 -- what is chosen
 abbrev pub chosen_script : List Script → Option (List ℕ) → Option ℕ
 chosen_script scripts None = first_place scripts
-chosen_script scripts (Some name) = place_of_script scripts name
+chosen_script scripts (Some name) = script_named scripts name
 
 abbrev pub chosen_timing : List NamedTiming → Option (List ℕ) → Option ℕ
 chosen_timing timings None = first_place timings

@@ -2,10 +2,9 @@
 
 ghost use Rattle.std.specs.Prelude.{◌≡◌, ◌<◌, length, IfSome};
 ghost use Rattle.std.specs.Option.{option_copied};
-ghost use Rattle.picture_core.specs.Chosen.{chosen_script, chosen_timing, place_of_script};
-ghost use Rattle.picture_core.specs.Chosen.{place_of_timing};
+ghost use Rattle.picture_core.specs.Chosen.{chosen_script, chosen_timing, place_of_timing};
 
-use line_model::Script;
+use line_model::{Script, script_of_name};
 use timing_box::NamedTiming;
 
 /// The place of the script of that name, or of the first where none is asked for.
@@ -16,20 +15,8 @@ pub fn choose_script(scripts: &[Script], name: Option<&str>) -> Option<usize>
     match name {
         None if scripts.is_empty() => None,
         None => Some(0),
-        Some(name) => script_named(scripts, name.as_bytes()),
+        Some(name) => script_of_name(scripts, name.as_bytes()),
     }
-}
-
-fn script_named(scripts: &[Script], name: &[u8]) -> Option<usize>
-    ensures is { result ≡ place_of_script scripts.now name.now }
-    ensures exists { IfSome result (λ i. i < length scripts.now) }
-{
-    for (i, script) in scripts.iter().enumerate() {
-        if script.name.bytes() == name {
-            return Some(i);
-        }
-    }
-    None
 }
 
 /// The place of the timing of that name, or of the first where none is asked for.
@@ -48,10 +35,7 @@ fn timing_named(timings: &[NamedTiming], name: &[u8]) -> Option<usize>
     ensures is { result ≡ place_of_timing timings.now name.now }
     ensures exists { IfSome result (λ i. i < length timings.now) }
 {
-    for (i, timing) in timings.iter().enumerate() {
-        if timing.name.bytes() == name {
-            return Some(i);
-        }
-    }
-    None
+    timings
+        .iter()
+        .position(|timing| timing.name.bytes() == name)
 }
