@@ -2,12 +2,12 @@
 use Rattle.std.proofs.Common.{◌≡◌, ◌⊎◌, ◌<◌, ℕ, List, [], ◌∷◌, Option, None, Some, OnOk, Result, Ok}
 use Rattle.std.proofs.Common.{Err, refl, ap, subst, inl, inr, arith}
 use Rattle.std.specs.Io.KnownBytes.{Appends, Keeps}
-use Rattle.relay_base.specs.{Counts.Rose, Sink.GrewByPart, SinkLaws.part_of_proper}
+use Rattle.relay_base.specs.{Counts.Rose, Sink.GrewByPart, Sink.GrewByProper, SinkLaws.part_of_proper}
 use Rattle.engine.specs.Calls.{Calls}
 use Rattle.pilot_core.specs.Files.{NamedFile, NoneRose, StoreCause}
 use Rattle.pilot_core.specs.Status.{IsAnswer, IsDone, IsEarly, status_of, stop_status}
 use Rattle.pilot_core.specs.{Call.Asked, Call.Told, Clauses.Call, Clauses.Clauses, Clauses.IsLine}
-use Rattle.pilot_core.specs.{Clauses.OutIsAnswer, Clauses.OutIsFront, Clauses.OutIsProperFront}
+use Rattle.pilot_core.specs.{Clauses.OutIsAnswer, Clauses.OutGrew}
 use Rattle.pilot_core.specs.{Ends.EndsOf, Messages.message_of, Words.Command, Words.files_named}
 use Rattle.pilot_core.specs.{declared.stop.File.File, declared.stop.Status.Status}
 use Rattle.commands.specs.Sinks.{SinkView, GrewByAll, Puts}
@@ -158,7 +158,7 @@ module _ {K : Type 0} (view : K → SinkView) (old new : K) (files : List ℕ �
   sink_failed : (command : Option Command) (r : Result Status Stop)
       → EndsOf view command files c1 c2 old new r → status_of r ≡ status.SinkFault
       → Rose (view old).faults (view new).faults
-      × (Told command files → OutIsProperFront (seen command))
+      × (Told command files → OutGrew (seen command) GrewByProper)
   sink_failed None r e = rw e.0 (λ is. cc)
   sink_failed (Some x) (Ok s) e = λ is. not_done s status.SinkFault e.1.0 (λ bad. bad) is
   sink_failed (Some x) (Err stop.Usage) e = absurd e.1
@@ -193,7 +193,7 @@ module _ {K : Type 0} (view : K → SinkView) (old new : K) (files : List ℕ �
   memory : (command : Option Command) (r : Result Status Stop)
       → EndsOf view command files c1 c2 old new r → status_of r ≡ status.Memory
       → Told command files
-      → Keeps (view old).written (view new).written ⊎ OutIsFront (seen command)
+      → Keeps (view old).written (view new).written ⊎ OutGrew (seen command) GrewByPart
   memory None r e = rw e.0 (λ is. cc)
   memory (Some x) (Ok s) e = λ is. not_done s status.Memory e.1.0 (λ bad. bad) is
   memory (Some x) (Err stop.Usage) e = absurd e.1

@@ -41,21 +41,14 @@ pub record OutIsAnswer (call : Call) (s : Status) : Type 0 where
   pub is : MayAnswer call s text line
   pub out : Appends call.out_old.written call.out_new.written text
 
--- out grew by a proper front of a text that may be answered
-pub record OutIsProperFront (call : Call) : Type 0 where
+-- out grew, by such a front of a text that may be answered
+pub record OutGrew (call : Call)
+    (GrewBy : Option (List ℕ) → Option (List ℕ) → List ℕ → Type 0) : Type 0 where
   pub status : Status
   pub text : List ℕ
   pub line : List ℕ
   pub is : MayAnswer call status text line
-  pub out : GrewByProper call.out_old.written call.out_new.written text
-
--- out grew by a front of a text that may be answered
-pub record OutIsFront (call : Call) : Type 0 where
-  pub status : Status
-  pub text : List ℕ
-  pub line : List ℕ
-  pub is : MayAnswer call status text line
-  pub out : GrewByPart call.out_old.written call.out_new.written text
+  pub out : GrewBy call.out_old.written call.out_new.written text
 
 -- a file of the command is the cause of a store fault: the count of its name rose, and no told file
 -- before it in word order is longer than its limit
@@ -89,11 +82,11 @@ pub record Clauses (call : Call) (s : Status) : Type 0 where
   -- Status 7 comes only where the count of out rose, with a proper front of a text that may be
   -- answered on out, and always where the count is greater than before.
   pub sink_failed : s ≡ status.SinkFault
-      → Rose call.out_old.faults call.out_new.faults × (IsTold call → OutIsProperFront call)
+      → Rose call.out_old.faults call.out_new.faults × (IsTold call → OutGrew call GrewByProper)
   pub sink_told : call.out_old.faults < call.out_new.faults → s ≡ status.SinkFault
   -- Status 8: out is as it was, or grew by a front of a text that may be answered.
   pub memory : s ≡ status.Memory → IsTold call
-      → Keeps call.out_old.written call.out_new.written ⊎ OutIsFront call
+      → Keeps call.out_old.written call.out_new.written ⊎ OutGrew call GrewByPart
   -- Where the store tells every file, and neither the count of one of their names nor that of out
   -- rose, the call ends with the answer's status and its whole text, or memory ran out.
   pub complete : IsTold call
