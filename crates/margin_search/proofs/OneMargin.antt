@@ -1,13 +1,13 @@
 -- One margin at most, and one obligation that is lost; and it is an obligation of the scripts.
-use Rattle.std.proofs.Common.{◌≡◌, ◌<◌, ◌≤◌, ◌+◌, ℕ, List, Option, Some, None, length, refl, sym}
+use Rattle.std.proofs.Common.{◌≡◌, ◌<◌, ℕ, List, Option, Some, None, length, refl}
 use Rattle.std.proofs.Common.{◌∙◌, ap, subst, arith, ⊎_elim}
 use Rattle.std.proofs.lemmas.Bool.{cases_lt}
 use Rattle.std.proofs.lemmas.Option.{slice_get_within}
-use Rattle.std.specs.Prelude.{MatchOption, IsSomeAnd, IfSome, slice_get}
-use Rattle.line_model.specs.Parameters.{terminal_count, declared_ends}
+use Rattle.std.specs.Prelude.{MatchOption, IfSome, slice_get}
+use Rattle.line_model.specs.Parameters.{terminal_count}
 use Rattle.line_model.specs.{declared.line.Line.Line, declared.script.Script.Script, Choice.Box}
 use Rattle.margin_search.specs.Lost.{IsFirstLost, IsFirstTerminal}
-use Rattle.margin_search.specs.Margin.{HasNoMargin, IsLostAbove, IsLostAt, IsLostAtLeast, IsMargin}
+use Rattle.margin_search.specs.Margin.{HasNoMargin, IsLostAbove, IsLostAtLeast, IsMargin}
 use Rattle.margin_search.specs.Margin.{IsUpperEnd}
 use Rattle.margin_search.specs.{declared.upper_end.Lost.Lost, declared.upper_end.UpperEnd.UpperEnd}
 

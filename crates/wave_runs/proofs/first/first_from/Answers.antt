@@ -1,4 +1,4 @@
-use Rattle.std.proofs.Common.{◌≡◌, List, sym, ◌∙◌, ap, arith, ⊎_elim}
+use Rattle.std.proofs.Common.{List, sym, ◌∙◌, ap, arith, ⊎_elim}
 use Rattle.std.proofs.lemmas.Bool.{cases_lt}
 use Rattle.tick_signal.specs.declared.tern.Tern.{Tern}
 use Rattle.wave_runs.specs.Waves.{wave_at}

@@ -1,7 +1,6 @@
-use Rattle.std.proofs.Common.{◌≡◌, ◌+◌, ◌-◌, List, length, ap, subst, arith, rules}
-use Rattle.tick_signal.specs.declared.tern.Tern.{Tern}
+use Rattle.std.proofs.Common.{length, ap, arith, rules}
 use Rattle.history.specs.Rails.{may_of}
-use Rattle.wave_runs.specs.{Waves.wave_at, FirstTick.IsFirstOn}
+use Rattle.wave_runs.specs.{Waves.wave_at}
 use Rattle.wave_runs.proofs.DelayLaws.{some_comes_if}
 use Rattle.wave_runs.proofs.received.may_come.Goals as goal
 

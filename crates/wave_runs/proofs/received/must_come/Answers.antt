@@ -1,4 +1,4 @@
-use Rattle.std.proofs.Common.{◌≡◌, ◌+◌, ◌-◌, List, length, ap, subst, arith, rules}
+use Rattle.std.proofs.Common.{◌+◌, ◌-◌, List, length, ap, subst, arith, rules}
 use Rattle.std.specs.Prelude.{not}
 use Rattle.tick_signal.specs.declared.tern.Tern.{Tern}
 use Rattle.wave_runs.specs.{Waves.wave_at, FirstTick.IsFirstOn}
