@@ -1,7 +1,7 @@
 //! Why a file of timings is refused.
 
 use csv_records::{Memory, print_fault};
-use std::alloc::{AllocError, AllocFailed};
+use std::alloc::AllocFailed;
 use std::error::Error;
 use std::fmt;
 
@@ -76,17 +76,6 @@ impl fmt::Display for TimingFault {
 }
 
 impl Error for TimingFault {}
-
-impl From<AllocError> for TimingFault {
-    ghost use Rattle.std.specs.Prelude.{◌≡◌};
-    ghost use Rattle.timing_box.specs.declared.fault.TimingFault.TheVariants as fault;
-
-    ghost from_gives = { λ _ e. e ≡ fault.Memory };
-
-    fn from(_: AllocError) -> Self {
-        TimingFault::Memory
-    }
-}
 
 impl<T: Drop> From<AllocFailed<T>> for TimingFault {
     ghost use Rattle.std.specs.Prelude.{◌≡◌};
