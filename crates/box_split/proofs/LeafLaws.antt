@@ -1,5 +1,5 @@
 -- Each choice in a box lies in the box of exactly one leaf of a tree that splits it.
-use Rattle.std.proofs.Common.{◌≡◌, ◌<◌, ◌≤◌, ◌+◌, ◌++◌, ◌⊎◌, ℕ, zero, suc, List, [], ◌∷◌, Some}
+use Rattle.std.proofs.Common.{◌≡◌, ◌<◌, ◌≤◌, ◌+◌, ℕ, zero, suc, List, [], ◌∷◌, Some}
 use Rattle.std.proofs.Common.{true, false, length, refl, sym, ◌∙◌, ap, subst, arith, ⊎_elim, inl}
 use Rattle.std.proofs.Common.{inr}
 use Rattle.std.proofs.lemmas.Bool.{cases_eq, cases_lt}

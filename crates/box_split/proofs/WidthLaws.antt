@@ -1,6 +1,6 @@
 -- A parameter that is split is no delay, and its middle lies in its interval.
-use Rattle.std.proofs.Common.{◌≡◌, ◌<◌, ◌≤◌, ◌+◌, ◌-◌, ◌/◌, ◌||◌, ℕ, zero, suc, Bool, true, false}
-use Rattle.std.proofs.Common.{ap, refl, sym, ◌∙◌, arith, cond, eq-eqb, ⊎_elim}
+use Rattle.std.proofs.Common.{◌≡◌, ◌<◌, ◌≤◌, ◌+◌, ◌-◌, ◌/◌, ℕ, Bool, true, false}
+use Rattle.std.proofs.Common.{ap, arith, cond}
 use Rattle.std.specs.Prelude.{IsTrue}
 use Rattle.line_model.specs.Parameters.{is_delay, declared_ends}
 use Rattle.line_model.specs.declared.line.Line.{Line}

@@ -1,17 +1,16 @@
 -- Candidates in the lanes of a block.
-use Rattle.std.proofs.Common.{◌≡◌, ℕ, ◌+◌, ◌-◌, ◌<◌, ◌≤◌, List, [], length, get_or, Option, Some}
+use Rattle.std.proofs.Common.{◌≡◌, ℕ, ◌+◌, ◌-◌, ◌<◌, ◌≤◌, List, [], get_or, Option, Some}
 use Rattle.std.proofs.Common.{None, refl, sym, ◌∙◌, ap, subst, arith}
 use Rattle.std.proofs.lemmas.Bool.Decides.{nat_tests}
-use Rattle.std.proofs.lemmas.List.{length-map}
 use Rattle.std.proofs.lemmas.List.FromFn.{get_or-map-range_with_len}
 use Rattle.std.proofs.lemmas.List.Sums.{count_by-le-length}
 use Rattle.std.specs.Prelude.{slice_get, slice_index, option_map, nat_lt, if◌then◌else◌}
 use Rattle.history.specs.Rails.{Ends, single}
 use Rattle.line_model.specs.declared.line.Line.{Line}
 use Rattle.line_model.specs.Parameters.{param_count, delay_param}
-use Rattle.line_model.specs.{Intervals.leasts, Choice.DelaysFromOne, Laws.ParametersAreNumbered}
+use Rattle.line_model.specs.{Choice.DelaysFromOne, Laws.ParametersAreNumbered}
 use Rattle.timing_box.specs.Candidates.{is_free, candidate, candidate_count, candidate_value}
-use Rattle.timing_box.specs.{Timing.number_at, Inside.IsTimingInside, Choice.timing_choice}
+use Rattle.timing_box.specs.{Timing.number_at, Choice.timing_choice}
 use Rattle.simulator.specs.LaneBox.{ends_in, lane_box}
 use Rattle.simulator.specs.{Runs.AreDelayed, Runs.IsPoint, ListLaws.exists_at}
 use Rattle.certify_core.specs.Candidates.{candidate_in, AreBlockSpans}

@@ -1,5 +1,5 @@
 -- Where ticks lie.
-use Rattle.std.specs.Prelude.{◌+◌, ◌-◌, ◌*◌, ◌/◌, ℕ, suc, min}
+use Rattle.std.specs.Prelude.{◌+◌, ◌-◌, ◌*◌, ◌/◌, ℕ, min}
 use Rattle.timing_diagram.specs.declared.window.Window.{Window}
 
 -- where tick t begins: the axis goes from 2000 to 7500, and each tick that is shown has as much
