@@ -35,18 +35,21 @@ fn run_long(
     name: &str,
 ) -> Result<(), Fail> {
     let mut third = filled_up(alloc, row.third, fill, greatest)?;
-    let got = call(alloc, row.words, with_third(row, &third))?;
+    let got = call_filled(alloc, row, &third)?;
     assert_ended(rt, row.what, &got, row.status, row.out, row.err);
     third.push(fill)?;
-    let files = with_third(row, &third);
-    run_refused(rt, alloc, name, row.words, files, name, "TooLong")
+    let got = call_filled(alloc, row, &third)?;
+    let told = format!(in alloc; "refused {name} TooLong\n")?;
+    assert_ended(rt, name, &got, Status::BadInput, "", told.as_str());
+    Ok(())
 }
 
-fn with_third<'a>(row: &Row<'a>, third: &'a [u8]) -> Files<'a> {
-    Files {
+fn call_filled(alloc: Global, row: &Row<'_>, third: &[u8]) -> Result<Ended, Memory> {
+    let files = Files {
         third,
         ..texts(row.line, row.scripts, "")
-    }
+    };
+    call(alloc, row.words, files)
 }
 
 const CERTIFICATE: Row<'static> = Row {
