@@ -1,6 +1,6 @@
 -- Claims have one first fault.
 use Rattle.std.proofs.Common.{◌≡◌, ◌≢◌, ℕ, suc, Bool, List, get_or, refl, sym}
-use Rattle.std.proofs.Common.{◌∙◌, ap, subst}
+use Rattle.std.proofs.Common.{◌∙◌, ap, arith, subst}
 use Rattle.history.specs.Rails.{Rails}
 use Rattle.tick_signal.specs.{declared.tern.Tern.Tern, Terns.tern_once}
 use Rattle.line_model.specs.declared.line.Line.{Line}
@@ -14,7 +14,8 @@ use Rattle.cert_checker.specs.declared.claim.ClaimFault.TheVariants.{NotCovered,
 use Rattle.cert_checker.specs.declared.claim.ClaimFault.TheVariants.{Memory}
 use Rattle.cert_checker.specs.declared.no.NoFault.{NoFault}
 use Rattle.cert_checker.specs.declared.no.NoFault.TheVariants.{Outside, Passes}
-use Rattle.cert_checker.specs.Firsts.{IsFirstFailing, IsFirstOn}
+use Rattle.wave_runs.specs.FirstTick.{IsFirstOnAt}
+use Rattle.cert_checker.specs.Firsts.{IsFirstFailing}
 use Rattle.cert_checker.specs.Refutations.{IsMetAt, IsNumberIn, IsFirstOutside, IsMetInside}
 use Rattle.cert_checker.specs.{NoFaults.IsNoFault, ScriptLaws.same_number}
 use Rattle.cert_checker.specs.{ScriptLaws.wrong_once, Verdicts.IsSupported}
@@ -31,11 +32,11 @@ first_failing_once : (fact : ℕ → Type 0) (count n m : ℕ) → IsFirstFailin
 first_failing_once fact count n m a b =
     same_number n m (λ lt. a.fails (b.before n lt)) (λ lt. b.fails (a.before m lt))
 
-first_on_once : (u : ℕ → Bool) (ticks n m : ℕ) → IsFirstOn u ticks n → IsFirstOn u ticks m
+first_on_once : (u : ℕ → Bool) (end n m : ℕ) → IsFirstOnAt u 0 end n → IsFirstOnAt u 0 end m
     → n ≡ m
-first_on_once u ticks n m a b =
-    same_number n m (λ lt. not_both (u n) (b.before n lt) a.on)
-    (λ lt. not_both (u m) (a.before m lt) b.on)
+first_on_once u end n m a b =
+    same_number n m (λ lt. not_both (u n) (b.before n (omega arith) lt) a.on)
+    (λ lt. not_both (u m) (a.before m (omega arith) lt) b.on)
 
 -- ---- keys
 

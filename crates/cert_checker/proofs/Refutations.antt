@@ -22,21 +22,22 @@ met_same : (kind : Kind) (deadline horizon : ℕ) (f g : ℕ → Bool) (t : ℕ)
     → ((r : ℕ) → r < horizon → f r ≡ g r)
     → IsMetAt kind deadline horizon f t → IsMetAt kind deadline horizon g t
 met_same Internal deadline horizon f g t early same met =
-    let inside : t < suc deadline = met.inside in
+    let within : t < suc deadline = met.within in
     record {
-      inside = met.inside;
+      from_there = met.from_there;
+      within = within;
       on = sym (same t (omega arith)) ∙ met.on;
-      before = λ r lt. sym (same r (omega arith)) ∙ met.before r lt;
+      before = λ r from lt. sym (same r (omega arith)) ∙ met.before r from lt;
     }
 met_same External deadline horizon f g t early same met =
-    (met.0, λ r lt. sym (same r lt) ∙ met.1 r lt)
+    (met.0, λ r from lt. sym (same r lt) ∙ met.1 r from lt)
 
 -- a tick shows that the obligation is met
 pub met_meets : (kind : Kind) (deadline horizon : ℕ) (trip : ℕ → Bool) (t : ℕ)
     → IsMetAt kind deadline horizon trip t → MeetsBy kind deadline horizon trip
 met_meets Internal deadline horizon trip t met =
-    let inside : t < suc deadline = met.inside in (t, omega arith, met.on)
-met_meets External deadline horizon trip t met = met.1
+    let within : t < suc deadline = met.within in (t, omega arith, met.on)
+met_meets External deadline horizon trip t met = λ r lt. met.1 r (omega arith) lt
 
 -- ---- what one history at the numbers shows, all do
 

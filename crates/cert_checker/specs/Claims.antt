@@ -8,11 +8,6 @@ use Rattle.line_model.specs.{declared.line.Line.Line, Choice.declared_box, Choic
 use Rattle.gate_net.specs.{declared.gate.Gate.Gate, Formulas.formula_of}
 use Rattle.wave_runs.specs.Waves.{wave_at, IsWaveOf}
 
--- so many waves, each of so many ticks
-pub record AreWaves (count ticks : ℕ) (waves : List (List Tern)) : Type 0 where
-  pub many : length waves ≡ count
-  pub long : (k : ℕ) → k < count → length (get_or waves k []) ≡ ticks
-
 -- the pair of a wave at a tick; off where there is none
 abbrev pub pairs_of : List (List Tern) → ℕ → ℕ → Rails
 pairs_of waves k t = wave_at (get_or waves k []) t

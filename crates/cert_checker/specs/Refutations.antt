@@ -7,7 +7,8 @@ use Rattle.line_model.specs.Parameters.{param_count, declared_ends}
 use Rattle.line_model.specs.Histories.{History, IsLineHistory, Meets}
 use Rattle.line_model.specs.{declared.script.Kind.Kind, Choice.Choice, Choice.IsIn}
 use Rattle.timing_box.specs.{Timing.TimingValues, Inside.IsTimingInside, Choice.timing_choice}
-use Rattle.cert_checker.specs.Firsts.{IsFirstFailing, IsFirstOn, IsNeverOn}
+use Rattle.wave_runs.specs.FirstTick.{IsFirstOnAt, IsOffFrom}
+use Rattle.cert_checker.specs.Firsts.{IsFirstFailing}
 
 -- one number for each parameter: a timing whose delays stay as they are
 abbrev pub steady_timing : List ℕ → TimingValues
@@ -28,8 +29,8 @@ FailsAt line script k values =
 -- the obligation is met, and this is the tick that shows it. Internal: the first tick of the trip,
 -- which comes by the deadline. External: the horizon, up to which there is no trip.
 abbrev pub IsMetAt : Kind → ℕ → ℕ → (ℕ → Bool) → ℕ → Type 0
-IsMetAt Internal deadline horizon trip t = IsFirstOn trip (suc deadline) t
-IsMetAt External deadline horizon trip t = (t ≡ horizon) × IsNeverOn trip horizon
+IsMetAt Internal deadline horizon trip t = IsFirstOnAt trip 0 (suc deadline) t
+IsMetAt External deadline horizon trip t = (t ≡ horizon) × IsOffFrom trip 0 horizon
 
 -- the history at the numbers meets it, as this tick shows
 abbrev pub PassesAt : Line → Script → ℕ → List ℕ → ℕ → Type 0

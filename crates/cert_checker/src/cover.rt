@@ -5,8 +5,8 @@ ghost use Rattle.history.specs.Rails.{RailsCover};
 ghost use Rattle.line_model.specs.{declared.script.Script.Script, Parameters.terminal_count};
 ghost use Rattle.line_model.specs.{Choice.declared_box, Histories.AreCovered};
 ghost use Rattle.gate_net.specs.NetOf.{IsNetOf};
-ghost use Rattle.wave_runs.specs.Waves.{wave_at};
-ghost use Rattle.cert_checker.specs.Claims.{AreWaves, AreGateWaves, pairs_of};
+ghost use Rattle.wave_runs.specs.Waves.{wave_at, AreWaves};
+ghost use Rattle.cert_checker.specs.Claims.{AreGateWaves, pairs_of};
 ghost use Rattle.cert_checker.specs.{Firsts.IsFirstFailing, Verdicts.IsFirstUncovered};
 
 use crate::claim::Uncovered;

@@ -7,8 +7,8 @@ ghost use Rattle.line_model.specs.Parameters.{terminal_count, channel_count, del
 ghost use Rattle.line_model.specs.Parameters.{declared_ends};
 ghost use Rattle.gate_net.specs.{Laws.HasArguments, Named.GateNames};
 ghost use Rattle.simulator.specs.GatePairs.{kind_pair};
-ghost use Rattle.wave_runs.specs.Waves.{IsWaveOf};
-ghost use Rattle.cert_checker.specs.Claims.{AreWaves, pairs_of, declared_world};
+ghost use Rattle.wave_runs.specs.Waves.{AreWaves, IsWaveOf};
+ghost use Rattle.cert_checker.specs.Claims.{pairs_of, declared_world};
 
 use crate::declared::{declared_delay, declared_time};
 use crate::script_wave::{loss_wave, seen_wave, steady};

@@ -3,7 +3,8 @@
 ghost use Rattle.std.specs.Prelude.{IfOk};
 ghost use Rattle.line_model.specs.Parameters.{terminal_count};
 ghost use Rattle.gate_net.specs.NetOf.{IsNetOf};
-ghost use Rattle.cert_checker.specs.Claims.{AreWaves, AreGateWaves, pairs_of};
+ghost use Rattle.wave_runs.specs.Waves.{AreWaves};
+ghost use Rattle.cert_checker.specs.Claims.{AreGateWaves, pairs_of};
 
 use crate::gate::gate_wave;
 use gate_net::{GateId, Net};

@@ -5,7 +5,7 @@ ghost use Rattle.line_model.specs.{Parameters.terminal_count, Histories.MeetsBy,
 ghost use Rattle.gate_net.specs.NetOf.{IsNetOf};
 ghost use Rattle.timing_box.specs.Inside.{IsTimingInside};
 ghost use Rattle.simulator.specs.PlayedTracks.{is_on};
-ghost use Rattle.cert_checker.specs.Firsts.{IsFirstOn, IsNeverOn};
+ghost use Rattle.wave_runs.specs.FirstTick.{IsFirstOn};
 ghost use Rattle.cert_checker.specs.Refutations.{steady_timing, FailsAt, PassesAt, IsMetAt};
 
 use channel::Track;
@@ -78,9 +78,7 @@ fn met_tick(trip: &Track<Level>, script: &Script, horizon: u32) -> Option<u32>
 // The first of so many ticks at which the trip is on.
 fn first_trip(trip: &Track<Level>, ticks: u32) -> Option<u32>
     requires { ticks ≤ length trip.now.keys }
-    ensures { MatchOption result
-        (IsNeverOn (is_on trip.now) ticks)
-        (λ t. IsFirstOn (is_on trip.now) ticks t) }
+    ensures { IsFirstOn (is_on trip.now) 0 ticks result }
 {
     let mut t = 0;
     'stretches: while t < ticks {

@@ -5,10 +5,10 @@ ghost use Rattle.std.specs.List.{All};
 ghost use Rattle.history.specs.Rails.{Rails};
 ghost use Rattle.line_model.specs.{PairMean.PairSignals, Parameters.terminal_count, Fits.Fits};
 ghost use Rattle.gate_net.specs.NetOf.{IsNetOf};
-ghost use Rattle.wave_runs.specs.Waves.{wave_at};
+ghost use Rattle.wave_runs.specs.Waves.{wave_at, AreWaves};
 ghost use Rattle.certificate.specs.Grammar.{HasNumbers, claims_in, verdict_in};
 ghost use Rattle.certificate.specs.Text.{CanBeWritten};
-ghost use Rattle.cert_checker.specs.Claims.{AreWaves, AreGateWaves};
+ghost use Rattle.cert_checker.specs.Claims.{AreGateWaves};
 ghost use Rattle.cert_checker.specs.Verdicts.{IsSupported, IsFaultOf, AreSound, IsVerdictFault};
 ghost use Rattle.cert_checker.specs.Verdicts.{AreSupported, AreAccepted, IsFirstFault};
 

@@ -5,4 +5,5 @@ pub mod Pieces
 pub mod PlayTexts
 pub mod Puts
 pub mod Searched
+pub mod Verdicts
 pub mod Writing

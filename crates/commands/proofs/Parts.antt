@@ -2,31 +2,29 @@
 use Rattle.std.proofs.Common.{◌≡◌, ℕ, ◌+◌, ◌<◌, ◌≤◌, Bool, false, ◌||◌, List, [], ◌∷◌, ◌++◌}
 use Rattle.std.proofs.Common.{length, get_or, take, drop, map, Result, Ok, Err, refl, sym, ap, ◌∙◌}
 use Rattle.std.proofs.Common.{subst}
-use Rattle.std.proofs.Math.Bool.{or-false}
 use Rattle.std.proofs.lemmas.List.{append-nil, drop_more, map-append, take-append-drop, take_all}
 use Rattle.std.proofs.lemmas.List.{take_more}
 use Rattle.std.proofs.lemmas.List.Elements.{All-drop}
-use Rattle.std.proofs.lemmas.List.Folds.{concat-append, list_any-append}
-use Rattle.std.specs.List.{All, AllZip, concat}
+use Rattle.std.proofs.lemmas.List.Folds.{concat-append}
+use Rattle.std.specs.List.{All, AllZip, concat, flat_map}
 use Rattle.tick_signal.specs.declared.tern.Tern.{Tern}
 use Rattle.line_model.specs.Choice.{Box, LeastFromOne, declared_box}
 use Rattle.line_model.specs.Histories.{PairHistory, IsPairHistory}
 use Rattle.line_model.specs.{declared.line.Line.Line, declared.script.Script.Script, Fits.Fits}
-use Rattle.certificate.specs.Grammar.{Verdict as Written}
 use Rattle.certify_core.specs.declared.verdict.Verdict.{Verdict}
 use Rattle.certify_core.specs.{declared.verdict.ScriptVerdict.ScriptVerdict, Piece.part_text}
 use Rattle.certify_core.specs.{Piece.piece_text, Verdicts.AreKeys, Verdicts.AreVerdicts}
 use Rattle.cert_checker.specs.ZipLaws.{zip_append, zip_exists, zip_once}
 use Rattle.engine.specs.Certified.{IsCertified}
-use Rattle.commands.specs.Certify.{certify_answer, IsCertificate, IsPart, Part, certificate_end}
-use Rattle.cert_checker.specs.Counts.{is_no, is_undecided}
-use Rattle.commands.specs.Certify.{certificate_head, some_written, some_verdict}
-use Rattle.commands.specs.PartWrites.{WritesPart, WritesParts, parts_text}
+use Rattle.commands.specs.Certify.{certify_answer, IsCertificateOf, IsPart, Part, certificate_end}
+use Rattle.commands.specs.Certify.{certificate_head, parts_text, written_verdicts}
+use Rattle.commands.specs.PartWrites.{WritesPart, WritesParts}
 use Rattle.commands.specs.Sinks.{SinkView, GrewByAll, WriteStops}
-use Rattle.commands.specs.{Answers.WritesAnswer, Answers.status_by, declared.found.Found.Found}
+use Rattle.commands.specs.{Answers.WritesAnswer, Verdicts.verdicts_status, declared.found.Found.Found}
 use Rattle.commands.specs.{declared.done.Done.Done, declared.put.WriteStop.WriteStop}
 use Rattle.commands.specs.declared.put.WriteStop.TheVariants as stop
 use Rattle.commands.specs.SinkLaws.{grew_both, grew_none}
+use Rattle.commands.proofs.Verdicts.{found_more, found_none}
 use Rattle.commands.proofs.Writing.{stops_more, stops_none, stops_then}
 
 -- ---- each script has one part
@@ -87,13 +85,14 @@ module _
   parts_once = zip_once (Fits line) (IsPart line) (λ script p q. part_once script p q)
 
   pub certificate_once : (scripts : List Script) (s t : Done) (a b : List ℕ)
-      → All (Fits line) scripts → IsCertificate line scripts s a → IsCertificate line scripts t b
+      → All (Fits line) scripts → IsCertificateOf line scripts s a
+      → IsCertificateOf line scripts t b
       → (s ≡ t) × (a ≡ b)
   certificate_once scripts s t a b fits p q =
       let same : p.parts ≡ q.parts =
       parts_once scripts p.parts q.parts fits p.are_parts q.are_parts in (
         p.status_is
-            ∙ ap (λ ps. status_by (some_verdict is_no ps) (some_verdict is_undecided ps)) same
+            ∙ ap (λ ps. verdicts_status (flat_map written_verdicts ps)) same
             ∙ sym q.status_is,
         p.text_is
             ∙ ap (λ ps. certificate_head ++ parts_text ps ++ certificate_end) same
@@ -119,8 +118,7 @@ part_said line script said text (w, is_w) certified is = record {
 module _ (line : Line) where
   pub certificate_of : (scripts : List Script) (parts : List Part)
       → AllZip (IsPart line) scripts parts
-      → IsCertificate line scripts
-      (status_by (some_verdict is_no parts) (some_verdict is_undecided parts))
+      → IsCertificateOf line scripts (verdicts_status (flat_map written_verdicts parts))
       (certificate_head ++ parts_text parts ++ certificate_end)
   certificate_of scripts parts are =
       record { parts = parts; are_parts = are; status_is = refl; text_is = refl }
@@ -131,10 +129,10 @@ module _ (line : Line) where
     parts_exist = zip_exists (Fits line) (IsPart line) part
 
     pub certificate_exists : (scripts : List Script) → All (Fits line) scripts
-        → (s : Done) × (text : List ℕ) × IsCertificate line scripts s text
+        → (s : Done) × (text : List ℕ) × IsCertificateOf line scripts s text
     certificate_exists scripts fits =
         let all = parts_exist scripts fits in (
-          status_by (some_verdict is_no all.0) (some_verdict is_undecided all.0),
+          verdicts_status (flat_map written_verdicts all.0),
           certificate_head ++ parts_text all.0 ++ certificate_end,
           certificate_of scripts all.0 all.1,
         )
@@ -150,17 +148,6 @@ parts_text-first : (part : Part) (parts : List Part)
     → parts_text (part ∷ parts) ≡ part.text ++ parts_text parts
 parts_text-first part parts = refl
 
--- some verdict of one part more
-some_more : (is_such : Written → Bool) (parts : List Part) (part : Part)
-    → some_verdict is_such (parts ++ part ∷ [])
-    ≡ some_verdict is_such parts || some_written is_such part.verdicts
-some_more is_such parts part =
-    list_any-append (λ (p : Part). some_written is_such p.verdicts) parts (part ∷ [])
-    ∙ ap (λ b. some_verdict is_such parts || b) (or-false (some_written is_such part.verdicts))
-
-pub both_found : (a b c d : Bool) → a ≡ b → c ≡ d → a || c ≡ b || d
-both_found a b c d e f = ap (λ x. x || c) e ∙ ap (λ x. b || x) f
-
 module _ (line : Line) where
   -- no part yet
   pub parts_none : (s : SinkView) (found : Found) → found.some_no ≡ false
@@ -169,8 +156,7 @@ module _ (line : Line) where
     parts = [];
     are_parts = tt;
     writes = grew_none s;
-    some_no = noes;
-    some_undecided = undecideds;
+    found = found_none found noes undecideds;
   }
 
   -- a part whose script is not decided for want of memory
@@ -180,8 +166,7 @@ module _ (line : Line) where
     part = exists.0;
     is_part = exists.1;
     writes = stops_none s exists.0.text;
-    some_no = tt;
-    some_undecided = tt;
+    found = tt;
   }
 
   module _ (scripts : List Script) (i : ℕ) (script : Script) (lt : i < length scripts)
@@ -201,9 +186,7 @@ module _ (line : Line) where
           (sym (parts_text-append w.parts (p.part ∷ [])
           ∙ ap (λ z. parts_text w.parts ++ z) (append-nil p.part.text)))
           (grew_both w.writes p.writes);
-      some_no = noes ∙ both_found _ _ _ _ w.some_no p.some_no ∙ sym (some_more is_no w.parts p.part);
-      some_undecided = undecideds ∙ both_found _ _ _ _ w.some_undecided p.some_undecided
-          ∙ sym (some_more is_undecided w.parts p.part);
+      found = found_more written_verdicts w.parts p.part f g h noes undecideds w.found p.found;
     }
 
     -- a part stops: the others are still to come
@@ -226,8 +209,7 @@ module _ (line : Line) where
           writes = subst (λ z. WriteStops a c z why)
               (sym (parts_text-append w.parts (p.part ∷ rest.0)))
               (stops_then w.writes (stops_more (parts_text rest.0) p.writes));
-          some_no = tt;
-          some_undecided = tt;
+          found = tt;
         }
 
   -- all parts
@@ -243,7 +225,7 @@ pub certificate_stops : (line : Line) (scripts : List Script) (parts : List Part
     → WriteStops old new (certificate_head ++ parts_text parts ++ certificate_end) why
     → WritesAnswer (certify_answer line scripts) old new (Err why)
 certificate_stops line scripts parts are old new why stops = record {
-  status = status_by (some_verdict is_no parts) (some_verdict is_undecided parts);
+  status = verdicts_status (flat_map written_verdicts parts);
   text = certificate_head ++ parts_text parts ++ certificate_end;
   is = certificate_of line scripts parts are;
   writes = stops;

@@ -1,45 +1,24 @@
 -- The text of split trees, as it is made script by script.
 use Rattle.std.proofs.Common.{◌≡◌, ℕ, ◌+◌, ◌<◌, ◌≤◌, ◌||◌, List, [], ◌∷◌, ◌++◌, length}
 use Rattle.std.proofs.Common.{get_or, map, false, take, refl, sym, ap, ◌∙◌, subst}
-use Rattle.std.proofs.Math.Bool.{or-false}
 use Rattle.std.proofs.lemmas.List.{append_assoc, append-nil, take_all, take_more}
-use Rattle.std.proofs.lemmas.List.Folds.{list_any-append}
-use Rattle.std.specs.List.{list_any}
-use Rattle.std.specs.Prelude.{Bool}
 use Rattle.line_model.specs.{declared.line.Line.Line, declared.script.Script.Script}
 use Rattle.certificate.specs.{Grammar.end_text, Text.fed}
 use Rattle.split_text.specs.Grammar.{SplitResult, head_text}
 use Rattle.split_text.specs.Text.{part_text, parts_text}
 use Rattle.own_splits.specs.Searched.{AllSearched, AreSearched}
-use Rattle.commands.specs.Split.{HasSplits, IsSplitOf, is_fails, is_open, some_result}
-use Rattle.commands.specs.{Answers.status_by, declared.found.Found.Found}
-use Rattle.commands.proofs.Parts.{both_found}
-
--- some image of an element is such
-pub any_map : {X Y : Type 0} (p : Y → Bool) (f : X → Y) (xs : List X)
-    → list_any (λ x. p (f x)) xs ≡ list_any p (map f xs)
-any_map p f [] = refl
-any_map p f (x ∷ xs) = rw (any_map p f xs) refl
-
--- ---- script by script
+use Rattle.split_checker.specs.Counts.{all_verdicts, verdict_of}
+use Rattle.commands.specs.{Answers.status_by, Split.HasSplits, Split.IsSplitOf}
+use Rattle.commands.specs.{Verdicts.IsFoundOf, declared.found.Found.Found}
+use Rattle.commands.proofs.Verdicts.{found_more, found_none, status_found}
 
 -- the head and the parts of these scripts, and what is found of them
 pub record AreBegun (line : Line) (n : ℕ) (scripts : List Script) (text : List ℕ) (told : Found)
     : Type 0 where
   pub parts : List (List SplitResult)
   pub searched : AllSearched line n scripts parts
-  pub fails : told.some_no ≡ some_result is_fails parts
-  pub undecided : told.some_open ≡ some_result is_open parts
+  pub found : IsFoundOf (all_verdicts parts) told
   pub text_is : text ≡ fed head_text ++ parts_text line scripts parts
-
--- some result of one script more
-some_more : (is_such : SplitResult → Bool) (parts : List (List SplitResult))
-    (more : List SplitResult)
-    → some_result is_such (parts ++ more ∷ [])
-    ≡ some_result is_such parts || list_any is_such more
-some_more is_such parts more =
-    list_any-append (λ (results : List SplitResult). list_any is_such results) parts (more ∷ [])
-    ∙ ap (λ b. some_result is_such parts || b) (or-false (list_any is_such more))
 
 module _ (line : Line) (n : ℕ) where
   pub begun_none : (text : List ℕ) (told : Found) → text ≡ fed head_text → told.some_no ≡ false
@@ -47,8 +26,7 @@ module _ (line : Line) (n : ℕ) where
   begun_none text told is noes opens = record {
     parts = [];
     searched = tt;
-    fails = noes;
-    undecided = opens;
+    found = found_none told noes opens;
     text_is = is ∙ sym (append-nil (fed head_text));
   }
 
@@ -75,10 +53,8 @@ module _ (line : Line) (n : ℕ) where
         parts = begun.parts ++ part.results ∷ [];
         searched = more (take i scripts) begun.parts script part.results begun.searched
             part.searched;
-        fails = noes ∙ both_found _ _ _ _ begun.fails part.fails
-            ∙ sym (some_more is_fails begun.parts part.results);
-        undecided = opens ∙ both_found _ _ _ _ begun.undecided part.undecided
-            ∙ sym (some_more is_open begun.parts part.results);
+        found = found_more (map verdict_of) begun.parts part.results f g h noes opens begun.found
+            part.found;
         text_is = part.text_is
             ∙ ap (λ z. z ++ part_text line script part.results) begun.text_is
             ∙ append_assoc (fed head_text) (parts_text line (take i scripts) begun.parts)
@@ -97,8 +73,7 @@ module _ (line : Line) (n : ℕ) where
       record {
         parts = all.parts;
         searched = all.searched;
-        status_is = ap (λ b. status_by b told.some_open) all.fails
-            ∙ ap (status_by (some_result is_fails all.parts)) all.undecided;
+        status_is = status_found (all_verdicts all.parts) told all.found;
         text_is = is ∙ ap (λ z. z ++ fed end_text) all.text_is
             ∙ append_assoc (fed head_text) (parts_text line scripts all.parts) (fed end_text);
       }

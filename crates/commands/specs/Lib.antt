@@ -17,3 +17,4 @@ pub mod SinkLaws
 pub mod Sinks
 pub mod Split
 pub mod Study
+pub mod Verdicts

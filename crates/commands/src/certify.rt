@@ -1,5 +1,5 @@
 //! The command `certify`: the verdict of each obligation, for every choice of delays.
-ghost use Rattle.std.specs.Prelude.{◌≡◌, OnOk, length};
+ghost use Rattle.std.specs.Prelude.{◌≡◌, OnOk, length, map};
 ghost use Rattle.std.specs.List.{All};
 ghost use Rattle.line_model.specs.Fits.{Fits};
 ghost use Rattle.gate_net.specs.NetOf.{IsNetOf};
@@ -7,9 +7,10 @@ ghost use Rattle.engine.specs.Calls.{AskedCertify, AskedVerdicts, NoneFell};
 ghost use Rattle.certify_core.specs.Piece.{written_as};
 ghost use Rattle.cert_checker.specs.Counts.{is_no as no_verdict};
 ghost use Rattle.cert_checker.specs.Counts.{is_undecided as undecided_verdict};
-ghost use Rattle.commands.specs.Certify.{certify_answer, certify_asks, some_written};
+ghost use Rattle.commands.specs.Certify.{certify_answer, certify_asks};
 ghost use Rattle.commands.specs.PartWrites.{WritesPart, WritesParts};
 ghost use Rattle.commands.specs.{Answers.WritesAnswer, Sinks.sink_view, Study.IsStudy};
+ghost use Rattle.commands.specs.Verdicts.{IsFoundOf};
 
 use crate::done::Done;
 use crate::found::{Found, NOTHING};
@@ -95,23 +96,17 @@ fn write_part<G: Engine, O: Sink>(
     let said = engine.certify(alloc, line, net, script)?;
     let piece = cert_piece(alloc, line, script, &said)?;
     put_text(out, piece.as_slice())?;
-    let verdicts = said.verdicts.as_slice();
-    Ok(Found {
-        some_no: some_no(verdicts),
-        some_open: some_undecided(verdicts),
-    })
+    Ok(found_of(said.verdicts.as_slice()))
 }
 
-fn some_no(verdicts: &[Verdict]) -> bool
-    ensures { result ≡ some_written no_verdict verdicts.now }
+// What is found of these verdicts.
+fn found_of(verdicts: &[Verdict]) -> Found
+    ensures { IsFoundOf (map written_as verdicts.now) result }
 {
-    verdicts.iter().any(|verdict| is_no(verdict))
-}
-
-fn some_undecided(verdicts: &[Verdict]) -> bool
-    ensures { result ≡ some_written undecided_verdict verdicts.now }
-{
-    verdicts.iter().any(|verdict| is_undecided(verdict))
+    Found {
+        some_no: verdicts.iter().any(|verdict| is_no(verdict)),
+        some_open: verdicts.iter().any(|verdict| is_undecided(verdict)),
+    }
 }
 
 fn is_no(verdict: &Verdict) -> bool

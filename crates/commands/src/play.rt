@@ -4,7 +4,7 @@ ghost use Rattle.std.specs.List.{All};
 ghost use Rattle.gate_net.specs.NetOf.{IsNetOf};
 ghost use Rattle.timing_box.specs.{Inside.IsTimingInside, SoFar.values_of};
 ghost use Rattle.engine.specs.Calls.{AskedPlay, AskedPlays};
-ghost use Rattle.commands.specs.{Answers.WritesAnswer, Play.IsPlayText, Play.IsRunText};
+ghost use Rattle.commands.specs.{Answers.WritesAnswer, Play.IsRunText};
 ghost use Rattle.commands.specs.{Play.IsTimingText, Play.Pieces, Play.play_answer, Play.play_asks};
 ghost use Rattle.commands.specs.{Sinks.Writes, Sinks.sink_view, Study.IsStudy};
 
@@ -36,8 +36,9 @@ pub fn play<G: Engine, O: Sink>(
         (sink_view O.written O.faults out.old) (sink_view O.written O.faults out.new) result }
 {
     each_play_has_one_text();
+    put_text(out, b"timing,script,tick,terminal,signal,level\n")?;
     let scripts = study.scripts.as_slice();
-    write_play(
+    write_timings(
         alloc,
         &study.line,
         &study.net,
@@ -47,28 +48,6 @@ pub fn play<G: Engine, O: Sink>(
         out,
     )?;
     Ok(Done::Good)
-}
-
-// Writes the header, and then each timing in order.
-fn write_play<G: Engine, O: Sink>(
-    alloc: Global,
-    line: &Line,
-    net: &Net,
-    scripts: &[Script],
-    timings: &[NamedTiming],
-    engine: &mut G,
-    out: &mut O,
-) -> Result<(), WriteStop>
-    requires of_line { IsNetOf line.now net.now }
-    requires inside { All (λ timing. IsTimingInside line.now timing.timing) timings.now }
-    ensures asked { OnOk result (AskedPlays line.now (length timings.now * length scripts.now)
-        (G.calls engine.old) (G.calls engine.new)) }
-    ensures writes { (text : List ℕ) → IsPlayText line.now scripts.now (map values_of timings.now) text →
-        Writes (sink_view O.written O.faults out.old) (sink_view O.written O.faults out.new)
-        text result }
-{
-    put_text(out, b"timing,script,tick,terminal,signal,level\n")?;
-    write_timings(alloc, line, net, scripts, timings, engine, out)
 }
 
 // Writes the rows of each timing in order.

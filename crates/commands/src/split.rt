@@ -1,22 +1,24 @@
 //! The command `split`: the parts of the declared box in which each obligation is decided.
-ghost use Rattle.std.specs.Prelude.{◌≡◌, ◌≤◌, IfOk};
-ghost use Rattle.std.specs.List.{list_any};
+ghost use Rattle.std.specs.Prelude.{◌≡◌, ◌≤◌, IfOk, map};
 ghost use Rattle.line_model.specs.{Fits.Fits, Parameters.terminal_count};
 ghost use Rattle.gate_net.specs.NetOf.{IsNetOf};
 ghost use Rattle.certify_core.specs.OneEach.{OneEach};
 ghost use Rattle.box_split.specs.Found.{IsFound};
 ghost use Rattle.split_text.specs.Piece.{ArePrintable, written_as};
-ghost use Rattle.commands.specs.Split.{HasSplits, split_answer, is_fails as failing};
-ghost use Rattle.commands.specs.Split.{is_open as undecided, is_undecided as undecided_node};
-ghost use Rattle.commands.specs.{Answers.Says, Study.IsStudy};
+ghost use Rattle.cert_checker.specs.Counts.{is_no as no_verdict};
+ghost use Rattle.cert_checker.specs.Counts.{is_undecided as undecided_verdict};
+ghost use Rattle.split_checker.specs.Counts.{verdict_of};
+ghost use Rattle.commands.specs.Split.{HasSplits, split_answer};
+ghost use Rattle.commands.specs.{Answers.Says, Study.IsStudy, Verdicts.IsFoundOf};
 
 use crate::found::{Found, NOTHING};
 use crate::said::Said;
 use crate::study::Study;
-use box_split::{Node, Outcome, search};
+use box_split::{Outcome, search};
 use gate_net::Net;
 use line_model::{Line, Memory, Script};
 use own_splits::what_is_searched_grows_by_parts;
+use split_checker::is_yes_tree;
 use split_text::{
     SPLIT_END, SPLIT_HEAD, a_split_text_grows_by_parts, a_split_text_has_a_head_and_an_end,
     split_piece, what_a_search_finds_can_be_written,
@@ -63,10 +65,7 @@ fn push_part(
     let outcomes = outcomes(alloc, line, net, script, depth)?;
     let piece = split_piece(alloc, line, script, outcomes.as_slice())?;
     text.extend_from_slice(piece.as_slice())?;
-    Ok(Found {
-        some_no: some_fails(outcomes.as_slice()),
-        some_open: some_open(outcomes.as_slice()),
-    })
+    Ok(found_of(outcomes.as_slice()))
 }
 
 // The outcome of the search for each terminal, in line order.
@@ -94,20 +93,18 @@ fn outcomes(
     Ok(all)
 }
 
-fn some_fails(outcomes: &[Outcome]) -> bool
-    ensures { result ≡ list_any (λ outcome. failing (written_as outcome)) outcomes.now }
+// What is found of the verdicts that these outcomes come to.
+fn found_of(outcomes: &[Outcome]) -> Found
+    ensures { IsFoundOf (map verdict_of (map written_as outcomes.now)) result }
 {
-    outcomes.iter().any(|outcome| is_fails(outcome))
+    Found {
+        some_no: outcomes.iter().any(|outcome| is_no(outcome)),
+        some_open: outcomes.iter().any(|outcome| is_undecided(outcome)),
+    }
 }
 
-fn some_open(outcomes: &[Outcome]) -> bool
-    ensures { result ≡ list_any (λ outcome. undecided (written_as outcome)) outcomes.now }
-{
-    outcomes.iter().any(|outcome| is_open(outcome))
-}
-
-fn is_fails(outcome: &Outcome) -> bool
-    ensures { result ≡ failing (written_as outcome.now) }
+fn is_no(outcome: &Outcome) -> bool
+    ensures { result ≡ no_verdict (verdict_of (written_as outcome.now)) }
 {
     match outcome {
         Outcome::Tree(_) => false,
@@ -115,26 +112,11 @@ fn is_fails(outcome: &Outcome) -> bool
     }
 }
 
-fn is_open(outcome: &Outcome) -> bool
-    ensures { result ≡ undecided (written_as outcome.now) }
+fn is_undecided(outcome: &Outcome) -> bool
+    ensures { result ≡ undecided_verdict (verdict_of (written_as outcome.now)) }
 {
     match outcome {
-        Outcome::Tree(nodes) => some_undecided(nodes.as_slice()),
+        Outcome::Tree(nodes) => !is_yes_tree(nodes.as_slice()),
         Outcome::Fails(_) => false,
-    }
-}
-
-fn some_undecided(nodes: &[Node]) -> bool
-    ensures { result ≡ list_any undecided_node nodes.now }
-{
-    nodes.iter().any(|node| is_undecided(*node))
-}
-
-fn is_undecided(node: Node) -> bool
-    ensures { result ≡ undecided_node node }
-{
-    match node {
-        Node::Undecided => true,
-        Node::Yes | Node::Split { .. } => false,
     }
 }

@@ -1,5 +1,6 @@
 -- What waves tell is an interval history.
-use Rattle.std.proofs.Common.{◌≡◌, ◌<◌, ℕ, List, [], Some, map, get_or, sym, ◌∙◌, ap, arith}
+use Rattle.std.proofs.Common.{◌≡◌, ◌<◌, ℕ, List, [], Some, length, map, get_or, sym, ◌∙◌, ap}
+use Rattle.std.proofs.Common.{arith}
 use Rattle.std.proofs.lemmas.Option.{slice_get-map, slice_get_read, get_or_from_slice_get}
 use Rattle.std.specs.Prelude.{slice_get, option_map}
 use Rattle.history.specs.Rails.{Rails, rails_at}
@@ -9,9 +10,9 @@ use Rattle.line_model.specs.Histories.{PairHistory, IsPairHistory, IsSamePairHis
 use Rattle.line_model.specs.{declared.script.Script.Script, Parameters.terminal_count}
 use Rattle.line_model.specs.{PairMean.PairSignals, Choice.Box, Choice.LeastFromOne, Logic.key_tree}
 use Rattle.line_model.specs.{Logic.trip_tree, Laws.TreesNameTheLine, Laws.ValuesRestOnEarlierKeys}
-use Rattle.wave_runs.specs.Waves.{IsWaveOf}
+use Rattle.wave_runs.specs.Waves.{AreWaves, IsWaveOf}
 use Rattle.simulator.specs.ListLaws.{exists_at}
-use Rattle.interval_wave.specs.PairWavesOf.{pairs_of, told_by, AreWaves, AreWavesOf, pair_at}
+use Rattle.interval_wave.specs.PairWavesOf.{pairs_of, told_by, AreWavesOf, pair_at}
 use Rattle.interval_wave.specs.PairWavesOf.{pair_history}
 
 -- the pairs of a terminal's wave
@@ -27,9 +28,9 @@ pub wave_read : (n horizon : ℕ) (waves : List (List Tern)) → AreWaves n hori
     (wave : List Tern) → k < n → wave ≡ get_or waves k wave
     → IsWaveOf wave horizon (pair_at (pairs_of waves) k)
 wave_read n horizon waves are k wave kn read =
-    let at : slice_get waves k ≡ Some wave = slice_get_read waves n k wave (sym are.count) kn read in
+    let at : slice_get waves k ≡ Some wave = slice_get_read waves n k wave (sym are.many) kn read in
     record {
-      long = are.long k wave at;
+      long = ap length (sym (get_or_from_slice_get waves k wave [] at)) ∙ are.long k kn;
       values = λ t early.
           ap (λ (rails : List Rails). rails_at rails t) (wave_pairs waves k wave at);
     }
@@ -47,8 +48,10 @@ pair_told n horizon pairs waves are k t kn early =
 pub are_long : (n m horizon : ℕ) (pairs : PairSignals) (waves : List (List Tern)) → m ≡ n
     → AreWavesOf m horizon pairs waves → AreWaves n horizon waves
 are_long n m horizon pairs waves same are = record {
-  count = are.count ∙ same;
-  long = λ k wave at. (are.each k wave at).long;
+  many = are.count ∙ same;
+  long = λ k kn.
+      let (wave, at) = exists_at waves k (omega (arith, are.count, same, kn)) in
+      ap length (get_or_from_slice_get waves k wave [] at) ∙ (are.each k wave at).long;
 }
 
 module _ (trees : TreesNameTheLine) (values : ValuesRestOnEarlierKeys) where

@@ -27,11 +27,6 @@ told_by horizon keys trips = record {
   trips = pairs_of trips;
 }
 
--- a wave up to the horizon for each of so many terminals
-pub record AreWaves (terminals horizon : ℕ) (waves : List (List Tern)) : Type 0 where
-  pub count : length waves ≡ terminals
-  pub long : (k : ℕ) (wave : List Tern) → slice_get waves k ≡ Some wave → length wave ≡ horizon
-
 -- they have these pairs
 pub record AreWavesOf (terminals horizon : ℕ) (pairs : PairSignals) (waves : List (List Tern))
     : Type 0 where

@@ -2,8 +2,8 @@
 
 ghost use Rattle.std.specs.Prelude.{◌≡◌, ◌<◌, IfSome, length};
 ghost use Rattle.tick_signal.specs.Terns.{tern_rails};
-ghost use Rattle.wave_runs.specs.{FirstTick.first_on, Waves.IsWaveOf};
-ghost use Rattle.interval_wave.specs.PairWavesOf.{AreWaves, told_by, pair_history};
+ghost use Rattle.wave_runs.specs.{FirstTick.first_on, Waves.AreWaves, Waves.IsWaveOf};
+ghost use Rattle.interval_wave.specs.PairWavesOf.{told_by, pair_history};
 
 use std::marker::Model;
 use tick_signal::Tern;
@@ -20,7 +20,8 @@ pub struct PairWaves {
 
 impl Model for PairWaves {
     ghost use Rattle.std.specs.Prelude.{length};
-    ghost use Rattle.interval_wave.specs.PairWavesOf.{PairWavesOf, AreWaves, told_by};
+    ghost use Rattle.wave_runs.specs.Waves.{AreWaves};
+    ghost use Rattle.interval_wave.specs.PairWavesOf.{PairWavesOf, told_by};
 
     ghost Value = { PairWavesOf };
 

@@ -5,7 +5,7 @@ ghost use Rattle.line_model.specs.Parameters.{terminal_count};
 ghost use Rattle.line_model.specs.Histories.{IsSameHistory};
 ghost use Rattle.gate_net.specs.NetOf.{IsNetOf};
 ghost use Rattle.timing_box.specs.Inside.{IsTimingInside};
-ghost use Rattle.cert_checker.specs.Claims.{AreWaves};
+ghost use Rattle.wave_runs.specs.Waves.{AreWaves};
 ghost use Rattle.simulator.specs.{PlayedTracks.played, Ticks.AreSent};
 ghost use Rattle.record_match.specs.Seen.{AreSeen, IsAsSeen, AreAsSeen, Gives, seen_history};
 

@@ -4,15 +4,15 @@ ghost use Rattle.std.specs.Prelude.{◌≡◌, ◌+◌, ◌≤◌, ◌∷◌, []
 ghost use Rattle.std.specs.List.{All};
 ghost use Rattle.cert_checker.specs.Counts.{Adds};
 ghost use Rattle.split_text.specs.{Grammar.tree, Reading.result_in, Reading.results_in};
-ghost use Rattle.split_checker.specs.Counts.{is_yes_tree, verdict_of, CountResults};
+ghost use Rattle.split_checker.specs.Counts.{is_yes_tree as yes_tree, verdict_of, CountResults};
 
 use box_split::Node;
 use cert_checker::Counts;
 use split_text::SplitClaim;
 
-// Whether no leaf is undecided.
-fn is_yes(nodes: &[Node]) -> bool
-    ensures { result ≡ is_yes_tree nodes.now }
+/// Whether no leaf of a tree with these nodes is undecided.
+pub fn is_yes_tree(nodes: &[Node]) -> bool
+    ensures { result ≡ yes_tree nodes.now }
 {
     nodes.iter().all(|node| !matches!(node, Node::Undecided))
 }
@@ -37,7 +37,7 @@ fn with_tree(counts: Counts, nodes: &[Node]) -> Counts
     requires { (counts.yes ≤ 1000000) × (counts.undecided ≤ 1000000) }
     ensures { Adds counts (verdict_of (tree nodes.now) ∷ []) result }
 {
-    if is_yes(nodes) {
+    if is_yes_tree(nodes) {
         Counts {
             yes: counts.yes + 1,
             no: counts.no,

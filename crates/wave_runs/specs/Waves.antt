@@ -57,6 +57,11 @@ pub record IsWaveOf (wave : List Tern) (len : ℕ) (value : ℕ → Rails) : Typ
   pub long : length wave ≡ len
   pub values : (t : ℕ) → t < len → wave_at wave t ≡ value t
 
+-- so many waves, each of so many ticks
+pub record AreWaves (count ticks : ℕ) (waves : List (List Tern)) : Type 0 where
+  pub many : length waves ≡ count
+  pub long : (k : ℕ) → k < count → length (get_or waves k []) ≡ ticks
+
 -- `end` is the greatest tick up to `last` such that the values from tick t to `end` - 1 are equal
 pub record IsSameUntil (value : ℕ → Rails) (t last end : ℕ) : Type 0 where
   pub later : t < end

@@ -1,7 +1,7 @@
 //! The waves that follow from claimed keys.
 
 ghost use Rattle.std.specs.Prelude.{◌≡◌, ◌∷◌, [], length, IfOk};
-ghost use Rattle.cert_checker.specs.Claims.{AreWaves};
+ghost use Rattle.wave_runs.specs.Waves.{AreWaves};
 ghost use Rattle.line_model.specs.Parameters.{terminal_count};
 
 use super::worked_files::*;

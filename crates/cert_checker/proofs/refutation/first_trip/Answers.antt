@@ -6,7 +6,8 @@ use Rattle.cert_checker.proofs.refutation.first_trip.Goals as goal
 
 pub returns-then-must : goal.returns-then-must
 returns-then-must c = record {
-  inside = c.stretches-test.true;
+  from_there = omega arith;
+  within = c.stretches-test.true;
   on = on_is c.args.trip.now c.stretches.t c.at.result c.at.ensures
       ∙ sym c.must.ensures ∙ c.if-must.true;
   before = c.stretches.invariant.off;
@@ -15,8 +16,8 @@ returns-then-must c = record {
 pub stretches-preserved : goal.stretches-preserved
 stretches-preserved c = record {
   inside = c.stays_until-t.ensures.limited;
-  off = λ r early. ⊎_elim
-      (λ before. c.stretches.invariant.off r before)
+  off = λ r from early. ⊎_elim
+      (λ before. c.stretches.invariant.off r from before)
       (λ here.
       ap must_of ((c.stays_until-t.ensures.stays 0 (omega arith)).same r here early)
       ∙ on_is c.args.trip.now c.stretches.t c.at.result c.at.ensures
@@ -25,4 +26,4 @@ stretches-preserved c = record {
 }
 
 pub returns : goal.returns
-returns c = λ t early. c.stretches.invariant.off t (omega arith)
+returns c = λ t from early. c.stretches.invariant.off t from (omega arith)

@@ -1,13 +1,13 @@
 use Rattle.std.proofs.Common.{◌≤◌, ◌-◌, length}
 use Rattle.simulator.specs.PlayedTracks.{is_on}
-use Rattle.cert_checker.specs.Firsts.{IsNeverOn}
+use Rattle.wave_runs.specs.FirstTick.{IsOffFrom}
 use Rattle.cert_checker.proofs.refutation.first_trip.Given as goal
 
 -- off at every tick so far
 abbrev pub invariant-stretches : goal.invariant-stretches
 invariant-stretches l = record {
   inside : l.t ≤ length l.trip.keys;
-  off : IsNeverOn (is_on l.trip) l.t;
+  off : IsOffFrom (is_on l.trip) 0 l.t;
 }
 
 abbrev pub decreases-stretches : goal.decreases-stretches

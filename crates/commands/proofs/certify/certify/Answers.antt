@@ -1,11 +1,11 @@
-use Rattle.std.proofs.Common.{◌++◌, ap, ◌∙◌}
+use Rattle.std.proofs.Common.{◌++◌, ◌∙◌}
 use Rattle.std.proofs.lemmas.Result.{err_from_is_err_and}
-use Rattle.commands.specs.{Answers.status_by, Certify.certificate_end, Certify.certificate_head}
-use Rattle.cert_checker.specs.Counts.{is_no, is_undecided}
-use Rattle.commands.specs.Certify.{some_verdict}
-use Rattle.commands.specs.{PartWrites.parts_text, SinkLaws.grew_both, Sinks.sink_view}
+use Rattle.std.specs.List.{flat_map}
+use Rattle.commands.specs.Certify.{certificate_end, certificate_head, parts_text, written_verdicts}
+use Rattle.commands.specs.{SinkLaws.grew_both, Sinks.sink_view, Verdicts.verdicts_status}
 use Rattle.commands.proofs.Parts.{certificate_of, certificate_stops, parts_exist}
-use Rattle.commands.proofs.{Counts.none_fell_same, Writing.stops_more, Writing.stops_then}
+use Rattle.commands.proofs.{Counts.none_fell_same, Verdicts.status_found}
+use Rattle.commands.proofs.Writing.{stops_more, stops_then}
 use Rattle.commands.proofs.certify.certify.Goals as goal
 
 -- the head stops
@@ -48,15 +48,14 @@ pub returns-clause-writes : goal.returns-clause-writes
 returns-clause-writes g c =
     let done = rw c.as_slice-scripts.ensures.value at c.in_ok-found.ensures.writes in
     record {
-      status = status_by (some_verdict is_no done.parts) (some_verdict is_undecided done.parts);
+      status = verdicts_status (flat_map written_verdicts done.parts);
       text = certificate_head ++ parts_text done.parts ++ certificate_end;
       is = certificate_of c.args.study.now.line c.args.study.now.scripts.items done.parts
           done.are_parts;
       writes = grew_both (grew_both c.in_ok-put_text.ensures done.writes)
           c.in_ok-put_text-2.ensures;
       gives = c.status.ensures
-          ∙ ap (λ b. status_by b c.in_ok-found.found.some_open) done.some_no
-          ∙ ap (status_by (some_verdict is_no done.parts)) done.some_undecided;
+          ∙ status_found (flat_map written_verdicts done.parts) c.in_ok-found.found done.found;
     }
 
 pub returns-clause-asked : goal.returns-clause-asked

@@ -1,8 +1,5 @@
-use Rattle.std.proofs.Common.{ap, ◌∙◌}
 use Rattle.std.proofs.lemmas.Result.{err_from_is_err_and}
 use Rattle.line_model.specs.Choice.{declared_box}
-use Rattle.cert_checker.specs.Counts.{is_no, is_undecided}
-use Rattle.commands.specs.Certify.{some_written}
 use Rattle.commands.proofs.Parts.{part_said}
 use Rattle.commands.proofs.certify.write_part.Goals as goal
 
@@ -19,15 +16,13 @@ returns-in_err-put_text-clause-writes g c =
           (declared_box line) (c.each_line_has_a_choice_inside.ensures.declared line))
           c.in_ok-said.ensures.certified c.in_ok-piece.ensures;
       writes = rw c.as_slice.ensures.value at c.in_err-put_text.ensures;
-      some_no = tt;
-      some_undecided = tt;
+      found = tt;
     })
 
 pub returns-clause-writes : goal.returns-clause-writes
 returns-clause-writes g c =
     let line = c.args.line.now in
     let said = c.in_ok-said.said in
-    let verdicts = c.as_slice-verdicts.ensures.value in
     record {
       part = record { verdicts = said.verdicts.items; text = c.in_ok-piece.piece.items };
       is_part = part_said line c.args.script.now said c.in_ok-piece.piece.items
@@ -35,6 +30,5 @@ returns-clause-writes g c =
           (declared_box line) (c.each_line_has_a_choice_inside.ensures.declared line))
           c.in_ok-said.ensures.certified c.in_ok-piece.ensures;
       writes = rw c.as_slice.ensures.value at c.in_ok-put_text.ensures;
-      some_no = c.some_no.ensures ∙ ap (some_written is_no) verdicts;
-      some_undecided = c.some_undecided.ensures ∙ ap (some_written is_undecided) verdicts;
+      found = rw c.as_slice-2.ensures.value at c.found_of.ensures;
     }

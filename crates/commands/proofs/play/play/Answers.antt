@@ -1,47 +1,82 @@
-use Rattle.std.proofs.Common.{map, refl}
+use Rattle.std.proofs.Common.{◌≡◌, ◌++◌, map, List, ℕ, Err, refl}
 use Rattle.std.proofs.lemmas.List.{length-map}
 use Rattle.std.proofs.lemmas.List.Elements.{All-map}
 use Rattle.std.proofs.lemmas.Result.{err_from_is_err_and}
+use Rattle.line_model.specs.{declared.line.Line.Line, declared.script.Script.Script}
 use Rattle.timing_box.specs.{Inside.IsTimingInside, SoFar.NamedValues, SoFar.values_of}
+use Rattle.commands.specs.Play.{IsTimingText, Pieces, play_answer, play_header}
+use Rattle.commands.specs.{Answers.WritesAnswer, SinkLaws.grew_both}
+use Rattle.commands.specs.Sinks.{SinkView, WriteStops, sink_view}
+use Rattle.commands.specs.declared.put.WriteStop.{WriteStop}
 use Rattle.commands.specs.declared.done.Done.TheVariants.{Good}
+use Rattle.commands.proofs.Writing.{stops_more, stops_then}
 use Rattle.commands.proofs.play.play.Goals as goal
 
-pub returns-in_err-write_play-clause-writes : goal.returns-in_err-write_play-clause-writes
-returns-in_err-write_play-clause-writes g c =
-    let p = err_from_is_err_and c.from_residual.result c.from_residual.ensures.1 in
+-- a play stops
+play_stops : (line : Line) (scripts : List Script) (timings : List NamedValues) (rows : List ℕ)
+    → Pieces (IsTimingText line scripts) timings rows → (old new : SinkView) (why : WriteStop)
+    → WriteStops old new (play_header ++ rows) why
+    → WritesAnswer (play_answer line scripts timings) old new (Err why)
+play_stops line scripts timings rows are old new why stops = record {
+  status = Good;
+  text = play_header ++ rows;
+  is = (refl, record { rows = rows; are_rows = are; text_is = refl });
+  writes = stops;
+  gives = tt;
+}
+
+-- the header stops
+pub returns-in_err-put_text-clause-writes : goal.returns-in_err-put_text-clause-writes
+returns-in_err-put_text-clause-writes g c =
+    let p = err_from_is_err_and c.from_residual-in_err-put_text.result
+    c.from_residual-in_err-put_text.ensures.1 in
     let line = c.args.study.now.line in
     let scripts = c.args.study.now.scripts.items in
     let timings = map values_of c.args.timings.now in
-    let found = c.each_play_has_one_text.ensures.exists line scripts timings
+    let play = (c.each_play_has_one_text.ensures.exists line scripts timings
     (All-map (λ (timing : NamedValues). IsTimingInside line timing.timing) values_of
-    c.args.timings.now c.requires.inside) in
-    let writes = rw c.as_slice-scripts.ensures.value at c.in_err-write_play.ensures.writes in
-    rw (p.1, p.2) (record {
-      status = Good;
-      text = found.0;
-      is = (refl, found.1);
-      writes = writes found.0 found.1;
-      gives = tt;
-    })
+    c.args.timings.now c.requires.inside)).1 in
+    rw (p.1, p.2) (play_stops line scripts timings play.rows play.are_rows
+    (sink_view g.O.Sink.written g.O.Sink.faults c.args.out.now)
+    (sink_view g.O.Sink.written g.O.Sink.faults c.put_text.new.out) c.in_err-put_text.field-0.0
+    (stops_more play.rows c.in_err-put_text.ensures))
+
+-- the rows stop
+pub returns-in_err-write_timings-clause-writes : goal.returns-in_err-write_timings-clause-writes
+returns-in_err-write_timings-clause-writes g c =
+    let p = err_from_is_err_and c.from_residual-in_err-write_timings.result
+    c.from_residual-in_err-write_timings.ensures.1 in
+    let line = c.args.study.now.line in
+    let scripts = c.args.study.now.scripts.items in
+    let timings = map values_of c.args.timings.now in
+    let play = (c.each_play_has_one_text.ensures.exists line scripts timings
+    (All-map (λ (timing : NamedValues). IsTimingInside line timing.timing) values_of
+    c.args.timings.now c.requires.inside)).1 in
+    let writes = rw c.as_slice-scripts.ensures.value at c.in_err-write_timings.ensures.writes in
+    rw (p.1, p.2) (play_stops line scripts timings play.rows play.are_rows
+    (sink_view g.O.Sink.written g.O.Sink.faults c.args.out.now)
+    (sink_view g.O.Sink.written g.O.Sink.faults c.write_timings.new.out)
+    c.in_err-write_timings.field-0.0
+    (stops_then c.in_ok-put_text.ensures (writes play.rows play.are_rows)))
 
 pub returns-clause-asked : goal.returns-clause-asked
 returns-clause-asked g c =
     rw (length-map c.args.timings.now values_of)
-    (rw c.as_slice-scripts.ensures.value at c.in_ok-write_play.ensures.asked)
+    (rw c.as_slice-scripts.ensures.value at c.in_ok-write_timings.ensures.asked)
 
 pub returns-clause-writes : goal.returns-clause-writes
 returns-clause-writes g c =
     let line = c.args.study.now.line in
     let scripts = c.args.study.now.scripts.items in
     let timings = map values_of c.args.timings.now in
-    let found = c.each_play_has_one_text.ensures.exists line scripts timings
+    let play = (c.each_play_has_one_text.ensures.exists line scripts timings
     (All-map (λ (timing : NamedValues). IsTimingInside line timing.timing) values_of
-    c.args.timings.now c.requires.inside) in
-    let writes = rw c.as_slice-scripts.ensures.value at c.in_ok-write_play.ensures.writes in
+    c.args.timings.now c.requires.inside)).1 in
+    let writes = rw c.as_slice-scripts.ensures.value at c.in_ok-write_timings.ensures.writes in
     record {
       status = Good;
-      text = found.0;
-      is = (refl, found.1);
-      writes = writes found.0 found.1;
+      text = play_header ++ play.rows;
+      is = (refl, record { rows = play.rows; are_rows = play.are_rows; text_is = refl });
+      writes = grew_both c.in_ok-put_text.ensures (writes play.rows play.are_rows);
       gives = refl;
     }

@@ -1,0 +1,11 @@
+use Rattle.std.proofs.Common.{◌∙◌}
+use Rattle.certify_core.specs.Piece.{written_as}
+use Rattle.cert_checker.specs.Counts.{is_no, is_undecided}
+use Rattle.commands.proofs.Verdicts.{any_map}
+use Rattle.commands.proofs.certify.found_of.Goals as goal
+
+pub returns : goal.returns
+returns c = record {
+  no = c.any.ensures ∙ any_map is_no written_as c.args.verdicts.now;
+  undecided = c.any-2.ensures ∙ any_map is_undecided written_as c.args.verdicts.now;
+}

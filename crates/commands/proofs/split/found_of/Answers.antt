@@ -1,0 +1,18 @@
+use Rattle.std.proofs.Common.{map, ◌∙◌}
+use Rattle.cert_checker.specs.Counts.{is_no, is_undecided}
+use Rattle.split_text.specs.Piece.{written_as}
+use Rattle.split_checker.specs.Counts.{verdict_of}
+use Rattle.commands.proofs.Verdicts.{any_map}
+use Rattle.commands.proofs.split.found_of.Goals as goal
+
+pub returns : goal.returns
+returns c =
+    let outcomes = c.args.outcomes.now in
+    record {
+      no = c.any.ensures
+          ∙ any_map (λ outcome. is_no (verdict_of outcome)) written_as outcomes
+          ∙ any_map is_no verdict_of (map written_as outcomes);
+      undecided = c.any-2.ensures
+          ∙ any_map (λ outcome. is_undecided (verdict_of outcome)) written_as outcomes
+          ∙ any_map is_undecided verdict_of (map written_as outcomes);
+    }
