@@ -1,22 +1,11 @@
 -- Numbers in a row, each after one space, number by number.
-use Rattle.std.proofs.Common.{◌≡◌, ℕ, ◌+◌, ◌<◌, ◌^◌, List, [], ◌∷◌, ◌++◌, length, take, drop}
+use Rattle.std.proofs.Common.{◌≡◌, ℕ, ◌+◌, ◌<◌, ◌^◌, List, ◌∷◌, ◌++◌, length, drop}
 use Rattle.std.proofs.Common.{get_or, refl, sym, ◌∙◌, ap, decimal}
-use Rattle.std.proofs.lemmas.List.Concat.{flat_map-append}
-use Rattle.std.proofs.lemmas.List.{take_more, drop_more, append-nil}
+use Rattle.std.proofs.lemmas.List.{drop_more}
 use Rattle.std.proofs.lemmas.List.Elements.{All-get_or}
 use Rattle.std.specs.List.{All}
-use Rattle.certificate.specs.Grammar.{spaced, numbers_text}
+use Rattle.certificate.specs.Grammar.{numbers_text}
 use Rattle.certificate.specs.Numbers.{BeginsNumber}
-
--- one number more
-pub one_more : (numbers : List ℕ) (i d : ℕ) → i < length numbers
-    → numbers_text (take (i + 1) numbers)
-    ≡ numbers_text (take i numbers) ++ spaced (get_or numbers i d)
-one_more numbers i d inside =
-    ap numbers_text (take_more numbers i d inside) ∙ flat_map-append spaced (take i numbers)
-    (get_or numbers i d ∷ [])
-    ∙ ap (λ (l : List ℕ). numbers_text (take i numbers) ++ l) (append-nil (spaced (get_or numbers i
-    d)))
 
 -- the text after the space
 pub item_of : (text item : List ℕ) (n : ℕ) (later : List ℕ) → text ≡ 32 ∷ item

@@ -25,7 +25,8 @@ pub(crate) fn push_numbers(text: &mut Vec<u8>, numbers: &[u32]) -> Result<(), Me
     Ok(())
 }
 
-fn push_number(text: &mut Vec<u8>, number: u32) -> Result<(), Memory>
+/// Appends a number after one space.
+pub fn push_number(text: &mut Vec<u8>, number: u32) -> Result<(), Memory>
     ensures { OnOk result (text.new.items ≡ text.old.items ++ spaced number) }
 {
     let mut digits = Buffer::new();

@@ -1,8 +1,7 @@
 -- The command `check`: whether a certificate is accepted, with its counts, or its first fault.
 use Rattle.std.specs.Prelude.{◌∷◌, ℕ, List, [], codes, decimal}
 use Rattle.line_model.specs.{declared.line.Line.Line, declared.script.Script.Script}
-use Rattle.tick_signal.specs.declared.tern.Tern.{Tern}
-use Rattle.tick_signal.specs.declared.tern.Tern.TheVariants as tern
+use Rattle.wave_runs.specs.Text.{tern_word}
 use Rattle.cert_checker.specs.Check.{IsAccepted, IsCheckFault}
 use Rattle.cert_checker.specs.declared.fault.CheckFault.{CheckFault}
 use Rattle.cert_checker.specs.declared.fault.CheckFault.TheVariants as fault
@@ -12,18 +11,12 @@ use Rattle.commands.specs.{Checked.IsCheckedText, Answers.Answers, Asked.Asks}
 
 -- ---- the lines
 
--- `0`, `1` or `?`
-abbrev pub level_word : Tern → List ℕ
-level_word tern.Zero = codes "0"
-level_word tern.One = codes "1"
-level_word tern.Unknown = codes "?"
-
 -- `rejected` and the fault; want of memory is none
 abbrev pub rejected_pieces : Line → List Script → CheckFault → List (List ℕ)
 rejected_pieces line scripts (fault.Line n) = line_pieces n
 rejected_pieces line scripts (fault.NotCovered i k t claimed derived) =
     codes "rejected NotCovered" ∷ place line scripts i k ∷ codes " " ∷ decimal t
-    ∷ codes " claimed " ∷ level_word claimed ∷ codes " derived " ∷ level_word derived
+    ∷ codes " claimed " ∷ tern_word claimed ∷ codes " derived " ∷ tern_word derived
     ∷ codes "\n" ∷ []
 rejected_pieces line scripts (fault.NotHeld i k) =
     codes "rejected NotHeld" ∷ place line scripts i k ∷ codes "\n" ∷ []

@@ -4,7 +4,7 @@ ghost use Rattle.std.specs.List.{concat};
 ghost use Rattle.cert_checker.specs.declared.fault.CheckFault.{CheckFault};
 ghost use Rattle.commands.specs.Answers.{Says};
 ghost use Rattle.commands.specs.{Check.check_answer, Check.check_asks, Check.rejected_pieces};
-ghost use Rattle.commands.specs.{Check.level_word as word_of_level, Study.IsStudy};
+ghost use Rattle.commands.specs.Study.{IsStudy};
 
 use crate::checked::{accepted_text, place, rejected_line, rejected_outside, rejected_passes};
 use crate::said::Said;
@@ -15,7 +15,7 @@ use engine::Engine;
 use itoa::Buffer;
 use line_model::Memory;
 use std::alloc::Global;
-use tick_signal::Tern;
+use wave_runs::tern_word;
 
 /// The counts of the certificate's verdicts where it is accepted, and its first fault where it is
 /// rejected.
@@ -69,9 +69,9 @@ fn rejected_text(alloc: Global, study: &Study, fault: CheckFault) -> Result<Vec<
                     b" ",
                     tick,
                     b" claimed ",
-                    level_word(claimed),
+                    tern_word(claimed),
                     b" derived ",
-                    level_word(derived),
+                    tern_word(derived),
                     b"\n",
                 ],
             )
@@ -92,15 +92,5 @@ fn rejected_text(alloc: Global, study: &Study, fault: CheckFault) -> Result<Vec<
             tick,
         } => rejected_passes(alloc, study, script, terminal, tick),
         CheckFault::Memory => Err(Memory),
-    }
-}
-
-fn level_word(level: Tern) -> &'static [u8]
-    ensures { result.now ≡ word_of_level level }
-{
-    match level {
-        Tern::Zero => b"0",
-        Tern::One => b"1",
-        Tern::Unknown => b"?",
     }
 }

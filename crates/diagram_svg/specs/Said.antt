@@ -1,8 +1,6 @@
 -- What is said of a trip.
 use Rattle.std.specs.Prelude.{◌++◌, ◌==◌, ℕ, ℤ, pos, int_lt, unsigned_abs, Bool, List, [], codes}
 use Rattle.std.specs.Prelude.{decimal, if◌then◌else◌, Option, Some, None}
-use Rattle.interval_wave.specs.declared.rule.Rule.{Rule}
-use Rattle.interval_wave.specs.declared.rule.Rule.TheVariants.{Held, Broken, Unknown}
 use Rattle.diagram_svg.specs.Words.{ticks_said}
 
 -- the first ticks, of the may rail and of the must rail; in a play both are one
@@ -22,8 +20,3 @@ margin_said is_play tick_us (Some deadline) (Some margin) =
     ++ ticks_said tick_us (unsigned_abs margin)
 margin_said is_play tick_us (Some deadline) None =
     if is_play then codes "does not trip" else codes "no tick by which it must trip"
-
-abbrev pub rule_said : Rule → List ℕ
-rule_said Held = codes "held"
-rule_said Broken = codes "broken"
-rule_said Unknown = codes "unknown"

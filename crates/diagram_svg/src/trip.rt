@@ -2,7 +2,7 @@
 //! the right of the axis, where no bar and no marked line comes.
 
 ghost use Rattle.std.specs.Prelude.{◌≡◌, IfOk};
-ghost use Rattle.diagram_svg.specs.Said.{first_ticks_said, margin_said, rule_said};
+ghost use Rattle.diagram_svg.specs.Said.{first_ticks_said, margin_said};
 ghost use Rattle.diagram_svg.specs.Words.{said};
 
 use crate::scale::{RIGHT, x_of};
@@ -13,6 +13,7 @@ use line_model::{Line, Memory};
 use std::alloc::Global;
 use svg_text::Markup;
 use timing_diagram::{Diagram, TripTimes};
+use timing_report::rule_word;
 
 // Where the words of ticks begin, and where the rule does.
 const TICKS: u32 = RIGHT + 150;
@@ -125,14 +126,4 @@ fn rule_label(alloc: Global, rule: Rule, base: u32) -> Result<Markup, Memory> {
     let word = rule_word(rule);
     let words = Words::new(alloc).word(word)?;
     label(alloc, word, (RULE, base.saturating_sub(10)), &words)
-}
-
-fn rule_word(rule: Rule) -> &'static [u8]
-    ensures { result.now ≡ rule_said rule }
-{
-    match rule {
-        Rule::Held => b"held",
-        Rule::Broken => b"broken",
-        Rule::Unknown => b"unknown",
-    }
 }

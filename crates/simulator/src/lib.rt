@@ -30,6 +30,7 @@ mod waves;
 mod within;
 
 pub use play::play_rows;
+pub use rows::level_word;
 pub use run_net::run;
 pub use tracks::{Tracks, run_tracks};
 pub use waves::Waves;

@@ -2,8 +2,8 @@
 
 ghost use Rattle.std.specs.Prelude.{◌≡◌, ◌++◌, ◌<◌, map, length, OnOk};
 ghost use Rattle.std.specs.List.{concat};
-ghost use Rattle.simulator.specs.PlayRows.{level_word, row_fields, row_text, change_row};
-ghost use Rattle.simulator.specs.PlayRows.{value_before, signal_row};
+ghost use Rattle.simulator.specs.PlayRows.{level_word as word_of_level, row_fields, row_text};
+ghost use Rattle.simulator.specs.PlayRows.{change_row, value_before, signal_row};
 ghost use Rattle.simulator.specs.PlayedTracks.{is_on};
 
 use channel::Track;
@@ -29,8 +29,9 @@ fn push_pieces(text: &mut Vec<u8>, pieces: &[&[u8]]) -> Result<(), Memory>
     Ok(())
 }
 
-fn word_of_level(level: bool) -> &'static [u8]
-    ensures { result.now ≡ level_word level }
+/// `1` or `0`.
+pub fn level_word(level: bool) -> &'static [u8]
+    ensures { result.now ≡ word_of_level level }
 {
     if level { b"1" } else { b"0" }
 }
@@ -49,7 +50,7 @@ fn push_fields<'a>(
         ≡ text.old.items
         ++ row_fields timing.now script.now tick.now terminal.now signal.now level) }
 {
-    let level: &'a [u8] = word_of_level(level);
+    let level: &'a [u8] = level_word(level);
     let comma: &'a [u8] = b",";
     let end: &'a [u8] = b"\n";
     let pieces: [&'a [u8]; 12] = [

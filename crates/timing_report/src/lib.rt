@@ -8,3 +8,4 @@ mod rows;
 
 pub use margins::{deadline, margin, margin_us};
 pub use report::{REPORT_HEADER, report_rows, report_text};
+pub use rows::rule_word;

@@ -21,7 +21,8 @@ fn kind_word(kind: Kind) -> &'static [u8]
     }
 }
 
-fn rule_word(rule: Rule) -> &'static [u8]
+/// `held`, `broken` or `unknown`.
+pub fn rule_word(rule: Rule) -> &'static [u8]
     ensures { result.now ≡ word_of_rule (rule_named rule) }
 {
     match rule {

@@ -1,7 +1,7 @@
 //! The changes of a value change dump.
 
 ghost use Rattle.std.specs.Prelude.{◌≡◌, ◌<◌, ◌≤◌, ◌+◌, ◌-◌, ◌++◌, OnOk};
-ghost use Rattle.simulator.specs.{PlayRows.level_word, PlayRows.each_below, Played.is_on};
+ghost use Rattle.simulator.specs.{PlayRows.each_below, Played.is_on};
 ghost use Rattle.wave_picture.specs.Dump.{time_text, value_text, change_text, first_text};
 ghost use Rattle.wave_picture.specs.Dump.{next_text, timed_text, tick_text, changes_text};
 
@@ -9,7 +9,7 @@ use crate::gates::on_at;
 use crate::put::{put, put_number};
 use crate::variables::put_code;
 use line_model::Memory;
-use simulator::Waves;
+use simulator::{Waves, level_word};
 use std::alloc::Global;
 use tick_signal::Level;
 
@@ -168,15 +168,9 @@ fn put_value(text: &mut Vec<u8>, i: u32, level: bool) -> Result<(), Memory>
     requires { i < 512 }
     ensures { OnOk result (text.new.items ≡ text.old.items ++ value_text i level) }
 {
-    put(text, word_of_level(level))?;
+    put(text, level_word(level))?;
     put_code(text, i)?;
     put(text, b"\n")
-}
-
-fn word_of_level(level: bool) -> &'static [u8]
-    ensures { result.now ≡ level_word level }
-{
-    if level { b"1" } else { b"0" }
 }
 
 // Appends the time of a tick.

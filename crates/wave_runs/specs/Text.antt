@@ -13,6 +13,9 @@ level_letter Zero = 48
 level_letter One = 49
 level_letter Unknown = 63
 
+abbrev pub tern_word : Tern → List ℕ
+tern_word level = level_letter level ∷ []
+
 -- a run: its letter, a colon, and the number of its ticks in decimal digits
 abbrev pub item_text : Run → List ℕ
 item_text run = level_letter run.level ∷ 58 ∷ decimal run.ticks

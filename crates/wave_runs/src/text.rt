@@ -6,8 +6,8 @@ ghost use Rattle.std.specs.Prelude.{OnOk, MatchOption};
 ghost use Rattle.tick_signal.specs.declared.tern.Tern.{Tern};
 ghost use Rattle.wave_runs.specs.declared.runs.Run.{Run};
 ghost use Rattle.wave_runs.specs.Waves.{AreApart, AreRunsOf, levels_of, runs_from};
-ghost use Rattle.wave_runs.specs.Text.{level_letter, item_text, items_text, runs_text, gap};
-ghost use Rattle.wave_runs.specs.Text.{IsTextOf, level_in, run_in};
+ghost use Rattle.wave_runs.specs.Text.{tern_word as word_of_tern, item_text, items_text};
+ghost use Rattle.wave_runs.specs.Text.{runs_text, gap, IsTextOf, level_in, run_in};
 
 use crate::runs::{Run, Runs, Stretch};
 use itoa::Buffer;
@@ -53,19 +53,20 @@ fn push_item(text: &mut Vec<u8>, before: &[u8], run: Run) -> Result<(), Memory>
 {
     let mut buffer = Buffer::new();
     text.extend_from_slice(before)?;
-    text.push(letter_of(run.level))?;
+    text.extend_from_slice(tern_word(run.level))?;
     text.push(b':')?;
     text.extend_from_slice(buffer.format(run.ticks).as_bytes())?;
     Ok(())
 }
 
-fn letter_of(level: Tern) -> u8
-    ensures { result ≡ level_letter level }
+/// `0`, `1` or `?`.
+pub fn tern_word(level: Tern) -> &'static [u8]
+    ensures { result.now ≡ word_of_tern level }
 {
     match level {
-        Tern::Zero => b'0',
-        Tern::One => b'1',
-        Tern::Unknown => b'?',
+        Tern::Zero => b"0",
+        Tern::One => b"1",
+        Tern::Unknown => b"?",
     }
 }
 

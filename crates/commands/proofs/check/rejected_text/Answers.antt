@@ -7,6 +7,6 @@ returns-in_ok-place-in-NotCovered c = rw c.in-NotCovered.is (
       c.in_ok-place-in-NotCovered.ensures,
       c.as_bytes-tick.ensures.value,
       c.format.ensures.text,
-      c.level_word.ensures,
-      c.level_word-in-NotCovered.ensures,
+      c.tern_word.ensures,
+      c.tern_word-in-NotCovered.ensures,
     ) at c.text_of.ensures)
