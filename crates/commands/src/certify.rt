@@ -1,6 +1,6 @@
 //! The command `certify`: the verdict of each obligation, for every choice of delays.
 ghost use Rattle.std.specs.Prelude.{◌≡◌, OnOk, length, map};
-ghost use Rattle.std.specs.List.{All};
+ghost use Rattle.std.specs.List.{All, list_any};
 ghost use Rattle.line_model.specs.Fits.{Fits};
 ghost use Rattle.gate_net.specs.NetOf.{IsNetOf};
 ghost use Rattle.engine.specs.Calls.{AskedCertify, AskedVerdicts, NoneFell};
@@ -104,9 +104,21 @@ fn found_of(verdicts: &[Verdict]) -> Found
     ensures { IsFoundOf (map written_as verdicts.now) result }
 {
     Found {
-        some_no: verdicts.iter().any(|verdict| is_no(verdict)),
-        some_open: verdicts.iter().any(|verdict| is_undecided(verdict)),
+        some_no: some_no(verdicts),
+        some_open: some_undecided(verdicts),
     }
+}
+
+fn some_no(verdicts: &[Verdict]) -> bool
+    ensures { result ≡ list_any (λ verdict. no_verdict (written_as verdict)) verdicts.now }
+{
+    verdicts.iter().any(|verdict| is_no(verdict))
+}
+
+fn some_undecided(verdicts: &[Verdict]) -> bool
+    ensures { result ≡ list_any (λ verdict. undecided_verdict (written_as verdict)) verdicts.now }
+{
+    verdicts.iter().any(|verdict| is_undecided(verdict))
 }
 
 fn is_no(verdict: &Verdict) -> bool

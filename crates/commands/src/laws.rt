@@ -5,7 +5,7 @@ ghost use Rattle.std.specs.List.{All};
 ghost use Rattle.line_model.specs.declared.line.Line.{Line};
 ghost use Rattle.line_model.specs.{declared.script.Script.Script, Fits.Fits};
 ghost use Rattle.timing_box.specs.{Inside.IsTimingInside, SoFar.NamedValues};
-ghost use Rattle.commands.specs.Certify.{IsCertificate, IsPart, Part};
+ghost use Rattle.commands.specs.Certify.{IsCertificateOf, IsPart, Part};
 ghost use Rattle.commands.specs.{Play.IsPlayText, declared.done.Done.Done};
 
 use line_model::laws::{
@@ -34,10 +34,10 @@ pub fn each_certificate_has_one_text()
     ensures part { (line : Line) (script : Script) → Fits line script →
         (part : Part) × IsPart line script part }
     ensures exists { (line : Line) (scripts : List Script) → All (Fits line) scripts →
-        (s : Done) × (text : List ℕ) × IsCertificate line scripts s text }
+        (s : Done) × (text : List ℕ) × IsCertificateOf line scripts s text }
     ensures only { (line : Line) (scripts : List Script) (s t : Done) (a b : List ℕ) →
-        All (Fits line) scripts → IsCertificate line scripts s a →
-        IsCertificate line scripts t b → (s ≡ t) × (a ≡ b) }
+        All (Fits line) scripts → IsCertificateOf line scripts s a →
+        IsCertificateOf line scripts t b → (s ≡ t) × (a ≡ b) }
 {
     each_script_has_one_certificate();
     each_box_has_one_interval_history();

@@ -1,5 +1,6 @@
 //! The command `split`: the parts of the declared box in which each obligation is decided.
 ghost use Rattle.std.specs.Prelude.{◌≡◌, ◌≤◌, IfOk, map};
+ghost use Rattle.std.specs.List.{list_any};
 ghost use Rattle.line_model.specs.{Fits.Fits, Parameters.terminal_count};
 ghost use Rattle.gate_net.specs.NetOf.{IsNetOf};
 ghost use Rattle.certify_core.specs.OneEach.{OneEach};
@@ -98,9 +99,23 @@ fn found_of(outcomes: &[Outcome]) -> Found
     ensures { IsFoundOf (map verdict_of (map written_as outcomes.now)) result }
 {
     Found {
-        some_no: outcomes.iter().any(|outcome| is_no(outcome)),
-        some_open: outcomes.iter().any(|outcome| is_undecided(outcome)),
+        some_no: some_no(outcomes),
+        some_open: some_undecided(outcomes),
     }
+}
+
+fn some_no(outcomes: &[Outcome]) -> bool
+    ensures { result
+        ≡ list_any (λ outcome. no_verdict (verdict_of (written_as outcome))) outcomes.now }
+{
+    outcomes.iter().any(|outcome| is_no(outcome))
+}
+
+fn some_undecided(outcomes: &[Outcome]) -> bool
+    ensures { result
+        ≡ list_any (λ outcome. undecided_verdict (verdict_of (written_as outcome))) outcomes.now }
+{
+    outcomes.iter().any(|outcome| is_undecided(outcome))
 }
 
 fn is_no(outcome: &Outcome) -> bool

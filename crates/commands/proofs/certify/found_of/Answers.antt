@@ -6,6 +6,6 @@ use Rattle.commands.proofs.certify.found_of.Goals as goal
 
 pub returns : goal.returns
 returns c = record {
-  no = c.any.ensures ∙ any_map is_no written_as c.args.verdicts.now;
-  undecided = c.any-2.ensures ∙ any_map is_undecided written_as c.args.verdicts.now;
+  no = c.some_no.ensures ∙ any_map is_no written_as c.args.verdicts.now;
+  undecided = c.some_undecided.ensures ∙ any_map is_undecided written_as c.args.verdicts.now;
 }

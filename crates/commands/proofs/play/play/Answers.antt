@@ -1,4 +1,4 @@
-use Rattle.std.proofs.Common.{◌≡◌, ◌++◌, map, List, ℕ, Err, refl}
+use Rattle.std.proofs.Common.{◌++◌, map, List, ℕ, Err, refl}
 use Rattle.std.proofs.lemmas.List.{length-map}
 use Rattle.std.proofs.lemmas.List.Elements.{All-map}
 use Rattle.std.proofs.lemmas.Result.{err_from_is_err_and}
@@ -28,8 +28,8 @@ play_stops line scripts timings rows are old new why stops = record {
 -- the header stops
 pub returns-in_err-put_text-clause-writes : goal.returns-in_err-put_text-clause-writes
 returns-in_err-put_text-clause-writes g c =
-    let p = err_from_is_err_and c.from_residual-in_err-put_text.result
-    c.from_residual-in_err-put_text.ensures.1 in
+    let p = err_from_is_err_and c.from_residual.result
+    c.from_residual.ensures.1 in
     let line = c.args.study.now.line in
     let scripts = c.args.study.now.scripts.items in
     let timings = map values_of c.args.timings.now in

@@ -9,10 +9,10 @@ pub returns : goal.returns
 returns c =
     let outcomes = c.args.outcomes.now in
     record {
-      no = c.any.ensures
+      no = c.some_no.ensures
           ∙ any_map (λ outcome. is_no (verdict_of outcome)) written_as outcomes
           ∙ any_map is_no verdict_of (map written_as outcomes);
-      undecided = c.any-2.ensures
+      undecided = c.some_undecided.ensures
           ∙ any_map (λ outcome. is_undecided (verdict_of outcome)) written_as outcomes
           ∙ any_map is_undecided verdict_of (map written_as outcomes);
     }
