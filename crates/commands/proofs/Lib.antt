@@ -7,3 +7,4 @@ pub mod Puts
 pub mod Searched
 pub mod Verdicts
 pub mod Writing
+pub mod Certified

@@ -5,10 +5,13 @@ use Rattle.std.specs.List.{AllZip, concat, flat_map}
 use Rattle.line_model.specs.{declared.line.Line.Line, declared.script.Script.Script}
 use Rattle.line_model.specs.{Choice.declared_box, Histories.PairHistory, Histories.IsPairHistory}
 use Rattle.tick_signal.specs.declared.tern.Tern.{Tern}
+use Rattle.certificate.specs.{Grammar.Claims, Text.certificate_text}
 use Rattle.certificate.specs.Grammar.{Verdict as Written}
+use Rattle.cert_checker.specs.Counts.{all_verdicts}
 use Rattle.certify_core.specs.Piece.{part_text, written_as}
 use Rattle.certify_core.specs.Verdicts.{AreKeys, AreVerdicts}
 use Rattle.certify_core.specs.declared.verdict.Verdict.{Verdict}
+use Rattle.own_certificate.specs.Certified.{AreCertified}
 use Rattle.engine.specs.Calls.{AskedVerdicts}
 use Rattle.commands.specs.{Answers.Answers, Asked.Asks, Verdicts.verdicts_status, declared.done.Done.Done}
 
@@ -48,6 +51,14 @@ pub record IsCertificateOf (line : Line) (scripts : List Script) (s : Done) (tex
   pub are_parts : AllZip (IsPart line) scripts parts
   pub status_is : s ≡ verdicts_status (flat_map written_verdicts parts)
   pub text_is : text ≡ certificate_head ++ parts_text parts ++ certificate_end
+
+-- the text of what is certified of the scripts, with the status of its verdicts
+pub record IsCertifiedText (line : Line) (scripts : List Script) (s : Done) (text : List ℕ)
+    : Type 0 where
+  pub claims : List Claims
+  pub certified : AreCertified line scripts claims
+  pub status_is : s ≡ verdicts_status (all_verdicts claims)
+  pub text_is : text ≡ certificate_text line scripts claims
 
 -- the certificate, with the status that its verdicts give
 abbrev pub certify_answer : Line → List Script → Answers

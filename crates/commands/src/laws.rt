@@ -5,13 +5,14 @@ ghost use Rattle.std.specs.List.{All};
 ghost use Rattle.line_model.specs.declared.line.Line.{Line};
 ghost use Rattle.line_model.specs.{declared.script.Script.Script, Fits.Fits};
 ghost use Rattle.timing_box.specs.{Inside.IsTimingInside, SoFar.NamedValues};
-ghost use Rattle.commands.specs.Certify.{IsCertificateOf, IsPart, Part};
+ghost use Rattle.commands.specs.Certify.{IsCertificateOf, IsCertifiedText, IsPart, Part};
 ghost use Rattle.commands.specs.{Play.IsPlayText, declared.done.Done.Done};
 
+use certificate::a_certificate_is_its_parts;
 use line_model::laws::{
     each_box_has_one_interval_history, each_choice_has_one_history, each_line_has_a_choice_inside,
 };
-use own_certificate::each_script_has_one_certificate;
+use own_certificate::{each_script_has_one_certificate, what_is_certified_is_accepted};
 use timing_box::timings_inside_are_choices_inside;
 
 /// A line has exactly one play text for scripts and timings inside its declared intervals.
@@ -42,4 +43,13 @@ pub fn each_certificate_has_one_text()
     each_script_has_one_certificate();
     each_box_has_one_interval_history();
     each_line_has_a_choice_inside();
+}
+
+/// The certificate is the text of what is certified of the scripts, with the status of its verdicts.
+pub fn a_certificate_is_what_is_certified()
+    ensures { (line : Line) (scripts : List Script) (s : Done) (text : List ℕ) →
+        IsCertificateOf line scripts s text → IsCertifiedText line scripts s text }
+{
+    a_certificate_is_its_parts();
+    what_is_certified_is_accepted();
 }

@@ -1,4 +1,9 @@
 pub mod Words
 pub mod Said
 pub mod Scale
+pub mod Rows
 pub mod Marks
+pub mod Trips
+pub mod Axis
+pub mod Legend
+pub mod Drawings

@@ -1,20 +1,22 @@
-//! Timing diagrams drawn as SVG, 1,000 pixels wide: rows by terminal on one axis in ticks and
+//! Timing diagrams as drawings, 1,000 pixels wide: rows by terminal on one axis in ticks and
 //! milliseconds, with marks, margins, rules and a legend. What is off, open and on is told apart
 //! without colour, and each row says its stretches in words to a pointer and a screen reader.
 #![tactic(auto)]
 
 mod axis;
-mod drawing;
+mod heading;
 mod legend;
 mod mark;
 mod row;
+mod rows;
 mod scale;
-mod shape;
-mod style;
+mod subject;
 mod trip;
+mod whole;
 mod words;
 
-pub use drawing::{Subject, draw};
+pub use subject::Subject;
+pub use whole::draw;
 
 #[cfg(test)]
 mod tests;

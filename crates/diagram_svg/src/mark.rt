@@ -1,15 +1,16 @@
 //! The inception and the deadline.
 
-ghost use Rattle.std.specs.Prelude.{◌≡◌, ◌++◌, IfOk, option_map};
-ghost use Rattle.diagram_svg.specs.Marks.{deadline_of, inception_of, view_of};
+ghost use Rattle.std.specs.Prelude.{◌≡◌, ◌++◌, IfOk, OnOk, option_map};
+ghost use Rattle.diagram_svg.specs.Marks.{deadline_of, inception_of, view_of, flag, marks};
+ghost use Rattle.diagram_svg.specs.Marks.{deadline_look, inception_look, flags};
 ghost use Rattle.diagram_svg.specs.Words.{said, tick_said};
+ghost use Rattle.drawing.specs.Seen.{figures_seen};
 
 use crate::scale::x_of;
-use crate::shape::{label, line};
 use crate::words::Words;
+use drawing::{Class, Figure, put_line, put_text};
 use line_model::{Line, Memory};
 use std::alloc::Global;
-use svg_text::Markup;
 use timing_diagram::Diagram;
 
 // A tick that is marked by a line: where the line stands, and what is said of it.
@@ -22,51 +23,51 @@ struct Mark {
 // How a mark looks: its line, and its words at the right and at the left of it.
 #[derive(Clone, Copy)]
 struct Look {
-    line: &'static [u8],
-    right: &'static [u8],
-    left: &'static [u8],
+    line: Class,
+    right: Class,
+    left: Class,
 }
 
-const INCEPTION: Look = Look {
-    line: b"inception",
-    right: b"quiet",
-    left: b"quiet-end",
-};
-
-const DEADLINE: Look = Look {
-    line: b"deadline",
-    right: b"due",
-    left: b"due-end",
-};
-
-/// The line of the inception, at the beginning of its tick, and that of the deadline, at the end
-/// of its tick. Their words stand side by side above the rows: those of the earlier line end at
-/// it, those of the later one begin at it, so neither meets the other or a line.
-pub fn marks(
+/// Appends the line of the inception, at the beginning of its tick, and that of the deadline, at
+/// the end of its tick. Their words stand side by side above the rows: those of the earlier line
+/// end at it, those of the later one begin at it, so neither meets the other or a line.
+pub fn put_marks(
     alloc: Global,
+    figures: &mut Vec<Figure>,
     of: &Line,
     diagram: &Diagram,
     top: u32,
     bottom: u32,
-) -> Result<Markup, Memory> {
+) -> Result<(), Memory>
+    ensures { OnOk result (figures_seen figures.new.items
+        ≡ figures_seen figures.old.items ++ marks of.now diagram.now top bottom) }
+{
     let inception = inception_mark(alloc, of, diagram)?;
     let deadline = deadline_mark(alloc, of, diagram)?;
-    let mut drawn = Markup::new(alloc);
-    if let Some(mark) = &inception {
-        let is_earlier = match &deadline {
-            Some(other) => mark.x <= other.x,
-            None => false,
-        };
-        drawn = drawn.and(&flagged(alloc, INCEPTION, mark, is_earlier, top, bottom)?)?;
+    put_both(figures, inception, deadline, top, bottom)
+}
+
+fn put_both(
+    figures: &mut Vec<Figure>,
+    inception: Option<Mark>,
+    deadline: Option<Mark>,
+    top: u32,
+    bottom: u32,
+) -> Result<(), Memory>
+    ensures { OnOk result (figures_seen figures.new.items
+        ≡ figures_seen figures.old.items
+        ++ flags top bottom (option_map view_of inception) (option_map view_of deadline)) }
+{
+    match (inception, deadline) {
+        (None, None) => Ok(()),
+        (Some(fault), None) => put_inception(figures, fault, false, top, bottom),
+        (None, Some(due)) => put_deadline(figures, due, false, top, bottom),
+        (Some(fault), Some(due)) => {
+            let (fault_x, due_x) = (fault.x, due.x);
+            put_inception(figures, fault, fault_x <= due_x, top, bottom)?;
+            put_deadline(figures, due, due_x < fault_x, top, bottom)
+        }
     }
-    if let Some(mark) = &deadline {
-        let is_earlier = match &inception {
-            Some(other) => mark.x < other.x,
-            None => false,
-        };
-        drawn = drawn.and(&flagged(alloc, DEADLINE, mark, is_earlier, top, bottom)?)?;
-    }
-    Ok(drawn)
 }
 
 // The mark of the inception.
@@ -110,27 +111,73 @@ fn at_tick(words: Words, of: &Line, t: u32) -> Result<Words, Memory>
         .word(b" ms)")
 }
 
-// A mark's line, and its words beside the upper end of it: at its left or at its right.
-fn flagged(
-    alloc: Global,
-    look: Look,
-    mark: &Mark,
+fn put_inception(
+    figures: &mut Vec<Figure>,
+    mark: Mark,
     is_left: bool,
     top: u32,
     bottom: u32,
-) -> Result<Markup, Memory> {
+) -> Result<(), Memory>
+    ensures { OnOk result (figures_seen figures.new.items
+        ≡ figures_seen figures.old.items
+        ++ flag inception_look is_left top bottom (view_of mark)) }
+{
+    let look = Look {
+        line: Class::Inception,
+        right: Class::Quiet,
+        left: Class::QuietEnd,
+    };
+    put_flag(figures, look, mark, is_left, top, bottom)
+}
+
+fn put_deadline(
+    figures: &mut Vec<Figure>,
+    mark: Mark,
+    is_left: bool,
+    top: u32,
+    bottom: u32,
+) -> Result<(), Memory>
+    ensures { OnOk result (figures_seen figures.new.items
+        ≡ figures_seen figures.old.items
+        ++ flag deadline_look is_left top bottom (view_of mark)) }
+{
+    let look = Look {
+        line: Class::Deadline,
+        right: Class::Due,
+        left: Class::DueEnd,
+    };
+    put_flag(figures, look, mark, is_left, top, bottom)
+}
+
+// A mark's line, and its words beside the upper end of it: at its left or at its right.
+fn put_flag(
+    figures: &mut Vec<Figure>,
+    look: Look,
+    mark: Mark,
+    is_left: bool,
+    top: u32,
+    bottom: u32,
+) -> Result<(), Memory>
+    ensures { OnOk result (figures_seen figures.new.items
+        ≡ figures_seen figures.old.items ++ flag look is_left top bottom (view_of mark)) }
+{
     let upper = top.saturating_sub(170);
     let y = upper.saturating_add(100);
-    let drawn = line(alloc, look.line, (mark.x, upper), (mark.x, bottom))?;
-    let words = if is_left {
-        label(alloc, look.left, (mark.x.saturating_sub(50), y), &mark.said)?
+    put_line(figures, look.line, (mark.x, upper), (mark.x, bottom))?;
+    if is_left {
+        put_text(
+            figures,
+            look.left,
+            (mark.x.saturating_sub(50), y),
+            mark.said.bytes,
+        )?;
     } else {
-        label(
-            alloc,
+        put_text(
+            figures,
             look.right,
             (mark.x.saturating_add(50), y),
-            &mark.said,
-        )?
-    };
-    Ok(drawn.and(&words)?)
+            mark.said.bytes,
+        )?;
+    }
+    Ok(())
 }

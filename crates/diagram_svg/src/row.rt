@@ -1,27 +1,55 @@
 //! A row of a diagram.
 
-ghost use Rattle.std.specs.Prelude.{◌≤◌};
+ghost use Rattle.std.specs.Prelude.{◌≡◌, ◌≤◌, ◌++◌, ◌∷◌, [], IfOk, OnOk};
+ghost use Rattle.diagram_svg.specs.{Scale.place_of, Words.said};
+ghost use Rattle.diagram_svg.specs.Rows.{is_drawn, is_ever_shown, is_shown, is_off, bar_height, bar_class, row_name};
+ghost use Rattle.diagram_svg.specs.Rows.{others_said, terminal_of, value_word, stretch_said, stretches_said};
+ghost use Rattle.diagram_svg.specs.Rows.{row_title, bar_if_any, bars, row_figures, row_shape};
+ghost use Rattle.drawing.specs.Seen.{figures_seen, shape_seen};
+ghost use Rattle.line_model.specs.{Channels.from_of, NamesByNumber.terminal_name};
 
 use crate::scale::{LEFT, RIGHT, x_of};
-use crate::shape::{label, line, rectangle, titled};
 use crate::words::Words;
+use drawing::{Class, Figure, Shape, put_line, put_rectangle, put_text};
 use line_model::{Line, Memory, element_word, name_of_terminal};
 use std::alloc::Global;
-use svg_text::Markup;
 use tick_signal::Tern;
 use timing_diagram::{Row, Stretch, Trace, Window};
 
 /// Whether a row is drawn: keys and trips always, and what the script shows at some tick.
-pub fn is_drawn(row: &Row) -> bool {
+pub fn is_drawn(row: &Row) -> bool
+    ensures { result ≡ is_drawn row.now }
+{
     match row.trace {
         Trace::Key(_) | Trace::Trip(_) => true,
-        Trace::Seen(_) | Trace::Lost(_) => row.stretches.iter().any(|s| s.value != Tern::Zero),
+        Trace::Seen(_) | Trace::Lost(_) => is_ever_shown(row.stretches.as_slice()),
     }
 }
 
-/// How high the bars of a row are.
-pub fn bar_height(trace: Trace) -> u32
-    ensures { result ≤ 160 }
+fn is_ever_shown(stretches: &[Stretch]) -> bool
+    ensures { result ≡ is_ever_shown stretches.now }
+{
+    stretches.iter().any(|s| is_shown(s))
+}
+
+fn is_shown(stretch: &Stretch) -> bool
+    ensures { result ≡ is_shown stretch.now }
+{
+    !is_off(stretch.value)
+}
+
+fn is_off(value: Tern) -> bool
+    ensures { result ≡ is_off value }
+{
+    match value {
+        Tern::Zero => true,
+        Tern::One | Tern::Unknown => false,
+    }
+}
+
+// How high the bars of a row are.
+fn bar_height(trace: Trace) -> u32
+    ensures { result ≡ bar_height trace }
 {
     match trace {
         Trace::Key(_) | Trace::Trip(_) => 160,
@@ -30,7 +58,9 @@ pub fn bar_height(trace: Trace) -> u32
 }
 
 // The name of a row within its terminal.
-fn row_name(alloc: Global, of: &Line, trace: Trace) -> Result<Words, Memory> {
+fn row_name(alloc: Global, of: &Line, trace: Trace) -> Result<Words, Memory>
+    ensures { IfOk result (λ words. said words ≡ row_name of.now trace) }
+{
     let words = Words::new(alloc);
     match trace {
         Trace::Seen(place) => words.word(b"sees ")?.word(element_word(place.element)),
@@ -40,15 +70,20 @@ fn row_name(alloc: Global, of: &Line, trace: Trace) -> Result<Words, Memory> {
     }
 }
 
-fn sender_name<'a>(of: &'a Line, channel: u32) -> &'a [u8] {
-    match of.channels.as_slice().get(channel as usize) {
-        Some(channel) => name_of_terminal(of, channel.from),
-        None => b"",
-    }
+fn sender_name<'a>(of: &'a Line, channel: u32) -> &'a [u8]
+    ensures { result.now ≡ terminal_name of.now (from_of of.now.channels.items channel) }
+{
+    let sender = match of.channels.as_slice().get(channel as usize) {
+        Some(channel) => channel.from,
+        None => 0,
+    };
+    name_of_terminal(of, sender)
 }
 
 // The terminal of a row.
-fn terminal_of(of: &Line, trace: Trace) -> u32 {
+fn terminal_of(of: &Line, trace: Trace) -> u32
+    ensures { result ≡ terminal_of of.now trace }
+{
     match trace {
         Trace::Seen(place) => place.terminal,
         Trace::Key(terminal) | Trace::Trip(terminal) => terminal,
@@ -61,75 +96,143 @@ fn terminal_of(of: &Line, trace: Trace) -> u32 {
 
 /// A row: its name, its base line and a bar for each stretch that is not off, whose lower edge is
 /// at `base`. Its title says all stretches.
-pub fn row(
+#[tactic(auto, unfolding(crate::specs::Rows::row_shape))]
+pub fn drawn_row(
     alloc: Global,
     of: &Line,
     window: Window,
     row: &Row,
     base: u32,
-) -> Result<Markup, Memory> {
-    let name = row_name(alloc, of, row.trace)?;
+) -> Result<Shape, Memory>
+    ensures { IfOk result (λ shape. shape_seen shape ≡ row_shape of.now window base row.now) }
+{
     let title = row_title(alloc, of, row)?;
-    let mut drawn = label(alloc, b"end", (LEFT - 100, base.saturating_sub(10)), &name)?;
-    drawn = drawn.and(&line(alloc, b"base", (LEFT, base), (RIGHT, base))?)?;
-    for stretch in &row.stretches {
-        if stretch.value != Tern::Zero {
-            drawn = drawn.and(&bar(alloc, window, row.trace, stretch, base)?)?;
-        }
-    }
-    titled(alloc, &title, &drawn)
+    let figures = row_figures(alloc, of, window, row, base)?;
+    Ok(Shape::Titled(title.bytes, figures))
 }
 
-// The bar of a stretch.
-fn bar(
+fn row_figures(
     alloc: Global,
+    of: &Line,
+    window: Window,
+    row: &Row,
+    base: u32,
+) -> Result<Vec<Figure>, Memory>
+    ensures { IfOk result (λ figures.
+        figures_seen figures.items ≡ row_figures of.now window base row.now) }
+{
+    let name = row_name(alloc, of, row.trace)?;
+    let mut figures = Vec::new(alloc);
+    let at = (LEFT - 100, base.saturating_sub(10));
+    put_text(&mut figures, Class::End, at, name.bytes)?;
+    put_line(&mut figures, Class::Base, (LEFT, base), (RIGHT, base))?;
+    put_bars(
+        &mut figures,
+        window,
+        row.trace,
+        row.stretches.as_slice(),
+        base,
+    )?;
+    Ok(figures)
+}
+
+// Appends a bar for each stretch that is not off.
+fn put_bars(
+    figures: &mut Vec<Figure>,
+    window: Window,
+    trace: Trace,
+    stretches: &[Stretch],
+    base: u32,
+) -> Result<(), Memory>
+    ensures { OnOk result (figures_seen figures.new.items
+        ≡ figures_seen figures.old.items ++ bars window trace base stretches.now) }
+{
+    for stretch in stretches {
+        put_bar(figures, window, trace, stretch, base)?;
+    }
+    Ok(())
+}
+
+// Appends the bar of a stretch, if it is not off.
+fn put_bar(
+    figures: &mut Vec<Figure>,
     window: Window,
     trace: Trace,
     stretch: &Stretch,
     base: u32,
-) -> Result<Markup, Memory> {
+) -> Result<(), Memory>
+    ensures { OnOk result (figures_seen figures.new.items
+        ≡ figures_seen figures.old.items ++ bar_if_any window trace base stretch.now) }
+{
+    if is_off(stretch.value) {
+        return Ok(());
+    }
     let height = bar_height(trace);
     let from = x_of(window, stretch.from);
     let to = x_of(window, stretch.to);
-    rectangle(
-        alloc,
-        class_of(trace, stretch.value),
-        (from, base.saturating_sub(height)),
-        (to.saturating_sub(from), height),
-    )
+    let class = bar_class(trace, stretch.value);
+    let corner = (from, base.saturating_sub(height));
+    put_rectangle(figures, class, corner, (to.saturating_sub(from), height))?;
+    Ok(())
 }
 
-fn class_of(trace: Trace, value: Tern) -> &'static [u8] {
+fn bar_class(trace: Trace, value: Tern) -> Class
+    ensures { result ≡ bar_class trace value }
+{
     match (trace, value) {
-        (Trace::Key(_), Tern::Unknown) => b"key-open",
-        (Trace::Key(_), _) => b"key",
-        (Trace::Trip(_), Tern::Unknown) => b"trip-open",
-        (Trace::Trip(_), _) => b"trip",
-        _ => b"seen",
+        (Trace::Key(_), Tern::Unknown) => Class::KeyOpen,
+        (Trace::Key(_), _) => Class::KeyOn,
+        (Trace::Trip(_), Tern::Unknown) => Class::TripOpen,
+        (Trace::Trip(_), _) => Class::TripOn,
+        _ => Class::Seen,
     }
 }
 
 // What a row says in words: `A trip: off 0 to 14, open 15 to 18, on 19 to 119`.
-fn row_title(alloc: Global, of: &Line, row: &Row) -> Result<Words, Memory> {
+fn row_title(alloc: Global, of: &Line, row: &Row) -> Result<Words, Memory>
+    ensures { IfOk result (λ title. said title ≡ row_title of.now row.now) }
+{
     let name = row_name(alloc, of, row.trace)?;
-    let mut title = Words::new(alloc)
+    let title = Words::new(alloc)
         .word(name_of_terminal(of, terminal_of(of, row.trace)))?
         .word(b" ")?
         .word(name.bytes.as_slice())?;
-    let mut mark: &'static [u8] = b": ";
-    for stretch in &row.stretches {
-        title = title
-            .word(mark)?
-            .word(value_name(stretch.value))?
-            .number(stretch.from as u64)?
-            .word(b" to ")?
-            .number(stretch.to.saturating_sub(1) as u64)?;
-        mark = b", ";
-    }
-    Ok(title)
+    stretches_said(title, row.stretches.as_slice())
 }
 
-fn value_name(value: Tern) -> &'static [u8] {
+// And all stretches, the first behind a colon, each other behind a comma.
+fn stretches_said(words: Words, stretches: &[Stretch]) -> Result<Words, Memory>
+    ensures { IfOk result (λ all. said all ≡ said words ++ stretches_said stretches.now) }
+{
+    match stretches {
+        [] => Ok(words),
+        [first, rest @ ..] => others_said(stretch_said(words.word(b": ")?, first)?, rest),
+    }
+}
+
+fn others_said(words: Words, stretches: &[Stretch]) -> Result<Words, Memory>
+    ensures { IfOk result (λ all. said all ≡ said words ++ others_said stretches.now) }
+{
+    let mut all = words;
+    for stretch in stretches {
+        all = stretch_said(all.word(b", ")?, stretch)?;
+    }
+    Ok(all)
+}
+
+fn stretch_said(words: Words, stretch: &Stretch) -> Result<Words, Memory>
+    ensures { IfOk result (λ all. said all ≡ said words ++ stretch_said stretch.now) }
+{
+    words
+        .word(value_name(stretch.value))?
+        .number(stretch.from as u64)?
+        .word(b" to ")?
+        .number(stretch.to.saturating_sub(1) as u64)
+}
+
+fn value_name(value: Tern) -> &'static [u8]
+    ensures { result.now ≡ value_word value }
+{
     match value {
         Tern::Zero => b"off ",
         Tern::One => b"on ",

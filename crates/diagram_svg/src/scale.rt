@@ -1,7 +1,8 @@
 //! The time axis: where a tick lies, and which ticks are labelled. Lengths are tenths of a pixel.
 
 ghost use Rattle.std.specs.Prelude.{◌≡◌, ◌≤◌, ◌+◌, ◌-◌};
-ghost use Rattle.diagram_svg.specs.Scale.{place_of};
+ghost use Rattle.diagram_svg.specs.Scale.{place_of, letters_of, has_room, first_with_room};
+ghost use Rattle.diagram_svg.specs.Scale.{step_of};
 
 use itoa::Buffer;
 use timing_diagram::Window;
@@ -39,26 +40,48 @@ pub fn ticks_shown(window: Window) -> u64
 }
 
 /// How many ticks lie from one label to the next: a round number, at which labels have room.
+#[tactic(auto, unfolding(crate::specs::Scale::step_of))]
 pub fn label_step(window: Window, tick_us: u32) -> u32
-    ensures { 1 ≤ result }
+    ensures is { result ≡ step_of window tick_us }
+    ensures some { 1 ≤ result }
 {
-    let shown = ticks_shown(window);
-    let width = (RIGHT - LEFT) as u64;
+    let steps: [u32; 12] = [1, 2, 5, 10, 20, 50, 100, 200, 500, 1000, 2000, 5000];
+    first_with_room(window, tick_us, &steps)
+}
+
+// The first of these steps at which labels have room.
+fn first_with_room(window: Window, tick_us: u32, steps: &[u32]) -> u32
+    ensures { result ≡ first_with_room window tick_us steps.now }
+{
+    match steps {
+        [] => 10000,
+        [step, rest @ ..] => {
+            if has_room(window, tick_us, *step) {
+                *step
+            } else {
+                first_with_room(window, tick_us, rest)
+            }
+        }
+    }
+}
+
+// Whether labels stay apart at this step.
+fn has_room(window: Window, tick_us: u32, step: u32) -> bool
+    ensures { result ≡ has_room window tick_us step }
+{
     let apart = longest_label(window, tick_us)
         .saturating_mul(LETTER)
         .saturating_add(ROOM);
-    let steps: [u32; 12] = [1, 2, 5, 10, 20, 50, 100, 200, 500, 1000, 2000, 5000];
-    for step in steps {
-        if step > 0 && step as u64 * width >= apart.saturating_mul(shown) {
-            return step;
-        }
-    }
-    10000
+    let width = (RIGHT - LEFT) as u64;
+    apart.saturating_mul(ticks_shown(window)) <= step as u64 * width
 }
 
 // How many letters the milliseconds of a tick that is shown have at most: with parts of a
 // millisecond a point and three digits more. The tick's own number has no more.
-fn longest_label(window: Window, tick_us: u32) -> u64 {
+fn longest_label(window: Window, tick_us: u32) -> u64
+    ensures is { result ≡ letters_of window tick_us }
+    ensures few { result ≤ 100 }
+{
     let last = (window.last as u64).saturating_mul(tick_us as u64);
     let digits = Buffer::new().format(last / 1000).len() as u64;
     if tick_us % 1000 == 0 {

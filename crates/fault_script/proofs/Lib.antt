@@ -5,3 +5,4 @@ pub mod SoFar
 pub mod Standing
 pub mod Steps
 pub mod Taken
+pub mod OneFile

@@ -143,7 +143,7 @@ pub record AreGood (line : Line) (vs : List ScriptValues) : Type 0 where
   pub fit : All (ValuesFit line) vs
   pub one_file : AreOfOneFile vs
 
-good : (line : Line) (n : ℕ) (s : SoFar ScriptValues) → 2 < n → IsSoFar line n s
+pub good : (line : Line) (n : ℕ) (s : SoFar ScriptValues) → 2 < n → IsSoFar line n s
     → AreGood line (all_of s)
 good line n s some so_far = record {
   fit = so_far.fit;

@@ -1,2 +1,3 @@
 pub mod Chosen
 pub mod Halts
+pub mod Pictures

@@ -3,10 +3,12 @@
 ghost use Rattle.std.specs.Prelude.{IfOk};
 ghost use Rattle.gate_net.specs.NetOf.{IsNetOf};
 ghost use Rattle.line_model.specs.Fits.{Fits};
+ghost use Rattle.picture_core.specs.Pictures.{IsBandsText, IsRunText};
 ghost use Rattle.svg_text.specs.Content.{IsContent};
 ghost use Rattle.timing_box.specs.Inside.{IsTimingInside};
 
 use diagram_svg::{Subject, draw};
+use drawing::svg;
 use gate_net::Net;
 use interval_wave::analyse;
 use line_model::laws::deadlines_are_below_the_horizon;
@@ -20,13 +22,15 @@ use wave_picture::play_waves;
 pub fn bands_text(alloc: Global, line: &Line, net: &Net, script: &Script) -> Result<Vec<u8>, Memory>
     requires of_line { IsNetOf line.now net.now }
     requires fits { Fits line.now script.now }
-    ensures { IfOk result (λ text. ∥ IsContent text.items ∥₁) }
+    ensures well_formed { IfOk result (λ text. ∥ IsContent text.items ∥₁) }
+    ensures drawn { IfOk result (λ text. IsBandsText line.now script.now text.items) }
 {
     deadlines_are_below_the_horizon();
     let waves = analyse(alloc, net, line, script)?;
     let diagram = history_diagram(alloc, line, script, &waves)?;
     let drawn = draw(alloc, line, script, Subject::EveryChoice, &diagram)?;
-    Ok(drawn.text)
+    let markup = svg(alloc, &drawn)?;
+    Ok(markup.text)
 }
 
 /// The timing diagram of a play: well-formed SVG.
@@ -38,11 +42,16 @@ pub fn run_text(
     timing: &NamedTiming,
 ) -> Result<Vec<u8>, Memory>
     requires of_line { IsNetOf line.now net.now }
+    requires fits { Fits line.now script.now }
     requires inside { IsTimingInside line.now timing.now.timing }
-    ensures { IfOk result (λ text. ∥ IsContent text.items ∥₁) }
+    ensures well_formed { IfOk result (λ text. ∥ IsContent text.items ∥₁) }
+    ensures drawn { IfOk result (λ text.
+        IsRunText line.now script.now timing.now text.items) }
 {
+    deadlines_are_below_the_horizon();
     let waves = play_waves(alloc, line, net, script, timing)?;
     let diagram = play_diagram(alloc, line, script, &waves)?;
     let drawn = draw(alloc, line, script, Subject::Play(timing.name), &diagram)?;
-    Ok(drawn.text)
+    let markup = svg(alloc, &drawn)?;
+    Ok(markup.text)
 }

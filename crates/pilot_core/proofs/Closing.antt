@@ -8,7 +8,7 @@ use Rattle.pilot_core.specs.Files.{NamedFile, NoneRose, StoreCause}
 use Rattle.pilot_core.specs.Status.{IsAnswer, IsDone, IsEarly, status_of, stop_status}
 use Rattle.pilot_core.specs.{Call.Asked, Call.Told, Clauses.Call, Clauses.Clauses, Clauses.IsLine}
 use Rattle.pilot_core.specs.{Clauses.OutIsAnswer, Clauses.OutGrew}
-use Rattle.pilot_core.specs.{Ends.EndsOf, Messages.message_of, Words.Command, Words.files_named}
+use Rattle.pilot_core.specs.{Ends.EndsOf, Headline.Headline, Messages.message_of, Words.Command, Words.files_named}
 use Rattle.pilot_core.specs.{declared.stop.File.File, declared.stop.Status.Status}
 use Rattle.commands.specs.Sinks.{SinkView, GrewByAll, Puts}
 use Rattle.pilot_core.specs.declared.stop.Status.TheVariants as status
@@ -261,8 +261,9 @@ module _ {K : Type 0} (view : K → SinkView) (old new : K) (files : List ℕ �
       → EndsOf view command files c1 c2 old new r → OnOk r (Asked command files g1 g2)
       → IsLine (seen command) (status_of r) line
       → GrewByAll e1 e2 line ⊎ (Rose e1.faults e2.faults × GrewByPart e1.written e2.written line)
+      → Headline command files (view old) (view new) (status_of r)
       → Clauses (seen command) (status_of r)
-  closed command r line e a is told = record {
+  closed command r line e a is told true_of = record {
     answered = answered command r e;
     asked = asked command r a;
     store_failed = store_failed command r e;
@@ -271,6 +272,7 @@ module _ {K : Type 0} (view : K → SinkView) (old new : K) (files : List ℕ �
     sink_told = sink_told command r e;
     memory = memory command r e;
     complete = complete command r e;
+    headline = true_of;
     line = line;
     is_line = is;
     reported = told;
@@ -279,14 +281,16 @@ module _ {K : Type 0} (view : K → SinkView) (old new : K) (files : List ℕ �
   -- the command is done, and err was left as it was
   pub closed_done : (command : Option Command) (s : Status)
       → EndsOf view command files c1 c2 old new (Ok s) → Asked command files g1 g2
-      → GrewByAll e1 e2 [] → Clauses (seen command) s
-  closed_done command s e a quiet =
-      closed command (Ok s) [] e a (done_line command s e) (inl quiet)
+      → GrewByAll e1 e2 [] → Headline command files (view old) (view new) s
+      → Clauses (seen command) s
+  closed_done command s e a quiet true_of =
+      closed command (Ok s) [] e a (done_line command s e) (inl quiet) true_of
 
   -- the call stopped, and its line was put
   pub closed_stopped : {X Y : Type 0} (command : Option Command) (why : Stop) (put : Result X Y)
       → EndsOf view command files c1 c2 old new (Err why) → Puts e1 e2 (message_of why) put
+      → Headline command files (view old) (view new) (stop_status why)
       → Clauses (seen command) (stop_status why)
-  closed_stopped command why put e puts =
+  closed_stopped command why put e puts true_of =
       closed command (Err why) (message_of why) e tt (is_line command why e)
-      (put_or_part e1 e2 (message_of why) put puts)
+      (put_or_part e1 e2 (message_of why) put puts) true_of

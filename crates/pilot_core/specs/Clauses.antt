@@ -4,7 +4,7 @@ use Rattle.std.specs.Io.KnownBytes.{Appends, Keeps}
 use Rattle.relay_base.specs.{Counts.Rose, Sink.GrewByProper, Sink.GrewByPart}
 use Rattle.engine.specs.Calls.{Calls}
 use Rattle.pilot_core.specs.{Call.Asked, Call.Told, Call.answers, Files.StoreCause, Files.NoneRose}
-use Rattle.pilot_core.specs.{Messages.message_of, Status.IsAnswer, Status.IsDone, Words.Command}
+use Rattle.pilot_core.specs.{Headline.Headline, Messages.message_of, Status.IsAnswer, Status.IsDone, Words.Command}
 use Rattle.pilot_core.specs.{Words.files_named, declared.refusal.Refusal.Refusal}
 use Rattle.pilot_core.specs.{declared.stop.File.File, declared.stop.Status.Status}
 use Rattle.commands.specs.Sinks.{SinkView, GrewByAll}
@@ -93,6 +93,8 @@ pub record Clauses (call : Call) (s : Status) : Type 0 where
       → NoneRose call.faults_old call.faults_new (files_named call.command)
       → (Rose call.out_old.faults call.out_new.faults → ⊥)
       → (s ≡ status.Memory) ⊎ OutIsAnswer call s
+  -- What the text says is true of every choice of delays.
+  pub headline : Headline call.command call.files call.out_old call.out_new s
   -- err grew by exactly its line, or its count rose and it grew by a front of the line.
   pub line : List ℕ
   pub is_line : IsLine call s line

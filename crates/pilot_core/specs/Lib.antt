@@ -5,6 +5,9 @@ pub mod CommandView
 pub mod Commands
 pub mod Ends
 pub mod Files
+pub mod Headline
+pub mod HeadlineLaws
+pub mod Truths
 pub mod Messages
 pub mod Reading
 pub mod Refusals

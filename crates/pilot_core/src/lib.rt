@@ -5,6 +5,7 @@
 mod bench_size;
 mod dispatch;
 mod files;
+mod laws;
 mod messages;
 mod refusal;
 mod run;
@@ -16,6 +17,9 @@ mod words;
 
 pub use commands::Study;
 pub use files::fetch_file;
+pub use laws::{
+    what_certify_prints_is_accepted, what_is_answered_is_true, what_is_met_rests_on_the_values,
+};
 pub use messages::put_message;
 pub use refusal::Refusal;
 pub use stop::{File, Status, Stop};

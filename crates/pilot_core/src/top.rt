@@ -4,6 +4,7 @@ ghost use Rattle.pilot_core.specs.Clauses.{Clauses};
 ghost use Rattle.pilot_core.specs.{Status.IsDone, Status.IsEarly, Words.command_of};
 ghost use Rattle.commands.specs.Sinks.{sink_view};
 
+use crate::laws::what_is_answered_is_true;
 use crate::messages::put_message;
 use crate::run::answer;
 use crate::stop::Status;
@@ -49,6 +50,7 @@ pub fn pilot<G: Engine, S: Store, O: Sink, E: Sink>(
     ensures unwritten { IsEarly result → out.new ≡ out.old }
     ensures quiet { IsDone result → err.new ≡ err.old }
 {
+    what_is_answered_is_true();
     match answer(alloc, words, engine, store, out) {
         Ok(status) => status,
         Err(stop) => {

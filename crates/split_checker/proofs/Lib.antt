@@ -5,3 +5,4 @@ pub mod FirstVerdicts
 pub mod OneTree
 pub mod OneFault
 pub mod OneSplitFault
+pub mod Told

@@ -1,16 +1,20 @@
 //! The laws of acceptance.
 
-ghost use Rattle.std.specs.Prelude.{◌≡◌, ◌≢◌, ℕ, List};
+ghost use Rattle.std.specs.Prelude.{◌≡◌, ◌≢◌, ℕ, List, length};
+ghost use Rattle.std.specs.List.{All};
+ghost use Rattle.line_model.specs.{Fits.Fits, Parameters.terminal_count};
 ghost use Rattle.line_model.specs.{declared.line.Line.Line, declared.script.Script.Script};
 ghost use Rattle.cert_checker.specs.declared.counts.Counts.{Counts};
 ghost use Rattle.split_checker.specs.declared.fault.SplitFault.{SplitFault};
 ghost use Rattle.cert_checker.specs.ScriptLaws.{IsOneText, AreApart};
-ghost use Rattle.split_text.specs.Grammar.{IsSplitText, LeavesGrammar};
+ghost use Rattle.split_text.specs.Grammar.{IsSplitText, LeavesGrammar, SplitResult};
 ghost use Rattle.split_checker.specs.declared.fault.ResultFault.{ResultFault};
-ghost use Rattle.split_checker.specs.{Results.AreSupported, Results.IsFirstFault};
-ghost use Rattle.split_checker.specs.Check.{IsAccepted, IsSplitFault};
+ghost use Rattle.split_checker.specs.Results.{AreSupported, AreTold, IsFirstFault};
+ghost use Rattle.split_checker.specs.Check.{IsAccepted, IsSound, IsSplitFault};
 
+use box_split::a_sound_tree_that_is_yes_speaks_for_every_choice;
 use cert_checker::a_no_has_one_fault;
+use line_model::laws::{deadlines_are_below_the_horizon, each_line_has_a_choice_inside};
 use split_text::{a_split_text_has_one_meaning, a_split_text_leaves_at_one_line};
 
 // A text says one thing or leaves its grammar at one line, and results are supported or have one
@@ -46,4 +50,20 @@ pub fn a_split_text_has_one_first_fault()
         fault ≡ other }
 {
     texts_and_results_are_told_apart();
+}
+
+/// What is accepted is so: of each script, and whatever the text says, whoever wrote it.
+pub fn accepted_split_trees_are_so()
+    ensures script { (line : Line) (script : Script) (results : List SplitResult) →
+        Fits line script → length results ≡ terminal_count line →
+        AreSupported line script results →
+        AreTold line script results }
+    ensures text { (line : Line) (scripts : List Script) (bytes : List ℕ) (counts : Counts) →
+        All (Fits line) scripts → IsAccepted line scripts bytes counts →
+        IsSound line scripts bytes }
+{
+    a_sound_tree_that_is_yes_speaks_for_every_choice();
+    deadlines_are_below_the_horizon();
+    each_line_has_a_choice_inside();
+    a_split_text_has_one_meaning();
 }

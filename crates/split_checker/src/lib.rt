@@ -17,5 +17,7 @@ mod whole;
 pub use cert_checker::Counts;
 pub use counts::is_yes_tree;
 pub use fault::{ResultFault, SplitFault};
-pub use laws::{a_fault_refuses_the_split_text, a_split_text_has_one_first_fault};
+pub use laws::{
+    a_fault_refuses_the_split_text, a_split_text_has_one_first_fault, accepted_split_trees_are_so,
+};
 pub use whole::check_split;

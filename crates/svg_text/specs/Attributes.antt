@@ -8,10 +8,14 @@ use Rattle.svg_text.specs.declared.attribute.Value.{Value}
 use Rattle.svg_text.specs.declared.attribute.Value.TheVariants.{Words, Tenths}
 use Rattle.svg_text.specs.{declared.attribute.Attribute.Attribute, Names.key_name, Escape.escaped}
 
+-- a number of tenths in decimal digits, as 210.6
+abbrev pub tenths_said : ℕ → List ℕ
+tenths_said n = decimal (n / 10) ++ codes "." ++ decimal (n % 10)
+
 -- the words that an attribute is set to
 abbrev pub words_of : Value → List ℕ
 words_of (Words words) = words.now
-words_of (Tenths n) = decimal (n / 10) ++ codes "." ++ decimal (n % 10)
+words_of (Tenths n) = tenths_said n
 
 -- attributes as keys and words
 abbrev pub said : List Attribute → List (Key × List ℕ)

@@ -2,6 +2,7 @@
 
 ghost use Rattle.std.specs.Prelude.{◌≡◌, ◌++◌, OnOk, IfOk};
 ghost use Rattle.svg_text.specs.Attributes.{words_of, attribute_text, attributes_text, said};
+ghost use Rattle.svg_text.specs.Attributes.{tenths_said};
 ghost use Rattle.svg_text.specs.{Names.key_name, Escape.escaped};
 
 use crate::escape::put_escaped;
@@ -56,6 +57,7 @@ pub fn words<'a>(key: Key, text: &'a [u8]) -> Attribute<'a>
 /// An attribute of so many tenths.
 pub fn tenths<'a>(key: Key, number: u32) -> Attribute<'a>
     ensures key { result.key ≡ key }
+    ensures value { words_of result.value ≡ tenths_said number }
 {
     Attribute {
         key,
@@ -100,7 +102,7 @@ fn words_set(alloc: Global, value: Value<'_>) -> Result<Vec<u8>, AllocError>
 
 // A number of tenths in decimal digits.
 fn tenths_text(alloc: Global, number: u32) -> Result<Vec<u8>, AllocError>
-    ensures { IfOk result (λ text. text.items ≡ words_of (Value.Tenths number)) }
+    ensures { IfOk result (λ text. text.items ≡ tenths_said number) }
 {
     let mut text = Vec::from_slice(alloc, Buffer::new().format(number / 10).as_bytes())?;
     text.extend_from_slice(b".")?;

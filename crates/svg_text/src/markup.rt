@@ -1,12 +1,13 @@
 //! Markup that is well formed.
 
-ghost use Rattle.std.specs.Prelude.{◌≡◌, ◌++◌, [], IfOk, OnOk, IsTrue};
+ghost use Rattle.std.specs.Prelude.{◌≡◌, ◌++◌, [], IfOk, OnOk, IsTrue, codes};
 ghost use Rattle.svg_text.specs.Attributes.{keys_differ, said};
 ghost use Rattle.svg_text.specs.Content.{IsContent, start_text, leaf_text, element_text};
 ghost use Rattle.svg_text.specs.Escape.{escaped};
 
 use crate::attribute::{Attribute, put_attributes};
 use crate::escape::put_escaped;
+use crate::laws::line_feed_is_itself;
 use crate::tag::Tag;
 use std::alloc::{AllocError, Global};
 
@@ -35,6 +36,14 @@ impl Markup {
         let mut text = Vec::new(alloc);
         put_escaped(&mut text, words)?;
         Ok(Markup { text })
+    }
+
+    /// The end of a line.
+    pub fn line_end(alloc: Global) -> Result<Markup, AllocError>
+        ensures { IfOk result (λ markup. markup.text.items ≡ codes "\n") }
+    {
+        line_feed_is_itself();
+        Markup::words(alloc, b"\n")
     }
 
     /// An element with nothing in it.

@@ -1,5 +1,5 @@
 -- The diagram of a script over a history.
-use Rattle.std.specs.Prelude.{◌≡◌, ℕ, map, IfSome}
+use Rattle.std.specs.Prelude.{◌≡◌, ◌<◌, ◌≤◌, ℕ, map, IfSome}
 use Rattle.std.specs.List.{All}
 use Rattle.history.specs.Recorded.{first_ticks}
 use Rattle.line_model.specs.{declared.line.Line.Line, declared.script.Script.Script}
@@ -27,6 +27,9 @@ pub record IsDiagramOf (line : Line) (script : Script) (w : PairHistory) (diagra
       ≡ first_ticks (λ k. trip_times_of script line.horizon (w.trip k)) (terminal_count line)
   pub inception : diagram.inception ≡ first_on (is_begun script.spans.items) line.horizon
   pub deadline : diagram.deadline ≡ deadline_of script.kind script.deadline
+  -- some ticks below the horizon are shown
+  pub some : diagram.window.first ≤ diagram.window.last
+  pub within : diagram.window.last < line.horizon
   -- nothing changes at a tick that is not shown
   pub shown : All (IsShown diagram.window) diagram.rows.items
   pub marked : IfSome diagram.inception (Holds diagram.window)

@@ -4,6 +4,13 @@ use Rattle.std.specs.List.{All}
 use Rattle.timing_diagram.specs.declared.rows.Row.{Row}
 use Rattle.timing_diagram.specs.{declared.stretch.Stretch.Stretch, declared.window.Window.Window}
 
+-- the row changes at no tick from the horizon on
+abbrev pub BeginsBelow : ℕ → Stretch → Type 0
+BeginsBelow horizon s = s.from < horizon
+
+abbrev pub ChangesBelow : ℕ → Row → Type 0
+ChangesBelow horizon row = All (BeginsBelow horizon) row.stretches.items
+
 -- the tick is shown
 abbrev pub Holds : Window → ℕ → Type 0
 Holds window t = (window.first ≤ t) × (t ≤ window.last)

@@ -41,8 +41,10 @@ pub fn play_diagram(
     requires keys { length waves.now.keys ≡ terminal_count line.now }
     requires trips { length waves.now.trips ≡ terminal_count line.now }
     requires horizon { waves.now.horizon ≡ line.now.horizon }
-    ensures { IfOk result (λ diagram.
+    requires deadline { script.now.deadline < line.now.horizon }
+    ensures diagram { IfOk result (λ diagram.
         IsDiagramOf line.now script.now (known_history (played waves.now)) diagram) }
+    ensures rules { IfOk result (λ diagram. diagram.rules.items ≡ []) }
 {
     diagram_of(alloc, line, script, waves, Vec::new(alloc))
 }
@@ -76,6 +78,7 @@ fn diagram_of<H: Shown>(
 ) -> Result<Diagram, Memory>
     requires terminals { H.terminals shown.now ≡ terminal_count line.now }
     requires ticks { H.ticks shown.now ≡ line.now.horizon }
+    requires deadline { script.now.deadline < line.now.horizon }
     ensures diagram { IfOk result (λ diagram.
         IsDiagramOf line.now script.now (H.pairs shown.now) diagram) }
     ensures rules { IfOk result (λ diagram. diagram.rules.items ≡ rules.items) }

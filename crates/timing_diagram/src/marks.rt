@@ -1,6 +1,6 @@
 //! The inception of a fault.
 
-ghost use Rattle.std.specs.Prelude.{◌≡◌};
+ghost use Rattle.std.specs.Prelude.{◌≡◌, ◌<◌, IfSome};
 ghost use Rattle.timing_diagram.specs.Times.{is_begun, shows_fault, is_of_fault};
 ghost use Rattle.wave_runs.specs.FirstTick.{first_on};
 
@@ -10,7 +10,8 @@ use wave_runs::the_first_tick_is_the_least;
 /// The first tick below the horizon at which some terminal sees a zone, the reverse or the
 /// undervoltage element; current alone is no fault.
 pub fn inception(script: &Script, horizon: u32) -> Option<u32>
-    ensures { result ≡ first_on (is_begun script.now.spans.items) horizon }
+    ensures first { result ≡ first_on (is_begun script.now.spans.items) horizon }
+    ensures below { IfSome result (λ t. t < horizon) }
 {
     the_first_tick_is_the_least();
     for t in 0..horizon {

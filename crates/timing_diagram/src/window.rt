@@ -1,8 +1,9 @@
 //! The ticks that are worth looking at.
 
-ghost use Rattle.std.specs.Prelude.{◌≡◌, ◌≤◌, ◌<◌, IfSome};
+ghost use Rattle.std.specs.Prelude.{◌≡◌, ◌≤◌, ◌<◌, ℕ, IfSome};
 ghost use Rattle.std.specs.List.{All};
 ghost use Rattle.timing_diagram.specs.Windows.{Holds, IsWider, IsChangeShown, IsShown};
+ghost use Rattle.timing_diagram.specs.Windows.{BeginsBelow, ChangesBelow};
 
 use crate::rows::Row;
 use crate::stretch::Stretch;
@@ -22,7 +23,12 @@ pub fn shown_window(
     deadline: Option<u32>,
     horizon: u32,
 ) -> Window
-    requires { 1 ≤ horizon }
+    requires some { 1 ≤ horizon }
+    requires changes { All (ChangesBelow horizon) rows.now }
+    requires inception { IfSome inception (λ t. t < horizon) }
+    requires deadline { IfSome deadline (λ t. t < horizon) }
+    ensures some { result.first ≤ result.last }
+    ensures within { result.last < horizon }
     ensures rows { All (IsShown result) rows.now }
     ensures inception { IfSome inception (Holds result) }
     ensures deadline { IfSome deadline (Holds result) }
@@ -36,6 +42,7 @@ pub fn shown_window(
 }
 
 fn with_mark(window: Window, mark: Option<u32>) -> Window
+    ensures below { (h : ℕ) → window.last < h → IfSome mark (λ t. t < h) → result.last < h }
     ensures holds { IfSome mark (Holds result) }
     ensures wider { IsWider window result }
 {
@@ -46,6 +53,7 @@ fn with_mark(window: Window, mark: Option<u32>) -> Window
 }
 
 fn widened(window: Window, t: u32) -> Window
+    ensures below { (h : ℕ) → window.last < h → t < h → result.last < h }
     ensures holds { Holds result t }
     ensures wider { IsWider window result }
 {
@@ -56,6 +64,7 @@ fn widened(window: Window, t: u32) -> Window
 }
 
 fn with_rows(window: Window, rows: &[Row]) -> Window
+    ensures below { (h : ℕ) → window.last < h → All (ChangesBelow h) rows.now → result.last < h }
     ensures shown { All (IsShown result) rows.now }
     ensures wider { IsWider window result }
 {
@@ -67,6 +76,7 @@ fn with_rows(window: Window, rows: &[Row]) -> Window
 }
 
 fn with_row(window: Window, row: &Row) -> Window
+    ensures below { (h : ℕ) → window.last < h → ChangesBelow h row.now → result.last < h }
     ensures shown { IsShown result row.now }
     ensures wider { IsWider window result }
 {
@@ -74,6 +84,8 @@ fn with_row(window: Window, row: &Row) -> Window
 }
 
 fn with_stretches(window: Window, stretches: &[Stretch]) -> Window
+    ensures below { (h : ℕ) → window.last < h → All (BeginsBelow h) stretches.now →
+        result.last < h }
     ensures shown { All (IsChangeShown result) stretches.now }
     ensures wider { IsWider window result }
 {
@@ -85,6 +97,7 @@ fn with_stretches(window: Window, stretches: &[Stretch]) -> Window
 }
 
 fn with_stretch(window: Window, stretch: &Stretch) -> Window
+    ensures below { (h : ℕ) → window.last < h → BeginsBelow h stretch.now → result.last < h }
     ensures shown { IsChangeShown result stretch.now }
     ensures wider { IsWider window result }
 {
@@ -97,8 +110,11 @@ fn with_stretch(window: Window, stretch: &Stretch) -> Window
 
 // Some ticks before and behind; from tick 0 on where that is near; all where nothing happens.
 fn padded(window: Window, horizon: u32) -> Window
-    requires { 1 ≤ horizon }
-    ensures { IsWider window result }
+    requires some { 1 ≤ horizon }
+    requires within { window.last < horizon }
+    ensures some { result.first ≤ result.last }
+    ensures within { result.last < horizon }
+    ensures wider { IsWider window result }
 {
     if window.last < window.first {
         return Window {

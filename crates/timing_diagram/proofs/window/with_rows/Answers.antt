@@ -1,6 +1,6 @@
-use Rattle.std.proofs.Common.{take, subst, arith}
+use Rattle.std.proofs.Common.{take, subst, sym, arith}
 use Rattle.std.proofs.lemmas.List.Elements.{All-more, All-weaker}
-use Rattle.timing_diagram.specs.Windows.{IsShown}
+use Rattle.timing_diagram.specs.Windows.{ChangesBelow, IsShown}
 use Rattle.timing_diagram.proofs.WindowLaws.{row_still_shown}
 use Rattle.timing_diagram.proofs.window.with_rows.Goals as goal
 
@@ -17,5 +17,8 @@ loop-row-preserved c =
           (row_still_shown before wide c.with_row-wide.ensures.wider) (take i xs)
           c.loop-row.invariant.shown)
           (subst (IsShown wide) c.row-item.is c.with_row-wide.ensures.shown);
+      below = λ h low all. c.with_row-wide.ensures.below h
+          (c.loop-row.invariant.below h low all)
+          (subst (ChangesBelow h) (sym c.row-item.is) (all i c.row-item.result (omega arith)));
       wider = (omega arith, omega arith);
     }

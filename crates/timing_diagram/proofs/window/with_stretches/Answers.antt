@@ -19,5 +19,7 @@ loop-stretch-preserved c =
           (change_still_shown before wide c.with_stretch-wide.ensures.wider) (take i xs)
           c.loop-stretch.invariant.shown)
           c.with_stretch-wide.ensures.shown;
+      below = λ h low all. c.with_stretch-wide.ensures.below h
+          (c.loop-stretch.invariant.below h low all) (all i none (omega arith));
       wider = (omega arith, omega arith);
     }

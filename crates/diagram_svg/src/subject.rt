@@ -1,0 +1,10 @@
+//! What a diagram is of.
+
+use line_model::Name;
+
+/// What a diagram is of: a play of one timing, or every choice of delays.
+#[derive(Clone, Copy)]
+pub enum Subject {
+    Play(Name),
+    EveryChoice,
+}

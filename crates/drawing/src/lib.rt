@@ -1,0 +1,19 @@
+//! Drawings as values, and their text as SVG: shapes of rectangles, lines and words, each of a
+//! class of one style sheet. Lengths are tenths of a pixel; a drawing is 1,000 pixels wide.
+#![tactic(auto)]
+
+mod class;
+mod document;
+mod figure;
+mod pen;
+mod shape;
+mod style;
+
+pub use class::Class;
+pub use document::svg;
+pub use figure::{Figure, Label, Rectangle, Stroke};
+pub use pen::{put_line, put_rectangle, put_text};
+pub use shape::{Drawing, Shape};
+
+#[cfg(test)]
+mod tests;

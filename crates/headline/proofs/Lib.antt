@@ -1,0 +1,4 @@
+pub mod Lines
+pub mod Truth
+pub mod CertificateLines
+pub mod Statuses

@@ -1,0 +1,3 @@
+pub mod WholeLines
+pub mod Obligations
+pub mod Printed

@@ -1,0 +1,66 @@
+//! The laws of what verdicts say.
+
+ghost use Rattle.std.specs.Prelude.{◌≡◌, ◌++◌, ℕ, true, false, List, Some, slice_get};
+ghost use Rattle.std.specs.List.{All, list_any};
+ghost use Rattle.line_model.specs.{declared.line.Line.Line, declared.script.Script.Script};
+ghost use Rattle.line_model.specs.Fits.{Fits};
+ghost use Rattle.certificate.specs.Grammar.{Claims, HasOneEach, Verdict};
+ghost use Rattle.certificate.specs.Text.{certificate_text};
+ghost use Rattle.cert_checker.specs.declared.counts.Counts.{Counts};
+ghost use Rattle.cert_checker.specs.{Check.IsAccepted, Verdicts.AreAccepted};
+ghost use Rattle.own_certificate.specs.Certified.{IsCertified, AreCertified};
+ghost use Rattle.cert_checker.specs.Counts.{all_verdicts, is_no, is_undecided};
+ghost use Rattle.headline.specs.Obligations.{AllMet, HoldsAsAccepted, HoldsAsCertified};
+ghost use Rattle.headline.specs.Obligations.{HoldsSomewhere, IsFailedBySome, IsUnknown};
+ghost use Rattle.headline.specs.Printed.{HasVerdict, HoldsOf};
+
+use line_model::laws::line_laws;
+use own_certificate::what_is_certified_is_accepted;
+use timing_box::{candidates_are_inside, timings_inside_are_choices_inside};
+
+/// Where claims are accepted, what their verdicts say is true: of a script, and of each whole line
+/// of a certificate, whoever wrote it.
+pub fn what_is_accepted_is_true()
+    ensures script { (line : Line) (script : Script) (said : Claims) (k : ℕ) (verdict : Verdict) →
+        Fits line script → HasOneEach line said → AreAccepted line script said →
+        slice_get said.verdicts k ≡ Some verdict → HoldsAsAccepted verdict line script k }
+    ensures text { (line : Line) (scripts : List Script) (bytes : List ℕ) (counts : Counts)
+        (name terminal : List ℕ) (verdict : Verdict) → All (Fits line) scripts →
+        IsAccepted line scripts bytes counts → HasVerdict bytes name terminal verdict →
+        HoldsOf line scripts name terminal (HoldsAsAccepted verdict) }
+{
+    line_laws();
+    timings_inside_are_choices_inside();
+}
+
+/// What is certified is true: of a script, and of each whole line of a front of the certificate.
+pub fn what_is_certified_is_true()
+    ensures script { (line : Line) (script : Script) (said : Claims) (k : ℕ) (verdict : Verdict) →
+        Fits line script → IsCertified line script said →
+        slice_get said.verdicts k ≡ Some verdict → HoldsAsCertified verdict line script k }
+    ensures text { (line : Line) (scripts : List Script) (claims : List Claims)
+        (front rest name terminal : List ℕ) (verdict : Verdict) → All (Fits line) scripts →
+        AreCertified line scripts claims → front ++ rest ≡ certificate_text line scripts claims →
+        HasVerdict front name terminal verdict →
+        HoldsOf line scripts name terminal (HoldsAsCertified verdict) }
+    // Where no verdict is no or undecided, all obligations are met; where some is no, some choice
+    // inside fails one; where some is undecided, one is unknown.
+    ensures all { (line : Line) (scripts : List Script) (claims : List Claims) →
+        All (Fits line) scripts → AreCertified line scripts claims →
+        list_any is_no (all_verdicts claims) ≡ false →
+        list_any is_undecided (all_verdicts claims) ≡ false → AllMet line scripts }
+    ensures some_no { (line : Line) (scripts : List Script) (claims : List Claims) →
+        All (Fits line) scripts → AreCertified line scripts claims →
+        list_any is_no (all_verdicts claims) ≡ true →
+        HoldsSomewhere line scripts IsFailedBySome }
+    ensures some_undecided { (line : Line) (scripts : List Script) (claims : List Claims) →
+        All (Fits line) scripts → AreCertified line scripts claims →
+        list_any is_undecided (all_verdicts claims) ≡ true →
+        HoldsSomewhere line scripts IsUnknown }
+{
+    line_laws();
+    candidates_are_inside();
+    timings_inside_are_choices_inside();
+    what_is_accepted_is_true();
+    what_is_certified_is_accepted();
+}

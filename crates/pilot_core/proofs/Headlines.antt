@@ -1,0 +1,689 @@
+-- What is put on out, and a certificate that is accepted, is true of every choice of delays.
+use Rattle.std.proofs.Common.{◌≡◌, ◌⊎◌, ℕ, Bool, true, false, cond, List, [], ◌∷◌, ◌++◌, Option, None}
+use Rattle.std.proofs.Common.{Some, Result, Ok, Err, drop, take, length, map, refl, sym, ◌∙◌, ap, subst}
+use Rattle.std.proofs.Common.{zero, suc}
+use Rattle.std.proofs.lemmas.List.{length-map}
+use Rattle.std.proofs.lemmas.List.Elements.{All-head, All-tail}
+use Rattle.std.specs.Prelude.{MatchOption, slice_get}
+use Rattle.line_model.specs.{Choice.declared_box, NumbersByName.param_named}
+use Rattle.line_model.specs.Parameters.{terminal_count}
+use Rattle.cert_checker.specs.{Check.IsCheckFault, ZipLaws.zip_each}
+use Rattle.cert_checker.specs.declared.fault.CheckFault.TheVariants as check_fault
+use Rattle.timing_report.specs.ReportText.{IsReportText}
+use Rattle.margin_search.specs.Answer.{IsMarginAnswer}
+use Rattle.margin_search.specs.Margin.{HasNoMargin, IsLostAbove, IsLostAtLeast, IsMargin}
+use Rattle.split_text.specs.Piece.{written_as}
+use Rattle.split_checker.specs.Check as split_check
+use Rattle.split_checker.specs.declared.fault.SplitFault.TheVariants as split_fault
+use Rattle.own_splits.specs.Searched.{AreSearched}
+use Rattle.commands.specs.{Checked.IsCheckedText, Margin.IsMarginText, Margin.margin_answer}
+use Rattle.commands.specs.Check as check
+use Rattle.commands.specs.Recheck as recheck
+use Rattle.commands.specs.Split.{IsSplitOf}
+use Rattle.pilot_core.specs.{HeadlineLaws.HeadlineLaws, Reading.no_other_file}
+use Rattle.pilot_core.specs.{Reading.of_parameter, Reading.third_file}
+use Rattle.pilot_core.specs.Truths.{MarginIsTrue, ReportIsTrue, SplitIsTrue}
+use Rattle.pilot_core.specs.Words.{TwoFiles, margin, own_file, report, split}
+use Rattle.pilot_core.specs.declared.words.ThreeFiles.{ThreeFiles}
+use Rattle.std.proofs.Common.{inl, inr, ⊎_elim}
+use Rattle.std.proofs.lemmas.List.{append-nil, append_cancel_left, take-append-drop}
+use Rattle.std.proofs.lemmas.Option.{same_Some}
+use Rattle.std.specs.Prelude.{IsSome, nat_lt, unwrap_or}
+use Rattle.std.specs.Io.KnownBytes.{Appends, Keeps}
+use Rattle.std.specs.List.{All, list_any}
+use Rattle.line_model.specs.{declared.line.Line.Line, declared.script.Script.Script, Fits.Fits}
+use Rattle.line_file.specs.{LineFiles.line_of, Lines.LineValues, Lines.line_values}
+use Rattle.line_file.specs.declared.fault.LineFault.{LineFault}
+use Rattle.fault_script.specs.Scripts.{scripts_of}
+use Rattle.fault_script.specs.Values.{ScriptValues, values_of}
+use Rattle.fault_script.specs.declared.fault.ScriptFault.{ScriptFault}
+use Rattle.certificate.specs.{Grammar.Claims, Grammar.Verdict}
+use Rattle.certificate.specs.Grammar.{script_text, verdict_text}
+use Rattle.cert_checker.specs.{declared.counts.Counts.Counts, Check.IsAccepted}
+use Rattle.cert_checker.specs.Counts.{all_verdicts, is_no, is_undecided}
+use Rattle.own_certificate.specs.Certified.{AreCertified}
+use Rattle.commands.specs.Certify.{certify_answer}
+use Rattle.commands.specs.{Answers.status_by, Check.check_answer, Sinks.SinkView, declared.done.Done.Done}
+use Rattle.commands.specs.declared.done.Done.TheVariants as done
+use Rattle.commands.specs.SinkLaws.{keeps_same}
+use Rattle.headline.specs.Obligations.{HoldsAsAccepted, HoldsAsCertified}
+use Rattle.headline.specs.{Printed.HasVerdict, WholeLines.whole_lines}
+use Rattle.pilot_core.specs.{Call.answers, CallAnswers.CallAnswers, CallAnswers.done_with}
+use Rattle.pilot_core.specs.{CallAnswers.refuses, Commands.answer, Ends.EndsOf, Files.AllTold}
+use Rattle.pilot_core.specs.{Files.in_front, Files.limit_of, Headline.HasPut, Headline.Headline}
+use Rattle.pilot_core.specs.{Headline.HoldsInFiles, Headline.InFiles, Headline.IsToldBy, Reading.of_line, Reading.of_scripts}
+use Rattle.pilot_core.specs.{Reading.of_study, Reading.over_files, Status.status_of}
+use Rattle.pilot_core.specs.{Status.status_of_done, declared.refusal.Refusal.Refusal}
+use Rattle.pilot_core.specs.declared.refusal.Refusal.TheVariants as refusal
+use Rattle.pilot_core.specs.Words.{Command, certify, files_of, three_files, two_files}
+use Rattle.pilot_core.specs.Status.{IsDone}
+use Rattle.pilot_core.specs.declared.stop.File.{File}
+use Rattle.pilot_core.specs.declared.stop.File.TheVariants as file
+use Rattle.pilot_core.specs.declared.stop.Status.{Status}
+use Rattle.pilot_core.specs.declared.stop.Status.TheVariants as status
+use Rattle.pilot_core.specs.declared.stop.Stop.{Stop}
+use Rattle.pilot_core.specs.declared.stop.Stop.TheVariants as stop
+use Rattle.pilot_core.specs.declared.words.ThreeFiles.TheVariants as three
+
+-- ---- what was put is nothing, or a front of a text that may be answered
+
+-- it is a front of the text
+record IsFront (put text : List ℕ) : Type 0 where
+  pub rest : List ℕ
+  pub is : put ++ rest ≡ text
+
+-- a front of a text that may be answered
+record IsAnswerFront (allowed : CallAnswers) (put : List ℕ) : Type 0 where
+  pub status : Status
+  pub text : List ℕ
+  pub line : List ℕ
+  pub is : allowed status text line
+  pub front : IsFront put text
+
+-- what a sink grew by is what was put
+grew_put : (old new : Option (List ℕ)) (before put text : List ℕ) → old ≡ Some before
+    → new ≡ Some (before ++ put) → Appends old new text → put ≡ text
+grew_put None new before put text told after grew = absurd (cc)
+grew_put (Some a) None before put text told after grew = absurd grew
+grew_put (Some a) (Some b) before put text told after grew =
+    append_cancel_left before put text
+    (sym (same_Some b (before ++ put) after) ∙ grew
+    ∙ ap (λ (l : List ℕ). l ++ text) (same_Some a before told))
+
+kept_put : (old new : Option (List ℕ)) (before put : List ℕ) → old ≡ Some before
+    → new ≡ Some (before ++ put) → Keeps old new → put ≡ []
+kept_put None new before put told after kept = absurd (cc)
+kept_put (Some a) None before put told after kept = absurd kept
+kept_put (Some a) (Some b) before put told after kept =
+    append_cancel_left before put []
+    (sym (same_Some b (before ++ put) after) ∙ kept ∙ same_Some a before told
+    ∙ sym (append-nil before))
+
+module _ {K : Type 0} (view : K → SinkView) (old new : K) (files : List ℕ → Option (List ℕ))
+    (c1 c2 : List ℕ → ℕ) (put : List ℕ) (has : HasPut (view old) (view new) put) where
+  kept_nothing : Keeps (view old).written (view new).written → put ≡ []
+  kept_nothing kept =
+      kept_put (view old).written (view new).written has.before put has.told_before has.told_after
+      kept
+
+  same_nothing : new ≡ old → put ≡ []
+  same_nothing is =
+      kept_nothing
+      (subst (λ (k : K). Keeps (view old).written (view k).written) (sym is)
+      (keeps_same (view old).written))
+
+  grew_front : (text : List ℕ) (n : ℕ)
+      → Appends (view old).written (view new).written (take n text) → IsFront put text
+  grew_front text n grew =
+      let is : put ≡ take n text =
+      grew_put (view old).written (view new).written has.before put (take n text) has.told_before
+      has.told_after grew in
+      record {
+        rest = drop n text;
+        is = ap (λ (l : List ℕ). l ++ drop n text) is ∙ take-append-drop n text;
+      }
+
+  grew_whole : (text : List ℕ) → Appends (view old).written (view new).written text
+      → IsFront put text
+  grew_whole text grew = record {
+    rest = [];
+    is = append-nil put
+        ∙ grew_put (view old).written (view new).written has.before put text has.told_before
+        has.told_after grew;
+  }
+
+  -- what a command that is told put on out
+  what_was_put : (x : Command) (r : Result Status Stop)
+      → EndsOf view (Some x) files c1 c2 old new r → AllTold files (files_of x)
+      → (put ≡ []) ⊎ IsAnswerFront (answers (Some x) files) put
+  what_was_put x (Ok s) e told = inr (record {
+    status = s;
+    text = e.1.1;
+    line = [];
+    is = e.1.2 told;
+    front = grew_whole e.1.1 e.1.3.taken;
+  })
+  what_was_put x (Err stop.Usage) e told = absurd e.1
+  what_was_put x (Err (stop.Refused why)) e told = inl (same_nothing e.1.1)
+  what_was_put x (Err (stop.Store f)) e told = inl (same_nothing e.1)
+  what_was_put x (Err stop.Sink) e told = inr (record {
+    status = e.1.1;
+    text = e.1.2;
+    line = e.1.3;
+    is = e.1.4 told;
+    front = grew_front e.1.2 e.1.5.count e.1.5.taken;
+  })
+  what_was_put x (Err stop.Memory) e told =
+      ⊎_elim (λ kept. inl (kept_nothing kept))
+      (λ grew. inr (record {
+        status = grew.0;
+        text = grew.1;
+        line = grew.2;
+        is = grew.3 told;
+        front = grew_front grew.1 grew.4.count grew.4.taken;
+      }))
+      e.1.1
+
+no_line : {X : Type 0} (before : List (List ℕ)) (line : List ℕ) (after : List (List ℕ))
+    → [] ≡ before ++ line ∷ after → X
+no_line [] line after same = absurd (cc)
+no_line (b ∷ before) line after same = absurd (cc)
+
+front_of_nothing : (put rest : List ℕ) → put ++ rest ≡ [] → put ≡ []
+front_of_nothing [] rest same = refl
+front_of_nothing (b ∷ put) rest same = absurd (cc)
+
+-- nothing has no verdict
+nothing_said : {X : Type 0} (put name terminal : List ℕ) (verdict : Verdict) → put ≡ []
+    → HasVerdict put name terminal verdict → X
+nothing_said put name terminal verdict none has =
+    no_line has.stands.before (script_text name)
+    (has.stands.between ++ verdict_text terminal verdict ∷ has.stands.after)
+    (sym (ap whole_lines none) ∙ has.stands.lines_are)
+
+-- ---- what the files say
+
+module _ {X : Type 0} (refused : Refusal → Type 0) (not_refused : (why : Refusal) → refused why → X)
+  where
+    line_said : (r : Result LineValues LineFault) (holds : Line → Type 0)
+        → of_line r refused holds
+        → ((line : Line) → r ≡ Ok (line_values line) → holds line → X) → X
+    line_said (Ok values) holds is then = then is.0 (ap Ok (sym is.1)) is.2
+    line_said (Err why) holds is then = not_refused (refusal.Line why) is
+
+    scripts_said : (line : Line) (r : Result (List ScriptValues) ScriptFault)
+        (holds : List Script → Type 0) → of_scripts line r refused holds
+        → ((scripts : List Script) → r ≡ Ok (map values_of scripts) → All (Fits line) scripts
+        → holds scripts → X)
+        → X
+    scripts_said line (Ok values) holds is then = then is.0 (ap Ok (sym is.1)) is.2 is.3
+    scripts_said line (Err why) holds is then = not_refused (refusal.Scripts why) is
+
+    study_said : (line_bytes scripts_bytes : List ℕ) (holds : Line → List Script → Type 0)
+        → of_study line_bytes scripts_bytes refused holds
+        → ((line : Line) (scripts : List Script) → line_of line_bytes ≡ Ok (line_values line)
+        → scripts_of line scripts_bytes ≡ Ok (map values_of scripts) → All (Fits line) scripts
+        → holds line scripts → X)
+        → X
+    study_said line_bytes scripts_bytes holds is then =
+        line_said (line_of line_bytes)
+        (λ line. of_scripts line (scripts_of line scripts_bytes) refused (holds line)) is
+        (λ line line_is more.
+        scripts_said line (scripts_of line scripts_bytes) (holds line) more
+        (λ scripts scripts_are fit held. then line scripts line_is scripts_are fit held))
+
+-- the files are there, or one of them is too long
+two_limits : {X : Type 0} (P : Result (List (List ℕ)) File → Type 0) (a b : List ℕ) (f g : File)
+    (o p : Bool)
+    → P (cond o (Err f) (in_front a (cond p (Err g) (in_front b (Ok [])))))
+    → ((h : File) → P (Err h) → X) → (P (Ok (a ∷ b ∷ [])) → X) → X
+two_limits P a b f g true p is long short = long f is
+two_limits P a b f g false true is long short = long g is
+two_limits P a b f g false false is long short = short is
+
+three_limits : {X : Type 0} (P : Result (List (List ℕ)) File → Type 0) (a b c : List ℕ)
+    (f g h : File) (o p q : Bool)
+    → P (cond o (Err f) (in_front a (cond p (Err g) (in_front b (cond q (Err h)
+    (in_front c (Ok [])))))))
+    → ((k : File) → P (Err k) → X) → (P (Ok (a ∷ b ∷ c ∷ [])) → X) → X
+three_limits P a b c f g h true p q is long short = long f is
+three_limits P a b c f g h false true q is long short = long g is
+three_limits P a b c f g h false false true is long short = long h is
+three_limits P a b c f g h false false false is long short = short is
+
+bytes_told : (files : List ℕ → Option (List ℕ)) (name bytes : List ℕ) → files name ≡ Some bytes
+    → unwrap_or (files name) [] ≡ bytes
+bytes_told files name bytes told = ap (λ (o : Option (List ℕ)). unwrap_or o []) told
+
+is_told : (files : List ℕ → Option (List ℕ)) (name bytes : List ℕ) → files name ≡ Some bytes
+    → IsSome (files name)
+is_told files name bytes told = subst (λ (o : Option (List ℕ)). IsSome o) (sym told) refl
+
+-- ---- certify
+
+module _ (files : List ℕ → Option (List ℕ)) (line scripts line_bytes scripts_bytes : List ℕ)
+    (line_told : files line ≡ Some line_bytes) (scripts_told : files scripts ≡ Some scripts_bytes)
+    (s : Status) (text message : List ℕ) where
+  abbrev Not : Refusal → Type 0
+  Not why = refuses why s text message
+
+  -- a command over the two files
+  two_said : {X : Type 0} (command : TwoFiles) → ((why : Refusal) → Not why → X)
+      → ((of : Line) (all : List Script) → line_of line_bytes ≡ Ok (line_values of)
+      → scripts_of of scripts_bytes ≡ Ok (map values_of all) → All (Fits of) all
+      → no_other_file command of all Not (λ w. done_with (answer w) s text message) → X)
+      → answers (Some (two_files command line scripts)) files s text message → X
+  two_said {X} command refused then is =
+      two_limits
+      (λ r. over_files (two_files command line scripts) r Not
+      (λ w. done_with (answer w) s text message))
+      (unwrap_or (files line) []) (unwrap_or (files scripts) []) file.Line file.Scripts
+      (nat_lt (limit_of file.Line) (length (unwrap_or (files line) [])))
+      (nat_lt (limit_of file.Scripts) (length (unwrap_or (files scripts) []))) is
+      (λ f long. refused (refusal.TooLong f) long)
+      (λ read.
+      study_said Not refused line_bytes scripts_bytes
+      (λ of all. no_other_file command of all Not (λ w. done_with (answer w) s text message))
+      (subst (λ (b : List ℕ). of_study line_bytes b Not
+      (λ of all. no_other_file command of all Not (λ w. done_with (answer w) s text message)))
+      (bytes_told files scripts scripts_bytes scripts_told)
+      (subst (λ (b : List ℕ). of_study b (unwrap_or (files scripts) []) Not
+      (λ of all. no_other_file command of all Not (λ w. done_with (answer w) s text message)))
+      (bytes_told files line line_bytes line_told) read))
+      then)
+
+  certify_said : {X : Type 0} → ((why : Refusal) → Not why → X)
+      → ((of : Line) (all : List Script) → line_of line_bytes ≡ Ok (line_values of)
+      → scripts_of of scripts_bytes ≡ Ok (map values_of all) → All (Fits of) all
+      → (d : Done) → s ≡ status_of_done d → certify_answer of all d text → X)
+      → answers (Some (two_files certify line scripts)) files s text message → X
+  certify_said {X} refused then is =
+      two_said certify refused
+      (λ of all line_is scripts_are fit done.
+      then of all line_is scripts_are fit done.0 done.1 done.2)
+      is
+
+certified_front : HeadlineLaws → (files : List ℕ → Option (List ℕ)) (line scripts line_bytes scripts_bytes : List ℕ)
+    → files line ≡ Some line_bytes → files scripts ≡ Some scripts_bytes
+    → (put name terminal : List ℕ) (verdict : Verdict)
+    → (front : IsAnswerFront (answers (Some (two_files certify line scripts)) files) put)
+    → HasVerdict put name terminal verdict
+    → HoldsInFiles line_bytes scripts_bytes name terminal (HoldsAsCertified verdict)
+certified_front known files line scripts line_bytes scripts_bytes line_told
+    scripts_told put name terminal verdict front has =
+    certify_said files line scripts line_bytes scripts_bytes line_told scripts_told front.status
+    front.text front.line
+    (λ why refused. nothing_said put name terminal verdict
+    (front_of_nothing put front.front.rest (front.front.is ∙ refused.1)) has)
+    (λ of all line_is scripts_are fit d same is.
+    let text = known.certified of all d front.text is in
+    record {
+      line = of;
+      line_is = line_is;
+      scripts = all;
+      scripts_are = scripts_are;
+      once = known.one_file of scripts_bytes (map values_of all) scripts_are;
+      holds = known.certified_true of all text.claims put front.front.rest name terminal verdict fit
+          text.certified (front.front.is ∙ text.text_is) has;
+    })
+    front.is
+
+-- what a status says
+told_by : HeadlineLaws → (line : Line) (scripts : List Script) (claims : List Claims)
+    → All (Fits line) scripts → AreCertified line scripts claims → (x y : Bool)
+    → list_any is_no (all_verdicts claims) ≡ x → list_any is_undecided (all_verdicts claims) ≡ y
+    → IsToldBy (status_of_done (status_by x y)) line scripts
+told_by known line scripts claims fit certified true y first second =
+    known.some_no line scripts claims fit certified first
+told_by known line scripts claims fit certified false true first second =
+    known.some_undecided line scripts claims fit certified second
+told_by known line scripts claims fit certified false false first second =
+    known.all line scripts claims fit certified first second
+
+status_told : HeadlineLaws → (files : List ℕ → Option (List ℕ))
+    (line scripts line_bytes scripts_bytes : List ℕ) → files line ≡ Some line_bytes
+    → files scripts ≡ Some scripts_bytes → (s : Status) (text : List ℕ) → IsDone s
+    → answers (Some (two_files certify line scripts)) files s text []
+    → InFiles line_bytes scripts_bytes (IsToldBy s)
+status_told known files line scripts line_bytes scripts_bytes line_told scripts_told s text is_done
+    answered =
+    certify_said files line scripts line_bytes scripts_bytes line_told scripts_told s text []
+    (λ why refused. absurd (subst IsDone refused.0 is_done))
+    (λ of all line_is scripts_are fit d same is.
+    let made = known.certified of all d text is in
+    record {
+      line = of;
+      line_is = line_is;
+      scripts = all;
+      scripts_are = scripts_are;
+      once = known.one_file of scripts_bytes (map values_of all) scripts_are;
+      holds = subst (λ (t : Status). IsToldBy t of all)
+          (sym (same ∙ ap status_of_done made.status_is))
+          (told_by known of all made.claims fit made.certified
+          (list_any is_no (all_verdicts made.claims))
+          (list_any is_undecided (all_verdicts made.claims)) refl refl);
+    })
+    answered
+
+-- ---- check
+
+module _ (files : List ℕ → Option (List ℕ))
+    (line scripts cert line_bytes scripts_bytes cert_bytes : List ℕ)
+    (line_told : files line ≡ Some line_bytes) (scripts_told : files scripts ≡ Some scripts_bytes)
+    (cert_told : files cert ≡ Some cert_bytes) (text message : List ℕ) where
+  abbrev Never : Refusal → Type 0
+  Never why = refuses why status.Good text message
+
+  never : {X : Type 0} (why : Refusal) → Never why → X
+  never why is = absurd (let e : status.Good ≡ status.BadInput = is.0 in cc)
+
+  -- a command over the three files
+  three_said : {X : Type 0} (command : ThreeFiles)
+      → ((of : Line) (all : List Script) → line_of line_bytes ≡ Ok (line_values of)
+      → scripts_of of scripts_bytes ≡ Ok (map values_of all) → All (Fits of) all
+      → third_file command cert_bytes of all Never
+      (λ w. done_with (answer w) status.Good text message) → X)
+      → answers (Some (three_files command line scripts cert)) files status.Good text message
+      → X
+  three_said {X} command then is =
+      three_limits
+      (λ r. over_files (three_files command line scripts cert) r Never
+      (λ w. done_with (answer w) status.Good text message))
+      (unwrap_or (files line) []) (unwrap_or (files scripts) []) (unwrap_or (files cert) [])
+      file.Line file.Scripts (own_file command)
+      (nat_lt (limit_of file.Line) (length (unwrap_or (files line) [])))
+      (nat_lt (limit_of file.Scripts) (length (unwrap_or (files scripts) [])))
+      (nat_lt (limit_of (own_file command)) (length (unwrap_or (files cert) []))) is
+      (λ f long. never (refusal.TooLong f) long)
+      (λ read.
+      study_said Never never line_bytes scripts_bytes
+      (λ of all. third_file command cert_bytes of all Never
+      (λ w. done_with (answer w) status.Good text message))
+      (subst (λ (b : List ℕ). of_study line_bytes scripts_bytes Never
+      (λ of all. third_file command b of all Never
+      (λ w. done_with (answer w) status.Good text message)))
+      (bytes_told files cert cert_bytes cert_told)
+      (subst (λ (b : List ℕ). of_study line_bytes b Never
+      (λ of all. third_file command (unwrap_or (files cert) []) of all Never
+      (λ w. done_with (answer w) status.Good text message)))
+      (bytes_told files scripts scripts_bytes scripts_told)
+      (subst (λ (b : List ℕ). of_study b (unwrap_or (files scripts) []) Never
+      (λ of all. third_file command (unwrap_or (files cert) []) of all Never
+      (λ w. done_with (answer w) status.Good text message)))
+      (bytes_told files line line_bytes line_told) read)))
+      then)
+
+  -- where a check is good, it has accepted
+  counts_of : {X Fault : Type 0} (accepted : Counts → Type 0) (fault : Fault → Type 0)
+      (memory : Fault) (pieces : Fault → List (List ℕ)) (d : Done)
+      → status.Good ≡ status_of_done d → IsCheckedText accepted fault memory pieces d text
+      → ((counts : Counts) → accepted counts → X) → X
+  counts_of accepted fault memory pieces done.Good same is then = then is.counts is.accepted
+  counts_of accepted fault memory pieces done.SomeNo same is then = absurd (cc)
+  counts_of accepted fault memory pieces done.SomeUndecided same is then = absurd (cc)
+  counts_of accepted fault memory pieces done.Rejected same is then = absurd (cc)
+
+  check_said : {X : Type 0}
+      → ((of : Line) (all : List Script) → line_of line_bytes ≡ Ok (line_values of)
+      → scripts_of of scripts_bytes ≡ Ok (map values_of all) → All (Fits of) all
+      → (counts : Counts) → IsAccepted of all cert_bytes counts → X)
+      → answers (Some (three_files three.Check line scripts cert)) files status.Good text message
+      → X
+  check_said {X} then is =
+      three_said three.Check
+      (λ of all line_is scripts_are fit done.
+      counts_of (IsAccepted of all cert_bytes) (IsCheckFault of all cert_bytes) check_fault.Memory
+      (check.rejected_pieces of all) done.0 done.1 done.2
+      (λ counts accepted. then of all line_is scripts_are fit counts accepted))
+      is
+
+  recheck_said : {X : Type 0}
+      → ((of : Line) (all : List Script) → line_of line_bytes ≡ Ok (line_values of)
+      → scripts_of of scripts_bytes ≡ Ok (map values_of all) → All (Fits of) all
+      → (counts : Counts) → split_check.IsAccepted of all cert_bytes counts → X)
+      → answers (Some (three_files three.Recheck line scripts cert)) files status.Good text message
+      → X
+  recheck_said {X} then is =
+      three_said three.Recheck
+      (λ of all line_is scripts_are fit done.
+      counts_of (split_check.IsAccepted of all cert_bytes)
+      (split_check.IsSplitFault of all cert_bytes) split_fault.Memory
+      (recheck.rejected_pieces of all) done.0 done.1 done.2
+      (λ counts accepted. then of all line_is scripts_are fit counts accepted))
+      is
+
+-- ---- report, margin and split
+
+-- what holds of all holds of the one at a place
+all_at : {X : Type 0} (P : X → Type 0) (xs : List X) (i : ℕ) (x : X) → All P xs
+    → slice_get xs i ≡ Some x → P x
+all_at P [] i x every at = absurd (cc)
+all_at P (y ∷ xs) zero x every at = subst P (same_Some y x at) (All-head P y xs every)
+all_at P (y ∷ xs) (suc i) x every at = all_at P xs i x (All-tail P y xs every) at
+
+module _ (known : HeadlineLaws) (of : Line) (all : List Script) (fit : All (Fits of) all) where
+  report_true : (text : List ℕ) → IsReportText of all text → ReportIsTrue of all text
+  report_true text is = record {
+    histories = is.histories;
+    text_is = is.text_is;
+    held = λ i k script at there held.
+        known.rules.held of script (declared_box of) (is.histories script) k
+        (known.deadlines of script (all_at (Fits of) all i script fit at))
+        (known.inside.declared of) (is.are_histories script) there held;
+    broken = λ i k script at there broken.
+        known.rules.broken of script (declared_box of) (is.histories script) k
+        (known.deadlines of script (all_at (Fits of) all i script fit at))
+        (known.inside.declared of) (is.are_histories script) there broken;
+  }
+
+  margin_of : (name text : List ℕ) (param : ℕ) (found : Bool) → param_named of name ≡ Some param
+      → IsMarginAnswer of all param found text → MarginIsTrue of all name text
+  margin_of name text param found named is = record {
+    param = param;
+    param_is = named;
+    end = is.end;
+    text_is = is.text_is;
+    met = λ v i k script greatest at there.
+        let end_is =
+        subst (λ (o : Option ℕ). MatchOption o
+        (HasNoMargin of all param × IsLostAtLeast of all param is.end.lost)
+        (λ w. IsMargin of all param w × IsLostAbove of all param w is.end.lost)) greatest is.is in
+        known.margins of all param v i k script fit end_is.0.held at there;
+  }
+
+  margin_true : (name text : List ℕ) (param : ℕ) (d : Done) → param_named of name ≡ Some param
+      → IsMarginText of all param d text → MarginIsTrue of all name text
+  margin_true name text param done.Good named is = margin_of name text param true named is
+  margin_true name text param done.SomeNo named is = absurd is
+  margin_true name text param done.SomeUndecided named is = margin_of name text param false named is
+  margin_true name text param done.Rejected named is = absurd is
+
+  split_true : (n : ℕ) (d : Done) (text : List ℕ) → IsSplitOf of all n d text
+      → SplitIsTrue of all text
+  split_true n d text is = record {
+    parts = is.parts;
+    text_is = is.text_is;
+    told = λ i script results lt at there.
+        let searched : AreSearched of n script results =
+        zip_each (Fits of) (AreSearched of n) (AreSearched of n) (λ x y f r. r) all is.parts fit
+        is.searched i script results at there in
+        let many : length results ≡ terminal_count of =
+        ap length searched.written ∙ length-map searched.searches written_as
+        ∙ searched.found.count in
+        let fits : Fits of script = all_at (Fits of) all i script fit at in
+        known.told of script results fits many
+        (known.searched of n script results fits searched);
+  }
+
+-- ---- the headline
+
+module _ {K : Type 0} (view : K → SinkView) (old new : K) (files : List ℕ → Option (List ℕ))
+    (c1 c2 : List ℕ → ℕ) (known : HeadlineLaws) where
+  certify_true : (command : Option Command) (r : Result Status Stop)
+      → EndsOf view command files c1 c2 old new r
+      → (line scripts line_bytes scripts_bytes put name terminal : List ℕ) (verdict : Verdict)
+      → command ≡ Some (two_files certify line scripts) → files line ≡ Some line_bytes
+      → files scripts ≡ Some scripts_bytes → HasPut (view old) (view new) put
+      → HasVerdict put name terminal verdict
+      → HoldsInFiles line_bytes scripts_bytes name terminal (HoldsAsCertified verdict)
+  certify_true command r e line scripts line_bytes scripts_bytes put name terminal verdict is
+      line_told scripts_told has verdict_there =
+      ⊎_elim
+      (λ none. nothing_said put name terminal verdict none verdict_there)
+      (λ front.
+      certified_front known files line scripts line_bytes scripts_bytes
+      line_told scripts_told put name terminal verdict front verdict_there)
+      (what_was_put view old new files c1 c2 put has (two_files certify line scripts) r
+      (subst (λ (x : Option Command). EndsOf view x files c1 c2 old new r) is e) (
+        is_told files line line_bytes line_told,
+        (is_told files scripts scripts_bytes scripts_told, tt),
+      ))
+
+  -- what a command that is done put on out is its answer
+  done_put : (x : Command) (r : Result Status Stop) → EndsOf view (Some x) files c1 c2 old new r
+      → IsDone (status_of r) → AllTold files (files_of x) → (put : List ℕ)
+      → HasPut (view old) (view new) put → answers (Some x) files (status_of r) put []
+  done_put x (Ok s) e done told put has =
+      subst (λ (t : List ℕ). answers (Some x) files s t [])
+      (sym (grew_put (view old).written (view new).written has.before put e.1.1 has.told_before
+      has.told_after e.1.3.taken))
+      (e.1.2 told)
+  done_put x (Err stop.Usage) e done told put has = absurd done
+  done_put x (Err (stop.Refused why)) e done told put has = absurd done
+  done_put x (Err (stop.Store f)) e done told put has = absurd done
+  done_put x (Err stop.Sink) e done told put has = absurd done
+  done_put x (Err stop.Memory) e done told put has = absurd done
+
+  two_put : (work : TwoFiles) (command : Option Command) (r : Result Status Stop)
+      → EndsOf view command files c1 c2 old new r
+      → (line scripts line_bytes scripts_bytes put : List ℕ) → IsDone (status_of r)
+      → command ≡ Some (two_files work line scripts) → files line ≡ Some line_bytes
+      → files scripts ≡ Some scripts_bytes → HasPut (view old) (view new) put
+      → (Fact : Line → List Script → Type 0)
+      → ((of : Line) (all : List Script) → All (Fits of) all
+      → no_other_file work of all (λ why. refuses why (status_of r) put [])
+      (λ w. done_with (answer w) (status_of r) put []) → Fact of all)
+      → InFiles line_bytes scripts_bytes Fact
+  two_put work command r e line scripts line_bytes scripts_bytes put done is line_told scripts_told
+      has Fact follows =
+      two_said files line scripts line_bytes scripts_bytes line_told scripts_told (status_of r) put
+      [] work
+      (λ why refused. absurd (subst IsDone refused.0 done))
+      (λ of all line_is scripts_are fit said. record {
+        line = of;
+        line_is = line_is;
+        scripts = all;
+        scripts_are = scripts_are;
+        once = known.one_file of scripts_bytes (map values_of all) scripts_are;
+        holds = follows of all fit said;
+      })
+      (done_put (two_files work line scripts) r
+      (subst (λ (x : Option Command). EndsOf view x files c1 c2 old new r) is e) done (
+        is_told files line line_bytes line_told,
+        (is_told files scripts scripts_bytes scripts_told, tt),
+      )
+      put has)
+
+  -- the parameter that a name is
+  of_name : {X : Type 0} (o : Option ℕ) (R : Refusal → Type 0) (H : ℕ → Type 0)
+      → of_parameter o R H → ((why : Refusal) → R why → X)
+      → ((param : ℕ) → o ≡ Some param → H param → X) → X
+  of_name (Some param) R H is refused then = then param refl is
+  of_name None R H is refused then = refused refusal.UnknownParameter is
+
+  done_answer : (x : Command) (r : Result Status Stop)
+      → EndsOf view (Some x) files c1 c2 old new r → IsDone (status_of r)
+      → AllTold files (files_of x) → (text : List ℕ) × answers (Some x) files (status_of r) text []
+  done_answer x (Ok s) e done told = (e.1.1, e.1.2 told)
+  done_answer x (Err stop.Usage) e done told = absurd done
+  done_answer x (Err (stop.Refused why)) e done told = absurd done
+  done_answer x (Err (stop.Store f)) e done told = absurd done
+  done_answer x (Err stop.Sink) e done told = absurd done
+  done_answer x (Err stop.Memory) e done told = absurd done
+
+  status_true : (command : Option Command) (r : Result Status Stop)
+      → EndsOf view command files c1 c2 old new r
+      → (line scripts line_bytes scripts_bytes : List ℕ) → IsDone (status_of r)
+      → command ≡ Some (two_files certify line scripts) → files line ≡ Some line_bytes
+      → files scripts ≡ Some scripts_bytes
+      → InFiles line_bytes scripts_bytes (IsToldBy (status_of r))
+  status_true command r e line scripts line_bytes scripts_bytes done is line_told scripts_told =
+      let (text, answered) =
+      done_answer (two_files certify line scripts) r
+      (subst (λ (x : Option Command). EndsOf view x files c1 c2 old new r) is e) done (
+        is_told files line line_bytes line_told,
+        (is_told files scripts scripts_bytes scripts_told, tt),
+      ) in
+      status_told known files line scripts line_bytes scripts_bytes line_told scripts_told
+      (status_of r) text done answered
+
+  good_answer : (x : Command) (r : Result Status Stop)
+      → EndsOf view (Some x) files c1 c2 old new r → status_of r ≡ status.Good
+      → AllTold files (files_of x) → (text : List ℕ) × answers (Some x) files status.Good text []
+  good_answer x (Ok s) e good told = (
+    e.1.1,
+    subst (λ (t : Status). answers (Some x) files t e.1.1 []) good (e.1.2 told),
+  )
+  good_answer x (Err stop.Usage) e good told = absurd e.1
+  good_answer x (Err (stop.Refused why)) e good told = absurd (cc)
+  good_answer x (Err (stop.Store f)) e good told = absurd (cc)
+  good_answer x (Err stop.Sink) e good told = absurd (cc)
+  good_answer x (Err stop.Memory) e good told = absurd (cc)
+
+  check_true : (command : Option Command) (r : Result Status Stop)
+      → EndsOf view command files c1 c2 old new r
+      → (line scripts cert line_bytes scripts_bytes cert_bytes name terminal : List ℕ)
+      (verdict : Verdict) → status_of r ≡ status.Good
+      → command ≡ Some (three_files three.Check line scripts cert)
+      → files line ≡ Some line_bytes → files scripts ≡ Some scripts_bytes
+      → files cert ≡ Some cert_bytes → HasVerdict cert_bytes name terminal verdict
+      → HoldsInFiles line_bytes scripts_bytes name terminal (HoldsAsAccepted verdict)
+  check_true command r e line scripts cert line_bytes scripts_bytes cert_bytes name terminal verdict
+      good is line_told scripts_told cert_told verdict_there =
+      let (text, answered) =
+      good_answer (three_files three.Check line scripts cert) r
+      (subst (λ (x : Option Command). EndsOf view x files c1 c2 old new r) is e) good (
+        is_told files line line_bytes line_told,
+        (
+          is_told files scripts scripts_bytes scripts_told,
+          (is_told files cert cert_bytes cert_told, tt),
+        ),
+      ) in
+      check_said files line scripts cert line_bytes scripts_bytes cert_bytes line_told scripts_told
+      cert_told text []
+      (λ of all line_is scripts_are fit counts accepted. record {
+        line = of;
+        line_is = line_is;
+        scripts = all;
+        scripts_are = scripts_are;
+        once = known.one_file of scripts_bytes (map values_of all) scripts_are;
+        holds = known.accepted_true of all cert_bytes counts name terminal verdict fit accepted
+            verdict_there;
+      })
+      answered
+
+  pub headline : (command : Option Command) (r : Result Status Stop)
+      → EndsOf view command files c1 c2 old new r
+      → Headline command files (view old) (view new) (status_of r)
+  headline command r e = record {
+    printed = certify_true command r e;
+    status_says = status_true command r e;
+    accepted = check_true command r e;
+    reported = λ line scripts line_bytes scripts_bytes put done is line_told scripts_told has.
+        two_put report command r e line scripts line_bytes scripts_bytes put done is line_told
+        scripts_told has (λ of all. ReportIsTrue of all put)
+        (λ of all fit said. report_true known of all fit put said.2.1);
+    margin_put = λ line scripts name line_bytes scripts_bytes put done is line_told scripts_told has.
+        two_put (margin name) command r e line scripts line_bytes scripts_bytes put done is
+        line_told scripts_told has (λ of all. MarginIsTrue of all name put)
+        (λ of all fit said.
+        of_name (param_named of name) (λ why. refuses why (status_of r) put [])
+        (λ param. done_with (margin_answer of all param) (status_of r) put []) said
+        (λ why refused. absurd (subst IsDone refused.0 done))
+        (λ param named told. margin_true known of all fit name put param told.0 named told.2));
+    split_put = λ n line scripts line_bytes scripts_bytes put done is line_told scripts_told has.
+        two_put (split n) command r e line scripts line_bytes scripts_bytes put done is line_told
+        scripts_told has (λ of all. SplitIsTrue of all put)
+        (λ of all fit said. split_true known of all fit n said.0 put said.2);
+    trees_accepted = λ line scripts trees line_bytes scripts_bytes trees_bytes good is line_told scripts_told trees_told.
+        let (text, answered) =
+        good_answer (three_files three.Recheck line scripts trees) r
+        (subst (λ (x : Option Command). EndsOf view x files c1 c2 old new r) is e) good (
+          is_told files line line_bytes line_told,
+          (
+            is_told files scripts scripts_bytes scripts_told,
+            (is_told files trees trees_bytes trees_told, tt),
+          ),
+        ) in
+        recheck_said files line scripts trees line_bytes scripts_bytes trees_bytes line_told
+        scripts_told trees_told text []
+        (λ of all line_is scripts_are fit counts accepted. record {
+          line = of;
+          line_is = line_is;
+          scripts = all;
+          scripts_are = scripts_are;
+          once = known.one_file of scripts_bytes (map values_of all) scripts_are;
+          holds = known.trees of all trees_bytes counts fit accepted;
+        })
+        answered;
+  }

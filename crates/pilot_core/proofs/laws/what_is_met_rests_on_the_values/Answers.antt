@@ -1,0 +1,13 @@
+use Rattle.pilot_core.proofs.SameValues.{failed_by, met_by_all}
+use Rattle.pilot_core.proofs.laws.what_is_met_rests_on_the_values.Goals as goal
+
+pub returns : goal.returns
+returns c = record {
+  met = λ line other script copy k lines scripts met.
+      met_by_all c.counts_do_not_rest_on_the_intervals.ensures
+      c.histories_do_not_rest_on_the_intervals.ensures line other lines script copy scripts k met;
+  failed = λ line other script copy k numbers lines scripts fails.
+      failed_by c.counts_do_not_rest_on_the_intervals.ensures
+      c.histories_do_not_rest_on_the_intervals.ensures line other lines script copy scripts k
+      numbers fails;
+}

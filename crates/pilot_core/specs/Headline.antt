@@ -1,0 +1,90 @@
+-- What a call says of every choice of delays: each verdict that stands in a whole line on out, and,
+-- where a certificate is accepted, each that stands in a whole line of it.
+use Rattle.std.specs.Prelude.{◌≡◌, ◌++◌, ℕ, List, Option, Some, Ok, map}
+use Rattle.line_model.specs.{declared.line.Line.Line, declared.script.Script.Script}
+use Rattle.line_file.specs.{LineFiles.line_of, Lines.line_values}
+use Rattle.fault_script.specs.{Scripts.scripts_of, Values.AreOfOneFile, Values.values_of}
+use Rattle.certificate.specs.Grammar.{Verdict}
+use Rattle.commands.specs.Sinks.{SinkView}
+use Rattle.headline.specs.Obligations.{AllMet, HoldsAsAccepted, HoldsAsCertified, HoldsSomewhere}
+use Rattle.headline.specs.Obligations.{IsFailedBySome, IsUnknown}
+use Rattle.headline.specs.Printed.{HasVerdict, HoldsOf}
+use Rattle.split_checker.specs.Check.{IsSound}
+use Rattle.pilot_core.specs.Truths.{MarginIsTrue, ReportIsTrue, SplitIsTrue}
+use Rattle.pilot_core.specs.Words.{Command, certify, margin, report, split, three_files, two_files}
+use Rattle.pilot_core.specs.{Status.IsDone, declared.stop.Status.Status}
+use Rattle.pilot_core.specs.declared.stop.Status.TheVariants as status
+use Rattle.pilot_core.specs.declared.words.ThreeFiles.TheVariants as three
+
+-- the sink tells what it took before and after, and this was put on it between
+pub record HasPut (old new : SinkView) (put : List ℕ) : Type 0 where
+  pub before : List ℕ
+  pub told_before : old.written ≡ Some before
+  pub told_after : new.written ≡ Some (before ++ put)
+
+-- the files say a line, and scripts of which no two have one name, and this holds of them
+pub record InFiles (line_bytes scripts_bytes : List ℕ) (Fact : Line → List Script → Type 0)
+    : Type 0 where
+  pub line : Line
+  pub line_is : line_of line_bytes ≡ Ok (line_values line)
+  pub scripts : List Script
+  pub scripts_are : scripts_of line scripts_bytes ≡ Ok (map values_of scripts)
+  pub once : AreOfOneFile (map values_of scripts)
+  pub holds : Fact line scripts
+
+-- this holds of the obligation of the script and at the terminal with these names
+abbrev pub HoldsInFiles : List ℕ → List ℕ → List ℕ → List ℕ → (Line → Script → ℕ → Type 0) → Type 0
+HoldsInFiles line_bytes scripts_bytes name terminal Fact =
+    InFiles line_bytes scripts_bytes (λ line scripts. HoldsOf line scripts name terminal Fact)
+
+-- what the status of `certify` says. 0: every obligation is met, whatever the choice. 1: some choice
+-- fails one. 2: one is unknown.
+abbrev pub IsToldBy : Status → Line → List Script → Type 0
+IsToldBy status.Good line scripts = AllMet line scripts
+IsToldBy status.SomeNo line scripts = HoldsSomewhere line scripts IsFailedBySome
+IsToldBy status.SomeUndecided line scripts = HoldsSomewhere line scripts IsUnknown
+IsToldBy s line scripts = Unit {0}
+
+-- of a call of this command over these files, which put this on out, and ended with status s
+pub record Headline (command : Option Command) (files : List ℕ → Option (List ℕ))
+    (out_old out_new : SinkView) (s : Status) : Type 0 where
+  -- Where `certify` has put a whole line `verdict TERMINAL yes` under `script NAME`, however the call
+  -- ended, each history of each choice inside meets that obligation; under `no` the numbers are a
+  -- choice inside whose history fails it; under `undecided` its rule is unknown.
+  pub printed : (line scripts line_bytes scripts_bytes put name terminal : List ℕ)
+      (verdict : Verdict) → command ≡ Some (two_files certify line scripts)
+      → files line ≡ Some line_bytes → files scripts ≡ Some scripts_bytes
+      → HasPut out_old out_new put → HasVerdict put name terminal verdict
+      → HoldsInFiles line_bytes scripts_bytes name terminal (HoldsAsCertified verdict)
+  -- Its status says what is so of all obligations.
+  pub status_says : (line scripts line_bytes scripts_bytes : List ℕ) → IsDone s
+      → command ≡ Some (two_files certify line scripts) → files line ≡ Some line_bytes
+      → files scripts ≡ Some scripts_bytes → InFiles line_bytes scripts_bytes (IsToldBy s)
+  -- Where `check` has accepted a certificate, whoever wrote it, the same is so of each whole line of
+  -- it that says `yes` or `no`.
+  pub accepted : (line scripts cert line_bytes scripts_bytes cert_bytes name terminal : List ℕ)
+      (verdict : Verdict) → s ≡ status.Good
+      → command ≡ Some (three_files three.Check line scripts cert)
+      → files line ≡ Some line_bytes → files scripts ≡ Some scripts_bytes
+      → files cert ≡ Some cert_bytes → HasVerdict cert_bytes name terminal verdict
+      → HoldsInFiles line_bytes scripts_bytes name terminal (HoldsAsAccepted verdict)
+  -- What `report` has put is a true report, what `margin` has put the line of a true margin, and what
+  -- `split` has put are true split trees; and trees that `recheck` has accepted are true, whoever
+  -- wrote them.
+  pub reported : (line scripts line_bytes scripts_bytes put : List ℕ) → IsDone s
+      → command ≡ Some (two_files report line scripts) → files line ≡ Some line_bytes
+      → files scripts ≡ Some scripts_bytes → HasPut out_old out_new put
+      → InFiles line_bytes scripts_bytes (λ of all. ReportIsTrue of all put)
+  pub margin_put : (line scripts name line_bytes scripts_bytes put : List ℕ) → IsDone s
+      → command ≡ Some (two_files (margin name) line scripts) → files line ≡ Some line_bytes
+      → files scripts ≡ Some scripts_bytes → HasPut out_old out_new put
+      → InFiles line_bytes scripts_bytes (λ of all. MarginIsTrue of all name put)
+  pub split_put : (n : ℕ) (line scripts line_bytes scripts_bytes put : List ℕ) → IsDone s
+      → command ≡ Some (two_files (split n) line scripts) → files line ≡ Some line_bytes
+      → files scripts ≡ Some scripts_bytes → HasPut out_old out_new put
+      → InFiles line_bytes scripts_bytes (λ of all. SplitIsTrue of all put)
+  pub trees_accepted : (line scripts trees line_bytes scripts_bytes trees_bytes : List ℕ)
+      → s ≡ status.Good → command ≡ Some (three_files three.Recheck line scripts trees)
+      → files line ≡ Some line_bytes → files scripts ≡ Some scripts_bytes
+      → files trees ≡ Some trees_bytes
+      → InFiles line_bytes scripts_bytes (λ of all. IsSound of all trees_bytes)

@@ -1,0 +1,68 @@
+-- The laws that the headline rests on.
+use Rattle.std.specs.Prelude.{◌≡◌, ◌++◌, ◌<◌, ℕ, true, false, List, Some, Ok, length, slice_get}
+use Rattle.std.specs.List.{All, list_any}
+use Rattle.line_model.specs.{declared.line.Line.Line, declared.script.Script.Script, Fits.Fits}
+use Rattle.line_model.specs.Histories.{History, IsLineHistory, Meets}
+use Rattle.line_model.specs.Laws.{DeadlinesAreBelowTheHorizon, EachLineHasAChoiceInside}
+use Rattle.line_model.specs.Laws.{TheRuleSpeaksForEveryChoice}
+use Rattle.line_model.specs.{Choice.Choice, Choice.IsWithin, Parameters.terminal_count}
+use Rattle.fault_script.specs.{Scripts.scripts_of, Values.AreOfOneFile, Values.ScriptValues}
+use Rattle.certificate.specs.{Grammar.Claims, Grammar.Verdict, Text.certificate_text}
+use Rattle.cert_checker.specs.{declared.counts.Counts.Counts, Check.IsAccepted}
+use Rattle.cert_checker.specs.Counts.{all_verdicts, is_no, is_undecided}
+use Rattle.own_certificate.specs.Certified.{AreCertified}
+use Rattle.margin_search.specs.{Margin.IsHeldTo, Raised.raised}
+use Rattle.split_text.specs.Grammar.{SplitResult}
+use Rattle.split_checker.specs.Check as split_check
+use Rattle.split_checker.specs.Results.{AreSupported, AreTold}
+use Rattle.own_splits.specs.Searched.{AreSearched}
+use Rattle.commands.specs.Certify.{IsCertificateOf, IsCertifiedText}
+use Rattle.commands.specs.declared.done.Done.{Done}
+use Rattle.headline.specs.Obligations.{AllMet, HoldsAsAccepted, HoldsAsCertified, HoldsSomewhere}
+use Rattle.headline.specs.Obligations.{IsFailedBySome, IsUnknown}
+use Rattle.headline.specs.Printed.{HasVerdict, HoldsOf}
+
+pub record HeadlineLaws : Type 0 where
+  pub one_file : (line : Line) (bytes : List ℕ) (scripts : List ScriptValues)
+      → scripts_of line bytes ≡ Ok scripts → AreOfOneFile scripts
+  -- certificates
+  pub certified : (line : Line) (scripts : List Script) (d : Done) (text : List ℕ)
+      → IsCertificateOf line scripts d text → IsCertifiedText line scripts d text
+  pub certified_true : (line : Line) (scripts : List Script) (claims : List Claims)
+      (front rest name terminal : List ℕ) (verdict : Verdict) → All (Fits line) scripts
+      → AreCertified line scripts claims → front ++ rest ≡ certificate_text line scripts claims
+      → HasVerdict front name terminal verdict
+      → HoldsOf line scripts name terminal (HoldsAsCertified verdict)
+  pub all : (line : Line) (scripts : List Script) (claims : List Claims)
+      → All (Fits line) scripts → AreCertified line scripts claims
+      → list_any is_no (all_verdicts claims) ≡ false
+      → list_any is_undecided (all_verdicts claims) ≡ false → AllMet line scripts
+  pub some_no : (line : Line) (scripts : List Script) (claims : List Claims)
+      → All (Fits line) scripts → AreCertified line scripts claims
+      → list_any is_no (all_verdicts claims) ≡ true
+      → HoldsSomewhere line scripts IsFailedBySome
+  pub some_undecided : (line : Line) (scripts : List Script) (claims : List Claims)
+      → All (Fits line) scripts → AreCertified line scripts claims
+      → list_any is_undecided (all_verdicts claims) ≡ true
+      → HoldsSomewhere line scripts IsUnknown
+  pub accepted_true : (line : Line) (scripts : List Script) (bytes : List ℕ) (counts : Counts)
+      (name terminal : List ℕ) (verdict : Verdict) → All (Fits line) scripts
+      → IsAccepted line scripts bytes counts → HasVerdict bytes name terminal verdict
+      → HoldsOf line scripts name terminal (HoldsAsAccepted verdict)
+  -- rules, margins and split trees
+  pub rules : TheRuleSpeaksForEveryChoice
+  pub deadlines : DeadlinesAreBelowTheHorizon
+  pub inside : EachLineHasAChoiceInside
+  pub margins : (line : Line) (scripts : List Script) (param v s k : ℕ) (script : Script)
+      → All (Fits line) scripts → IsHeldTo line scripts param v
+      → slice_get scripts s ≡ Some script → k < terminal_count line
+      → (choice : Choice) (h : History) → IsWithin line choice (raised line param v)
+      → IsLineHistory line script choice h → Meets line script k h
+  pub searched : (line : Line) (n : ℕ) (script : Script) (results : List SplitResult)
+      → Fits line script → AreSearched line n script results → AreSupported line script results
+  pub told : (line : Line) (script : Script) (results : List SplitResult) → Fits line script
+      → length results ≡ terminal_count line → AreSupported line script results
+      → AreTold line script results
+  pub trees : (line : Line) (scripts : List Script) (bytes : List ℕ) (counts : Counts)
+      → All (Fits line) scripts → split_check.IsAccepted line scripts bytes counts
+      → split_check.IsSound line scripts bytes
