@@ -1,7 +1,7 @@
 //! The line and the scripts that need no file.
 
 use super::*;
-use line_model::Kind;
+use model_line::Kind;
 use std::test::Fail;
 
 #[test]

@@ -1,6 +1,6 @@
 -- What is answered of the first scripts of the bench.
 use Rattle.std.specs.Prelude.{◌≡◌, ℕ, List}
-use Rattle.line_model.specs.{declared.line.Line.Line, declared.script.Script.Script}
+use Rattle.model_line.specs.{declared.line.Line.Line, declared.script.Script.Script}
 use Rattle.certificate.specs.Grammar.{Claims}
 use Rattle.cert_checker.specs.{declared.counts.Counts.Counts, Counts.AreCounts, Counts.all_verdicts}
 use Rattle.own_certificate.specs.Certified.{AreCertified}

@@ -6,7 +6,7 @@ ghost use Rattle.bench_answer.specs.BenchText.{bench_text as text_of};
 
 use cert_checker::Counts;
 use itoa::Buffer;
-use line_model::Memory;
+use model_line::Memory;
 use std::alloc::Global;
 
 /// `scripts N yes Y no M undecided U` and `accepted Y M U`, a line each.

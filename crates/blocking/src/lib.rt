@@ -6,13 +6,14 @@
 #![tactic(auto)]
 
 ghost use Rattle.std.specs.Prelude.{◌<◌, IfOk};
-ghost use Rattle.line_model.specs.Parameters.{terminal_count};
-ghost use Rattle.line_model.specs.Logic.{blocking_key, blocking_pilot};
+ghost use Rattle.model_line.specs.Parameters.{terminal_count};
+ghost use Rattle.model_logic.specs.Logic.{blocking_key, blocking_pilot};
 ghost use Rattle.gate_net.specs.{Formulas.Stands, Growing.HasRoom, Growing.Extends};
 ghost use Rattle.zones.specs.{LocalGates.AreLocal, Outputs.CanMake, Outputs.MakesOutputs};
 
 use gate_net::{GateId, NetBuilder};
-use line_model::{Line, Memory, Scheme, Setting, Time};
+use model_line::{Line, Memory, Scheme, Setting};
+use model_logic::Time;
 use zones::{Local, Out, and_not, any_received, terminal_time};
 
 /// What a terminal of a DCB line sends and trips on.
@@ -31,7 +32,7 @@ pub fn scheme(
 }
 
 // The reverse element, where zone 2 does not see the fault, carried on for a while.
-#[tactic(auto, unfolding(line_model::specs::Logic::blocking_key))]
+#[tactic(auto, unfolding(model_logic::specs::Logic::blocking_key))]
 fn key(net: &mut NetBuilder, line: &Line, terminal: u32, local: &Local) -> Result<GateId, Memory>
     requires exists { terminal < terminal_count line.now }
     requires room { HasRoom net.old 3 }
@@ -46,7 +47,7 @@ fn key(net: &mut NetBuilder, line: &Line, terminal: u32, local: &Local) -> Resul
 }
 
 // Zone 2 after the coordination delay, where nothing blocks it.
-#[tactic(auto, unfolding(line_model::specs::Logic::blocking_pilot))]
+#[tactic(auto, unfolding(model_logic::specs::Logic::blocking_pilot))]
 fn pilot(net: &mut NetBuilder, line: &Line, terminal: u32, local: &Local) -> Result<GateId, Memory>
     requires exists { terminal < terminal_count line.now }
     requires room { HasRoom net.old 19 }

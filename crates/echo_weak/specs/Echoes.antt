@@ -1,8 +1,9 @@
 -- The gates of a weak terminal, and of a terminal over a permission.
 use Rattle.std.specs.Prelude.{◌<◌, ℕ, List, length}
-use Rattle.line_model.specs.Permissive.{echo_wanted, echo, weak_infeed_trip, permissive_key}
-use Rattle.line_model.specs.Permissive.{permissive_pilot}
-use Rattle.line_model.specs.{declared.line.Line.Line, Tree.Tree, Parameters.terminal_count}
+use Rattle.model_logic.specs.Permissive.{echo_wanted, echo, weak_infeed_trip, permissive_key}
+use Rattle.model_logic.specs.Permissive.{permissive_pilot}
+use Rattle.model_logic.specs.Tree.{Tree}
+use Rattle.model_line.specs.{declared.line.Line.Line, Parameters.terminal_count}
 use Rattle.gate_net.specs.{declared.gate.Gate.Gate, declared.gate.GateId.GateId, Formulas.Stands}
 use Rattle.gate_net.specs.Growing.{HasRoom}
 use Rattle.zones.specs.{declared.elements.Local.Local, LocalGates.AreLocal}

@@ -1,16 +1,16 @@
 //! What a terminal sends and trips on, over a permission.
 
 ghost use Rattle.std.specs.Prelude.{IfOk};
-ghost use Rattle.line_model.specs.Permissive.{echo as echo_tree};
-ghost use Rattle.line_model.specs.Permissive.{weak_infeed_trip as weak_infeed_trip_tree};
-ghost use Rattle.line_model.specs.Permissive.{permissive_key, permissive_pilot};
+ghost use Rattle.model_logic.specs.Permissive.{echo as echo_tree};
+ghost use Rattle.model_logic.specs.Permissive.{weak_infeed_trip as weak_infeed_trip_tree};
+ghost use Rattle.model_logic.specs.Permissive.{permissive_key, permissive_pilot};
 ghost use Rattle.gate_net.specs.Formulas.{formula_of, Stands};
 ghost use Rattle.gate_net.specs.Growing.{Extends};
 ghost use Rattle.echo_weak.specs.Echoes.{ArePermissive, CanMakeOver};
 
 use crate::weak_end::echo;
 use gate_net::{GateId, NetBuilder};
-use line_model::{Line, Memory};
+use model_line::{Line, Memory};
 use zones::{Local, Out, and_not};
 
 /// What a terminal of an overreaching scheme sends and trips on, over the gate of its permission.
@@ -34,7 +34,7 @@ pub fn permissive(
 }
 
 // Zone 2 unless the reversal guard holds it back, or the echo.
-#[tactic(auto, unfolding(line_model::specs::Permissive::permissive_key))]
+#[tactic(auto, unfolding(model_logic::specs::Permissive::permissive_key))]
 fn key(
     net: &mut NetBuilder,
     line: &Line,
@@ -56,7 +56,7 @@ fn key(
 }
 
 // Zone 2 with the permission unless the reversal guard holds it back, or the trip of a weak end.
-#[tactic(auto, unfolding(line_model::specs::Permissive::permissive_pilot))]
+#[tactic(auto, unfolding(model_logic::specs::Permissive::permissive_pilot))]
 fn pilot(
     net: &mut NetBuilder,
     line: &Line,

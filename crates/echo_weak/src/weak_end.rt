@@ -1,17 +1,18 @@
 //! A weak terminal: it echoes a permission that it receives, and trips by it at a low voltage.
 
 ghost use Rattle.std.specs.Prelude.{◌<◌, length, IfOk};
-ghost use Rattle.line_model.specs.Parameters.{terminal_count};
-ghost use Rattle.line_model.specs.Permissive.{quiet as quiet_tree, echo_wanted as echo_wanted_tree};
-ghost use Rattle.line_model.specs.Permissive.{echo as echo_tree};
-ghost use Rattle.line_model.specs.Permissive.{weak_infeed_trip as weak_infeed_trip_tree};
+ghost use Rattle.model_line.specs.Parameters.{terminal_count};
+ghost use Rattle.model_logic.specs.Permissive.{quiet as quiet_tree, echo_wanted as echo_wanted_tree};
+ghost use Rattle.model_logic.specs.Permissive.{echo as echo_tree};
+ghost use Rattle.model_logic.specs.Permissive.{weak_infeed_trip as weak_infeed_trip_tree};
 ghost use Rattle.gate_net.specs.Formulas.{formula_of, Stands};
 ghost use Rattle.gate_net.specs.Growing.{HasRoom, Extends};
 ghost use Rattle.zones.specs.LocalGates.{AreLocal};
 ghost use Rattle.echo_weak.specs.Echoes.{AreEchoes, CanMakeOver};
 
 use gate_net::{GateId, NetBuilder};
-use line_model::{Line, Memory, Setting, Time, is_terminal_weak};
+use model_line::{Line, Memory, Setting};
+use model_logic::{Time, is_terminal_weak};
 use zones::{Local, terminal_time};
 
 /// The gates of a weak terminal. At a terminal that is not weak none of them is ever on.
@@ -48,7 +49,7 @@ pub fn echo(
     })
 }
 
-#[tactic(auto, unfolding(line_model::specs::Permissive::quiet))]
+#[tactic(auto, unfolding(model_logic::specs::Permissive::quiet))]
 fn quiet(net: &mut NetBuilder, line: &Line, terminal: u32, local: &Local) -> Result<GateId, Memory>
     requires exists { terminal < terminal_count line.now }
     requires room { HasRoom net.old 3 }
@@ -63,7 +64,7 @@ fn quiet(net: &mut NetBuilder, line: &Line, terminal: u32, local: &Local) -> Res
     Ok(quiet)
 }
 
-#[tactic(auto, unfolding(line_model::specs::Permissive::echo_wanted))]
+#[tactic(auto, unfolding(model_logic::specs::Permissive::echo_wanted))]
 fn wanted(
     net: &mut NetBuilder,
     line: &Line,
@@ -88,7 +89,7 @@ fn wanted(
     }
 }
 
-#[tactic(auto, unfolding(line_model::specs::Permissive::echo))]
+#[tactic(auto, unfolding(model_logic::specs::Permissive::echo))]
 fn pulse(
     net: &mut NetBuilder,
     line: &Line,
@@ -117,7 +118,7 @@ fn pulse(
     }
 }
 
-#[tactic(auto, unfolding(line_model::specs::Permissive::weak_infeed_trip))]
+#[tactic(auto, unfolding(model_logic::specs::Permissive::weak_infeed_trip))]
 fn weak_trip(
     net: &mut NetBuilder,
     line: &Line,

@@ -10,7 +10,7 @@ ghost use Rattle.zones.specs.Outputs.{CanMake, MakesOutputs};
 
 use echo_weak::permissive;
 use gate_net::NetBuilder;
-use line_model::{Line, Memory, Scheme};
+use model_line::{Line, Memory, Scheme};
 use zones::{Local, Out, all_received, any_received};
 
 /// What a terminal of a POTT line sends and trips on.
@@ -24,7 +24,7 @@ pub fn pott(net: &mut NetBuilder, line: &Line, terminal: u32, local: &Local) -> 
 }
 
 /// What a terminal of a PUTT line sends and trips on.
-#[tactic(auto, unfolding(line_model::specs::Logic::underreach_pilot))]
+#[tactic(auto, unfolding(model_logic::specs::Logic::underreach_pilot))]
 pub fn putt(net: &mut NetBuilder, line: &Line, terminal: u32, local: &Local) -> Result<Out, Memory>
     requires { CanMake Scheme.Putt line.now terminal net.old local.now }
     ensures { MakesOutputs Scheme.Putt line.now terminal net.old net.new result }

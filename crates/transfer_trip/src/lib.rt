@@ -8,11 +8,12 @@
 ghost use Rattle.zones.specs.Outputs.{CanMake, MakesOutputs};
 
 use gate_net::NetBuilder;
-use line_model::{Line, Memory, Scheme, Setting, Time};
+use model_line::{Line, Memory, Scheme, Setting};
+use model_logic::Time;
 use zones::{Local, Out, any_received, terminal_time};
 
 /// What a terminal of a DTT line sends and trips on.
-#[tactic(auto, unfolding(line_model::specs::Logic::transfer_pilot))]
+#[tactic(auto, unfolding(model_logic::specs::Logic::transfer_pilot))]
 pub fn scheme(
     net: &mut NetBuilder,
     line: &Line,

@@ -7,7 +7,8 @@
 #![tactic(auto)]
 
 ghost use Rattle.std.specs.Prelude.{◌<◌, IfOk};
-ghost use Rattle.line_model.specs.{Parameters.terminal_count, Unblocking.all_open as all_open_tree};
+ghost use Rattle.model_line.specs.Parameters.{terminal_count};
+ghost use Rattle.model_logic.specs.Unblocking.{all_open as all_open_tree};
 ghost use Rattle.gate_net.specs.{Formulas.Stands, Growing.HasRoom, Growing.Extends};
 ghost use Rattle.zones.specs.Outputs.{CanMake, MakesOutputs};
 
@@ -16,7 +17,8 @@ mod window;
 use crate::window::open_from;
 use echo_weak::permissive;
 use gate_net::{GateId, NetBuilder};
-use line_model::{Join, Line, Memory, Scheme};
+use model_line::{Line, Memory, Scheme};
+use model_logic::Join;
 use zones::{Local, Out, join_before, or_never};
 
 /// What a terminal of a DCUB line sends and trips on.
@@ -35,7 +37,7 @@ pub fn scheme(
 }
 
 // Whether each other terminal permits.
-#[tactic(auto, unfolding(line_model::specs::Unblocking::all_open, line_model::specs::Received::all_others), using(zones::specs::Gathering::gate_kept))]
+#[tactic(auto, unfolding(model_logic::specs::Unblocking::all_open, model_logic::specs::Received::all_others), using(zones::specs::Gathering::gate_kept))]
 fn all_open(net: &mut NetBuilder, line: &Line, terminal: u32) -> Result<GateId, Memory>
     requires exists { terminal < terminal_count line.now }
     requires room { HasRoom net.old 67 }

@@ -1,19 +1,20 @@
 //! A channel whose window opens for a while when it is lost.
 
 ghost use Rattle.std.specs.Prelude.{IfOk};
-ghost use Rattle.line_model.specs.Unblocking.{guard_seen as guard_seen_tree, late as late_tree};
-ghost use Rattle.line_model.specs.Unblocking.{unblocked as unblocked_tree};
-ghost use Rattle.line_model.specs.Unblocking.{locked_out as locked_out_tree};
-ghost use Rattle.line_model.specs.Unblocking.{open_from as open_from_tree};
+ghost use Rattle.model_logic.specs.Unblocking.{guard_seen as guard_seen_tree, late as late_tree};
+ghost use Rattle.model_logic.specs.Unblocking.{unblocked as unblocked_tree};
+ghost use Rattle.model_logic.specs.Unblocking.{locked_out as locked_out_tree};
+ghost use Rattle.model_logic.specs.Unblocking.{open_from as open_from_tree};
 ghost use Rattle.gate_net.specs.{Formulas.Stands, Growing.HasRoom, Growing.Extends};
 
 use gate_net::{GateId, NetBuilder};
-use line_model::{Line, Memory, Setting, Time};
+use model_line::{Line, Memory, Setting};
+use model_logic::Time;
 use zones::{and_not, channel_time, channel_to, received};
 
 /// Whether a terminal takes another as permitting: it receives its signal or the window of the
 /// channel is open, and the channel is not locked out.
-#[tactic(auto, unfolding(line_model::specs::Unblocking::open_from))]
+#[tactic(auto, unfolding(model_logic::specs::Unblocking::open_from))]
 pub fn open_from(
     net: &mut NetBuilder,
     line: &Line,
@@ -34,7 +35,7 @@ pub fn open_from(
 }
 
 // The channel has been lost for as long as the window.
-#[tactic(auto, unfolding(line_model::specs::Unblocking::late))]
+#[tactic(auto, unfolding(model_logic::specs::Unblocking::late))]
 fn late(net: &mut NetBuilder, line: &Line, terminal: u32, from: u32) -> Result<GateId, Memory>
     requires room { HasRoom net.old 2 }
     ensures adds { Extends line.now net.old net.new 2 }
@@ -47,7 +48,7 @@ fn late(net: &mut NetBuilder, line: &Line, terminal: u32, from: u32) -> Result<G
 }
 
 // The channel is lost, and its window is open.
-#[tactic(auto, unfolding(line_model::specs::Unblocking::unblocked))]
+#[tactic(auto, unfolding(model_logic::specs::Unblocking::unblocked))]
 fn unblocked(
     net: &mut NetBuilder,
     line: &Line,
@@ -68,7 +69,7 @@ fn unblocked(
 }
 
 // The guard tone is heard: no signal comes, and the channel is not lost.
-#[tactic(auto, unfolding(line_model::specs::Unblocking::guard_seen))]
+#[tactic(auto, unfolding(model_logic::specs::Unblocking::guard_seen))]
 fn guard_seen(net: &mut NetBuilder, line: &Line, terminal: u32, from: u32) -> Result<GateId, Memory>
     requires room { HasRoom net.old 5 }
     ensures adds { Extends line.now net.old net.new 5 }
@@ -84,7 +85,7 @@ fn guard_seen(net: &mut NetBuilder, line: &Line, terminal: u32, from: u32) -> Re
 }
 
 // The window closed, and the guard tone has not been back for the restoring time since.
-#[tactic(auto, unfolding(line_model::specs::Unblocking::locked_out))]
+#[tactic(auto, unfolding(model_logic::specs::Unblocking::locked_out))]
 fn locked_out(
     net: &mut NetBuilder,
     line: &Line,

@@ -2,12 +2,12 @@
 use Rattle.std.proofs.Common.{◌≡◌, ℕ, zero, suc, ◌*◌, ◌-◌, ◌<◌, ◌≤◌, List, [], ◌∷◌, ◌++◌, length}
 use Rattle.std.proofs.Common.{Option, Some, None, refl, arith, length-append}
 use Rattle.std.specs.Prelude.{unwrap_or, IfSome}
-use Rattle.line_model.specs.Settings.{OwnedSetting, line_settings, settings_of_terminals}
-use Rattle.line_model.specs.Settings.{settings_of_channels}
-use Rattle.line_model.specs.Parameters.{param_number, param_count, terminal_count, channel_count}
-use Rattle.line_model.specs.{declared.line.Line.Line, declared.line.Scheme.Scheme}
-use Rattle.line_model.specs.{declared.line.Terminal.Terminal, declared.line.Owner.Owner}
-use Rattle.line_model.specs.{declared.line.Setting.Setting, Laws.ParametersAreNumbered}
+use Rattle.model_line.specs.Settings.{OwnedSetting, line_settings, settings_of_terminals}
+use Rattle.model_line.specs.Settings.{settings_of_channels}
+use Rattle.model_line.specs.Parameters.{param_number, param_count, terminal_count, channel_count}
+use Rattle.model_line.specs.{declared.line.Line.Line, declared.line.Scheme.Scheme}
+use Rattle.model_line.specs.{declared.line.Terminal.Terminal, declared.line.Owner.Owner}
+use Rattle.model_line.specs.{declared.line.Setting.Setting, Laws.ParametersAreNumbered}
 
 -- a terminal has parameters
 some_settings : (s : Scheme) (k : ℕ) (ts : List Terminal) → 1 ≤ length ts

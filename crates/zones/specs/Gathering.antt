@@ -2,7 +2,8 @@
 use Rattle.std.specs.Prelude.{◌≡◌, ℕ, ◌*◌, ◌<◌, List, length, Option, Some, None, option_map}
 use Rattle.std.specs.Option.{ForSome}
 use Rattle.std.proofs.Common.{refl, ap}
-use Rattle.line_model.specs.{declared.line.Line.Line, Tree.Tree, Received.over_others}
+use Rattle.model_line.specs.declared.line.Line.{Line}
+use Rattle.model_logic.specs.{Tree.Tree, Received.over_others}
 use Rattle.gate_net.specs.{declared.gate.Gate.Gate, declared.gate.GateId.GateId}
 use Rattle.gate_net.specs.{Formulas.formula_of, Growing.Grows, Growing.Extends}
 

@@ -1,8 +1,8 @@
 -- The gates of a terminal's own elements.
 use Rattle.std.specs.Prelude.{ℕ, List}
-use Rattle.line_model.specs.declared.line.Line.{Line}
-use Rattle.line_model.specs.Elements.{zone1, zone2, reverse, undervoltage, current}
-use Rattle.line_model.specs.Permissive.{reversal_guard}
+use Rattle.model_line.specs.declared.line.Line.{Line}
+use Rattle.model_logic.specs.Elements.{zone1, zone2, reverse, undervoltage, current}
+use Rattle.model_logic.specs.Permissive.{reversal_guard}
 use Rattle.gate_net.specs.{declared.gate.Gate.Gate, Formulas.Stands}
 use Rattle.zones.specs.declared.elements.Local.{Local}
 

@@ -1,8 +1,8 @@
 -- What a scheme makes for a terminal.
 use Rattle.std.specs.Prelude.{◌≡◌, ◌<◌, ℕ, List, Result, IfOk}
-use Rattle.line_model.specs.declared.line.Line.{Line}
-use Rattle.line_model.specs.{declared.line.Scheme.Scheme, Logic.key_by, Logic.pilot_by}
-use Rattle.line_model.specs.Parameters.{terminal_count}
+use Rattle.model_line.specs.{declared.line.Line.Line, declared.line.Scheme.Scheme}
+use Rattle.model_line.specs.Parameters.{terminal_count}
+use Rattle.model_logic.specs.Logic.{key_by, pilot_by}
 use Rattle.gate_net.specs.{declared.gate.Gate.Gate, Formulas.Stands}
 use Rattle.gate_net.specs.Growing.{HasRoom, Extends}
 use Rattle.zones.specs.{declared.elements.Local.Local, LocalGates.AreLocal}

@@ -1,18 +1,17 @@
 //! A terminal's own elements and its guard against current reversal.
 
 ghost use Rattle.std.specs.Prelude.{◌<◌, IfOk};
-ghost use Rattle.line_model.specs.Parameters.{terminal_count};
-ghost use Rattle.line_model.specs.Elements.{seen_timed as seen_timed_tree};
-ghost use Rattle.line_model.specs.Elements.{reverse as reverse_tree};
-ghost use Rattle.line_model.specs.Permissive.{reversal_guard as reversal_guard_tree};
+ghost use Rattle.model_line.specs.Parameters.{terminal_count};
+ghost use Rattle.model_logic.specs.Elements.{seen_timed as seen_timed_tree};
+ghost use Rattle.model_logic.specs.Elements.{reverse as reverse_tree};
+ghost use Rattle.model_logic.specs.Permissive.{reversal_guard as reversal_guard_tree};
 ghost use Rattle.gate_net.specs.{Formulas.Stands, Growing.HasRoom, Growing.Extends};
 ghost use Rattle.zones.specs.LocalGates.{AreLocal};
 
 use crate::times::{terminal_time, time_of};
 use gate_net::{GateId, NetBuilder};
-use line_model::{
-    Element, Line, Memory, Owner, Place, Setting, is_terminal_guarded, pickup_and_dropout,
-};
+use model_line::{Element, Line, Memory, Owner, Place, Setting};
+use model_logic::{is_terminal_guarded, pickup_and_dropout};
 
 /// The gates of what a terminal sees for itself.
 #[derive(Clone, Copy)]
@@ -55,7 +54,7 @@ pub fn local_elements(net: &mut NetBuilder, line: &Line, terminal: u32) -> Resul
 }
 
 // What the terminal sees of an element.
-#[tactic(auto, unfolding(line_model::specs::Elements::seen_timed))]
+#[tactic(auto, unfolding(model_logic::specs::Elements::seen_timed))]
 fn seen_timed(
     net: &mut NetBuilder,
     line: &Line,
@@ -81,7 +80,7 @@ fn seen_timed(
     }
 }
 
-#[tactic(auto, unfolding(line_model::specs::Permissive::reversal_guard))]
+#[tactic(auto, unfolding(model_logic::specs::Permissive::reversal_guard))]
 fn reversal_guard(
     net: &mut NetBuilder,
     line: &Line,

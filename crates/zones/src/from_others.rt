@@ -1,19 +1,21 @@
 //! What a terminal receives from the others.
 
 ghost use Rattle.std.specs.Prelude.{◌<◌, IfOk};
-ghost use Rattle.line_model.specs.{Parameters.terminal_count, Received.received as received_tree};
-ghost use Rattle.line_model.specs.Received.{all_others, join_of};
-ghost use Rattle.line_model.specs.{Received.any_received as any_received_tree};
-ghost use Rattle.line_model.specs.{Received.all_received as all_received_tree};
+ghost use Rattle.model_line.specs.Parameters.{terminal_count};
+ghost use Rattle.model_logic.specs.Received.{received as received_tree};
+ghost use Rattle.model_logic.specs.Received.{all_others, join_of};
+ghost use Rattle.model_logic.specs.Received.{any_received as any_received_tree};
+ghost use Rattle.model_logic.specs.Received.{all_received as all_received_tree};
 ghost use Rattle.gate_net.specs.{Formulas.Stands, Growing.HasRoom, Growing.Extends};
 
 use crate::joining::{join_before, or_never};
 use crate::times::channel_to;
 use gate_net::{GateId, NetBuilder};
-use line_model::{Join, Line, Memory};
+use model_line::{Line, Memory};
+use model_logic::Join;
 
 /// What a terminal receives from another: what arrives over the channel, unless that is lost.
-#[tactic(auto, unfolding(line_model::specs::Received::received))]
+#[tactic(auto, unfolding(model_logic::specs::Received::received))]
 pub fn received(
     net: &mut NetBuilder,
     line: &Line,
@@ -33,7 +35,7 @@ pub fn received(
 }
 
 /// Whether a terminal receives the signal of some other.
-#[tactic(auto, unfolding(line_model::specs::Received::any_received))]
+#[tactic(auto, unfolding(model_logic::specs::Received::any_received))]
 pub fn any_received(net: &mut NetBuilder, line: &Line, terminal: u32) -> Result<GateId, Memory>
     requires exists { terminal < terminal_count line.now }
     requires room { HasRoom net.old 16 }
@@ -45,7 +47,7 @@ pub fn any_received(net: &mut NetBuilder, line: &Line, terminal: u32) -> Result<
 }
 
 /// Whether a terminal receives the signal of each other.
-#[tactic(auto, unfolding(line_model::specs::Received::all_received))]
+#[tactic(auto, unfolding(model_logic::specs::Received::all_received))]
 pub fn all_received(net: &mut NetBuilder, line: &Line, terminal: u32) -> Result<GateId, Memory>
     requires exists { terminal < terminal_count line.now }
     requires room { HasRoom net.old 16 }
@@ -57,7 +59,7 @@ pub fn all_received(net: &mut NetBuilder, line: &Line, terminal: u32) -> Result<
 }
 
 // What a terminal receives from all others, joined in line order.
-#[tactic(auto, unfolding(line_model::specs::Received::all_others), using(crate::specs::Gathering::gate_kept))]
+#[tactic(auto, unfolding(model_logic::specs::Received::all_others), using(crate::specs::Gathering::gate_kept))]
 fn others_received(
     net: &mut NetBuilder,
     line: &Line,

@@ -2,12 +2,14 @@
 
 ghost use Rattle.std.specs.Prelude.{◌<◌, length, IfOk, option_map, unwrap_or, false};
 ghost use Rattle.std.specs.Option.{ForSome};
-ghost use Rattle.line_model.specs.{Tree.Not, Tree.And, Tree.Const, Received.joined, Received.join_of};
+ghost use Rattle.model_logic.specs.Tree.{Not, And, Const};
+ghost use Rattle.model_logic.specs.Received.{joined, join_of};
 ghost use Rattle.gate_net.specs.Formulas.{formula_of, Stands};
 ghost use Rattle.gate_net.specs.Growing.{HasRoom, Extends};
 
 use gate_net::{GateId, NetBuilder};
-use line_model::{Join, Line, Memory};
+use model_line::{Line, Memory};
+use model_logic::Join;
 
 /// The gate before joined with the next one; the next one, where there is none before.
 pub fn join_before(

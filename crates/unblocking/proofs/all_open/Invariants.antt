@@ -1,4 +1,4 @@
-use Rattle.line_model.specs.{Tree.And, Unblocking.open_from}
+use Rattle.model_logic.specs.{Tree.And, Unblocking.open_from}
 use Rattle.zones.specs.Gathering.{Gathers}
 use Rattle.unblocking.proofs.all_open.Given as goal
 

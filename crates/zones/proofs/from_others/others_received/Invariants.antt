@@ -1,4 +1,4 @@
-use Rattle.line_model.specs.Received.{join_of, received}
+use Rattle.model_logic.specs.Received.{join_of, received}
 use Rattle.zones.specs.Gathering.{Gathers}
 use Rattle.zones.proofs.from_others.others_received.Given as goal
 

@@ -1,5 +1,6 @@
 use Rattle.std.proofs.Common.{◌≡◌, ℕ, ◌<◌, subst, sym}
-use Rattle.line_model.specs.{Channels.from_of, Channels.to_of, Parameters.channel_count}
+use Rattle.model_line.specs.Channels.{from_of, to_of}
+use Rattle.model_line.specs.Parameters.{channel_count}
 use Rattle.zones.proofs.OwnNames.{channel_there}
 use Rattle.zones.proofs.times.channel_to.Goals as goal
 

@@ -1,6 +1,6 @@
 use Rattle.std.proofs.Common.{ℕ, ◌<◌, ◌∙◌, ap, subst, sym}
 use Rattle.std.specs.Prelude.{unwrap_or}
-use Rattle.line_model.specs.Parameters.{param_count}
+use Rattle.model_line.specs.Parameters.{param_count}
 use Rattle.zones.proofs.OwnNames.{param_there}
 use Rattle.zones.proofs.times.time_of.Goals as goal
 
