@@ -5,7 +5,7 @@ use Rattle.model_line.specs.{declared.line.Line.Line, declared.script.Script.Scr
 use Rattle.certificate.specs.{Grammar.Claims, Text.certificate_text, Text.part_text}
 use Rattle.own_certificate.specs.Certified.{AreCertified, IsCertified}
 use Rattle.bench.specs.BenchLine.{IsBenchLine}
-use Rattle.bench_answer.specs.Answer.{IsBenchText}
+use Rattle.bench.specs.Answer.{IsBenchText}
 use Rattle.engine.specs.Calls.{AskedCheck, AskedVerdicts}
 use Rattle.commands.specs.{Answers.Answers, Answers.prints, Asked.Asks}
 

@@ -9,8 +9,7 @@ ghost use Rattle.commands.specs.Answers.{Says};
 ghost use Rattle.commands.specs.Bench.{HasPart, IsOwnText, bench_answer, bench_asks};
 
 use crate::said::Said;
-use bench::{bench_line, bench_scripts};
-use bench_answer::bench_text;
+use bench::{bench_line, bench_scripts, bench_text};
 use cert_checker::CheckFault;
 use certificate::{CERT_END, CERT_HEAD, a_certificate_is_its_parts};
 use certify_core::cert_piece;
