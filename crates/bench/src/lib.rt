@@ -8,6 +8,3 @@ mod scripts;
 pub use line::bench_line;
 pub use script::bench_script;
 pub use scripts::bench_scripts;
-
-#[cfg(test)]
-mod tests;

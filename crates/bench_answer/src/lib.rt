@@ -5,6 +5,3 @@
 mod text;
 
 pub use text::bench_text;
-
-#[cfg(test)]
-mod tests;
