@@ -10,6 +10,3 @@ pub use line::bench_line;
 pub use script::bench_script;
 pub use scripts::bench_scripts;
 pub use text::bench_text;
-
-#[cfg(test)]
-mod tests;

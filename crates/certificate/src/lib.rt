@@ -19,6 +19,3 @@ pub use laws::{
 pub use print::{push_named, push_no, push_number, push_part, push_start};
 pub use read::{name_at, read_certificate};
 pub use words::read_no;
-
-#[cfg(test)]
-mod tests;

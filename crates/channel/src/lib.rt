@@ -32,6 +32,3 @@ pub trait Carried: Signal {
             ≡ rails_delayed (rails_at (in_lane Self.rails lane sent.now))
             (Self.ends delay.now lane) (length sent.now) };
 }
-
-#[cfg(test)]
-mod tests;

@@ -17,6 +17,3 @@ mod words;
 
 pub use subject::Subject;
 pub use whole::draw;
-
-#[cfg(test)]
-mod tests;

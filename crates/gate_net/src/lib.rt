@@ -13,6 +13,3 @@ mod net;
 pub use builder::NetBuilder;
 pub use gate::{Gate, GateId};
 pub use net::Net;
-
-#[cfg(test)]
-mod tests;

@@ -22,6 +22,3 @@ pub use laws::the_first_unknown_key_is_the_least;
 pub use path::Path;
 pub use print::{print_line, print_line_us};
 pub use read::read_line;
-
-#[cfg(test)]
-mod tests;

@@ -18,6 +18,3 @@ pub use laws::{
 pub use searching::margin;
 pub use text::margin_text;
 pub use upper_end::{Lost, UpperEnd};
-
-#[cfg(test)]
-mod tests;

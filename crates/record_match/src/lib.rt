@@ -25,6 +25,3 @@ pub use reader::read_seen;
 pub use seen::{Match, Seen};
 pub use settling::settle;
 pub use text::match_text;
-
-#[cfg(test)]
-mod tests;

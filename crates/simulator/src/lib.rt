@@ -34,6 +34,3 @@ pub use rows::level_word;
 pub use run_net::run;
 pub use tracks::{Tracks, run_tracks};
 pub use waves::Waves;
-
-#[cfg(test)]
-mod tests;

@@ -21,6 +21,3 @@ pub use laws::{
 };
 pub use piece::split_piece;
 pub use read::read_split_text;
-
-#[cfg(test)]
-mod tests;

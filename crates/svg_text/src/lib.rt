@@ -12,6 +12,3 @@ pub use attribute::{Attribute, Key, Value, tenths, words};
 pub use laws::escaped_words_are_plain;
 pub use markup::Markup;
 pub use tag::Tag;
-
-#[cfg(test)]
-mod tests;

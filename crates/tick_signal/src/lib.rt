@@ -82,6 +82,3 @@ pub trait Signal: Copy {
     /// What must be may be.
     ghost must_implies_may: { (x : Self) (lane : ℕ) → lane < LANES → IsSound (rails x lane) };
 }
-
-#[cfg(test)]
-mod tests;

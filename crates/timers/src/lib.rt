@@ -62,6 +62,3 @@ pub trait Timed: Signal {
             stands_for cells.new pickup dropout lane
             (inputs ++ replicate count (Self.rails input lane)) };
 }
-
-#[cfg(test)]
-mod tests;

@@ -23,6 +23,3 @@ pub use line_laws::the_text_of_a_wave_is_one_line;
 pub use received::{raw, raw_at, raw_until};
 pub use runs::{Runs, Stretch};
 pub use text::{print_runs, read_runs, tern_word};
-
-#[cfg(test)]
-mod tests;
