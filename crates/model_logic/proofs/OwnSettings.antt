@@ -85,7 +85,3 @@ own_channel line k j lt jt ne =
       from (Some c) e s =
           let ends = channel_ends line.channels.items j k c e in
           record { exists = ends.0; to = ends.2 }
-
-pub has_channel : (line : Line) (k j : ℕ) → k < terminal_count line → j < terminal_count line
-    → j ≢ k → channel_to line k j < channel_count line
-has_channel line k j lt jt ne = (own_channel line k j lt jt ne).exists
