@@ -1,11 +1,10 @@
 -- Each delay is a parameter, and is declared from 1 on.
-use Rattle.std.proofs.Common.{◌≡◌, ℕ, ◌<◌, ◌≤◌, length, get_or, ap, subst, arith, eq-eqb}
+use Rattle.std.proofs.Common.{◌≡◌, ℕ, ◌<◌, ◌≤◌, ap, subst, arith, eq-eqb}
 use Rattle.std.proofs.lemmas.Bool.{eqb-true}
-use Rattle.std.proofs.lemmas.List.{length-map}
 use Rattle.std.specs.Prelude.{◌==◌, IsTrue, unwrap_or}
 use Rattle.model_line.specs.Parameters.{param_count, channel_count, delay_param, is_delay}
 use Rattle.model_line.specs.Parameters.{declared_ends}
-use Rattle.model_line.specs.{declared.line.Line.Line, Intervals.leasts, NumberLaws.delay_number}
+use Rattle.model_line.specs.{declared.line.Line.Line, NumberLaws.delay_number}
 use Rattle.history.specs.BelowLaws.{some_below-some}
 use Rattle.history.specs.BelowLaws.{some_below-where}
 

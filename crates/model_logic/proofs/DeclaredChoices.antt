@@ -1,16 +1,12 @@
 -- The declared intervals: a choice inside, and delays of at least 1.
-use Rattle.std.proofs.Common.{◌≡◌, ℕ, ◌<◌, ◌≤◌, length, get_or, ap, subst, arith, eq-eqb}
-use Rattle.std.proofs.lemmas.Bool.{eqb-true}
+use Rattle.std.proofs.Common.{◌≡◌, ℕ, ◌<◌, ◌≤◌, length, get_or, arith}
 use Rattle.std.proofs.lemmas.List.{length-map}
-use Rattle.std.specs.Prelude.{◌==◌, IsTrue, unwrap_or}
-use Rattle.model_line.specs.Parameters.{param_count, channel_count, delay_param, is_delay}
+use Rattle.model_line.specs.Parameters.{param_count, delay_param}
 use Rattle.model_line.specs.Parameters.{declared_ends}
-use Rattle.model_line.specs.{declared.line.Line.Line, Intervals.leasts, NumberLaws.delay_number}
+use Rattle.model_line.specs.{declared.line.Line.Line, Intervals.leasts}
 use Rattle.model_line.specs.DelayLaws.{delay_within}
 use Rattle.model_logic.specs.Choice.{Choice, IsIn, IsInside, DelaysFromOne, LeastFromOne}
 use Rattle.model_logic.specs.Choice.{declared_box, steady_choice}
-use Rattle.history.specs.BelowLaws.{some_below-some}
-use Rattle.history.specs.BelowLaws.{some_below-where}
 
 -- the least number of an interval is in it
 least_in : (line : Line) (i : ℕ) → i < param_count line

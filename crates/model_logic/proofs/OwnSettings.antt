@@ -1,17 +1,16 @@
 -- Each setting that the logic names is a parameter of the line, and each channel exists.
 use Rattle.std.proofs.Common.{◌≡◌, ◌≢◌, ℕ, zero, suc, ◌+◌, ◌*◌, ◌<◌, Bool, true, false, List, []}
 use Rattle.std.proofs.Common.{◌∷◌, length, take}
-use Rattle.std.proofs.Common.{get_or, Option, Some, None, refl, sym, ap, ◌∙◌, subst, arith}
+use Rattle.std.proofs.Common.{get_or, Option, Some, None, refl, sym, ap, ◌∙◌, subst}
 use Rattle.std.proofs.lemmas.List.{get_or-map, get_or_default}
 use Rattle.std.specs.Prelude.{unwrap_or, is_some}
 use Rattle.std.specs.List.{list_any}
-use Rattle.model_line.specs.Settings.{OwnedSetting, line_settings, settings_of_terminals}
+use Rattle.model_line.specs.Settings.{settings_of_terminals}
 use Rattle.model_line.specs.Settings.{channel_settings, terminal_settings, groups_with, all_of}
-use Rattle.model_line.specs.Settings.{is_owned_setting, same_setting, setting_place}
+use Rattle.model_line.specs.Settings.{same_setting, setting_place}
 use Rattle.model_line.specs.FirstPositions.{is_some-position, list_any-append_left}
 use Rattle.model_line.specs.FirstPositions.{list_any-append_right}
-use Rattle.model_line.specs.Parameters.{param_number, terminal_count, channel_count, param_count}
-use Rattle.model_line.specs.NumberLaws.{position_within, length-line_settings}
+use Rattle.model_line.specs.Parameters.{param_number, terminal_count}
 use Rattle.model_line.specs.PositionLaws.{terminal_number, channel_number_of}
 use Rattle.model_line.specs.{declared.line.Line.Line, declared.line.Terminal.Terminal}
 use Rattle.model_line.specs.{declared.line.Owner.Owner, declared.line.Setting.Setting}

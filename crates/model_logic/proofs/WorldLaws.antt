@@ -1,17 +1,15 @@
 -- The worlds of a line at a choice and over a box: their delays are at least 1 where those are.
-use Rattle.std.proofs.Common.{◌≡◌, ℕ, ◌<◌, ◌≤◌, List, refl, sym}
-use Rattle.std.specs.Prelude.{Bool, get_or}
-use Rattle.history.specs.{Laws.HistoryLaws, Rails.single}
+use Rattle.std.proofs.Common.{◌≡◌, ℕ, ◌<◌, ◌≤◌, List, refl}
+use Rattle.std.specs.Prelude.{get_or}
+use Rattle.history.specs.{Rails.single}
 use Rattle.model_line.specs.Parameters.{channel_count, delay_param}
 use Rattle.model_line.specs.{declared.script.Script.Script, declared.line.Line.Line}
 use Rattle.model_logic.specs.declared.time.Time.TheVariants.{Zero, Param}
 use Rattle.model_logic.specs.Choice.{Choice, Box, DelaysFromOne, LeastFromOne, steady_choice}
 use Rattle.model_logic.specs.Choice.{point_box, time_by, ends_by, world_of, pair_world_of}
-use Rattle.model_logic.specs.Solution.{AgreeBefore, IsDelayed}
-use Rattle.model_logic.specs.Mean.{Signals, mean}
-use Rattle.model_logic.specs.{Tree.Tree, declared.time.Time.Time, PairMean.singles}
+use Rattle.model_logic.specs.Solution.{IsDelayed}
+use Rattle.model_logic.specs.{declared.time.Time.Time, PairMean.singles}
 use Rattle.model_logic.specs.Covering.{IsSameWorld}
-use Rattle.model_logic.proofs.PlainLaws.{mean-past}
 
 pub world_delayed : (line : Line) (script : Script) (choice : Choice) → DelaysFromOne line choice
     → IsDelayed line (singles (world_of line script choice))

@@ -1,6 +1,6 @@
 -- What lines that agree in all but their intervals have in common, and what boxes keep, as laws
 -- that proofs above cite, each under the name of the function that ensures it.
-use Rattle.std.specs.Prelude.{◌≡◌, ◌≤◌, ◌<◌, ◌↔◌, ℕ, IsTrue}
+use Rattle.std.specs.Prelude.{◌≡◌, ◌<◌, ◌↔◌, ℕ, IsTrue}
 use Rattle.history.specs.Rails.{Ends}
 use Rattle.model_logic.specs.Boxes.{IsSameBox, box_with, declared_with}
 use Rattle.model_logic.specs.Choice.{Choice, Box, IsIn, IsInside, IsWithin, IsBoxWithin}
@@ -9,8 +9,8 @@ use Rattle.model_logic.specs.Histories.{History, IsLineHistory, Meets, PairHisto
 use Rattle.model_logic.specs.Logic.{key_tree, trip_tree}
 use Rattle.model_logic.specs.Rule.{Held, rule_of}
 use Rattle.model_logic.specs.HeldOver.{IsHeldOver}
-use Rattle.model_line.specs.Parameters.{terminal_count, channel_count, param_count, delay_param}
-use Rattle.model_line.specs.Parameters.{is_delay, declared_ends}
+use Rattle.model_line.specs.Parameters.{terminal_count, param_count}
+use Rattle.model_line.specs.Parameters.{is_delay}
 use Rattle.model_line.specs.{declared.line.Line.Line, declared.script.Script.Script}
 use Rattle.model_line.specs.{SetBounds.SameButParams, WithBounds.IsWithBounds}
 

@@ -1,20 +1,13 @@
 -- The laws of lines and histories, each under the name of the function that ensures it, so that the
 -- proofs above can take them as arguments.
-use Rattle.std.specs.Prelude.{◌≡◌, ◌+◌, ◌*◌, ◌≤◌, ◌<◌, ◌↔◌, ℕ, Decides, List, Some, length, take}
-use Rattle.std.specs.Prelude.{IsTrue, get_or, option_map}
+use Rattle.std.specs.Prelude.{◌≡◌, ◌<◌, ◌↔◌, ℕ, Decides}
 use Rattle.history.specs.Rails.{Rails, Covers}
-use Rattle.model_line.specs.Parameters.{terminal_count, channel_count, param_count, param_number}
-use Rattle.model_line.specs.Parameters.{delay_param, is_delay, declared_ends}
-use Rattle.model_line.specs.Settings.{settings_of_terminals, terminal_settings, channel_settings}
-use Rattle.model_line.specs.Settings.{line_settings, setting_place}
-use Rattle.model_line.specs.Intervals.{leasts, delay_number_of}
+use Rattle.model_line.specs.Parameters.{terminal_count}
+use Rattle.model_line.specs.Intervals.{leasts}
 use Rattle.model_line.specs.Laws.{ParametersAreNumbered, SettingsAreCounted, DelaysAreParameters}
 use Rattle.model_line.specs.Laws.{DeadlinesAreBelowTheHorizon}
-use Rattle.model_line.specs.{declared.line.Line.Line, declared.line.Scheme.Scheme}
-use Rattle.model_line.specs.{declared.line.Terminal.Terminal, declared.line.Channel.Channel}
-use Rattle.model_line.specs.{declared.line.Owner.Owner, declared.line.Setting.Setting}
-use Rattle.model_line.specs.{declared.script.Kind.Kind, declared.script.Script.Script, Fits.Fits}
-use Rattle.model_line.specs.declared.line.Owner.TheVariants as owner
+use Rattle.model_line.specs.{declared.line.Line.Line}
+use Rattle.model_line.specs.{declared.script.Kind.Kind, declared.script.Script.Script}
 use Rattle.model_logic.specs.PairMean.{PairSignals, pair_mean}
 use Rattle.model_logic.specs.Choice.{Choice, Box, IsWithin, IsBoxWithin, IsInside, DelaysFromOne}
 use Rattle.model_logic.specs.Choice.{LeastFromOne, point_box, declared_box, steady_choice, world_of}
