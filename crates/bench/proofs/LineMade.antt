@@ -3,11 +3,11 @@ use Rattle.std.proofs.Common.{◌≡◌, ◌≢◌, ℕ, zero, suc, ◌<◌, ◌
 use Rattle.std.proofs.Common.{arith}
 use Rattle.std.proofs.lemmas.Bool.{and_parts, leb-true}
 use Rattle.std.specs.Prelude.{IsTrue, is_some, ◌&&◌, nat_le}
-use Rattle.line_model.specs.declared.line.Scheme.TheVariants.{Pott}
-use Rattle.line_model.specs.Channels.{AreChannels, channel_number, from_of, to_of}
-use Rattle.line_model.specs.Intervals.{AreIntervals, LeastDelaysFromOne, delay_number_of}
-use Rattle.line_model.specs.Making.{AreBounds, AreTerminals, greatest_ends, least_ends}
-use Rattle.line_model.specs.{Settings.line_settings, Terminals.NamesDiffer}
+use Rattle.model_line.specs.Channels.{AreChannels, channel_number, from_of, to_of}
+use Rattle.model_line.specs.Intervals.{AreIntervals, LeastDelaysFromOne, delay_number_of}
+use Rattle.model_line.specs.Making.{AreBounds, AreTerminals, greatest_ends, least_ends}
+use Rattle.model_line.specs.{declared.line.Scheme.TheVariants.Pott, Settings.line_settings}
+use Rattle.model_line.specs.Terminals.{NamesDiffer}
 use Rattle.bench.specs.BenchLine.{bench_bounds, bench_channels, bench_terminals}
 use Rattle.bench.proofs.Below.{below_three, below_six, each_passes}
 

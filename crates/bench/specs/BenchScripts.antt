@@ -1,12 +1,11 @@
 -- The scripts of the bench.
 use Rattle.std.specs.Prelude.{◌≡◌, ◌+◌, ◌%◌, ◌==◌, ◌∷◌, ◌++◌, ℕ, Bool, List, [], codes, decimal}
 use Rattle.std.specs.Prelude.{length, if◌then◌else◌}
-use Rattle.line_model.specs.declared.script.Element.{Element}
-use Rattle.line_model.specs.declared.script.Element.TheVariants.{Z2, Rv, Cur}
-use Rattle.line_model.specs.declared.script.Kind.TheVariants.{Internal, External}
-use Rattle.line_model.specs.declared.script.Script.{Script}
-use Rattle.line_model.specs.{declared.script.Kind.Kind, declared.script.SeenSpan.SeenSpan}
-use Rattle.line_model.specs.declared.script.What.TheVariants as what
+use Rattle.model_line.specs.declared.script.Element.TheVariants.{Z2, Rv, Cur}
+use Rattle.model_line.specs.declared.script.Kind.TheVariants.{Internal, External}
+use Rattle.model_line.specs.{declared.script.Element.Element, declared.script.Script.Script}
+use Rattle.model_line.specs.{declared.script.Kind.Kind, declared.script.SeenSpan.SeenSpan}
+use Rattle.model_line.specs.declared.script.What.TheVariants as what
 
 -- the tick at which fault i begins
 abbrev pub inception : ℕ → ℕ

@@ -2,11 +2,11 @@
 
 ghost use Rattle.std.specs.Prelude.{◌≤◌, IfOk};
 ghost use Rattle.std.specs.List.{All};
-ghost use Rattle.line_model.specs.{declared.line.Line.Line, Fits.Fits};
+ghost use Rattle.model_line.specs.{declared.line.Line.Line, Fits.Fits};
 ghost use Rattle.bench.specs.{BenchLine.IsBenchLine, BenchScripts.AreBenchScripts};
 
 use crate::script::bench_script;
-use line_model::{Memory, Script};
+use model_line::{Memory, Script};
 use std::alloc::Global;
 
 /// The faults 1 to `count`, in order.

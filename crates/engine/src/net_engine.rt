@@ -6,7 +6,7 @@ use crate::engine::Engine;
 use cert_checker::{CheckFault, Counts, check};
 use certify_core::{ScriptVerdict, certify};
 use gate_net::Net;
-use line_model::{Line, Memory, Script};
+use model_line::{Line, Memory, Script};
 use simulator::play_rows;
 use std::alloc::Global;
 use std::marker::Model;

@@ -2,8 +2,8 @@
 
 ghost use Rattle.std.specs.Prelude.{◌≡◌, ◌++◌, ℕ, true, false, List, Some, slice_get};
 ghost use Rattle.std.specs.List.{All, list_any};
-ghost use Rattle.line_model.specs.{declared.line.Line.Line, declared.script.Script.Script};
-ghost use Rattle.line_model.specs.Fits.{Fits};
+ghost use Rattle.model_line.specs.{declared.line.Line.Line, declared.script.Script.Script};
+ghost use Rattle.model_line.specs.Fits.{Fits};
 ghost use Rattle.certificate.specs.Grammar.{Claims, HasOneEach, Verdict};
 ghost use Rattle.certificate.specs.Text.{certificate_text};
 ghost use Rattle.cert_checker.specs.declared.counts.Counts.{Counts};
@@ -14,7 +14,7 @@ ghost use Rattle.headline.specs.Obligations.{AllMet, HoldsAsAccepted, HoldsAsCer
 ghost use Rattle.headline.specs.Obligations.{HoldsSomewhere, IsFailedBySome, IsUnknown};
 ghost use Rattle.headline.specs.Printed.{HasVerdict, HoldsOf};
 
-use line_model::laws::line_laws;
+use model_logic::laws::line_laws;
 use own_certificate::what_is_certified_is_accepted;
 use timing_box::{candidates_are_inside, timings_inside_are_choices_inside};
 

@@ -1,9 +1,9 @@
 -- A channel of a line goes between two of its terminals.
 use Rattle.std.proofs.Common.{◌≡◌, ℕ, ◌<◌, get_or, sym, ap, ◌∙◌, subst}
 use Rattle.std.proofs.lemmas.List.{get_or-map}
-use Rattle.line_model.specs.declared.line.Line.{Line}
-use Rattle.line_model.specs.Parameters.{terminal_count, channel_count}
-use Rattle.line_model.specs.{declared.line.Channel.Channel, Channels.from_of, Channels.to_of}
+use Rattle.model_line.specs.Parameters.{terminal_count, channel_count}
+use Rattle.model_line.specs.Channels.{from_of, to_of}
+use Rattle.model_line.specs.{declared.line.Line.Line, declared.line.Channel.Channel}
 
 module _ (line : Line) (c : ℕ) (h : Channel) (lt : c < channel_count line)
     (is : h ≡ get_or line.channels.items c h) where

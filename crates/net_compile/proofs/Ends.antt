@@ -2,8 +2,9 @@
 use Rattle.std.proofs.Common.{◌≡◌, ◌⊎◌, ℕ, zero, suc, ◌*◌, ◌<◌, ◌≤◌, List, [], ◌∷◌, ◌++◌, length}
 use Rattle.std.proofs.Common.{refl, sym, ◌∙◌, subst, arith, inl, inr, ⊎_elim, length-append}
 use Rattle.std.specs.Prelude.{Result, Ok, Err, IfOk}
-use Rattle.line_model.specs.declared.line.Line.{Line}
-use Rattle.line_model.specs.{Tree.Tree, Parameters.terminal_count, Logic.key_tree, Logic.trip_tree}
+use Rattle.model_line.specs.{declared.line.Line.Line, Parameters.terminal_count}
+use Rattle.model_logic.specs.Logic.{key_tree, trip_tree}
+use Rattle.model_logic.specs.Tree.{Tree}
 use Rattle.gate_net.specs.Named.{NamedFrom}
 use Rattle.gate_net.specs.{declared.gate.Gate.Gate, declared.gate.GateId.GateId, Formulas.Stands}
 use Rattle.gate_net.specs.NetOf.{NetOf, AreGatesOf, IsNet, IsNetOf, id_at}

@@ -1,6 +1,7 @@
 -- The gates of a terminal.
 use Rattle.std.specs.Prelude.{ℕ, List}
-use Rattle.line_model.specs.{declared.line.Line.Line, Logic.key_tree, Logic.trip_tree}
+use Rattle.model_line.specs.declared.line.Line.{Line}
+use Rattle.model_logic.specs.Logic.{key_tree, trip_tree}
 use Rattle.gate_net.specs.{declared.gate.Gate.Gate, Formulas.Stands}
 use Rattle.net_compile.specs.declared.terminal_gates.Ends.{Ends}
 

@@ -1,11 +1,12 @@
 -- The text of a net.
 use Rattle.std.specs.Prelude.{[], ◌++◌, ℕ, zero, suc, Bool, true, false, List, ◌∷◌, Option, Some}
 use Rattle.std.specs.Prelude.{None, codes, decimal, length, slice_get}
-use Rattle.line_model.specs.declared.formula.Time.TheVariants.{Zero, Param}
-use Rattle.line_model.specs.ParamNames.{name_at, channel_name}
-use Rattle.line_model.specs.NamesByNumber.{element_text, parameter_name}
-use Rattle.line_model.specs.{declared.line.Line.Line, declared.script.Place.Place}
-use Rattle.line_model.specs.{declared.formula.Time.Time, Parameters.terminal_count}
+use Rattle.model_logic.specs.declared.time.Time.TheVariants.{Zero, Param}
+use Rattle.model_logic.specs.declared.time.Time.{Time}
+use Rattle.model_line.specs.ParamNames.{name_at, channel_name}
+use Rattle.model_line.specs.{declared.line.Line.Line, declared.script.Place.Place}
+use Rattle.model_line.specs.Parameters.{terminal_count}
+use Rattle.model_names.specs.NamesByNumber.{element_text, parameter_name}
 use Rattle.gate_net.specs.declared.gate.Gate.TheVariants.{Const, Seen, Loss, Raw, Not, And, Or}
 use Rattle.gate_net.specs.declared.gate.Gate.TheVariants.{Timer, Seal}
 use Rattle.gate_net.specs.declared.gate.GateId.{GateId}

@@ -8,6 +8,3 @@ mod whole_line;
 
 pub use text::net_text;
 pub use whole_line::compile;
-
-#[cfg(test)]
-mod tests;

@@ -1,15 +1,15 @@
 //! The gates of one terminal.
 
 ghost use Rattle.std.specs.Prelude.{◌<◌, IfOk};
-ghost use Rattle.line_model.specs.Parameters.{terminal_count};
-ghost use Rattle.line_model.specs.Logic.{pilot_by, key_tree, set_tree, trip_tree};
+ghost use Rattle.model_line.specs.Parameters.{terminal_count};
+ghost use Rattle.model_logic.specs.Logic.{pilot_by, key_tree, set_tree, trip_tree};
 ghost use Rattle.gate_net.specs.{Formulas.Stands, Growing.HasRoom, Growing.Extends};
-ghost use Rattle.zones.specs.{LocalGates.AreLocal, Outputs.CanMake, Outputs.MakesOutputs};
+ghost use Rattle.net_schemes.specs.{LocalGates.AreLocal, Outputs.CanMake, Outputs.MakesOutputs};
 ghost use Rattle.net_compile.specs.Compiled.{AreEnds};
 
 use gate_net::{GateId, NetBuilder};
-use line_model::{Line, Memory, Scheme};
-use zones::{Local, Out, local_elements};
+use model_line::{Line, Memory, Scheme};
+use net_schemes::{Local, Out, dcb, dcub, dtt, local_elements, pott, putt};
 
 /// The gates of what a terminal sends and of its trip.
 #[derive(Clone, Copy)]
@@ -19,7 +19,7 @@ pub struct Ends {
 }
 
 /// The gates of a terminal. It adds at most 114 gates.
-#[tactic(auto, unfolding(line_model::specs::Logic::key_tree, line_model::specs::Logic::trip_tree))]
+#[tactic(auto, unfolding(model_logic::specs::Logic::key_tree, model_logic::specs::Logic::trip_tree))]
 pub fn terminal_gates(net: &mut NetBuilder, line: &Line, terminal: u32) -> Result<Ends, Memory>
     requires exists { terminal < terminal_count line.now }
     requires room { HasRoom net.old 114 }
@@ -39,16 +39,16 @@ fn scheme(net: &mut NetBuilder, line: &Line, terminal: u32, local: &Local) -> Re
     ensures { MakesOutputs line.now.scheme line.now terminal net.old net.new result }
 {
     match line.scheme {
-        Scheme::Pott => pott_putt::pott(net, line, terminal, local),
-        Scheme::Putt => pott_putt::putt(net, line, terminal, local),
-        Scheme::Dcb => blocking::scheme(net, line, terminal, local),
-        Scheme::Dcub => unblocking::scheme(net, line, terminal, local),
-        Scheme::Dtt => transfer_trip::scheme(net, line, terminal, local),
+        Scheme::Pott => pott(net, line, terminal, local),
+        Scheme::Putt => putt(net, line, terminal, local),
+        Scheme::Dcb => dcb(net, line, terminal, local),
+        Scheme::Dcub => dcub(net, line, terminal, local),
+        Scheme::Dtt => dtt(net, line, terminal, local),
     }
 }
 
 // What sets the trip: the pilot scheme, and zone 1 where that trips by itself.
-#[tactic(auto, unfolding(line_model::specs::Logic::set_tree))]
+#[tactic(auto, unfolding(model_logic::specs::Logic::set_tree))]
 fn set(
     net: &mut NetBuilder,
     line: &Line,

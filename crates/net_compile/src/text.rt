@@ -1,8 +1,9 @@
 //! The text of a net.
 
 ghost use Rattle.std.specs.Prelude.{◌≡◌, ◌<◌, ◌++◌, codes, decimal, length, IfOk, OnOk};
-ghost use Rattle.line_model.specs.Parameters.{terminal_count, channel_count};
-ghost use Rattle.line_model.specs.{Names.HasTime, ParamNames.name_at};
+ghost use Rattle.model_line.specs.Parameters.{terminal_count, channel_count};
+ghost use Rattle.model_line.specs.ParamNames.{name_at};
+ghost use Rattle.model_logic.specs.Names.{HasTime};
 ghost use Rattle.gate_net.specs.{NetOf.IsNetOf, Named.GateNames};
 ghost use Rattle.net_compile.specs.NetText.{truth_text, place_text, channel_text, time_text};
 ghost use Rattle.net_compile.specs.NetText.{pair_text, gate_text, gate_line, end_line};
@@ -10,7 +11,9 @@ ghost use Rattle.net_compile.specs.NetText.{terminal_lines, lines_below, net_tex
 
 use gate_net::{Gate, GateId, Net};
 use itoa::Buffer;
-use line_model::{Line, Memory, Place, Time, channel_name, element_word};
+use model_line::{Line, Memory, Place, channel_name};
+use model_logic::Time;
+use model_names::element_word;
 use std::alloc::Global;
 
 /// The text of a net: the number of its gates, a line for each gate, and for each terminal the

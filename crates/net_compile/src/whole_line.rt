@@ -5,7 +5,7 @@ ghost use Rattle.gate_net.specs.NetOf.{IsNetOf};
 
 use crate::terminal_gates::terminal_gates;
 use gate_net::{Net, NetBuilder};
-use line_model::{Line, Memory};
+use model_line::{Line, Memory};
 use std::alloc::Global;
 
 /// The net of a line. Whatever the scheme, it has at most 512 gates.

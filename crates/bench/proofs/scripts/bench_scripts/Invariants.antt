@@ -1,5 +1,5 @@
 use Rattle.std.specs.List.{All}
-use Rattle.line_model.specs.{declared.line.Line.Line, Fits.Fits}
+use Rattle.model_line.specs.{declared.line.Line.Line, Fits.Fits}
 use Rattle.bench.specs.{BenchLine.IsBenchLine, BenchScripts.AreBenchScripts}
 use Rattle.bench.proofs.scripts.bench_scripts.Given as goal
 

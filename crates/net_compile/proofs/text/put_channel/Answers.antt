@@ -2,8 +2,8 @@ use Rattle.std.proofs.Common.{◌≡◌, ◌<◌, ◌++◌, List, ℕ, Some, len
 use Rattle.std.proofs.Common.{append_assoc}
 use Rattle.std.proofs.lemmas.Option.{slice_get_read}
 use Rattle.std.specs.Prelude.{OnOk, slice_get}
-use Rattle.line_model.specs.Parameters.{channel_count}
-use Rattle.line_model.specs.ParamNames.{channel_name, pair_name}
+use Rattle.model_line.specs.ParamNames.{channel_name, pair_name}
+use Rattle.model_line.specs.Parameters.{channel_count}
 use Rattle.net_compile.specs.NetText.{channel_text}
 use Rattle.net_compile.proofs.Channels.{from_there, to_there}
 use Rattle.net_compile.proofs.text.put_channel.Goals as goal

@@ -1,2 +1,0 @@
-pub mod BenchText
-pub mod Answer

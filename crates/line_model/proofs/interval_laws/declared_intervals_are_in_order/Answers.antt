@@ -1,8 +1,0 @@
-use Rattle.line_model.proofs.DeclaredIntervals.{ends_at}
-use Rattle.line_model.proofs.interval_laws.declared_intervals_are_in_order.Goals as goal
-
-pub returns : goal.returns
-returns c = record {
-  ordered = λ line i lt. (ends_at line i lt).0;
-  within = λ line i lt. (ends_at line i lt).1;
-}

@@ -1,8 +1,0 @@
-use Rattle.line_model.proofs.SameTrees.{key_tree-same, trip_tree-same}
-use Rattle.line_model.proofs.interval_laws.trees_do_not_rest_on_the_intervals.Goals as goal
-
-pub returns : goal.returns
-returns c = record {
-  keys = λ line other k same. key_tree-same line other same k;
-  trips = λ line other k same. trip_tree-same line other same k;
-}

@@ -1,5 +1,0 @@
-use Rattle.line_model.proofs.SoundHistories.{sound_broken}
-use Rattle.line_model.proofs.laws.a_sound_rule_is_broken_where_it_is_broken.Goals as goal
-
-pub returns : goal.returns
-returns c = sound_broken c.history_laws.ensures

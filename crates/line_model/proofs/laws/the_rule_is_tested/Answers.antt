@@ -1,5 +1,0 @@
-use Rattle.line_model.proofs.RuleLaws.{Decides-held, Decides-broken}
-use Rattle.line_model.proofs.laws.the_rule_is_tested.Goals as goal
-
-pub returns : goal.returns
-returns c = record { held = Decides-held c.history_laws.ensures; broken = Decides-broken c.history_laws.ensures }

@@ -1,8 +1,0 @@
-use Rattle.line_model.proofs.LogicNames.{names_key_tree, names_trip_tree}
-use Rattle.line_model.proofs.laws.trees_name_the_line.Goals as goal
-
-pub returns : goal.returns
-returns c = record {
-  keys = λ line k lt. names_key_tree line k lt;
-  trips = λ line k lt. names_trip_tree line k lt;
-}

@@ -1,6 +1,0 @@
-use Rattle.line_model.proofs.DeclaredIntervals.{interval_at}
-use Rattle.line_model.proofs.line.Line.greatest.Goals as goal
-
-pub returns-clause-small : goal.returns-clause-small
-returns-clause-small c =
-    (interval_at c.args.self.now c.args.param c.index.result.now c.requires c.index.ensures).1

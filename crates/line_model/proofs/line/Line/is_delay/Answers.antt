@@ -1,8 +1,0 @@
-use Rattle.std.proofs.Common.{◌∙◌, sym, arith}
-use Rattle.line_model.proofs.DeclaredLaws.{delay_at}
-use Rattle.line_model.proofs.line.Line.is_delay.Goals as goal
-
-pub returns-then-delay_of-param : goal.returns-then-delay_of-param
-returns-then-delay_of-param c =
-    sym (delay_at c.args.self.now c.loop-channel.channel c.args.param (omega arith)
-    (sym c.delay_of.ensures.number ∙ c.if-delay_of-param.true))

@@ -1,5 +1,0 @@
-use Rattle.line_model.proofs.NamesApart.{names_apart}
-use Rattle.line_model.proofs.name_laws.parameters_have_names_of_their_own.Goals as goal
-
-pub returns : goal.returns
-returns c = names_apart

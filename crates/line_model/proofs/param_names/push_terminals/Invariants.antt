@@ -1,8 +1,0 @@
-use Rattle.std.proofs.Common.{◌≡◌, ◌++◌, take}
-use Rattle.line_model.specs.ParamNames.{terminal_names}
-use Rattle.line_model.proofs.param_names.push_terminals.Given as goal
-
-abbrev pub invariant-loop-terminal : goal.invariant-loop-terminal
-invariant-loop-terminal l =
-    l.names.items
-    ≡ l.initial.names.items ++ terminal_names l.scheme (take l.terminal-index l.terminals)

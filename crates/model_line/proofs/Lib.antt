@@ -1,0 +1,8 @@
+pub mod Copying
+pub mod Counts
+pub mod Deadlines
+pub mod DeclaredIntervals
+pub mod Groups
+pub mod Intervals
+pub mod NamePadding
+pub mod TerminalNames

@@ -1,0 +1,196 @@
+-- The rule is told by its facts, and speaks for every history that the pairs cover.
+use Rattle.std.proofs.Common.{◌≡◌, ◌||◌, ℕ, zero, suc, ◌<◌, ◌≤◌, Bool, true, false, not, refl, sym}
+use Rattle.std.proofs.Common.{◌∙◌, ap, arith}
+use Rattle.std.proofs.lemmas.Bool.Decides.{Decides-like}
+use Rattle.std.specs.Prelude.{IsTrue, IsFalse, Decides, cond}
+use Rattle.history.specs.{Laws.HistoryLaws, Elements.some_below, Rails.Rails, Rails.Covers}
+use Rattle.model_line.specs.declared.script.Kind.TheVariants.{Internal, External}
+use Rattle.model_line.specs.{declared.line.Line.Line, declared.script.Script.Script}
+use Rattle.model_line.specs.{declared.script.Kind.Kind, Parameters.terminal_count}
+use Rattle.model_logic.specs.Histories.{History, MeetsBy, Meets, PairHistory, CoversHistory}
+use Rattle.model_logic.specs.Rule.{Rule, Held, Broken, Unknown, IsHeld, IsBroken, is_held}
+use Rattle.model_logic.specs.Rule.{is_broken, rule_by, rule_of}
+use Rattle.history.specs.BelowLaws.{some_below-some}
+
+-- ---- what is tested is what is said
+
+not_true : (b : Bool) → (IsTrue b → ⊥) → IsFalse b
+not_true true h = absurd (h refl)
+not_true false h = refl
+
+off_not_on : (b : Bool) → IsTrue b → IsFalse b → ⊥
+off_not_on b on off = let same : true ≡ false = sym on ∙ off in cc
+
+on_of_not : (b : Bool) → IsTrue (not b) → IsFalse b
+on_of_not true h = absurd (cc)
+on_of_not false h = refl
+
+some_below-none : (u : ℕ → Bool) (n : ℕ) → ((t : ℕ) → t < n → IsFalse (u t))
+    → IsFalse (some_below u n)
+some_below-none u zero all = refl
+some_below-none u (suc n) all =
+    ap (λ b. b || some_below u n) (all n (omega arith))
+    ∙ some_below-none u n (λ t lt. all t (omega arith))
+
+-- no number below n passes
+Decides-none : (u : ℕ → Bool) (n : ℕ)
+    → Decides (not (some_below u n)) ((t : ℕ) → t < n → IsFalse (u t))
+Decides-none u n = (
+  λ none t lt. not_true (u t) (λ on.
+      off_not_on (some_below u n) (some_below-some u n t lt on)
+      (on_of_not (some_below u n) none)),
+  λ all. ap not (some_below-none u n all),
+)
+
+module _ (laws : HistoryLaws) where
+  -- some tick up to the last passes
+  Decides-by : (u : ℕ → Bool) (last : ℕ)
+      → Decides (some_below u (suc last)) ((t : ℕ) × (t ≤ last) × IsTrue (u t))
+  Decides-by u last =
+      Decides-like _
+      (λ (t, lt, on). (t, omega arith, on))
+      (λ h. let le : h.0 ≤ last = h.1 in (h.0, omega arith, h.2))
+      (laws.tests.some u (suc last))
+
+  -- no tick up to the last passes
+  Decides-none_by : (u : ℕ → Bool) (last : ℕ)
+      → Decides (not (some_below u (suc last))) ((t : ℕ) → t ≤ last → IsFalse (u t))
+  Decides-none_by u last =
+      Decides-like _
+      (λ all t le. all t (omega arith))
+      (λ all t lt. all t (omega arith))
+      (Decides-none u (suc last))
+
+  pub Decides-held : (kind : Kind) (deadline horizon : ℕ) (trip : ℕ → Rails)
+      → Decides (is_held kind deadline horizon trip) (IsHeld kind deadline horizon trip)
+  Decides-held Internal deadline horizon trip = Decides-by (λ t. (trip t).must) deadline
+  Decides-held External deadline horizon trip = Decides-none (λ t. (trip t).may) horizon
+
+  pub Decides-broken : (kind : Kind) (deadline horizon : ℕ) (trip : ℕ → Rails)
+      → Decides (is_broken kind deadline horizon trip) (IsBroken kind deadline horizon trip)
+  Decides-broken Internal deadline horizon trip = Decides-none_by (λ t. (trip t).may) deadline
+  Decides-broken External deadline horizon trip =
+      laws.tests.some (λ t. (trip t).must) horizon
+
+  module _ (kind : Kind) (deadline horizon : ℕ) (trip : ℕ → Rails) where
+    abbrev rule : Rule
+    rule = rule_by kind deadline horizon trip
+
+    abbrev by_tests : Bool → Bool → Rule
+    by_tests h b = cond h Held (cond b Broken Unknown)
+
+    -- which tests give which rule
+    held_test : (h b : Bool) → by_tests h b ≡ Held → IsTrue h
+    held_test true b e = refl
+    held_test false true e = absurd (cc)
+    held_test false false e = absurd (cc)
+
+    broken_test : (h b : Bool) → by_tests h b ≡ Broken → IsTrue b × IsFalse h
+    broken_test true b e = absurd (cc)
+    broken_test false true e = (refl, refl)
+    broken_test false false e = absurd (cc)
+
+    unknown_test : (h b : Bool) → by_tests h b ≡ Unknown → IsFalse h × IsFalse b
+    unknown_test true b e = absurd (cc)
+    unknown_test false true e = absurd (cc)
+    unknown_test false false e = (refl, refl)
+
+    given : (b : Bool) (P : Type 0) → Decides b P → IsFalse b → P → ⊥
+    given b P d off p = off_not_on b (d.1 p) off
+
+    denied : (b : Bool) (P : Type 0) → Decides b P → (P → ⊥) → IsFalse b
+    denied b P d never = not_true b (λ on. never (d.0 on))
+
+    pub rule_held : rule ≡ Held → IsHeld kind deadline horizon trip
+    unfolding rule_by
+    rule_held e = (Decides-held kind deadline horizon trip).0
+        (held_test (is_held kind deadline horizon trip) (is_broken kind deadline horizon trip) e)
+
+    pub held_rule : IsHeld kind deadline horizon trip → rule ≡ Held
+    unfolding rule_by
+    held_rule h = ap (λ b. by_tests b (is_broken kind deadline horizon trip))
+        ((Decides-held kind deadline horizon trip).1 h)
+
+    pub rule_broken : rule ≡ Broken
+        → IsBroken kind deadline horizon trip × (IsHeld kind deadline horizon trip → ⊥)
+    unfolding rule_by
+    rule_broken e =
+        let tests = broken_test (is_held kind deadline horizon trip)
+        (is_broken kind deadline horizon trip) e in (
+          (Decides-broken kind deadline horizon trip).0 tests.0,
+          given (is_held kind deadline horizon trip) (IsHeld kind deadline horizon trip)
+              (Decides-held kind deadline horizon trip) tests.1,
+        )
+
+    pub broken_rule : IsBroken kind deadline horizon trip
+        → (IsHeld kind deadline horizon trip → ⊥) → rule ≡ Broken
+    unfolding rule_by
+    broken_rule broken never =
+        ap (λ b. by_tests b (is_broken kind deadline horizon trip))
+        (denied (is_held kind deadline horizon trip) (IsHeld kind deadline horizon trip)
+        (Decides-held kind deadline horizon trip) never)
+        ∙ ap (λ b. by_tests false b) ((Decides-broken kind deadline horizon trip).1 broken)
+
+    pub rule_unknown : rule ≡ Unknown
+        → (IsHeld kind deadline horizon trip → ⊥) × (IsBroken kind deadline horizon trip → ⊥)
+    unfolding rule_by
+    rule_unknown e =
+        let tests = unknown_test (is_held kind deadline horizon trip)
+        (is_broken kind deadline horizon trip) e in (
+          given (is_held kind deadline horizon trip) (IsHeld kind deadline horizon trip)
+              (Decides-held kind deadline horizon trip) tests.0,
+          given (is_broken kind deadline horizon trip) (IsBroken kind deadline horizon trip)
+              (Decides-broken kind deadline horizon trip) tests.1,
+        )
+
+    pub unknown_rule : (IsHeld kind deadline horizon trip → ⊥)
+        → (IsBroken kind deadline horizon trip → ⊥) → rule ≡ Unknown
+    unfolding rule_by
+    unknown_rule not_held not_broken =
+        ap (λ b. by_tests b (is_broken kind deadline horizon trip))
+        (denied (is_held kind deadline horizon trip) (IsHeld kind deadline horizon trip)
+        (Decides-held kind deadline horizon trip) not_held)
+        ∙ ap (λ b. by_tests false b)
+        (denied (is_broken kind deadline horizon trip) (IsBroken kind deadline horizon trip)
+        (Decides-broken kind deadline horizon trip) not_broken)
+
+  -- ---- over trips that the pairs cover
+
+  covered_off : (x : Rails) (v : Bool) → Covers x v → IsFalse x.may → IsFalse v
+  covered_off x v cover off = not_true v (λ on. off_not_on x.may (cover.may on) off)
+
+  module _ (deadline horizon : ℕ) (early : deadline < horizon) (trip : ℕ → Rails) (plain : ℕ → Bool)
+      (cover : (t : ℕ) → t < horizon → Covers (trip t) (plain t)) where
+    pub held_met : (kind : Kind) → IsHeld kind deadline horizon trip
+        → MeetsBy kind deadline horizon plain
+    held_met Internal held =
+        let le : held.0 ≤ deadline = held.1 in
+        (held.0, held.1, (cover held.0 (omega arith)).must held.2)
+    held_met External held = λ t lt. covered_off (trip t) (plain t) (cover t lt) (held t lt)
+
+    pub broken_failed : (kind : Kind) → IsBroken kind deadline horizon trip
+        → MeetsBy kind deadline horizon plain → ⊥
+    broken_failed Internal broken met =
+        let le : met.0 ≤ deadline = met.1 in
+        off_not_on (plain met.0) met.2
+        (covered_off (trip met.0) (plain met.0) (cover met.0 (omega arith))
+        (broken met.0 met.1))
+    broken_failed External broken met =
+        off_not_on (plain broken.0) ((cover broken.0 broken.1).must broken.2)
+        (met broken.0 broken.1)
+
+  -- what the rule of a line's obligation says of a history that is covered
+  module _ (line : Line) (script : Script) (w : PairHistory) (h : History) (k : ℕ)
+      (early : script.deadline < line.horizon) (cover : CoversHistory line w h)
+      (lt : k < terminal_count line) where
+    pub held_rule_met : rule_of line script (w.trip k) ≡ Held → Meets line script k h
+    held_rule_met rule =
+        held_met script.deadline line.horizon early (w.trip k) (h.trip k)
+        (λ t below. cover.trips k t lt below) script.kind
+        (rule_held script.kind script.deadline line.horizon (w.trip k) rule)
+
+    pub broken_rule_failed : rule_of line script (w.trip k) ≡ Broken → Meets line script k h → ⊥
+    broken_rule_failed rule =
+        broken_failed script.deadline line.horizon early (w.trip k) (h.trip k)
+        (λ t below. cover.trips k t lt below) script.kind
+        (rule_broken script.kind script.deadline line.horizon (w.trip k) rule).0

@@ -1,0 +1,61 @@
+-- What must be may be in an interval history over a box that a choice lies in, since it covers the
+-- history of that choice. So there a rule is broken wherever what it says of the pairs is.
+use Rattle.std.proofs.Common.{◌≡◌, ◌<◌, ◌≤◌, ℕ, Bool, true, false, sym, ◌∙◌, arith}
+use Rattle.std.specs.Prelude.{◌↔◌, IsTrue, IsFalse}
+use Rattle.history.specs.{Laws.HistoryLaws, Rails.Rails, Rails.Covers, Rails.IsSound}
+use Rattle.model_line.specs.declared.script.Kind.TheVariants.{Internal, External}
+use Rattle.model_line.specs.{declared.line.Line.Line, declared.script.Script.Script}
+use Rattle.model_line.specs.{declared.script.Kind.Kind, Parameters.terminal_count}
+use Rattle.model_logic.specs.Choice.{Choice, Box, IsWithin, DelaysFromOne, LeastFromOne}
+use Rattle.model_logic.specs.Histories.{PairHistory, IsPairHistory, CoversHistory, IsSoundHistory}
+use Rattle.model_logic.specs.Rule.{Broken, IsHeld, IsBroken, rule_of}
+use Rattle.model_logic.proofs.HistoryLaws.{history_exists}
+use Rattle.model_logic.proofs.BoxLaws.{box_covers_choice}
+use Rattle.model_logic.proofs.RuleLaws.{rule_broken, broken_rule}
+
+covering_sound : (x : Rails) (v : Bool) → Covers x v → IsSound x
+covering_sound x v cover on = cover.may (cover.must on)
+
+delays_within : (line : Line) (box : Box) (choice : Choice) → LeastFromOne line box
+    → IsWithin line choice box → DelaysFromOne line choice
+delays_within line box choice d within c t lt early =
+    let least : 1 ≤ (box.delay c t).least = d c t lt early in
+    let in_box : (box.delay c t).least ≤ choice.delay c t = (within.delays c t lt early).least in
+    omega arith
+
+module _ (laws : HistoryLaws) where
+  pub history_sound : (line : Line) (script : Script) (box : Box) (choice : Choice)
+      (w : PairHistory) → LeastFromOne line box → IsWithin line choice box
+      → IsPairHistory line script box w → IsSoundHistory line w
+  history_sound line script box choice w d within is_w =
+      let (h, is_h) = history_exists laws line script choice (delays_within line box choice d within) in
+      let cover : CoversHistory line w h =
+      box_covers_choice laws line script box d choice within h is_h w is_w in
+      record {
+        keys = λ k t kn lt. covering_sound (w.key k t) (h.key k t) (cover.keys k t kn lt);
+        trips = λ k t kn lt. covering_sound (w.trip k t) (h.trip k t) (cover.trips k t kn lt);
+      }
+
+  on_and_off : (b : Bool) → IsTrue b → IsFalse b → ⊥
+  on_and_off b on off = let same : true ≡ false = sym on ∙ off in cc
+
+  -- over pairs of which what must be may be, what is broken is not held
+  never_both : (kind : Kind) (deadline horizon : ℕ) (trip : ℕ → Rails) → deadline < horizon
+      → ((t : ℕ) → t < horizon → IsSound (trip t)) → IsBroken kind deadline horizon trip
+      → IsHeld kind deadline horizon trip → ⊥
+  never_both Internal deadline horizon trip early sound broken held =
+      let le : held.0 ≤ deadline = held.1 in
+      on_and_off (trip held.0).may (sound held.0 (omega arith) held.2) (broken held.0 held.1)
+  never_both External deadline horizon trip early sound broken held =
+      on_and_off (trip broken.0).may (sound broken.0 broken.1 broken.2) (held broken.0 broken.1)
+
+  pub sound_broken : (line : Line) (script : Script) (w : PairHistory) (k : ℕ)
+      → script.deadline < line.horizon → IsSoundHistory line w → k < terminal_count line
+      → (rule_of line script (w.trip k) ≡ Broken)
+      ↔ IsBroken script.kind script.deadline line.horizon (w.trip k)
+  sound_broken line script w k early sound kn = (
+    λ rule. (rule_broken laws script.kind script.deadline line.horizon (w.trip k) rule).0,
+    λ broken. broken_rule laws script.kind script.deadline line.horizon (w.trip k) broken
+        (never_both script.kind script.deadline line.horizon (w.trip k) early
+        (λ t lt. sound.trips k t kn lt) broken),
+  )

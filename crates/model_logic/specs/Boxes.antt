@@ -1,0 +1,28 @@
+-- Boxes with another interval for one parameter.
+use Rattle.std.specs.Prelude.{◌≡◌, ◌<◌, ◌==◌, ℕ, if◌then◌else◌}
+use Rattle.history.specs.Rails.{Ends}
+use Rattle.model_line.specs.Parameters.{param_count, channel_count, delay_param, declared_ends}
+use Rattle.model_line.specs.declared.line.Line.{Line}
+use Rattle.model_logic.specs.Choice.{Box}
+
+-- the intervals with another one for this parameter
+abbrev pub ends_with : (ℕ → Ends) → ℕ → Ends → ℕ → Ends
+ends_with ends param new i = if i == param then new else ends i
+
+-- the box of these intervals of the line's parameters, each delay's the same at every tick
+abbrev pub box_of : Line → (ℕ → Ends) → Box
+box_of line ends = record { ends = ends; delay = λ c t. ends (delay_param line c) }
+
+-- the box of the declared intervals with another one for this parameter; if it is a delay, for the
+-- delay at every tick
+abbrev pub declared_with : Line → ℕ → Ends → Box
+declared_with line param new = box_of line (ends_with (declared_ends line) param new)
+
+-- the box with another interval for a number; each delay stays
+abbrev pub box_with : Box → ℕ → Ends → Box
+box_with box param new = record { ends = ends_with box.ends param new; delay = box.delay }
+
+-- the two are the same in each interval of the line's
+pub record IsSameBox (line : Line) (a b : Box) : Type 0 where
+  pub numbers : (i : ℕ) → i < param_count line → a.ends i ≡ b.ends i
+  pub delays : (c t : ℕ) → c < channel_count line → t < line.horizon → a.delay c t ≡ b.delay c t

@@ -1,0 +1,3 @@
+pub mod NamesByNumber
+pub mod NumbersByName
+pub mod ParamNamesApart

@@ -1,0 +1,13 @@
+//! Names of a line and its scripts: by number, and the number of each name.
+//!
+//! - `names`: the name of a terminal, a parameter or a script by its number; the word of an element.
+//! - `numbers_by_name`: a terminal, channel, parameter or script by its name, the first of the name.
+//! - `name_laws`: each parameter has a name of its own.
+#![tactic(auto)]
+
+pub mod name_laws;
+mod names;
+mod numbers_by_name;
+
+pub use names::{element_word, name_of_parameter, name_of_script, name_of_terminal};
+pub use numbers_by_name::{channel_of_name, parameter_of_name, script_of_name, terminal_of_name};

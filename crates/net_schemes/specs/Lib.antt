@@ -1,0 +1,4 @@
+pub mod Echoes
+pub mod Gathering
+pub mod LocalGates
+pub mod Outputs

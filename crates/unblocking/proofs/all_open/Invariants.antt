@@ -1,7 +1,0 @@
-use Rattle.line_model.specs.{Tree.And, Unblocking.open_from}
-use Rattle.zones.specs.Gathering.{Gathers}
-use Rattle.unblocking.proofs.all_open.Given as goal
-
-abbrev pub invariant-loop-from : goal.invariant-loop-from
-invariant-loop-from l =
-    Gathers l.line And (open_from l.line l.terminal) l.terminal 22 l.initial.net l.net l.all l.from

@@ -1,8 +1,0 @@
-use Rattle.line_model.specs.Received.{join_of, received}
-use Rattle.zones.specs.Gathering.{Gathers}
-use Rattle.zones.proofs.from_others.others_received.Given as goal
-
-abbrev pub invariant-loop-from : goal.invariant-loop-from
-invariant-loop-from l =
-    Gathers l.line (join_of l.join) (received l.line l.terminal) l.terminal 5 l.initial.net l.net
-    l.all l.from

@@ -1,3 +1,0 @@
-pub mod LocalGates
-pub mod Outputs
-pub mod Gathering
