@@ -6,8 +6,8 @@ use Rattle.std.specs.Prelude.{IsTrue, is_some, ◌&&◌, nat_le}
 use Rattle.model_line.specs.Channels.{AreChannels, channel_number, from_of, to_of}
 use Rattle.model_line.specs.Intervals.{AreIntervals, LeastDelaysFromOne, delay_number_of}
 use Rattle.model_line.specs.Making.{AreBounds, AreTerminals, greatest_ends, least_ends}
-use Rattle.model_line.specs.{declared.line.Scheme.TheVariants.Pott, Settings.line_settings}
 use Rattle.model_line.specs.Terminals.{NamesDiffer}
+use Rattle.model_line.specs.{declared.line.Scheme.TheVariants.Pott, Settings.line_settings}
 use Rattle.bench.specs.BenchLine.{bench_bounds, bench_channels, bench_terminals}
 use Rattle.bench.proofs.Below.{below_three, below_six, each_passes}
 

@@ -9,9 +9,9 @@ use Rattle.std.specs.List.{list_all}
 use Rattle.std.specs.Int.Digits.{digits_of}
 use Rattle.model_line.specs.declared.script.Element.TheVariants.{Z2, Rv, Cur}
 use Rattle.model_line.specs.Fits.{Fits, deadline_fits, span_fits}
+use Rattle.model_line.specs.PlainNames.{is_plain_name}
 use Rattle.model_line.specs.{declared.script.Element.Element, declared.script.Script.Script}
 use Rattle.model_line.specs.{declared.line.Line.Line, Parameters.terminal_count}
-use Rattle.model_line.specs.PlainNames.{is_plain_name}
 use Rattle.bench.specs.BenchLine.{IsBenchLine}
 use Rattle.bench.specs.BenchScripts.{IsBenchScript, bench_deadline, bench_kind, bench_spans}
 use Rattle.bench.specs.BenchScripts.{inception, is_internal, seen_at, spans_by}

@@ -7,8 +7,8 @@ use Rattle.std.specs.Prelude.{get_or}
 use Rattle.std.specs.List.{All}
 use Rattle.history.specs.Rails.{Ends, IsPartOf}
 use Rattle.model_line.specs.Parameters.{param_count, declared_ends}
-use Rattle.model_line.specs.{declared.script.Script.Script, declared.line.Line.Line}
 use Rattle.model_line.specs.WithBounds.{IsWithBounds}
+use Rattle.model_line.specs.{declared.script.Script.Script, declared.line.Line.Line}
 use Rattle.model_logic.specs.Choice.{Choice, IsIn, declared_box}
 use Rattle.model_logic.specs.Histories.{History, IsLineHistory, Meets, MeetsBy}
 use Rattle.model_logic.specs.Boxes.{ends_with}

@@ -6,8 +6,8 @@ use Rattle.std.proofs.lemmas.Option.{slice_get_within}
 use Rattle.std.specs.Prelude.{◌==◌, IsTrue, length, slice_get, if◌then◌else◌}
 use Rattle.history.specs.Rails.{Ends, single}
 use Rattle.model_line.specs.Parameters.{param_count, terminal_count, delay_param, declared_ends}
-use Rattle.model_line.specs.{declared.line.Line.Line, declared.script.Script.Script}
 use Rattle.model_line.specs.SetBounds.{SameButParams}
+use Rattle.model_line.specs.{declared.line.Line.Line, declared.script.Script.Script}
 use Rattle.model_logic.specs.Choice.{IsIn, IsWithin, declared_box}
 use Rattle.timing_box.specs.Candidates.{candidate, candidate_count, candidate_value}
 use Rattle.timing_box.specs.{Choice.timing_choice, Inside.IsTimingInside}

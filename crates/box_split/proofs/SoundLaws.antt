@@ -5,8 +5,8 @@ use Rattle.std.proofs.lemmas.Bool.{cases_eq}
 use Rattle.std.specs.Prelude.{IsTrue, slice_get}
 use Rattle.history.specs.Rails.{Ends}
 use Rattle.model_line.specs.Parameters.{terminal_count, param_count, declared_ends}
-use Rattle.model_line.specs.{SetBounds.SameButParams, declared.line.Line.Line}
 use Rattle.model_line.specs.declared.script.Script.{Script}
+use Rattle.model_line.specs.{SetBounds.SameButParams, declared.line.Line.Line}
 use Rattle.model_logic.specs.Choice.{Choice, Box, IsWithin, LeastFromOne, declared_box}
 use Rattle.model_logic.specs.Histories.{History, IsLineHistory, Meets}
 use Rattle.model_logic.specs.Boxes.{box_with, IsSameBox}

@@ -3,8 +3,8 @@ use Rattle.std.specs.Prelude.{◌≡◌, ◌<◌, ◌+◌, ◌*◌, ◌==◌, �
 use Rattle.std.specs.Prelude.{slice_index_or, if◌then◌else◌}
 use Rattle.history.specs.Rails.{Ends, single, IsPartOf}
 use Rattle.model_line.specs.Parameters.{param_count, declared_ends}
-use Rattle.model_line.specs.{declared.line.Line.Line, declared.script.Script.Script}
 use Rattle.model_line.specs.SetBounds.{SameButParams}
+use Rattle.model_line.specs.{declared.line.Line.Line, declared.script.Script.Script}
 use Rattle.certify_core.specs.declared.verdict.Verdict.TheVariants as verdict
 use Rattle.box_lanes.specs.Held.{IsHeldOf, TellHeld}
 use Rattle.box_split.specs.Search.{IsLower, IsUpper, IsVerdictOf}

@@ -2,8 +2,8 @@
 use Rattle.std.specs.Prelude.{◌≡◌, ℕ, suc, Bool, List, [], get_or}
 use Rattle.model_line.specs.declared.script.Kind.TheVariants.{Internal, External}
 use Rattle.model_line.specs.Parameters.{param_count, declared_ends}
-use Rattle.model_line.specs.{declared.line.Line.Line, declared.script.Script.Script}
 use Rattle.model_line.specs.declared.script.Kind.{Kind}
+use Rattle.model_line.specs.{declared.line.Line.Line, declared.script.Script.Script}
 use Rattle.model_logic.specs.Histories.{History, IsLineHistory, Meets}
 use Rattle.model_logic.specs.Choice.{Choice, IsIn}
 use Rattle.timing_box.specs.{Timing.TimingValues, Inside.IsTimingInside, Choice.timing_choice}

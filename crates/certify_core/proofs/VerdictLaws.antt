@@ -12,8 +12,8 @@ use Rattle.history.specs.{Elements.some_below, Rails.Rails, Rails.must_of, Rails
 use Rattle.model_line.specs.declared.script.Kind.TheVariants.{Internal, External}
 use Rattle.model_line.specs.Parameters.{terminal_count, param_count}
 use Rattle.model_line.specs.Fits.{deadline_fits, Fits}
-use Rattle.model_line.specs.{declared.line.Line.Line, declared.script.Script.Script}
 use Rattle.model_line.specs.declared.script.Kind.{Kind}
+use Rattle.model_line.specs.{declared.line.Line.Line, declared.script.Script.Script}
 use Rattle.model_logic.specs.Histories.{PairHistory, IsSamePairHistory}
 use Rattle.model_logic.specs.Rule.{Rule, Held, Broken, Unknown, rule_by, rule_of}
 use Rattle.timing_box.specs.Timing.{TimingValues}

@@ -3,9 +3,9 @@ use Rattle.std.specs.Prelude.{◌++◌, ◌+◌, ◌-◌, ℕ, Bool, true, false
 use Rattle.std.specs.Prelude.{if◌then◌else◌}
 use Rattle.model_line.specs.declared.script.Element.TheVariants.{Z1, Z2, Rv, Uv, Cur}
 use Rattle.model_line.specs.declared.script.Kind.TheVariants.{Internal, External}
+use Rattle.model_line.specs.declared.script.Script.{Script}
 use Rattle.model_line.specs.{declared.line.Line.Line, declared.line.Scheme.Scheme}
 use Rattle.model_line.specs.{declared.script.Element.Element, declared.script.Kind.Kind}
-use Rattle.model_line.specs.declared.script.Script.{Script}
 use Rattle.model_line.specs.declared.line.Scheme.TheVariants as scheme
 use Rattle.model_names.specs.NamesByNumber.{terminal_name}
 use Rattle.timing_diagram.specs.declared.{diagram.Diagram.Diagram, rows.Row.Row, trace.Trace.Trace}

@@ -6,9 +6,9 @@ use Rattle.std.specs.Str.{bytes_eq}
 use Rattle.std.proofs.lemmas.Map.Entries.{option_filter}
 use Rattle.model_line.specs.declared.script.Element.TheVariants.{Z1, Z2, Rv, Uv, Cur}
 use Rattle.model_line.specs.declared.script.Kind.TheVariants.{Internal, External}
+use Rattle.model_line.specs.PlainNames.{is_plain_name}
 use Rattle.model_line.specs.{declared.script.Kind.Kind, declared.line.Line.Line}
 use Rattle.model_line.specs.{declared.script.What.What, declared.script.SeenSpan.SeenSpan}
-use Rattle.model_line.specs.PlainNames.{is_plain_name}
 use Rattle.model_line.specs.declared.script.What.TheVariants as what
 use Rattle.model_names.specs.NumbersByName.{terminal_named, channel_named}
 use Rattle.csv_records.specs.{Fields.is_empty, SoFar.SoFar, SoFar.all_of}

@@ -8,9 +8,9 @@ use Rattle.std.specs.Prelude.{IsTrue, nat_le, slice_get}
 use Rattle.std.specs.List.{All, flat_map, list_all}
 use Rattle.tick_signal.specs.declared.tern.Tern.{Tern}
 use Rattle.model_line.specs.PlainNames.{is_plain_byte, is_plain_name}
+use Rattle.model_line.specs.declared.line.Terminal.{Terminal}
 use Rattle.model_line.specs.{declared.line.Line.Line, declared.script.Script.Script}
 use Rattle.model_line.specs.{Parameters.terminal_count, Terminals.are_plain_names}
-use Rattle.model_line.specs.declared.line.Terminal.{Terminal}
 use Rattle.model_names.specs.NamesByNumber.{terminal_name}
 use Rattle.text_lines.specs.Lines.{BeginsWith, Lines}
 use Rattle.text_lines.specs.LineLaws.{both_true}

@@ -15,10 +15,10 @@ use Rattle.model_line.specs.Settings.{undervoltage_settings, groups_with, all_of
 use Rattle.model_line.specs.Settings.{weak_settings, scheme_settings, terminal_settings}
 use Rattle.model_line.specs.Settings.{channel_settings, settings_of_terminals}
 use Rattle.model_line.specs.Terminals.{names_of, has_flags, has_no_flag}
+use Rattle.model_line.specs.declared.line.Setting.{Setting}
 use Rattle.model_line.specs.{declared.line.Terminal.Terminal, declared.line.Line.Line}
 use Rattle.model_line.specs.{declared.line.Scheme.Scheme, declared.line.Owner.Owner}
 use Rattle.model_line.specs.{PlainNames.is_plain_name, FirstPositions.list_any-take_none}
-use Rattle.model_line.specs.declared.line.Setting.{Setting}
 use Rattle.model_line.specs.declared.line.Owner.TheVariants as owner
 use Rattle.model_logic.specs.Laws.{LineLaws}
 use Rattle.line_file.specs.Times.{group_key, required_times}

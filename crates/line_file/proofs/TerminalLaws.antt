@@ -11,9 +11,9 @@ use Rattle.model_line.specs.Settings.{guard_settings, weak_settings, scheme_sett
 use Rattle.model_line.specs.Settings.{terminal_settings, zone1_settings, zone2_settings}
 use Rattle.model_line.specs.Settings.{reverse_settings, undervoltage_settings}
 use Rattle.model_line.specs.Terminals.{has_flags, has_no_flag}
+use Rattle.model_line.specs.PlainNames.{is_plain_name}
 use Rattle.model_line.specs.{declared.line.Scheme.Scheme, declared.line.Setting.Setting}
 use Rattle.model_line.specs.{declared.bounds.Bounds.Bounds, declared.line.Terminal.Terminal}
-use Rattle.model_line.specs.PlainNames.{is_plain_name}
 use Rattle.line_file.specs.TerminalTables.{terminal_keys, name_at, no_times, element_times}
 use Rattle.line_file.specs.TerminalTables.{elements_times, permissive_times, scheme_times}
 use Rattle.line_file.specs.TerminalTables.{terminal_named, terminal_at}

@@ -11,9 +11,9 @@ use Rattle.model_line.specs.Settings.{OwnedSetting, owned_by, groups_with, all_o
 use Rattle.model_line.specs.Settings.{settings_of_terminals, settings_of_channels}
 use Rattle.model_line.specs.Settings.{terminal_settings, channel_settings, line_settings}
 use Rattle.model_line.specs.NumberLaws.{length-line_settings, length-owned_by}
+use Rattle.model_line.specs.SettingFlagLaws.{with_flags}
 use Rattle.model_line.specs.{declared.line.Line.Line, declared.line.Scheme.Scheme}
 use Rattle.model_line.specs.{declared.line.Terminal.Terminal, declared.line.Channel.Channel}
-use Rattle.model_line.specs.SettingFlagLaws.{with_flags}
 use Rattle.model_line.specs.declared.line.Owner.TheVariants as owner
 
 -- one terminal more at the end

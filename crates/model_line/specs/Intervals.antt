@@ -1,9 +1,9 @@
 -- What a line keeps of its parameters' intervals.
 use Rattle.std.specs.Prelude.{◌≤◌, ◌<◌, ℕ, List, length, map, get_or, unwrap_or}
 use Rattle.model_line.specs.Settings.{line_settings, setting_number}
+use Rattle.model_line.specs.declared.line.Setting.TheVariants.{Delay}
 use Rattle.model_line.specs.{declared.line.Scheme.Scheme, declared.line.Terminal.Terminal}
 use Rattle.model_line.specs.{declared.line.Channel.Channel, declared.line.Param.Param}
-use Rattle.model_line.specs.declared.line.Setting.TheVariants.{Delay}
 use Rattle.model_line.specs.declared.line.Owner.TheVariants as owner
 
 -- the least and the greatest value of each parameter

@@ -8,9 +8,9 @@ use Rattle.model_line.specs.Settings.{settings_of_channels, line_settings, termi
 use Rattle.model_line.specs.Settings.{channel_settings}
 use Rattle.model_line.specs.ParamNames.{param_name, name_at, pair_name, owner_name, dotted}
 use Rattle.model_line.specs.ParamNames.{terminal_names, channel_names}
+use Rattle.model_line.specs.declared.line.Setting.{Setting}
 use Rattle.model_line.specs.{declared.line.Scheme.Scheme, declared.line.Terminal.Terminal}
 use Rattle.model_line.specs.{declared.line.Channel.Channel, declared.line.Owner.Owner}
-use Rattle.model_line.specs.declared.line.Setting.{Setting}
 use Rattle.model_line.specs.declared.line.Owner.TheVariants as owner
 
 -- the name of a terminal by its place in the list

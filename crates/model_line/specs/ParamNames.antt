@@ -4,9 +4,9 @@ use Rattle.std.specs.Prelude.{slice_get}
 use Rattle.std.specs.List.{flat_map}
 use Rattle.model_line.specs.Settings.{OwnedSetting, terminal_settings, channel_settings, table_key}
 use Rattle.model_line.specs.Settings.{time_key}
+use Rattle.model_line.specs.declared.line.Setting.{Setting}
 use Rattle.model_line.specs.{declared.line.Scheme.Scheme, declared.line.Terminal.Terminal}
 use Rattle.model_line.specs.{declared.line.Channel.Channel, declared.line.Owner.Owner}
-use Rattle.model_line.specs.declared.line.Setting.{Setting}
 use Rattle.model_line.specs.declared.line.Owner.TheVariants as owner
 
 -- A key of the table at a path: both, with a dot between them. The path of a file is empty.

@@ -11,11 +11,11 @@ use Rattle.model_line.specs.Settings.{setting_number, setting_place}
 use Rattle.model_line.specs.FirstPositions.{list_any-append_false, position_from-append_none}
 use Rattle.model_line.specs.FirstPositions.{position_from-none_behind, position_from-later}
 use Rattle.model_line.specs.NumberLaws.{same_owner-refl, length-owned_by}
+use Rattle.model_line.specs.Parameters.{param_number}
 use Rattle.model_line.specs.{declared.line.Line.Line, declared.line.Scheme.Scheme}
 use Rattle.model_line.specs.{declared.line.Terminal.Terminal, declared.line.Channel.Channel}
 use Rattle.model_line.specs.{declared.line.Owner.Owner, declared.line.Setting.Setting}
 use Rattle.model_line.specs.{declared.line.Setting.TheVariants.Delay, Intervals.delay_number_of}
-use Rattle.model_line.specs.Parameters.{param_number}
 use Rattle.model_line.specs.declared.line.Owner.TheVariants as owner
 
 module _ (x : Setting) where

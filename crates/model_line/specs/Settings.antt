@@ -11,9 +11,9 @@ use Rattle.model_line.specs.declared.line.Setting.TheVariants.{EchoPickup, EchoP
 use Rattle.model_line.specs.declared.line.Setting.TheVariants.{BlockCoord, TransferSecurity, Delay}
 use Rattle.model_line.specs.declared.line.Setting.TheVariants.{UnblockPickup, UnblockWindow}
 use Rattle.model_line.specs.declared.line.Setting.TheVariants.{UnblockRestore}
+use Rattle.model_line.specs.declared.line.Setting.{Setting}
 use Rattle.model_line.specs.{declared.line.Scheme.Scheme, declared.line.Terminal.Terminal}
 use Rattle.model_line.specs.{declared.line.Channel.Channel, declared.line.Owner.Owner}
-use Rattle.model_line.specs.declared.line.Setting.{Setting}
 use Rattle.model_line.specs.declared.line.Owner.TheVariants as owner
 use Rattle.model_line.specs.contracts.line.SettingPartialEq.TheImpl.{eq-value as setting_eq}
 use Rattle.model_line.specs.contracts.line.OwnerPartialEq.TheImpl.{eq-value as owner_eq}

@@ -2,8 +2,8 @@
 use Rattle.std.specs.Prelude.{◌≢◌, ◌<◌, ◌||◌, ℕ, Bool, true, false, not, List, [], map, get_or}
 use Rattle.std.specs.List.{list_all}
 use Rattle.model_line.specs.declared.line.Scheme.TheVariants.{Pott, Putt, Dcb, Dcub, Dtt}
-use Rattle.model_line.specs.{declared.line.Terminal.Terminal, declared.line.Scheme.Scheme}
 use Rattle.model_line.specs.PlainNames.{is_plain_name}
+use Rattle.model_line.specs.{declared.line.Terminal.Terminal, declared.line.Scheme.Scheme}
 
 -- the names, in line order
 abbrev pub names_of : List Terminal → List (List ℕ)

@@ -4,8 +4,8 @@
 ghost use Rattle.model_line.specs.Laws.{ParametersAreNumbered, SettingsAreCounted};
 ghost use Rattle.model_line.specs.Laws.{DelaysAreParameters, DeadlinesAreBelowTheHorizon};
 ghost use Rattle.model_line.specs.Laws.{CountsRestOnNoInterval, DeclaredIntervalsAreInOrder};
-ghost use Rattle.model_line.specs.{SetBounds.SameButParams, Fits.Fits, declared.line.Line.Line};
 ghost use Rattle.model_line.specs.declared.script.Script.{Script};
+ghost use Rattle.model_line.specs.{SetBounds.SameButParams, Fits.Fits, declared.line.Line.Line};
 
 /// Parameters are numbered in the order of the settings: as many as settings and at most 63, each
 /// setting that a line has within them.

@@ -3,8 +3,8 @@
 ghost use Rattle.std.specs.Prelude.{◌≡◌, ◌≤◌, length, map, IsTrue};
 ghost use Rattle.model_line.specs.Terminals.{are_plain_names, NamesDiffer, flags_fit};
 ghost use Rattle.model_line.specs.Intervals.{leasts, greatests, AreIntervals, LeastDelaysFromOne};
-ghost use Rattle.model_line.specs.{Channels.AreChannels, Settings.line_settings};
 ghost use Rattle.model_line.specs.ParamNames.{param_name};
+ghost use Rattle.model_line.specs.{Channels.AreChannels, Settings.line_settings};
 
 use crate::name::Name;
 

@@ -5,8 +5,8 @@ ghost use Rattle.std.specs.Prelude.{IfOk};
 ghost use Rattle.std.specs.List.{flat_map};
 ghost use Rattle.model_line.specs.ParamNames.{dotted, pair_name, param_name, terminal_names};
 ghost use Rattle.model_line.specs.ParamNames.{channel_names};
-ghost use Rattle.model_line.specs.{Settings.line_settings, Terminals.are_plain_names};
 ghost use Rattle.model_line.specs.Channels.{AreChannels};
+ghost use Rattle.model_line.specs.{Settings.line_settings, Terminals.are_plain_names};
 
 use crate::line::{Channel, Scheme, Setting, Terminal};
 use crate::name::Name;

@@ -8,8 +8,8 @@ use Rattle.history.specs.Rails.{Ends}
 use Rattle.model_line.specs.Parameters.{param_count, channel_count, delay_param, is_delay}
 use Rattle.model_line.specs.Parameters.{declared_ends}
 use Rattle.model_line.specs.Intervals.{leasts, greatests}
-use Rattle.model_line.specs.{declared.line.Line.Line, WithBounds.IsWithBounds, DelayLaws.delay_at}
 use Rattle.model_line.specs.SameCountLaws.{delay_same}
+use Rattle.model_line.specs.{declared.line.Line.Line, WithBounds.IsWithBounds, DelayLaws.delay_at}
 use Rattle.model_logic.specs.Boxes.{ends_with, box_with, declared_with, IsSameBox}
 use Rattle.model_logic.specs.Choice.{declared_box}
 

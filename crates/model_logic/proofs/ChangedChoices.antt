@@ -5,8 +5,8 @@ use Rattle.std.specs.Prelude.{IsTrue}
 use Rattle.history.specs.Rails.{Ends}
 use Rattle.model_line.specs.Parameters.{param_count, is_delay}
 use Rattle.model_line.specs.SameCountLaws.{channels_same, params_same}
-use Rattle.model_line.specs.{declared.line.Line.Line, SetBounds.SameButParams}
 use Rattle.model_line.specs.WithBounds.{IsWithBounds}
+use Rattle.model_line.specs.{declared.line.Line.Line, SetBounds.SameButParams}
 use Rattle.model_logic.specs.Choice.{Choice, Box, IsIn, IsWithin, IsInside, declared_box}
 use Rattle.model_logic.specs.Boxes.{box_with, IsSameBox}
 use Rattle.model_logic.proofs.ChangedBox.{ends_with-here, ends_with-elsewhere, number_changed}

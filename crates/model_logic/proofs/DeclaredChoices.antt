@@ -1,10 +1,9 @@
 -- The declared intervals: a choice inside, and delays of at least 1.
 use Rattle.std.proofs.Common.{◌≡◌, ℕ, ◌<◌, ◌≤◌, length, get_or, arith}
 use Rattle.std.proofs.lemmas.List.{length-map}
-use Rattle.model_line.specs.Parameters.{param_count, delay_param}
-use Rattle.model_line.specs.Parameters.{declared_ends}
-use Rattle.model_line.specs.{declared.line.Line.Line, Intervals.leasts}
+use Rattle.model_line.specs.Parameters.{param_count, delay_param, declared_ends}
 use Rattle.model_line.specs.DelayLaws.{delay_within}
+use Rattle.model_line.specs.{declared.line.Line.Line, Intervals.leasts}
 use Rattle.model_logic.specs.Choice.{Choice, IsIn, IsInside, DelaysFromOne, LeastFromOne}
 use Rattle.model_logic.specs.Choice.{declared_box, steady_choice}
 

@@ -5,9 +5,8 @@ use Rattle.std.proofs.Common.{get_or, Option, Some, None, refl, sym, ap, ◌∙�
 use Rattle.std.proofs.lemmas.List.{get_or-map, get_or_default}
 use Rattle.std.specs.Prelude.{unwrap_or, is_some}
 use Rattle.std.specs.List.{list_any}
-use Rattle.model_line.specs.Settings.{settings_of_terminals}
-use Rattle.model_line.specs.Settings.{channel_settings, terminal_settings, groups_with, all_of}
-use Rattle.model_line.specs.Settings.{same_setting, setting_place}
+use Rattle.model_line.specs.Settings.{settings_of_terminals, channel_settings, terminal_settings}
+use Rattle.model_line.specs.Settings.{groups_with, all_of, same_setting, setting_place}
 use Rattle.model_line.specs.FirstPositions.{is_some-position, list_any-append_left}
 use Rattle.model_line.specs.FirstPositions.{list_any-append_right}
 use Rattle.model_line.specs.Parameters.{param_number, terminal_count}

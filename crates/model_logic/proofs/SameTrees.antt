@@ -5,12 +5,12 @@ use Rattle.std.specs.Prelude.{false, length, map, get_or, unwrap_or}
 use Rattle.model_line.specs.declared.line.Scheme.TheVariants.{Pott, Putt, Dcb, Dcub, Dtt}
 use Rattle.model_line.specs.declared.script.Element.TheVariants.{Z1, Z2, Rv, Uv, Cur}
 use Rattle.model_line.specs.Settings.{line_settings, setting_number}
+use Rattle.model_line.specs.SameCountLaws.{made_alike}
 use Rattle.model_line.specs.{declared.line.Line.Line, declared.script.Element.Element}
 use Rattle.model_line.specs.{declared.line.Terminal.Terminal, declared.line.Channel.Channel}
 use Rattle.model_line.specs.{declared.line.Scheme.Scheme, declared.line.Owner.Owner}
 use Rattle.model_line.specs.{declared.line.Setting.Setting, SetBounds.SameButParams}
 use Rattle.model_line.specs.{Channels.channel_number, Parameters.terminal_count}
-use Rattle.model_line.specs.SameCountLaws.{made_alike}
 use Rattle.model_logic.specs.Elements.{is_guarded, is_weak, setting_of, seen_timed}
 use Rattle.model_logic.specs.Received.{channel_to, received, over_others, all_others, any_received}
 use Rattle.model_logic.specs.Received.{all_received}

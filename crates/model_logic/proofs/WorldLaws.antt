@@ -7,9 +7,8 @@ use Rattle.model_line.specs.{declared.script.Script.Script, declared.line.Line.L
 use Rattle.model_logic.specs.declared.time.Time.TheVariants.{Zero, Param}
 use Rattle.model_logic.specs.Choice.{Choice, Box, DelaysFromOne, LeastFromOne, steady_choice}
 use Rattle.model_logic.specs.Choice.{point_box, time_by, ends_by, world_of, pair_world_of}
-use Rattle.model_logic.specs.Solution.{IsDelayed}
+use Rattle.model_logic.specs.{Solution.IsDelayed, Covering.IsSameWorld}
 use Rattle.model_logic.specs.{declared.time.Time.Time, PairMean.singles}
-use Rattle.model_logic.specs.Covering.{IsSameWorld}
 
 pub world_delayed : (line : Line) (script : Script) (choice : Choice) → DelaysFromOne line choice
     → IsDelayed line (singles (world_of line script choice))

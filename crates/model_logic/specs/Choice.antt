@@ -3,8 +3,8 @@ use Rattle.std.specs.Prelude.{◌≤◌, ◌<◌, ℕ, List, get_or}
 use Rattle.history.specs.Rails.{Ends, single, IsPartOf}
 use Rattle.model_line.specs.Parameters.{channel_count, param_count, delay_param, declared_ends}
 use Rattle.model_line.specs.Seen.{is_seen, is_lost}
-use Rattle.model_line.specs.{declared.script.Script.Script, declared.line.Line.Line}
 use Rattle.model_line.specs.Channels.{from_of}
+use Rattle.model_line.specs.{declared.script.Script.Script, declared.line.Line.Line}
 use Rattle.model_logic.specs.declared.time.Time.TheVariants.{Zero, Param}
 use Rattle.model_logic.specs.{declared.time.Time.Time, Mean.World, PairMean.PairWorld}
 

@@ -9,8 +9,7 @@ use Rattle.model_logic.specs.Histories.{History, IsLineHistory, Meets, PairHisto
 use Rattle.model_logic.specs.Logic.{key_tree, trip_tree}
 use Rattle.model_logic.specs.Rule.{Held, rule_of}
 use Rattle.model_logic.specs.HeldOver.{IsHeldOver}
-use Rattle.model_line.specs.Parameters.{terminal_count, param_count}
-use Rattle.model_line.specs.Parameters.{is_delay}
+use Rattle.model_line.specs.Parameters.{terminal_count, param_count, is_delay}
 use Rattle.model_line.specs.{declared.line.Line.Line, declared.script.Script.Script}
 use Rattle.model_line.specs.{SetBounds.SameButParams, WithBounds.IsWithBounds}
 

@@ -2,10 +2,9 @@
 -- proofs above can take them as arguments.
 use Rattle.std.specs.Prelude.{◌≡◌, ◌<◌, ◌↔◌, ℕ, Decides}
 use Rattle.history.specs.Rails.{Rails, Covers}
-use Rattle.model_line.specs.Parameters.{terminal_count}
-use Rattle.model_line.specs.Intervals.{leasts}
 use Rattle.model_line.specs.Laws.{ParametersAreNumbered, SettingsAreCounted, DelaysAreParameters}
 use Rattle.model_line.specs.Laws.{DeadlinesAreBelowTheHorizon}
+use Rattle.model_line.specs.{Parameters.terminal_count, Intervals.leasts}
 use Rattle.model_line.specs.{declared.line.Line.Line}
 use Rattle.model_line.specs.{declared.script.Kind.Kind, declared.script.Script.Script}
 use Rattle.model_logic.specs.PairMean.{PairSignals, pair_mean}

@@ -3,8 +3,8 @@ use Rattle.std.specs.Prelude.{ℕ, false, if◌then◌else◌}
 use Rattle.model_line.specs.declared.line.Scheme.TheVariants.{Pott, Putt, Dcb, Dcub, Dtt}
 use Rattle.model_line.specs.declared.line.Setting.TheVariants.{ReversalPickup, ReversalDropout}
 use Rattle.model_line.specs.declared.line.Setting.TheVariants.{EchoBlock, EchoPickup, EchoPulse}
-use Rattle.model_line.specs.{declared.line.Line.Line, declared.line.Scheme.Scheme}
 use Rattle.model_line.specs.declared.line.Setting.{Setting}
+use Rattle.model_line.specs.{declared.line.Line.Line, declared.line.Scheme.Scheme}
 use Rattle.model_line.specs.declared.line.Owner.TheVariants as owner
 use Rattle.model_logic.specs.Tree.{Tree, Const, Not, And, Or, Timer}
 use Rattle.model_logic.specs.Elements.{is_guarded, is_weak, setting_of, zone2, reverse}

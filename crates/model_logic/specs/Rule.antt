@@ -2,8 +2,8 @@
 use Rattle.std.specs.Prelude.{◌≤◌, ◌<◌, ℕ, suc, not, Bool, IsTrue, IsFalse, if◌then◌else◌}
 use Rattle.history.specs.{Rails.Rails, Elements.some_below}
 use Rattle.model_line.specs.declared.script.Kind.TheVariants.{Internal, External}
-use Rattle.model_line.specs.{declared.line.Line.Line, declared.script.Kind.Kind}
 use Rattle.model_line.specs.declared.script.Script.{Script}
+use Rattle.model_line.specs.{declared.line.Line.Line, declared.script.Kind.Kind}
 
 pub data Rule : Type 0 where
   Held : Rule

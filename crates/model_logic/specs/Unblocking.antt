@@ -6,8 +6,8 @@ use Rattle.model_line.specs.{declared.line.Line.Line, declared.line.Setting.Sett
 use Rattle.model_line.specs.declared.line.Owner.TheVariants as owner
 use Rattle.model_logic.specs.Tree.{Tree, Loss, Raw, Not, And, Or, Timer, Seal}
 use Rattle.model_logic.specs.Received.{channel_to, received, all_others}
-use Rattle.model_logic.specs.{declared.time.Time.TheVariants.Zero, declared.time.Time.Time}
 use Rattle.model_logic.specs.Elements.{setting_of}
+use Rattle.model_logic.specs.{declared.time.Time.TheVariants.Zero, declared.time.Time.Time}
 
 -- a setting of the channel to k from j
 unfoldable pub channel_setting : Line → ℕ → ℕ → Setting → Time

@@ -20,10 +20,10 @@ use Rattle.model_line.specs.FirstPositions.{list_any-take_none}
 use Rattle.model_line.specs.Channels.{is_pair, from_of, to_of}
 use Rattle.model_line.specs.Settings.{terminal_settings, channel_settings}
 use Rattle.model_line.specs.ParamNameLaws.{name_at-get, names_of_line}
+use Rattle.model_line.specs.Terminals.{are_plain_names}
 use Rattle.model_line.specs.{declared.line.Line.Line, Parameters.param_count}
 use Rattle.model_line.specs.{declared.line.Param.Param, declared.line.Setting.Setting}
 use Rattle.model_line.specs.{declared.line.Terminal.Terminal, declared.line.Channel.Channel}
-use Rattle.model_line.specs.Terminals.{are_plain_names}
 use Rattle.model_names.specs.ParamNamesApart.{name_of_param, has_no, ParamNamesApart}
 use Rattle.model_names.proofs.SettingTexts.{text_has_no_at, is_other_text, differ}
 use Rattle.model_names.proofs.SettingTexts.{terminal_settings_differ, channel_settings_differ}

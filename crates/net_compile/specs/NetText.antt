@@ -4,8 +4,8 @@ use Rattle.std.specs.Prelude.{None, codes, decimal, length, slice_get}
 use Rattle.model_logic.specs.declared.time.Time.TheVariants.{Zero, Param}
 use Rattle.model_logic.specs.declared.time.Time.{Time}
 use Rattle.model_line.specs.ParamNames.{name_at, channel_name}
-use Rattle.model_line.specs.{declared.line.Line.Line, declared.script.Place.Place}
 use Rattle.model_line.specs.Parameters.{terminal_count}
+use Rattle.model_line.specs.{declared.line.Line.Line, declared.script.Place.Place}
 use Rattle.model_names.specs.NamesByNumber.{element_text, parameter_name}
 use Rattle.gate_net.specs.declared.gate.Gate.TheVariants.{Const, Seen, Loss, Raw, Not, And, Or}
 use Rattle.gate_net.specs.declared.gate.Gate.TheVariants.{Timer, Seal}

@@ -8,9 +8,9 @@ use Rattle.std.specs.List.{count_by, range_with_len}
 use Rattle.history.specs.Rails.{Ends, Rails}
 use Rattle.model_line.specs.Parameters.{delay_param, is_delay, declared_ends}
 use Rattle.model_line.specs.Intervals.{leasts, greatests}
+use Rattle.model_line.specs.WithBounds.{IsWithBounds}
 use Rattle.model_line.specs.{declared.script.Script.Script, declared.line.Line.Line}
 use Rattle.model_line.specs.{declared.line.Param.Param, SameLine.SameLine, SetBounds.SameButParams}
-use Rattle.model_line.specs.WithBounds.{IsWithBounds}
 use Rattle.model_logic.specs.Choice.{Box, Choice, declared_box}
 use Rattle.model_logic.specs.Histories.{History, IsLineHistory, Meets, MeetsBy, PairHistory}
 use Rattle.model_logic.specs.Histories.{IsPairHistory}

@@ -6,11 +6,11 @@ use Rattle.history.specs.Rails.{Ends}
 use Rattle.model_line.specs.Parameters.{channel_count, declared_ends, delay_param, param_count}
 use Rattle.model_line.specs.Parameters.{terminal_count}
 use Rattle.model_line.specs.Seen.{is_lost, is_seen}
+use Rattle.model_line.specs.declared.script.Kind.{Kind}
 use Rattle.model_line.specs.{declared.line.Line.Line, declared.script.Script.Script}
 use Rattle.model_line.specs.{declared.bounds.Bounds.Bounds, declared.line.Param.Param}
 use Rattle.model_line.specs.{Laws.CountsRestOnNoInterval, SetBounds.SameButParams}
 use Rattle.model_line.specs.{declared.script.SeenSpan.SeenSpan, Channels.from_of}
-use Rattle.model_line.specs.declared.script.Kind.{Kind}
 use Rattle.model_logic.specs.Choice.{Choice, IsIn, IsInside, declared_box, steady_choice, world_of}
 use Rattle.model_logic.specs.Choice.{time_by}
 use Rattle.model_logic.specs.Histories.{History, IsLineHistory, Meets, MeetsBy}

@@ -5,9 +5,9 @@ use Rattle.std.proofs.lemmas.Option.{slice_get-map, slice_get_within, get_or_fro
 use Rattle.std.specs.Prelude.{slice_get, slice_set, option_map}
 use Rattle.history.specs.Rails.{Ends}
 use Rattle.model_line.specs.Parameters.{terminal_count, channel_count, param_count, delay_param}
+use Rattle.model_line.specs.Channels.{from_of}
 use Rattle.model_line.specs.{declared.script.SeenSpan.SeenSpan, declared.line.Line.Line}
 use Rattle.model_line.specs.{declared.line.Channel.Channel, declared.script.Script.Script}
-use Rattle.model_line.specs.Channels.{from_of}
 use Rattle.model_logic.specs.Choice.{pair_world_of}
 use Rattle.timing_box.specs.declared.step.Step.{Step}
 use Rattle.simulator.specs.Inputs.{AreDelays, DelaysHold, IsWorldAt, CanReceive}

@@ -9,9 +9,9 @@ use Rattle.std.specs.List.{All, list_all}
 use Rattle.model_line.specs.PlainNames.{is_plain_byte, is_plain_name}
 use Rattle.model_line.specs.ParamNames.{setting_text, name_at, channel_name, owner_name, param_name}
 use Rattle.model_line.specs.Settings.{OwnedSetting, line_settings}
+use Rattle.model_line.specs.declared.line.Setting.{Setting}
 use Rattle.model_line.specs.{declared.line.Line.Line, declared.line.Terminal.Terminal}
 use Rattle.model_line.specs.{declared.line.Channel.Channel, declared.line.Owner.Owner}
-use Rattle.model_line.specs.declared.line.Setting.{Setting}
 use Rattle.model_line.specs.declared.line.Owner.TheVariants as owner
 use Rattle.model_line.specs.declared.line.Setting.TheVariants as setting
 use Rattle.model_names.specs.ParamNamesApart.{name_of_param}

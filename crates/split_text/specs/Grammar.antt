@@ -3,8 +3,8 @@ use Rattle.std.specs.Prelude.{◌≡◌, ◌≤◌, ◌<◌, ◌^◌, ◌++◌, 
 use Rattle.std.specs.Prelude.{decimal, refl}
 use Rattle.std.specs.List.{All, flat_map}
 use Rattle.model_line.specs.Parameters.{terminal_count, param_count}
-use Rattle.model_line.specs.{declared.line.Line.Line, declared.line.Terminal.Terminal}
 use Rattle.model_line.specs.declared.script.Script.{Script}
+use Rattle.model_line.specs.{declared.line.Line.Line, declared.line.Terminal.Terminal}
 use Rattle.model_names.specs.ParamNamesApart.{name_of_param}
 use Rattle.model_logic.specs.Choice.{Box, declared_box}
 use Rattle.text_lines.specs.{Named.named, Grammar.Grammar, Grammar.IsFixed, Grammar.Parts}

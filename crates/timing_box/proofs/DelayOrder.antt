@@ -4,8 +4,8 @@ use Rattle.std.proofs.Math.Nat.{mul-le-mul_right}
 use Rattle.model_line.specs.declared.line.Scheme.TheVariants.{Pott, Putt, Dcb, Dcub, Dtt}
 use Rattle.model_line.specs.Settings.{channel_settings, settings_of_terminals}
 use Rattle.model_line.specs.Parameters.{channel_count, delay_param}
-use Rattle.model_line.specs.{declared.line.Line.Line, declared.line.Scheme.Scheme}
 use Rattle.model_line.specs.Laws.{SettingsAreCounted}
+use Rattle.model_line.specs.{declared.line.Line.Line, declared.line.Scheme.Scheme}
 
 some_settings : (s : Scheme) → 1 ≤ length (channel_settings s)
 some_settings Pott = omega arith

@@ -52,6 +52,20 @@ fn each_pull_fails(rt: HostRuntime) -> Result<(), Fail> {
     Ok(())
 }
 
+// Where one name is given twice, the file is read twice, by two pulls each time.
+#[test]
+fn the_second_read_fails(rt: HostRuntime) -> Result<(), Fail> {
+    let second_read = Faults {
+        pull: 3,
+        ..NO_FAULTS
+    };
+    let files = texts(POTT, FAULT, LEAST);
+    let got = call_with(rt.alloc(), &["play", "l", "l", "t"], files, second_read)?;
+    let told = "store fault scripts\n";
+    assert_ended(&rt, told, &got, Status::StoreFault, "", told);
+    Ok(())
+}
+
 // The play text has 185 bytes, and out takes one a push.
 #[test]
 fn each_push_fails(rt: HostRuntime) -> Result<(), Fail> {
