@@ -8,9 +8,9 @@ use Rattle.std.proofs.lemmas.List.Elements.{All-drop}
 use Rattle.std.proofs.lemmas.List.Folds.{concat-append}
 use Rattle.std.specs.List.{All, AllZip, concat, flat_map}
 use Rattle.tick_signal.specs.declared.tern.Tern.{Tern}
-use Rattle.line_model.specs.Choice.{Box, LeastFromOne, declared_box}
-use Rattle.line_model.specs.Histories.{PairHistory, IsPairHistory}
-use Rattle.line_model.specs.{declared.line.Line.Line, declared.script.Script.Script, Fits.Fits}
+use Rattle.model_logic.specs.Choice.{Box, LeastFromOne, declared_box}
+use Rattle.model_logic.specs.Histories.{PairHistory, IsPairHistory}
+use Rattle.model_line.specs.{declared.line.Line.Line, declared.script.Script.Script, Fits.Fits}
 use Rattle.certify_core.specs.declared.verdict.Verdict.{Verdict}
 use Rattle.certify_core.specs.{declared.verdict.ScriptVerdict.ScriptVerdict, Piece.part_text}
 use Rattle.certify_core.specs.{Piece.piece_text, Verdicts.AreKeys, Verdicts.AreVerdicts}

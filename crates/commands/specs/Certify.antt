@@ -2,8 +2,9 @@
 -- obligation and the keys that show it.
 use Rattle.std.specs.Prelude.{◌≡◌, ◌++◌, ℕ, List, length, map, codes}
 use Rattle.std.specs.List.{AllZip, concat, flat_map}
-use Rattle.line_model.specs.{declared.line.Line.Line, declared.script.Script.Script}
-use Rattle.line_model.specs.{Choice.declared_box, Histories.PairHistory, Histories.IsPairHistory}
+use Rattle.model_line.specs.{declared.line.Line.Line, declared.script.Script.Script}
+use Rattle.model_logic.specs.Histories.{PairHistory, IsPairHistory}
+use Rattle.model_logic.specs.Choice.{declared_box}
 use Rattle.tick_signal.specs.declared.tern.Tern.{Tern}
 use Rattle.certificate.specs.{Grammar.Claims, Text.certificate_text}
 use Rattle.certificate.specs.Grammar.{Verdict as Written}

@@ -1,7 +1,7 @@
 -- The parts of a certificate as they are written, one script after another.
 use Rattle.std.specs.Prelude.{List, IfOk, Result}
 use Rattle.std.specs.List.{AllZip, flat_map}
-use Rattle.line_model.specs.{declared.line.Line.Line, declared.script.Script.Script}
+use Rattle.model_line.specs.{declared.line.Line.Line, declared.script.Script.Script}
 use Rattle.commands.specs.Certify.{IsPart, Part, parts_text, written_verdicts}
 use Rattle.commands.specs.{Sinks.SinkView, Sinks.Writes, Verdicts.IsFoundOf}
 use Rattle.commands.specs.{declared.found.Found.Found, declared.put.WriteStop.WriteStop}

@@ -1,11 +1,12 @@
 -- What is so of every choice of delays where a command has answered a text.
 use Rattle.std.specs.Prelude.{◌≡◌, ◌<◌, ℕ, List, Some, length, slice_get}
 use Rattle.std.specs.List.{concat}
-use Rattle.line_model.specs.{declared.line.Line.Line, declared.script.Script.Script}
-use Rattle.line_model.specs.Choice.{Choice, IsInside, IsWithin}
-use Rattle.line_model.specs.Histories.{History, IsLineHistory, Meets, PairHistory}
-use Rattle.line_model.specs.{NumbersByName.param_named, Parameters.terminal_count}
-use Rattle.line_model.specs.Rule.{Broken, Held, rule_of}
+use Rattle.model_line.specs.{declared.line.Line.Line, declared.script.Script.Script}
+use Rattle.model_line.specs.Parameters.{terminal_count}
+use Rattle.model_logic.specs.Choice.{Choice, IsInside, IsWithin}
+use Rattle.model_logic.specs.Histories.{History, IsLineHistory, Meets, PairHistory}
+use Rattle.model_logic.specs.Rule.{Broken, Held, rule_of}
+use Rattle.model_names.specs.NumbersByName.{param_named}
 use Rattle.timing_report.specs.ReportText.{report_text_of}
 use Rattle.margin_search.specs.declared.upper_end.UpperEnd.{UpperEnd}
 use Rattle.margin_search.specs.{MarginText.margin_line, Raised.raised}

@@ -1,5 +1,5 @@
 use Rattle.std.proofs.lemmas.Result.{err_from_is_err_and}
-use Rattle.line_model.specs.Choice.{declared_box}
+use Rattle.model_logic.specs.Choice.{declared_box}
 use Rattle.commands.proofs.Parts.{part_said}
 use Rattle.commands.proofs.certify.write_part.Goals as goal
 
