@@ -21,6 +21,3 @@ mod unblocking;
 
 pub use formula::Formula;
 pub use logic::{key_formula, trip_formula};
-
-#[cfg(test)]
-mod logic_tests;
