@@ -1,5 +1,4 @@
 //! The plain, slow way to say the logic: formulas that stand for its trees, and their values tick by
-//! The plain, slow way to say the logic: formulas that stand for its trees, and their values tick by
 //! tick. No command uses it: what a command answers comes from the net.
 //!
 //! - `formula` and `build` make formulas; `seen_elements`, and `received` over `others`, are what a
