@@ -9,6 +9,7 @@ ghost use Rattle.headline.specs.Obligations.{IsFailedBy, IsMetByAll};
 ghost use Rattle.commands.specs.{Certify.certify_answer, declared.done.Done.Done};
 ghost use Rattle.pilot_core.specs.{HeadlineLaws.HeadlineLaws, Truths.IsAcceptedAsPrinted};
 
+use crate::record_laws::what_is_recorded_is_true;
 use commands::a_certificate_is_what_is_certified;
 use fault_script::a_file_says_scripts_of_one_file;
 use headline::{what_is_accepted_is_true, what_is_certified_is_true};
@@ -28,6 +29,7 @@ pub fn what_is_answered_is_true()
     a_certificate_is_what_is_certified();
     what_is_certified_is_true();
     what_is_accepted_is_true();
+    what_is_recorded_is_true();
     the_rule_speaks_for_every_choice();
     deadlines_are_below_the_horizon();
     each_line_has_a_choice_inside();

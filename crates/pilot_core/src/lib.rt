@@ -7,6 +7,7 @@ mod dispatch;
 mod files;
 mod laws;
 mod messages;
+mod record_laws;
 mod refusal;
 mod run;
 mod split_depth;

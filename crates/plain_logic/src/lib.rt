@@ -1,5 +1,6 @@
 //! The plain, slow way to say the logic: formulas that stand for its trees, and their values tick by
-//! tick. Tests and laws use it, and no command does: what a command answers comes from the net.
+//! The plain, slow way to say the logic: formulas that stand for its trees, and their values tick by
+//! tick. No command uses it: what a command answers comes from the net.
 //!
 //! - `formula` and `build` make formulas; `seen_elements`, and `received` over `others`, are what a
 //!   terminal sees and hears.
@@ -21,6 +22,3 @@ mod unblocking;
 
 pub use formula::Formula;
 pub use logic::{key_formula, trip_formula};
-
-#[cfg(test)]
-mod logic_tests;

@@ -14,13 +14,14 @@ const LONGEST: u32 = 4_194_304;
 const LONGEST_MESSAGE: u32 = 400;
 
 /// The words that a line has behind `$ pilot`, where `''` is the empty one, or None where the line is
-/// no call.
+/// no call of `pilot`.
 pub fn read_words(alloc: Global, line: &str) -> Result<Option<Vec<String>>, AllocError> {
-    let Some(rest) = line.strip_prefix("$ pilot") else {
+    let mut spelled = line.split_whitespace();
+    if spelled.next() != Some("$") || spelled.next() != Some("pilot") {
         return Ok(None);
-    };
+    }
     let mut words = Vec::new(alloc);
-    for word in rest.split_whitespace() {
+    for word in spelled {
         let word = if word == "''" { "" } else { word };
         words.push(String::from_str(alloc, word)?)?;
     }
@@ -36,9 +37,7 @@ pub fn make_call<F: Store, O: Sink>(
     files: &mut F,
     out: &mut O,
 ) -> Result<(), Fault> {
-    let mut store = MemoryStore::new(alloc);
-    hold_files(alloc, words, files, &mut store)?;
-    change_files(alloc, changes, &mut store)?;
+    let mut store = store_of(alloc, words, changes, files)?;
     let mut err = MemorySink::new(alloc, LONGEST_MESSAGE)?;
     let mut engine = NetEngine::new();
     let status = pilot(alloc, words, &mut engine, &mut store, out, &mut err);
@@ -51,30 +50,44 @@ pub fn make_call<F: Store, O: Sink>(
     Ok(())
 }
 
-// Holds each word's file. A word that no file has for its name is held as none.
-fn hold_files<F: Store>(
+// The files that the words name, as the changes make them.
+fn store_of<F: Store>(
     alloc: Global,
     words: &[String],
+    changes: &[Change],
+    files: &mut F,
+) -> Result<MemoryStore, Fault> {
+    let mut store = MemoryStore::new(alloc);
+    for change in changes {
+        if !words.contains(&change.file) {
+            return Err(Fault::File);
+        }
+    }
+    for word in words.iter().skip(1) {
+        hold_file(alloc, word.as_str(), changes, files, &mut store)?;
+    }
+    Ok(store)
+}
+
+// Holds the file of that name, if there is one, as the changes make it.
+fn hold_file<F: Store>(
+    alloc: Global,
+    name: &str,
+    changes: &[Change],
     files: &mut F,
     store: &mut MemoryStore,
 ) -> Result<(), Fault> {
-    for word in words {
-        match fetch(alloc, files, word.as_str(), LONGEST) {
-            Ok(bytes) => store.hold(word.as_str(), &bytes)?,
-            Err(FetchFault::Failed) => {}
-            Err(fault) => return Err(fault.into()),
+    let is_changed = changes.iter().any(|change| change.file.as_str() == name);
+    let mut bytes = match fetch(alloc, files, name, LONGEST) {
+        Ok(bytes) => bytes,
+        Err(FetchFault::Failed) if !is_changed => return Ok(()),
+        Err(fault) => return Err(fault.into()),
+    };
+    for change in changes {
+        if change.file.as_str() == name {
+            bytes = changed(alloc, change, bytes)?;
         }
     }
-    Ok(())
-}
-
-// Holds the file of each change as it is changed.
-fn change_files(alloc: Global, changes: &[Change], store: &mut MemoryStore) -> Result<(), Fault> {
-    for change in changes {
-        let file = change.file.as_str();
-        let bytes = fetch(alloc, store, file, LONGEST)?;
-        let bytes = changed(alloc, change, bytes)?;
-        store.hold(file, &bytes)?;
-    }
+    store.hold(name, &bytes)?;
     Ok(())
 }

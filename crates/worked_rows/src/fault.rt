@@ -12,8 +12,10 @@ pub enum Fault {
     Cases,
     #[error("this line is no heading, no change and no call")]
     Line,
-    #[error("a call names no file that this line changes")]
+    #[error("a change is of a file that the call does not name, or that is not there")]
     File,
+    #[error("no call comes after this change")]
+    NoCall,
     #[error("the file is no text, or longer than 4194304 bytes")]
     Text,
     #[error("the old text does not stand in the file")]

@@ -9,8 +9,8 @@
 //! - `fill FILE: BYTE -> LENGTH`: in the next call alone, the file is filled up with the byte.
 //! - `$ pilot WORDS`: the call, its text, its line on standard error behind `err: `, its status.
 //!
-//! Any other line, and a change that cannot be made, ends the rows: status 1, and a line on standard
-//! error that says why. The line that was printed last is at fault.
+//! Any other line, and a call with a change that cannot be made, ends the rows: status 1, and a line
+//! on standard error that says why. They end at the line that was printed last.
 #![tactic(auto)]
 
 mod call;
@@ -53,7 +53,7 @@ fn run_rows<F: Store, O: Sink>(alloc: Global, files: &mut F, out: &mut O) -> Res
     if changes.is_empty() {
         Ok(())
     } else {
-        Err(Fault::Line)
+        Err(Fault::NoCall)
     }
 }
 
