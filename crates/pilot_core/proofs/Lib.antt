@@ -6,3 +6,10 @@ pub mod Written
 pub mod Headlines
 pub mod Printed
 pub mod SameValues
+pub mod Reported
+pub mod SameFacts
+pub mod SameFiles
+pub mod SameScripts
+pub mod SameTexts
+pub mod PrintedTrees
+pub mod OneAnswer

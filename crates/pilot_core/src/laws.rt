@@ -1,54 +1,82 @@
 //! What the headline rests on.
-ghost use Rattle.std.specs.Prelude.{◌≡◌, ℕ, List};
+ghost use Rattle.std.specs.Prelude.{◌≡◌, ◌≤◌, ℕ, List};
 ghost use Rattle.std.specs.List.{All};
 ghost use Rattle.line_model.specs.{declared.line.Line.Line, declared.script.Script.Script};
 ghost use Rattle.line_model.specs.Fits.{Fits};
 ghost use Rattle.line_file.specs.Lines.{line_values};
 ghost use Rattle.fault_script.specs.Values.{values_of};
 ghost use Rattle.headline.specs.Obligations.{IsFailedBy, IsMetByAll};
-ghost use Rattle.commands.specs.{Certify.certify_answer, declared.done.Done.Done};
-ghost use Rattle.pilot_core.specs.{HeadlineLaws.HeadlineLaws, Truths.IsAcceptedAsPrinted};
+ghost use Rattle.cert_checker.specs.Counts.{all_verdicts};
+ghost use Rattle.split_checker.specs.Counts.{all_verdicts as all_split_verdicts};
+ghost use Rattle.commands.specs.{Certify.certify_answer, Check.check_answer};
+ghost use Rattle.commands.specs.{Recheck.recheck_answer, Split.split_answer};
+ghost use Rattle.commands.specs.declared.done.Done.{Done};
+ghost use Rattle.pilot_core.specs.{Accepted.counted_line, HeadlineLaws.HeadlineLaws};
 
-use commands::a_certificate_is_what_is_certified;
 use fault_script::a_file_says_scripts_of_one_file;
 use headline::{what_is_accepted_is_true, what_is_certified_is_true};
 use line_model::interval_laws::{
     counts_do_not_rest_on_the_intervals, histories_do_not_rest_on_the_intervals,
 };
 use line_model::laws::{
-    deadlines_are_below_the_horizon, each_line_has_a_choice_inside,
+    a_wider_box_covers, deadlines_are_below_the_horizon, each_line_has_a_choice_inside,
     the_rule_speaks_for_every_choice,
 };
 use margin_search::what_is_held_to_a_number_is_met;
 use own_certificate::what_is_certified_is_accepted;
 use own_splits::what_is_searched_is_accepted;
 use split_checker::accepted_split_trees_are_so;
+use split_text::{printed_results_are_a_split_text, split_results_have_one_text};
+use wave_runs::the_first_tick_is_the_least;
 
 /// What is answered is true of every choice of delays, as the crates below state it.
 pub fn what_is_answered_is_true()
     ensures { HeadlineLaws }
 {
     a_file_says_scripts_of_one_file();
-    a_certificate_is_what_is_certified();
+    counts_do_not_rest_on_the_intervals();
+    histories_do_not_rest_on_the_intervals();
     what_is_certified_is_true();
     what_is_accepted_is_true();
     the_rule_speaks_for_every_choice();
     deadlines_are_below_the_horizon();
     each_line_has_a_choice_inside();
+    a_wider_box_covers();
+    the_first_tick_is_the_least();
     what_is_held_to_a_number_is_met();
     what_is_searched_is_accepted();
     accepted_split_trees_are_so();
+    split_results_have_one_text();
+    printed_results_are_a_split_text();
 }
 
 /// What `certify` prints, `check` accepts, with the counts of the verdicts that gave its status; and
 /// it answers nothing else of it.
 pub fn what_certify_prints_is_accepted()
-    ensures { (line : Line) (scripts : List Script) (d : Done) (text : List ℕ) →
-        All (Fits line) scripts → certify_answer line scripts d text →
-        IsAcceptedAsPrinted line scripts d text }
+    ensures accepted { (line : Line) (scripts : List Script) (d : Done) (text : List ℕ)
+        (is : certify_answer line scripts d text) → All (Fits line) scripts →
+        check_answer line scripts text Done.Good (counted_line (all_verdicts is.claims)) }
+    ensures only { (line : Line) (scripts : List Script) (d other : Done)
+        (text answer : List ℕ) (is : certify_answer line scripts d text) →
+        All (Fits line) scripts → check_answer line scripts text other answer →
+        (other ≡ Done.Good) × (answer ≡ counted_line (all_verdicts is.claims)) }
 {
-    a_certificate_is_what_is_certified();
     what_is_certified_is_accepted();
+}
+
+/// What `split` writes, `recheck` accepts, with the counts of what gave its status; and it answers
+/// nothing else of it.
+pub fn what_split_writes_is_accepted()
+    ensures accepted { (line : Line) (scripts : List Script) (n : ℕ) (d : Done) (text : List ℕ)
+        (is : split_answer line scripts n d text) → n ≤ 8 → All (Fits line) scripts →
+        recheck_answer line scripts text Done.Good
+        (counted_line (all_split_verdicts is.parts)) }
+    ensures only { (line : Line) (scripts : List Script) (n : ℕ) (d other : Done)
+        (text answer : List ℕ) (is : split_answer line scripts n d text) → n ≤ 8 →
+        All (Fits line) scripts → recheck_answer line scripts text other answer →
+        (other ≡ Done.Good) × (answer ≡ counted_line (all_split_verdicts is.parts)) }
+{
+    what_is_searched_is_accepted();
 }
 
 /// That every choice inside meets an obligation, and that these numbers fail it, rests on the values
