@@ -1,6 +1,15 @@
 //! The engine over nets.
 
-ghost use Rattle.std.specs.Prelude.{◌≡◌};
+ghost use Rattle.std.specs.Prelude.{◌≡◌, ◌≤◌, IfOk, MatchResult, length};
+ghost use Rattle.std.specs.List.{All};
+ghost use Rattle.line_model.specs.{Fits.Fits, Histories.History, Histories.IsLineHistory};
+ghost use Rattle.gate_net.specs.NetOf.{IsNetOf};
+ghost use Rattle.simulator.specs.PlayRows.{run_rows};
+ghost use Rattle.timing_box.specs.{Choice.timing_choice, Inside.IsTimingInside};
+ghost use Rattle.cert_checker.specs.Check.{IsAccepted, IsCheckFault, IsSound};
+ghost use Rattle.engine.specs.Calls.{AskedCertify, AskedCheck, AskedPlay, NoneFell};
+ghost use Rattle.engine.specs.Certified.{IsCertified};
+ghost use Rattle.engine.specs.NetCalls.{after_certify, after_check, after_play, calls_of};
 
 use crate::engine::Engine;
 use cert_checker::{CheckFault, Counts, check};
@@ -53,7 +62,18 @@ impl Engine for NetEngine {
         net: &Net,
         script: &Script,
         timing: &NamedTiming,
-    ) -> Result<Vec<u8>, Memory> {
+    ) -> Result<Vec<u8>, Memory>
+        requires of_line { IsNetOf line.now net.now }
+        requires inside { IsTimingInside line.now timing.now.timing }
+        ensures rows { IfOk result (λ text. (h : History) →
+            IsLineHistory line.now script.now (timing_choice line.now timing.now.timing) h →
+            text.items ≡ run_rows timing.now.name script.now.name line.now h) }
+        ensures asked { AskedPlay line.now (calls_of self.old) (calls_of self.new) }
+        ensures kept { NoneFell (calls_of self.old) (calls_of self.new) }
+
+        // Its own number is raised by one, and no other.
+        ensures counted { self.new ≡ after_play self.old }
+    {
         self.plays = self.plays.saturating_add(1);
         play_rows(alloc, line, net, script, timing)
     }
@@ -64,7 +84,14 @@ impl Engine for NetEngine {
         line: &Line,
         net: &Net,
         script: &Script,
-    ) -> Result<ScriptVerdict, Memory> {
+    ) -> Result<ScriptVerdict, Memory>
+        requires of_line { IsNetOf line.now net.now }
+        requires fits { Fits line.now script.now }
+        ensures certified { IfOk result (λ said. IsCertified line.now script.now said) }
+        ensures asked { AskedCertify line.now (calls_of self.old) (calls_of self.new) }
+        ensures kept { NoneFell (calls_of self.old) (calls_of self.new) }
+        ensures counted { self.new ≡ after_certify self.old }
+    {
         self.certifies = self.certifies.saturating_add(1);
         certify(alloc, line, net, script)
     }
@@ -76,7 +103,18 @@ impl Engine for NetEngine {
         net: &Net,
         scripts: &[Script],
         cert: &[u8],
-    ) -> Result<Counts, CheckFault> {
+    ) -> Result<Counts, CheckFault>
+        requires of_line { IsNetOf line.now net.now }
+        requires fits { All (Fits line.now) scripts.now }
+        requires few { length scripts.now ≤ 64 }
+        ensures exact { MatchResult result
+            (λ counts. IsAccepted line.now scripts.now cert.now counts)
+            (λ fault. IsCheckFault line.now scripts.now cert.now fault) }
+        ensures yes { IfOk result (λ _. IsSound line.now scripts.now cert.now) }
+        ensures asked { AskedCheck line.now (calls_of self.old) (calls_of self.new) }
+        ensures kept { NoneFell (calls_of self.old) (calls_of self.new) }
+        ensures counted { self.new ≡ after_check self.old }
+    {
         self.checks = self.checks.saturating_add(1);
         check(alloc, line, net, scripts, cert)
     }

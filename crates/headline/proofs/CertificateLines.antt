@@ -1,5 +1,5 @@
 -- The whole lines of a certificate: each verdict line is one of a claim.
-use Rattle.std.proofs.Common.{◌≡◌, ◌&&◌, ℕ, zero, suc, ◌+◌, ◌<◌, ◌^◌, true, List, [], ◌∷◌, ◌++◌, Some}
+use Rattle.std.proofs.Common.{◌≡◌, ◌&&◌, ℕ, zero, suc, true, List, [], ◌∷◌, ◌++◌, Some}
 use Rattle.std.proofs.Common.{length, drop, get_or, map, refl, sym, ◌∙◌, ap, subst, arith}
 use Rattle.std.proofs.Common.{append_assoc}
 use Rattle.std.proofs.lemmas.List.Elements.{All-head, All-tail}
@@ -8,7 +8,6 @@ use Rattle.std.specs.Prelude.{IsTrue, nat_le, slice_get}
 use Rattle.std.specs.List.{All, flat_map, list_all}
 use Rattle.tick_signal.specs.declared.tern.Tern.{Tern}
 use Rattle.line_model.specs.{declared.line.Line.Line, declared.script.Script.Script}
-use Rattle.line_model.specs.{NamesByNumber.terminal_name, Parameters.terminal_count}
 use Rattle.line_model.specs.PlainNames.{is_plain_byte, is_plain_name}
 use Rattle.line_model.specs.{Terminals.are_plain_names, declared.line.Terminal.Terminal}
 use Rattle.text_lines.specs.Lines.{BeginsWith, Lines}
@@ -16,19 +15,19 @@ use Rattle.text_lines.specs.LineLaws.{both_true}
 use Rattle.text_lines.specs.NamedLaws.{first_same}
 use Rattle.certificate.specs.Grammar.{Claims, HasNumbers, HasOneEach, IsCertificate, Place, Said}
 use Rattle.certificate.specs.Grammar.{Stands, Verdict, yes, no, undecided, end_text, fixed}
-use Rattle.certificate.specs.Grammar.{head_text, key_of, key_text, numbers_text, opens_none}
+use Rattle.certificate.specs.Grammar.{head_text, key_of, key_text, opens_none}
 use Rattle.certificate.specs.Grammar.{part_places, part_said, says_key, says_nothing, says_verdict}
 use Rattle.certificate.specs.Grammar.{script_text, terminal_names, verdict_of, verdict_text}
 use Rattle.certificate.specs.Grammar.{verdict_words}
 use Rattle.certificate.specs.{NameLaws.names_count, NumberLaws.numbers_tell}
 use Rattle.headline.specs.Printed.{HasShortNumbers, HasVerdict, HoldsOf}
-use Rattle.headline.specs.WholeLines.{IsScriptLine, StandsUnder, whole_lines}
+use Rattle.headline.specs.WholeLines.{whole_lines}
 use Rattle.headline.proofs.Lines.{AllGood, GoodUnder, first_whole, front_whole, good_front}
 use Rattle.headline.proofs.Lines.{good_there}
 
 -- ---- a verdict line tells its terminal and its verdict
 
-all_plain : (name : List ℕ) → IsTrue (is_plain_name name) → list_all is_plain_byte name ≡ true
+pub all_plain : (name : List ℕ) → IsTrue (is_plain_name name) → list_all is_plain_byte name ≡ true
 all_plain name plain =
     (both_true (nat_le (length name) 16) (list_all is_plain_byte name)
     (both_true (nat_le 1 (length name))
@@ -38,7 +37,7 @@ space_is_none : {X : Type 0} → is_plain_byte 32 ≡ true → X
 space_is_none e = absurd (cc)
 
 -- what stands before the first space
-names_tell : (name other more rest : List ℕ) → list_all is_plain_byte name ≡ true
+pub names_tell : (name other more rest : List ℕ) → list_all is_plain_byte name ≡ true
     → list_all is_plain_byte other ≡ true → name ++ 32 ∷ more ≡ other ++ 32 ∷ rest
     → (name ≡ other) × (more ≡ rest)
 names_tell [] [] more rest plain known same = (refl, ap (drop 1) same)

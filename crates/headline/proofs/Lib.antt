@@ -2,3 +2,4 @@ pub mod Lines
 pub mod Truth
 pub mod CertificateLines
 pub mod Statuses
+pub mod MatchLines

@@ -1,11 +1,11 @@
 -- What the verdicts of a script say is true.
-use Rattle.std.proofs.Common.{◌≡◌, ◌≢◌, ℕ, zero, suc, ◌<◌, List, [], ◌∷◌, Some, map, refl, sym, ◌∙◌}
+use Rattle.std.proofs.Common.{◌≡◌, ◌≢◌, ℕ, zero, suc, ◌<◌, List, [], ◌∷◌, Some, map, refl}
 use Rattle.std.proofs.Common.{subst, arith}
 use Rattle.std.proofs.lemmas.Option.{slice_get_within}
 use Rattle.std.specs.Prelude.{slice_get}
 use Rattle.line_model.specs.{declared.line.Line.Line, declared.script.Script.Script}
 use Rattle.line_model.specs.Choice.{Choice, IsInside, declared_box, steady_choice}
-use Rattle.line_model.specs.Histories.{IsLineHistory, History, with_derived_trips}
+use Rattle.line_model.specs.Histories.{IsLineHistory, with_derived_trips}
 use Rattle.line_model.specs.{Laws.LineLaws, Parameters.terminal_count, Fits.Fits}
 use Rattle.line_model.specs.Rule.{Rule, Held, Broken, Unknown, rule_of}
 use Rattle.timing_box.specs.Laws.{CandidatesAreInside, TimingsInsideAreChoicesInside}
@@ -17,10 +17,10 @@ use Rattle.certify_core.specs.{Piece.written_as, Verdicts.IsOpen, Verdicts.IsVer
 use Rattle.cert_checker.specs.{Claims.pairs_of, Refutations.steady_timing, Verdicts.AreAccepted}
 use Rattle.cert_checker.specs.Refutations.{IsRefutation}
 use Rattle.own_certificate.specs.Certified.{IsCertified}
-use Rattle.headline.specs.Obligations.{HoldsAsAccepted, HoldsAsCertified, IsFailedBy, IsMetByAll}
+use Rattle.headline.specs.Obligations.{HoldsAsAccepted, HoldsAsCertified, IsFailedBy}
 use Rattle.headline.specs.Obligations.{IsUnknown}
 
-same_choice : (line : Line) (values : List ℕ)
+pub same_choice : (line : Line) (values : List ℕ)
     → timing_choice line (steady_timing values) ≡ steady_choice line values
 unfolding timing_choice steady_choice
 same_choice line values = refl

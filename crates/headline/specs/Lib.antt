@@ -1,3 +1,4 @@
 pub mod WholeLines
 pub mod Obligations
 pub mod Printed
+pub mod Matched

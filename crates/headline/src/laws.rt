@@ -1,6 +1,6 @@
 //! The laws of what verdicts say.
 
-ghost use Rattle.std.specs.Prelude.{◌≡◌, ◌++◌, ℕ, true, false, List, Some, slice_get};
+ghost use Rattle.std.specs.Prelude.{◌≡◌, ◌++◌, ℕ, Bool, true, false, List, Some, slice_get};
 ghost use Rattle.std.specs.List.{All, list_any};
 ghost use Rattle.line_model.specs.{declared.line.Line.Line, declared.script.Script.Script};
 ghost use Rattle.line_model.specs.Fits.{Fits};
@@ -10,12 +10,17 @@ ghost use Rattle.cert_checker.specs.declared.counts.Counts.{Counts};
 ghost use Rattle.cert_checker.specs.{Check.IsAccepted, Verdicts.AreAccepted};
 ghost use Rattle.own_certificate.specs.Certified.{IsCertified, AreCertified};
 ghost use Rattle.cert_checker.specs.Counts.{all_verdicts, is_no, is_undecided};
+ghost use Rattle.record_match.specs.{Answer.IsMatchAnswer, Recorded.IsRecordOf};
+ghost use Rattle.record_match.specs.Waves.{SeenValues};
+ghost use Rattle.headline.specs.Matched.{HasMatch, HoldsOfRecord, HoldsOfRecordAt, Matched};
 ghost use Rattle.headline.specs.Obligations.{AllMet, HoldsAsAccepted, HoldsAsCertified};
 ghost use Rattle.headline.specs.Obligations.{HoldsSomewhere, IsFailedBySome, IsUnknown};
 ghost use Rattle.headline.specs.Printed.{HasVerdict, HoldsOf};
 
+use line_model::interval_laws::declared_intervals_are_in_order;
 use line_model::laws::line_laws;
 use own_certificate::what_is_certified_is_accepted;
+use record_match::what_a_choice_gives_is_allowed;
 use timing_box::{candidates_are_inside, timings_inside_are_choices_inside};
 
 /// Where claims are accepted, what their verdicts say is true: of a script, and of each whole line
@@ -63,4 +68,20 @@ pub fn what_is_certified_is_true()
     timings_inside_are_choices_inside();
     what_is_accepted_is_true();
     what_is_certified_is_accepted();
+}
+
+/// What a line says of a record of the field is true, of each whole line of a front of the text.
+pub fn what_is_matched_is_true()
+    ensures { (line : Line) (scripts : List Script) (records : List SeenValues)
+        (some_impossible some_open : Bool) (text front rest name : List ℕ) (i : ℕ)
+        (said : Matched) → All (Fits line) scripts → All (IsRecordOf line scripts) records →
+        IsMatchAnswer line scripts records some_impossible some_open text →
+        front ++ rest ≡ text → HasMatch front i name said →
+        HoldsOfRecordAt line scripts records i name (HoldsOfRecord said) }
+{
+    line_laws();
+    declared_intervals_are_in_order();
+    candidates_are_inside();
+    timings_inside_are_choices_inside();
+    what_a_choice_gives_is_allowed();
 }

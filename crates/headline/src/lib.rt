@@ -4,4 +4,4 @@
 
 mod laws;
 
-pub use laws::{what_is_accepted_is_true, what_is_certified_is_true};
+pub use laws::{what_is_accepted_is_true, what_is_certified_is_true, what_is_matched_is_true};

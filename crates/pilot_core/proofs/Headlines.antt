@@ -22,6 +22,9 @@ use Rattle.commands.specs.Split.{IsSplitOf}
 use Rattle.pilot_core.specs.{HeadlineLaws.HeadlineLaws, Reading.no_other_file}
 use Rattle.pilot_core.specs.{Reading.of_parameter, Reading.third_file}
 use Rattle.pilot_core.specs.Truths.{MarginIsTrue, ReportIsTrue, SplitIsTrue}
+use Rattle.pilot_core.proofs.Told.{IsAnswerFront, bytes_told, done_put, front_of_nothing, is_told}
+use Rattle.pilot_core.proofs.Told.{no_line, study_said, three_told, two_limits, what_was_put}
+use Rattle.pilot_core.proofs.{Matched.match_true, Played.play_begun, Played.play_true}
 use Rattle.pilot_core.specs.Words.{TwoFiles, margin, own_file, report, split}
 use Rattle.pilot_core.specs.declared.words.ThreeFiles.{ThreeFiles}
 use Rattle.std.proofs.Common.{inl, inr, ⊎_elim}
@@ -68,114 +71,6 @@ use Rattle.pilot_core.proofs.Reported.{report_true}
 use Rattle.pilot_core.proofs.SameFiles.{Moves, accepted_in, certified_in, in_files, margin_on}
 use Rattle.pilot_core.proofs.SameFiles.{report_on, split_on, told_by_on}
 
--- ---- what was put is nothing, or a front of a text that may be answered
-
--- it is a front of the text
-record IsFront (put text : List ℕ) : Type 0 where
-  pub rest : List ℕ
-  pub is : put ++ rest ≡ text
-
--- a front of a text that may be answered
-record IsAnswerFront (allowed : CallAnswers) (put : List ℕ) : Type 0 where
-  pub status : Status
-  pub text : List ℕ
-  pub line : List ℕ
-  pub is : allowed status text line
-  pub front : IsFront put text
-
--- what a sink grew by is what was put
-grew_put : (old new : Option (List ℕ)) (before put text : List ℕ) → old ≡ Some before
-    → new ≡ Some (before ++ put) → Appends old new text → put ≡ text
-grew_put None new before put text told after grew = absurd (cc)
-grew_put (Some a) None before put text told after grew = absurd grew
-grew_put (Some a) (Some b) before put text told after grew =
-    append_cancel_left before put text
-    (sym (same_Some b (before ++ put) after) ∙ grew
-    ∙ ap (λ (l : List ℕ). l ++ text) (same_Some a before told))
-
-kept_put : (old new : Option (List ℕ)) (before put : List ℕ) → old ≡ Some before
-    → new ≡ Some (before ++ put) → Keeps old new → put ≡ []
-kept_put None new before put told after kept = absurd (cc)
-kept_put (Some a) None before put told after kept = absurd kept
-kept_put (Some a) (Some b) before put told after kept =
-    append_cancel_left before put []
-    (sym (same_Some b (before ++ put) after) ∙ kept ∙ same_Some a before told
-    ∙ sym (append-nil before))
-
-module _ {K : Type 0} (view : K → SinkView) (old new : K) (files : List ℕ → Option (List ℕ))
-    (c1 c2 : List ℕ → ℕ) (put : List ℕ) (has : HasPut (view old) (view new) put) where
-  kept_nothing : Keeps (view old).written (view new).written → put ≡ []
-  kept_nothing kept =
-      kept_put (view old).written (view new).written has.before put has.told_before has.told_after
-      kept
-
-  same_nothing : new ≡ old → put ≡ []
-  same_nothing is =
-      kept_nothing
-      (subst (λ (k : K). Keeps (view old).written (view k).written) (sym is)
-      (keeps_same (view old).written))
-
-  grew_front : (text : List ℕ) (n : ℕ)
-      → Appends (view old).written (view new).written (take n text) → IsFront put text
-  grew_front text n grew =
-      let is : put ≡ take n text =
-      grew_put (view old).written (view new).written has.before put (take n text) has.told_before
-      has.told_after grew in
-      record {
-        rest = drop n text;
-        is = ap (λ (l : List ℕ). l ++ drop n text) is ∙ take-append-drop n text;
-      }
-
-  grew_whole : (text : List ℕ) → Appends (view old).written (view new).written text
-      → IsFront put text
-  grew_whole text grew = record {
-    rest = [];
-    is = append-nil put
-        ∙ grew_put (view old).written (view new).written has.before put text has.told_before
-        has.told_after grew;
-  }
-
-  -- what a command that is told put on out
-  what_was_put : (x : Command) (r : Result Status Stop)
-      → EndsOf view (Some x) files c1 c2 old new r → AllTold files (files_of x)
-      → (put ≡ []) ⊎ IsAnswerFront (answers (Some x) files) put
-  what_was_put x (Ok s) e told = inr (record {
-    status = s;
-    text = e.1.1;
-    line = [];
-    is = e.1.2 told;
-    front = grew_whole e.1.1 e.1.3.taken;
-  })
-  what_was_put x (Err stop.Usage) e told = absurd e.1
-  what_was_put x (Err (stop.Refused why)) e told = inl (same_nothing e.1.1)
-  what_was_put x (Err (stop.Store f)) e told = inl (same_nothing e.1)
-  what_was_put x (Err stop.Sink) e told = inr (record {
-    status = e.1.1;
-    text = e.1.2;
-    line = e.1.3;
-    is = e.1.4 told;
-    front = grew_front e.1.2 e.1.5.count e.1.5.taken;
-  })
-  what_was_put x (Err stop.Memory) e told =
-      ⊎_elim (λ kept. inl (kept_nothing kept))
-      (λ grew. inr (record {
-        status = grew.0;
-        text = grew.1;
-        line = grew.2;
-        is = grew.3 told;
-        front = grew_front grew.1 grew.4.count grew.4.taken;
-      }))
-      e.1.1
-
-no_line : {X : Type 0} (before : List (List ℕ)) (line : List ℕ) (after : List (List ℕ))
-    → [] ≡ before ++ line ∷ after → X
-no_line [] line after same = absurd (cc)
-no_line (b ∷ before) line after same = absurd (cc)
-
-front_of_nothing : (put rest : List ℕ) → put ++ rest ≡ [] → put ≡ []
-front_of_nothing [] rest same = refl
-front_of_nothing (b ∷ put) rest same = absurd (cc)
-
 -- nothing has no verdict
 nothing_said : {X : Type 0} (put name terminal : List ℕ) (verdict : Verdict) → put ≡ []
     → HasVerdict put name terminal verdict → X
@@ -183,64 +78,6 @@ nothing_said put name terminal verdict none has =
     no_line has.stands.before (script_text name)
     (has.stands.between ++ verdict_text terminal verdict ∷ has.stands.after)
     (sym (ap whole_lines none) ∙ has.stands.lines_are)
-
--- ---- what the files say
-
-module _ {X : Type 0} (refused : Refusal → Type 0) (not_refused : (why : Refusal) → refused why → X)
-  where
-    line_said : (r : Result LineValues LineFault) (holds : Line → Type 0)
-        → of_line r refused holds
-        → ((line : Line) → r ≡ Ok (line_values line) → holds line → X) → X
-    line_said (Ok values) holds is then = then is.0 (ap Ok (sym is.1)) is.2
-    line_said (Err why) holds is then = not_refused (refusal.Line why) is
-
-    scripts_said : (line : Line) (r : Result (List ScriptValues) ScriptFault)
-        (holds : List Script → Type 0) → of_scripts line r refused holds
-        → ((scripts : List Script) → r ≡ Ok (map values_of scripts) → All (Fits line) scripts
-        → holds scripts → X)
-        → X
-    scripts_said line (Ok values) holds is then = then is.0 (ap Ok (sym is.1)) is.2 is.3
-    scripts_said line (Err why) holds is then = not_refused (refusal.Scripts why) is
-
-    study_said : (line_bytes scripts_bytes : List ℕ) (holds : Line → List Script → Type 0)
-        → of_study line_bytes scripts_bytes refused holds
-        → ((line : Line) (scripts : List Script) → line_of line_bytes ≡ Ok (line_values line)
-        → scripts_of line scripts_bytes ≡ Ok (map values_of scripts) → All (Fits line) scripts
-        → holds line scripts → X)
-        → X
-    study_said line_bytes scripts_bytes holds is then =
-        line_said (line_of line_bytes)
-        (λ line. of_scripts line (scripts_of line scripts_bytes) refused (holds line)) is
-        (λ line line_is more.
-        scripts_said line (scripts_of line scripts_bytes) (holds line) more
-        (λ scripts scripts_are fit held. then line scripts line_is scripts_are fit held))
-
--- the files are there, or one of them is too long
-two_limits : {X : Type 0} (P : Result (List (List ℕ)) File → Type 0) (a b : List ℕ) (f g : File)
-    (o p : Bool)
-    → P (cond o (Err f) (in_front a (cond p (Err g) (in_front b (Ok [])))))
-    → ((h : File) → P (Err h) → X) → (P (Ok (a ∷ b ∷ [])) → X) → X
-two_limits P a b f g true p is long short = long f is
-two_limits P a b f g false true is long short = long g is
-two_limits P a b f g false false is long short = short is
-
-three_limits : {X : Type 0} (P : Result (List (List ℕ)) File → Type 0) (a b c : List ℕ)
-    (f g h : File) (o p q : Bool)
-    → P (cond o (Err f) (in_front a (cond p (Err g) (in_front b (cond q (Err h)
-    (in_front c (Ok [])))))))
-    → ((k : File) → P (Err k) → X) → (P (Ok (a ∷ b ∷ c ∷ [])) → X) → X
-three_limits P a b c f g h true p q is long short = long f is
-three_limits P a b c f g h false true q is long short = long g is
-three_limits P a b c f g h false false true is long short = long h is
-three_limits P a b c f g h false false false is long short = short is
-
-bytes_told : (files : List ℕ → Option (List ℕ)) (name bytes : List ℕ) → files name ≡ Some bytes
-    → unwrap_or (files name) [] ≡ bytes
-bytes_told files name bytes told = ap (λ (o : Option (List ℕ)). unwrap_or o []) told
-
-is_told : (files : List ℕ → Option (List ℕ)) (name bytes : List ℕ) → files name ≡ Some bytes
-    → IsSome (files name)
-is_told files name bytes told = subst (λ (o : Option (List ℕ)). IsSome o) (sym told) refl
 
 -- ---- certify
 
@@ -360,32 +197,8 @@ module _ (files : List ℕ → Option (List ℕ))
       → answers (Some (three_files command line scripts cert)) files status.Good text message
       → X
   three_said {X} command then is =
-      three_limits
-      (λ r. over_files (three_files command line scripts cert) r Never
-      (λ w. done_with (answer w) status.Good text message))
-      (unwrap_or (files line) []) (unwrap_or (files scripts) []) (unwrap_or (files cert) [])
-      file.Line file.Scripts (own_file command)
-      (nat_lt (limit_of file.Line) (length (unwrap_or (files line) [])))
-      (nat_lt (limit_of file.Scripts) (length (unwrap_or (files scripts) [])))
-      (nat_lt (limit_of (own_file command)) (length (unwrap_or (files cert) []))) is
-      (λ f long. never (refusal.TooLong f) long)
-      (λ read.
-      study_said Never never line_bytes scripts_bytes
-      (λ of all. third_file command cert_bytes of all Never
-      (λ w. done_with (answer w) status.Good text message))
-      (subst (λ (b : List ℕ). of_study line_bytes scripts_bytes Never
-      (λ of all. third_file command b of all Never
-      (λ w. done_with (answer w) status.Good text message)))
-      (bytes_told files cert cert_bytes cert_told)
-      (subst (λ (b : List ℕ). of_study line_bytes b Never
-      (λ of all. third_file command (unwrap_or (files cert) []) of all Never
-      (λ w. done_with (answer w) status.Good text message)))
-      (bytes_told files scripts scripts_bytes scripts_told)
-      (subst (λ (b : List ℕ). of_study b (unwrap_or (files scripts) []) Never
-      (λ of all. third_file command (unwrap_or (files cert) []) of all Never
-      (λ w. done_with (answer w) status.Good text message)))
-      (bytes_told files line line_bytes line_told) read)))
-      then)
+      three_told files line scripts cert line_bytes scripts_bytes cert_bytes line_told scripts_told
+      cert_told status.Good text message command never then is
 
   -- where a check is good, it has accepted
   counts_of : {X Fault : Type 0} (accepted : Counts → Type 0) (fault : Fault → Type 0)
@@ -508,21 +321,6 @@ module _ {K : Type 0} (view : K → SinkView) (old new : K) (files : List ℕ �
         (is_told files scripts scripts_bytes scripts_told, tt),
       ))
 
-  -- what a command that is done put on out is its answer
-  done_put : (x : Command) (r : Result Status Stop) → EndsOf view (Some x) files c1 c2 old new r
-      → IsDone (status_of r) → AllTold files (files_of x) → (put : List ℕ)
-      → HasPut (view old) (view new) put → answers (Some x) files (status_of r) put []
-  done_put x (Ok s) e done told put has =
-      subst (λ (t : List ℕ). answers (Some x) files s t [])
-      (sym (grew_put (view old).written (view new).written has.before put e.1.1 has.told_before
-      has.told_after e.1.3.taken))
-      (e.1.2 told)
-  done_put x (Err stop.Usage) e done told put has = absurd done
-  done_put x (Err (stop.Refused why)) e done told put has = absurd done
-  done_put x (Err (stop.Store f)) e done told put has = absurd done
-  done_put x (Err stop.Sink) e done told put has = absurd done
-  done_put x (Err stop.Memory) e done told put has = absurd done
-
   two_put : (work : TwoFiles) (command : Option Command) (r : Result Status Stop)
       → EndsOf view command files c1 c2 old new r
       → (line scripts line_bytes scripts_bytes put : List ℕ) → IsDone (status_of r)
@@ -541,7 +339,7 @@ module _ {K : Type 0} (view : K → SinkView) (old new : K) (files : List ℕ �
       (λ of all line_is scripts_are fit said.
       in_files known.one_file line_bytes scripts_bytes Fact moves of all line_is scripts_are
       (follows of all fit said))
-      (done_put (two_files work line scripts) r
+      (done_put view old new files c1 c2 (two_files work line scripts) r
       (subst (λ (x : Option Command). EndsOf view x files c1 c2 old new r) is e) done (
         is_told files line line_bytes line_told,
         (is_told files scripts scripts_bytes scripts_told, tt),
@@ -632,6 +430,9 @@ module _ {K : Type 0} (view : K → SinkView) (old new : K) (files : List ℕ �
     printed = certify_true command r e;
     status_says = status_true command r e;
     accepted = check_true command r e;
+    matched = match_true view old new files c1 c2 known command r e;
+    played = play_true view old new files c1 c2 known command r e;
+    play_begun = play_begun view old new files c1 c2 known command r e;
     reported = λ line scripts line_bytes scripts_bytes put done is line_told scripts_told has.
         two_put report command r e line scripts line_bytes scripts_bytes put done is line_told
         scripts_told has (λ of all. ReportIsTrue of all put)

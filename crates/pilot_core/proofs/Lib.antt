@@ -3,6 +3,9 @@ pub mod Fetching
 pub mod Reading
 pub mod Results
 pub mod Written
+pub mod Told
+pub mod Matched
+pub mod Played
 pub mod Headlines
 pub mod Printed
 pub mod SameValues

@@ -4,12 +4,15 @@ use Rattle.std.specs.Prelude.{◌≡◌, ◌++◌, ℕ, List, Option, Some}
 use Rattle.line_model.specs.{declared.line.Line.Line, declared.script.Script.Script}
 use Rattle.certificate.specs.Grammar.{Verdict}
 use Rattle.commands.specs.Sinks.{SinkView}
+use Rattle.std.specs.Prelude.{[]}
+use Rattle.headline.specs.Matched.{HasMatch, Matched}
 use Rattle.headline.specs.Obligations.{AllMet, HoldsAsAccepted, HoldsAsCertified, HoldsSomewhere}
 use Rattle.headline.specs.Obligations.{IsFailedBySome, IsUnknown}
 use Rattle.headline.specs.Printed.{HasVerdict, HoldsOf}
 use Rattle.pilot_core.specs.{SaidByFiles.InFiles, Truths.MarginIsTrue, Truths.ReportIsTrue}
 use Rattle.pilot_core.specs.Truths.{SplitIsTrue}
 use Rattle.pilot_core.specs.Words.{Command, certify, margin, report, split, three_files, two_files}
+use Rattle.pilot_core.specs.{MatchTruths.IsMatchTrue, PlayTruths.IsPlayTrue}
 use Rattle.pilot_core.specs.{Status.IsDone, declared.stop.Status.Status}
 use Rattle.pilot_core.specs.declared.stop.Status.TheVariants as status
 use Rattle.pilot_core.specs.declared.words.ThreeFiles.TheVariants as three
@@ -56,6 +59,27 @@ pub record Headline (command : Option Command) (files : List ℕ → Option (Lis
       → files line ≡ Some line_bytes → files scripts ≡ Some scripts_bytes
       → files cert ≡ Some cert_bytes → HasVerdict cert_bytes name terminal verdict
       → HoldsInFiles line_bytes scripts_bytes name terminal (HoldsAsAccepted verdict)
+  -- Where `match` has put a whole line i `NAME explained NUMBERS`, however the call ended, the
+  -- numbers are a choice inside whose history is what record i of the field says; under `NAME
+  -- impossible`, no history of any choice inside is; under `NAME open`, the interval rules exclude
+  -- nothing of it, and no candidate's history is.
+  pub matched : (line scripts entries line_bytes scripts_bytes record_bytes put name : List ℕ)
+      (i : ℕ) (said : Matched) → command ≡ Some (three_files three.Match line scripts entries)
+      → files line ≡ Some line_bytes → files scripts ≡ Some scripts_bytes
+      → files entries ≡ Some record_bytes → HasPut out_old out_new put → HasMatch put i name said
+      → IsMatchTrue line_bytes scripts_bytes record_bytes i name said
+  -- What `play` has put is the rows of the histories of its timings; and what it has put of them,
+  -- however the call ended, is a front of these rows, if it is anything.
+  pub played : (line scripts timings line_bytes scripts_bytes timings_bytes put : List ℕ)
+      → IsDone s → command ≡ Some (three_files three.Play line scripts timings)
+      → files line ≡ Some line_bytes → files scripts ≡ Some scripts_bytes
+      → files timings ≡ Some timings_bytes → HasPut out_old out_new put
+      → IsPlayTrue line_bytes scripts_bytes timings_bytes put
+  pub play_begun : (line scripts timings line_bytes scripts_bytes timings_bytes put : List ℕ)
+      → command ≡ Some (three_files three.Play line scripts timings)
+      → files line ≡ Some line_bytes → files scripts ≡ Some scripts_bytes
+      → files timings ≡ Some timings_bytes → HasPut out_old out_new put → ¬ (put ≡ [])
+      → (rest : List ℕ) × IsPlayTrue line_bytes scripts_bytes timings_bytes (put ++ rest)
   -- What `report` has put is a true report, what `margin` has put the line of a true margin, and what
   -- `split` has put are true split trees; and trees that `recheck` has accepted are true, whoever
   -- wrote them.

@@ -24,6 +24,7 @@ use Rattle.own_splits.specs.Searched.{AreSearched}
 use Rattle.headline.specs.Obligations.{AllMet, HoldsAsAccepted, HoldsAsCertified, HoldsSomewhere}
 use Rattle.headline.specs.Obligations.{IsFailedBySome, IsUnknown}
 use Rattle.headline.specs.Printed.{HasVerdict, HoldsOf}
+use Rattle.pilot_core.specs.RecordLaws.{RecordLaws}
 
 pub record HeadlineLaws : Type 0 where
   pub one_file : (line : Line) (bytes : List ℕ) (scripts : List ScriptValues)
@@ -53,6 +54,8 @@ pub record HeadlineLaws : Type 0 where
       (name terminal : List ℕ) (verdict : Verdict) → All (Fits line) scripts
       → IsAccepted line scripts bytes counts → HasVerdict bytes name terminal verdict
       → HoldsOf line scripts name terminal (HoldsAsAccepted verdict)
+  -- records of the field, and plays
+  pub of_records : RecordLaws
   -- rules, margins and split trees
   pub rules : TheRuleSpeaksForEveryChoice
   pub deadlines : DeadlinesAreBelowTheHorizon

@@ -8,6 +8,9 @@ pub mod Ends
 pub mod Files
 pub mod Headline
 pub mod HeadlineLaws
+pub mod RecordLaws
+pub mod MatchTruths
+pub mod PlayTruths
 pub mod Truths
 pub mod Messages
 pub mod Reading

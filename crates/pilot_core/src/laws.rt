@@ -13,6 +13,7 @@ ghost use Rattle.commands.specs.{Recheck.recheck_answer, Split.split_answer};
 ghost use Rattle.commands.specs.declared.done.Done.{Done};
 ghost use Rattle.pilot_core.specs.{Accepted.counted_line, HeadlineLaws.HeadlineLaws};
 
+use crate::record_laws::what_is_recorded_is_true;
 use fault_script::a_file_says_scripts_of_one_file;
 use headline::{what_is_accepted_is_true, what_is_certified_is_true};
 use line_model::interval_laws::{
@@ -38,6 +39,7 @@ pub fn what_is_answered_is_true()
     histories_do_not_rest_on_the_intervals();
     what_is_certified_is_true();
     what_is_accepted_is_true();
+    what_is_recorded_is_true();
     the_rule_speaks_for_every_choice();
     deadlines_are_below_the_horizon();
     each_line_has_a_choice_inside();

@@ -8,6 +8,7 @@ mod files;
 mod laws;
 mod messages;
 mod one_answer;
+mod record_laws;
 mod refusal;
 mod run;
 mod split_depth;

@@ -6,3 +6,4 @@ pub mod NamedLaws
 pub mod LevelLaws
 pub mod AnswerLaws
 pub mod OneMatch
+pub mod OneRecord

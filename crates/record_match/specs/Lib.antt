@@ -11,3 +11,4 @@ pub mod Records
 pub mod Waves
 pub mod Faults
 pub mod Answer
+pub mod Recorded

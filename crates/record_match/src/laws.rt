@@ -1,11 +1,14 @@
-//! The law of records.
+//! The laws of records.
 
-ghost use Rattle.std.specs.Prelude.{◌≡◌, ◌<◌, ℕ, Bool};
+ghost use Rattle.std.specs.Prelude.{◌≡◌, ◌<◌, ℕ, Bool, List, Ok};
+ghost use Rattle.std.specs.List.{All};
 ghost use Rattle.line_model.specs.Histories.{History, IsLineHistory, IsSameHistory};
 ghost use Rattle.line_model.specs.{declared.line.Line.Line, declared.script.Script.Script};
 ghost use Rattle.line_model.specs.{Parameters.terminal_count, Choice.Choice, Choice.IsInside};
 ghost use Rattle.record_match.specs.{declared.seen.Seen.Seen, Seen.AreSeen, Seen.seen_history};
 ghost use Rattle.record_match.specs.{declared.seen.Match.Match, Clash.IsAllowed, Match.IsMatch};
+ghost use Rattle.record_match.specs.Recorded.{IsRecordOf};
+ghost use Rattle.record_match.specs.Waves.{SeenValues, records_said};
 
 use line_model::laws::line_laws;
 
@@ -26,4 +29,12 @@ pub fn what_a_choice_gives_is_allowed()
 pub fn a_record_is_settled_once()
     ensures { (line : Line) (script : Script) (seen : Seen) (a b : Match) →
         IsMatch line script seen a → IsMatch line script seen b → a ≡ b }
+{}
+
+/// Each record that a file says is of one of the scripts, and tells each key and each trip of the
+/// line at every tick.
+pub fn a_file_says_records_of_the_line()
+    ensures { (line : Line) (scripts : List Script) (bytes : List ℕ) (records : List SeenValues) →
+        records_said line scripts bytes ≡ Ok records →
+        All (IsRecordOf line scripts) records }
 {}

@@ -20,7 +20,9 @@ mod waves;
 
 pub use answer::{MatchAnswer, match_answer};
 pub use fault::SeenFault;
-pub use laws::{a_record_is_settled_once, what_a_choice_gives_is_allowed};
+pub use laws::{
+    a_file_says_records_of_the_line, a_record_is_settled_once, what_a_choice_gives_is_allowed,
+};
 pub use reader::read_seen;
 pub use seen::{Match, Seen};
 pub use settling::settle;

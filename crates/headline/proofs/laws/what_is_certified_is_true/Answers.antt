@@ -1,4 +1,3 @@
-use Rattle.std.proofs.Common.{◌≡◌, ℕ, List, Some, refl}
 use Rattle.line_model.specs.Fits.{Fits}
 use Rattle.certificate.specs.Text.{certificate_text}
 use Rattle.cert_checker.specs.ZipLaws.{zip_each}

@@ -10,6 +10,7 @@ returns c = record {
   some_no = c.what_is_certified_is_true.ensures.some_no;
   some_undecided = c.what_is_certified_is_true.ensures.some_undecided;
   accepted_true = c.what_is_accepted_is_true.ensures.text;
+  of_records = c.what_is_recorded_is_true.ensures;
   rules = c.the_rule_speaks_for_every_choice.ensures;
   deadlines = c.deadlines_are_below_the_horizon.ensures;
   inside = c.each_line_has_a_choice_inside.ensures;

@@ -1,0 +1,96 @@
+-- What `match` has put is true of every choice of delays.
+use Rattle.std.proofs.Common.{◌≡◌, ℕ, List, [], ◌∷◌, ◌++◌, Option, Some, Result, Ok, Err, map, refl}
+use Rattle.std.proofs.Common.{sym, ◌∙◌, ap, subst, ⊎_elim}
+use Rattle.std.specs.Prelude.{slice_get}
+use Rattle.record_match.specs.Waves.{SeenValues, records_said}
+use Rattle.record_match.specs.declared.fault.SeenFault.{SeenFault}
+use Rattle.fault_script.specs.Values.{values_of}
+use Rattle.commands.specs.Sinks.{SinkView}
+use Rattle.headline.specs.Matched.{HasMatch, Matched, matched_words}
+use Rattle.headline.specs.WholeLines.{whole_lines}
+use Rattle.pilot_core.specs.{Call.answers, CallAnswers.done_with, Commands.answer, Ends.EndsOf}
+use Rattle.pilot_core.specs.{Headline.HasPut, HeadlineLaws.HeadlineLaws, MatchTruths.IsMatchTrue}
+use Rattle.pilot_core.specs.{Reading.of_record, Status.status_of, Words.Command, Words.three_files}
+use Rattle.pilot_core.specs.declared.refusal.Refusal.{Refusal}
+use Rattle.pilot_core.specs.declared.refusal.Refusal.TheVariants as refusal
+use Rattle.pilot_core.specs.declared.stop.Status.{Status}
+use Rattle.pilot_core.specs.declared.stop.Stop.{Stop}
+use Rattle.pilot_core.specs.declared.words.ThreeFiles.TheVariants as three
+use Rattle.pilot_core.proofs.Told.{IsAnswerFront, front_of_nothing, is_told, three_told}
+use Rattle.pilot_core.proofs.Told.{what_was_put}
+
+-- nothing has no line
+no_match : {X : Type 0} (put name : List ℕ) (i : ℕ) (said : Matched) → put ≡ []
+    → HasMatch put i name said → X
+no_match put name i said none has =
+    let at : slice_get (whole_lines []) i ≡ Some (name ++ matched_words said) =
+    subst (λ (t : List ℕ). slice_get (whole_lines t) i ≡ Some (name ++ matched_words said)) none
+    has.stands in
+    absurd (cc)
+
+none_in_front : {X : Type 0} (put rest text name : List ℕ) (i : ℕ) (said : Matched)
+    → put ++ rest ≡ text → text ≡ [] → HasMatch put i name said → X
+none_in_front put rest text name i said is none has =
+    no_match put name i said (front_of_nothing put rest (is ∙ none)) has
+
+-- the records that the bytes say
+record_said : {X : Type 0} (r : Result (List SeenValues) SeenFault) (refused : Refusal → Type 0)
+    (holds : List SeenValues → Type 0) → of_record r refused holds
+    → ((why : Refusal) → refused why → X)
+    → ((records : List SeenValues) → r ≡ Ok records → holds records → X) → X
+record_said (Ok records) refused holds is stopped then = then records refl is
+record_said (Err why) refused holds is stopped then = stopped (refusal.Record why) is
+
+match_front : HeadlineLaws → (files : List ℕ → Option (List ℕ))
+    (line scripts entries line_bytes scripts_bytes record_bytes : List ℕ)
+    → files line ≡ Some line_bytes → files scripts ≡ Some scripts_bytes
+    → files entries ≡ Some record_bytes → (put name : List ℕ) (i : ℕ) (said : Matched)
+    → IsAnswerFront (answers (Some (three_files three.Match line scripts entries)) files) put
+    → HasMatch put i name said → IsMatchTrue line_bytes scripts_bytes record_bytes i name said
+match_front known files line scripts entries line_bytes scripts_bytes record_bytes line_told
+    scripts_told record_told put name i said front has =
+    three_told files line scripts entries line_bytes scripts_bytes record_bytes line_told
+    scripts_told record_told front.status front.text front.line three.Match
+    (λ why refused.
+    none_in_front put front.front.rest front.text name i said front.front.is refused.1 has)
+    (λ of all line_is scripts_are fit read.
+    record_said (records_said of all record_bytes) _ _ read (λ why refused.
+    none_in_front put front.front.rest front.text name i said front.front.is refused.1 has)
+    (λ records records_are done. record {
+      line = of;
+      line_is = line_is;
+      scripts = all;
+      scripts_are = scripts_are;
+      once = known.one_file of scripts_bytes (map values_of all) scripts_are;
+      records = records;
+      records_are = records_are;
+      holds = known.of_records.matched of all records done.2.some_impossible done.2.some_open front.text put
+          front.front.rest name i said fit (known.of_records.records of all record_bytes records records_are)
+          done.2.settled front.front.is has;
+    }))
+    front.is
+
+module _ {K : Type 0} (view : K → SinkView) (old new : K) (files : List ℕ → Option (List ℕ))
+    (c1 c2 : List ℕ → ℕ) (known : HeadlineLaws) where
+  pub match_true : (command : Option Command) (r : Result Status Stop)
+      → EndsOf view command files c1 c2 old new r
+      → (line scripts entries line_bytes scripts_bytes record_bytes put name : List ℕ) (i : ℕ)
+      (said : Matched) → command ≡ Some (three_files three.Match line scripts entries)
+      → files line ≡ Some line_bytes → files scripts ≡ Some scripts_bytes
+      → files entries ≡ Some record_bytes → HasPut (view old) (view new) put
+      → HasMatch put i name said
+      → IsMatchTrue line_bytes scripts_bytes record_bytes i name said
+  match_true command r e line scripts entries line_bytes scripts_bytes record_bytes put name i said
+      is line_told scripts_told record_told has there =
+      ⊎_elim (λ none. no_match put name i said none there)
+      (λ front.
+      match_front known files line scripts entries line_bytes scripts_bytes record_bytes line_told
+      scripts_told record_told put name i said front there)
+      (what_was_put view old new files c1 c2 put has (three_files three.Match line scripts entries)
+      r (subst (λ (x : Option Command). EndsOf view x files c1 c2 old new r) is e) (
+        is_told files line line_bytes line_told,
+        (
+          is_told files scripts scripts_bytes scripts_told,
+          (is_told files entries record_bytes record_told, tt),
+        ),
+      ))

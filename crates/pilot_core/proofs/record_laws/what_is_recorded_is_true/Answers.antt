@@ -1,0 +1,8 @@
+use Rattle.pilot_core.proofs.record_laws.what_is_recorded_is_true.Goals as goal
+
+pub returns : goal.returns
+returns c = record {
+  records = c.a_file_says_records_of_the_line.ensures;
+  matched = c.what_is_matched_is_true.ensures;
+  played = c.each_play_has_one_text.ensures.only;
+}

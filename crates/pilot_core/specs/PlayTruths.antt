@@ -1,0 +1,40 @@
+-- What `play` has put, in words of choices and histories.
+use Rattle.std.specs.Prelude.{◌≡◌, ◌++◌, ℕ, List, Ok, map}
+use Rattle.std.specs.List.{All, flat_map}
+use Rattle.line_model.specs.{declared.line.Line.Line, declared.script.Script.Script}
+use Rattle.line_model.specs.Histories.{History, IsLineHistory}
+use Rattle.line_file.specs.{LineFiles.line_of, Lines.line_values}
+use Rattle.fault_script.specs.{Scripts.scripts_of, Values.AreOfOneFile, Values.values_of}
+use Rattle.timing_box.specs.{Choice.timing_choice, Inside.IsTimingInside, SoFar.NamedValues}
+use Rattle.timing_box.specs.Timings.{timings_of}
+use Rattle.simulator.specs.PlayRows.{run_rows}
+use Rattle.commands.specs.Play.{play_header}
+
+-- for each timing inside the declared intervals and each script, the history of the timing's choice
+-- of delays under the script; a line has exactly one
+abbrev pub AreTheHistories : Line → (NamedValues → Script → History) → Type 0
+AreTheHistories line histories =
+    (timing : NamedValues) (script : Script) → IsTimingInside line timing.timing
+    → IsLineHistory line script (timing_choice line timing.timing) (histories timing script)
+
+-- the header, and then for each timing, and for each script in order, the rows of their history
+abbrev pub rows_of_all : Line → List Script → List NamedValues → (NamedValues → Script → History)
+    → List ℕ
+rows_of_all line scripts timings histories =
+    play_header ++ flat_map
+    (λ timing. flat_map
+    (λ script. run_rows timing.name script.name line (histories timing script)) scripts) timings
+
+-- the files say a line, scripts of which no two have one name, and timings inside the line's declared
+-- intervals; the text is the rows of all their histories, and nothing else
+pub record IsPlayTrue (line_bytes scripts_bytes timings_bytes text : List ℕ) : Type 0 where
+  pub line : Line
+  pub line_is : line_of line_bytes ≡ Ok (line_values line)
+  pub scripts : List Script
+  pub scripts_are : scripts_of line scripts_bytes ≡ Ok (map values_of scripts)
+  pub once : AreOfOneFile (map values_of scripts)
+  pub timings : List NamedValues
+  pub timings_are : timings_of line timings_bytes ≡ Ok timings
+  pub inside : All (λ timing. IsTimingInside line timing.timing) timings
+  pub rows : (histories : NamedValues → Script → History) → AreTheHistories line histories
+      → text ≡ rows_of_all line scripts timings histories

@@ -1,0 +1,22 @@
+-- The laws that what is said of records of the field, and of plays, rests on.
+use Rattle.std.specs.Prelude.{◌≡◌, ◌++◌, ℕ, Bool, List, Ok}
+use Rattle.std.specs.List.{All}
+use Rattle.line_model.specs.{declared.line.Line.Line, declared.script.Script.Script, Fits.Fits}
+use Rattle.timing_box.specs.{Inside.IsTimingInside, SoFar.NamedValues}
+use Rattle.record_match.specs.{Answer.IsMatchAnswer, Recorded.IsRecordOf}
+use Rattle.record_match.specs.Waves.{SeenValues, records_said}
+use Rattle.commands.specs.Play.{IsPlayText}
+use Rattle.headline.specs.Matched.{HasMatch, HoldsOfRecord, HoldsOfRecordAt, Matched}
+
+pub record RecordLaws : Type 0 where
+  pub records : (line : Line) (scripts : List Script) (bytes : List ℕ) (records : List SeenValues)
+      → records_said line scripts bytes ≡ Ok records → All (IsRecordOf line scripts) records
+  pub matched : (line : Line) (scripts : List Script) (records : List SeenValues)
+      (some_impossible some_open : Bool) (text front rest name : List ℕ) (i : ℕ) (said : Matched)
+      → All (Fits line) scripts → All (IsRecordOf line scripts) records
+      → IsMatchAnswer line scripts records some_impossible some_open text
+      → front ++ rest ≡ text → HasMatch front i name said
+      → HoldsOfRecordAt line scripts records i name (HoldsOfRecord said)
+  pub played : (line : Line) (scripts : List Script) (timings : List NamedValues)
+      (a b : List ℕ) → All (λ timing. IsTimingInside line timing.timing) timings
+      → IsPlayText line scripts timings a → IsPlayText line scripts timings b → a ≡ b
