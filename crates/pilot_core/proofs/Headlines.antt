@@ -22,9 +22,9 @@ use Rattle.commands.specs.Split.{IsSplitOf}
 use Rattle.pilot_core.specs.{HeadlineLaws.HeadlineLaws, Reading.no_other_file}
 use Rattle.pilot_core.specs.{Reading.of_parameter, Reading.third_file}
 use Rattle.pilot_core.specs.Truths.{MarginIsTrue, ReportIsTrue, SplitIsTrue}
-use Rattle.pilot_core.proofs.Told.{IsAnswerFront, bytes_told, done_put, front_of_nothing, is_told}
-use Rattle.pilot_core.proofs.Told.{no_line, study_said, three_told, two_limits, what_was_put}
-use Rattle.pilot_core.proofs.{Matched.match_true, Played.play_begun, Played.play_true}
+use Rattle.pilot_core.proofs.Told.{IsAnswerFront, bytes_told, done_answer, done_put}
+use Rattle.pilot_core.proofs.Told.{front_of_nothing, is_told, no_line, study_said, three_told, two_limits, what_was_put}
+use Rattle.pilot_core.proofs.{Matched.match_says, Matched.match_true, Played.play_begun, Played.play_true}
 use Rattle.pilot_core.specs.Words.{TwoFiles, margin, own_file, report, split}
 use Rattle.pilot_core.specs.declared.words.ThreeFiles.{ThreeFiles}
 use Rattle.std.proofs.Common.{inl, inr, ⊎_elim}
@@ -353,16 +353,6 @@ module _ {K : Type 0} (view : K → SinkView) (old new : K) (files : List ℕ �
   of_name (Some param) R H is refused then = then param refl is
   of_name None R H is refused then = refused refusal.UnknownParameter is
 
-  done_answer : (x : Command) (r : Result Status Stop)
-      → EndsOf view (Some x) files c1 c2 old new r → IsDone (status_of r)
-      → AllTold files (files_of x) → (text : List ℕ) × answers (Some x) files (status_of r) text []
-  done_answer x (Ok s) e done told = (e.1.1, e.1.2 told)
-  done_answer x (Err stop.Usage) e done told = absurd done
-  done_answer x (Err (stop.Refused why)) e done told = absurd done
-  done_answer x (Err (stop.Store f)) e done told = absurd done
-  done_answer x (Err stop.Sink) e done told = absurd done
-  done_answer x (Err stop.Memory) e done told = absurd done
-
   status_true : (command : Option Command) (r : Result Status Stop)
       → EndsOf view command files c1 c2 old new r
       → (line scripts line_bytes scripts_bytes : List ℕ) → IsDone (status_of r)
@@ -371,7 +361,7 @@ module _ {K : Type 0} (view : K → SinkView) (old new : K) (files : List ℕ �
       → InFiles line_bytes scripts_bytes (IsToldBy (status_of r))
   status_true command r e line scripts line_bytes scripts_bytes done is line_told scripts_told =
       let (text, answered) =
-      done_answer (two_files certify line scripts) r
+      done_answer view old new files c1 c2 (two_files certify line scripts) r
       (subst (λ (x : Option Command). EndsOf view x files c1 c2 old new r) is e) done (
         is_told files line line_bytes line_told,
         (is_told files scripts scripts_bytes scripts_told, tt),
@@ -431,6 +421,7 @@ module _ {K : Type 0} (view : K → SinkView) (old new : K) (files : List ℕ �
     status_says = status_true command r e;
     accepted = check_true command r e;
     matched = match_true view old new files c1 c2 known command r e;
+    match_says = match_says view old new files c1 c2 known command r e;
     played = play_true view old new files c1 c2 known command r e;
     play_begun = play_begun view old new files c1 c2 known command r e;
     reported = λ line scripts line_bytes scripts_bytes put done is line_told scripts_told has.

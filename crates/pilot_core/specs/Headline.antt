@@ -12,7 +12,8 @@ use Rattle.headline.specs.Printed.{HasVerdict, HoldsOf}
 use Rattle.pilot_core.specs.{SaidByFiles.InFiles, Truths.MarginIsTrue, Truths.ReportIsTrue}
 use Rattle.pilot_core.specs.Truths.{SplitIsTrue}
 use Rattle.pilot_core.specs.Words.{Command, certify, margin, report, split, three_files, two_files}
-use Rattle.pilot_core.specs.{MatchTruths.IsMatchTrue, PlayTruths.IsPlayTrue}
+use Rattle.pilot_core.specs.MatchTruths.{InRecords, IsMatchToldBy, IsMatchTrue}
+use Rattle.pilot_core.specs.PlayTruths.{IsPlayTrue}
 use Rattle.pilot_core.specs.{Status.IsDone, declared.stop.Status.Status}
 use Rattle.pilot_core.specs.declared.stop.Status.TheVariants as status
 use Rattle.pilot_core.specs.declared.words.ThreeFiles.TheVariants as three
@@ -67,7 +68,13 @@ pub record Headline (command : Option Command) (files : List ℕ → Option (Lis
       (i : ℕ) (said : Matched) → command ≡ Some (three_files three.Match line scripts entries)
       → files line ≡ Some line_bytes → files scripts ≡ Some scripts_bytes
       → files entries ≡ Some record_bytes → HasPut out_old out_new put → HasMatch put i name said
-      → IsMatchTrue line_bytes scripts_bytes record_bytes i name said
+      → InRecords line_bytes scripts_bytes record_bytes (IsMatchTrue i name said)
+  -- Its status says what is so of all records.
+  pub match_says : (line scripts entries line_bytes scripts_bytes record_bytes : List ℕ)
+      → IsDone s → command ≡ Some (three_files three.Match line scripts entries)
+      → files line ≡ Some line_bytes → files scripts ≡ Some scripts_bytes
+      → files entries ≡ Some record_bytes
+      → InRecords line_bytes scripts_bytes record_bytes (IsMatchToldBy s)
   -- What `play` has put is the rows of the histories of its timings; and what it has put of them,
   -- however the call ended, is a front of these rows, if it is anything.
   pub played : (line scripts timings line_bytes scripts_bytes timings_bytes put : List ℕ)
