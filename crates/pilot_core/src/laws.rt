@@ -4,8 +4,8 @@ ghost use Rattle.std.specs.List.{All};
 ghost use Rattle.line_model.specs.{declared.line.Line.Line, declared.script.Script.Script};
 ghost use Rattle.line_model.specs.Fits.{Fits};
 ghost use Rattle.line_file.specs.Lines.{line_values};
-ghost use Rattle.fault_script.specs.Values.{values_of};
-ghost use Rattle.headline.specs.Obligations.{IsFailedBy, IsMetByAll};
+ghost use Rattle.fault_script.specs.{Scripts.scripts_of, Values.values_of};
+ghost use Rattle.headline.specs.Obligations.{IsFailedBy, IsMetByAll, IsUnknown};
 ghost use Rattle.cert_checker.specs.Counts.{all_verdicts};
 ghost use Rattle.split_checker.specs.Counts.{all_verdicts as all_split_verdicts};
 ghost use Rattle.commands.specs.{Certify.certify_answer, Check.check_answer};
@@ -81,9 +81,9 @@ pub fn what_split_writes_is_accepted()
     what_is_searched_is_accepted();
 }
 
-/// That every choice inside meets an obligation, and that these numbers fail it, rests on the values
-/// of the line and of the script alone. So it is so of each line and script that the bytes of the
-/// files say, where it is of some.
+/// That every choice inside meets an obligation, that these numbers fail it, and that it is unknown,
+/// rest on the values of the line and of the script alone, and what a scripts file says on those of
+/// the line. So it is so of each line and script that the bytes of the files say, where it is of some.
 pub fn what_is_met_rests_on_the_values()
     ensures met { (line other : Line) (script copy : Script) (k : ℕ) →
         line_values other ≡ line_values line → values_of copy ≡ values_of script →
@@ -91,6 +91,11 @@ pub fn what_is_met_rests_on_the_values()
     ensures failed { (line other : Line) (script copy : Script) (k : ℕ) (numbers : List ℕ) →
         line_values other ≡ line_values line → values_of copy ≡ values_of script →
         IsFailedBy line script k numbers → IsFailedBy other copy k numbers }
+    ensures unknown { (line other : Line) (script copy : Script) (k : ℕ) →
+        line_values other ≡ line_values line → values_of copy ≡ values_of script →
+        IsUnknown line script k → IsUnknown other copy k }
+    ensures scripts { (line other : Line) (bytes : List ℕ) →
+        line_values other ≡ line_values line → scripts_of other bytes ≡ scripts_of line bytes }
 {
     counts_do_not_rest_on_the_intervals();
     histories_do_not_rest_on_the_intervals();
