@@ -1,6 +1,6 @@
 -- The laws of lines below that the proofs here rest on.
-use Rattle.line_model.specs.IntervalLaws.{CountsRestOnNoInterval, HistoriesRestOnNoInterval}
-use Rattle.line_model.specs.Laws.{LineLaws}
+use Rattle.model_line.specs.Laws.{CountsRestOnNoInterval}
+use Rattle.model_logic.specs.{IntervalLaws.HistoriesRestOnNoInterval, Laws.LineLaws}
 
 pub record LinesKnown : Type 0 where
   pub lines : LineLaws

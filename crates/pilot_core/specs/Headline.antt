@@ -1,7 +1,7 @@
 -- What a call says of every choice of delays: each verdict that stands in a whole line on out, and,
 -- where a certificate is accepted, each that stands in a whole line of it.
 use Rattle.std.specs.Prelude.{◌≡◌, ◌++◌, ℕ, List, Option, Some}
-use Rattle.line_model.specs.{declared.line.Line.Line, declared.script.Script.Script}
+use Rattle.model_line.specs.{declared.line.Line.Line, declared.script.Script.Script}
 use Rattle.certificate.specs.Grammar.{Verdict}
 use Rattle.commands.specs.Sinks.{SinkView}
 use Rattle.std.specs.Prelude.{[]}

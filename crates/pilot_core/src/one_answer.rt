@@ -1,19 +1,17 @@
 //! That a command has one answer.
 ghost use Rattle.std.specs.Prelude.{◌≡◌, ℕ, List};
 ghost use Rattle.std.specs.List.{All};
-ghost use Rattle.line_model.specs.{declared.line.Line.Line, declared.script.Script.Script};
-ghost use Rattle.line_model.specs.Fits.{Fits};
+ghost use Rattle.model_line.specs.{declared.line.Line.Line, declared.script.Script.Script};
+ghost use Rattle.model_line.specs.Fits.{Fits};
 ghost use Rattle.commands.specs.{Check.check_answer, Margin.margin_answer, Recheck.recheck_answer};
 ghost use Rattle.commands.specs.{Report.report_answer, Split.split_answer};
 ghost use Rattle.commands.specs.declared.done.Done.{Done};
 
 use cert_checker::{a_certificate_has_one_first_fault, a_fault_refuses_the_certificate};
 use certificate::a_text_has_one_meaning;
-use line_model::laws::{
-    deadlines_are_below_the_horizon, each_box_has_one_interval_history,
-    each_line_has_a_choice_inside,
-};
 use margin_search::a_parameter_has_one_margin;
+use model_line::laws::deadlines_are_below_the_horizon;
+use model_logic::laws::{each_box_has_one_interval_history, each_line_has_a_choice_inside};
 use own_splits::each_search_has_one_outcome;
 use split_checker::{a_fault_refuses_the_split_text, a_split_text_has_one_first_fault};
 use split_text::a_split_text_has_one_meaning;
