@@ -2,13 +2,13 @@
 use Rattle.std.proofs.Common.{◌≡◌, ℕ, ◌+◌, ◌<◌, ◌≤◌, List, [], ◌∷◌, ◌++◌, length, get_or, take, sym}
 use Rattle.std.proofs.Common.{ap, ◌∙◌, subst}
 use Rattle.std.proofs.lemmas.List.{append_assoc, append-nil, take_all, take_more}
-use Rattle.std.proofs.lemmas.List.Elements.{All-cons, All-nil}
 use Rattle.std.specs.List.{All}
 use Rattle.model_line.specs.{declared.line.Line.Line, declared.script.Script.Script}
 use Rattle.certificate.specs.Grammar.{Claims, HasOneEach, end_text, head_text}
 use Rattle.certificate.specs.Text.{certificate_text, fed, part_text, parts_text}
 use Rattle.own_certificate.specs.Certified.{AreCertified, IsCertified}
 use Rattle.commands.specs.Bench.{HasPart, IsOwnText}
+use Rattle.commands.proofs.Parts.{one_each}
 
 -- the head and the parts of these scripts
 pub record IsBegun (line : Line) (scripts : List Script) (text : List ℕ) : Type 0 where
@@ -19,18 +19,6 @@ pub record IsBegun (line : Line) (scripts : List Script) (text : List ℕ) : Typ
 pub begun_none : (line : Line) (text : List ℕ) → text ≡ fed head_text → IsBegun line [] text
 begun_none line text is =
     record { claims = []; certified = tt; text_is = is ∙ sym (append-nil (fed head_text)) }
-
--- each script's claims have one key and one verdict for each terminal
-one_each : (line : Line)
-    → ((script : Script) (claims : Claims) → IsCertified line script claims
-    → HasOneEach line claims)
-    → (scripts : List Script) (claims : List Claims) → AreCertified line scripts claims
-    → All (HasOneEach line) claims
-one_each line each scripts [] certified = All-nil (HasOneEach line)
-one_each line each [] (c ∷ claims) certified = absurd certified
-one_each line each (script ∷ scripts) (c ∷ claims) certified =
-    All-cons (HasOneEach line) c claims (each script c certified.0)
-    (one_each line each scripts claims certified.1)
 
 module _ (line : Line)
     (grows : (scripts : List Script) (claims : List Claims) (script : Script) (said : Claims)

@@ -7,4 +7,3 @@ pub mod Puts
 pub mod Searched
 pub mod Verdicts
 pub mod Writing
-pub mod Certified

@@ -1,24 +1,26 @@
 -- The parts of a certificate as they are written, one script after another.
 use Rattle.std.specs.Prelude.{List, IfOk, Result}
-use Rattle.std.specs.List.{AllZip, flat_map}
 use Rattle.model_line.specs.{declared.line.Line.Line, declared.script.Script.Script}
-use Rattle.commands.specs.Certify.{IsPart, Part, parts_text, written_verdicts}
+use Rattle.certificate.specs.{Grammar.Claims, Text.part_text, Text.parts_text}
+use Rattle.cert_checker.specs.Counts.{all_verdicts}
+use Rattle.own_certificate.specs.Certified.{AreCertified, IsCertified}
 use Rattle.commands.specs.{Sinks.SinkView, Sinks.Writes, Verdicts.IsFoundOf}
 use Rattle.commands.specs.{declared.found.Found.Found, declared.put.WriteStop.WriteStop}
 
--- a script's part is written, or a front of it, and what is found of its verdicts is told
+-- the part of what is certified of a script is written, or a front of it, and what is found of its
+-- verdicts is told
 pub record WritesPart (line : Line) (script : Script) (old new : SinkView)
     (result : Result Found WriteStop) : Type 0 where
-  pub part : Part
-  pub is_part : IsPart line script part
-  pub writes : Writes old new part.text result
-  pub found : IfOk result (IsFoundOf (written_verdicts part))
+  pub claims : Claims
+  pub certified : IsCertified line script claims
+  pub writes : Writes old new (part_text line script claims) result
+  pub found : IfOk result (IsFoundOf claims.verdicts)
 
--- the parts of the scripts are written, or a front of them, and what is found of their verdicts
--- is told
+-- the parts of what is certified of the scripts are written, or a front of them, and what is found
+-- of their verdicts is told
 pub record WritesParts (line : Line) (scripts : List Script) (old new : SinkView)
     (result : Result Found WriteStop) : Type 0 where
-  pub parts : List Part
-  pub are_parts : AllZip (IsPart line) scripts parts
-  pub writes : Writes old new (parts_text parts) result
-  pub found : IfOk result (IsFoundOf (flat_map written_verdicts parts))
+  pub claims : List Claims
+  pub certified : AreCertified line scripts claims
+  pub writes : Writes old new (parts_text line scripts claims) result
+  pub found : IfOk result (IsFoundOf (all_verdicts claims))

@@ -14,14 +14,14 @@ ghost use Rattle.commands.specs.Verdicts.{IsFoundOf};
 
 use crate::done::Done;
 use crate::found::{Found, NOTHING};
-use crate::laws::each_certificate_has_one_text;
+use crate::laws::a_certificate_is_made_of_parts;
 use crate::put::{WriteStop, put_text};
 use crate::study::Study;
 use certify_core::{CERT_END, CERT_HEAD, Verdict, cert_piece};
 use engine::Engine;
 use gate_net::Net;
 use model_line::{Line, Script};
-use model_logic::laws::{each_box_has_one_interval_history, each_line_has_a_choice_inside};
+use own_certificate::answers_are_certified;
 use relay_base::Sink;
 use std::alloc::Global;
 
@@ -39,7 +39,7 @@ pub fn certify<G: Engine, O: Sink>(
     ensures writes { WritesAnswer (certify_answer study.now.line study.now.scripts.items)
         (sink_view O.written O.faults out.old) (sink_view O.written O.faults out.new) result }
 {
-    each_certificate_has_one_text();
+    a_certificate_is_made_of_parts();
     put_text(out, CERT_HEAD)?;
     let scripts = study.scripts.as_slice();
     let found = write_parts(alloc, &study.line, &study.net, scripts, engine, out)?;
@@ -64,7 +64,7 @@ fn write_parts<G: Engine, O: Sink>(
     ensures writes { WritesParts line.now scripts.now
         (sink_view O.written O.faults out.old) (sink_view O.written O.faults out.new) result }
 {
-    each_certificate_has_one_text();
+    a_certificate_is_made_of_parts();
     let mut found = NOTHING;
     for script in scripts {
         let more = write_part(alloc, line, net, script, engine, out)?;
@@ -90,9 +90,8 @@ fn write_part<G: Engine, O: Sink>(
     ensures writes { WritesPart line.now script.now
         (sink_view O.written O.faults out.old) (sink_view O.written O.faults out.new) result }
 {
-    each_certificate_has_one_text();
-    each_box_has_one_interval_history();
-    each_line_has_a_choice_inside();
+    a_certificate_is_made_of_parts();
+    answers_are_certified();
     let said = engine.certify(alloc, line, net, script)?;
     let piece = cert_piece(alloc, line, script, &said)?;
     put_text(out, piece.as_slice())?;

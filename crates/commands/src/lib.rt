@@ -24,9 +24,7 @@ mod study;
 mod text;
 
 pub use done::Done;
-pub use laws::{
-    a_certificate_is_what_is_certified, each_certificate_has_one_text, each_play_has_one_text,
-};
+pub use laws::{each_certificate_has_one_text, each_play_has_one_text};
 pub use put::{WriteStop, put_pieces, put_text};
 pub use said::{Said, put_said};
 pub use study::Study;

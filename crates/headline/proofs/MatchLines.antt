@@ -42,7 +42,7 @@ use Rattle.headline.proofs.Lines.{all_at, first_whole, front_whole}
 use Rattle.headline.proofs.Truth.{same_choice}
 
 -- what is settled of a record, as its line says it
-abbrev said_by : Line → Match → Matched
+abbrev pub said_by : Line → Match → Matched
 said_by line (Explained timing) = explained timing.values
 said_by line (Impossible k trip t level derived) =
     impossible (terminal_name line k ++ clash_words trip t level derived)
@@ -75,7 +75,7 @@ same_along line f g h a b = record {
   trips = λ k t kn lt. a.trips k t kn lt ∙ b.trips k t kn lt;
 }
 
-are_seen : (line : Line) (scripts : List Script) (seen : Seen)
+pub are_seen : (line : Line) (scripts : List Script) (seen : Seen)
     → IsRecordOf line scripts (seen_values seen) → AreSeen line seen
 are_seen line scripts seen of = record {
   keys = of.keys;
@@ -85,7 +85,7 @@ are_seen line scripts seen of = record {
 }
 
 module _ (known : Known) (line : Line) (script : Script) (seen : Seen) where
-  settled_is_true : (settled : Match) → AreSeen line seen → IsMatch line script seen settled
+  pub settled_is_true : (settled : Match) → AreSeen line seen → IsMatch line script seen settled
       → HoldsOfRecord (said_by line settled) line script (seen_values seen)
   settled_is_true (Explained timing) are is =
       let n : ℕ = is.number in

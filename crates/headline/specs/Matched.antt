@@ -87,3 +87,21 @@ pub record HoldsOfRecordAt (line : Line) (scripts : List Script) (records : List
   pub script_is : slice_get scripts values.script ≡ Some script
   pub name_is : script.name ≡ name
   pub holds : Fact line script values
+
+-- ---- of all records
+
+-- some numbers, which are a choice inside, give it
+abbrev pub IsGivenBySome : Line → Script → SeenValues → Type 0
+IsGivenBySome line script values = (numbers : List ℕ) × IsGivenBy line script values numbers
+
+-- so it is of each record
+abbrev pub AllGiven : Line → List Script → List SeenValues → Type 0
+AllGiven line scripts records =
+    (i : ℕ) (values : SeenValues) → slice_get records i ≡ Some values
+    → (name : List ℕ) × HoldsOfRecordAt line scripts records i name IsGivenBySome
+
+-- this holds of some record
+abbrev pub HoldsOfSomeRecord : Line → List Script → List SeenValues
+    → (Line → Script → SeenValues → Type 0) → Type 0
+HoldsOfSomeRecord line scripts records Fact =
+    (i : ℕ) × (name : List ℕ) × HoldsOfRecordAt line scripts records i name Fact

@@ -12,7 +12,8 @@ ghost use Rattle.own_certificate.specs.Certified.{IsCertified, AreCertified};
 ghost use Rattle.cert_checker.specs.Counts.{all_verdicts, is_no, is_undecided};
 ghost use Rattle.record_match.specs.{Answer.IsMatchAnswer, Recorded.IsRecordOf};
 ghost use Rattle.record_match.specs.Waves.{SeenValues};
-ghost use Rattle.headline.specs.Matched.{HasMatch, HoldsOfRecord, HoldsOfRecordAt, Matched};
+ghost use Rattle.headline.specs.Matched.{AllGiven, HasMatch, HoldsOfRecord, HoldsOfRecordAt};
+ghost use Rattle.headline.specs.Matched.{HoldsOfSomeRecord, IsGivenByNone, IsOpenRecord, Matched};
 ghost use Rattle.headline.specs.Obligations.{AllMet, HoldsAsAccepted, HoldsAsCertified};
 ghost use Rattle.headline.specs.Obligations.{HoldsSomewhere, IsFailedBySome, IsUnknown};
 ghost use Rattle.headline.specs.Printed.{HasVerdict, HoldsOf};
@@ -70,14 +71,28 @@ pub fn what_is_certified_is_true()
     what_is_certified_is_accepted();
 }
 
-/// What a line says of a record of the field is true, of each whole line of a front of the text.
+/// What `match` says of records of the field is true: each whole line of a front of its text, and its
+/// status of all of them.
 pub fn what_is_matched_is_true()
-    ensures { (line : Line) (scripts : List Script) (records : List SeenValues)
+    ensures text { (line : Line) (scripts : List Script) (records : List SeenValues)
         (some_impossible some_open : Bool) (text front rest name : List ℕ) (i : ℕ)
         (said : Matched) → All (Fits line) scripts → All (IsRecordOf line scripts) records →
         IsMatchAnswer line scripts records some_impossible some_open text →
         front ++ rest ≡ text → HasMatch front i name said →
         HoldsOfRecordAt line scripts records i name (HoldsOfRecord said) }
+    // Where no record is impossible or open, some choice gives each; where some is impossible, no
+    // choice gives it; where some is open, nothing of it is excluded.
+    ensures all { (line : Line) (scripts : List Script) (records : List SeenValues)
+        (text : List ℕ) → All (IsRecordOf line scripts) records →
+        IsMatchAnswer line scripts records false false text → AllGiven line scripts records }
+    ensures some_impossible { (line : Line) (scripts : List Script) (records : List SeenValues)
+        (some_open : Bool) (text : List ℕ) → All (IsRecordOf line scripts) records →
+        IsMatchAnswer line scripts records true some_open text →
+        HoldsOfSomeRecord line scripts records IsGivenByNone }
+    ensures some_open { (line : Line) (scripts : List Script) (records : List SeenValues)
+        (some_impossible : Bool) (text : List ℕ) → All (IsRecordOf line scripts) records →
+        IsMatchAnswer line scripts records some_impossible true text →
+        HoldsOfSomeRecord line scripts records IsOpenRecord }
 {
     line_laws();
     declared_intervals_are_in_order();

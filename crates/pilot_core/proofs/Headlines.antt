@@ -11,10 +11,9 @@ use Rattle.model_line.specs.{Parameters.terminal_count, declared.line.Line.Line}
 use Rattle.model_line.specs.{declared.script.Script.Script, Fits.Fits}
 use Rattle.cert_checker.specs.{Check.IsCheckFault, ZipLaws.zip_each}
 use Rattle.cert_checker.specs.declared.fault.CheckFault.TheVariants as check_fault
-use Rattle.timing_report.specs.ReportText.{IsReportText}
 use Rattle.margin_search.specs.Answer.{IsMarginAnswer}
 use Rattle.margin_search.specs.Margin.{HasNoMargin, IsLostAbove, IsLostAtLeast, IsMargin}
-use Rattle.split_text.specs.Piece.{written_as}
+use Rattle.split_text.specs.{Piece.written_as, Text.split_text}
 use Rattle.split_checker.specs.Check as split_check
 use Rattle.split_checker.specs.declared.fault.SplitFault.TheVariants as split_fault
 use Rattle.own_splits.specs.Searched.{AreSearched}
@@ -25,9 +24,9 @@ use Rattle.commands.specs.Split.{IsSplitOf}
 use Rattle.pilot_core.specs.{HeadlineLaws.HeadlineLaws, Reading.no_other_file}
 use Rattle.pilot_core.specs.{Reading.of_parameter, Reading.third_file}
 use Rattle.pilot_core.specs.Truths.{MarginIsTrue, ReportIsTrue, SplitIsTrue}
-use Rattle.pilot_core.proofs.Told.{IsAnswerFront, bytes_told, done_put, front_of_nothing, is_told}
-use Rattle.pilot_core.proofs.Told.{no_line, study_said, three_told, two_limits, what_was_put}
-use Rattle.pilot_core.proofs.{Matched.match_true, Played.play_begun, Played.play_true}
+use Rattle.pilot_core.proofs.Told.{IsAnswerFront, bytes_told, done_answer, done_put}
+use Rattle.pilot_core.proofs.Told.{front_of_nothing, is_told, no_line, study_said, three_told, two_limits, what_was_put}
+use Rattle.pilot_core.proofs.{Matched.match_says, Matched.match_true, Played.play_begun, Played.play_true}
 use Rattle.pilot_core.specs.Words.{TwoFiles, margin, own_file, report, split}
 use Rattle.pilot_core.specs.declared.words.ThreeFiles.{ThreeFiles}
 use Rattle.std.proofs.Common.{inl, inr, ⊎_elim}
@@ -51,11 +50,12 @@ use Rattle.commands.specs.{Answers.status_by, Check.check_answer, Sinks.SinkView
 use Rattle.commands.specs.declared.done.Done.TheVariants as done
 use Rattle.commands.specs.SinkLaws.{keeps_same}
 use Rattle.headline.specs.Obligations.{HoldsAsAccepted, HoldsAsCertified}
-use Rattle.headline.specs.{Printed.HasVerdict, WholeLines.whole_lines}
+use Rattle.headline.specs.{Printed.HasVerdict, Printed.HoldsOf, WholeLines.whole_lines}
 use Rattle.pilot_core.specs.{Call.answers, CallAnswers.CallAnswers, CallAnswers.done_with}
 use Rattle.pilot_core.specs.{CallAnswers.refuses, Commands.answer, Ends.EndsOf, Files.AllTold}
 use Rattle.pilot_core.specs.{Files.in_front, Files.limit_of, Headline.HasPut, Headline.Headline}
-use Rattle.pilot_core.specs.{Headline.HoldsInFiles, Headline.InFiles, Headline.IsToldBy, Reading.of_line, Reading.of_scripts}
+use Rattle.pilot_core.specs.{Headline.HoldsInFiles, Headline.IsToldBy, Reading.of_line}
+use Rattle.pilot_core.specs.{Reading.of_scripts, SaidByFiles.InFiles}
 use Rattle.pilot_core.specs.{Reading.of_study, Reading.over_files, Status.status_of}
 use Rattle.pilot_core.specs.{Status.status_of_done, declared.refusal.Refusal.Refusal}
 use Rattle.pilot_core.specs.declared.refusal.Refusal.TheVariants as refusal
@@ -68,6 +68,9 @@ use Rattle.pilot_core.specs.declared.stop.Status.TheVariants as status
 use Rattle.pilot_core.specs.declared.stop.Stop.{Stop}
 use Rattle.pilot_core.specs.declared.stop.Stop.TheVariants as stop
 use Rattle.pilot_core.specs.declared.words.ThreeFiles.TheVariants as three
+use Rattle.pilot_core.proofs.Reported.{report_true}
+use Rattle.pilot_core.proofs.SameFiles.{Moves, accepted_in, certified_in, in_files, margin_on}
+use Rattle.pilot_core.proofs.SameFiles.{report_on, split_on, told_by_on}
 
 -- nothing has no verdict
 nothing_said : {X : Type 0} (put name terminal : List ℕ) (verdict : Verdict) → put ≡ []
@@ -134,16 +137,13 @@ certified_front known files line scripts line_bytes scripts_bytes line_told
     (λ why refused. nothing_said put name terminal verdict
     (front_of_nothing put front.front.rest (front.front.is ∙ refused.1)) has)
     (λ of all line_is scripts_are fit d same is.
-    let text = known.certified of all d front.text is in
-    record {
-      line = of;
-      line_is = line_is;
-      scripts = all;
-      scripts_are = scripts_are;
-      once = known.one_file of scripts_bytes (map values_of all) scripts_are;
-      holds = known.certified_true of all text.claims put front.front.rest name terminal verdict fit
-          text.certified (front.front.is ∙ text.text_is) has;
-    })
+    in_files known.one_file line_bytes scripts_bytes
+    (λ line scripts. HoldsOf line scripts name terminal (HoldsAsCertified verdict))
+    (λ a b lines xs ys both.
+    certified_in known.counts known.histories a b lines xs ys both verdict name terminal)
+    of all line_is scripts_are
+    (known.certified_true of all is.claims put front.front.rest name terminal verdict fit
+    is.certified (front.front.is ∙ is.text_is) has))
     front.is
 
 -- what a status says
@@ -168,19 +168,13 @@ status_told known files line scripts line_bytes scripts_bytes line_told scripts_
     certify_said files line scripts line_bytes scripts_bytes line_told scripts_told s text []
     (λ why refused. absurd (subst IsDone refused.0 is_done))
     (λ of all line_is scripts_are fit d same is.
-    let made = known.certified of all d text is in
-    record {
-      line = of;
-      line_is = line_is;
-      scripts = all;
-      scripts_are = scripts_are;
-      once = known.one_file of scripts_bytes (map values_of all) scripts_are;
-      holds = subst (λ (t : Status). IsToldBy t of all)
-          (sym (same ∙ ap status_of_done made.status_is))
-          (told_by known of all made.claims fit made.certified
-          (list_any is_no (all_verdicts made.claims))
-          (list_any is_undecided (all_verdicts made.claims)) refl refl);
-    })
+    in_files known.one_file line_bytes scripts_bytes (IsToldBy s)
+    (λ a b lines xs ys both. told_by_on known.counts known.histories a b lines xs ys both s)
+    of all line_is scripts_are
+    (subst (λ (t : Status). IsToldBy t of all) (sym (same ∙ ap status_of_done is.status_is))
+    (told_by known of all is.claims fit is.certified
+    (list_any is_no (all_verdicts is.claims))
+    (list_any is_undecided (all_verdicts is.claims)) refl refl)))
     answered
 
 -- ---- check
@@ -256,20 +250,6 @@ all_at P (y ∷ xs) zero x every at = subst P (same_Some y x at) (All-head P y x
 all_at P (y ∷ xs) (suc i) x every at = all_at P xs i x (All-tail P y xs every) at
 
 module _ (known : HeadlineLaws) (of : Line) (all : List Script) (fit : All (Fits of) all) where
-  report_true : (text : List ℕ) → IsReportText of all text → ReportIsTrue of all text
-  report_true text is = record {
-    histories = is.histories;
-    text_is = is.text_is;
-    held = λ i k script at there held.
-        known.rules.held of script (declared_box of) (is.histories script) k
-        (known.deadlines of script (all_at (Fits of) all i script fit at))
-        (known.inside.declared of) (is.are_histories script) there held;
-    broken = λ i k script at there broken.
-        known.rules.broken of script (declared_box of) (is.histories script) k
-        (known.deadlines of script (all_at (Fits of) all i script fit at))
-        (known.inside.declared of) (is.are_histories script) there broken;
-  }
-
   margin_of : (name text : List ℕ) (param : ℕ) (found : Bool) → param_named of name ≡ Some param
       → IsMarginAnswer of all param found text → MarginIsTrue of all name text
   margin_of name text param found named is = record {
@@ -309,6 +289,15 @@ module _ (known : HeadlineLaws) (of : Line) (all : List Script) (fit : All (Fits
         (known.searched of n script results fits searched);
   }
 
+  accepted_split : (text : List ℕ) (counts : Counts) → split_check.IsAccepted of all text counts
+      → SplitIsTrue of all text
+  accepted_split text counts is = record {
+    parts = is.claims;
+    text_is = known.one_text of all is.claims text (split_text of all is.claims) is.is
+        (known.split_printed of all is.claims is.is.many fit is.is.each);
+    told = known.trees of all text counts fit is is.claims is.is;
+  }
+
 -- ---- the headline
 
 module _ {K : Type 0} (view : K → SinkView) (old new : K) (files : List ℕ → Option (List ℕ))
@@ -338,24 +327,19 @@ module _ {K : Type 0} (view : K → SinkView) (old new : K) (files : List ℕ �
       → (line scripts line_bytes scripts_bytes put : List ℕ) → IsDone (status_of r)
       → command ≡ Some (two_files work line scripts) → files line ≡ Some line_bytes
       → files scripts ≡ Some scripts_bytes → HasPut (view old) (view new) put
-      → (Fact : Line → List Script → Type 0)
+      → (Fact : Line → List Script → Type 0) → Moves Fact
       → ((of : Line) (all : List Script) → All (Fits of) all
       → no_other_file work of all (λ why. refuses why (status_of r) put [])
       (λ w. done_with (answer w) (status_of r) put []) → Fact of all)
       → InFiles line_bytes scripts_bytes Fact
   two_put work command r e line scripts line_bytes scripts_bytes put done is line_told scripts_told
-      has Fact follows =
+      has Fact moves follows =
       two_said files line scripts line_bytes scripts_bytes line_told scripts_told (status_of r) put
       [] work
       (λ why refused. absurd (subst IsDone refused.0 done))
-      (λ of all line_is scripts_are fit said. record {
-        line = of;
-        line_is = line_is;
-        scripts = all;
-        scripts_are = scripts_are;
-        once = known.one_file of scripts_bytes (map values_of all) scripts_are;
-        holds = follows of all fit said;
-      })
+      (λ of all line_is scripts_are fit said.
+      in_files known.one_file line_bytes scripts_bytes Fact moves of all line_is scripts_are
+      (follows of all fit said))
       (done_put view old new files c1 c2 (two_files work line scripts) r
       (subst (λ (x : Option Command). EndsOf view x files c1 c2 old new r) is e) done (
         is_told files line line_bytes line_told,
@@ -370,16 +354,6 @@ module _ {K : Type 0} (view : K → SinkView) (old new : K) (files : List ℕ �
   of_name (Some param) R H is refused then = then param refl is
   of_name None R H is refused then = refused refusal.UnknownParameter is
 
-  done_answer : (x : Command) (r : Result Status Stop)
-      → EndsOf view (Some x) files c1 c2 old new r → IsDone (status_of r)
-      → AllTold files (files_of x) → (text : List ℕ) × answers (Some x) files (status_of r) text []
-  done_answer x (Ok s) e done told = (e.1.1, e.1.2 told)
-  done_answer x (Err stop.Usage) e done told = absurd done
-  done_answer x (Err (stop.Refused why)) e done told = absurd done
-  done_answer x (Err (stop.Store f)) e done told = absurd done
-  done_answer x (Err stop.Sink) e done told = absurd done
-  done_answer x (Err stop.Memory) e done told = absurd done
-
   status_true : (command : Option Command) (r : Result Status Stop)
       → EndsOf view command files c1 c2 old new r
       → (line scripts line_bytes scripts_bytes : List ℕ) → IsDone (status_of r)
@@ -388,7 +362,7 @@ module _ {K : Type 0} (view : K → SinkView) (old new : K) (files : List ℕ �
       → InFiles line_bytes scripts_bytes (IsToldBy (status_of r))
   status_true command r e line scripts line_bytes scripts_bytes done is line_told scripts_told =
       let (text, answered) =
-      done_answer (two_files certify line scripts) r
+      done_answer view old new files c1 c2 (two_files certify line scripts) r
       (subst (λ (x : Option Command). EndsOf view x files c1 c2 old new r) is e) done (
         is_told files line line_bytes line_told,
         (is_told files scripts scripts_bytes scripts_told, tt),
@@ -430,15 +404,14 @@ module _ {K : Type 0} (view : K → SinkView) (old new : K) (files : List ℕ �
       ) in
       check_said files line scripts cert line_bytes scripts_bytes cert_bytes line_told scripts_told
       cert_told text []
-      (λ of all line_is scripts_are fit counts accepted. record {
-        line = of;
-        line_is = line_is;
-        scripts = all;
-        scripts_are = scripts_are;
-        once = known.one_file of scripts_bytes (map values_of all) scripts_are;
-        holds = known.accepted_true of all cert_bytes counts name terminal verdict fit accepted
-            verdict_there;
-      })
+      (λ of all line_is scripts_are fit counts accepted.
+      in_files known.one_file line_bytes scripts_bytes
+      (λ line scripts. HoldsOf line scripts name terminal (HoldsAsAccepted verdict))
+      (λ a b lines xs ys both.
+      accepted_in known.counts known.histories a b lines xs ys both verdict name terminal)
+      of all line_is scripts_are
+      (known.accepted_true of all cert_bytes counts name terminal verdict fit accepted
+      verdict_there))
       answered
 
   pub headline : (command : Option Command) (r : Result Status Stop)
@@ -449,15 +422,21 @@ module _ {K : Type 0} (view : K → SinkView) (old new : K) (files : List ℕ �
     status_says = status_true command r e;
     accepted = check_true command r e;
     matched = match_true view old new files c1 c2 known command r e;
+    match_says = match_says view old new files c1 c2 known command r e;
     played = play_true view old new files c1 c2 known command r e;
     play_begun = play_begun view old new files c1 c2 known command r e;
     reported = λ line scripts line_bytes scripts_bytes put done is line_told scripts_told has.
         two_put report command r e line scripts line_bytes scripts_bytes put done is line_told
         scripts_told has (λ of all. ReportIsTrue of all put)
-        (λ of all fit said. report_true known of all fit put said.2.1);
+        (λ a b lines xs ys both. report_on known.counts known.histories a b lines xs ys both put)
+        (λ of all fit said.
+        report_true known of all (λ i script at. all_at (Fits of) all i script fit at) put
+        said.2.1);
     margin_put = λ line scripts name line_bytes scripts_bytes put done is line_told scripts_told has.
         two_put (margin name) command r e line scripts line_bytes scripts_bytes put done is
         line_told scripts_told has (λ of all. MarginIsTrue of all name put)
+        (λ a b lines xs ys both.
+        margin_on known.counts known.histories a b lines xs ys both name put)
         (λ of all fit said.
         of_name (param_named of name) (λ why. refuses why (status_of r) put [])
         (λ param. done_with (margin_answer of all param) (status_of r) put []) said
@@ -466,6 +445,7 @@ module _ {K : Type 0} (view : K → SinkView) (old new : K) (files : List ℕ �
     split_put = λ n line scripts line_bytes scripts_bytes put done is line_told scripts_told has.
         two_put (split n) command r e line scripts line_bytes scripts_bytes put done is line_told
         scripts_told has (λ of all. SplitIsTrue of all put)
+        (λ a b lines xs ys both. split_on known.counts known.histories a b lines xs ys both put)
         (λ of all fit said. split_true known of all fit n said.0 put said.2);
     trees_accepted = λ line scripts trees line_bytes scripts_bytes trees_bytes good is line_told scripts_told trees_told.
         let (text, answered) =
@@ -479,13 +459,11 @@ module _ {K : Type 0} (view : K → SinkView) (old new : K) (files : List ℕ �
         ) in
         recheck_said files line scripts trees line_bytes scripts_bytes trees_bytes line_told
         scripts_told trees_told text []
-        (λ of all line_is scripts_are fit counts accepted. record {
-          line = of;
-          line_is = line_is;
-          scripts = all;
-          scripts_are = scripts_are;
-          once = known.one_file of scripts_bytes (map values_of all) scripts_are;
-          holds = known.trees of all trees_bytes counts fit accepted;
-        })
+        (λ of all line_is scripts_are fit counts accepted.
+        in_files known.one_file line_bytes scripts_bytes (λ of all. SplitIsTrue of all trees_bytes)
+        (λ a b lines xs ys both.
+        split_on known.counts known.histories a b lines xs ys both trees_bytes)
+        of all line_is scripts_are
+        (accepted_split known of all fit trees_bytes counts accepted))
         answered;
   }

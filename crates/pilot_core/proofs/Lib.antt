@@ -9,3 +9,10 @@ pub mod Played
 pub mod Headlines
 pub mod Printed
 pub mod SameValues
+pub mod Reported
+pub mod SameFacts
+pub mod SameFiles
+pub mod SameScripts
+pub mod SameTexts
+pub mod PrintedTrees
+pub mod OneAnswer

@@ -1,23 +1,28 @@
 -- What `match` has put is true of every choice of delays.
-use Rattle.std.proofs.Common.{◌≡◌, ℕ, List, [], ◌∷◌, ◌++◌, Option, Some, Result, Ok, Err, map, refl}
+use Rattle.std.proofs.Common.{◌≡◌, ℕ, Bool, true, false, List, [], ◌∷◌, ◌++◌, Option, Some, Result, Ok, Err, map, refl}
 use Rattle.std.proofs.Common.{sym, ◌∙◌, ap, subst, ⊎_elim}
 use Rattle.std.specs.Prelude.{slice_get}
+use Rattle.std.specs.List.{All}
+use Rattle.model_line.specs.{declared.line.Line.Line, declared.script.Script.Script}
+use Rattle.record_match.specs.{Answer.IsMatchAnswer, Recorded.IsRecordOf}
 use Rattle.record_match.specs.Waves.{SeenValues, records_said}
 use Rattle.record_match.specs.declared.fault.SeenFault.{SeenFault}
 use Rattle.fault_script.specs.Values.{values_of}
-use Rattle.commands.specs.Sinks.{SinkView}
+use Rattle.commands.specs.{Answers.status_by, Sinks.SinkView}
 use Rattle.headline.specs.Matched.{HasMatch, Matched, matched_words}
 use Rattle.headline.specs.WholeLines.{whole_lines}
 use Rattle.pilot_core.specs.{Call.answers, CallAnswers.done_with, Commands.answer, Ends.EndsOf}
-use Rattle.pilot_core.specs.{Headline.HasPut, HeadlineLaws.HeadlineLaws, MatchTruths.IsMatchTrue}
-use Rattle.pilot_core.specs.{Reading.of_record, Status.status_of, Words.Command, Words.three_files}
+use Rattle.pilot_core.specs.{Headline.HasPut, HeadlineLaws.HeadlineLaws}
+use Rattle.pilot_core.specs.MatchTruths.{InRecords, IsMatchToldBy, IsMatchTrue}
+use Rattle.pilot_core.specs.{Reading.of_record, Status.IsDone, Status.status_of}
+use Rattle.pilot_core.specs.{Status.status_of_done, Words.Command, Words.three_files}
 use Rattle.pilot_core.specs.declared.refusal.Refusal.{Refusal}
 use Rattle.pilot_core.specs.declared.refusal.Refusal.TheVariants as refusal
 use Rattle.pilot_core.specs.declared.stop.Status.{Status}
 use Rattle.pilot_core.specs.declared.stop.Stop.{Stop}
 use Rattle.pilot_core.specs.declared.words.ThreeFiles.TheVariants as three
-use Rattle.pilot_core.proofs.Told.{IsAnswerFront, front_of_nothing, is_told, three_told}
-use Rattle.pilot_core.proofs.Told.{what_was_put}
+use Rattle.pilot_core.proofs.Told.{IsAnswerFront, done_answer, front_of_nothing, is_told}
+use Rattle.pilot_core.proofs.Told.{three_told, what_was_put}
 
 -- nothing has no line
 no_match : {X : Type 0} (put name : List ℕ) (i : ℕ) (said : Matched) → put ≡ []
@@ -46,7 +51,7 @@ match_front : HeadlineLaws → (files : List ℕ → Option (List ℕ))
     → files line ≡ Some line_bytes → files scripts ≡ Some scripts_bytes
     → files entries ≡ Some record_bytes → (put name : List ℕ) (i : ℕ) (said : Matched)
     → IsAnswerFront (answers (Some (three_files three.Match line scripts entries)) files) put
-    → HasMatch put i name said → IsMatchTrue line_bytes scripts_bytes record_bytes i name said
+    → HasMatch put i name said → InRecords line_bytes scripts_bytes record_bytes (IsMatchTrue i name said)
 match_front known files line scripts entries line_bytes scripts_bytes record_bytes line_told
     scripts_told record_told put name i said front has =
     three_told files line scripts entries line_bytes scripts_bytes record_bytes line_told
@@ -70,6 +75,47 @@ match_front known files line scripts entries line_bytes scripts_bytes record_byt
     }))
     front.is
 
+-- what the status says of records
+told_by : HeadlineLaws → (line : Line) (scripts : List Script) (records : List SeenValues)
+    (x y : Bool) (text : List ℕ) → All (IsRecordOf line scripts) records
+    → IsMatchAnswer line scripts records x y text
+    → IsMatchToldBy (status_of_done (status_by x y)) line scripts records
+told_by known line scripts records true y text of is =
+    known.of_records.some_impossible line scripts records y text of is
+told_by known line scripts records false true text of is =
+    known.of_records.some_open line scripts records false text of is
+told_by known line scripts records false false text of is =
+    known.of_records.all_given line scripts records text of is
+
+match_told : HeadlineLaws → (files : List ℕ → Option (List ℕ))
+    (line scripts entries line_bytes scripts_bytes record_bytes : List ℕ)
+    → files line ≡ Some line_bytes → files scripts ≡ Some scripts_bytes
+    → files entries ≡ Some record_bytes → (s : Status) (text : List ℕ) → IsDone s
+    → answers (Some (three_files three.Match line scripts entries)) files s text []
+    → InRecords line_bytes scripts_bytes record_bytes (IsMatchToldBy s)
+match_told known files line scripts entries line_bytes scripts_bytes record_bytes line_told
+    scripts_told record_told s text is_done answered =
+    three_told files line scripts entries line_bytes scripts_bytes record_bytes line_told
+    scripts_told record_told s text [] three.Match
+    (λ why refused. absurd (subst IsDone refused.0 is_done))
+    (λ of all line_is scripts_are fit read.
+    record_said (records_said of all record_bytes) _ _ read
+    (λ why refused. absurd (subst IsDone refused.0 is_done))
+    (λ records records_are done. record {
+      line = of;
+      line_is = line_is;
+      scripts = all;
+      scripts_are = scripts_are;
+      once = known.one_file of scripts_bytes (map values_of all) scripts_are;
+      records = records;
+      records_are = records_are;
+      holds = subst (λ (t : Status). IsMatchToldBy t of all records)
+          (sym (done.1 ∙ ap status_of_done done.2.status_is))
+          (told_by known of all records done.2.some_impossible done.2.some_open text
+          (known.of_records.records of all record_bytes records records_are) done.2.settled);
+    }))
+    answered
+
 module _ {K : Type 0} (view : K → SinkView) (old new : K) (files : List ℕ → Option (List ℕ))
     (c1 c2 : List ℕ → ℕ) (known : HeadlineLaws) where
   pub match_true : (command : Option Command) (r : Result Status Stop)
@@ -79,7 +125,7 @@ module _ {K : Type 0} (view : K → SinkView) (old new : K) (files : List ℕ �
       → files line ≡ Some line_bytes → files scripts ≡ Some scripts_bytes
       → files entries ≡ Some record_bytes → HasPut (view old) (view new) put
       → HasMatch put i name said
-      → IsMatchTrue line_bytes scripts_bytes record_bytes i name said
+      → InRecords line_bytes scripts_bytes record_bytes (IsMatchTrue i name said)
   match_true command r e line scripts entries line_bytes scripts_bytes record_bytes put name i said
       is line_told scripts_told record_told has there =
       ⊎_elim (λ none. no_match put name i said none there)
@@ -94,3 +140,24 @@ module _ {K : Type 0} (view : K → SinkView) (old new : K) (files : List ℕ �
           (is_told files entries record_bytes record_told, tt),
         ),
       ))
+
+  pub match_says : (command : Option Command) (r : Result Status Stop)
+      → EndsOf view command files c1 c2 old new r
+      → (line scripts entries line_bytes scripts_bytes record_bytes : List ℕ)
+      → IsDone (status_of r) → command ≡ Some (three_files three.Match line scripts entries)
+      → files line ≡ Some line_bytes → files scripts ≡ Some scripts_bytes
+      → files entries ≡ Some record_bytes
+      → InRecords line_bytes scripts_bytes record_bytes (IsMatchToldBy (status_of r))
+  match_says command r e line scripts entries line_bytes scripts_bytes record_bytes done is
+      line_told scripts_told record_told =
+      let (text, answered) =
+      done_answer view old new files c1 c2 (three_files three.Match line scripts entries) r
+      (subst (λ (x : Option Command). EndsOf view x files c1 c2 old new r) is e) done (
+        is_told files line line_bytes line_told,
+        (
+          is_told files scripts scripts_bytes scripts_told,
+          (is_told files entries record_bytes record_told, tt),
+        ),
+      ) in
+      match_told known files line scripts entries line_bytes scripts_bytes record_bytes line_told
+      scripts_told record_told (status_of r) text done answered

@@ -8,12 +8,12 @@ use Rattle.cert_checker.specs.Counts.{AreCounts, all_verdicts, are_counts, count
 use Rattle.cert_checker.specs.declared.fault.CheckFault.{CheckFault}
 use Rattle.cert_checker.specs.declared.fault.CheckFault.TheVariants as fault
 use Rattle.own_certificate.specs.Certified.{AreCertified}
-use Rattle.commands.specs.{Check.check_answer, Checked.accepted_pieces, Verdicts.verdicts_status}
+use Rattle.commands.specs.{Certify.certify_answer, Check.check_answer, Checked.accepted_pieces}
 use Rattle.commands.specs.declared.done.Done.{Done}
 use Rattle.commands.specs.declared.done.Done.TheVariants as done
-use Rattle.pilot_core.specs.Truths.{IsAcceptedAsPrinted}
+use Rattle.pilot_core.specs.Accepted.{counted_line}
 
-same_counts : (a b : Counts) → a.yes ≡ b.yes → a.no ≡ b.no → a.undecided ≡ b.undecided → a ≡ b
+pub same_counts : (a b : Counts) → a.yes ≡ b.yes → a.no ≡ b.no → a.undecided ≡ b.undecided → a ≡ b
 same_counts a b p q r =
     let by_yes : ℕ → Counts = λ n. record { yes = n; no = a.no; undecided = a.undecided } in
     let by_no : ℕ → Counts = λ n. record { yes = b.yes; no = n; undecided = a.undecided } in
@@ -32,43 +32,36 @@ module _
     (no_fault : (line : Line) (scripts : List Script) (claims : List Claims) (f : CheckFault)
     → All (Fits line) scripts → AreCertified line scripts claims
     → IsCheckFault line scripts (certificate_text line scripts claims) f → f ≡ fault.Memory)
-    (line : Line) (scripts : List Script) (fit : All (Fits line) scripts) (claims : List Claims)
-    (certified : AreCertified line scripts claims) where
-  accepted_line : check_answer line scripts (certificate_text line scripts claims) done.Good
-      (concat (accepted_pieces (counts_in (all_verdicts claims))))
-  accepted_line = record {
-    counts = counts_in (all_verdicts claims);
-    accepted = accepted line scripts claims (counts_in (all_verdicts claims)) fit certified
-        (are_counts (all_verdicts claims));
-    text_is = refl;
-  }
+    (line : Line) (scripts : List Script) (d : Done) (text : List ℕ)
+    (is : certify_answer line scripts d text) (fit : All (Fits line) scripts) where
+  pub accepted_line : check_answer line scripts text done.Good (counted_line (all_verdicts is.claims))
+  accepted_line =
+      subst (λ (t : List ℕ). check_answer line scripts t done.Good
+      (counted_line (all_verdicts is.claims))) (sym is.text_is) (record {
+        counts = counts_in (all_verdicts is.claims);
+        accepted = accepted line scripts is.claims (counts_in (all_verdicts is.claims)) fit
+            is.certified (are_counts (all_verdicts is.claims));
+        text_is = refl;
+      })
 
   only_line : (other : Done) (answer : List ℕ)
-      → check_answer line scripts (certificate_text line scripts claims) other answer
-      → (other ≡ done.Good)
-      × (answer ≡ concat (accepted_pieces (counts_in (all_verdicts claims))))
-  only_line done.Good answer is =
-      let are = counted line scripts claims is.counts fit certified is.accepted in (
+      → check_answer line scripts (certificate_text line scripts is.claims) other answer
+      → (other ≡ done.Good) × (answer ≡ counted_line (all_verdicts is.claims))
+  only_line done.Good answer said =
+      let are = counted line scripts is.claims said.counts fit is.certified said.accepted in (
         refl,
-        is.text_is
+        said.text_is
             ∙ ap (λ (c : Counts). concat (accepted_pieces c))
-            (same_counts is.counts (counts_in (all_verdicts claims)) are.yes are.no are.undecided),
+            (same_counts said.counts (counts_in (all_verdicts is.claims)) are.yes are.no
+            are.undecided),
       )
-  only_line done.SomeNo answer is = absurd is
-  only_line done.SomeUndecided answer is = absurd is
-  only_line done.Rejected answer is =
-      absurd (is.known (no_fault line scripts claims is.why fit certified is.first))
+  only_line done.SomeNo answer said = absurd said
+  only_line done.SomeUndecided answer said = absurd said
+  only_line done.Rejected answer said =
+      absurd (said.known (no_fault line scripts is.claims said.why fit is.certified said.first))
 
-  pub as_printed : (d : Done) (text : List ℕ) → d ≡ verdicts_status (all_verdicts claims)
-      → text ≡ certificate_text line scripts claims → IsAcceptedAsPrinted line scripts d text
-  as_printed d text status is = record {
-    claims = claims;
-    certified = certified;
-    text_is = is;
-    status_is = status;
-    accepted = subst (λ (t : List ℕ). check_answer line scripts t done.Good
-        (concat (accepted_pieces (counts_in (all_verdicts claims))))) (sym is) accepted_line;
-    only = λ other answer said.
-        only_line other answer
-        (subst (λ (t : List ℕ). check_answer line scripts t other answer) is said);
-  }
+  pub accepted_only : (other : Done) (answer : List ℕ) → check_answer line scripts text other answer
+      → (other ≡ done.Good) × (answer ≡ counted_line (all_verdicts is.claims))
+  accepted_only other answer said =
+      only_line other answer
+      (subst (λ (t : List ℕ). check_answer line scripts t other answer) is.text_is said)

@@ -23,7 +23,7 @@ use Rattle.headline.specs.Obligations.{IsFailedBy, IsMetByAll}
 
 -- ---- lines of the same values
 
-same_but_params : (a b : Line) → line_values b ≡ line_values a → SameButParams a b
+pub same_but_params : (a b : Line) → line_values b ≡ line_values a → SameButParams a b
 same_but_params a b same = record {
   tick_us = ap (λ (v : LineValues). v.tick_us) same;
   horizon = ap (λ (v : LineValues). v.horizon) same;
@@ -33,15 +33,15 @@ same_but_params a b same = record {
   channels = ap (λ (v : LineValues). v.channels) same;
 }
 
-leasts_of : (ps : List Param) → map (λ (x : Bounds). x.least) (intervals_of ps) ≡ map (λ (p : Param). p.least) ps
+pub leasts_of : (ps : List Param) → map (λ (x : Bounds). x.least) (intervals_of ps) ≡ map (λ (p : Param). p.least) ps
 leasts_of [] = refl
 leasts_of (p ∷ ps) = ap (λ (l : List ℕ). p.least ∷ l) (leasts_of ps)
 
-greatests_of : (ps : List Param) → map (λ (x : Bounds). x.greatest) (intervals_of ps) ≡ map (λ (p : Param). p.greatest) ps
+pub greatests_of : (ps : List Param) → map (λ (x : Bounds). x.greatest) (intervals_of ps) ≡ map (λ (p : Param). p.greatest) ps
 greatests_of [] = refl
 greatests_of (p ∷ ps) = ap (λ (l : List ℕ). p.greatest ∷ l) (greatests_of ps)
 
-same_ends : (a b : Line) (i : ℕ) → line_values b ≡ line_values a → declared_ends b i ≡ declared_ends a i
+pub same_ends : (a b : Line) (i : ℕ) → line_values b ≡ line_values a → declared_ends b i ≡ declared_ends a i
 same_ends a b i same =
     let leasts : map (λ (p : Param). p.least) b.params.items ≡ map (λ (p : Param). p.least) a.params.items =
     sym (leasts_of b.params.items)
@@ -63,10 +63,10 @@ same_ends a b i same =
 
 module _ (counts : CountsRestOnNoInterval) (histories : HistoriesRestOnNoInterval) (a b : Line)
     (same : line_values b ≡ line_values a) where
-  rest : SameButParams a b
+  pub rest : SameButParams a b
   rest = same_but_params a b same
 
-  inside_back : (choice : Choice) → IsInside b choice → IsInside a choice
+  pub inside_back : (choice : Choice) → IsInside b choice → IsInside a choice
   unfolding declared_box
   inside_back choice inside = record {
     numbers = λ i lt.
@@ -83,7 +83,7 @@ module _ (counts : CountsRestOnNoInterval) (histories : HistoriesRestOnNoInterva
   -- ---- scripts of the same values
 
   module _ (s r : Script) (values : values_of r ≡ values_of s) where
-    same_spans : r.spans.items ≡ s.spans.items
+    pub same_spans : r.spans.items ≡ s.spans.items
     same_spans = ap (λ (v : ScriptValues). v.spans) values
 
     same_world : (choice : Choice) → world_of b r choice ≡ world_of b s choice
@@ -98,7 +98,7 @@ module _ (counts : CountsRestOnNoInterval) (histories : HistoriesRestOnNoInterva
         } in
         ap by_spans same_spans
 
-    history_back : (choice : Choice) (h : History) → IsLineHistory b r choice h
+    pub history_back : (choice : Choice) (h : History) → IsLineHistory b r choice h
         → IsLineHistory a s choice h
     history_back choice h is =
         (histories.choices a b s choice h rest).0
@@ -111,7 +111,7 @@ module _ (counts : CountsRestOnNoInterval) (histories : HistoriesRestOnNoInterva
               ∙ ap (λ (w : World). mean w h.key (trip_tree b k) t) (same_world choice);
         })
 
-    meets_on : (k : ℕ) (h : History) → Meets a s k h → Meets b r k h
+    pub meets_on : (k : ℕ) (h : History) → Meets a s k h → Meets b r k h
     meets_on k h met =
         subst (λ (n : ℕ). MeetsBy r.kind r.deadline n (h.trip k)) (sym rest.horizon)
         (subst (λ (d : ℕ). MeetsBy r.kind d a.horizon (h.trip k))
@@ -123,7 +123,7 @@ module _ (counts : CountsRestOnNoInterval) (histories : HistoriesRestOnNoInterva
     met_by_all k met = λ choice h inside is.
         meets_on k h (met choice h (inside_back choice inside) (history_back choice h is))
 
-    meets_back : (k : ℕ) (h : History) → Meets b r k h → Meets a s k h
+    pub meets_back : (k : ℕ) (h : History) → Meets b r k h → Meets a s k h
     meets_back k h met =
         subst (λ (n : ℕ). MeetsBy s.kind s.deadline n (h.trip k)) rest.horizon
         (subst (λ (d : ℕ). MeetsBy s.kind d b.horizon (h.trip k))
@@ -140,7 +140,7 @@ module _ (counts : CountsRestOnNoInterval) (histories : HistoriesRestOnNoInterva
         } in
         ap by_delays (fun_ext (λ c. sym (counts.delays a b c rest)))
 
-    inside_on : (choice : Choice) → IsInside a choice → IsInside b choice
+    pub inside_on : (choice : Choice) → IsInside a choice → IsInside b choice
     unfolding declared_box
     inside_on choice inside = record {
       numbers = λ i lt.
@@ -154,7 +154,7 @@ module _ (counts : CountsRestOnNoInterval) (histories : HistoriesRestOnNoInterva
           (subst (λ (n : ℕ). t < n) rest.horizon early));
     }
 
-    history_on : (choice : Choice) (h : History) → IsLineHistory a s choice h
+    pub history_on : (choice : Choice) (h : History) → IsLineHistory a s choice h
         → IsLineHistory b r choice h
     history_on choice h is =
         let of_b = (histories.choices a b s choice h rest).1 is in

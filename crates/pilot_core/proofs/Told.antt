@@ -208,6 +208,16 @@ module _ {K : Type 0} (view : K → SinkView) (old new : K) (files : List ℕ �
   done_put x (Err stop.Sink) e done told put has = absurd done
   done_put x (Err stop.Memory) e done told put has = absurd done
 
+  pub done_answer : (x : Command) (r : Result Status Stop)
+      → EndsOf view (Some x) files c1 c2 old new r → IsDone (status_of r)
+      → AllTold files (files_of x) → (text : List ℕ) × answers (Some x) files (status_of r) text []
+  done_answer x (Ok s) e done told = (e.1.1, e.1.2 told)
+  done_answer x (Err stop.Usage) e done told = absurd done
+  done_answer x (Err (stop.Refused why)) e done told = absurd done
+  done_answer x (Err (stop.Store f)) e done told = absurd done
+  done_answer x (Err stop.Sink) e done told = absurd done
+  done_answer x (Err stop.Memory) e done told = absurd done
+
 -- ---- a command over three files
 
 module _ (files : List ℕ → Option (List ℕ))

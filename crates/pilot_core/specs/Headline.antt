@@ -1,9 +1,7 @@
 -- What a call says of every choice of delays: each verdict that stands in a whole line on out, and,
 -- where a certificate is accepted, each that stands in a whole line of it.
-use Rattle.std.specs.Prelude.{◌≡◌, ◌++◌, ℕ, List, Option, Some, Ok, map}
+use Rattle.std.specs.Prelude.{◌≡◌, ◌++◌, ℕ, List, Option, Some}
 use Rattle.model_line.specs.{declared.line.Line.Line, declared.script.Script.Script}
-use Rattle.line_file.specs.{LineFiles.line_of, Lines.line_values}
-use Rattle.fault_script.specs.{Scripts.scripts_of, Values.AreOfOneFile, Values.values_of}
 use Rattle.certificate.specs.Grammar.{Verdict}
 use Rattle.commands.specs.Sinks.{SinkView}
 use Rattle.std.specs.Prelude.{[]}
@@ -11,10 +9,11 @@ use Rattle.headline.specs.Matched.{HasMatch, Matched}
 use Rattle.headline.specs.Obligations.{AllMet, HoldsAsAccepted, HoldsAsCertified, HoldsSomewhere}
 use Rattle.headline.specs.Obligations.{IsFailedBySome, IsUnknown}
 use Rattle.headline.specs.Printed.{HasVerdict, HoldsOf}
-use Rattle.split_checker.specs.Check.{IsSound}
-use Rattle.pilot_core.specs.Truths.{MarginIsTrue, ReportIsTrue, SplitIsTrue}
+use Rattle.pilot_core.specs.{SaidByFiles.InFiles, Truths.MarginIsTrue, Truths.ReportIsTrue}
+use Rattle.pilot_core.specs.Truths.{SplitIsTrue}
 use Rattle.pilot_core.specs.Words.{Command, certify, margin, report, split, three_files, two_files}
-use Rattle.pilot_core.specs.{MatchTruths.IsMatchTrue, PlayTruths.IsPlayTrue}
+use Rattle.pilot_core.specs.MatchTruths.{InRecords, IsMatchToldBy, IsMatchTrue}
+use Rattle.pilot_core.specs.PlayTruths.{IsPlayTrue}
 use Rattle.pilot_core.specs.{Status.IsDone, declared.stop.Status.Status}
 use Rattle.pilot_core.specs.declared.stop.Status.TheVariants as status
 use Rattle.pilot_core.specs.declared.words.ThreeFiles.TheVariants as three
@@ -24,16 +23,6 @@ pub record HasPut (old new : SinkView) (put : List ℕ) : Type 0 where
   pub before : List ℕ
   pub told_before : old.written ≡ Some before
   pub told_after : new.written ≡ Some (before ++ put)
-
--- the files say a line, and scripts of which no two have one name, and this holds of them
-pub record InFiles (line_bytes scripts_bytes : List ℕ) (Fact : Line → List Script → Type 0)
-    : Type 0 where
-  pub line : Line
-  pub line_is : line_of line_bytes ≡ Ok (line_values line)
-  pub scripts : List Script
-  pub scripts_are : scripts_of line scripts_bytes ≡ Ok (map values_of scripts)
-  pub once : AreOfOneFile (map values_of scripts)
-  pub holds : Fact line scripts
 
 -- this holds of the obligation of the script and at the terminal with these names
 abbrev pub HoldsInFiles : List ℕ → List ℕ → List ℕ → List ℕ → (Line → Script → ℕ → Type 0) → Type 0
@@ -79,7 +68,13 @@ pub record Headline (command : Option Command) (files : List ℕ → Option (Lis
       (i : ℕ) (said : Matched) → command ≡ Some (three_files three.Match line scripts entries)
       → files line ≡ Some line_bytes → files scripts ≡ Some scripts_bytes
       → files entries ≡ Some record_bytes → HasPut out_old out_new put → HasMatch put i name said
-      → IsMatchTrue line_bytes scripts_bytes record_bytes i name said
+      → InRecords line_bytes scripts_bytes record_bytes (IsMatchTrue i name said)
+  -- Its status says what is so of all records.
+  pub match_says : (line scripts entries line_bytes scripts_bytes record_bytes : List ℕ)
+      → IsDone s → command ≡ Some (three_files three.Match line scripts entries)
+      → files line ≡ Some line_bytes → files scripts ≡ Some scripts_bytes
+      → files entries ≡ Some record_bytes
+      → InRecords line_bytes scripts_bytes record_bytes (IsMatchToldBy s)
   -- What `play` has put is the rows of the histories of its timings; and what it has put of them,
   -- however the call ended, is a front of these rows, if it is anything.
   pub played : (line scripts timings line_bytes scripts_bytes timings_bytes put : List ℕ)
@@ -111,4 +106,4 @@ pub record Headline (command : Option Command) (files : List ℕ → Option (Lis
       → s ≡ status.Good → command ≡ Some (three_files three.Recheck line scripts trees)
       → files line ≡ Some line_bytes → files scripts ≡ Some scripts_bytes
       → files trees ≡ Some trees_bytes
-      → InFiles line_bytes scripts_bytes (λ of all. IsSound of all trees_bytes)
+      → InFiles line_bytes scripts_bytes (λ of all. SplitIsTrue of all trees_bytes)

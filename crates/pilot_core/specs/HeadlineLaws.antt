@@ -1,23 +1,27 @@
 -- The laws that the headline rests on.
-use Rattle.std.specs.Prelude.{◌≡◌, ◌++◌, ◌<◌, ℕ, true, false, List, Some, Ok, length, slice_get}
+use Rattle.std.specs.Prelude.{◌≡◌, ◌↔◌, ◌++◌, ◌<◌, ℕ, Bool, true, false, List, None, Some, Ok}
+use Rattle.std.specs.Prelude.{IsFalse, IsTrue, length, slice_get}
 use Rattle.std.specs.List.{All, list_any}
+use Rattle.model_line.specs.Laws.{CountsRestOnNoInterval, DeadlinesAreBelowTheHorizon}
+use Rattle.model_line.specs.Parameters.{terminal_count}
 use Rattle.model_line.specs.{declared.line.Line.Line, declared.script.Script.Script, Fits.Fits}
-use Rattle.model_line.specs.{Laws.DeadlinesAreBelowTheHorizon, Parameters.terminal_count}
 use Rattle.model_logic.specs.Histories.{History, IsLineHistory, Meets}
-use Rattle.model_logic.specs.Laws.{EachLineHasAChoiceInside, TheRuleSpeaksForEveryChoice}
+use Rattle.model_logic.specs.Laws.{AWiderBoxCovers, EachLineHasAChoiceInside}
+use Rattle.model_logic.specs.Laws.{TheRuleSpeaksForEveryChoice}
 use Rattle.model_logic.specs.Choice.{Choice, IsWithin}
+use Rattle.model_logic.specs.IntervalLaws.{HistoriesRestOnNoInterval}
 use Rattle.fault_script.specs.{Scripts.scripts_of, Values.AreOfOneFile, Values.ScriptValues}
 use Rattle.certificate.specs.{Grammar.Claims, Grammar.Verdict, Text.certificate_text}
 use Rattle.cert_checker.specs.{declared.counts.Counts.Counts, Check.IsAccepted}
 use Rattle.cert_checker.specs.Counts.{all_verdicts, is_no, is_undecided}
 use Rattle.own_certificate.specs.Certified.{AreCertified}
+use Rattle.wave_runs.specs.FirstTick.{first_on}
 use Rattle.margin_search.specs.{Margin.IsHeldTo, Raised.raised}
-use Rattle.split_text.specs.Grammar.{SplitResult}
+use Rattle.split_text.specs.Grammar.{HasOneEach, IsSplitText, SplitResult}
+use Rattle.split_text.specs.Text.{split_text}
 use Rattle.split_checker.specs.Check as split_check
 use Rattle.split_checker.specs.Results.{AreSupported, AreTold}
 use Rattle.own_splits.specs.Searched.{AreSearched}
-use Rattle.commands.specs.Certify.{IsCertificateOf, IsCertifiedText}
-use Rattle.commands.specs.declared.done.Done.{Done}
 use Rattle.headline.specs.Obligations.{AllMet, HoldsAsAccepted, HoldsAsCertified, HoldsSomewhere}
 use Rattle.headline.specs.Obligations.{IsFailedBySome, IsUnknown}
 use Rattle.headline.specs.Printed.{HasVerdict, HoldsOf}
@@ -26,9 +30,10 @@ use Rattle.pilot_core.specs.RecordLaws.{RecordLaws}
 pub record HeadlineLaws : Type 0 where
   pub one_file : (line : Line) (bytes : List ℕ) (scripts : List ScriptValues)
       → scripts_of line bytes ≡ Ok scripts → AreOfOneFile scripts
+  -- lines that have the same values
+  pub counts : CountsRestOnNoInterval
+  pub histories : HistoriesRestOnNoInterval
   -- certificates
-  pub certified : (line : Line) (scripts : List Script) (d : Done) (text : List ℕ)
-      → IsCertificateOf line scripts d text → IsCertifiedText line scripts d text
   pub certified_true : (line : Line) (scripts : List Script) (claims : List Claims)
       (front rest name terminal : List ℕ) (verdict : Verdict) → All (Fits line) scripts
       → AreCertified line scripts claims → front ++ rest ≡ certificate_text line scripts claims
@@ -56,6 +61,12 @@ pub record HeadlineLaws : Type 0 where
   pub rules : TheRuleSpeaksForEveryChoice
   pub deadlines : DeadlinesAreBelowTheHorizon
   pub inside : EachLineHasAChoiceInside
+  pub covers : AWiderBoxCovers
+  pub first_some : (u : ℕ → Bool) (n t : ℕ)
+      → (first_on u n ≡ Some t)
+      ↔ ((t < n) × IsTrue (u t) × ((r : ℕ) → r < t → IsFalse (u r)))
+  pub first_none : (u : ℕ → Bool) (n : ℕ)
+      → (first_on u n ≡ None) ↔ ((t : ℕ) → t < n → IsFalse (u t))
   pub margins : (line : Line) (scripts : List Script) (param v s k : ℕ) (script : Script)
       → All (Fits line) scripts → IsHeldTo line scripts param v
       → slice_get scripts s ≡ Some script → k < terminal_count line
@@ -69,3 +80,9 @@ pub record HeadlineLaws : Type 0 where
   pub trees : (line : Line) (scripts : List Script) (bytes : List ℕ) (counts : Counts)
       → All (Fits line) scripts → split_check.IsAccepted line scripts bytes counts
       → split_check.IsSound line scripts bytes
+  pub one_text : (line : Line) (scripts : List Script) (parts : List (List SplitResult))
+      (bytes others : List ℕ) → IsSplitText line scripts parts bytes
+      → IsSplitText line scripts parts others → bytes ≡ others
+  pub split_printed : (line : Line) (scripts : List Script) (parts : List (List SplitResult))
+      → length parts ≡ length scripts → All (Fits line) scripts → All (HasOneEach line) parts
+      → IsSplitText line scripts parts (split_text line scripts parts)

@@ -1,3 +1,4 @@
+pub mod Accepted
 pub mod Call
 pub mod Clauses
 pub mod CallAnswers
@@ -14,6 +15,7 @@ pub mod Truths
 pub mod Messages
 pub mod Reading
 pub mod Refusals
+pub mod SaidByFiles
 pub mod Status
 pub mod Stops
 pub mod Study

@@ -1,15 +1,18 @@
--- What is so of every choice of delays where `match` has put a line.
+-- What is so of every choice of delays where `match` has put a line, and by its status.
 use Rattle.std.specs.Prelude.{◌≡◌, ℕ, List, Ok, map}
 use Rattle.model_line.specs.{declared.line.Line.Line, declared.script.Script.Script}
 use Rattle.line_file.specs.{LineFiles.line_of, Lines.line_values}
 use Rattle.fault_script.specs.{Scripts.scripts_of, Values.AreOfOneFile, Values.values_of}
 use Rattle.record_match.specs.Waves.{SeenValues, records_said}
-use Rattle.headline.specs.Matched.{HoldsOfRecord, HoldsOfRecordAt, Matched}
+use Rattle.headline.specs.Matched.{AllGiven, HoldsOfRecord, HoldsOfRecordAt, HoldsOfSomeRecord}
+use Rattle.headline.specs.Matched.{IsGivenByNone, IsOpenRecord, Matched}
+use Rattle.pilot_core.specs.declared.stop.Status.{Status}
+use Rattle.pilot_core.specs.declared.stop.Status.TheVariants as status
 
--- the files say a line, scripts of which no two have one name, and records of the field; record i is
--- of the script of that name, and what is said of it is true
-pub record IsMatchTrue (line_bytes scripts_bytes record_bytes : List ℕ) (i : ℕ) (name : List ℕ)
-    (said : Matched) : Type 0 where
+-- the files say a line, scripts of which no two have one name, and records of the field, and this
+-- holds of them
+pub record InRecords (line_bytes scripts_bytes record_bytes : List ℕ)
+    (Fact : Line → List Script → List SeenValues → Type 0) : Type 0 where
   pub line : Line
   pub line_is : line_of line_bytes ≡ Ok (line_values line)
   pub scripts : List Script
@@ -17,4 +20,19 @@ pub record IsMatchTrue (line_bytes scripts_bytes record_bytes : List ℕ) (i : �
   pub once : AreOfOneFile (map values_of scripts)
   pub records : List SeenValues
   pub records_are : records_said line scripts record_bytes ≡ Ok records
-  pub holds : HoldsOfRecordAt line scripts records i name (HoldsOfRecord said)
+  pub holds : Fact line scripts records
+
+-- record i is of the script of that name, and what is said of it is true
+abbrev pub IsMatchTrue : ℕ → List ℕ → Matched → Line → List Script → List SeenValues → Type 0
+IsMatchTrue i name said line scripts records =
+    HoldsOfRecordAt line scripts records i name (HoldsOfRecord said)
+
+-- what the status of `match` says. 0: some choice inside gives each record. 1: of some record, no
+-- choice inside gives it. 2: some record is open.
+abbrev pub IsMatchToldBy : Status → Line → List Script → List SeenValues → Type 0
+IsMatchToldBy status.Good line scripts records = AllGiven line scripts records
+IsMatchToldBy status.SomeNo line scripts records =
+    HoldsOfSomeRecord line scripts records IsGivenByNone
+IsMatchToldBy status.SomeUndecided line scripts records =
+    HoldsOfSomeRecord line scripts records IsOpenRecord
+IsMatchToldBy s line scripts records = Unit {0}

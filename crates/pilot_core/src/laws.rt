@@ -1,57 +1,87 @@
 //! What the headline rests on.
-ghost use Rattle.std.specs.Prelude.{◌≡◌, ℕ, List};
+ghost use Rattle.std.specs.Prelude.{◌≡◌, ◌≤◌, ℕ, List};
 ghost use Rattle.std.specs.List.{All};
 ghost use Rattle.model_line.specs.{declared.line.Line.Line, declared.script.Script.Script};
 ghost use Rattle.model_line.specs.Fits.{Fits};
 ghost use Rattle.line_file.specs.Lines.{line_values};
-ghost use Rattle.fault_script.specs.Values.{values_of};
-ghost use Rattle.headline.specs.Obligations.{IsFailedBy, IsMetByAll};
-ghost use Rattle.commands.specs.{Certify.certify_answer, declared.done.Done.Done};
-ghost use Rattle.pilot_core.specs.{HeadlineLaws.HeadlineLaws, Truths.IsAcceptedAsPrinted};
+ghost use Rattle.fault_script.specs.{Scripts.scripts_of, Values.values_of};
+ghost use Rattle.headline.specs.Obligations.{IsFailedBy, IsMetByAll, IsUnknown};
+ghost use Rattle.cert_checker.specs.Counts.{all_verdicts};
+ghost use Rattle.split_checker.specs.Counts.{all_verdicts as all_split_verdicts};
+ghost use Rattle.commands.specs.{Certify.certify_answer, Check.check_answer};
+ghost use Rattle.commands.specs.{Recheck.recheck_answer, Split.split_answer};
+ghost use Rattle.commands.specs.declared.done.Done.{Done};
+ghost use Rattle.pilot_core.specs.{Accepted.counted_line, HeadlineLaws.HeadlineLaws};
 
 use crate::record_laws::what_is_recorded_is_true;
-use commands::a_certificate_is_what_is_certified;
 use fault_script::a_file_says_scripts_of_one_file;
 use headline::{what_is_accepted_is_true, what_is_certified_is_true};
 use margin_search::what_is_held_to_a_number_is_met;
 use model_line::laws::{counts_do_not_rest_on_the_intervals, deadlines_are_below_the_horizon};
 use model_logic::interval_laws::histories_do_not_rest_on_the_intervals;
-use model_logic::laws::{each_line_has_a_choice_inside, the_rule_speaks_for_every_choice};
+use model_logic::laws::{
+    a_wider_box_covers, each_line_has_a_choice_inside, the_rule_speaks_for_every_choice,
+};
 use own_certificate::what_is_certified_is_accepted;
 use own_splits::what_is_searched_is_accepted;
 use split_checker::accepted_split_trees_are_so;
+use split_text::{printed_results_are_a_split_text, split_results_have_one_text};
+use wave_runs::the_first_tick_is_the_least;
 
 /// What is answered is true of every choice of delays, as the crates below state it.
 pub fn what_is_answered_is_true()
     ensures { HeadlineLaws }
 {
     a_file_says_scripts_of_one_file();
-    a_certificate_is_what_is_certified();
+    counts_do_not_rest_on_the_intervals();
+    histories_do_not_rest_on_the_intervals();
     what_is_certified_is_true();
     what_is_accepted_is_true();
     what_is_recorded_is_true();
     the_rule_speaks_for_every_choice();
     deadlines_are_below_the_horizon();
     each_line_has_a_choice_inside();
+    a_wider_box_covers();
+    the_first_tick_is_the_least();
     what_is_held_to_a_number_is_met();
     what_is_searched_is_accepted();
     accepted_split_trees_are_so();
+    split_results_have_one_text();
+    printed_results_are_a_split_text();
 }
 
 /// What `certify` prints, `check` accepts, with the counts of the verdicts that gave its status; and
 /// it answers nothing else of it.
 pub fn what_certify_prints_is_accepted()
-    ensures { (line : Line) (scripts : List Script) (d : Done) (text : List ℕ) →
-        All (Fits line) scripts → certify_answer line scripts d text →
-        IsAcceptedAsPrinted line scripts d text }
+    ensures accepted { (line : Line) (scripts : List Script) (d : Done) (text : List ℕ)
+        (is : certify_answer line scripts d text) → All (Fits line) scripts →
+        check_answer line scripts text Done.Good (counted_line (all_verdicts is.claims)) }
+    ensures only { (line : Line) (scripts : List Script) (d other : Done)
+        (text answer : List ℕ) (is : certify_answer line scripts d text) →
+        All (Fits line) scripts → check_answer line scripts text other answer →
+        (other ≡ Done.Good) × (answer ≡ counted_line (all_verdicts is.claims)) }
 {
-    a_certificate_is_what_is_certified();
     what_is_certified_is_accepted();
 }
 
-/// That every choice inside meets an obligation, and that these numbers fail it, rests on the values
-/// of the line and of the script alone. So it is so of each line and script that the bytes of the
-/// files say, where it is of some.
+/// What `split` writes, `recheck` accepts, with the counts of what gave its status; and it answers
+/// nothing else of it.
+pub fn what_split_writes_is_accepted()
+    ensures accepted { (line : Line) (scripts : List Script) (n : ℕ) (d : Done) (text : List ℕ)
+        (is : split_answer line scripts n d text) → n ≤ 8 → All (Fits line) scripts →
+        recheck_answer line scripts text Done.Good
+        (counted_line (all_split_verdicts is.parts)) }
+    ensures only { (line : Line) (scripts : List Script) (n : ℕ) (d other : Done)
+        (text answer : List ℕ) (is : split_answer line scripts n d text) → n ≤ 8 →
+        All (Fits line) scripts → recheck_answer line scripts text other answer →
+        (other ≡ Done.Good) × (answer ≡ counted_line (all_split_verdicts is.parts)) }
+{
+    what_is_searched_is_accepted();
+}
+
+/// That every choice inside meets an obligation, that these numbers fail it, and that it is unknown,
+/// rest on the values of the line and of the script alone, and what a scripts file says on those of
+/// the line. So it is so of each line and script that the bytes of the files say, where it is of some.
 pub fn what_is_met_rests_on_the_values()
     ensures met { (line other : Line) (script copy : Script) (k : ℕ) →
         line_values other ≡ line_values line → values_of copy ≡ values_of script →
@@ -59,6 +89,11 @@ pub fn what_is_met_rests_on_the_values()
     ensures failed { (line other : Line) (script copy : Script) (k : ℕ) (numbers : List ℕ) →
         line_values other ≡ line_values line → values_of copy ≡ values_of script →
         IsFailedBy line script k numbers → IsFailedBy other copy k numbers }
+    ensures unknown { (line other : Line) (script copy : Script) (k : ℕ) →
+        line_values other ≡ line_values line → values_of copy ≡ values_of script →
+        IsUnknown line script k → IsUnknown other copy k }
+    ensures scripts { (line other : Line) (bytes : List ℕ) →
+        line_values other ≡ line_values line → scripts_of other bytes ≡ scripts_of line bytes }
 {
     counts_do_not_rest_on_the_intervals();
     histories_do_not_rest_on_the_intervals();

@@ -7,6 +7,7 @@ mod dispatch;
 mod files;
 mod laws;
 mod messages;
+mod one_answer;
 mod record_laws;
 mod refusal;
 mod run;
@@ -20,8 +21,13 @@ pub use commands::Study;
 pub use files::fetch_file;
 pub use laws::{
     what_certify_prints_is_accepted, what_is_answered_is_true, what_is_met_rests_on_the_values,
+    what_split_writes_is_accepted,
 };
 pub use messages::put_message;
+pub use one_answer::{
+    each_check_has_one_answer, each_margin_has_one_answer, each_recheck_has_one_answer,
+    each_report_has_one_answer, each_split_has_one_answer,
+};
 pub use refusal::Refusal;
 pub use stop::{File, Status, Stop};
 pub use study::read_study;

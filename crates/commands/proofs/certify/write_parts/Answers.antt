@@ -28,7 +28,7 @@ returns-in_err-more-clause-writes g c =
     (sink_view g.O.Sink.written g.O.Sink.faults c.loop-script.out)
     (sink_view g.O.Sink.written g.O.Sink.faults c.write_part.new.out)
     c.loop-script.found c.in_err-more.field-0.0
-    (c.each_certificate_has_one_text.ensures.part c.args.line.now) c.requires.fit
+    (c.a_certificate_is_made_of_parts.ensures.scripts c.args.line.now) c.requires.fit
     c.loop-script.invariant.1 c.in_err-more.ensures.writes)
 
 pub loop-script-init : goal.loop-script-init

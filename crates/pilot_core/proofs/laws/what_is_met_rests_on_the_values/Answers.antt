@@ -1,4 +1,5 @@
-use Rattle.pilot_core.proofs.SameValues.{failed_by, met_by_all}
+use Rattle.pilot_core.proofs.{SameFacts.unknown_by, SameScripts.scripts_same}
+use Rattle.pilot_core.proofs.SameValues.{failed_by, met_by_all, same_but_params}
 use Rattle.pilot_core.proofs.laws.what_is_met_rests_on_the_values.Goals as goal
 
 pub returns : goal.returns
@@ -10,4 +11,9 @@ returns c = record {
       failed_by c.counts_do_not_rest_on_the_intervals.ensures
       c.histories_do_not_rest_on_the_intervals.ensures line other lines script copy scripts k
       numbers fails;
+  unknown = λ line other script copy k lines scripts is.
+      unknown_by c.counts_do_not_rest_on_the_intervals.ensures
+      c.histories_do_not_rest_on_the_intervals.ensures line other lines script copy scripts k is;
+  scripts = λ line other bytes lines.
+      scripts_same line other (same_but_params line other lines) bytes;
 }
