@@ -9,7 +9,7 @@ ghost use Rattle.simulator.specs.PlayRows.{run_rows};
 ghost use Rattle.timing_box.specs.{Choice.timing_choice, Inside.IsTimingInside};
 ghost use Rattle.cert_checker.specs.Check.{IsAccepted, IsCheckFault, IsSound};
 ghost use Rattle.engine.specs.Calls.{AskedCertify, AskedCheck, AskedPlay, Calls, NoneFell};
-ghost use Rattle.engine.specs.Certified.{IsCertified};
+ghost use Rattle.engine.specs.ScriptVerdicts.{IsScriptVerdict};
 
 use cert_checker::{CheckFault, Counts};
 use certify_core::ScriptVerdict;
@@ -54,7 +54,7 @@ pub trait Engine {
     ) -> Result<ScriptVerdict, Memory>
         requires of_line { IsNetOf line.now net.now }
         requires fits { Fits line.now script.now }
-        ensures certified { IfOk result (λ said. IsCertified line.now script.now said) }
+        ensures certified { IfOk result (λ said. IsScriptVerdict line.now script.now said) }
         ensures asked { AskedCertify line.now (calls self.old) (calls self.new) }
         ensures kept { NoneFell (calls self.old) (calls self.new) };
 

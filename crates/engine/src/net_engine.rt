@@ -9,7 +9,7 @@ ghost use Rattle.simulator.specs.PlayRows.{run_rows};
 ghost use Rattle.timing_box.specs.{Choice.timing_choice, Inside.IsTimingInside};
 ghost use Rattle.cert_checker.specs.Check.{IsAccepted, IsCheckFault, IsSound};
 ghost use Rattle.engine.specs.Calls.{AskedCertify, AskedCheck, AskedPlay, NoneFell};
-ghost use Rattle.engine.specs.Certified.{IsCertified};
+ghost use Rattle.engine.specs.ScriptVerdicts.{IsScriptVerdict};
 ghost use Rattle.engine.specs.NetCalls.{after_certify, after_check, after_play, calls_of};
 
 use crate::engine::Engine;
@@ -88,7 +88,7 @@ impl Engine for NetEngine {
     ) -> Result<ScriptVerdict, Memory>
         requires of_line { IsNetOf line.now net.now }
         requires fits { Fits line.now script.now }
-        ensures certified { IfOk result (λ said. IsCertified line.now script.now said) }
+        ensures certified { IfOk result (λ said. IsScriptVerdict line.now script.now said) }
         ensures asked { AskedCertify line.now (calls_of self.old) (calls_of self.new) }
         ensures kept { NoneFell (calls_of self.old) (calls_of self.new) }
         ensures counted { self.new ≡ after_certify self.old }
