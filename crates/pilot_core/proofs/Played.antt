@@ -1,6 +1,6 @@
 -- What `play` has put is the rows of the histories of its timings.
-use Rattle.std.proofs.Common.{◌≡◌, ◌≢◌, ℕ, List, [], ◌∷◌, ◌++◌, Option, Some, Result, Ok, Err, map}
-use Rattle.std.proofs.Common.{refl, sym, ◌∙◌, ap, subst, ⊎_elim}
+use Rattle.std.proofs.Common.{◌≡◌, ℕ, List, [], ◌∷◌, ◌++◌, Option, Some, Result, Ok, Err, map}
+use Rattle.std.proofs.Common.{refl, subst}
 use Rattle.std.proofs.lemmas.List.Elements.{All-head, All-tail}
 use Rattle.std.specs.List.{All, flat_map}
 use Rattle.line_model.specs.{declared.line.Line.Line, declared.script.Script.Script, Fits.Fits}
@@ -12,18 +12,18 @@ use Rattle.timing_box.specs.declared.fault.TimingFault.{TimingFault}
 use Rattle.simulator.specs.PlayRows.{run_rows}
 use Rattle.commands.specs.Play.{IsPlayText, IsRunText, IsTimingText, Pieces, play_header}
 use Rattle.commands.specs.Sinks.{SinkView}
-use Rattle.pilot_core.specs.{Call.answers, Ends.EndsOf, Headline.HasPut}
+use Rattle.pilot_core.specs.{Call.answers, Ends.EndsOf}
+use Rattle.pilot_core.specs.CallOver.{HasPut, IsFrontOfText, IsOverThree}
 use Rattle.pilot_core.specs.{HeadlineLaws.HeadlineLaws, PlayTruths.AreTheHistories}
 use Rattle.pilot_core.specs.{PlayTruths.IsPlayTrue, PlayTruths.rows_of_all, Reading.of_timings}
-use Rattle.pilot_core.specs.{Status.IsDone, Status.status_of, Words.Command, Words.three_files}
+use Rattle.pilot_core.specs.{Status.status_of, Words.Command, Words.three_files}
 use Rattle.pilot_core.specs.declared.refusal.Refusal.{Refusal}
 use Rattle.pilot_core.specs.declared.refusal.Refusal.TheVariants as refusal
 use Rattle.pilot_core.specs.declared.stop.Status.{Status}
 use Rattle.pilot_core.specs.declared.stop.Status.TheVariants as status
 use Rattle.pilot_core.specs.declared.stop.Stop.{Stop}
 use Rattle.pilot_core.specs.declared.words.ThreeFiles.TheVariants as three
-use Rattle.pilot_core.proofs.Told.{IsAnswerFront, done_put, front_of_nothing, is_told, three_told}
-use Rattle.pilot_core.proofs.Told.{what_was_put}
+use Rattle.pilot_core.proofs.Told.{all_three, front_of, three_told}
 
 -- one piece after another is a text of pieces
 pieces_of : {X : Type 0} (IsPiece : X → List ℕ → Type 0) (P : X → Type 0) (f : X → List ℕ)
@@ -108,58 +108,17 @@ module _ (known : HeadlineLaws) (files : List ℕ → Option (List ℕ))
       }))
       answered
 
-done_is_no_refusal : {X : Type 0} (s : Status) → IsDone s → s ≡ status.BadInput → X
-done_is_no_refusal s done is = absurd (subst IsDone is done)
-
 module _ {K : Type 0} (view : K → SinkView) (old new : K) (files : List ℕ → Option (List ℕ))
     (c1 c2 : List ℕ → ℕ) (known : HeadlineLaws) where
   pub play_true : (command : Option Command) (r : Result Status Stop)
-      → EndsOf view command files c1 c2 old new r
-      → (line scripts timings line_bytes scripts_bytes timings_bytes put : List ℕ)
-      → IsDone (status_of r) → command ≡ Some (three_files three.Play line scripts timings)
-      → files line ≡ Some line_bytes → files scripts ≡ Some scripts_bytes
-      → files timings ≡ Some timings_bytes → HasPut (view old) (view new) put
-      → IsPlayTrue line_bytes scripts_bytes timings_bytes put
-  play_true command r e line scripts timings line_bytes scripts_bytes timings_bytes put done is
-      line_told scripts_told timings_told has =
-      text_true known files line scripts timings line_bytes scripts_bytes timings_bytes line_told
-      scripts_told timings_told (status_of r) put []
-      (λ refused none. done_is_no_refusal (status_of r) done refused)
-      (done_put view old new files c1 c2 (three_files three.Play line scripts timings) r
-      (subst (λ (x : Option Command). EndsOf view x files c1 c2 old new r) is e) done (
-        is_told files line line_bytes line_told,
-        (
-          is_told files scripts scripts_bytes scripts_told,
-          (is_told files timings timings_bytes timings_told, tt),
-        ),
-      )
-      put has)
-
-  pub play_begun : (command : Option Command) (r : Result Status Stop)
-      → EndsOf view command files c1 c2 old new r
-      → (line scripts timings line_bytes scripts_bytes timings_bytes put : List ℕ)
-      → command ≡ Some (three_files three.Play line scripts timings)
-      → files line ≡ Some line_bytes → files scripts ≡ Some scripts_bytes
-      → files timings ≡ Some timings_bytes → HasPut (view old) (view new) put → put ≢ []
-      → (rest : List ℕ) × IsPlayTrue line_bytes scripts_bytes timings_bytes (put ++ rest)
-  play_begun command r e line scripts timings line_bytes scripts_bytes timings_bytes put is
-      line_told scripts_told timings_told has some =
-      ⊎_elim (λ none. absurd (some none))
-      (λ front. (
-        front.front.rest,
-        subst (λ (t : List ℕ). IsPlayTrue line_bytes scripts_bytes timings_bytes t)
-            (sym front.front.is)
-            (text_true known files line scripts timings line_bytes scripts_bytes timings_bytes
-            line_told scripts_told timings_told front.status front.text front.line
-            (λ refused none.
-            absurd (some (front_of_nothing put front.front.rest (front.front.is ∙ none))))
-            front.is),
-      ))
-      (what_was_put view old new files c1 c2 put has (three_files three.Play line scripts timings)
-      r (subst (λ (x : Option Command). EndsOf view x files c1 c2 old new r) is e) (
-        is_told files line line_bytes line_told,
-        (
-          is_told files scripts scripts_bytes scripts_told,
-          (is_told files timings timings_bytes timings_told, tt),
-        ),
-      ))
+      → EndsOf view command files c1 c2 old new r → (line scripts timings put : List ℕ)
+      → IsOverThree command files three.Play line scripts timings → HasPut (view old) (view new) put
+      → IsFrontOfText (status_of r) put (IsPlayTrue line scripts timings)
+  play_true command r e line scripts timings put over has =
+      front_of view old new files c1 c2
+      (three_files three.Play over.line_name over.scripts_name over.own_name) r
+      (subst (λ (x : Option Command). EndsOf view x files c1 c2 old new r) over.is e)
+      (all_three command files three.Play line scripts timings over) put has
+      (IsPlayTrue line scripts timings)
+      (text_true known files over.line_name over.scripts_name over.own_name line scripts timings
+      over.line_told over.scripts_told over.own_told)

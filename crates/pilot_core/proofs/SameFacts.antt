@@ -169,22 +169,28 @@ module _ (counts : CountsRestOnNoInterval) (histories : HistoriesRestOnNoInterva
         } in
         ap by_spans spans_same
 
-    pair_history_on : (w : PairHistory) → IsPairHistory a s (declared_box a) w
-        → IsPairHistory b r (declared_box b) w
-    pair_history_on w is =
-        let of_b = (histories.boxes a b s (declared_box a) w others).1 is in
-        subst (λ (box : Box). IsPairHistory b r box w) (sym box_same) (record {
+    pub pair_history_over : (box : Box) (w : PairHistory) → IsPairHistory a s box w
+        → IsPairHistory b r box w
+    pair_history_over box w is =
+        let of_b = (histories.boxes a b s box w others).1 is in
+        record {
           keys = λ k t there lt.
               of_b.keys k t there lt
               ∙ ap (λ (world : PairWorld). pair_mean world w.key (key_tree b k) t)
-              (sym (pair_world_same (declared_box a)));
+              (sym (pair_world_same box));
           trips = λ k t there lt.
               of_b.trips k t there lt
               ∙ ap (λ (world : PairWorld). pair_mean world w.key (trip_tree b k) t)
-              (sym (pair_world_same (declared_box a)));
-        })
+              (sym (pair_world_same box));
+        }
 
-    rule_same : (trip : ℕ → Rails) → rule_of b r trip ≡ rule_of a s trip
+    pair_history_on : (w : PairHistory) → IsPairHistory a s (declared_box a) w
+        → IsPairHistory b r (declared_box b) w
+    pair_history_on w is =
+        subst (λ (box : Box). IsPairHistory b r box w) (sym box_same)
+        (pair_history_over (declared_box a) w is)
+
+    pub rule_same : (trip : ℕ → Rails) → rule_of b r trip ≡ rule_of a s trip
     rule_same trip =
         ap (λ (n : ℕ). rule_by r.kind r.deadline n trip) others.horizon
         ∙ ap (λ (d : ℕ). rule_by r.kind d a.horizon trip)
