@@ -18,3 +18,6 @@ pub mod PrintedTrees
 pub mod OneAnswer
 pub mod SameHeld
 pub mod Twins
+pub mod SameRecords
+pub mod SameMatches
+pub mod SamePlays

@@ -14,7 +14,7 @@ use Rattle.headline.specs.WholeLines.{whole_lines}
 use Rattle.pilot_core.specs.{Call.answers, CallAnswers.done_with, Commands.answer, Ends.EndsOf}
 use Rattle.pilot_core.specs.CallOver.{HasPut, IsOverThree}
 use Rattle.pilot_core.specs.HeadlineLaws.{HeadlineLaws}
-use Rattle.pilot_core.specs.MatchTruths.{InRecords, IsMatchToldBy, IsMatchTrue}
+use Rattle.pilot_core.specs.MatchTruths.{InRecords, IsMatchToldBy, IsMatchTrue, OfRecords}
 use Rattle.pilot_core.specs.{Reading.of_record, Status.IsDone, Status.status_of}
 use Rattle.pilot_core.specs.{Status.status_of_done, Words.Command, Words.three_files}
 use Rattle.pilot_core.specs.declared.refusal.Refusal.{Refusal}
@@ -24,6 +24,8 @@ use Rattle.pilot_core.specs.declared.stop.Stop.{Stop}
 use Rattle.pilot_core.specs.declared.words.ThreeFiles.TheVariants as three
 use Rattle.pilot_core.proofs.Told.{IsAnswerFront, all_three, done_answer, front_of_nothing}
 use Rattle.pilot_core.proofs.Told.{three_told, what_was_put}
+use Rattle.pilot_core.proofs.{SameFiles.in_files, SameMatches.match_on}
+use Rattle.pilot_core.proofs.SameMatches.{match_told_on, of_records_on}
 
 -- nothing has no line
 no_match : {X : Type 0} (put name : List ℕ) (i : ℕ) (said : Matched) → put ≡ []
@@ -62,18 +64,19 @@ match_front known files line scripts entries line_bytes scripts_bytes record_byt
     (λ of all line_is scripts_are fit read.
     record_said (records_said of all record_bytes) _ _ read (λ why refused.
     none_in_front put front.front.rest front.text name i said front.front.is refused.1 has)
-    (λ records records_are done. record {
-      line = of;
-      line_is = line_is;
-      scripts = all;
-      scripts_are = scripts_are;
-      once = known.one_file of scripts_bytes (map values_of all) scripts_are;
+    (λ records records_are done.
+    in_files known.one_file line_bytes scripts_bytes (OfRecords record_bytes (IsMatchTrue i name said))
+    (λ a b lines xs ys both.
+    of_records_on a b lines xs ys both record_bytes (IsMatchTrue i name said)
+    (λ records.
+    match_on known.counts known.histories known.logic a b lines xs ys both records i name said))
+    of all line_is scripts_are (record {
       records = records;
       records_are = records_are;
       holds = known.of_records.matched of all records done.2.some_impossible done.2.some_open front.text put
           front.front.rest name i said fit (known.of_records.records of all record_bytes records records_are)
           done.2.settled front.front.is has;
-    }))
+    })))
     front.is
 
 -- what the status says of records
@@ -102,19 +105,20 @@ match_told known files line scripts entries line_bytes scripts_bytes record_byte
     (λ of all line_is scripts_are fit read.
     record_said (records_said of all record_bytes) _ _ read
     (λ why refused. absurd (subst IsDone refused.0 is_done))
-    (λ records records_are done. record {
-      line = of;
-      line_is = line_is;
-      scripts = all;
-      scripts_are = scripts_are;
-      once = known.one_file of scripts_bytes (map values_of all) scripts_are;
+    (λ records records_are done.
+    in_files known.one_file line_bytes scripts_bytes (OfRecords record_bytes (IsMatchToldBy s))
+    (λ a b lines xs ys both.
+    of_records_on a b lines xs ys both record_bytes (IsMatchToldBy s)
+    (λ records.
+    match_told_on known.counts known.histories known.logic a b lines xs ys both records s))
+    of all line_is scripts_are (record {
       records = records;
       records_are = records_are;
       holds = subst (λ (t : Status). IsMatchToldBy t of all records)
           (sym (done.1 ∙ ap status_of_done done.2.status_is))
           (told_by known of all records done.2.some_impossible done.2.some_open text
           (known.of_records.records of all record_bytes records records_are) done.2.settled);
-    }))
+    })))
     answered
 
 module _ {K : Type 0} (view : K → SinkView) (old new : K) (files : List ℕ → Option (List ℕ))

@@ -101,7 +101,7 @@ module _ (counts : CountsRestOnNoInterval) (histories : HistoriesRestOnNoInterva
       } in
       ap made (same_params a b same)
 
-  box_same : declared_box b ≡ declared_box a
+  pub box_same : declared_box b ≡ declared_box a
   unfolding declared_box
   box_same =
       let made : (ℕ → Ends) → (ℕ → ℕ) → Box = λ ends at. record {
@@ -128,7 +128,7 @@ module _ (counts : CountsRestOnNoInterval) (histories : HistoriesRestOnNoInterva
         (subst (λ (n : ℕ). t < n) (sym others.horizon) early);
   }
 
-  choice_same : (timing : TimingValues) → timing_choice b timing ≡ timing_choice a timing
+  pub choice_same : (timing : TimingValues) → timing_choice b timing ≡ timing_choice a timing
   unfolding timing_choice
   choice_same timing =
       let made : (ℕ → ℕ) → Choice = λ param_of. record {
@@ -141,7 +141,7 @@ module _ (counts : CountsRestOnNoInterval) (histories : HistoriesRestOnNoInterva
   unfolding candidate_value
   value_same i p = rw (same_params a b same) refl
 
-  candidate_same : (i : ℕ) → candidate b i ≡ candidate a i
+  pub candidate_same : (i : ℕ) → candidate b i ≡ candidate a i
   candidate_same i =
       let made : (ℕ → ℕ) → ℕ → TimingValues = λ value n. record {
         values = map value (range_with_len 0 n);
@@ -150,14 +150,14 @@ module _ (counts : CountsRestOnNoInterval) (histories : HistoriesRestOnNoInterva
       ap (λ (value : ℕ → ℕ). made value (param_count b)) (fun_ext (value_same i))
       ∙ ap (made (candidate_value a i)) (counts.params a b others)
 
-  count_same : candidate_count b ≡ candidate_count a
+  pub count_same : candidate_count b ≡ candidate_count a
   count_same = ap (λ (ps : List Param). 2 + 2 * count_by is_free ps) (same_params a b same)
 
   module _ (s r : Script) (values : values_of r ≡ values_of s) where
     spans_same : r.spans.items ≡ s.spans.items
     spans_same = ap (λ (v : ScriptValues). v.spans) values
 
-    pair_world_same : (box : Box) → pair_world_of b r box ≡ pair_world_of b s box
+    pub pair_world_same : (box : Box) → pair_world_of b r box ≡ pair_world_of b s box
     unfolding pair_world_of
     pair_world_same box =
         let by_spans : List SeenSpan → PairWorld = λ spans. record {

@@ -212,3 +212,15 @@ in_files once line_bytes scripts_bytes Fact moves of all line_is scripts_are hol
       (scripts_same of line (same_but_params of line lines) scripts_bytes ∙ scripts_are))
       holds;
 }
+
+-- what follows from it, of one line and scripts, is so of all
+pub in_files_then : (line_bytes scripts_bytes : List ℕ) (F G : Line → List Script → Type 0)
+    → ((of : Line) (all : List Script) → F of all → G of all) → InFiles line_bytes scripts_bytes F
+    → InFiles line_bytes scripts_bytes G
+in_files_then line_bytes scripts_bytes F G follows is = record {
+  line = is.line;
+  scripts = is.scripts;
+  are_said = is.are_said;
+  once = is.once;
+  holds = λ of all said. follows of all (is.holds of all said);
+}

@@ -49,7 +49,8 @@ pub record Headline (command : Option Command) (files : List ℕ → Option (Lis
   -- and all of them where the call is done.
   pub played : (line scripts timings put : List ℕ)
       → IsOverThree command files three.Play line scripts timings → HasPut out_old out_new put
-      → IsFrontOfText s put (IsPlayTrue line scripts timings)
+      → IsFrontOfText s put
+      (λ text. InFiles line scripts (λ of all. IsPlayTrue of all timings text))
   -- So it is of `report` and a true report, of `margin` and the line of a true margin, and of `split`
   -- and true split trees.
   pub reported : (line scripts put : List ℕ)

@@ -5,6 +5,7 @@ use Rattle.std.specs.List.{All, list_any}
 use Rattle.line_model.specs.{declared.line.Line.Line, declared.script.Script.Script, Fits.Fits}
 use Rattle.line_model.specs.Histories.{History, IsLineHistory, Meets}
 use Rattle.line_model.specs.IntervalLaws.{CountsRestOnNoInterval, HistoriesRestOnNoInterval}
+use Rattle.line_model.specs.IntervalLaws.{TreesRestOnNoInterval}
 use Rattle.line_model.specs.Laws.{AWiderBoxCovers, DeadlinesAreBelowTheHorizon}
 use Rattle.line_model.specs.Laws.{EachLineHasAChoiceInside}
 use Rattle.line_model.specs.Laws.{TheRuleSpeaksForEveryChoice}
@@ -32,6 +33,7 @@ pub record HeadlineLaws : Type 0 where
   -- lines that have the same values
   pub counts : CountsRestOnNoInterval
   pub histories : HistoriesRestOnNoInterval
+  pub logic : TreesRestOnNoInterval
   -- certificates
   pub certified_true : (line : Line) (scripts : List Script) (claims : List Claims)
       (front rest name terminal : List ℕ) (verdict : Verdict) → All (Fits line) scripts

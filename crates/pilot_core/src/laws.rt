@@ -18,6 +18,7 @@ use fault_script::a_file_says_scripts_of_one_file;
 use headline::{what_is_accepted_is_true, what_is_certified_is_true};
 use line_model::interval_laws::{
     counts_do_not_rest_on_the_intervals, histories_do_not_rest_on_the_intervals,
+    trees_do_not_rest_on_the_intervals,
 };
 use line_model::laws::{
     a_wider_box_covers, deadlines_are_below_the_horizon, each_line_has_a_choice_inside,
@@ -37,6 +38,7 @@ pub fn what_is_answered_is_true()
     a_file_says_scripts_of_one_file();
     counts_do_not_rest_on_the_intervals();
     histories_do_not_rest_on_the_intervals();
+    trees_do_not_rest_on_the_intervals();
     what_is_certified_is_true();
     what_is_accepted_is_true();
     what_is_recorded_is_true();
