@@ -16,3 +16,5 @@ pub mod SameScripts
 pub mod SameTexts
 pub mod PrintedTrees
 pub mod OneAnswer
+mod EachMargin
+mod OneMatch
