@@ -1,8 +1,17 @@
 -- The laws of lines below that the proofs here rest on.
-use Rattle.line_model.specs.IntervalLaws.{CountsRestOnNoInterval, HistoriesRestOnNoInterval}
+use Rattle.line_model.specs.IntervalLaws.{CountsRestOnNoInterval, DeclaredIntervalsAreInOrder}
+use Rattle.line_model.specs.IntervalLaws.{HistoriesRestOnNoInterval, TheRuleOverABox}
 use Rattle.line_model.specs.Laws.{LineLaws}
+use Rattle.timing_box.specs.Laws.{CandidatesAreInside, TimingsInsideAreChoicesInside}
 
 pub record LinesKnown : Type 0 where
   pub lines : LineLaws
   pub counts : CountsRestOnNoInterval
   pub histories : HistoriesRestOnNoInterval
+
+pub record BoxesKnown : Type 0 where
+  pub lines : LineLaws
+  pub intervals : DeclaredIntervalsAreInOrder
+  pub held : TheRuleOverABox
+  pub candidates : CandidatesAreInside
+  pub timings : TimingsInsideAreChoicesInside

@@ -21,3 +21,5 @@ pub mod Twins
 pub mod SameRecords
 pub mod SameMatches
 pub mod SamePlays
+mod EachMargin
+mod OneMatch
