@@ -1,9 +1,9 @@
 //! The laws of the program's own split trees.
 
-ghost use Rattle.std.specs.Prelude.{◌≡◌, ◌≤◌, ◌∷◌, ◌++◌, [], ℕ, List, length};
+ghost use Rattle.std.specs.Prelude.{◌≡◌, ◌≤◌, ◌<◌, ◌∷◌, ◌++◌, [], ℕ, List, length};
 ghost use Rattle.std.specs.List.{All};
 ghost use Rattle.model_line.specs.{declared.line.Line.Line, declared.script.Script.Script};
-ghost use Rattle.model_line.specs.Fits.{Fits};
+ghost use Rattle.model_line.specs.{Fits.Fits, Parameters.terminal_count};
 ghost use Rattle.cert_checker.specs.declared.counts.Counts.{Counts};
 ghost use Rattle.box_split.specs.declared.node.Outcome.{Outcome};
 ghost use Rattle.box_split.specs.{Found.IsFound, Search.Found, Search.IsSearch};
@@ -14,15 +14,21 @@ ghost use Rattle.split_checker.specs.Check.{IsAccepted, IsSplitFault};
 ghost use Rattle.split_checker.specs.{Counts.CountResults, Results.AreSupported};
 ghost use Rattle.own_splits.specs.Searched.{AreSearched, AllSearched};
 
-use box_split::{what_a_search_finds_is_sound, what_fails_in_a_part_fails};
-use model_line::laws::{counts_do_not_rest_on_the_intervals, deadlines_are_below_the_horizon};
-use model_logic::interval_laws::histories_do_not_rest_on_the_intervals;
+use box_split::{
+    what_a_search_finds_is_as_deep, what_a_search_finds_is_sound, what_fails_in_a_part_fails,
+};
+use model_line::laws::{
+    counts_do_not_rest_on_the_intervals, deadlines_are_below_the_horizon,
+    declared_intervals_are_in_order,
+};
+use model_logic::interval_laws::{histories_do_not_rest_on_the_intervals, the_rule_over_a_box};
 use model_logic::laws::line_laws;
 use split_checker::a_fault_refuses_the_split_text;
 use split_text::{
     a_split_text_has_one_meaning, printed_results_are_a_split_text,
     what_a_search_finds_can_be_written,
 };
+use timing_box::{candidates_are_inside, timings_inside_are_choices_inside};
 
 /// What is searched of scripts that fit, to a depth of at most eight, is accepted: of each script,
 /// and as the one text that says it, with the counts of what each obligation comes to.
@@ -91,4 +97,25 @@ pub fn each_search_has_one_outcome()
     line_laws();
     counts_do_not_rest_on_the_intervals();
     histories_do_not_rest_on_the_intervals();
+}
+
+/// A search of an obligation has an outcome, to each depth, where the deadline of its script is below
+/// the horizon, as that of each script that fits. To a depth of at most eight that outcome has room in
+/// memory, and what is searched of scripts that fit is a list of results.
+pub fn each_search_has_an_outcome()
+    ensures search { (line : Line) (script : Script) (k n : ℕ) →
+        script.deadline < line.horizon → k < terminal_count line →
+        (found : Found) × IsSearch script k n line found }
+    ensures outcome { (line : Line) (script : Script) (k n : ℕ) →
+        script.deadline < line.horizon → k < terminal_count line → n ≤ 8 →
+        (outcome : Outcome) × IsFound line script k n outcome }
+    ensures all { (line : Line) (n : ℕ) (scripts : List Script) → All (Fits line) scripts →
+        n ≤ 8 → (parts : List (List SplitResult)) × AllSearched line n scripts parts }
+{
+    line_laws();
+    declared_intervals_are_in_order();
+    the_rule_over_a_box();
+    candidates_are_inside();
+    timings_inside_are_choices_inside();
+    what_a_search_finds_is_as_deep();
 }

@@ -5,5 +5,6 @@
 mod laws;
 
 pub use laws::{
-    each_search_has_one_outcome, what_is_searched_grows_by_parts, what_is_searched_is_accepted,
+    each_search_has_an_outcome, each_search_has_one_outcome, what_is_searched_grows_by_parts,
+    what_is_searched_is_accepted,
 };

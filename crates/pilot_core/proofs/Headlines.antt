@@ -24,9 +24,10 @@ use Rattle.commands.specs.Split.{IsSplitOf}
 use Rattle.pilot_core.specs.{HeadlineLaws.HeadlineLaws, Reading.no_other_file}
 use Rattle.pilot_core.specs.{Reading.of_parameter, Reading.third_file}
 use Rattle.pilot_core.specs.Truths.{MarginIsTrue, ReportIsTrue, SplitIsTrue}
-use Rattle.pilot_core.proofs.Told.{IsAnswerFront, bytes_told, done_answer, done_put}
-use Rattle.pilot_core.proofs.Told.{front_of_nothing, is_told, no_line, study_said, three_told, two_limits, what_was_put}
-use Rattle.pilot_core.proofs.{Matched.match_says, Matched.match_true, Played.play_begun, Played.play_true}
+use Rattle.pilot_core.proofs.Told.{IsAnswerFront, all_three, all_two, bytes_told, done_answer}
+use Rattle.pilot_core.proofs.Told.{front_of, front_of_nothing, no_line, study_said, three_told}
+use Rattle.pilot_core.proofs.Told.{two_limits, what_was_put}
+use Rattle.pilot_core.proofs.{Matched.match_says, Matched.match_true, Played.play_true}
 use Rattle.pilot_core.specs.Words.{TwoFiles, margin, own_file, report, split}
 use Rattle.pilot_core.specs.declared.words.ThreeFiles.{ThreeFiles}
 use Rattle.std.proofs.Common.{inl, inr, ⊎_elim}
@@ -53,9 +54,10 @@ use Rattle.headline.specs.Obligations.{HoldsAsAccepted, HoldsAsCertified}
 use Rattle.headline.specs.{Printed.HasVerdict, Printed.HoldsOf, WholeLines.whole_lines}
 use Rattle.pilot_core.specs.{Call.answers, CallAnswers.CallAnswers, CallAnswers.done_with}
 use Rattle.pilot_core.specs.{CallAnswers.refuses, Commands.answer, Ends.EndsOf, Files.AllTold}
-use Rattle.pilot_core.specs.{Files.in_front, Files.limit_of, Headline.HasPut, Headline.Headline}
-use Rattle.pilot_core.specs.{Headline.HoldsInFiles, Headline.IsToldBy, Reading.of_line}
-use Rattle.pilot_core.specs.{Reading.of_scripts, SaidByFiles.InFiles}
+use Rattle.pilot_core.specs.{Files.in_front, Files.limit_of, Headline.Headline, Truths.IsToldBy}
+use Rattle.pilot_core.specs.CallOver.{HasPut, IsFrontOfText, IsOverThree, IsOverTwo}
+use Rattle.pilot_core.specs.{Reading.of_line, Reading.of_scripts, SaidByFiles.HoldsInFiles}
+use Rattle.pilot_core.specs.SaidByFiles.{InFiles}
 use Rattle.pilot_core.specs.{Reading.of_study, Reading.over_files, Status.status_of}
 use Rattle.pilot_core.specs.{Status.status_of_done, declared.refusal.Refusal.Refusal}
 use Rattle.pilot_core.specs.declared.refusal.Refusal.TheVariants as refusal
@@ -257,6 +259,7 @@ module _ (known : HeadlineLaws) (of : Line) (all : List Script) (fit : All (Fits
     param_is = named;
     end = is.end;
     text_is = is.text_is;
+    end_is = is.is;
     met = λ v i k script greatest at there.
         let end_is =
         subst (λ (o : Option ℕ). MatchOption o
@@ -304,48 +307,47 @@ module _ {K : Type 0} (view : K → SinkView) (old new : K) (files : List ℕ �
     (c1 c2 : List ℕ → ℕ) (known : HeadlineLaws) where
   certify_true : (command : Option Command) (r : Result Status Stop)
       → EndsOf view command files c1 c2 old new r
-      → (line scripts line_bytes scripts_bytes put name terminal : List ℕ) (verdict : Verdict)
-      → command ≡ Some (two_files certify line scripts) → files line ≡ Some line_bytes
-      → files scripts ≡ Some scripts_bytes → HasPut (view old) (view new) put
+      → (line scripts put name terminal : List ℕ) (verdict : Verdict)
+      → IsOverTwo command files certify line scripts → HasPut (view old) (view new) put
       → HasVerdict put name terminal verdict
-      → HoldsInFiles line_bytes scripts_bytes name terminal (HoldsAsCertified verdict)
-  certify_true command r e line scripts line_bytes scripts_bytes put name terminal verdict is
-      line_told scripts_told has verdict_there =
+      → HoldsInFiles line scripts name terminal (HoldsAsCertified verdict)
+  certify_true command r e line scripts put name terminal verdict over has verdict_there =
       ⊎_elim
       (λ none. nothing_said put name terminal verdict none verdict_there)
       (λ front.
-      certified_front known files line scripts line_bytes scripts_bytes
-      line_told scripts_told put name terminal verdict front verdict_there)
-      (what_was_put view old new files c1 c2 put has (two_files certify line scripts) r
-      (subst (λ (x : Option Command). EndsOf view x files c1 c2 old new r) is e) (
-        is_told files line line_bytes line_told,
-        (is_told files scripts scripts_bytes scripts_told, tt),
-      ))
+      certified_front known files over.line_name over.scripts_name line scripts over.line_told
+      over.scripts_told put name terminal verdict front verdict_there)
+      (what_was_put view old new files c1 c2 put has
+      (two_files certify over.line_name over.scripts_name) r
+      (subst (λ (x : Option Command). EndsOf view x files c1 c2 old new r) over.is e)
+      (all_two command files certify line scripts over))
 
+  -- what a command over the two files has put is a front of a text of which this is so
   two_put : (work : TwoFiles) (command : Option Command) (r : Result Status Stop)
       → EndsOf view command files c1 c2 old new r
-      → (line scripts line_bytes scripts_bytes put : List ℕ) → IsDone (status_of r)
-      → command ≡ Some (two_files work line scripts) → files line ≡ Some line_bytes
-      → files scripts ≡ Some scripts_bytes → HasPut (view old) (view new) put
-      → (Fact : Line → List Script → Type 0) → Moves Fact
-      → ((of : Line) (all : List Script) → All (Fits of) all
-      → no_other_file work of all (λ why. refuses why (status_of r) put [])
-      (λ w. done_with (answer w) (status_of r) put []) → Fact of all)
-      → InFiles line_bytes scripts_bytes Fact
-  two_put work command r e line scripts line_bytes scripts_bytes put done is line_told scripts_told
-      has Fact moves follows =
-      two_said files line scripts line_bytes scripts_bytes line_told scripts_told (status_of r) put
-      [] work
-      (λ why refused. absurd (subst IsDone refused.0 done))
+      → (line scripts put : List ℕ) → IsOverTwo command files work line scripts
+      → HasPut (view old) (view new) put
+      → (Fact : List ℕ → Line → List Script → Type 0) → ((text : List ℕ) → Moves (Fact text))
+      → ((s : Status) (text message : List ℕ) (of : Line) (all : List Script) → All (Fits of) all
+      → no_other_file work of all (λ why. refuses why s text message)
+      (λ w. done_with (answer w) s text message)
+      → ((why : Refusal) → refuses why s text message → InFiles line scripts (Fact text))
+      → (Fact text of all → InFiles line scripts (Fact text)) → InFiles line scripts (Fact text))
+      → IsFrontOfText (status_of r) put (λ text. InFiles line scripts (Fact text))
+  two_put work command r e line scripts put over has Fact moves follows =
+      front_of view old new files c1 c2 (two_files work over.line_name over.scripts_name) r
+      (subst (λ (x : Option Command). EndsOf view x files c1 c2 old new r) over.is e)
+      (all_two command files work line scripts over) put has
+      (λ text. InFiles line scripts (Fact text))
+      (λ s text message stopped.
+      two_said files over.line_name over.scripts_name line scripts over.line_told
+      over.scripts_told s text message work
+      (λ why refused. stopped refused.0 refused.1)
       (λ of all line_is scripts_are fit said.
-      in_files known.one_file line_bytes scripts_bytes Fact moves of all line_is scripts_are
-      (follows of all fit said))
-      (done_put view old new files c1 c2 (two_files work line scripts) r
-      (subst (λ (x : Option Command). EndsOf view x files c1 c2 old new r) is e) done (
-        is_told files line line_bytes line_told,
-        (is_told files scripts scripts_bytes scripts_told, tt),
-      )
-      put has)
+      follows s text message of all fit said
+      (λ why refused. stopped refused.0 refused.1)
+      (in_files known.one_file line scripts (Fact text) (moves text) of all line_is
+      scripts_are)))
 
   -- the parameter that a name is
   of_name : {X : Type 0} (o : Option ℕ) (R : Refusal → Type 0) (H : ℕ → Type 0)
@@ -356,19 +358,15 @@ module _ {K : Type 0} (view : K → SinkView) (old new : K) (files : List ℕ �
 
   status_true : (command : Option Command) (r : Result Status Stop)
       → EndsOf view command files c1 c2 old new r
-      → (line scripts line_bytes scripts_bytes : List ℕ) → IsDone (status_of r)
-      → command ≡ Some (two_files certify line scripts) → files line ≡ Some line_bytes
-      → files scripts ≡ Some scripts_bytes
-      → InFiles line_bytes scripts_bytes (IsToldBy (status_of r))
-  status_true command r e line scripts line_bytes scripts_bytes done is line_told scripts_told =
+      → (line scripts : List ℕ) → IsOverTwo command files certify line scripts
+      → IsDone (status_of r) → InFiles line scripts (IsToldBy (status_of r))
+  status_true command r e line scripts over done =
       let (text, answered) =
-      done_answer view old new files c1 c2 (two_files certify line scripts) r
-      (subst (λ (x : Option Command). EndsOf view x files c1 c2 old new r) is e) done (
-        is_told files line line_bytes line_told,
-        (is_told files scripts scripts_bytes scripts_told, tt),
-      ) in
-      status_told known files line scripts line_bytes scripts_bytes line_told scripts_told
-      (status_of r) text done answered
+      done_answer view old new files c1 c2 (two_files certify over.line_name over.scripts_name) r
+      (subst (λ (x : Option Command). EndsOf view x files c1 c2 old new r) over.is e) done
+      (all_two command files certify line scripts over) in
+      status_told known files over.line_name over.scripts_name line scripts over.line_told
+      over.scripts_told (status_of r) text done answered
 
   good_answer : (x : Command) (r : Result Status Stop)
       → EndsOf view (Some x) files c1 c2 old new r → status_of r ≡ status.Good
@@ -385,33 +383,42 @@ module _ {K : Type 0} (view : K → SinkView) (old new : K) (files : List ℕ �
 
   check_true : (command : Option Command) (r : Result Status Stop)
       → EndsOf view command files c1 c2 old new r
-      → (line scripts cert line_bytes scripts_bytes cert_bytes name terminal : List ℕ)
-      (verdict : Verdict) → status_of r ≡ status.Good
-      → command ≡ Some (three_files three.Check line scripts cert)
-      → files line ≡ Some line_bytes → files scripts ≡ Some scripts_bytes
-      → files cert ≡ Some cert_bytes → HasVerdict cert_bytes name terminal verdict
-      → HoldsInFiles line_bytes scripts_bytes name terminal (HoldsAsAccepted verdict)
-  check_true command r e line scripts cert line_bytes scripts_bytes cert_bytes name terminal verdict
-      good is line_told scripts_told cert_told verdict_there =
+      → (line scripts cert name terminal : List ℕ) (verdict : Verdict)
+      → IsOverThree command files three.Check line scripts cert → status_of r ≡ status.Good
+      → HasVerdict cert name terminal verdict
+      → HoldsInFiles line scripts name terminal (HoldsAsAccepted verdict)
+  check_true command r e line scripts cert name terminal verdict over good verdict_there =
       let (text, answered) =
-      good_answer (three_files three.Check line scripts cert) r
-      (subst (λ (x : Option Command). EndsOf view x files c1 c2 old new r) is e) good (
-        is_told files line line_bytes line_told,
-        (
-          is_told files scripts scripts_bytes scripts_told,
-          (is_told files cert cert_bytes cert_told, tt),
-        ),
-      ) in
-      check_said files line scripts cert line_bytes scripts_bytes cert_bytes line_told scripts_told
-      cert_told text []
+      good_answer (three_files three.Check over.line_name over.scripts_name over.own_name) r
+      (subst (λ (x : Option Command). EndsOf view x files c1 c2 old new r) over.is e) good
+      (all_three command files three.Check line scripts cert over) in
+      check_said files over.line_name over.scripts_name over.own_name line scripts cert
+      over.line_told over.scripts_told over.own_told text []
       (λ of all line_is scripts_are fit counts accepted.
-      in_files known.one_file line_bytes scripts_bytes
-      (λ line scripts. HoldsOf line scripts name terminal (HoldsAsAccepted verdict))
+      in_files known.one_file line scripts
+      (λ a xs. HoldsOf a xs name terminal (HoldsAsAccepted verdict))
       (λ a b lines xs ys both.
       accepted_in known.counts known.histories a b lines xs ys both verdict name terminal)
       of all line_is scripts_are
-      (known.accepted_true of all cert_bytes counts name terminal verdict fit accepted
-      verdict_there))
+      (known.accepted_true of all cert counts name terminal verdict fit accepted verdict_there))
+      answered
+
+  recheck_true : (command : Option Command) (r : Result Status Stop)
+      → EndsOf view command files c1 c2 old new r → (line scripts trees : List ℕ)
+      → IsOverThree command files three.Recheck line scripts trees → status_of r ≡ status.Good
+      → InFiles line scripts (λ of all. SplitIsTrue of all trees)
+  recheck_true command r e line scripts trees over good =
+      let (text, answered) =
+      good_answer (three_files three.Recheck over.line_name over.scripts_name over.own_name) r
+      (subst (λ (x : Option Command). EndsOf view x files c1 c2 old new r) over.is e) good
+      (all_three command files three.Recheck line scripts trees over) in
+      recheck_said files over.line_name over.scripts_name over.own_name line scripts trees
+      over.line_told over.scripts_told over.own_told text []
+      (λ of all line_is scripts_are fit counts accepted.
+      in_files known.one_file line scripts (λ of all. SplitIsTrue of all trees)
+      (λ a b lines xs ys both. split_on known.counts known.histories a b lines xs ys both trees)
+      of all line_is scripts_are
+      (accepted_split known of all fit trees counts accepted))
       answered
 
   pub headline : (command : Option Command) (r : Result Status Stop)
@@ -424,46 +431,28 @@ module _ {K : Type 0} (view : K → SinkView) (old new : K) (files : List ℕ �
     matched = match_true view old new files c1 c2 known command r e;
     match_says = match_says view old new files c1 c2 known command r e;
     played = play_true view old new files c1 c2 known command r e;
-    play_begun = play_begun view old new files c1 c2 known command r e;
-    reported = λ line scripts line_bytes scripts_bytes put done is line_told scripts_told has.
-        two_put report command r e line scripts line_bytes scripts_bytes put done is line_told
-        scripts_told has (λ of all. ReportIsTrue of all put)
-        (λ a b lines xs ys both. report_on known.counts known.histories a b lines xs ys both put)
-        (λ of all fit said.
-        report_true known of all (λ i script at. all_at (Fits of) all i script fit at) put
-        said.2.1);
-    margin_put = λ line scripts name line_bytes scripts_bytes put done is line_told scripts_told has.
-        two_put (margin name) command r e line scripts line_bytes scripts_bytes put done is
-        line_told scripts_told has (λ of all. MarginIsTrue of all name put)
-        (λ a b lines xs ys both.
-        margin_on known.counts known.histories a b lines xs ys both name put)
-        (λ of all fit said.
-        of_name (param_named of name) (λ why. refuses why (status_of r) put [])
-        (λ param. done_with (margin_answer of all param) (status_of r) put []) said
-        (λ why refused. absurd (subst IsDone refused.0 done))
-        (λ param named told. margin_true known of all fit name put param told.0 named told.2));
-    split_put = λ n line scripts line_bytes scripts_bytes put done is line_told scripts_told has.
-        two_put (split n) command r e line scripts line_bytes scripts_bytes put done is line_told
-        scripts_told has (λ of all. SplitIsTrue of all put)
-        (λ a b lines xs ys both. split_on known.counts known.histories a b lines xs ys both put)
-        (λ of all fit said. split_true known of all fit n said.0 put said.2);
-    trees_accepted = λ line scripts trees line_bytes scripts_bytes trees_bytes good is line_told scripts_told trees_told.
-        let (text, answered) =
-        good_answer (three_files three.Recheck line scripts trees) r
-        (subst (λ (x : Option Command). EndsOf view x files c1 c2 old new r) is e) good (
-          is_told files line line_bytes line_told,
-          (
-            is_told files scripts scripts_bytes scripts_told,
-            (is_told files trees trees_bytes trees_told, tt),
-          ),
-        ) in
-        recheck_said files line scripts trees line_bytes scripts_bytes trees_bytes line_told
-        scripts_told trees_told text []
-        (λ of all line_is scripts_are fit counts accepted.
-        in_files known.one_file line_bytes scripts_bytes (λ of all. SplitIsTrue of all trees_bytes)
-        (λ a b lines xs ys both.
-        split_on known.counts known.histories a b lines xs ys both trees_bytes)
-        of all line_is scripts_are
-        (accepted_split known of all fit trees_bytes counts accepted))
-        answered;
+    reported = λ line scripts put over has.
+        two_put report command r e line scripts put over has (λ text of all. ReportIsTrue of all text)
+        (λ text a b lines xs ys both.
+        report_on known.counts known.histories a b lines xs ys both text)
+        (λ s text message of all fit said stopped then.
+        then (report_true known of all (λ i script at. all_at (Fits of) all i script fit at) text
+        said.2.1));
+    margin_put = λ line scripts name put over has.
+        two_put (margin name) command r e line scripts put over has
+        (λ text of all. MarginIsTrue of all name text)
+        (λ text a b lines xs ys both.
+        margin_on known.counts known.histories a b lines xs ys both name text)
+        (λ s text message of all fit said stopped then.
+        of_name (param_named of name) (λ why. refuses why s text message)
+        (λ param. done_with (margin_answer of all param) s text message) said stopped
+        (λ param named told.
+        then (margin_true known of all fit name text param told.0 named told.2)));
+    split_put = λ line scripts n put over has.
+        two_put (split n) command r e line scripts put over has
+        (λ text of all. SplitIsTrue of all text)
+        (λ text a b lines xs ys both. split_on known.counts known.histories a b lines xs ys both text)
+        (λ s text message of all fit said stopped then.
+        then (split_true known of all fit n said.0 text said.2));
+    trees_accepted = recheck_true command r e;
   }

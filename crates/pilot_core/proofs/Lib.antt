@@ -16,3 +16,10 @@ pub mod SameScripts
 pub mod SameTexts
 pub mod PrintedTrees
 pub mod OneAnswer
+pub mod SameHeld
+pub mod Twins
+pub mod SameRecords
+pub mod SameMatches
+pub mod SamePlays
+mod EachMargin
+mod OneMatch

@@ -12,8 +12,9 @@ use Rattle.commands.specs.{Answers.status_by, Sinks.SinkView}
 use Rattle.headline.specs.Matched.{HasMatch, Matched, matched_words}
 use Rattle.headline.specs.WholeLines.{whole_lines}
 use Rattle.pilot_core.specs.{Call.answers, CallAnswers.done_with, Commands.answer, Ends.EndsOf}
-use Rattle.pilot_core.specs.{Headline.HasPut, HeadlineLaws.HeadlineLaws}
-use Rattle.pilot_core.specs.MatchTruths.{InRecords, IsMatchToldBy, IsMatchTrue}
+use Rattle.pilot_core.specs.CallOver.{HasPut, IsOverThree}
+use Rattle.pilot_core.specs.HeadlineLaws.{HeadlineLaws}
+use Rattle.pilot_core.specs.MatchTruths.{InRecords, IsMatchToldBy, IsMatchTrue, OfRecords}
 use Rattle.pilot_core.specs.{Reading.of_record, Status.IsDone, Status.status_of}
 use Rattle.pilot_core.specs.{Status.status_of_done, Words.Command, Words.three_files}
 use Rattle.pilot_core.specs.declared.refusal.Refusal.{Refusal}
@@ -21,8 +22,10 @@ use Rattle.pilot_core.specs.declared.refusal.Refusal.TheVariants as refusal
 use Rattle.pilot_core.specs.declared.stop.Status.{Status}
 use Rattle.pilot_core.specs.declared.stop.Stop.{Stop}
 use Rattle.pilot_core.specs.declared.words.ThreeFiles.TheVariants as three
-use Rattle.pilot_core.proofs.Told.{IsAnswerFront, done_answer, front_of_nothing, is_told}
+use Rattle.pilot_core.proofs.Told.{IsAnswerFront, all_three, done_answer, front_of_nothing}
 use Rattle.pilot_core.proofs.Told.{three_told, what_was_put}
+use Rattle.pilot_core.proofs.{SameFiles.in_files, SameMatches.match_on}
+use Rattle.pilot_core.proofs.SameMatches.{match_told_on, of_records_on}
 
 -- nothing has no line
 no_match : {X : Type 0} (put name : List ℕ) (i : ℕ) (said : Matched) → put ≡ []
@@ -61,18 +64,19 @@ match_front known files line scripts entries line_bytes scripts_bytes record_byt
     (λ of all line_is scripts_are fit read.
     record_said (records_said of all record_bytes) _ _ read (λ why refused.
     none_in_front put front.front.rest front.text name i said front.front.is refused.1 has)
-    (λ records records_are done. record {
-      line = of;
-      line_is = line_is;
-      scripts = all;
-      scripts_are = scripts_are;
-      once = known.one_file of scripts_bytes (map values_of all) scripts_are;
+    (λ records records_are done.
+    in_files known.one_file line_bytes scripts_bytes (OfRecords record_bytes (IsMatchTrue i name said))
+    (λ a b lines xs ys both.
+    of_records_on a b lines xs ys both record_bytes (IsMatchTrue i name said)
+    (λ records.
+    match_on known.counts known.histories known.logic a b lines xs ys both records i name said))
+    of all line_is scripts_are (record {
       records = records;
       records_are = records_are;
       holds = known.of_records.matched of all records done.2.some_impossible done.2.some_open front.text put
           front.front.rest name i said fit (known.of_records.records of all record_bytes records records_are)
           done.2.settled front.front.is has;
-    }))
+    })))
     front.is
 
 -- what the status says of records
@@ -101,63 +105,48 @@ match_told known files line scripts entries line_bytes scripts_bytes record_byte
     (λ of all line_is scripts_are fit read.
     record_said (records_said of all record_bytes) _ _ read
     (λ why refused. absurd (subst IsDone refused.0 is_done))
-    (λ records records_are done. record {
-      line = of;
-      line_is = line_is;
-      scripts = all;
-      scripts_are = scripts_are;
-      once = known.one_file of scripts_bytes (map values_of all) scripts_are;
+    (λ records records_are done.
+    in_files known.one_file line_bytes scripts_bytes (OfRecords record_bytes (IsMatchToldBy s))
+    (λ a b lines xs ys both.
+    of_records_on a b lines xs ys both record_bytes (IsMatchToldBy s)
+    (λ records.
+    match_told_on known.counts known.histories known.logic a b lines xs ys both records s))
+    of all line_is scripts_are (record {
       records = records;
       records_are = records_are;
       holds = subst (λ (t : Status). IsMatchToldBy t of all records)
           (sym (done.1 ∙ ap status_of_done done.2.status_is))
           (told_by known of all records done.2.some_impossible done.2.some_open text
           (known.of_records.records of all record_bytes records records_are) done.2.settled);
-    }))
+    })))
     answered
 
 module _ {K : Type 0} (view : K → SinkView) (old new : K) (files : List ℕ → Option (List ℕ))
     (c1 c2 : List ℕ → ℕ) (known : HeadlineLaws) where
   pub match_true : (command : Option Command) (r : Result Status Stop)
-      → EndsOf view command files c1 c2 old new r
-      → (line scripts entries line_bytes scripts_bytes record_bytes put name : List ℕ) (i : ℕ)
-      (said : Matched) → command ≡ Some (three_files three.Match line scripts entries)
-      → files line ≡ Some line_bytes → files scripts ≡ Some scripts_bytes
-      → files entries ≡ Some record_bytes → HasPut (view old) (view new) put
-      → HasMatch put i name said
-      → InRecords line_bytes scripts_bytes record_bytes (IsMatchTrue i name said)
-  match_true command r e line scripts entries line_bytes scripts_bytes record_bytes put name i said
-      is line_told scripts_told record_told has there =
+      → EndsOf view command files c1 c2 old new r → (line scripts records put name : List ℕ) (i : ℕ)
+      (said : Matched) → IsOverThree command files three.Match line scripts records
+      → HasPut (view old) (view new) put → HasMatch put i name said
+      → InRecords line scripts records (IsMatchTrue i name said)
+  match_true command r e line scripts records put name i said over has there =
       ⊎_elim (λ none. no_match put name i said none there)
       (λ front.
-      match_front known files line scripts entries line_bytes scripts_bytes record_bytes line_told
-      scripts_told record_told put name i said front there)
-      (what_was_put view old new files c1 c2 put has (three_files three.Match line scripts entries)
-      r (subst (λ (x : Option Command). EndsOf view x files c1 c2 old new r) is e) (
-        is_told files line line_bytes line_told,
-        (
-          is_told files scripts scripts_bytes scripts_told,
-          (is_told files entries record_bytes record_told, tt),
-        ),
-      ))
+      match_front known files over.line_name over.scripts_name over.own_name line scripts records
+      over.line_told over.scripts_told over.own_told put name i said front there)
+      (what_was_put view old new files c1 c2 put has
+      (three_files three.Match over.line_name over.scripts_name over.own_name) r
+      (subst (λ (x : Option Command). EndsOf view x files c1 c2 old new r) over.is e)
+      (all_three command files three.Match line scripts records over))
 
   pub match_says : (command : Option Command) (r : Result Status Stop)
-      → EndsOf view command files c1 c2 old new r
-      → (line scripts entries line_bytes scripts_bytes record_bytes : List ℕ)
-      → IsDone (status_of r) → command ≡ Some (three_files three.Match line scripts entries)
-      → files line ≡ Some line_bytes → files scripts ≡ Some scripts_bytes
-      → files entries ≡ Some record_bytes
-      → InRecords line_bytes scripts_bytes record_bytes (IsMatchToldBy (status_of r))
-  match_says command r e line scripts entries line_bytes scripts_bytes record_bytes done is
-      line_told scripts_told record_told =
+      → EndsOf view command files c1 c2 old new r → (line scripts records : List ℕ)
+      → IsOverThree command files three.Match line scripts records → IsDone (status_of r)
+      → InRecords line scripts records (IsMatchToldBy (status_of r))
+  match_says command r e line scripts records over done =
       let (text, answered) =
-      done_answer view old new files c1 c2 (three_files three.Match line scripts entries) r
-      (subst (λ (x : Option Command). EndsOf view x files c1 c2 old new r) is e) done (
-        is_told files line line_bytes line_told,
-        (
-          is_told files scripts scripts_bytes scripts_told,
-          (is_told files entries record_bytes record_told, tt),
-        ),
-      ) in
-      match_told known files line scripts entries line_bytes scripts_bytes record_bytes line_told
-      scripts_told record_told (status_of r) text done answered
+      done_answer view old new files c1 c2
+      (three_files three.Match over.line_name over.scripts_name over.own_name) r
+      (subst (λ (x : Option Command). EndsOf view x files c1 c2 old new r) over.is e) done
+      (all_three command files three.Match line scripts records over) in
+      match_told known files over.line_name over.scripts_name over.own_name line scripts records
+      over.line_told over.scripts_told over.own_told (status_of r) text done answered

@@ -1,29 +1,30 @@
 -- What `play` has put is the rows of the histories of its timings.
-use Rattle.std.proofs.Common.{◌≡◌, ◌≢◌, ℕ, List, [], ◌∷◌, ◌++◌, Option, Some, Result, Ok, Err, map}
-use Rattle.std.proofs.Common.{refl, sym, ◌∙◌, ap, subst, ⊎_elim}
+use Rattle.std.proofs.Common.{◌≡◌, ℕ, List, [], ◌∷◌, ◌++◌, Option, Some, Result, Ok, Err}
+use Rattle.std.proofs.Common.{get_or, refl, ◌∙◌, subst}
 use Rattle.std.proofs.lemmas.List.Elements.{All-head, All-tail}
 use Rattle.std.specs.List.{All, flat_map}
 use Rattle.model_line.specs.{declared.line.Line.Line, declared.script.Script.Script, Fits.Fits}
 use Rattle.model_logic.specs.Histories.{History}
-use Rattle.line_file.specs.{LineFiles.line_of, Lines.line_values}
-use Rattle.fault_script.specs.{Scripts.scripts_of, Values.values_of}
 use Rattle.timing_box.specs.{Inside.IsTimingInside, SoFar.NamedValues, Timings.timings_of}
 use Rattle.timing_box.specs.declared.fault.TimingFault.{TimingFault}
 use Rattle.simulator.specs.PlayRows.{run_rows}
 use Rattle.commands.specs.Play.{IsPlayText, IsRunText, IsTimingText, Pieces, play_header}
 use Rattle.commands.specs.Sinks.{SinkView}
-use Rattle.pilot_core.specs.{Call.answers, Ends.EndsOf, Headline.HasPut}
+use Rattle.pilot_core.specs.{Call.answers, Ends.EndsOf}
+use Rattle.pilot_core.specs.CallOver.{HasPut, IsFrontOfText, IsOverThree}
 use Rattle.pilot_core.specs.{HeadlineLaws.HeadlineLaws, PlayTruths.AreTheHistories}
 use Rattle.pilot_core.specs.{PlayTruths.IsPlayTrue, PlayTruths.rows_of_all, Reading.of_timings}
-use Rattle.pilot_core.specs.{Status.IsDone, Status.status_of, Words.Command, Words.three_files}
+use Rattle.pilot_core.specs.{Status.status_of, Words.Command, Words.three_files}
 use Rattle.pilot_core.specs.declared.refusal.Refusal.{Refusal}
 use Rattle.pilot_core.specs.declared.refusal.Refusal.TheVariants as refusal
 use Rattle.pilot_core.specs.declared.stop.Status.{Status}
 use Rattle.pilot_core.specs.declared.stop.Status.TheVariants as status
 use Rattle.pilot_core.specs.declared.stop.Stop.{Stop}
 use Rattle.pilot_core.specs.declared.words.ThreeFiles.TheVariants as three
-use Rattle.pilot_core.proofs.Told.{IsAnswerFront, done_put, front_of_nothing, is_told, three_told}
-use Rattle.pilot_core.proofs.Told.{what_was_put}
+use Rattle.pilot_core.specs.SaidByFiles.{InFiles}
+use Rattle.pilot_core.proofs.{SameFiles.Moves, SameFiles.in_files, SameFiles.in_files_then}
+use Rattle.pilot_core.proofs.SamePlays.{play_text_on, timing_inside, timings_same}
+use Rattle.pilot_core.proofs.Told.{all_three, front_of, three_told}
 
 -- one piece after another is a text of pieces
 pieces_of : {X : Type 0} (IsPiece : X → List ℕ → Type 0) (P : X → Type 0) (f : X → List ℕ)
@@ -76,16 +77,53 @@ timings_said : {X : Type 0} (line : Line) (r : Result (List NamedValues) TimingF
 timings_said line (Ok timings) refused holds is stopped then = then timings refl is.0 is.1
 timings_said line (Err why) refused holds is stopped then = stopped (refusal.Timings why) is
 
+-- what is told of a play: the timings that the bytes say, and a play text of them
+record IsPlayTold (timings_bytes text : List ℕ) (line : Line) (scripts : List Script)
+    : Type 0 where
+  pub timings : List NamedValues
+  pub timings_are : timings_of line timings_bytes ≡ Ok timings
+  pub inside : All (λ timing. IsTimingInside line timing.timing) timings
+  pub text_is : IsPlayText line scripts timings text
+
+module _ (known : HeadlineLaws) where
+  told_on : (timings_bytes text : List ℕ) → Moves (IsPlayTold timings_bytes text)
+  told_on timings_bytes text a b lines xs ys scripts is = record {
+    timings = is.timings;
+    timings_are = timings_same known.counts known.histories a b lines timings_bytes
+        ∙ is.timings_are;
+    inside = λ i d lt.
+        timing_inside known.counts known.histories a b lines (get_or is.timings i d).timing
+        (is.inside i d lt);
+    text_is = play_text_on known.counts known.histories a b lines xs ys scripts is.timings text
+        is.text_is;
+  }
+
+  -- it is the one text
+  told_true : (timings_bytes text : List ℕ) (line : Line) (scripts : List Script)
+      → IsPlayTold timings_bytes text line scripts → IsPlayTrue line scripts timings_bytes text
+  told_true timings_bytes text line scripts is = record {
+    timings = is.timings;
+    timings_are = is.timings_are;
+    inside = is.inside;
+    rows = λ histories are.
+        known.of_records.played line scripts is.timings text
+        (rows_of_all line scripts is.timings histories) is.inside is.text_is
+        (play_text line scripts is.timings histories are is.inside);
+  }
+
 module _ (known : HeadlineLaws) (files : List ℕ → Option (List ℕ))
     (line scripts timings line_bytes scripts_bytes timings_bytes : List ℕ)
     (line_told : files line ≡ Some line_bytes) (scripts_told : files scripts ≡ Some scripts_bytes)
     (timings_told : files timings ≡ Some timings_bytes) where
+  abbrev IsTrueText : List ℕ → Type 0
+  IsTrueText text =
+      InFiles line_bytes scripts_bytes (λ of all. IsPlayTrue of all timings_bytes text)
+
   -- what may be answered, where nothing is refused
   text_true : (s : Status) (text message : List ℕ)
-      → (s ≡ status.BadInput → text ≡ []
-      → IsPlayTrue line_bytes scripts_bytes timings_bytes text)
+      → (s ≡ status.BadInput → text ≡ [] → IsTrueText text)
       → answers (Some (three_files three.Play line scripts timings)) files s text message
-      → IsPlayTrue line_bytes scripts_bytes timings_bytes text
+      → IsTrueText text
   text_true s text message stopped answered =
       three_told files line scripts timings line_bytes scripts_bytes timings_bytes line_told
       scripts_told timings_told s text message three.Play
@@ -93,73 +131,30 @@ module _ (known : HeadlineLaws) (files : List ℕ → Option (List ℕ))
       (λ of all line_is scripts_are fit read.
       timings_said of (timings_of of timings_bytes) _ _ read
       (λ why refused. stopped refused.0 refused.1)
-      (λ list list_is inside done. record {
-        line = of;
-        line_is = line_is;
-        scripts = all;
-        scripts_are = scripts_are;
-        once = known.one_file of scripts_bytes (map values_of all) scripts_are;
+      (λ list list_is inside done.
+      in_files_then line_bytes scripts_bytes (IsPlayTold timings_bytes text)
+      (λ a xs. IsPlayTrue a xs timings_bytes text) (told_true known timings_bytes text)
+      (in_files known.one_file line_bytes scripts_bytes (IsPlayTold timings_bytes text)
+      (told_on known timings_bytes text) of all line_is scripts_are (record {
         timings = list;
         timings_are = list_is;
         inside = inside;
-        rows = λ histories are.
-            known.of_records.played of all list text (rows_of_all of all list histories) inside done.2.1
-            (play_text of all list histories are inside);
-      }))
+        text_is = done.2.1;
+      }))))
       answered
-
-done_is_no_refusal : {X : Type 0} (s : Status) → IsDone s → s ≡ status.BadInput → X
-done_is_no_refusal s done is = absurd (subst IsDone is done)
 
 module _ {K : Type 0} (view : K → SinkView) (old new : K) (files : List ℕ → Option (List ℕ))
     (c1 c2 : List ℕ → ℕ) (known : HeadlineLaws) where
   pub play_true : (command : Option Command) (r : Result Status Stop)
-      → EndsOf view command files c1 c2 old new r
-      → (line scripts timings line_bytes scripts_bytes timings_bytes put : List ℕ)
-      → IsDone (status_of r) → command ≡ Some (three_files three.Play line scripts timings)
-      → files line ≡ Some line_bytes → files scripts ≡ Some scripts_bytes
-      → files timings ≡ Some timings_bytes → HasPut (view old) (view new) put
-      → IsPlayTrue line_bytes scripts_bytes timings_bytes put
-  play_true command r e line scripts timings line_bytes scripts_bytes timings_bytes put done is
-      line_told scripts_told timings_told has =
-      text_true known files line scripts timings line_bytes scripts_bytes timings_bytes line_told
-      scripts_told timings_told (status_of r) put []
-      (λ refused none. done_is_no_refusal (status_of r) done refused)
-      (done_put view old new files c1 c2 (three_files three.Play line scripts timings) r
-      (subst (λ (x : Option Command). EndsOf view x files c1 c2 old new r) is e) done (
-        is_told files line line_bytes line_told,
-        (
-          is_told files scripts scripts_bytes scripts_told,
-          (is_told files timings timings_bytes timings_told, tt),
-        ),
-      )
-      put has)
-
-  pub play_begun : (command : Option Command) (r : Result Status Stop)
-      → EndsOf view command files c1 c2 old new r
-      → (line scripts timings line_bytes scripts_bytes timings_bytes put : List ℕ)
-      → command ≡ Some (three_files three.Play line scripts timings)
-      → files line ≡ Some line_bytes → files scripts ≡ Some scripts_bytes
-      → files timings ≡ Some timings_bytes → HasPut (view old) (view new) put → put ≢ []
-      → (rest : List ℕ) × IsPlayTrue line_bytes scripts_bytes timings_bytes (put ++ rest)
-  play_begun command r e line scripts timings line_bytes scripts_bytes timings_bytes put is
-      line_told scripts_told timings_told has some =
-      ⊎_elim (λ none. absurd (some none))
-      (λ front. (
-        front.front.rest,
-        subst (λ (t : List ℕ). IsPlayTrue line_bytes scripts_bytes timings_bytes t)
-            (sym front.front.is)
-            (text_true known files line scripts timings line_bytes scripts_bytes timings_bytes
-            line_told scripts_told timings_told front.status front.text front.line
-            (λ refused none.
-            absurd (some (front_of_nothing put front.front.rest (front.front.is ∙ none))))
-            front.is),
-      ))
-      (what_was_put view old new files c1 c2 put has (three_files three.Play line scripts timings)
-      r (subst (λ (x : Option Command). EndsOf view x files c1 c2 old new r) is e) (
-        is_told files line line_bytes line_told,
-        (
-          is_told files scripts scripts_bytes scripts_told,
-          (is_told files timings timings_bytes timings_told, tt),
-        ),
-      ))
+      → EndsOf view command files c1 c2 old new r → (line scripts timings put : List ℕ)
+      → IsOverThree command files three.Play line scripts timings → HasPut (view old) (view new) put
+      → IsFrontOfText (status_of r) put
+      (λ text. InFiles line scripts (λ of all. IsPlayTrue of all timings text))
+  play_true command r e line scripts timings put over has =
+      front_of view old new files c1 c2
+      (three_files three.Play over.line_name over.scripts_name over.own_name) r
+      (subst (λ (x : Option Command). EndsOf view x files c1 c2 old new r) over.is e)
+      (all_three command files three.Play line scripts timings over) put has
+      (λ text. InFiles line scripts (λ of all. IsPlayTrue of all timings text))
+      (text_true known files over.line_name over.scripts_name over.own_name line scripts timings
+      over.line_told over.scripts_told over.own_told)

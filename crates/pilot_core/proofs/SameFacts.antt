@@ -103,7 +103,7 @@ module _ (counts : CountsRestOnNoInterval) (histories : HistoriesRestOnNoInterva
       } in
       ap made (same_params a b same)
 
-  box_same : declared_box b ≡ declared_box a
+  pub box_same : declared_box b ≡ declared_box a
   unfolding declared_box
   box_same =
       let made : (ℕ → Ends) → (ℕ → ℕ) → Box = λ ends at. record {
@@ -130,7 +130,7 @@ module _ (counts : CountsRestOnNoInterval) (histories : HistoriesRestOnNoInterva
         (subst (λ (n : ℕ). t < n) (sym others.horizon) early);
   }
 
-  choice_same : (timing : TimingValues) → timing_choice b timing ≡ timing_choice a timing
+  pub choice_same : (timing : TimingValues) → timing_choice b timing ≡ timing_choice a timing
   unfolding timing_choice
   choice_same timing =
       let made : (ℕ → ℕ) → Choice = λ param_of. record {
@@ -143,7 +143,7 @@ module _ (counts : CountsRestOnNoInterval) (histories : HistoriesRestOnNoInterva
   unfolding candidate_value
   value_same i p = rw (same_params a b same) refl
 
-  candidate_same : (i : ℕ) → candidate b i ≡ candidate a i
+  pub candidate_same : (i : ℕ) → candidate b i ≡ candidate a i
   candidate_same i =
       let made : (ℕ → ℕ) → ℕ → TimingValues = λ value n. record {
         values = map value (range_with_len 0 n);
@@ -152,14 +152,14 @@ module _ (counts : CountsRestOnNoInterval) (histories : HistoriesRestOnNoInterva
       ap (λ (value : ℕ → ℕ). made value (param_count b)) (fun_ext (value_same i))
       ∙ ap (made (candidate_value a i)) (counts.params a b others)
 
-  count_same : candidate_count b ≡ candidate_count a
+  pub count_same : candidate_count b ≡ candidate_count a
   count_same = ap (λ (ps : List Param). 2 + 2 * count_by is_free ps) (same_params a b same)
 
   module _ (s r : Script) (values : values_of r ≡ values_of s) where
     spans_same : r.spans.items ≡ s.spans.items
     spans_same = ap (λ (v : ScriptValues). v.spans) values
 
-    pair_world_same : (box : Box) → pair_world_of b r box ≡ pair_world_of b s box
+    pub pair_world_same : (box : Box) → pair_world_of b r box ≡ pair_world_of b s box
     unfolding pair_world_of
     pair_world_same box =
         let by_spans : List SeenSpan → PairWorld = λ spans. record {
@@ -171,22 +171,28 @@ module _ (counts : CountsRestOnNoInterval) (histories : HistoriesRestOnNoInterva
         } in
         ap by_spans spans_same
 
-    pair_history_on : (w : PairHistory) → IsPairHistory a s (declared_box a) w
-        → IsPairHistory b r (declared_box b) w
-    pair_history_on w is =
-        let of_b = (histories.boxes a b s (declared_box a) w others).1 is in
-        subst (λ (box : Box). IsPairHistory b r box w) (sym box_same) (record {
+    pub pair_history_over : (box : Box) (w : PairHistory) → IsPairHistory a s box w
+        → IsPairHistory b r box w
+    pair_history_over box w is =
+        let of_b = (histories.boxes a b s box w others).1 is in
+        record {
           keys = λ k t there lt.
               of_b.keys k t there lt
               ∙ ap (λ (world : PairWorld). pair_mean world w.key (key_tree b k) t)
-              (sym (pair_world_same (declared_box a)));
+              (sym (pair_world_same box));
           trips = λ k t there lt.
               of_b.trips k t there lt
               ∙ ap (λ (world : PairWorld). pair_mean world w.key (trip_tree b k) t)
-              (sym (pair_world_same (declared_box a)));
-        })
+              (sym (pair_world_same box));
+        }
 
-    rule_same : (trip : ℕ → Rails) → rule_of b r trip ≡ rule_of a s trip
+    pair_history_on : (w : PairHistory) → IsPairHistory a s (declared_box a) w
+        → IsPairHistory b r (declared_box b) w
+    pair_history_on w is =
+        subst (λ (box : Box). IsPairHistory b r box w) (sym box_same)
+        (pair_history_over (declared_box a) w is)
+
+    pub rule_same : (trip : ℕ → Rails) → rule_of b r trip ≡ rule_of a s trip
     rule_same trip =
         ap (λ (n : ℕ). rule_by r.kind r.deadline n trip) others.horizon
         ∙ ap (λ (d : ℕ). rule_by r.kind d a.horizon trip)

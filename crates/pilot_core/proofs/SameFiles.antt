@@ -23,35 +23,18 @@ use Rattle.margin_search.specs.Raised.{raised}
 use Rattle.headline.specs.Obligations.{AllMet, HoldsAsAccepted, HoldsAsCertified, HoldsSomewhere}
 use Rattle.headline.specs.Obligations.{IsFailedBySome, IsUnknown}
 use Rattle.headline.specs.Printed.{HoldsOf}
-use Rattle.pilot_core.specs.{Headline.IsToldBy, SaidByFiles.AreSaid, SaidByFiles.InFiles}
+use Rattle.pilot_core.specs.{SaidByFiles.AreSaid, SaidByFiles.InFiles, Truths.IsToldBy}
 use Rattle.pilot_core.specs.Truths.{MarginIsTrue, ReportIsTrue, RowIsTrue, SplitIsTrue}
 use Rattle.pilot_core.specs.declared.stop.Status.{Status}
 use Rattle.pilot_core.specs.declared.stop.Status.TheVariants as status
 use Rattle.pilot_core.proofs.SameFacts.{accepted_on, are_told_on, certified_on, failed_by_all}
 use Rattle.pilot_core.proofs.SameFacts.{failed_on, raised_same, same_params, unknown_by, within_back}
 use Rattle.pilot_core.proofs.SameScripts.{scripts_same}
-use Rattle.pilot_core.proofs.SameTexts.{fields_same, heads_same, margin_same, split_same}
-use Rattle.pilot_core.proofs.SameTexts.{terminal_same}
+use Rattle.pilot_core.proofs.{SameHeld.upper_end_on, SameTexts.fields_same}
+use Rattle.pilot_core.proofs.SameTexts.{margin_same, split_same, terminal_same}
+use Rattle.pilot_core.proofs.Twins.{twin}
 use Rattle.pilot_core.proofs.SameValues.{history_back, inside_back, meets_on, met_by_all}
 use Rattle.pilot_core.proofs.SameValues.{same_but_params}
-
--- a script of the same values, at the same place
-record Twin (ys : List Script) (i : ℕ) (x : Script) : Type 0 where
-  pub script : Script
-  pub at : slice_get ys i ≡ Some script
-  pub values : values_of x ≡ values_of script
-
-twin : (xs ys : List Script) → map values_of xs ≡ map values_of ys → (i : ℕ) (x : Script)
-    → slice_get xs i ≡ Some x → Twin ys i x
-twin [] ys same i x at = absurd (cc)
-twin (z ∷ xs) [] same i x at = absurd (cc)
-twin (z ∷ xs) (y ∷ ys) same zero x at =
-    let heads = heads_same (values_of z) (values_of y) (map values_of xs) (map values_of ys) same in
-    record { script = y; at = refl; values = ap values_of (sym (same_Some z x at)) ∙ heads.0 }
-twin (z ∷ xs) (y ∷ ys) same (suc i) x at =
-    let heads = heads_same (values_of z) (values_of y) (map values_of xs) (map values_of ys) same in
-    let later = twin xs ys heads.1 i x at in
-    record { script = later.script; at = later.at; values = later.values }
 
 -- two lines and lists of scripts of the same values
 module _ (counts : CountsRestOnNoInterval) (histories : HistoriesRestOnNoInterval) (a b : Line)
@@ -162,6 +145,7 @@ module _ (counts : CountsRestOnNoInterval) (histories : HistoriesRestOnNoInterva
     end = is.end;
     text_is = is.text_is
         ∙ sym (margin_same a b others (same_params a b lines) xs ys scripts is.param is.end);
+    end_is = upper_end_on counts histories a b lines xs ys scripts is.param is.end is.end_is;
     met = λ v i k script greatest at there choice h within history.
         let other = twin ys xs scripts i script at in
         meets_on counts histories a b lines other.script script other.values k h
@@ -227,4 +211,16 @@ in_files once line_bytes scripts_bytes Fact moves of all line_is scripts_are hol
       said.scripts_are
       (scripts_same of line (same_but_params of line lines) scripts_bytes ∙ scripts_are))
       holds;
+}
+
+-- what follows from it, of one line and scripts, is so of all
+pub in_files_then : (line_bytes scripts_bytes : List ℕ) (F G : Line → List Script → Type 0)
+    → ((of : Line) (all : List Script) → F of all → G of all) → InFiles line_bytes scripts_bytes F
+    → InFiles line_bytes scripts_bytes G
+in_files_then line_bytes scripts_bytes F G follows is = record {
+  line = is.line;
+  scripts = is.scripts;
+  are_said = is.are_said;
+  once = is.once;
+  holds = λ of all said. follows of all (is.holds of all said);
 }

@@ -131,7 +131,7 @@ module _ (counts : CountsRestOnNoInterval) (histories : HistoriesRestOnNoInterva
         (subst (λ (x : Kind). MeetsBy x r.deadline b.horizon (h.trip k))
         (ap (λ (v : ScriptValues). v.kind) values) met))
 
-    same_steady : (numbers : List ℕ) → steady_choice a numbers ≡ steady_choice b numbers
+    pub same_steady : (numbers : List ℕ) → steady_choice a numbers ≡ steady_choice b numbers
     unfolding steady_choice
     same_steady numbers =
         let by_delays : (ℕ → ℕ) → Choice = λ delays. record {

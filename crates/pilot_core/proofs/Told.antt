@@ -2,9 +2,9 @@
 use Rattle.pilot_core.specs.declared.refusal.Refusal.TheVariants as refusal
 use Rattle.pilot_core.specs.declared.stop.File.TheVariants as file
 use Rattle.pilot_core.specs.declared.stop.Stop.TheVariants as stop
-use Rattle.std.proofs.Common.{◌≡◌, ◌⊎◌, ℕ, Bool, true, false, cond, List, [], ◌∷◌, ◌++◌, Option, None, Some, Result, Ok, Err, drop, take, length, map, refl, sym, ◌∙◌, ap, subst, inl, inr, ⊎_elim}
-use Rattle.pilot_core.specs.{Reading.third_file, Call.answers, CallAnswers.CallAnswers, CallAnswers.done_with, CallAnswers.refuses, Commands.answer, Ends.EndsOf, Files.AllTold, Files.in_front, Files.limit_of, Headline.HasPut, Reading.of_line, Reading.of_scripts, Reading.of_study, Reading.over_files, declared.refusal.Refusal.Refusal}
-use Rattle.pilot_core.specs.Words.{own_file, Command, files_of, three_files}
+use Rattle.std.proofs.Common.{◌≡◌, ◌≢◌, ◌⊎◌, ℕ, Bool, true, false, cond, List, [], ◌∷◌, ◌++◌, Option, None, Some, Result, Ok, Err, drop, take, length, map, refl, sym, ◌∙◌, ap, subst, inl, inr, ⊎_elim}
+use Rattle.pilot_core.specs.{Reading.third_file, Call.answers, CallAnswers.CallAnswers, CallAnswers.done_with, CallAnswers.refuses, Commands.answer, Ends.EndsOf, Files.AllTold, Files.in_front, Files.limit_of, Reading.of_line, Reading.of_scripts, Reading.of_study, Reading.over_files, declared.refusal.Refusal.Refusal}
+use Rattle.pilot_core.specs.Words.{own_file, Command, TwoFiles, files_of, three_files, two_files}
 use Rattle.pilot_core.specs.declared.words.ThreeFiles.{ThreeFiles}
 use Rattle.std.proofs.lemmas.List.{append-nil, append_cancel_left, take-append-drop}
 use Rattle.std.proofs.lemmas.Option.{same_Some}
@@ -19,7 +19,9 @@ use Rattle.fault_script.specs.Values.{ScriptValues, values_of}
 use Rattle.fault_script.specs.declared.fault.ScriptFault.{ScriptFault}
 use Rattle.commands.specs.Sinks.{SinkView}
 use Rattle.commands.specs.SinkLaws.{keeps_same}
+use Rattle.pilot_core.specs.CallOver.{HasPut, IsFrontOfText, IsOverThree, IsOverTwo}
 use Rattle.pilot_core.specs.declared.stop.File.{File}
+use Rattle.pilot_core.specs.declared.stop.Status.TheVariants as status
 use Rattle.pilot_core.specs.{Status.IsDone, Status.status_of, declared.stop.Status.Status}
 use Rattle.pilot_core.specs.declared.stop.Stop.{Stop}
 
@@ -189,6 +191,27 @@ pub is_told : (files : List ℕ → Option (List ℕ)) (name bytes : List ℕ) �
     → IsSome (files name)
 is_told files name bytes told = subst (λ (o : Option (List ℕ)). IsSome o) (sym told) refl
 
+-- ---- the files of a command are told
+
+pub all_two : (command : Option Command) (files : List ℕ → Option (List ℕ)) (work : TwoFiles)
+    (line scripts : List ℕ) → (over : IsOverTwo command files work line scripts)
+    → AllTold files (files_of (two_files work over.line_name over.scripts_name))
+all_two command files work line scripts over = (
+  is_told files over.line_name line over.line_told,
+  (is_told files over.scripts_name scripts over.scripts_told, tt),
+)
+
+pub all_three : (command : Option Command) (files : List ℕ → Option (List ℕ)) (work : ThreeFiles)
+    (line scripts own : List ℕ) → (over : IsOverThree command files work line scripts own)
+    → AllTold files (files_of (three_files work over.line_name over.scripts_name over.own_name))
+all_three command files work line scripts own over = (
+  is_told files over.line_name line over.line_told,
+  (
+    is_told files over.scripts_name scripts over.scripts_told,
+    (is_told files over.own_name own over.own_told, tt),
+  ),
+)
+
 -- ---- a command that is done
 
 module _ {K : Type 0} (view : K → SinkView) (old new : K) (files : List ℕ → Option (List ℕ))
@@ -207,6 +230,31 @@ module _ {K : Type 0} (view : K → SinkView) (old new : K) (files : List ℕ �
   done_put x (Err (stop.Store f)) e done told put has = absurd done
   done_put x (Err stop.Sink) e done told put has = absurd done
   done_put x (Err stop.Memory) e done told put has = absurd done
+
+  -- where each text that may be answered is of this kind, or is that of a refusal, what was put is a
+  -- front of one
+  pub front_of : (x : Command) (r : Result Status Stop) → EndsOf view (Some x) files c1 c2 old new r
+      → AllTold files (files_of x) → (put : List ℕ) → HasPut (view old) (view new) put
+      → (Fact : List ℕ → Type 0)
+      → ((s : Status) (text message : List ℕ) → (s ≡ status.BadInput → text ≡ [] → Fact text)
+      → answers (Some x) files s text message → Fact text)
+      → IsFrontOfText (status_of r) put Fact
+  front_of x r e told put has Fact true_of = record {
+    whole = λ done.
+        true_of (status_of r) put [] (λ refused none. absurd (subst IsDone refused done))
+        (done_put x r e done told put has);
+    front = λ some.
+        ⊎_elim (λ none. absurd (some none))
+        (λ front. (
+          front.front.rest,
+          subst Fact (sym front.front.is)
+              (true_of front.status front.text front.line
+              (λ refused none.
+              absurd (some (front_of_nothing put front.front.rest (front.front.is ∙ none))))
+              front.is),
+        ))
+        (what_was_put view old new files c1 c2 put has x r e told);
+  }
 
   pub done_answer : (x : Command) (r : Result Status Stop)
       → EndsOf view (Some x) files c1 c2 old new r → IsDone (status_of r)

@@ -6,10 +6,10 @@ use Rattle.model_line.specs.Laws.{CountsRestOnNoInterval, DeadlinesAreBelowTheHo
 use Rattle.model_line.specs.Parameters.{terminal_count}
 use Rattle.model_line.specs.{declared.line.Line.Line, declared.script.Script.Script, Fits.Fits}
 use Rattle.model_logic.specs.Histories.{History, IsLineHistory, Meets}
+use Rattle.model_logic.specs.IntervalLaws.{HistoriesRestOnNoInterval, TreesRestOnNoInterval}
 use Rattle.model_logic.specs.Laws.{AWiderBoxCovers, EachLineHasAChoiceInside}
 use Rattle.model_logic.specs.Laws.{TheRuleSpeaksForEveryChoice}
 use Rattle.model_logic.specs.Choice.{Choice, IsWithin}
-use Rattle.model_logic.specs.IntervalLaws.{HistoriesRestOnNoInterval}
 use Rattle.fault_script.specs.{Scripts.scripts_of, Values.AreOfOneFile, Values.ScriptValues}
 use Rattle.certificate.specs.{Grammar.Claims, Grammar.Verdict, Text.certificate_text}
 use Rattle.cert_checker.specs.{declared.counts.Counts.Counts, Check.IsAccepted}
@@ -33,6 +33,7 @@ pub record HeadlineLaws : Type 0 where
   -- lines that have the same values
   pub counts : CountsRestOnNoInterval
   pub histories : HistoriesRestOnNoInterval
+  pub logic : TreesRestOnNoInterval
   -- certificates
   pub certified_true : (line : Line) (scripts : List Script) (claims : List Claims)
       (front rest name terminal : List ℕ) (verdict : Verdict) → All (Fits line) scripts

@@ -2,6 +2,7 @@ pub mod Accepted
 pub mod Call
 pub mod Clauses
 pub mod CallAnswers
+pub mod CallOver
 pub mod CommandView
 pub mod Commands
 pub mod Ends

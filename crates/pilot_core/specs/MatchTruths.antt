@@ -1,26 +1,24 @@
 -- What is so of every choice of delays where `match` has put a line, and by its status.
-use Rattle.std.specs.Prelude.{◌≡◌, ℕ, List, Ok, map}
+use Rattle.std.specs.Prelude.{◌≡◌, ℕ, List, Ok}
 use Rattle.model_line.specs.{declared.line.Line.Line, declared.script.Script.Script}
-use Rattle.line_file.specs.{LineFiles.line_of, Lines.line_values}
-use Rattle.fault_script.specs.{Scripts.scripts_of, Values.AreOfOneFile, Values.values_of}
 use Rattle.record_match.specs.Waves.{SeenValues, records_said}
 use Rattle.headline.specs.Matched.{AllGiven, HoldsOfRecord, HoldsOfRecordAt, HoldsOfSomeRecord}
 use Rattle.headline.specs.Matched.{IsGivenByNone, IsOpenRecord, Matched}
-use Rattle.pilot_core.specs.declared.stop.Status.{Status}
+use Rattle.pilot_core.specs.{SaidByFiles.InFiles, declared.stop.Status.Status}
 use Rattle.pilot_core.specs.declared.stop.Status.TheVariants as status
 
--- the files say a line, scripts of which no two have one name, and records of the field, and this
--- holds of them
-pub record InRecords (line_bytes scripts_bytes record_bytes : List ℕ)
-    (Fact : Line → List Script → List SeenValues → Type 0) : Type 0 where
-  pub line : Line
-  pub line_is : line_of line_bytes ≡ Ok (line_values line)
-  pub scripts : List Script
-  pub scripts_are : scripts_of line scripts_bytes ≡ Ok (map values_of scripts)
-  pub once : AreOfOneFile (map values_of scripts)
+-- the bytes say records of the field, for a line and scripts, and this holds of them
+pub record OfRecords (record_bytes : List ℕ) (Fact : Line → List Script → List SeenValues → Type 0)
+    (line : Line) (scripts : List Script) : Type 0 where
   pub records : List SeenValues
   pub records_are : records_said line scripts record_bytes ≡ Ok records
   pub holds : Fact line scripts records
+
+-- this holds of the line, of the scripts and of the records that the files say
+abbrev pub InRecords : List ℕ → List ℕ → List ℕ
+    → (Line → List Script → List SeenValues → Type 0) → Type 0
+InRecords line_bytes scripts_bytes record_bytes Fact =
+    InFiles line_bytes scripts_bytes (OfRecords record_bytes Fact)
 
 -- record i is of the script of that name, and what is said of it is true
 abbrev pub IsMatchTrue : ℕ → List ℕ → Matched → Line → List Script → List SeenValues → Type 0

@@ -1,10 +1,8 @@
 -- What `play` has put, in words of choices and histories.
-use Rattle.std.specs.Prelude.{◌≡◌, ◌++◌, ℕ, List, Ok, map}
+use Rattle.std.specs.Prelude.{◌≡◌, ◌++◌, ℕ, List, Ok}
 use Rattle.std.specs.List.{All, flat_map}
 use Rattle.model_line.specs.{declared.line.Line.Line, declared.script.Script.Script}
 use Rattle.model_logic.specs.Histories.{History, IsLineHistory}
-use Rattle.line_file.specs.{LineFiles.line_of, Lines.line_values}
-use Rattle.fault_script.specs.{Scripts.scripts_of, Values.AreOfOneFile, Values.values_of}
 use Rattle.timing_box.specs.{Choice.timing_choice, Inside.IsTimingInside, SoFar.NamedValues}
 use Rattle.timing_box.specs.Timings.{timings_of}
 use Rattle.simulator.specs.PlayRows.{run_rows}
@@ -25,14 +23,10 @@ rows_of_all line scripts timings histories =
     (λ timing. flat_map
     (λ script. run_rows timing.name script.name line (histories timing script)) scripts) timings
 
--- the files say a line, scripts of which no two have one name, and timings inside the line's declared
--- intervals; the text is the rows of all their histories, and nothing else
-pub record IsPlayTrue (line_bytes scripts_bytes timings_bytes text : List ℕ) : Type 0 where
-  pub line : Line
-  pub line_is : line_of line_bytes ≡ Ok (line_values line)
-  pub scripts : List Script
-  pub scripts_are : scripts_of line scripts_bytes ≡ Ok (map values_of scripts)
-  pub once : AreOfOneFile (map values_of scripts)
+-- the bytes say timings inside the line's declared intervals; the text is the rows of all their
+-- histories, and nothing else
+pub record IsPlayTrue (line : Line) (scripts : List Script) (timings_bytes text : List ℕ)
+    : Type 0 where
   pub timings : List NamedValues
   pub timings_are : timings_of line timings_bytes ≡ Ok timings
   pub inside : All (λ timing. IsTimingInside line timing.timing) timings

@@ -3,6 +3,7 @@ use Rattle.std.specs.Prelude.{◌≡◌, ℕ, List, Ok, map}
 use Rattle.model_line.specs.{declared.line.Line.Line, declared.script.Script.Script}
 use Rattle.line_file.specs.{LineFiles.line_of, Lines.line_values}
 use Rattle.fault_script.specs.{Scripts.scripts_of, Values.AreOfOneFile, Values.values_of}
+use Rattle.headline.specs.Printed.{HoldsOf}
 
 -- the bytes of a line file and of a scripts file say this line and these scripts: all their values,
 -- so that two lines that they say differ at most in how much room their lists have
@@ -21,3 +22,8 @@ pub record InFiles (line_bytes scripts_bytes : List ℕ) (Fact : Line → List S
   pub once : AreOfOneFile (map values_of scripts)
   pub holds : (of : Line) (all : List Script) → AreSaid line_bytes scripts_bytes of all
       → Fact of all
+
+-- this holds of the obligation of the script and at the terminal with these names
+abbrev pub HoldsInFiles : List ℕ → List ℕ → List ℕ → List ℕ → (Line → Script → ℕ → Type 0) → Type 0
+HoldsInFiles line_bytes scripts_bytes name terminal Fact =
+    InFiles line_bytes scripts_bytes (λ line scripts. HoldsOf line scripts name terminal Fact)

@@ -10,11 +10,22 @@ use Rattle.model_names.specs.NumbersByName.{param_named}
 use Rattle.simulator.specs.PlayRows.{each_below}
 use Rattle.timing_report.specs.ReportText.{fields_text, report_header, rule_word}
 use Rattle.margin_search.specs.declared.upper_end.UpperEnd.{UpperEnd}
-use Rattle.margin_search.specs.{MarginText.margin_line, Raised.raised}
+use Rattle.margin_search.specs.{Margin.IsUpperEnd, MarginText.margin_line, Raised.raised}
 use Rattle.cert_checker.specs.Scripts.{EachBelow}
 use Rattle.split_text.specs.{Grammar.SplitResult, Text.split_text}
 use Rattle.split_checker.specs.Results.{AreTold}
-use Rattle.headline.specs.Obligations.{IsMetByAll}
+use Rattle.headline.specs.Obligations.{AllMet, HoldsSomewhere, IsFailedBySome, IsMetByAll}
+use Rattle.headline.specs.Obligations.{IsUnknown}
+use Rattle.pilot_core.specs.declared.stop.Status.{Status}
+use Rattle.pilot_core.specs.declared.stop.Status.TheVariants as status
+
+-- what the status of `certify` says. 0: every obligation is met, whatever the choice. 1: some choice
+-- fails one. 2: one is unknown.
+abbrev pub IsToldBy : Status → Line → List Script → Type 0
+IsToldBy status.Good line scripts = AllMet line scripts
+IsToldBy status.SomeNo line scripts = HoldsSomewhere line scripts IsFailedBySome
+IsToldBy status.SomeUndecided line scripts = HoldsSomewhere line scripts IsUnknown
+IsToldBy s line scripts = Unit {0}
 
 -- no history of any choice inside the declared intervals meets the obligation
 abbrev pub IsFailedByAll : Line → Script → ℕ → Type 0
@@ -50,13 +61,16 @@ pub record ReportIsTrue (line : Line) (scripts : List Script) (text : List ℕ) 
   pub rows : (i k : ℕ) (script : Script) → slice_get scripts i ≡ Some script
       → k < terminal_count line → RowIsTrue line script k (row i k)
 
--- the text is the line of this margin: every choice with that number as the parameter's upper end
--- meets every obligation
+-- the text is the line of this margin: its number is the greatest up to which every rule is held, and
+-- the obligation that it names is the first that is lost one above, or at the declared least where
+-- there is no such number; and every choice with that number as the parameter's upper end meets every
+-- obligation
 pub record MarginIsTrue (line : Line) (scripts : List Script) (name text : List ℕ) : Type 0 where
   pub param : ℕ
   pub param_is : param_named line name ≡ Some param
   pub end : UpperEnd
   pub text_is : text ≡ margin_line line scripts param end
+  pub end_is : IsUpperEnd line scripts param end
   pub met : (v i k : ℕ) (script : Script) → end.greatest ≡ Some v
       → slice_get scripts i ≡ Some script → k < terminal_count line → (choice : Choice) (h : History)
       → IsWithin line choice (raised line param v) → IsLineHistory line script choice h

@@ -18,7 +18,9 @@ use fault_script::a_file_says_scripts_of_one_file;
 use headline::{what_is_accepted_is_true, what_is_certified_is_true};
 use margin_search::what_is_held_to_a_number_is_met;
 use model_line::laws::{counts_do_not_rest_on_the_intervals, deadlines_are_below_the_horizon};
-use model_logic::interval_laws::histories_do_not_rest_on_the_intervals;
+use model_logic::interval_laws::{
+    histories_do_not_rest_on_the_intervals, trees_do_not_rest_on_the_intervals,
+};
 use model_logic::laws::{
     a_wider_box_covers, each_line_has_a_choice_inside, the_rule_speaks_for_every_choice,
 };
@@ -35,6 +37,7 @@ pub fn what_is_answered_is_true()
     a_file_says_scripts_of_one_file();
     counts_do_not_rest_on_the_intervals();
     histories_do_not_rest_on_the_intervals();
+    trees_do_not_rest_on_the_intervals();
     what_is_certified_is_true();
     what_is_accepted_is_true();
     what_is_recorded_is_true();

@@ -1,18 +1,23 @@
 //! That a command has one answer.
-ghost use Rattle.std.specs.Prelude.{◌≡◌, ℕ, List};
+ghost use Rattle.std.specs.Prelude.{◌≡◌, ◌≤◌, ◌<◌, ℕ, List};
 ghost use Rattle.std.specs.List.{All};
 ghost use Rattle.model_line.specs.{declared.line.Line.Line, declared.script.Script.Script};
-ghost use Rattle.model_line.specs.Fits.{Fits};
+ghost use Rattle.model_line.specs.{Fits.Fits, Parameters.param_count};
 ghost use Rattle.commands.specs.{Check.check_answer, Margin.margin_answer, Recheck.recheck_answer};
-ghost use Rattle.commands.specs.{Report.report_answer, Split.split_answer};
+ghost use Rattle.commands.specs.{Match.match_answer, Report.report_answer, Split.split_answer};
 ghost use Rattle.commands.specs.declared.done.Done.{Done};
+ghost use Rattle.record_match.specs.Waves.{SeenValues};
 
 use cert_checker::{a_certificate_has_one_first_fault, a_fault_refuses_the_certificate};
 use certificate::a_text_has_one_meaning;
 use margin_search::a_parameter_has_one_margin;
-use model_line::laws::deadlines_are_below_the_horizon;
-use model_logic::laws::{each_box_has_one_interval_history, each_line_has_a_choice_inside};
-use own_splits::each_search_has_one_outcome;
+use model_line::laws::{deadlines_are_below_the_horizon, declared_intervals_are_in_order};
+use model_logic::interval_laws::the_rule_over_a_box;
+use model_logic::laws::{
+    each_box_has_one_interval_history, each_line_has_a_choice_inside, line_laws,
+};
+use own_splits::{each_search_has_an_outcome, each_search_has_one_outcome};
+use record_match::a_record_is_settled_once;
 use split_checker::{a_fault_refuses_the_split_text, a_split_text_has_one_first_fault};
 use split_text::a_split_text_has_one_meaning;
 
@@ -38,21 +43,31 @@ pub fn each_recheck_has_one_answer()
     a_split_text_has_one_first_fault();
 }
 
-/// Of a parameter `margin` answers at most one thing.
+/// Of a parameter `margin` answers at most one thing, and of scripts that fit exactly one.
 pub fn each_margin_has_one_answer()
-    ensures { (line : Line) (scripts : List Script) (param : ℕ) (s t : Done)
+    ensures exists { (line : Line) (scripts : List Script) (param : ℕ) →
+        All (Fits line) scripts → param < param_count line →
+        (s : Done) × (text : List ℕ) × margin_answer line scripts param s text }
+    ensures only { (line : Line) (scripts : List Script) (param : ℕ) (s t : Done)
         (a b : List ℕ) → margin_answer line scripts param s a →
         margin_answer line scripts param t b → (s ≡ t) × (a ≡ b) }
 {
     a_parameter_has_one_margin();
+    declared_intervals_are_in_order();
+    the_rule_over_a_box();
+    line_laws();
 }
 
-/// To a depth `split` answers at most one thing.
+/// To a depth `split` answers at most one thing, and of scripts that fit, to a depth of at most eight,
+/// exactly one.
 pub fn each_split_has_one_answer()
-    ensures { (line : Line) (scripts : List Script) (n : ℕ) (s t : Done) (a b : List ℕ) →
+    ensures exists { (line : Line) (scripts : List Script) (n : ℕ) → All (Fits line) scripts →
+        n ≤ 8 → (s : Done) × (text : List ℕ) × split_answer line scripts n s text }
+    ensures only { (line : Line) (scripts : List Script) (n : ℕ) (s t : Done) (a b : List ℕ) →
         split_answer line scripts n s a → split_answer line scripts n t b →
         (s ≡ t) × (a ≡ b) }
 {
+    each_search_has_an_outcome();
     each_search_has_one_outcome();
 }
 
@@ -67,4 +82,13 @@ pub fn each_report_has_one_answer()
     each_box_has_one_interval_history();
     each_line_has_a_choice_inside();
     deadlines_are_below_the_horizon();
+}
+
+/// Of the records of a file `match` answers at most one thing.
+pub fn each_match_has_one_answer()
+    ensures { (line : Line) (scripts : List Script) (records : List SeenValues) (s t : Done)
+        (a b : List ℕ) → match_answer line scripts records s a →
+        match_answer line scripts records t b → (s ≡ t) × (a ≡ b) }
+{
+    a_record_is_settled_once();
 }

@@ -14,9 +14,9 @@ use Rattle.model_logic.specs.Mean.{Signals, mean}
 use Rattle.model_logic.specs.Logic.{key_tree, trip_tree}
 use Rattle.model_logic.specs.{declared.time.Time.Time, Laws.LineLaws}
 use Rattle.model_line.specs.declared.script.Kind.TheVariants.{Internal, External}
+use Rattle.model_line.specs.Channels.{from_of}
 use Rattle.model_line.specs.{declared.line.Line.Line, declared.script.Kind.Kind}
 use Rattle.model_line.specs.{declared.script.Script.Script, Parameters.terminal_count}
-use Rattle.model_line.specs.Channels.{from_of}
 use Rattle.polarity.specs.Sides.{Rail, Must, May, turned, End, Least, Greatest, pickup_end}
 use Rattle.polarity.specs.Sides.{dropout_end, Sides}
 use Rattle.polarity.specs.Worst.{deciding}

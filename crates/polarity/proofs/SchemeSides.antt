@@ -11,9 +11,9 @@ use Rattle.model_line.specs.declared.line.Setting.TheVariants.{ReversalPickup, R
 use Rattle.model_line.specs.declared.line.Setting.TheVariants.{BlockCarry, BlockCoord}
 use Rattle.model_line.specs.declared.line.Setting.TheVariants.{TransferSecurity}
 use Rattle.model_line.specs.Settings.{same_setting, groups_with, guard_settings, scheme_settings}
+use Rattle.model_line.specs.Channels.{from_of}
 use Rattle.model_line.specs.{declared.line.Line.Line, declared.line.Scheme.Scheme}
 use Rattle.model_line.specs.{declared.line.Setting.Setting, Parameters.terminal_count}
-use Rattle.model_line.specs.Channels.{from_of}
 use Rattle.model_logic.specs.Tree.{Tree, Const, And, Or, Timer}
 use Rattle.model_logic.specs.Elements.{is_guarded, is_weak, seen_timed, zone1, zone2, reverse}
 use Rattle.model_logic.specs.Elements.{current}

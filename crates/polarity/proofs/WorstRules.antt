@@ -4,9 +4,9 @@ use Rattle.std.proofs.lemmas.Bool.{cases_Bool, both_ways}
 use Rattle.std.specs.Prelude.{◌↔◌, ◌⊎◌}
 use Rattle.history.specs.{Laws.HistoryLaws, Rails.Rails}
 use Rattle.model_line.specs.declared.script.Kind.TheVariants.{Internal, External}
+use Rattle.model_line.specs.Parameters.{terminal_count}
 use Rattle.model_line.specs.{declared.line.Line.Line, declared.script.Kind.Kind}
 use Rattle.model_line.specs.{declared.script.Script.Script, Laws.DeclaredIntervalsAreInOrder}
-use Rattle.model_line.specs.Parameters.{terminal_count}
 use Rattle.model_logic.specs.Choice.{Choice, Box, LeastFromOne, declared_box}
 use Rattle.model_logic.specs.Histories.{History, IsLineHistory, PairHistory, IsPairHistory, MeetsBy}
 use Rattle.model_logic.specs.Histories.{Meets}

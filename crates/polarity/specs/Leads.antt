@@ -8,8 +8,8 @@ use Rattle.model_logic.specs.Histories.{History, IsLineHistory, Meets}
 use Rattle.model_logic.specs.Logic.{key_tree, trip_tree}
 use Rattle.model_logic.specs.declared.time.Time.{Time}
 use Rattle.model_line.specs.Parameters.{terminal_count, channel_count, param_count}
-use Rattle.model_line.specs.{declared.line.Line.Line, declared.script.Script.Script}
 use Rattle.model_line.specs.Channels.{from_of}
+use Rattle.model_line.specs.{declared.line.Line.Line, declared.script.Script.Script}
 use Rattle.polarity.specs.Sides.{Rail, turned, End, Least, Greatest, pickup_end}
 use Rattle.polarity.specs.Sides.{dropout_end, Sides}
 use Rattle.polarity.specs.Worst.{deciding}

@@ -5,6 +5,7 @@ returns c = record {
   one_file = c.a_file_says_scripts_of_one_file.ensures;
   counts = c.counts_do_not_rest_on_the_intervals.ensures;
   histories = c.histories_do_not_rest_on_the_intervals.ensures;
+  logic = c.trees_do_not_rest_on_the_intervals.ensures;
   certified_true = c.what_is_certified_is_true.ensures.text;
   all = c.what_is_certified_is_true.ensures.all;
   some_no = c.what_is_certified_is_true.ensures.some_no;
