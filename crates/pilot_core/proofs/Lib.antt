@@ -18,3 +18,4 @@ pub mod PrintedTrees
 pub mod OneAnswer
 mod EachMargin
 mod OneMatch
+mod OneBench
