@@ -6,13 +6,13 @@ use Rattle.std.proofs.lemmas.List.{length-map}
 use Rattle.std.proofs.lemmas.Option.{same_Some}
 use Rattle.std.specs.Prelude.{codes, slice_get}
 use Rattle.std.specs.{List.position_from, Str.bytes_eq}
-use Rattle.line_model.specs.{declared.line.Line.Line, declared.line.Param.Param}
-use Rattle.line_model.specs.declared.script.Script.{Script}
-use Rattle.line_model.specs.{Choice.Choice, Choice.IsWithin, Histories.History}
-use Rattle.line_model.specs.{Histories.IsLineHistory, NamesByNumber.terminal_name}
-use Rattle.line_model.specs.{NumbersByName.param_named, Parameters.terminal_count}
-use Rattle.line_model.specs.{Histories.Meets, SetBounds.SameButParams}
-use Rattle.line_model.specs.IntervalLaws.{CountsRestOnNoInterval, HistoriesRestOnNoInterval}
+use Rattle.model_line.specs.{declared.line.Line.Line, declared.line.Param.Param}
+use Rattle.model_line.specs.{declared.script.Script.Script, Parameters.terminal_count}
+use Rattle.model_line.specs.{SetBounds.SameButParams, Laws.CountsRestOnNoInterval}
+use Rattle.model_logic.specs.Choice.{Choice, IsWithin}
+use Rattle.model_logic.specs.Histories.{History, IsLineHistory, Meets}
+use Rattle.model_logic.specs.IntervalLaws.{HistoriesRestOnNoInterval}
+use Rattle.model_names.specs.{NamesByNumber.terminal_name, NumbersByName.param_named}
 use Rattle.line_file.specs.{LineFiles.line_of, Lines.line_values}
 use Rattle.fault_script.specs.{Scripts.scripts_of, Values.AreOfOneFile, Values.ScriptValues}
 use Rattle.fault_script.specs.Values.{values_of}
