@@ -1,14 +1,13 @@
 -- Each parameter has a margin, or none at all, and an obligation that is lost.
 use Rattle.std.proofs.Common.{◌≡◌, ◌+◌, ◌<◌, ◌≤◌, ◌⊎◌, inl, inr, ℕ, zero, suc, List, [], ◌∷◌, None, Some}
-use Rattle.std.proofs.Common.{length, refl, sym, ◌∙◌, subst, ap, arith}
+use Rattle.std.proofs.Common.{length, refl, sym, ◌∙◌, subst, arith}
 use Rattle.std.proofs.lemmas.Bool.{cases_eq, cases_lt, eqb-true}
 use Rattle.std.proofs.lemmas.List.Elements.{All-head, All-tail}
 use Rattle.std.proofs.lemmas.Option.{slice_get_within, same_Some}
 use Rattle.std.specs.Prelude.{Option, Bool, true, false, cond, is_some, slice_get, ◌==◌}
 use Rattle.std.specs.List.{All}
 use Rattle.history.specs.Rails.{Ends}
-use Rattle.model_line.specs.Parameters.{declared_ends, delay_param, param_count, terminal_count}
-use Rattle.model_line.specs.Laws.{DeclaredIntervalsAreInOrder}
+use Rattle.model_line.specs.Parameters.{declared_ends, delay_param, terminal_count}
 use Rattle.model_line.specs.{declared.line.Line.Line, declared.script.Script.Script, Fits.Fits}
 use Rattle.model_logic.specs.Choice.{Box, LeastFromOne}
 use Rattle.model_logic.specs.Rule.{Rule, Held, Broken, Unknown, rule_of}
@@ -16,9 +15,9 @@ use Rattle.model_logic.specs.IntervalLaws.{TheRuleOverABox}
 use Rattle.model_logic.specs.{Boxes.ends_with, HeldOver.IsHeldOver, Laws.LineLaws}
 use Rattle.margin_search.specs.declared.upper_end.Lost.{Lost}
 use Rattle.margin_search.specs.declared.upper_end.UpperEnd.{UpperEnd}
-use Rattle.margin_search.specs.Lost.{AllHeld, AreHeld, IsFirstLost, IsFirstTerminal, IsLoss}
+use Rattle.margin_search.specs.Lost.{AllHeld, IsFirstLost, IsFirstTerminal, IsLoss}
 use Rattle.margin_search.specs.Lost.{IsScriptHeld}
-use Rattle.margin_search.specs.Margin.{HasNoMargin, IsHeldTo, IsLostAbove, IsMargin, IsUpperEnd}
+use Rattle.margin_search.specs.Margin.{IsHeldTo, IsLostAbove, IsUpperEnd}
 use Rattle.margin_search.specs.{Margin.IsLostAt, MarginText.margin_line, Raised.raised}
 use Rattle.commands.specs.{Margin.margin_answer, declared.done.Done.Done}
 use Rattle.commands.specs.declared.done.Done.TheVariants as done

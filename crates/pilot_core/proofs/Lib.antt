@@ -23,3 +23,4 @@ pub mod SameMatches
 pub mod SamePlays
 mod EachMargin
 mod OneMatch
+mod OneBench

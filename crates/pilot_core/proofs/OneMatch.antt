@@ -1,19 +1,17 @@
 -- A match has one answer: what is settled of a record rests on its waves alone.
-use Rattle.std.proofs.Common.{◌≡◌, ◌<◌, ℕ, Bool, true, false, List, Some, map, refl, sym, ◌∙◌, ap, subst}
-use Rattle.std.specs.Prelude.{slice_get}
+use Rattle.std.proofs.Common.{◌≡◌, ℕ, Bool, true, false, List, Some, map, sym, ◌∙◌, ap, subst}
 use Rattle.std.specs.List.{concat, list_any}
 use Rattle.cert_checker.specs.ZipLaws.{zip_once}
-use Rattle.cert_checker.specs.{Claims.pairs_of, Firsts.IsFirstFailing}
+use Rattle.cert_checker.specs.{Claims.pairs_of}
 use Rattle.cert_checker.specs.Verdicts.{derived_key, derived_trip}
 use Rattle.history.specs.Rails.{Covers, Rails}
 use Rattle.model_line.specs.{declared.line.Line.Line, declared.script.Script.Script}
 use Rattle.model_logic.specs.Histories.{History, IsSameHistory}
-use Rattle.tick_signal.specs.{declared.tern.Tern.Tern, Terns.tern_rails}
 use Rattle.timing_box.specs.Timing.{TimingValues}
 use Rattle.record_match.specs.Answer.{Head, IsHead, IsMatchAnswer, is_impossible, is_unsettled}
-use Rattle.record_match.specs.Clash.{AllAllowed, IsAllowed, IsFirstClash, IsTerminalAllowed}
+use Rattle.record_match.specs.Clash.{AllAllowed, IsAllowed, IsTerminalAllowed}
 use Rattle.record_match.specs.Clash.{IsSignalAllowed, derived_at, level_at}
-use Rattle.record_match.specs.Match.{IsExplained, IsMatch, IsUnsettled, NoneGives}
+use Rattle.record_match.specs.Match.{IsMatch, NoneGives}
 use Rattle.record_match.specs.MatchText.{match_line}
 use Rattle.record_match.specs.Seen.{Gives, seen_history}
 use Rattle.record_match.specs.Waves.{SeenValues, seen_values}

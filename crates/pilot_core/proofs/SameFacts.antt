@@ -1,12 +1,11 @@
 -- What is said of an obligation rests on the values of a line and of a script alone.
-use Rattle.std.proofs.Common.{◌≡◌, ℕ, ◌<◌, ◌+◌, ◌*◌, List, [], ◌∷◌, Some, map, get_or, refl, sym, ◌∙◌, ap}
+use Rattle.std.proofs.Common.{◌≡◌, ℕ, ◌<◌, ◌+◌, ◌*◌, List, [], ◌∷◌, map, get_or, refl, sym, ◌∙◌, ap}
 use Rattle.std.proofs.Common.{subst}
 use Rattle.std.proofs.Math.Path.{fun_ext}
 use Rattle.std.proofs.lemmas.List.Elements.{All-nil}
-use Rattle.std.specs.Prelude.{slice_get}
 use Rattle.std.specs.List.{count_by, range_with_len}
 use Rattle.history.specs.Rails.{Ends, Rails}
-use Rattle.model_line.specs.Parameters.{declared_ends, delay_param, param_count, terminal_count}
+use Rattle.model_line.specs.Parameters.{declared_ends, delay_param, param_count}
 use Rattle.model_line.specs.Seen.{is_lost, is_seen}
 use Rattle.model_line.specs.{declared.line.Line.Line, declared.script.Script.Script}
 use Rattle.model_line.specs.{declared.line.Channel.Channel, declared.line.Param.Param}
@@ -14,17 +13,17 @@ use Rattle.model_line.specs.{declared.line.Scheme.Scheme, declared.line.Terminal
 use Rattle.model_line.specs.{declared.script.Kind.Kind, declared.script.SeenSpan.SeenSpan}
 use Rattle.model_line.specs.{Laws.CountsRestOnNoInterval, Channels.from_of, ParamNames.param_name}
 use Rattle.model_line.specs.{Settings.line_settings, SetBounds.SameButParams}
-use Rattle.model_logic.specs.Choice.{Box, Choice, IsIn, IsInside, IsWithin, declared_box, ends_by}
-use Rattle.model_logic.specs.Choice.{pair_world_of, steady_choice}
-use Rattle.model_logic.specs.Histories.{History, IsLineHistory, IsPairHistory, Meets, PairHistory}
+use Rattle.model_logic.specs.Choice.{Box, Choice, IsIn, IsWithin, declared_box, ends_by}
+use Rattle.model_logic.specs.Choice.{pair_world_of}
+use Rattle.model_logic.specs.Histories.{IsLineHistory, IsPairHistory, PairHistory}
 use Rattle.model_logic.specs.Logic.{key_tree, trip_tree}
 use Rattle.model_logic.specs.PairMean.{PairWorld, pair_mean}
-use Rattle.model_logic.specs.Rule.{Rule, Unknown, rule_by, rule_of}
+use Rattle.model_logic.specs.Rule.{rule_by, rule_of}
 use Rattle.model_logic.specs.{IntervalLaws.HistoriesRestOnNoInterval, Boxes.ends_with}
 use Rattle.line_file.specs.Lines.{LineValues, line_values}
 use Rattle.fault_script.specs.Values.{ScriptValues, values_of}
 use Rattle.timing_box.specs.Candidates.{candidate, candidate_count, candidate_value, is_free}
-use Rattle.timing_box.specs.{Choice.timing_choice, Inside.IsStepInside, Inside.IsTimingInside}
+use Rattle.timing_box.specs.{Choice.timing_choice, Inside.IsStepInside}
 use Rattle.timing_box.specs.Timing.{TimingValues, number_at}
 use Rattle.certify_core.specs.Verdicts.{PassesAt}
 use Rattle.certificate.specs.Grammar.{Verdict, no, undecided, yes}
@@ -33,11 +32,11 @@ use Rattle.margin_search.specs.Raised.{raised}
 use Rattle.split_text.specs.Grammar.{SplitResult, fails, tree}
 use Rattle.split_checker.specs.Results.{AreTold, IsTold}
 use Rattle.headline.specs.Obligations.{HoldsAsAccepted, HoldsAsCertified, IsFailedBySome}
-use Rattle.headline.specs.Obligations.{IsMetByAll, IsUnknown}
+use Rattle.headline.specs.Obligations.{IsUnknown}
 use Rattle.pilot_core.specs.Truths.{IsFailedByAll}
-use Rattle.pilot_core.proofs.SameValues.{failed_by, greatests_of, history_back, history_on}
+use Rattle.pilot_core.proofs.SameValues.{failed_by, greatests_of, history_back}
 use Rattle.pilot_core.proofs.SameValues.{inside_back, leasts_of, meets_back, meets_on, met_by_all}
-use Rattle.pilot_core.proofs.SameValues.{rest, same_but_params, same_ends, same_spans}
+use Rattle.pilot_core.proofs.SameValues.{same_but_params, same_ends}
 
 -- ---- parameters
 
@@ -186,7 +185,7 @@ module _ (counts : CountsRestOnNoInterval) (histories : HistoriesRestOnNoInterva
               (sym (pair_world_same box));
         }
 
-    pair_history_on : (w : PairHistory) → IsPairHistory a s (declared_box a) w
+    pub pair_history_on : (w : PairHistory) → IsPairHistory a s (declared_box a) w
         → IsPairHistory b r (declared_box b) w
     pair_history_on w is =
         subst (λ (box : Box). IsPairHistory b r box w) (sym box_same)
@@ -200,7 +199,7 @@ module _ (counts : CountsRestOnNoInterval) (histories : HistoriesRestOnNoInterva
         ∙ ap (λ (x : Kind). rule_by x s.deadline a.horizon trip)
         (ap (λ (v : ScriptValues). v.kind) values)
 
-    passes_on : (k : ℕ) (timing : TimingValues) → PassesAt a s k timing → PassesAt b r k timing
+    pub passes_on : (k : ℕ) (timing : TimingValues) → PassesAt a s k timing → PassesAt b r k timing
     passes_on k timing p = record {
       meets = λ h is.
           meets_on counts histories a b same s r values k h

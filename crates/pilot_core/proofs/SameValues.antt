@@ -1,10 +1,8 @@
 -- What is met, or failed, rests on the values of a line and of a script alone.
-use Rattle.std.proofs.Common.{◌≡◌, ℕ, ◌<◌, Bool, List, [], ◌∷◌, map, get_or, refl, sym, ◌∙◌, ap, subst}
+use Rattle.std.proofs.Common.{◌≡◌, ℕ, ◌<◌, List, [], ◌∷◌, map, get_or, refl, sym, ◌∙◌, ap, subst}
 use Rattle.std.proofs.Math.Path.{fun_ext}
-use Rattle.std.specs.Prelude.{◌↔◌}
 use Rattle.history.specs.Rails.{Ends}
-use Rattle.model_line.specs.Parameters.{channel_count, declared_ends, delay_param, param_count}
-use Rattle.model_line.specs.Parameters.{terminal_count}
+use Rattle.model_line.specs.Parameters.{declared_ends, delay_param}
 use Rattle.model_line.specs.Seen.{is_lost, is_seen}
 use Rattle.model_line.specs.declared.script.Kind.{Kind}
 use Rattle.model_line.specs.{declared.line.Line.Line, declared.script.Script.Script}

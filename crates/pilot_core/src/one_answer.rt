@@ -3,6 +3,7 @@ ghost use Rattle.std.specs.Prelude.{◌≡◌, ◌≤◌, ◌<◌, ℕ, List};
 ghost use Rattle.std.specs.List.{All};
 ghost use Rattle.model_line.specs.{declared.line.Line.Line, declared.script.Script.Script};
 ghost use Rattle.model_line.specs.{Fits.Fits, Parameters.param_count};
+ghost use Rattle.commands.specs.Bench.{bench_answer};
 ghost use Rattle.commands.specs.{Check.check_answer, Margin.margin_answer, Recheck.recheck_answer};
 ghost use Rattle.commands.specs.{Match.match_answer, Report.report_answer, Split.split_answer};
 ghost use Rattle.commands.specs.declared.done.Done.{Done};
@@ -11,8 +12,11 @@ ghost use Rattle.record_match.specs.Waves.{SeenValues};
 use cert_checker::{a_certificate_has_one_first_fault, a_fault_refuses_the_certificate};
 use certificate::a_text_has_one_meaning;
 use margin_search::a_parameter_has_one_margin;
-use model_line::laws::{deadlines_are_below_the_horizon, declared_intervals_are_in_order};
-use model_logic::interval_laws::the_rule_over_a_box;
+use model_line::laws::{
+    counts_do_not_rest_on_the_intervals, deadlines_are_below_the_horizon,
+    declared_intervals_are_in_order,
+};
+use model_logic::interval_laws::{histories_do_not_rest_on_the_intervals, the_rule_over_a_box};
 use model_logic::laws::{
     each_box_has_one_interval_history, each_line_has_a_choice_inside, line_laws,
 };
@@ -91,4 +95,15 @@ pub fn each_match_has_one_answer()
         match_answer line scripts records t b → (s ≡ t) × (a ≡ b) }
 {
     a_record_is_settled_once();
+}
+
+/// Of a number of scripts `bench` answers at most one thing.
+pub fn each_bench_has_one_answer()
+    ensures { (n : ℕ) (s t : Done) (a b : List ℕ) → n ≤ 64 → bench_answer n s a →
+        bench_answer n t b → (s ≡ t) × (a ≡ b) }
+{
+    line_laws();
+    the_rule_over_a_box();
+    counts_do_not_rest_on_the_intervals();
+    histories_do_not_rest_on_the_intervals();
 }
