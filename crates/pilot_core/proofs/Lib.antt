@@ -19,3 +19,5 @@ pub mod OneAnswer
 mod EachMargin
 mod OneMatch
 mod OneBench
+mod EachText
+mod EachCheck
