@@ -1,5 +1,5 @@
 -- That a command has one answer.
-use Rattle.std.proofs.Common.{◌≡◌, ◌≢◌, ◌<◌, ◌≤◌, ◌||◌, ◌++◌, ℕ, zero, suc, Bool, true, false, List, [], ◌∷◌}
+use Rattle.std.proofs.Common.{◌≡◌, ◌≢◌, ◌<◌, ◌||◌, ◌++◌, ℕ, zero, suc, Bool, true, false, List, [], ◌∷◌}
 use Rattle.std.proofs.Common.{map, not, refl, sym, ◌∙◌, ap, arith}
 use Rattle.std.proofs.lemmas.List.Elements.{All-head, All-tail}
 use Rattle.std.specs.Prelude.{codes, is_some, Option, if◌then◌else◌}
@@ -13,7 +13,7 @@ use Rattle.line_model.specs.{Choice.declared_box, Parameters.terminal_count}
 use Rattle.line_model.specs.Rule.{Held, Broken, Unknown, Rule, is_broken, is_held, rule_by, rule_of}
 use Rattle.simulator.specs.PlayRows.{each_below}
 use Rattle.wave_runs.specs.FirstTick.{first_on, first_on-same}
-use Rattle.timing_report.specs.ReportText.{AreHistories, IsReportText, fields_text, report_header}
+use Rattle.timing_report.specs.ReportText.{AreHistories, fields_text, report_header}
 use Rattle.timing_report.specs.ReportText.{report_text_of, row_text, rule_word, script_rows}
 use Rattle.certificate.specs.Grammar.{Verdict}
 use Rattle.cert_checker.specs.declared.counts.Counts.{Counts}
@@ -25,7 +25,7 @@ use Rattle.split_text.specs.{Grammar.SplitResult, Text.split_text}
 use Rattle.split_checker.specs.Counts.{all_verdicts}
 use Rattle.own_splits.specs.Searched.{AllSearched}
 use Rattle.commands.specs.{Checked.IsCheckedText, Checked.accepted_pieces, Margin.margin_answer}
-use Rattle.commands.specs.{Report.report_answer, Split.split_answer, Verdicts.verdicts_status}
+use Rattle.commands.specs.{Split.split_answer, Verdicts.verdicts_status}
 use Rattle.commands.specs.declared.done.Done.{Done}
 use Rattle.commands.specs.declared.done.Done.TheVariants as done
 use Rattle.pilot_core.proofs.Printed.{same_counts}

@@ -1,28 +1,27 @@
 -- What is said of an obligation rests on the values of a line and of a script alone.
-use Rattle.std.proofs.Common.{◌≡◌, ℕ, ◌<◌, ◌+◌, ◌*◌, List, [], ◌∷◌, Some, map, get_or, refl, sym, ◌∙◌, ap}
+use Rattle.std.proofs.Common.{◌≡◌, ℕ, ◌<◌, ◌+◌, ◌*◌, List, [], ◌∷◌, map, get_or, refl, sym, ◌∙◌, ap}
 use Rattle.std.proofs.Common.{subst}
 use Rattle.std.proofs.Math.Path.{fun_ext}
 use Rattle.std.proofs.lemmas.List.Elements.{All-nil}
-use Rattle.std.specs.Prelude.{slice_get}
 use Rattle.std.specs.List.{count_by, range_with_len}
 use Rattle.history.specs.Rails.{Ends, Rails}
 use Rattle.line_model.specs.{declared.line.Line.Line, declared.script.Script.Script}
 use Rattle.line_model.specs.declared.line.{Channel.Channel, Param.Param, Scheme.Scheme}
 use Rattle.line_model.specs.declared.line.Terminal.{Terminal}
 use Rattle.line_model.specs.declared.script.{Kind.Kind, SeenSpan.SeenSpan}
-use Rattle.line_model.specs.Choice.{Box, Choice, IsIn, IsInside, IsWithin, declared_box, ends_by}
-use Rattle.line_model.specs.Choice.{pair_world_of, steady_choice}
-use Rattle.line_model.specs.Histories.{History, IsLineHistory, IsPairHistory, Meets, PairHistory}
+use Rattle.line_model.specs.Choice.{Box, Choice, IsIn, IsWithin, declared_box, ends_by}
+use Rattle.line_model.specs.Choice.{pair_world_of}
+use Rattle.line_model.specs.Histories.{IsLineHistory, IsPairHistory, PairHistory}
 use Rattle.line_model.specs.IntervalLaws.{CountsRestOnNoInterval, HistoriesRestOnNoInterval}
 use Rattle.line_model.specs.{Boxes.ends_with, Channels.from_of, Logic.key_tree, Logic.trip_tree}
 use Rattle.line_model.specs.{PairMean.PairWorld, PairMean.pair_mean, ParamNames.param_name}
-use Rattle.line_model.specs.Parameters.{declared_ends, delay_param, param_count, terminal_count}
-use Rattle.line_model.specs.{Rule.Rule, Rule.Unknown, Rule.rule_by, Rule.rule_of, Seen.is_lost}
+use Rattle.line_model.specs.Parameters.{declared_ends, delay_param, param_count}
+use Rattle.line_model.specs.{Rule.rule_by, Rule.rule_of, Seen.is_lost}
 use Rattle.line_model.specs.{Seen.is_seen, Settings.line_settings, SetBounds.SameButParams}
 use Rattle.line_file.specs.Lines.{LineValues, line_values}
 use Rattle.fault_script.specs.Values.{ScriptValues, values_of}
 use Rattle.timing_box.specs.Candidates.{candidate, candidate_count, candidate_value, is_free}
-use Rattle.timing_box.specs.{Choice.timing_choice, Inside.IsStepInside, Inside.IsTimingInside}
+use Rattle.timing_box.specs.{Choice.timing_choice, Inside.IsStepInside}
 use Rattle.timing_box.specs.Timing.{TimingValues, number_at}
 use Rattle.certify_core.specs.Verdicts.{PassesAt}
 use Rattle.certificate.specs.Grammar.{Verdict, no, undecided, yes}
@@ -31,11 +30,11 @@ use Rattle.margin_search.specs.Raised.{raised}
 use Rattle.split_text.specs.Grammar.{SplitResult, fails, tree}
 use Rattle.split_checker.specs.Results.{AreTold, IsTold}
 use Rattle.headline.specs.Obligations.{HoldsAsAccepted, HoldsAsCertified, IsFailedBySome}
-use Rattle.headline.specs.Obligations.{IsMetByAll, IsUnknown}
+use Rattle.headline.specs.Obligations.{IsUnknown}
 use Rattle.pilot_core.specs.Truths.{IsFailedByAll}
-use Rattle.pilot_core.proofs.SameValues.{failed_by, greatests_of, history_back, history_on}
+use Rattle.pilot_core.proofs.SameValues.{failed_by, greatests_of, history_back}
 use Rattle.pilot_core.proofs.SameValues.{inside_back, leasts_of, meets_back, meets_on, met_by_all}
-use Rattle.pilot_core.proofs.SameValues.{rest, same_but_params, same_ends, same_spans}
+use Rattle.pilot_core.proofs.SameValues.{same_but_params, same_ends}
 
 -- ---- parameters
 

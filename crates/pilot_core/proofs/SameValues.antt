@@ -1,7 +1,6 @@
 -- What is met, or failed, rests on the values of a line and of a script alone.
-use Rattle.std.proofs.Common.{◌≡◌, ℕ, ◌<◌, Bool, List, [], ◌∷◌, map, get_or, refl, sym, ◌∙◌, ap, subst}
+use Rattle.std.proofs.Common.{◌≡◌, ℕ, ◌<◌, List, [], ◌∷◌, map, get_or, refl, sym, ◌∙◌, ap, subst}
 use Rattle.std.proofs.Math.Path.{fun_ext}
-use Rattle.std.specs.Prelude.{◌↔◌}
 use Rattle.history.specs.Rails.{Ends}
 use Rattle.line_model.specs.{declared.line.Line.Line, declared.script.Script.Script}
 use Rattle.line_model.specs.declared.bounds.Bounds.{Bounds}
@@ -9,9 +8,9 @@ use Rattle.line_model.specs.declared.line.Param.{Param}
 use Rattle.line_model.specs.Choice.{Choice, IsIn, IsInside, declared_box, steady_choice, world_of}
 use Rattle.line_model.specs.Histories.{History, IsLineHistory, Meets, MeetsBy}
 use Rattle.line_model.specs.IntervalLaws.{CountsRestOnNoInterval, HistoriesRestOnNoInterval}
-use Rattle.line_model.specs.Parameters.{channel_count, declared_ends, delay_param, param_count}
+use Rattle.line_model.specs.Parameters.{declared_ends, delay_param}
 use Rattle.line_model.specs.{Mean.World, Mean.mean, Logic.key_tree, Logic.trip_tree}
-use Rattle.line_model.specs.{Parameters.terminal_count, SetBounds.SameButParams, Seen.is_lost}
+use Rattle.line_model.specs.{SetBounds.SameButParams, Seen.is_lost}
 use Rattle.line_model.specs.{Seen.is_seen, declared.script.SeenSpan.SeenSpan, Channels.from_of}
 use Rattle.line_model.specs.Choice.{time_by}
 use Rattle.line_model.specs.declared.script.Kind.{Kind}
