@@ -1,17 +1,14 @@
 -- What is so of one line and scripts that two files say is so of all that they say.
-use Rattle.std.proofs.Common.{◌≡◌, ◌<◌, ℕ, zero, suc, List, [], ◌∷◌, ◌++◌, Some, Ok, Result, map}
-use Rattle.std.proofs.Common.{length, refl, sym, ◌∙◌, ap, subst}
-use Rattle.std.proofs.Math.Path.{fun_ext}
+use Rattle.std.proofs.Common.{◌≡◌, ◌<◌, ℕ, List, ◌++◌, Ok, Result, map}
+use Rattle.std.proofs.Common.{length, sym, ◌∙◌, ap, subst}
 use Rattle.std.proofs.lemmas.List.{length-map}
-use Rattle.std.proofs.lemmas.Option.{same_Some}
-use Rattle.std.specs.Prelude.{codes, slice_get}
+use Rattle.std.specs.Prelude.{codes}
 use Rattle.std.specs.{List.position_from, Str.bytes_eq}
 use Rattle.line_model.specs.{declared.line.Line.Line, declared.line.Param.Param}
 use Rattle.line_model.specs.declared.script.Script.{Script}
-use Rattle.line_model.specs.{Choice.Choice, Choice.IsWithin, Histories.History}
-use Rattle.line_model.specs.{Histories.IsLineHistory, NamesByNumber.terminal_name}
-use Rattle.line_model.specs.{NumbersByName.param_named, Parameters.terminal_count}
-use Rattle.line_model.specs.{Histories.Meets, SetBounds.SameButParams}
+use Rattle.line_model.specs.{Choice.IsWithin}
+use Rattle.line_model.specs.{Parameters.terminal_count}
+use Rattle.line_model.specs.{SetBounds.SameButParams}
 use Rattle.line_model.specs.IntervalLaws.{CountsRestOnNoInterval, HistoriesRestOnNoInterval}
 use Rattle.line_file.specs.{LineFiles.line_of, Lines.line_values}
 use Rattle.fault_script.specs.{Scripts.scripts_of, Values.AreOfOneFile, Values.ScriptValues}
@@ -23,7 +20,7 @@ use Rattle.margin_search.specs.Raised.{raised}
 use Rattle.headline.specs.Obligations.{AllMet, HoldsAsAccepted, HoldsAsCertified, HoldsSomewhere}
 use Rattle.headline.specs.Obligations.{IsFailedBySome, IsUnknown}
 use Rattle.headline.specs.Printed.{HoldsOf}
-use Rattle.pilot_core.specs.{SaidByFiles.AreSaid, SaidByFiles.InFiles, Truths.IsToldBy}
+use Rattle.pilot_core.specs.{SaidByFiles.InFiles, Truths.IsToldBy}
 use Rattle.pilot_core.specs.Truths.{MarginIsTrue, ReportIsTrue, RowIsTrue, SplitIsTrue}
 use Rattle.pilot_core.specs.declared.stop.Status.{Status}
 use Rattle.pilot_core.specs.declared.stop.Status.TheVariants as status

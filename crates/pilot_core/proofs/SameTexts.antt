@@ -6,7 +6,7 @@ use Rattle.std.specs.List.{flat_map}
 use Rattle.line_model.specs.{declared.line.Line.Line, declared.script.Script.Script}
 use Rattle.line_model.specs.declared.line.{Param.Param, Terminal.Terminal}
 use Rattle.line_model.specs.declared.script.Kind.{Kind}
-use Rattle.line_model.specs.NamesByNumber.{parameter_name, script_name, terminal_name}
+use Rattle.line_model.specs.NamesByNumber.{parameter_name, terminal_name}
 use Rattle.line_model.specs.{ParamNames.name_at, ParamNamesApart.name_of_param}
 use Rattle.line_model.specs.{Parameters.declared_ends, SetBounds.SameButParams}
 use Rattle.fault_script.specs.Values.{ScriptValues, values_of}
