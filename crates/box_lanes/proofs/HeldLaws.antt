@@ -5,12 +5,13 @@ use Rattle.std.proofs.lemmas.Bool.Decides.{nat_tests}
 use Rattle.std.specs.Prelude.{Decides, slice_get, option_map}
 use Rattle.history.specs.Rails.{Ends}
 use Rattle.channel.specs.SentKeys.{SentKeys}
-use Rattle.line_model.specs.Parameters.{param_count, terminal_count, delay_param, declared_ends}
-use Rattle.line_model.specs.{declared.line.Line.Line, Choice.Box, Choice.LeastFromOne}
-use Rattle.line_model.specs.{Choice.declared_box, Histories.PairHistory, Histories.IsPairHistory}
-use Rattle.line_model.specs.{declared.script.Script.Script, Boxes.IsSameBox, HeldOver.IsHeldOver}
-use Rattle.line_model.specs.{Laws.LineLaws, IntervalLaws.CountsRestOnNoInterval, Rule.Held}
-use Rattle.line_model.specs.{Rule.rule_of, Rule.is_held, SetBounds.SameButParams}
+use Rattle.model_line.specs.Parameters.{param_count, terminal_count, delay_param, declared_ends}
+use Rattle.model_line.specs.{declared.line.Line.Line, declared.script.Script.Script}
+use Rattle.model_line.specs.{Laws.CountsRestOnNoInterval, SetBounds.SameButParams}
+use Rattle.model_logic.specs.Choice.{Box, LeastFromOne, declared_box}
+use Rattle.model_logic.specs.Histories.{PairHistory, IsPairHistory}
+use Rattle.model_logic.specs.Rule.{Held, rule_of, is_held}
+use Rattle.model_logic.specs.{Boxes.IsSameBox, HeldOver.IsHeldOver, Laws.LineLaws}
 use Rattle.timing_box.specs.Timing.{number_at}
 use Rattle.simulator.specs.{LaneBox.ends_in, LaneBox.lane_box, Runs.AreDelayed, Runs.IsTheHistory}
 use Rattle.simulator.specs.{ListLaws.exists_at, Tracks.pair_of, Tracks.tracks_history}

@@ -4,9 +4,10 @@ use Rattle.std.specs.Prelude.{nat_lt, Decides, if◌then◌else◌}
 use Rattle.history.specs.Rails.{Rails, rails_at}
 use Rattle.tick_signal.specs.{Bits.bit_on, Lanes.in_lane}
 use Rattle.channel.specs.SentKeys.{SentKeys}
-use Rattle.line_model.specs.Parameters.{param_count, declared_ends}
-use Rattle.line_model.specs.{declared.line.Line.Line, declared.script.Script.Script}
-use Rattle.line_model.specs.{Choice.declared_box, HeldOver.IsHeldOver, SetBounds.SameButParams}
+use Rattle.model_line.specs.Parameters.{param_count, declared_ends}
+use Rattle.model_line.specs.SetBounds.{SameButParams}
+use Rattle.model_line.specs.{declared.line.Line.Line, declared.script.Script.Script}
+use Rattle.model_logic.specs.{Choice.declared_box, HeldOver.IsHeldOver}
 use Rattle.box_lanes.specs.declared.terns.Terns64.{Terns64}
 use Rattle.box_lanes.specs.{Spans.SpanLists, Spans.span_ends, Terns.terns_rails}
 

@@ -4,8 +4,9 @@ ghost use Rattle.std.specs.Prelude.{◌≡◌, ◌<◌, ◌≤◌, ◌*◌, ◌/
 ghost use Rattle.history.specs.Elements.{some_below};
 ghost use Rattle.tick_signal.specs.Bits.{bit_on};
 ghost use Rattle.channel.specs.SentKeys.{SentKeys};
-ghost use Rattle.line_model.specs.Parameters.{param_count, terminal_count};
-ghost use Rattle.line_model.specs.{declared.line.Line.Line, Rule.is_held, SetBounds.SameButParams};
+ghost use Rattle.model_line.specs.Parameters.{param_count, terminal_count};
+ghost use Rattle.model_line.specs.{declared.line.Line.Line, SetBounds.SameButParams};
+ghost use Rattle.model_logic.specs.Rule.{is_held};
 ghost use Rattle.gate_net.specs.NetOf.{IsNetOf};
 ghost use Rattle.box_lanes.specs.Terns.{terns_rails};
 ghost use Rattle.box_lanes.specs.Held.{AreParts, TellHeld, TellBlock, TellBlocks, part_in};
@@ -15,11 +16,10 @@ use crate::spans::Spans64;
 use crate::terns::Terns64;
 use channel::Track;
 use gate_net::Net;
-use line_model::interval_laws::{
-    counts_do_not_rest_on_the_intervals, declared_intervals_are_in_order, the_rule_over_a_box,
-};
-use line_model::laws::line_laws;
-use line_model::{Kind, Line, Memory, Script};
+use model_line::laws::{counts_do_not_rest_on_the_intervals, declared_intervals_are_in_order};
+use model_line::{Kind, Line, Memory, Script};
+use model_logic::interval_laws::the_rule_over_a_box;
+use model_logic::laws::line_laws;
 use simulator::run_tracks;
 use std::alloc::Global;
 use tick_signal::{Lanes64, Signal, Tick, Ticks64};

@@ -5,10 +5,11 @@ use Rattle.std.proofs.lemmas.Bool.{cases_lt, cases_eq}
 use Rattle.std.specs.Prelude.{slice_get, if◌then◌else◌}
 use Rattle.history.specs.Rails.{Ends, single}
 use Rattle.tick_signal.specs.Spans.{ends_of}
-use Rattle.line_model.specs.Parameters.{param_count, declared_ends}
-use Rattle.line_model.specs.{declared.line.Line.Line, declared.line.Param.Param, Intervals.leasts}
-use Rattle.line_model.specs.{Intervals.greatests, SetBounds.SameButParams}
-use Rattle.line_model.specs.{SameLine.SameLine, WithBounds.IsWithBounds, Boxes.ends_with}
+use Rattle.model_line.specs.Parameters.{param_count, declared_ends}
+use Rattle.model_line.specs.Intervals.{leasts, greatests}
+use Rattle.model_line.specs.{declared.line.Line.Line, declared.line.Param.Param}
+use Rattle.model_line.specs.{SetBounds.SameButParams, SameLine.SameLine, WithBounds.IsWithBounds}
+use Rattle.model_logic.specs.Boxes.{ends_with}
 use Rattle.box_split.specs.Known.{Known}
 use Rattle.box_split.specs.Quiet.{IsCorner, AreCorners, is_wide, number_of, corner_number}
 use Rattle.box_split.proofs.EndsWith.{ends_with-here, ends_with-elsewhere, on_from}

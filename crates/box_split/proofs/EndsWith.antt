@@ -2,8 +2,8 @@
 use Rattle.std.proofs.Common.{◌≡◌, ℕ, Bool, cond, sym, ◌∙◌, ap, eq-eqb}
 use Rattle.std.proofs.lemmas.Bool.{ne_eqb}
 use Rattle.history.specs.Rails.{Ends}
-use Rattle.line_model.specs.declared.line.Line.{Line}
-use Rattle.line_model.specs.{SetBounds.SameButParams, Boxes.ends_with}
+use Rattle.model_line.specs.{declared.line.Line.Line, SetBounds.SameButParams}
+use Rattle.model_logic.specs.Boxes.{ends_with}
 
 -- at the parameter the new interval, elsewhere the old one
 pub ends_with-here : (ends : ℕ → Ends) (param : ℕ) (new : Ends) (i : ℕ) → i ≡ param

@@ -1,12 +1,12 @@
 -- Halves of a part of a box, and what can be split in it.
 use Rattle.std.proofs.Common.{◌<◌, ◌≤◌, ◌+◌, ℕ, refl, sym, ◌∙◌, subst, arith}
 use Rattle.std.specs.Prelude.{◌↔◌, IsTrue}
-use Rattle.line_model.specs.declared.line.Line.{Line}
-use Rattle.line_model.specs.{declared.script.Script.Script, Parameters.param_count}
-use Rattle.line_model.specs.{Parameters.is_delay, Parameters.declared_ends}
-use Rattle.line_model.specs.SetBounds.{SameButParams}
-use Rattle.line_model.specs.{Choice.Box, Choice.declared_box, Boxes.box_with, Boxes.IsSameBox}
-use Rattle.line_model.specs.{HeldOver.IsHeldOver, WithBounds.IsWithBounds}
+use Rattle.model_line.specs.Parameters.{param_count, is_delay, declared_ends}
+use Rattle.model_line.specs.{declared.line.Line.Line, declared.script.Script.Script}
+use Rattle.model_line.specs.{SetBounds.SameButParams, WithBounds.IsWithBounds}
+use Rattle.model_logic.specs.Choice.{Box, declared_box}
+use Rattle.model_logic.specs.Boxes.{box_with, IsSameBox}
+use Rattle.model_logic.specs.HeldOver.{IsHeldOver}
 use Rattle.box_split.specs.Known.{Known}
 use Rattle.box_split.specs.{Leaves.CanSplit, Leaves.lower_half, Leaves.upper_half, Parts.IsPart}
 use Rattle.box_split.proofs.EndsWith.{exchanged, on_from}

@@ -1,6 +1,6 @@
 -- The tree that a search finds is no higher than it may be.
 use Rattle.std.proofs.Common.{◌≤◌, ℕ, arith}
-use Rattle.line_model.specs.{declared.line.Line.Line, declared.script.Script.Script}
+use Rattle.model_line.specs.{declared.line.Line.Line, declared.script.Script.Script}
 use Rattle.box_split.specs.Trees.{SplitTree, height}
 use Rattle.box_split.specs.Search.{Found, Tree, Fails, IsSearch, yes, no, deepest, narrow}
 use Rattle.box_split.specs.Search.{first_fails, second_fails, split}

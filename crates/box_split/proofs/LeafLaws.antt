@@ -5,11 +5,11 @@ use Rattle.std.proofs.Common.{inr}
 use Rattle.std.proofs.lemmas.Bool.{cases_eq, cases_lt}
 use Rattle.std.specs.Prelude.{slice_get}
 use Rattle.history.specs.Rails.{Ends, IsPartOf}
-use Rattle.line_model.specs.declared.line.Line.{Line}
-use Rattle.line_model.specs.Choice.{Choice, Box, IsIn, IsWithin, LeastFromOne}
-use Rattle.line_model.specs.Histories.{History, IsLineHistory, Meets}
-use Rattle.line_model.specs.Boxes.{ends_with, box_with}
-use Rattle.line_model.specs.{declared.script.Script.Script, Parameters.terminal_count}
+use Rattle.model_line.specs.{declared.line.Line.Line, declared.script.Script.Script}
+use Rattle.model_line.specs.Parameters.{terminal_count}
+use Rattle.model_logic.specs.Choice.{Choice, Box, IsIn, IsWithin, LeastFromOne}
+use Rattle.model_logic.specs.Histories.{History, IsLineHistory, Meets}
+use Rattle.model_logic.specs.Boxes.{ends_with, box_with}
 use Rattle.box_split.specs.ListLaws.{at_append, before_append, after_append}
 use Rattle.box_split.specs.Leaves.{Leaf, lower_half, upper_half, leaves, CanSplit, Splits}
 use Rattle.box_split.specs.Leaves.{LiesInOne, AllHeld}

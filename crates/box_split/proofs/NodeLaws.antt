@@ -2,8 +2,7 @@
 use Rattle.std.proofs.Common.{◌≡◌, ◌+◌, ◌-◌, ◌*◌, ◌++◌, ◌∷◌, [], ℕ, Bool, true, false, List, Some}
 use Rattle.std.proofs.Common.{suc, refl, sym, ◌∙◌, ap, subst, arith}
 use Rattle.std.specs.Prelude.{slice_get}
-use Rattle.line_model.specs.declared.line.Line.{Line}
-use Rattle.line_model.specs.declared.script.Script.{Script}
+use Rattle.model_line.specs.{declared.line.Line.Line, declared.script.Script.Script}
 use Rattle.certify_core.specs.declared.verdict.Verdict.TheVariants as verdict
 use Rattle.box_lanes.specs.Held.{AreParts, TellHeld}
 use Rattle.box_split.specs.declared.node.Node.{Node}

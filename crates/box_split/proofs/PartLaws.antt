@@ -6,11 +6,12 @@ use Rattle.std.proofs.lemmas.List.Elements.{All-nil}
 use Rattle.std.specs.Prelude.{get_or}
 use Rattle.std.specs.List.{All}
 use Rattle.history.specs.Rails.{Ends, IsPartOf}
-use Rattle.line_model.specs.declared.script.Script.{Script}
-use Rattle.line_model.specs.Parameters.{param_count, declared_ends}
-use Rattle.line_model.specs.Choice.{Choice, IsIn, declared_box}
-use Rattle.line_model.specs.Histories.{History, IsLineHistory, Meets, MeetsBy}
-use Rattle.line_model.specs.{declared.line.Line.Line, WithBounds.IsWithBounds, Boxes.ends_with}
+use Rattle.model_line.specs.Parameters.{param_count, declared_ends}
+use Rattle.model_line.specs.WithBounds.{IsWithBounds}
+use Rattle.model_line.specs.{declared.script.Script.Script, declared.line.Line.Line}
+use Rattle.model_logic.specs.Choice.{Choice, IsIn, declared_box}
+use Rattle.model_logic.specs.Histories.{History, IsLineHistory, Meets, MeetsBy}
+use Rattle.model_logic.specs.Boxes.{ends_with}
 use Rattle.timing_box.specs.Timing.{TimingValues, number_at}
 use Rattle.timing_box.specs.{declared.step.Step.Step, Inside.IsStepInside, Choice.timing_choice}
 use Rattle.certify_core.specs.Verdicts.{IsRefutation}

@@ -4,7 +4,7 @@ use Rattle.std.proofs.Common.{subst, arith, ⊎_elim}
 use Rattle.std.proofs.lemmas.Bool.{cases_lt}
 use Rattle.std.proofs.lemmas.Option.{slice_get_within}
 use Rattle.std.specs.Prelude.{slice_get}
-use Rattle.line_model.specs.{declared.line.Line.Line, SetBounds.SameButParams}
+use Rattle.model_line.specs.{declared.line.Line.Line, SetBounds.SameButParams}
 use Rattle.box_split.specs.Search.{IsLower, IsUpper}
 use Rattle.box_split.specs.{Widths.IsWidest, Widths.IsNarrow, Quiet.HasHalves, Quiet.HalvesIfAny}
 use Rattle.box_split.proofs.{EndsWith.on_from, ListLaws.at_two, ListLaws.two_longer}

@@ -8,8 +8,8 @@ use Rattle.std.proofs.lemmas.List.{get_or-map}
 use Rattle.std.proofs.lemmas.List.Sums.{count_by_more_yes, count_by_more_no}
 use Rattle.std.specs.List.{count_by}
 use Rattle.std.specs.Prelude.{◌&&◌, nat_lt, nat_le}
-use Rattle.line_model.specs.Parameters.{param_count, declared_ends}
-use Rattle.line_model.specs.{declared.line.Line.Line, declared.line.Param.Param}
+use Rattle.model_line.specs.Parameters.{param_count, declared_ends}
+use Rattle.model_line.specs.{declared.line.Line.Line, declared.line.Param.Param}
 use Rattle.timing_box.specs.Candidates.{is_free, free_before, free_count, is_free_number}
 use Rattle.timing_box.specs.Candidates.{candidate_value}
 use Rattle.simulator.specs.ListLaws.{exists_at}

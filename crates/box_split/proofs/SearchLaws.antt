@@ -6,13 +6,12 @@ use Rattle.std.proofs.lemmas.List.Folds.{list_all-append}
 use Rattle.std.specs.Prelude.{IsTrue}
 use Rattle.std.specs.List.{list_all}
 use Rattle.history.specs.Rails.{IsPartOf}
-use Rattle.line_model.specs.declared.script.Kind.TheVariants.{Internal, External}
-use Rattle.line_model.specs.Parameters.{terminal_count, param_count, declared_ends}
-use Rattle.line_model.specs.Choice.{Choice, IsIn, IsInside, DelaysFromOne, declared_box}
-use Rattle.line_model.specs.Histories.{History, IsLineHistory, IsSameHistory, Meets, MeetsBy}
-use Rattle.line_model.specs.{declared.line.Line.Line, SetBounds.SameButParams}
-use Rattle.line_model.specs.Parameters.{is_delay}
-use Rattle.line_model.specs.{declared.script.Kind.Kind, declared.script.Script.Script}
+use Rattle.model_line.specs.declared.script.Kind.TheVariants.{Internal, External}
+use Rattle.model_line.specs.Parameters.{terminal_count, param_count, declared_ends, is_delay}
+use Rattle.model_line.specs.{declared.line.Line.Line, SetBounds.SameButParams}
+use Rattle.model_line.specs.{declared.script.Kind.Kind, declared.script.Script.Script}
+use Rattle.model_logic.specs.Choice.{Choice, IsIn, IsInside, DelaysFromOne, declared_box}
+use Rattle.model_logic.specs.Histories.{History, IsLineHistory, IsSameHistory, Meets, MeetsBy}
 use Rattle.timing_box.specs.{Timing.TimingValues, Choice.timing_choice, Candidates.candidate}
 use Rattle.certify_core.specs.declared.verdict.Verdict.TheVariants as verdict
 use Rattle.certify_core.specs.Verdicts.{IsRefutation, IsRefuted}

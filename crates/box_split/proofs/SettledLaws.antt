@@ -5,10 +5,10 @@ use Rattle.std.proofs.lemmas.List.FromFn.{get_or-map-range_with_len}
 use Rattle.std.proofs.lemmas.Option.{slice_get_within}
 use Rattle.std.specs.Prelude.{◌==◌, IsTrue, length, slice_get, if◌then◌else◌}
 use Rattle.history.specs.Rails.{Ends, single}
-use Rattle.line_model.specs.declared.line.Line.{Line}
-use Rattle.line_model.specs.Parameters.{param_count, terminal_count, delay_param, declared_ends}
-use Rattle.line_model.specs.Choice.{IsIn, IsWithin, declared_box}
-use Rattle.line_model.specs.{declared.script.Script.Script, SetBounds.SameButParams}
+use Rattle.model_line.specs.Parameters.{param_count, terminal_count, delay_param, declared_ends}
+use Rattle.model_line.specs.SetBounds.{SameButParams}
+use Rattle.model_line.specs.{declared.line.Line.Line, declared.script.Script.Script}
+use Rattle.model_logic.specs.Choice.{IsIn, IsWithin, declared_box}
 use Rattle.timing_box.specs.Candidates.{candidate, candidate_count, candidate_value}
 use Rattle.timing_box.specs.{Choice.timing_choice, Inside.IsTimingInside}
 use Rattle.simulator.specs.ListLaws.{exists_at}

@@ -4,13 +4,14 @@ use Rattle.std.proofs.Common.{inl, inr, refl, arith}
 use Rattle.std.proofs.lemmas.Bool.{cases_eq}
 use Rattle.std.specs.Prelude.{IsTrue, slice_get}
 use Rattle.history.specs.Rails.{Ends}
-use Rattle.line_model.specs.Parameters.{terminal_count, param_count, declared_ends}
-use Rattle.line_model.specs.SetBounds.{SameButParams}
-use Rattle.line_model.specs.Choice.{Choice, Box, IsWithin, LeastFromOne, declared_box}
-use Rattle.line_model.specs.Histories.{History, IsLineHistory, Meets}
-use Rattle.line_model.specs.{declared.line.Line.Line, declared.script.Script.Script}
+use Rattle.model_line.specs.Parameters.{terminal_count, param_count, declared_ends}
+use Rattle.model_line.specs.declared.script.Script.{Script}
+use Rattle.model_line.specs.{SetBounds.SameButParams, declared.line.Line.Line}
+use Rattle.model_logic.specs.Choice.{Choice, Box, IsWithin, LeastFromOne, declared_box}
+use Rattle.model_logic.specs.Histories.{History, IsLineHistory, Meets}
+use Rattle.model_logic.specs.Boxes.{box_with, IsSameBox}
+use Rattle.model_logic.specs.HeldOver.{IsHeldOver}
 use Rattle.certify_core.specs.declared.verdict.Verdict.TheVariants as verdict
-use Rattle.line_model.specs.{Boxes.box_with, Boxes.IsSameBox, HeldOver.IsHeldOver}
 use Rattle.box_split.specs.Trees.{SplitTree, Yes, Undecided, Split, are_yes}
 use Rattle.box_split.specs.Leaves.{Leaf, lower_half, upper_half, leaves, CanSplit, Splits, AreSound}
 use Rattle.box_split.specs.Search.{Found, Tree, Fails, IsVerdictOf, IsSplitAt, IsLower, IsUpper}

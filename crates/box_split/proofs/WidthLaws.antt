@@ -2,8 +2,8 @@
 use Rattle.std.proofs.Common.{◌≡◌, ◌<◌, ◌≤◌, ◌+◌, ◌-◌, ◌/◌, ℕ, Bool, true, false}
 use Rattle.std.proofs.Common.{ap, arith, cond}
 use Rattle.std.specs.Prelude.{IsTrue}
-use Rattle.line_model.specs.Parameters.{is_delay, declared_ends}
-use Rattle.line_model.specs.declared.line.Line.{Line}
+use Rattle.model_line.specs.Parameters.{is_delay, declared_ends}
+use Rattle.model_line.specs.declared.line.Line.{Line}
 use Rattle.box_split.specs.Widths.{width, middle}
 
 -- a parameter with a width is no delay

@@ -1,9 +1,9 @@
 -- The laws below that the proofs here rest on: those of lines, histories and intervals, of boxes,
 -- candidates and timings.
-use Rattle.line_model.specs.IntervalLaws.{ABoxWithAnotherInterval, AChangedIntervalChangesTheBox}
-use Rattle.line_model.specs.IntervalLaws.{CountsRestOnNoInterval, DeclaredIntervalsAreInOrder}
-use Rattle.line_model.specs.IntervalLaws.{HistoriesRestOnNoInterval, TheRuleOverABox}
-use Rattle.line_model.specs.Laws.{LineLaws}
+use Rattle.model_logic.specs.IntervalLaws.{ABoxWithAnotherInterval, AChangedIntervalChangesTheBox}
+use Rattle.model_logic.specs.IntervalLaws.{HistoriesRestOnNoInterval, TheRuleOverABox}
+use Rattle.model_logic.specs.Laws.{LineLaws}
+use Rattle.model_line.specs.Laws.{CountsRestOnNoInterval, DeclaredIntervalsAreInOrder}
 use Rattle.timing_box.specs.Laws.{CandidatesAreInside, TimingsInsideAreChoicesInside}
 
 pub record Known : Type 0 where

@@ -1,8 +1,9 @@
 -- Laws of parts that proofs above cite, each under the name of the function that ensures it.
 use Rattle.std.specs.Prelude.{◌<◌, ◌↔◌, ℕ}
-use Rattle.line_model.specs.{declared.line.Line.Line, declared.script.Script.Script}
-use Rattle.line_model.specs.{Choice.Box, Choice.declared_box, SetBounds.SameButParams}
-use Rattle.line_model.specs.HeldOver.{IsHeldOver}
+use Rattle.model_line.specs.{declared.line.Line.Line, declared.script.Script.Script}
+use Rattle.model_line.specs.SetBounds.{SameButParams}
+use Rattle.model_logic.specs.Choice.{Box, declared_box}
+use Rattle.model_logic.specs.HeldOver.{IsHeldOver}
 use Rattle.box_split.specs.{Leaves.CanSplit, Parts.IsPart}
 
 -- a line that differs in its intervals alone is a part; a part can be split where its box can, and

@@ -1,9 +1,10 @@
 -- The leaves of a tree of splits, each with its part of a box.
 use Rattle.std.specs.Prelude.{◌≡◌, ◌≤◌, ◌<◌, ◌+◌, ◌++◌, ℕ, Bool, true, false, List, [], ◌∷◌, Some}
 use Rattle.std.specs.Prelude.{IsTrue, slice_get}
-use Rattle.line_model.specs.{declared.line.Line.Line, declared.script.Script.Script}
-use Rattle.line_model.specs.{Parameters.param_count, Parameters.is_delay, Choice.Choice, Choice.Box}
-use Rattle.line_model.specs.{Choice.IsWithin, Boxes.box_with, HeldOver.IsHeldOver}
+use Rattle.model_line.specs.Parameters.{param_count, is_delay}
+use Rattle.model_line.specs.{declared.line.Line.Line, declared.script.Script.Script}
+use Rattle.model_logic.specs.Choice.{Choice, Box, IsWithin}
+use Rattle.model_logic.specs.{Boxes.box_with, HeldOver.IsHeldOver}
 use Rattle.box_split.specs.Trees.{SplitTree, Yes, Undecided, Split}
 
 -- a leaf: its part of the box, and whether it is yes

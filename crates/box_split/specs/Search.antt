@@ -1,13 +1,13 @@
 -- The search for the parts of the declared box in which an obligation is decided.
 use Rattle.std.specs.Prelude.{◌+◌, ℕ, zero, suc}
-use Rattle.line_model.specs.declared.line.Line.{Line}
-use Rattle.line_model.specs.{declared.script.Script.Script, Parameters.declared_ends}
-use Rattle.line_model.specs.{Choice.declared_box, Histories.PairHistory, Histories.IsPairHistory}
+use Rattle.model_line.specs.{declared.line.Line.Line, declared.script.Script.Script}
+use Rattle.model_line.specs.{Parameters.declared_ends, WithBounds.IsWithBounds}
+use Rattle.model_logic.specs.Histories.{PairHistory, IsPairHistory}
+use Rattle.model_logic.specs.Choice.{declared_box}
 use Rattle.timing_box.specs.Timing.{TimingValues}
 use Rattle.certify_core.specs.declared.verdict.Verdict.{Verdict}
 use Rattle.certify_core.specs.declared.verdict.Verdict.TheVariants as verdict
 use Rattle.certify_core.specs.Verdicts.{IsVerdict}
-use Rattle.line_model.specs.WithBounds.{IsWithBounds}
 use Rattle.box_split.specs.Trees.{SplitTree, Yes, Undecided, Split}
 use Rattle.box_split.specs.Widths.{middle, IsWidest, IsNarrow}
 

@@ -1,12 +1,12 @@
 //! Boxes that hold each candidate of each part.
 
 ghost use Rattle.std.specs.Prelude.{◌≡◌, ◌<◌, ◌+◌, IfOk, length};
-ghost use Rattle.line_model.specs.Parameters.{param_count};
+ghost use Rattle.model_line.specs.Parameters.{param_count};
 ghost use Rattle.box_split.specs.Quiet.{AreCorners, IsCorner, corner_number};
 
 use crate::known::laws_below;
 use crate::widest::widest;
-use line_model::{Line, Memory};
+use model_line::{Line, Memory};
 use std::alloc::Global;
 
 /// Whether each parameter is the widest of one of the parts.

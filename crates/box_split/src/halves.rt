@@ -5,7 +5,7 @@ ghost use Rattle.box_split.specs.{Search.IsLower, Search.IsUpper, Widths.IsWides
 
 use crate::part::{lower_part, upper_part};
 use crate::widest::middle;
-use line_model::{Line, Memory};
+use model_line::{Line, Memory};
 use std::alloc::Global;
 
 /// The lines with the lower and with the upper half of the interval of the widest parameter.

@@ -2,12 +2,12 @@
 
 ghost use Rattle.box_split.specs.Known.{Known};
 
-use line_model::interval_laws::{
+use model_line::laws::{counts_do_not_rest_on_the_intervals, declared_intervals_are_in_order};
+use model_logic::interval_laws::{
     a_box_with_another_interval, a_changed_interval_changes_the_box,
-    counts_do_not_rest_on_the_intervals, declared_intervals_are_in_order,
     histories_do_not_rest_on_the_intervals, the_rule_over_a_box,
 };
-use line_model::laws::line_laws;
+use model_logic::laws::line_laws;
 use timing_box::{candidates_are_inside, timings_inside_are_choices_inside};
 
 /// The laws of lines, boxes and candidates, as their crates state them.

@@ -1,10 +1,11 @@
 //! The laws of splits.
 
 ghost use Rattle.std.specs.Prelude.{◌≤◌, ◌<◌, ℕ, IsTrue};
-ghost use Rattle.line_model.specs.Histories.{History, IsLineHistory, Meets};
-ghost use Rattle.line_model.specs.{declared.line.Line.Line, declared.script.Script.Script};
-ghost use Rattle.line_model.specs.Choice.{Choice, Box, IsInside, IsWithin, LeastFromOne, declared_box};
-ghost use Rattle.line_model.specs.Parameters.{terminal_count};
+ghost use Rattle.model_logic.specs.Histories.{History, IsLineHistory, Meets};
+ghost use Rattle.model_logic.specs.Choice.{Choice, Box, IsInside, IsWithin, LeastFromOne};
+ghost use Rattle.model_logic.specs.Choice.{declared_box};
+ghost use Rattle.model_line.specs.{declared.line.Line.Line, declared.script.Script.Script};
+ghost use Rattle.model_line.specs.Parameters.{terminal_count};
 ghost use Rattle.timing_box.specs.Timing.{TimingValues};
 ghost use Rattle.certify_core.specs.Verdicts.{IsRefutation};
 ghost use Rattle.box_split.specs.Trees.{SplitTree, height, are_yes};

@@ -2,14 +2,14 @@
 
 ghost use Rattle.std.specs.Prelude.{◌<◌, ◌+◌, ℕ, IfOk};
 ghost use Rattle.std.specs.Bool.{Decides};
-ghost use Rattle.line_model.specs.declared.line.Line.{Line};
-ghost use Rattle.line_model.specs.{Parameters.param_count, Parameters.declared_ends};
-ghost use Rattle.line_model.specs.{Choice.Box, Choice.declared_box, WithBounds.IsWithBounds};
+ghost use Rattle.model_line.specs.Parameters.{param_count, declared_ends};
+ghost use Rattle.model_line.specs.{declared.line.Line.Line, WithBounds.IsWithBounds};
+ghost use Rattle.model_logic.specs.Choice.{Box, declared_box};
 ghost use Rattle.box_split.specs.Leaves.{CanSplit, lower_half, upper_half};
 ghost use Rattle.box_split.specs.Parts.{IsPart};
 
 use crate::known::laws_below;
-use line_model::{Line, Memory};
+use model_line::{Line, Memory};
 use std::alloc::Global;
 
 /// Whether the declared box can be split there.

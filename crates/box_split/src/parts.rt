@@ -1,14 +1,14 @@
 //! The parts into which a box is split.
 
 ghost use Rattle.std.specs.Prelude.{◌≡◌, ◌<◌, ◌≤◌, ℕ, IfOk, Some, slice_get};
-ghost use Rattle.line_model.specs.{declared.line.Line.Line, SetBounds.SameButParams};
+ghost use Rattle.model_line.specs.{declared.line.Line.Line, SetBounds.SameButParams};
 ghost use Rattle.box_lanes.specs.Held.{AreParts};
 ghost use Rattle.box_split.specs.Search.{IsLower, IsUpper};
 ghost use Rattle.box_split.specs.{Widths.IsWidest, Quiet.HasHalves, Quiet.HalvesIfAny};
 
 use crate::halves::halves;
 use crate::widest::widest;
-use line_model::{Line, Memory};
+use model_line::{Line, Memory};
 use std::alloc::Global;
 
 /// The halves of a box at its widest parameter, their halves, and so on, level by level: those of

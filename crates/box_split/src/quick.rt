@@ -3,8 +3,8 @@
 ghost use Rattle.std.specs.Prelude.{◌≡◌, ◌<◌, ◌≤◌, ℕ, Bool, false, IfOk, IfSome, IsTrue, Some};
 ghost use Rattle.std.specs.Prelude.{length, slice_get};
 ghost use Rattle.history.specs.Rails.{IsPartOf};
-ghost use Rattle.line_model.specs.Parameters.{terminal_count, param_count, declared_ends};
-ghost use Rattle.line_model.specs.{Fits.Fits, SetBounds.SameButParams};
+ghost use Rattle.model_line.specs.Parameters.{terminal_count, param_count, declared_ends};
+ghost use Rattle.model_line.specs.{Fits.Fits, SetBounds.SameButParams};
 ghost use Rattle.gate_net.specs.NetOf.{IsNetOf};
 ghost use Rattle.certify_core.specs.declared.verdict.Verdict.{Verdict};
 ghost use Rattle.box_lanes.specs.Held.{AreParts};
@@ -19,7 +19,7 @@ use crate::parts::parts_of;
 use crate::widest::{middle, widest};
 use box_lanes::held_each;
 use gate_net::Net;
-use line_model::{Line, Memory, Script};
+use model_line::{Line, Memory, Script};
 use std::alloc::Global;
 
 /// The nodes that the search finds where the box is undecided and split at this parameter, if it is

@@ -1,9 +1,9 @@
 //! The search.
 
 ghost use Rattle.std.specs.Prelude.{◌≡◌, ◌≤◌, ◌<◌, IfOk};
-ghost use Rattle.line_model.specs.Choice.{Choice, IsInside};
-ghost use Rattle.line_model.specs.Histories.{History, IsLineHistory, Meets};
-ghost use Rattle.line_model.specs.{Fits.Fits, Parameters.terminal_count};
+ghost use Rattle.model_logic.specs.Choice.{Choice, IsInside};
+ghost use Rattle.model_logic.specs.Histories.{History, IsLineHistory, Meets};
+ghost use Rattle.model_line.specs.{Fits.Fits, Parameters.terminal_count};
 ghost use Rattle.gate_net.specs.NetOf.{IsNetOf};
 ghost use Rattle.timing_box.specs.Timing.{TimingValues};
 ghost use Rattle.certify_core.specs.Verdicts.{IsRefutation};
@@ -19,8 +19,8 @@ use crate::widest::{middle, widest};
 use certify_core::Verdict;
 use gate_net::Net;
 use gate_net::laws::nets_do_not_rest_on_the_intervals;
-use line_model::interval_laws::scripts_fit_whatever_the_intervals;
-use line_model::{Line, Memory, Script};
+use model_line::laws::scripts_fit_whatever_the_intervals;
+use model_line::{Line, Memory, Script};
 use std::alloc::Global;
 
 /// Splits the declared box, at most `depth` splits above one another, until each part is decided:

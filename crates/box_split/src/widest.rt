@@ -1,10 +1,10 @@
 //! The parameter that a line is split at.
 
 ghost use Rattle.std.specs.Prelude.{◌≡◌, ◌≤◌, ◌<◌, ◌+◌, ◌-◌};
-ghost use Rattle.line_model.specs.Parameters.{param_count};
+ghost use Rattle.model_line.specs.Parameters.{param_count};
 ghost use Rattle.box_split.specs.Widths.{width as width_of_param, middle as middle_of, IsChoiceOf};
 
-use line_model::Line;
+use model_line::Line;
 
 /// Among the parameters that are no delays, the first one of the greatest width, if that is not 0.
 pub fn widest(line: &Line) -> Option<u32>

@@ -2,9 +2,9 @@
 use Rattle.std.proofs.Common.{◌≡◌, ℕ, ◌<◌, List, length, ◌∙◌, ap}
 use Rattle.std.specs.Prelude.{get_or, Result, Ok, Err, IfOk, MatchResult, []}
 use Rattle.tick_signal.specs.declared.tern.Tern.{Tern}
-use Rattle.line_model.specs.declared.script.Script.{Script}
-use Rattle.line_model.specs.{declared.line.Line.Line, PairMean.PairSignals, PairMean.pair_mean}
-use Rattle.line_model.specs.{Choice.declared_box, Histories.AreCovered, Tree.Tree}
+use Rattle.model_line.specs.{declared.script.Script.Script, declared.line.Line.Line}
+use Rattle.model_logic.specs.PairMean.{PairSignals, pair_mean}
+use Rattle.model_logic.specs.{Choice.declared_box, Histories.AreCovered, Tree.Tree}
 use Rattle.gate_net.specs.{declared.gate.Gate.Gate, Formulas.formula_of}
 use Rattle.wave_runs.specs.Waves.{wave_at}
 use Rattle.certificate.specs.Grammar.{Claims}

@@ -4,7 +4,7 @@ use Rattle.std.specs.Prelude.{slice_get, get_or}
 use Rattle.history.specs.Rails.{Rails, rails_not, rails_and, rails_or}
 use Rattle.history.specs.Laws.{RailsReadThePast}
 use Rattle.tick_signal.specs.declared.tern.Tern.{Tern}
-use Rattle.line_model.specs.PairMean.{PairWorld, PairSignals, pair_mean}
+use Rattle.model_logic.specs.PairMean.{PairWorld, PairSignals, pair_mean}
 use Rattle.gate_net.specs.declared.gate.Gate.TheVariants.{Const, Seen, Loss, Raw, Not, And, Or}
 use Rattle.gate_net.specs.declared.gate.Gate.TheVariants.{Timer, Seal}
 use Rattle.gate_net.specs.Formulas.{formula_of}

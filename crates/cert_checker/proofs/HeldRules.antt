@@ -5,8 +5,9 @@ use Rattle.std.specs.Option.{is_some}
 use Rattle.std.specs.Bool.{Decides}
 use Rattle.std.specs.Prelude.{IsTrue, IsFalse}
 use Rattle.history.specs.Rails.{Rails}
-use Rattle.line_model.specs.declared.script.Kind.TheVariants.{Internal, External}
-use Rattle.line_model.specs.{declared.script.Kind.Kind, Rule.IsHeld}
+use Rattle.model_line.specs.declared.script.Kind.TheVariants.{Internal, External}
+use Rattle.model_line.specs.declared.script.Kind.{Kind}
+use Rattle.model_logic.specs.Rule.{IsHeld}
 
 -- whether there is none
 pub none_told : (o : Option ℕ) (none : Bool) → is_some o ≡ not none → Decides none (o ≡ None)

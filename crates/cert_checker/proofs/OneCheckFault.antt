@@ -1,6 +1,6 @@
 -- The fault of a certificate is one of its text, or of a script.
 use Rattle.std.proofs.Common.{◌≢◌, inl, inr, ℕ, List, refl}
-use Rattle.line_model.specs.{declared.line.Line.Line, declared.script.Script.Script}
+use Rattle.model_line.specs.{declared.line.Line.Line, declared.script.Script.Script}
 use Rattle.certificate.specs.Grammar.{IsCertificate, LeavesGrammar}
 use Rattle.cert_checker.specs.declared.claim.ClaimFault.{ClaimFault}
 use Rattle.cert_checker.specs.declared.claim.ClaimFault.TheVariants as wrong

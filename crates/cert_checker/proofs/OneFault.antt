@@ -3,11 +3,11 @@ use Rattle.std.proofs.Common.{◌≡◌, ◌≢◌, ℕ, suc, Bool, List, get_or
 use Rattle.std.proofs.Common.{◌∙◌, ap, arith, subst}
 use Rattle.history.specs.Rails.{Rails}
 use Rattle.tick_signal.specs.{declared.tern.Tern.Tern, Terns.tern_once}
-use Rattle.line_model.specs.declared.line.Line.{Line}
-use Rattle.line_model.specs.declared.script.Kind.TheVariants.{Internal, External}
-use Rattle.line_model.specs.declared.script.Script.{Script}
-use Rattle.line_model.specs.Parameters.{param_count, terminal_count}
-use Rattle.line_model.specs.{declared.script.Kind.Kind, PairMean.PairSignals}
+use Rattle.model_line.specs.declared.script.Kind.TheVariants.{Internal, External}
+use Rattle.model_line.specs.Parameters.{param_count, terminal_count}
+use Rattle.model_line.specs.declared.script.Kind.{Kind}
+use Rattle.model_line.specs.{declared.line.Line.Line, declared.script.Script.Script}
+use Rattle.model_logic.specs.PairMean.{PairSignals}
 use Rattle.certificate.specs.Grammar.{Claims, Verdict, yes, no, undecided}
 use Rattle.cert_checker.specs.declared.claim.ClaimFault.{ClaimFault}
 use Rattle.cert_checker.specs.declared.claim.ClaimFault.TheVariants.{NotCovered, NotHeld, No}

@@ -1,8 +1,8 @@
 -- A first fault refuses the claims.
 use Rattle.std.proofs.Common.{◌≢◌, ℕ, List, refl}
 use Rattle.history.specs.Rails.{Rails}
-use Rattle.line_model.specs.declared.script.Script.{Script}
-use Rattle.line_model.specs.{declared.line.Line.Line, Histories.History, Histories.IsLineHistory}
+use Rattle.model_line.specs.{declared.script.Script.Script, declared.line.Line.Line}
+use Rattle.model_logic.specs.Histories.{History, IsLineHistory}
 use Rattle.timing_box.specs.Inside.{IsTimingInside}
 use Rattle.certificate.specs.Grammar.{Claims, Verdict, yes, no, undecided}
 use Rattle.cert_checker.specs.declared.claim.ClaimFault.{ClaimFault}

@@ -2,10 +2,10 @@
 use Rattle.std.proofs.Common.{◌≡◌, ℕ, suc, ◌<◌, ◌≤◌, Bool, List, Option, Some, None, sym, ◌∙◌}
 use Rattle.std.proofs.Common.{arith}
 use Rattle.std.specs.Prelude.{MatchOption}
-use Rattle.line_model.specs.declared.script.Kind.TheVariants.{Internal, External}
-use Rattle.line_model.specs.Histories.{History, IsLineHistory, IsSameHistory, MeetsBy}
-use Rattle.line_model.specs.{declared.line.Line.Line, declared.script.Kind.Kind}
-use Rattle.line_model.specs.{declared.script.Script.Script, Parameters.terminal_count}
+use Rattle.model_line.specs.declared.script.Kind.TheVariants.{Internal, External}
+use Rattle.model_line.specs.{declared.line.Line.Line, declared.script.Kind.Kind}
+use Rattle.model_line.specs.{declared.script.Script.Script, Parameters.terminal_count}
+use Rattle.model_logic.specs.Histories.{History, IsLineHistory, IsSameHistory, MeetsBy}
 use Rattle.cert_checker.specs.Refutations.{choice_of, FailsAt, IsMetAt, PassesAt}
 
 -- ---- trips that are the same over the run

@@ -6,9 +6,8 @@ use Rattle.std.proofs.lemmas.List.{take_more}
 use Rattle.std.proofs.lemmas.List.Elements.{All-head, All-tail, All-push, All-weaker, All-same}
 use Rattle.std.specs.Prelude.{IsTrue, nat_le, nat_lt}
 use Rattle.std.specs.List.{All}
-use Rattle.line_model.specs.declared.script.SeenSpan.{SeenSpan}
-use Rattle.line_model.specs.declared.script.What.TheVariants.{Element, Loss}
-use Rattle.line_model.specs.declared.script.What.{What}
+use Rattle.model_line.specs.declared.script.What.TheVariants.{Element, Loss}
+use Rattle.model_line.specs.{declared.script.SeenSpan.SeenSpan, declared.script.What.What}
 use Rattle.cert_checker.specs.Stretches.{HoldsAlike, ShowsAlike, is_of, holds}
 
 -- ---- one span

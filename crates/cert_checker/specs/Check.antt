@@ -1,6 +1,6 @@
 -- When a certificate is accepted, and its first fault where it is not.
 use Rattle.std.specs.Prelude.{ℕ, List, length}
-use Rattle.line_model.specs.{declared.line.Line.Line, declared.script.Script.Script}
+use Rattle.model_line.specs.{declared.line.Line.Line, declared.script.Script.Script}
 use Rattle.certificate.specs.Grammar.{Claims, IsCertificate, LeavesGrammar}
 use Rattle.cert_checker.specs.declared.claim.ClaimFault.{ClaimFault}
 use Rattle.cert_checker.specs.declared.claim.ClaimFault.TheVariants as wrong

@@ -2,9 +2,9 @@
 use Rattle.std.specs.Prelude.{◌≡◌, ◌<◌, ℕ, List, [], length, get_or}
 use Rattle.history.specs.Rails.{Rails}
 use Rattle.tick_signal.specs.declared.tern.Tern.{Tern}
-use Rattle.line_model.specs.declared.script.Script.{Script}
-use Rattle.line_model.specs.PairMean.{PairWorld, PairSignals, pair_mean}
-use Rattle.line_model.specs.{declared.line.Line.Line, Choice.declared_box, Choice.pair_world_of}
+use Rattle.model_line.specs.{declared.script.Script.Script, declared.line.Line.Line}
+use Rattle.model_logic.specs.PairMean.{PairWorld, PairSignals, pair_mean}
+use Rattle.model_logic.specs.Choice.{declared_box, pair_world_of}
 use Rattle.gate_net.specs.{declared.gate.Gate.Gate, Formulas.formula_of}
 use Rattle.wave_runs.specs.Waves.{wave_at, IsWaveOf}
 

@@ -1,6 +1,6 @@
 -- What is wrong with the numbers of a `no`.
 use Rattle.std.specs.Prelude.{ℕ, List}
-use Rattle.line_model.specs.{declared.line.Line.Line, declared.script.Script.Script}
+use Rattle.model_line.specs.{declared.line.Line.Line, declared.script.Script.Script}
 use Rattle.cert_checker.specs.declared.no.NoFault.{NoFault}
 use Rattle.cert_checker.specs.declared.no.NoFault.TheVariants.{Outside, Passes}
 use Rattle.cert_checker.specs.Refutations.{IsFirstOutside, IsMetInside}

@@ -1,11 +1,11 @@
 -- What numbers say against an obligation: their history fails it.
 use Rattle.std.specs.Prelude.{◌≡◌, ℕ, suc, Bool, List, [], get_or}
-use Rattle.line_model.specs.declared.line.Line.{Line}
-use Rattle.line_model.specs.declared.script.Kind.TheVariants.{Internal, External}
-use Rattle.line_model.specs.declared.script.Script.{Script}
-use Rattle.line_model.specs.Parameters.{param_count, declared_ends}
-use Rattle.line_model.specs.Histories.{History, IsLineHistory, Meets}
-use Rattle.line_model.specs.{declared.script.Kind.Kind, Choice.Choice, Choice.IsIn}
+use Rattle.model_line.specs.declared.script.Kind.TheVariants.{Internal, External}
+use Rattle.model_line.specs.Parameters.{param_count, declared_ends}
+use Rattle.model_line.specs.declared.script.Kind.{Kind}
+use Rattle.model_line.specs.{declared.line.Line.Line, declared.script.Script.Script}
+use Rattle.model_logic.specs.Histories.{History, IsLineHistory, Meets}
+use Rattle.model_logic.specs.Choice.{Choice, IsIn}
 use Rattle.timing_box.specs.{Timing.TimingValues, Inside.IsTimingInside, Choice.timing_choice}
 use Rattle.wave_runs.specs.FirstTick.{IsFirstOnAt, IsOffFrom}
 use Rattle.cert_checker.specs.Firsts.{IsFirstFailing}

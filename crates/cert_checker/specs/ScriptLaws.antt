@@ -7,7 +7,7 @@ use Rattle.std.proofs.lemmas.Option.{same_Some, slice_get_read, slice_get_within
 use Rattle.std.proofs.Math.ListN.{get_or-map}
 use Rattle.std.specs.Prelude.{slice_get, Result, Ok, Err, IfOk}
 use Rattle.std.specs.List.{All}
-use Rattle.line_model.specs.declared.script.Script.{Script}
+use Rattle.model_line.specs.declared.script.Script.{Script}
 use Rattle.certificate.specs.Grammar.{Verdict}
 use Rattle.cert_checker.specs.declared.counts.Counts.{Counts}
 use Rattle.cert_checker.specs.Firsts.{EachOf, IsWrongFirst}

@@ -1,6 +1,6 @@
 -- What a text says of several scripts, one after another, and the first of which it is wrong.
 use Rattle.std.specs.Prelude.{◌≡◌, ◌<◌, ℕ, List, Some, length, slice_get}
-use Rattle.line_model.specs.declared.script.Script.{Script}
+use Rattle.model_line.specs.declared.script.Script.{Script}
 use Rattle.certificate.specs.Grammar.{Verdict}
 use Rattle.cert_checker.specs.{declared.counts.Counts.Counts, Counts.AreCounts}
 

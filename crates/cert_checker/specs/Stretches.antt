@@ -1,9 +1,8 @@
 -- Stretches of ticks over which a script shows the same.
 use Rattle.std.specs.Prelude.{◌≡◌, ◌≤◌, ◌<◌, ◌&&◌, ℕ, Bool, List, IsTrue, nat_le, nat_lt}
-use Rattle.line_model.specs.declared.script.SeenSpan.{SeenSpan}
-use Rattle.line_model.specs.declared.script.What.TheVariants.{Element, Loss}
-use Rattle.line_model.specs.declared.script.What.{What}
-use Rattle.line_model.specs.Seen.{is_of_place, is_of_loss, is_seen, is_lost}
+use Rattle.model_line.specs.declared.script.What.TheVariants.{Element, Loss}
+use Rattle.model_line.specs.Seen.{is_of_place, is_of_loss, is_seen, is_lost}
+use Rattle.model_line.specs.{declared.script.SeenSpan.SeenSpan, declared.script.What.What}
 
 -- from t on until `end` a span holds each tick, or none
 abbrev pub HoldsAlike : ℕ → ℕ → SeenSpan → Type 0

@@ -2,11 +2,13 @@
 use Rattle.std.specs.Prelude.{◌≡◌, ◌<◌, ℕ, List, Some, slice_get}
 use Rattle.history.specs.Rails.{Rails, RailsCover}
 use Rattle.tick_signal.specs.Terns.{tern_rails}
-use Rattle.line_model.specs.Choice.{Choice, IsInside, declared_box}
-use Rattle.line_model.specs.Histories.{AreCovered, History, IsLineHistory, Meets}
-use Rattle.line_model.specs.{declared.line.Line.Line, declared.script.Script.Script}
-use Rattle.line_model.specs.{Parameters.terminal_count, PairMean.PairSignals, PairMean.pair_mean}
-use Rattle.line_model.specs.{Logic.key_tree, Logic.trip_tree, Rule.Held, Rule.rule_of}
+use Rattle.model_logic.specs.Choice.{Choice, IsInside, declared_box}
+use Rattle.model_logic.specs.Histories.{AreCovered, History, IsLineHistory, Meets}
+use Rattle.model_logic.specs.PairMean.{PairSignals, pair_mean}
+use Rattle.model_logic.specs.Logic.{key_tree, trip_tree}
+use Rattle.model_logic.specs.Rule.{Held, rule_of}
+use Rattle.model_line.specs.{declared.line.Line.Line, declared.script.Script.Script}
+use Rattle.model_line.specs.Parameters.{terminal_count}
 use Rattle.certificate.specs.Grammar.{Claims, Verdict, yes, no, undecided}
 use Rattle.cert_checker.specs.declared.claim.ClaimFault.{ClaimFault}
 use Rattle.cert_checker.specs.declared.claim.ClaimFault.TheVariants.{NotCovered, NotHeld, No}

@@ -3,7 +3,7 @@
 ghost use Rattle.std.specs.Prelude.{◌≡◌};
 
 use crate::no::NoFault;
-use line_model::Memory;
+use model_line::Memory;
 use tick_signal::Tern;
 
 /// Where a claimed key does not cover what follows from the claims, and both values there.

@@ -2,8 +2,8 @@
 
 ghost use Rattle.std.specs.Prelude.{◌≡◌, ◌<◌, ℕ, length, MatchOption};
 ghost use Rattle.history.specs.Rails.{RailsCover};
-ghost use Rattle.line_model.specs.{declared.script.Script.Script, Parameters.terminal_count};
-ghost use Rattle.line_model.specs.{Choice.declared_box, Histories.AreCovered};
+ghost use Rattle.model_line.specs.{declared.script.Script.Script, Parameters.terminal_count};
+ghost use Rattle.model_logic.specs.{Choice.declared_box, Histories.AreCovered};
 ghost use Rattle.gate_net.specs.NetOf.{IsNetOf};
 ghost use Rattle.wave_runs.specs.Waves.{wave_at, AreWaves};
 ghost use Rattle.cert_checker.specs.Claims.{AreGateWaves, pairs_of};
@@ -12,7 +12,7 @@ ghost use Rattle.cert_checker.specs.{Firsts.IsFirstFailing, Verdicts.IsFirstUnco
 use crate::claim::Uncovered;
 use crate::gate::nth;
 use gate_net::Net;
-use line_model::Line;
+use model_line::Line;
 use tick_signal::covers;
 use wave_runs::Runs;
 

@@ -1,11 +1,12 @@
 //! The declared intervals.
 
 ghost use Rattle.std.specs.Prelude.{◌≡◌, ◌≤◌, ◌<◌};
-ghost use Rattle.line_model.specs.Parameters.{param_count, channel_count, delay_param};
-ghost use Rattle.line_model.specs.Parameters.{declared_ends};
-ghost use Rattle.line_model.specs.{Names.HasTime, Choice.ends_by};
+ghost use Rattle.model_line.specs.Parameters.{param_count, channel_count, delay_param};
+ghost use Rattle.model_line.specs.Parameters.{declared_ends};
+ghost use Rattle.model_logic.specs.{Names.HasTime, Choice.ends_by};
 
-use line_model::{Line, Time};
+use model_line::Line;
+use model_logic::Time;
 use tick_signal::Within;
 
 /// The interval of a pickup or dropout.

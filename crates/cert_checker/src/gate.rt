@@ -2,9 +2,9 @@
 
 ghost use Rattle.std.specs.Prelude.{◌≡◌, ◌<◌, [], length, get_or, IfOk};
 ghost use Rattle.history.specs.Rails.{rails_delayed};
-ghost use Rattle.line_model.specs.Channels.{from_of};
-ghost use Rattle.line_model.specs.Parameters.{terminal_count, channel_count, delay_param};
-ghost use Rattle.line_model.specs.Parameters.{declared_ends};
+ghost use Rattle.model_line.specs.Parameters.{terminal_count, channel_count, delay_param};
+ghost use Rattle.model_line.specs.Parameters.{declared_ends};
+ghost use Rattle.model_line.specs.Channels.{from_of};
 ghost use Rattle.gate_net.specs.{Laws.HasArguments, Named.GateNames};
 ghost use Rattle.simulator.specs.GatePairs.{kind_pair};
 ghost use Rattle.wave_runs.specs.Waves.{AreWaves, IsWaveOf};
@@ -13,12 +13,12 @@ ghost use Rattle.cert_checker.specs.Claims.{pairs_of, declared_world};
 use crate::declared::{declared_delay, declared_time};
 use crate::script_wave::{loss_wave, seen_wave, steady};
 use gate_net::Gate;
-use line_model::{Line, Memory, Script};
+use model_line::{Line, Memory, Script};
 use std::alloc::Global;
 use wave_runs::{Runs, and, not, or, raw, seal, timer};
 
 /// The wave of a gate: its own kind over the waves of the earlier gates and the claimed keys.
-#[tactic(auto, unfolding(line_model::specs::Choice::pair_world_of, line_model::specs::Choice::declared_box))]
+#[tactic(auto, unfolding(model_logic::specs::Choice::pair_world_of, model_logic::specs::Choice::declared_box))]
 pub fn gate_wave(
     alloc: Global,
     gate: &Gate,

@@ -2,10 +2,10 @@
 
 ghost use Rattle.std.specs.Prelude.{◌≡◌, ◌<◌, ◌≤◌, ℕ, Bool, IsTrue, IsFalse, length};
 ghost use Rattle.std.specs.Bool.{Decides};
-ghost use Rattle.line_model.specs.Rule.{IsHeld};
+ghost use Rattle.model_logic.specs.Rule.{IsHeld};
 ghost use Rattle.wave_runs.specs.{FirstTick.first_on, Waves.wave_at};
 
-use line_model::{Kind, Script};
+use model_line::{Kind, Script};
 use wave_runs::{Runs, first_may, first_must, the_first_tick_is_the_least};
 
 /// Whether the rule is held. Internal: the trip must come at some tick up to the deadline.

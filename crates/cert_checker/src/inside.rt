@@ -1,11 +1,12 @@
 //! Whether claimed numbers are inside the declared intervals.
 
 ghost use Rattle.std.specs.Prelude.{◌≡◌, ◌↔◌, ◌<◌, ℕ, length, IsTrue, MatchOption};
-ghost use Rattle.line_model.specs.{Parameters.param_count, Parameters.declared_ends, Choice.IsIn};
+ghost use Rattle.model_line.specs.Parameters.{param_count, declared_ends};
+ghost use Rattle.model_logic.specs.Choice.{IsIn};
 ghost use Rattle.cert_checker.specs.{Firsts.IsFirstFailing, Refutations.IsNumberIn};
 
 use crate::declared::declared_param;
-use line_model::Line;
+use model_line::Line;
 
 /// The first parameter whose number is not in its interval.
 pub(crate) fn first_outside(line: &Line, values: &[u32]) -> Option<u32>

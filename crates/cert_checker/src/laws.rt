@@ -1,7 +1,7 @@
 //! The laws of acceptance.
 
 ghost use Rattle.std.specs.Prelude.{◌≡◌, ◌≢◌, ℕ, List};
-ghost use Rattle.line_model.specs.{declared.line.Line.Line, declared.script.Script.Script};
+ghost use Rattle.model_line.specs.{declared.line.Line.Line, declared.script.Script.Script};
 ghost use Rattle.certificate.specs.Grammar.{Claims, IsCertificate, LeavesGrammar};
 ghost use Rattle.cert_checker.specs.declared.claim.ClaimFault.{ClaimFault};
 ghost use Rattle.cert_checker.specs.declared.fault.CheckFault.{CheckFault};
@@ -12,7 +12,7 @@ ghost use Rattle.cert_checker.specs.{NoFaults.IsNoFault, ScriptLaws.IsOneText, S
 ghost use Rattle.cert_checker.specs.{declared.counts.Counts.Counts, Refutations.IsRefutation};
 
 use certificate::{a_text_has_one_meaning, a_text_leaves_at_one_line};
-use line_model::laws::{each_choice_has_one_history, each_line_has_a_choice_inside};
+use model_logic::laws::{each_choice_has_one_history, each_line_has_a_choice_inside};
 use timing_box::timings_inside_are_choices_inside;
 
 /// Claims that have a first fault are not accepted. So `check_claims` is good exactly where they

@@ -1,7 +1,7 @@
 //! The waves of all gates of a net, over claimed keys.
 
 ghost use Rattle.std.specs.Prelude.{IfOk};
-ghost use Rattle.line_model.specs.Parameters.{terminal_count};
+ghost use Rattle.model_line.specs.Parameters.{terminal_count};
 ghost use Rattle.gate_net.specs.NetOf.{IsNetOf};
 ghost use Rattle.wave_runs.specs.Waves.{AreWaves};
 ghost use Rattle.cert_checker.specs.Claims.{AreGateWaves, pairs_of};
@@ -9,7 +9,7 @@ ghost use Rattle.cert_checker.specs.Claims.{AreGateWaves, pairs_of};
 use crate::gate::gate_wave;
 use gate_net::{GateId, Net};
 use history::rails_laws::rails_read_the_past;
-use line_model::{Line, Memory, Script};
+use model_line::{Line, Memory, Script};
 use simulator::laws::gates_have_their_kind;
 use std::alloc::Global;
 use wave_runs::Runs;

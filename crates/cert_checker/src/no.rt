@@ -1,15 +1,15 @@
 //! The check of the numbers of a `no`.
 
 ghost use Rattle.std.specs.Prelude.{◌≡◌, ◌<◌, length, IfOk, MatchOption};
-ghost use Rattle.line_model.specs.Parameters.{terminal_count, param_count};
-ghost use Rattle.line_model.specs.Fits.{Fits};
+ghost use Rattle.model_line.specs.Parameters.{terminal_count, param_count};
+ghost use Rattle.model_line.specs.Fits.{Fits};
 ghost use Rattle.gate_net.specs.NetOf.{IsNetOf};
 ghost use Rattle.cert_checker.specs.{Refutations.IsRefutation, NoFaults.IsNoFault};
 
 use crate::inside::first_outside;
 use crate::refutation::met_at;
 use gate_net::Net;
-use line_model::{Line, Memory, Script};
+use model_line::{Line, Memory, Script};
 use std::alloc::Global;
 
 /// Why numbers do not refute an obligation.

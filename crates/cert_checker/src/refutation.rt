@@ -1,7 +1,8 @@
 //! Whether claimed numbers refute an obligation.
 
 ghost use Rattle.std.specs.Prelude.{◌≡◌, ◌<◌, ◌≤◌, length, IfOk, MatchOption};
-ghost use Rattle.line_model.specs.{Parameters.terminal_count, Histories.MeetsBy, Fits.Fits};
+ghost use Rattle.model_line.specs.{Parameters.terminal_count, Fits.Fits};
+ghost use Rattle.model_logic.specs.Histories.{MeetsBy};
 ghost use Rattle.gate_net.specs.NetOf.{IsNetOf};
 ghost use Rattle.timing_box.specs.Inside.{IsTimingInside};
 ghost use Rattle.simulator.specs.PlayedTracks.{is_on};
@@ -10,8 +11,9 @@ ghost use Rattle.cert_checker.specs.Refutations.{steady_timing, FailsAt, PassesA
 
 use channel::Track;
 use gate_net::Net;
-use line_model::laws::{deadlines_are_below_the_horizon, each_choice_has_one_history};
-use line_model::{Kind, Line, Memory, Script};
+use model_line::laws::deadlines_are_below_the_horizon;
+use model_line::{Kind, Line, Memory, Script};
+use model_logic::laws::each_choice_has_one_history;
 use simulator::laws::a_timing_is_one_choice;
 use simulator::run_tracks;
 use std::alloc::Global;

@@ -3,7 +3,8 @@
 ghost use Rattle.std.specs.Prelude.{◌≡◌, ◌<◌, ℕ, length, map, IfOk, MatchResult};
 ghost use Rattle.std.specs.List.{All};
 ghost use Rattle.history.specs.Rails.{Rails};
-ghost use Rattle.line_model.specs.{PairMean.PairSignals, Parameters.terminal_count, Fits.Fits};
+ghost use Rattle.model_logic.specs.PairMean.{PairSignals};
+ghost use Rattle.model_line.specs.{Parameters.terminal_count, Fits.Fits};
 ghost use Rattle.gate_net.specs.NetOf.{IsNetOf};
 ghost use Rattle.wave_runs.specs.Waves.{wave_at, AreWaves};
 ghost use Rattle.certificate.specs.Grammar.{HasNumbers, claims_in, verdict_in};
@@ -20,11 +21,12 @@ use crate::net_waves::gate_waves;
 use crate::no::check_no;
 use certificate::{Claim, ScriptClaims};
 use gate_net::Net;
-use line_model::laws::{
-    covered_claims_cover, deadlines_are_below_the_horizon, each_line_has_a_choice_inside,
-    the_rule_is_exact, the_rule_speaks_for_what_is_covered,
+use model_line::laws::deadlines_are_below_the_horizon;
+use model_line::{Line, Script};
+use model_logic::laws::{
+    covered_claims_cover, each_line_has_a_choice_inside, the_rule_is_exact,
+    the_rule_speaks_for_what_is_covered,
 };
-use line_model::{Line, Script};
 use std::alloc::Global;
 use wave_runs::Runs;
 

@@ -3,11 +3,11 @@
 ghost use Rattle.std.specs.Prelude.{◌≡◌, ◌≤◌, ◌<◌, IfOk};
 ghost use Rattle.std.specs.List.{All};
 ghost use Rattle.history.specs.Rails.{both};
-ghost use Rattle.line_model.specs.Seen.{is_seen, is_lost};
+ghost use Rattle.model_line.specs.Seen.{is_seen, is_lost};
 ghost use Rattle.wave_runs.specs.Waves.{IsWaveOf};
 ghost use Rattle.cert_checker.specs.Stretches.{ShowsAlike, is_of, holds};
 
-use line_model::{Memory, Place, Script, SeenSpan, What, loss, seen};
+use model_line::{Memory, Place, Script, SeenSpan, What, loss, seen};
 use std::alloc::Global;
 use tick_signal::{Signal, Tern};
 use wave_runs::{Runs, waves_grow};

@@ -2,7 +2,7 @@
 
 ghost use Rattle.std.specs.Prelude.{◌≡◌, ◌≤◌, ℕ, List, length, map, IfOk, MatchResult};
 ghost use Rattle.std.specs.List.{All};
-ghost use Rattle.line_model.specs.Fits.{Fits};
+ghost use Rattle.model_line.specs.Fits.{Fits};
 ghost use Rattle.gate_net.specs.NetOf.{IsNetOf};
 ghost use Rattle.certificate.specs.Grammar.{claims_in, IsCertificate, IsCertificateFault};
 ghost use Rattle.certificate.specs.Text.{CanBeWritten};
@@ -17,7 +17,7 @@ use certificate::{
     read_certificate,
 };
 use gate_net::Net;
-use line_model::{Line, Script};
+use model_line::{Line, Script};
 use std::alloc::Global;
 use text_lines::TextFault;
 

@@ -3,7 +3,7 @@ use Rattle.std.proofs.Common.{◌≤◌, ◌+◌, ◌*◌, ℕ, List, [], ◌∷
 use Rattle.std.proofs.lemmas.List.{length-map}
 use Rattle.std.specs.List.{flat_map}
 use Rattle.text_lines.specs.Lines.{Lines}
-use Rattle.line_model.specs.{declared.line.Line.Line, declared.script.Script.Script}
+use Rattle.model_line.specs.{declared.line.Line.Line, declared.script.Script.Script}
 use Rattle.certificate.specs.Grammar.{Place, Said, Stands, opens_none, fixed, key_of, verdict_of}
 use Rattle.certificate.specs.Grammar.{end_text, part_places, terminal_names, LeavesGrammar}
 use Rattle.certificate.specs.NameLaws.{names_count}

@@ -4,7 +4,7 @@ use Rattle.std.proofs.Common.{append_assoc, length-append}
 use Rattle.std.proofs.lemmas.List.{length-map, append-nil}
 use Rattle.std.proofs.lemmas.List.Elements.{All-head, All-tail}
 use Rattle.std.specs.List.{All, flat_map}
-use Rattle.line_model.specs.{declared.line.Line.Line, declared.script.Script.Script}
+use Rattle.model_line.specs.{declared.line.Line.Line, declared.script.Script.Script}
 use Rattle.certificate.specs.Grammar.{Place, fixed, key_of, verdict_of, Claims, HasOneEach, Said}
 use Rattle.certificate.specs.Grammar.{says_nothing, says_key, says_verdict, end_text, head_text}
 use Rattle.certificate.specs.Grammar.{part_places, part_said, terminal_names}

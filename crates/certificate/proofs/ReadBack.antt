@@ -4,7 +4,7 @@ use Rattle.std.proofs.Common.{sym, ◌∙◌}
 use Rattle.std.proofs.lemmas.List.Elements.{All-head, All-tail, All-nil, All-cons}
 use Rattle.std.specs.List.{All, flat_map}
 use Rattle.tick_signal.specs.declared.tern.Tern.{Tern}
-use Rattle.line_model.specs.{declared.line.Line.Line, declared.script.Script.Script}
+use Rattle.model_line.specs.{declared.line.Line.Line, declared.script.Script.Script}
 use Rattle.text_lines.specs.Lines.{Lines}
 use Rattle.certificate.specs.Grammar.{Place, fixed, key_of, verdict_of, Stands, opens_none, Said}
 use Rattle.certificate.specs.Grammar.{says_nothing, says_key, says_verdict, Claims, Verdict}

@@ -2,7 +2,7 @@
 use Rattle.std.proofs.Common.{◌≡◌, ℕ, List, ◌++◌, ◌∙◌, map, sym, ap, append_assoc}
 use Rattle.std.proofs.lemmas.Simd.{map-map}
 use Rattle.tick_signal.specs.declared.tern.Tern.{Tern}
-use Rattle.line_model.specs.declared.line.{Line.Line, Terminal.Terminal}
+use Rattle.model_line.specs.{declared.line.Line.Line, declared.line.Terminal.Terminal}
 use Rattle.certificate.specs.Grammar.{Place, Said, says_nothing, says_key, says_verdict, Verdict}
 use Rattle.certificate.specs.Grammar.{IsKey, IsVerdict, key_of, verdict_of, terminal_names}
 use Rattle.certificate.specs.Grammar.{claim_places}

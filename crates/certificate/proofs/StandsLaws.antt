@@ -2,7 +2,7 @@
 use Rattle.std.proofs.Common.{◌≡◌, ◌≤◌, ℕ, List, length, drop, refl, sym, ◌∙◌, ap, arith}
 use Rattle.std.specs.Prelude.{codes}
 use Rattle.tick_signal.specs.declared.tern.Tern.{Tern}
-use Rattle.line_model.specs.declared.line.Line.{Line}
+use Rattle.model_line.specs.declared.line.Line.{Line}
 use Rattle.wave_runs.specs.Text.{runs_text}
 use Rattle.certificate.specs.Grammar.{Place, fixed, key_of, verdict_of, Stands, HasNumbers, Said}
 use Rattle.certificate.specs.Grammar.{says_nothing, says_key, says_verdict, verdict_words, Verdict}

@@ -3,8 +3,8 @@ use Rattle.std.specs.Prelude.{◌≡◌, ◌<◌, ◌^◌, ◌++◌, ℕ, List, 
 use Rattle.std.specs.Prelude.{refl}
 use Rattle.std.specs.List.{All, flat_map}
 use Rattle.tick_signal.specs.declared.tern.Tern.{Tern}
-use Rattle.line_model.specs.Parameters.{terminal_count, param_count}
-use Rattle.line_model.specs.{declared.line.Line.Line, declared.script.Script.Script}
+use Rattle.model_line.specs.Parameters.{terminal_count, param_count}
+use Rattle.model_line.specs.{declared.line.Line.Line, declared.script.Script.Script}
 use Rattle.wave_runs.specs.Text.{runs_text}
 use Rattle.text_lines.specs.{Named.named, declared.fault.TextFault.TextFault}
 use Rattle.text_lines.specs.Grammar.{Grammar, IsFixed, Parts, IsText, LeavesText, IsTextFault}

@@ -4,8 +4,8 @@ use Rattle.std.proofs.Common.{inr}
 use Rattle.std.proofs.lemmas.{Bool.cases_eq, List.length-map}
 use Rattle.std.specs.Prelude.{nat_le}
 use Rattle.std.specs.List.{list_all}
-use Rattle.line_model.specs.{declared.line.Line.Line, Parameters.terminal_count}
-use Rattle.line_model.specs.PlainNames.{is_plain_byte, is_plain_name}
+use Rattle.model_line.specs.PlainNames.{is_plain_byte, is_plain_name}
+use Rattle.model_line.specs.{declared.line.Line.Line, Parameters.terminal_count}
 use Rattle.text_lines.specs.{Lines.is_no_feed, Lines.is_one_line, LineLaws.both_true}
 use Rattle.text_lines.specs.NamedLaws.{whole_more}
 use Rattle.certificate.specs.Grammar.{terminal_names}

@@ -1,7 +1,7 @@
 -- The text that says something: the lines of the places, each with its line feed.
 use Rattle.std.specs.Prelude.{◌≡◌, ◌++◌, ℕ, List, [], ◌∷◌, length}
 use Rattle.std.specs.List.{All}
-use Rattle.line_model.specs.{declared.line.Line.Line, declared.script.Script.Script}
+use Rattle.model_line.specs.{declared.line.Line.Line, declared.script.Script.Script}
 use Rattle.text_lines.specs.Grammar.{text_places, text_said}
 use Rattle.certificate.specs.Grammar.{Place, fixed, key_of, verdict_of, key_text, verdict_text}
 use Rattle.certificate.specs.Grammar.{Said, says_nothing, says_key, says_verdict, Claims}

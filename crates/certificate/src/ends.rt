@@ -2,7 +2,7 @@
 
 ghost use Rattle.std.specs.Prelude.{◌≡◌, ◌++◌, List, length};
 ghost use Rattle.std.specs.List.{All};
-ghost use Rattle.line_model.specs.{declared.line.Line.Line, declared.script.Script.Script};
+ghost use Rattle.model_line.specs.{declared.line.Line.Line, declared.script.Script.Script};
 ghost use Rattle.certificate.specs.Grammar.{Claims, HasOneEach, head_text, end_text};
 ghost use Rattle.certificate.specs.Text.{fed, parts_text, certificate_text};
 

@@ -2,8 +2,8 @@
 
 ghost use Rattle.std.specs.Prelude.{◌≡◌, ◌≤◌, ◌+◌, ◌*◌, ℕ, List, length};
 ghost use Rattle.std.specs.List.{All};
-ghost use Rattle.line_model.specs.Fits.{Fits};
-ghost use Rattle.line_model.specs.{declared.line.Line.Line, declared.script.Script.Script};
+ghost use Rattle.model_line.specs.{Fits.Fits, declared.line.Line.Line};
+ghost use Rattle.model_line.specs.declared.script.Script.{Script};
 ghost use Rattle.certificate.specs.Text.{CanBeWritten, certificate_text};
 ghost use Rattle.certificate.specs.Grammar.{Claims, IsCertificate, LeavesGrammar};
 

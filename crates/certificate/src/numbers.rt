@@ -7,7 +7,7 @@ ghost use Rattle.certificate.specs.Grammar.{AreNumbers, numbers_text, spaced};
 ghost use Rattle.certificate.specs.Numbers.{BeginsNumber};
 
 use crate::print::push_numbers;
-use line_model::Memory;
+use model_line::Memory;
 use relay_base::number;
 use std::alloc::Global;
 use text_lines::{after, find_byte, is};

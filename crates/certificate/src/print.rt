@@ -1,7 +1,7 @@
 //! A script's part of a certificate, printed.
 
 ghost use Rattle.std.specs.Prelude.{◌≡◌, ◌<◌, ◌++◌, ℕ, List, [], length, map, get_or, OnOk};
-ghost use Rattle.line_model.specs.Parameters.{terminal_count};
+ghost use Rattle.model_line.specs.Parameters.{terminal_count};
 ghost use Rattle.text_lines.specs.Named.{named};
 ghost use Rattle.certificate.specs.Grammar.{spaced, numbers_text, no_words, verdict_words, verdict_in};
 ghost use Rattle.certificate.specs.Grammar.{terminal_names, Place, Said, key_of, verdict_of};
@@ -11,7 +11,7 @@ ghost use Rattle.certificate.specs.Text.{fed, line_text, lines_text, part_text};
 use crate::claim::Claim;
 use crate::read::name_at;
 use itoa::Buffer;
-use line_model::{Line, Memory, Name, Script};
+use model_line::{Line, Memory, Name, Script};
 use std::alloc::Global;
 use wave_runs::{Runs, print_runs};
 

@@ -1,7 +1,7 @@
 //! The lines of a certificate, read one after another.
 
 ghost use Rattle.std.specs.Prelude.{◌≡◌, ◌<◌, ◌++◌, [], List, map, get_or, MatchResult, refl};
-ghost use Rattle.line_model.specs.Parameters.{terminal_count};
+ghost use Rattle.model_line.specs.Parameters.{terminal_count};
 ghost use Rattle.text_lines.specs.Grammar.{Reads, IsFault};
 ghost use Rattle.certificate.specs.Grammar.{Place, key_of, verdict_of, says_key, says_verdict};
 ghost use Rattle.certificate.specs.Grammar.{Claims, HasOneEach, verdict_in, claims_in, grammar_of};
@@ -10,7 +10,7 @@ ghost use Rattle.certificate.specs.Grammar.{script_parts, IsCertificate, IsCerti
 
 use crate::claim::{Claim, ScriptClaims};
 use crate::words::read_words;
-use line_model::{Line, Memory, Name, Script, Terminal};
+use model_line::{Line, Memory, Name, Script, Terminal};
 use std::alloc::Global;
 use text_lines::{
     LineCursor, LineReader, PartReader, TextFault, after_name, read_lines, read_text,

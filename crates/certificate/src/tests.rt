@@ -2,7 +2,7 @@
 //! leaves the grammar in others.
 
 use super::*;
-use line_model::Name;
+use model_line::Name;
 use sample_lines::{ONE_TO_FIVE, two_terminals, unseen_fault};
 use std::alloc::Global;
 use std::test::Fail;

@@ -1,13 +1,13 @@
 //! The words of a verdict, read.
 
 ghost use Rattle.std.specs.Prelude.{◌≡◌, ◌≢◌, ℕ, List, IfOk, MatchOption};
-ghost use Rattle.line_model.specs.Parameters.{param_count};
+ghost use Rattle.model_line.specs.Parameters.{param_count};
 ghost use Rattle.certificate.specs.Grammar.{Verdict, HasNumbers, verdict_words, verdict_in};
 ghost use Rattle.certificate.specs.Grammar.{AreNumbers, no_words};
 
 use crate::claim::Claim;
 use crate::numbers::read_numbers;
-use line_model::{Line, Memory};
+use model_line::{Line, Memory};
 use std::alloc::Global;
 use text_lines::{after, is};
 

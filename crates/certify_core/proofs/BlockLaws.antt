@@ -6,9 +6,9 @@ use Rattle.std.proofs.lemmas.List.FromFn.{get_or-map-range_with_len}
 use Rattle.std.proofs.lemmas.List.Sums.{count_by-le-length}
 use Rattle.std.specs.Prelude.{slice_get, slice_index, option_map, nat_lt, if◌then◌else◌}
 use Rattle.history.specs.Rails.{Ends, single}
-use Rattle.line_model.specs.declared.line.Line.{Line}
-use Rattle.line_model.specs.Parameters.{param_count, delay_param}
-use Rattle.line_model.specs.{Choice.DelaysFromOne, Laws.ParametersAreNumbered}
+use Rattle.model_line.specs.Parameters.{param_count, delay_param}
+use Rattle.model_line.specs.{declared.line.Line.Line, Laws.ParametersAreNumbered}
+use Rattle.model_logic.specs.Choice.{DelaysFromOne}
 use Rattle.timing_box.specs.Candidates.{is_free, candidate, candidate_count, candidate_value}
 use Rattle.timing_box.specs.{Timing.number_at, Choice.timing_choice}
 use Rattle.simulator.specs.LaneBox.{ends_in, lane_box}

@@ -2,12 +2,11 @@
 use Rattle.std.proofs.Common.{◌≡◌, ℕ, suc, ◌<◌, Bool, true, false, not, refl, sym, ◌∙◌, arith}
 use Rattle.std.specs.Prelude.{Decides}
 use Rattle.history.specs.{Elements.some_below, Rails.both}
-use Rattle.line_model.specs.declared.line.Line.{Line}
-use Rattle.line_model.specs.declared.script.Kind.TheVariants.{Internal, External}
-use Rattle.line_model.specs.declared.script.Script.{Script}
-use Rattle.line_model.specs.Histories.{History, MeetsBy, Meets, IsSameHistory}
-use Rattle.line_model.specs.Laws.{TheRuleIsTested}
-use Rattle.line_model.specs.{declared.script.Kind.Kind, Parameters.terminal_count, Rule.is_held}
+use Rattle.model_line.specs.declared.script.Kind.TheVariants.{Internal, External}
+use Rattle.model_line.specs.{declared.line.Line.Line, declared.script.Script.Script}
+use Rattle.model_line.specs.{declared.script.Kind.Kind, Parameters.terminal_count}
+use Rattle.model_logic.specs.Histories.{History, MeetsBy, Meets, IsSameHistory}
+use Rattle.model_logic.specs.{Laws.TheRuleIsTested, Rule.is_held}
 use Rattle.certify_core.specs.Candidates.{TellsFailing}
 
 on_off : (b : Bool) → b ≡ true → b ≡ false → ⊥

@@ -1,8 +1,8 @@
 -- How obligations stand after more candidates.
 use Rattle.std.proofs.Common.{◌≡◌, ◌≢◌, ℕ, ◌+◌, ◌-◌, ◌<◌, ◌≤◌, refl, subst, arith, ⊎_elim}
 use Rattle.std.proofs.lemmas.Bool.{cases_lt}
-use Rattle.line_model.specs.declared.line.Line.{Line}
-use Rattle.line_model.specs.{declared.script.Script.Script, Histories.PairHistory}
+use Rattle.model_line.specs.{declared.line.Line.Line, declared.script.Script.Script}
+use Rattle.model_logic.specs.Histories.{PairHistory}
 use Rattle.timing_box.specs.Candidates.{candidate, candidate_count}
 use Rattle.certify_core.specs.declared.standing.Standing.TheVariants.{Held, Failing, Open}
 use Rattle.certify_core.specs.Candidates.{candidate_in, TellFailing, IsLowest, IsNone64}

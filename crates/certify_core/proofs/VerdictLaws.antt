@@ -9,13 +9,13 @@ use Rattle.std.proofs.lemmas.List.FromFn.{length-map-range_with_len}
 use Rattle.std.specs.Prelude.{slice_get, IsTrue}
 use Rattle.tick_signal.specs.declared.tern.Tern.{Tern}
 use Rattle.history.specs.{Elements.some_below, Rails.Rails, Rails.must_of, Rails.may_of}
-use Rattle.line_model.specs.declared.line.Line.{Line}
-use Rattle.line_model.specs.declared.script.Kind.TheVariants.{Internal, External}
-use Rattle.line_model.specs.declared.script.Script.{Script}
-use Rattle.line_model.specs.Parameters.{terminal_count, param_count}
-use Rattle.line_model.specs.Histories.{PairHistory, IsSamePairHistory}
-use Rattle.line_model.specs.Rule.{Rule, Held, Broken, Unknown, rule_by, rule_of}
-use Rattle.line_model.specs.{declared.script.Kind.Kind, Fits.deadline_fits, Fits.Fits}
+use Rattle.model_line.specs.declared.script.Kind.TheVariants.{Internal, External}
+use Rattle.model_line.specs.Parameters.{terminal_count, param_count}
+use Rattle.model_line.specs.Fits.{deadline_fits, Fits}
+use Rattle.model_line.specs.declared.script.Kind.{Kind}
+use Rattle.model_line.specs.{declared.line.Line.Line, declared.script.Script.Script}
+use Rattle.model_logic.specs.Histories.{PairHistory, IsSamePairHistory}
+use Rattle.model_logic.specs.Rule.{Rule, Held, Broken, Unknown, rule_by, rule_of}
 use Rattle.timing_box.specs.Timing.{TimingValues}
 use Rattle.timing_box.specs.Candidates.{candidate, candidate_count, candidate_value}
 use Rattle.certify_core.specs.declared.verdict.Verdict.{Verdict}

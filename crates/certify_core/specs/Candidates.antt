@@ -4,8 +4,8 @@ use Rattle.std.specs.Prelude.{nat_lt, if◌then◌else◌}
 use Rattle.history.specs.Rails.{rails_at}
 use Rattle.tick_signal.specs.{Bits.bit_rails, Bits.bit_on, Lanes.in_lane}
 use Rattle.channel.specs.SentKeys.{SentKeys}
-use Rattle.line_model.specs.Parameters.{param_count, terminal_count}
-use Rattle.line_model.specs.{declared.line.Line.Line, declared.script.Script.Script}
+use Rattle.model_line.specs.Parameters.{param_count, terminal_count}
+use Rattle.model_line.specs.{declared.line.Line.Line, declared.script.Script.Script}
 use Rattle.timing_box.specs.Choice.{timing_choice}
 use Rattle.timing_box.specs.Candidates.{candidate, candidate_count, candidate_value}
 use Rattle.simulator.specs.{Runs.IsExactAt, Ticks.AreSent, Tracks.tracks_history}

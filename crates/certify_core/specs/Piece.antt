@@ -1,8 +1,8 @@
 -- A script's part of a certificate, as text.
 use Rattle.std.specs.Prelude.{◌≡◌, ℕ, List, [], length, map}
 use Rattle.tick_signal.specs.declared.tern.Tern.{Tern}
-use Rattle.line_model.specs.Parameters.{terminal_count, param_count}
-use Rattle.line_model.specs.{declared.line.Line.Line, declared.script.Script.Script}
+use Rattle.model_line.specs.Parameters.{terminal_count, param_count}
+use Rattle.model_line.specs.{declared.line.Line.Line, declared.script.Script.Script}
 use Rattle.certificate.specs.Grammar.{Claims, Verdict as Written, yes, no, undecided}
 use Rattle.certificate.specs.Text as certificate
 use Rattle.certify_core.specs.declared.verdict.Verdict.{Verdict}

@@ -1,7 +1,8 @@
 -- How each terminal's obligation stands after so many candidates.
 use Rattle.std.specs.Prelude.{◌<◌, ℕ, List}
-use Rattle.line_model.specs.{declared.line.Line.Line, declared.script.Script.Script}
-use Rattle.line_model.specs.{Parameters.terminal_count, Histories.PairHistory}
+use Rattle.model_line.specs.{declared.line.Line.Line, declared.script.Script.Script}
+use Rattle.model_line.specs.Parameters.{terminal_count}
+use Rattle.model_logic.specs.Histories.{PairHistory}
 use Rattle.timing_box.specs.Candidates.{candidate, candidate_count}
 use Rattle.certify_core.specs.OneEach.{OneEach}
 use Rattle.certify_core.specs.declared.verdict.Verdict.{Verdict}

@@ -1,8 +1,8 @@
 -- Laws of verdicts: an obligation has one at most.
 use Rattle.std.proofs.Common.{◌≡◌, ℕ, refl, sym, ◌∙◌, ap, arith, ⊎_elim}
 use Rattle.std.proofs.lemmas.Bool.{cases_lt}
-use Rattle.line_model.specs.Histories.{PairHistory}
-use Rattle.line_model.specs.{declared.line.Line.Line, declared.script.Script.Script}
+use Rattle.model_logic.specs.Histories.{PairHistory}
+use Rattle.model_line.specs.{declared.line.Line.Line, declared.script.Script.Script}
 use Rattle.timing_box.specs.Candidates.{candidate}
 use Rattle.certify_core.specs.declared.verdict.Verdict.{Verdict}
 use Rattle.certify_core.specs.declared.verdict.Verdict.TheVariants.{Yes, No, Undecided}

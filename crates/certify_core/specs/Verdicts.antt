@@ -1,9 +1,10 @@
 -- What is said of a script: the keys of the interval history, and a verdict for each terminal.
 use Rattle.std.specs.Prelude.{◌≡◌, ◌<◌, ℕ, List, []}
 use Rattle.tick_signal.specs.declared.tern.Tern.{Tern}
-use Rattle.line_model.specs.Histories.{History, IsLineHistory, Meets, PairHistory}
-use Rattle.line_model.specs.{declared.line.Line.Line, declared.script.Script.Script}
-use Rattle.line_model.specs.{Parameters.terminal_count, Rule.Held, Rule.rule_of}
+use Rattle.model_logic.specs.Histories.{History, IsLineHistory, Meets, PairHistory}
+use Rattle.model_logic.specs.Rule.{Held, rule_of}
+use Rattle.model_line.specs.{declared.line.Line.Line, declared.script.Script.Script}
+use Rattle.model_line.specs.Parameters.{terminal_count}
 use Rattle.timing_box.specs.Candidates.{candidate, candidate_count}
 use Rattle.timing_box.specs.{Timing.TimingValues, Inside.IsTimingInside, Choice.timing_choice}
 use Rattle.wave_runs.specs.Waves.{IsWaveOf}

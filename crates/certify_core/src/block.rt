@@ -1,15 +1,16 @@
 //! Blocks of 64 candidates, which run side by side.
 
 ghost use Rattle.std.specs.Prelude.{◌≡◌, ◌<◌, IfOk};
-ghost use Rattle.line_model.specs.Parameters.{param_count};
+ghost use Rattle.model_line.specs.Parameters.{param_count};
 ghost use Rattle.gate_net.specs.NetOf.{IsNetOf};
 ghost use Rattle.timing_box.specs.Candidates.{candidate_count as count_of};
 ghost use Rattle.certify_core.specs.Candidates.{candidate_in, IsBlockSpan, AreBlockSpans};
 ghost use Rattle.certify_core.specs.Candidates.{IsBlockRun};
 
 use gate_net::Net;
-use line_model::laws::{each_line_has_a_choice_inside, parameters_are_numbered};
-use line_model::{Line, Memory, Script};
+use model_line::laws::parameters_are_numbered;
+use model_line::{Line, Memory, Script};
+use model_logic::laws::each_line_has_a_choice_inside;
 use simulator::{Tracks, run_tracks};
 use std::alloc::Global;
 use tick_signal::{Lanes64, Tick, Ticks64};

@@ -1,10 +1,11 @@
 //! The verdict of a script.
 
 ghost use Rattle.std.specs.Prelude.{◌≡◌, ◌<◌, ℕ, Some, slice_get, IfOk};
-ghost use Rattle.line_model.specs.{Choice.Choice, Choice.IsInside, Choice.declared_box, Fits.Fits};
-ghost use Rattle.line_model.specs.{Histories.History, Histories.IsLineHistory, Histories.Meets};
-ghost use Rattle.line_model.specs.{Histories.PairHistory, Histories.IsPairHistory, Rule.Broken};
-ghost use Rattle.line_model.specs.{Rule.Unknown, Rule.rule_of, Parameters.terminal_count};
+ghost use Rattle.model_logic.specs.Choice.{Choice, IsInside, declared_box};
+ghost use Rattle.model_logic.specs.Histories.{History, IsLineHistory, Meets, PairHistory};
+ghost use Rattle.model_logic.specs.Histories.{IsPairHistory};
+ghost use Rattle.model_logic.specs.Rule.{Broken, Unknown, rule_of};
+ghost use Rattle.model_line.specs.{Fits.Fits, Parameters.terminal_count};
 ghost use Rattle.gate_net.specs.NetOf.{IsNetOf};
 ghost use Rattle.timing_box.specs.{Timing.TimingValues, Candidates.candidate};
 ghost use Rattle.certify_core.specs.Piece.{IsPrintable};
@@ -15,11 +16,11 @@ use crate::standing::{after_candidates, by_rules, verdicts};
 use crate::verdict::{ScriptVerdict, Verdict};
 use gate_net::Net;
 use interval_wave::analyse;
-use line_model::laws::{
+use model_line::{Line, Memory, Script};
+use model_logic::laws::{
     each_box_has_one_interval_history, each_choice_has_one_history, each_line_has_a_choice_inside,
     the_rule_speaks_for_every_choice,
 };
-use line_model::{Line, Memory, Script};
 use std::alloc::Global;
 use timing_box::{candidates_are_inside, timings_inside_are_choices_inside};
 

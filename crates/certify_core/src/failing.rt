@@ -2,17 +2,18 @@
 
 ghost use Rattle.std.specs.Prelude.{◌≡◌, ◌<◌, ◌≤◌, ℕ, length, MatchOption};
 ghost use Rattle.history.specs.Elements.{some_below};
-ghost use Rattle.line_model.specs.{Parameters.terminal_count, Histories.MeetsBy};
+ghost use Rattle.model_line.specs.Parameters.{terminal_count};
+ghost use Rattle.model_logic.specs.Histories.{MeetsBy};
 ghost use Rattle.tick_signal.specs.Bits.{bit_on};
 ghost use Rattle.simulator.specs.Ticks.{AreSent};
 ghost use Rattle.certify_core.specs.Candidates.{IsBlockRun, trips_in, TellsFailing, TellFailing};
 ghost use Rattle.certify_core.specs.Candidates.{IsLowest, IsNone64};
 
 use channel::Track;
-use line_model::laws::{
+use model_line::{Kind, Line, Script};
+use model_logic::laws::{
     each_choice_has_one_history, each_line_has_a_choice_inside, the_rule_is_tested,
 };
-use line_model::{Kind, Line, Script};
 use simulator::Tracks;
 use tick_signal::{Lanes64, Signal};
 use timing_box::{candidates_are_inside, timings_inside_are_choices_inside};

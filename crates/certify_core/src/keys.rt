@@ -1,12 +1,12 @@
 //! The key waves of an interval history.
 
 ghost use Rattle.std.specs.Prelude.{◌≡◌, IfOk};
-ghost use Rattle.line_model.specs.Parameters.{terminal_count};
+ghost use Rattle.model_line.specs.Parameters.{terminal_count};
 ghost use Rattle.interval_wave.specs.PairWavesOf.{pair_history};
 ghost use Rattle.certify_core.specs.Verdicts.{AreKeys};
 
 use interval_wave::PairWaves;
-use line_model::{Line, Memory};
+use model_line::{Line, Memory};
 use std::alloc::Global;
 use wave_runs::Runs;
 

@@ -6,7 +6,7 @@ ghost use Rattle.certify_core.specs.Piece.{IsPrintable, piece_text, written_as};
 
 use crate::verdict::{ScriptVerdict, Verdict};
 use certificate::{Claim, push_part};
-use line_model::{Line, Memory, Script};
+use model_line::{Line, Memory, Script};
 use std::alloc::Global;
 use tick_signal::Tick;
 

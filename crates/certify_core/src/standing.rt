@@ -2,7 +2,8 @@
 
 ghost use Rattle.std.specs.Prelude.{◌≡◌, ◌≢◌, ◌<◌, ◌+◌, ℕ, length, map, slice_get, Some, IfOk};
 ghost use Rattle.std.specs.Prelude.{IsFalse};
-ghost use Rattle.line_model.specs.{Parameters.terminal_count, Histories.PairHistory};
+ghost use Rattle.model_line.specs.Parameters.{terminal_count};
+ghost use Rattle.model_logic.specs.Histories.{PairHistory};
 ghost use Rattle.gate_net.specs.NetOf.{IsNetOf};
 ghost use Rattle.interval_wave.specs.PairWavesOf.{pair_history};
 ghost use Rattle.timing_box.specs.Candidates.{candidate_count as count_of};
@@ -15,8 +16,8 @@ use crate::failing::{failing, first_lane};
 use crate::verdict::Verdict;
 use gate_net::Net;
 use interval_wave::{PairWaves, Rule, judge};
-use line_model::laws::parameters_are_numbered;
-use line_model::{Line, Memory, Script};
+use model_line::laws::parameters_are_numbered;
+use model_line::{Line, Memory, Script};
 use simulator::Tracks;
 use std::alloc::Global;
 use tick_signal::Lanes64;

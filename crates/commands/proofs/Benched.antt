@@ -3,7 +3,7 @@ use Rattle.std.proofs.Common.{◌≡◌, ℕ, ◌+◌, ◌<◌, ◌≤◌, List,
 use Rattle.std.proofs.Common.{ap, ◌∙◌, subst}
 use Rattle.std.proofs.lemmas.List.{append_assoc, append-nil, take_all, take_more}
 use Rattle.std.specs.List.{All}
-use Rattle.line_model.specs.{declared.line.Line.Line, declared.script.Script.Script}
+use Rattle.model_line.specs.{declared.line.Line.Line, declared.script.Script.Script}
 use Rattle.certificate.specs.Grammar.{Claims, HasOneEach, end_text, head_text}
 use Rattle.certificate.specs.Text.{certificate_text, fed, part_text, parts_text}
 use Rattle.own_certificate.specs.Certified.{AreCertified, IsCertified}

@@ -7,7 +7,7 @@ use Rattle.std.proofs.lemmas.List.{take_more}
 use Rattle.std.proofs.lemmas.List.Elements.{All-cons, All-drop, All-nil}
 use Rattle.std.proofs.lemmas.Slice.Zip.{AllZip-long}
 use Rattle.std.specs.List.{All, AllZip}
-use Rattle.line_model.specs.{declared.line.Line.Line, declared.script.Script.Script, Fits.Fits}
+use Rattle.model_line.specs.{declared.line.Line.Line, declared.script.Script.Script, Fits.Fits}
 use Rattle.certificate.specs.Grammar.{Claims, HasOneEach}
 use Rattle.certificate.specs.Text.{certificate_text, part_text, parts_text}
 use Rattle.cert_checker.specs.{Counts.all_verdicts, ZipLaws.zip_append}

@@ -2,9 +2,9 @@
 use Rattle.std.proofs.Common.{◌≡◌, ℕ, List, [], ◌∷◌, ◌++◌, refl, sym, ap, ◌∙◌}
 use Rattle.std.proofs.lemmas.List.Elements.{All-head, All-tail}
 use Rattle.std.specs.List.{All}
-use Rattle.line_model.specs.Choice.{Choice, DelaysFromOne, IsInside}
-use Rattle.line_model.specs.Histories.{History, IsLineHistory, IsSameHistory}
-use Rattle.line_model.specs.{declared.line.Line.Line, declared.script.Script.Script}
+use Rattle.model_logic.specs.Choice.{Choice, DelaysFromOne, IsInside}
+use Rattle.model_logic.specs.Histories.{History, IsLineHistory, IsSameHistory}
+use Rattle.model_line.specs.{declared.line.Line.Line, declared.script.Script.Script}
 use Rattle.simulator.specs.{PlayRows.run_rows, RowLaws.run_rows-same}
 use Rattle.timing_box.specs.Choice.{timing_choice}
 use Rattle.timing_box.specs.{Inside.IsTimingInside, SoFar.NamedValues, Timing.TimingValues}

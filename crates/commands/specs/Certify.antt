@@ -1,7 +1,7 @@
 -- The command `certify`: its text is the certificate of the scripts, which has the verdict of each
 -- obligation and the keys that show it.
 use Rattle.std.specs.Prelude.{◌≡◌, ℕ, List, length}
-use Rattle.line_model.specs.{declared.line.Line.Line, declared.script.Script.Script}
+use Rattle.model_line.specs.{declared.line.Line.Line, declared.script.Script.Script}
 use Rattle.certificate.specs.{Grammar.Claims, Text.certificate_text}
 use Rattle.cert_checker.specs.Counts.{all_verdicts}
 use Rattle.own_certificate.specs.Certified.{AreCertified}

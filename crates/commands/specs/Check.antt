@@ -1,6 +1,6 @@
 -- The command `check`: whether a certificate is accepted, with its counts, or its first fault.
 use Rattle.std.specs.Prelude.{◌∷◌, ℕ, List, [], codes, decimal}
-use Rattle.line_model.specs.{declared.line.Line.Line, declared.script.Script.Script}
+use Rattle.model_line.specs.{declared.line.Line.Line, declared.script.Script.Script}
 use Rattle.wave_runs.specs.Text.{tern_word}
 use Rattle.cert_checker.specs.Check.{IsAccepted, IsCheckFault}
 use Rattle.cert_checker.specs.declared.fault.CheckFault.{CheckFault}

@@ -1,8 +1,8 @@
 -- The lines that tell what a check of a text found.
 use Rattle.std.specs.Prelude.{◌≡◌, ◌≢◌, [], ◌∷◌, ℕ, List, codes, decimal}
 use Rattle.std.specs.List.{concat}
-use Rattle.line_model.specs.NamesByNumber.{terminal_name, parameter_name, script_name}
-use Rattle.line_model.specs.{declared.line.Line.Line, declared.script.Script.Script}
+use Rattle.model_names.specs.NamesByNumber.{terminal_name, parameter_name, script_name}
+use Rattle.model_line.specs.{declared.line.Line.Line, declared.script.Script.Script}
 use Rattle.cert_checker.specs.declared.counts.Counts.{Counts}
 use Rattle.commands.specs.Answers.{Answers}
 use Rattle.commands.specs.declared.done.Done.TheVariants as done

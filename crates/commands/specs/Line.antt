@@ -1,7 +1,7 @@
 -- The command `line`.
 use Rattle.std.specs.Prelude.{◌≡◌, ℕ, false, List, Ok}
 use Rattle.toml.specs.Text.{IsDocumentText}
-use Rattle.line_model.specs.declared.line.Line.{Line}
+use Rattle.model_line.specs.declared.line.Line.{Line}
 use Rattle.line_file.specs.{Canonical.canonical, LineFiles.line_of, Lines.line_values}
 use Rattle.commands.specs.Answers.{Answers, prints}
 

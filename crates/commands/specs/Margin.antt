@@ -1,6 +1,6 @@
 -- The command `margin`: how far the upper end of a parameter can be raised.
 use Rattle.std.specs.Prelude.{ℕ, true, false, List}
-use Rattle.line_model.specs.{declared.line.Line.Line, declared.script.Script.Script}
+use Rattle.model_line.specs.{declared.line.Line.Line, declared.script.Script.Script}
 use Rattle.margin_search.specs.Answer.{IsMarginAnswer}
 use Rattle.commands.specs.{Answers.Answers, declared.done.Done.Done}
 use Rattle.commands.specs.declared.done.Done.TheVariants as done

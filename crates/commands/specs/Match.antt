@@ -1,6 +1,6 @@
 -- The command `match`: a line for each head of a record file, in file order.
 use Rattle.std.specs.Prelude.{◌≡◌, ℕ, Bool, List}
-use Rattle.line_model.specs.{declared.line.Line.Line, declared.script.Script.Script}
+use Rattle.model_line.specs.{declared.line.Line.Line, declared.script.Script.Script}
 use Rattle.record_match.specs.{Answer.IsMatchAnswer, Waves.SeenValues}
 use Rattle.commands.specs.{Answers.Answers, Answers.status_by, declared.done.Done.Done}
 

@@ -1,5 +1,5 @@
 -- The command `migrate`.
-use Rattle.line_model.specs.declared.line.Line.{Line}
+use Rattle.model_line.specs.declared.line.Line.{Line}
 use Rattle.commands.specs.{Answers.Answers, Answers.prints, Line.IsLineText}
 
 -- with times in microseconds

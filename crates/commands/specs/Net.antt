@@ -1,6 +1,6 @@
 -- The command `net`.
 use Rattle.std.specs.Prelude.{◌≡◌, ℕ, List}
-use Rattle.line_model.specs.declared.line.Line.{Line}
+use Rattle.model_line.specs.declared.line.Line.{Line}
 use Rattle.gate_net.specs.NetOf.{NetOf, IsNetOf}
 use Rattle.net_compile.specs.NetText.{net_text_of}
 use Rattle.commands.specs.Answers.{Answers, prints}

@@ -1,6 +1,6 @@
 -- The parts of a certificate as they are written, one script after another.
 use Rattle.std.specs.Prelude.{List, IfOk, Result}
-use Rattle.line_model.specs.{declared.line.Line.Line, declared.script.Script.Script}
+use Rattle.model_line.specs.{declared.line.Line.Line, declared.script.Script.Script}
 use Rattle.certificate.specs.{Grammar.Claims, Text.part_text, Text.parts_text}
 use Rattle.cert_checker.specs.Counts.{all_verdicts}
 use Rattle.own_certificate.specs.Certified.{AreCertified, IsCertified}

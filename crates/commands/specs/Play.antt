@@ -1,8 +1,8 @@
 -- The command `play`: its text has the header, and then the rows of each timing over each script.
 use Rattle.std.specs.Prelude.{◌≡◌, ◌∷◌, ◌++◌, ◌*◌, ℕ, List, [], codes, length}
 use Rattle.engine.specs.Calls.{AskedPlays}
-use Rattle.line_model.specs.declared.script.Script.{Script}
-use Rattle.line_model.specs.{declared.line.Line.Line, Histories.History, Histories.IsLineHistory}
+use Rattle.model_line.specs.{declared.script.Script.Script, declared.line.Line.Line}
+use Rattle.model_logic.specs.Histories.{History, IsLineHistory}
 use Rattle.simulator.specs.PlayRows.{run_rows}
 use Rattle.timing_box.specs.{Choice.timing_choice, SoFar.NamedValues}
 use Rattle.commands.specs.{Answers.Answers, Answers.prints, Asked.Asks}

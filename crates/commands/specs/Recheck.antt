@@ -1,6 +1,6 @@
 -- The command `recheck`: whether split trees are accepted, with their counts, or their first fault.
 use Rattle.std.specs.Prelude.{◌∷◌, ℕ, List, [], codes, decimal}
-use Rattle.line_model.specs.{declared.line.Line.Line, declared.script.Script.Script}
+use Rattle.model_line.specs.{declared.line.Line.Line, declared.script.Script.Script}
 use Rattle.split_checker.specs.Check.{IsAccepted, IsSplitFault}
 use Rattle.split_checker.specs.declared.fault.SplitFault.{SplitFault}
 use Rattle.split_checker.specs.declared.fault.SplitFault.TheVariants as fault

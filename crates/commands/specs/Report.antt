@@ -1,6 +1,6 @@
 -- The command `report`.
 use Rattle.std.specs.Prelude.{List}
-use Rattle.line_model.specs.{declared.line.Line.Line, declared.script.Script.Script}
+use Rattle.model_line.specs.{declared.line.Line.Line, declared.script.Script.Script}
 use Rattle.timing_report.specs.ReportText.{IsReportText}
 use Rattle.commands.specs.Answers.{Answers, prints}
 

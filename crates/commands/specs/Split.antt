@@ -1,6 +1,6 @@
 -- The command `split`: the parts of the declared box in which each obligation is decided.
 use Rattle.std.specs.Prelude.{◌≡◌, ◌++◌, ℕ, List, map}
-use Rattle.line_model.specs.{declared.line.Line.Line, declared.script.Script.Script}
+use Rattle.model_line.specs.{declared.line.Line.Line, declared.script.Script.Script}
 use Rattle.split_text.specs.{Grammar.SplitResult, Text.part_text, Text.split_text}
 use Rattle.split_checker.specs.Counts.{verdict_of, all_verdicts}
 use Rattle.own_splits.specs.Searched.{AllSearched, AreSearched}

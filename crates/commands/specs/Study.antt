@@ -1,7 +1,7 @@
 -- What most commands are over.
 use Rattle.std.specs.Prelude.{◌≤◌, length}
 use Rattle.std.specs.List.{All}
-use Rattle.line_model.specs.Fits.{Fits}
+use Rattle.model_line.specs.Fits.{Fits}
 use Rattle.gate_net.specs.NetOf.{IsNetOf}
 use Rattle.commands.specs.declared.study.Study.{Study}
 

@@ -1,7 +1,7 @@
 //! The command `certify`: the verdict of each obligation, for every choice of delays.
 ghost use Rattle.std.specs.Prelude.{◌≡◌, OnOk, length, map};
 ghost use Rattle.std.specs.List.{All, list_any};
-ghost use Rattle.line_model.specs.Fits.{Fits};
+ghost use Rattle.model_line.specs.Fits.{Fits};
 ghost use Rattle.gate_net.specs.NetOf.{IsNetOf};
 ghost use Rattle.engine.specs.Calls.{AskedCertify, AskedVerdicts, NoneFell};
 ghost use Rattle.certify_core.specs.Piece.{written_as};
@@ -20,7 +20,7 @@ use crate::study::Study;
 use certify_core::{CERT_END, CERT_HEAD, Verdict, cert_piece};
 use engine::Engine;
 use gate_net::Net;
-use line_model::{Line, Script};
+use model_line::{Line, Script};
 use own_certificate::answers_are_certified;
 use relay_base::Sink;
 use std::alloc::Global;

@@ -13,7 +13,7 @@ use crate::text::text_of;
 use cert_checker::CheckFault;
 use engine::Engine;
 use itoa::Buffer;
-use line_model::Memory;
+use model_line::Memory;
 use std::alloc::Global;
 use wave_runs::tern_word;
 

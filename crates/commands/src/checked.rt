@@ -4,14 +4,15 @@ ghost use Rattle.std.specs.Prelude.{◌≡◌, IfOk};
 ghost use Rattle.std.specs.List.{concat};
 ghost use Rattle.commands.specs.Checked.{accepted_pieces, line_pieces, outside_pieces};
 ghost use Rattle.commands.specs.Checked.{passes_pieces, place as place_of};
-ghost use Rattle.line_model.specs.NamesByNumber.{script_name as name_of_script};
-ghost use Rattle.line_model.specs.NamesByNumber.{terminal_name as name_of_terminal};
+ghost use Rattle.model_names.specs.NamesByNumber.{script_name as name_of_script};
+ghost use Rattle.model_names.specs.NamesByNumber.{terminal_name as name_of_terminal};
 
 use crate::study::Study;
 use crate::text::text_of;
 use cert_checker::Counts;
 use itoa::Buffer;
-use line_model::{Memory, name_of_parameter, name_of_script, name_of_terminal};
+use model_line::Memory;
+use model_names::{name_of_parameter, name_of_script, name_of_terminal};
 use std::alloc::Global;
 
 /// The counts of a text that is accepted.

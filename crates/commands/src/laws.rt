@@ -2,15 +2,15 @@
 
 ghost use Rattle.std.specs.Prelude.{◌≡◌, ◌++◌, ℕ, List};
 ghost use Rattle.std.specs.List.{All};
-ghost use Rattle.line_model.specs.declared.line.Line.{Line};
-ghost use Rattle.line_model.specs.{declared.script.Script.Script, Fits.Fits};
+ghost use Rattle.model_line.specs.{declared.line.Line.Line, declared.script.Script.Script};
+ghost use Rattle.model_line.specs.Fits.{Fits};
 ghost use Rattle.timing_box.specs.{Inside.IsTimingInside, SoFar.NamedValues};
 ghost use Rattle.certificate.specs.{Grammar.Claims, Text.certificate_text, Text.parts_text};
 ghost use Rattle.own_certificate.specs.Certified.{AreCertified, IsCertified};
 ghost use Rattle.commands.specs.{Certify.certify_answer, Play.IsPlayText, declared.done.Done.Done};
 
 use certificate::{CERT_END, CERT_HEAD, a_certificate_is_its_parts};
-use line_model::laws::{each_choice_has_one_history, each_line_has_a_choice_inside};
+use model_logic::laws::{each_choice_has_one_history, each_line_has_a_choice_inside};
 use own_certificate::{each_script_has_one_certificate, what_is_certified_is_accepted};
 use timing_box::timings_inside_are_choices_inside;
 

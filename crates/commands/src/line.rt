@@ -4,7 +4,7 @@ ghost use Rattle.commands.specs.{Answers.Says, Line.line_answer};
 
 use crate::said::Said;
 use line_file::print_line;
-use line_model::{Line, Memory};
+use model_line::{Line, Memory};
 use std::alloc::Global;
 
 /// The line, with every time as an array of two numbers of ticks.

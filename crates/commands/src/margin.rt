@@ -1,13 +1,13 @@
 //! The command `margin`: how far the upper end of a parameter can be raised.
 ghost use Rattle.std.specs.Prelude.{◌≡◌, ◌<◌, IfOk};
-ghost use Rattle.line_model.specs.Parameters.{param_count};
+ghost use Rattle.model_line.specs.Parameters.{param_count};
 ghost use Rattle.commands.specs.{Answers.Says, Margin.margin_answer as answer_of, Study.IsStudy};
 
 use crate::done::Done;
 use crate::said::Said;
 use crate::study::Study;
-use line_model::Memory;
 use margin_search::margin_answer;
+use model_line::Memory;
 use std::alloc::Global;
 
 /// The line of the parameter's margin, and whether there is one.

@@ -7,7 +7,7 @@ ghost use Rattle.commands.specs.{Answers.Says, Match.match_answer as answer_of, 
 use crate::found::Found;
 use crate::said::Said;
 use crate::study::Study;
-use line_model::Memory;
+use model_line::Memory;
 use record_match::{Seen, match_answer};
 use std::alloc::Global;
 

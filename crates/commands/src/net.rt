@@ -3,7 +3,7 @@ ghost use Rattle.std.specs.Prelude.{IfOk};
 ghost use Rattle.commands.specs.{Answers.Says, Net.net_answer};
 
 use crate::said::Said;
-use line_model::{Line, Memory};
+use model_line::{Line, Memory};
 use net_compile::{compile, net_text};
 use std::alloc::Global;
 

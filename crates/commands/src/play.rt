@@ -14,7 +14,7 @@ use crate::put::{WriteStop, put_text};
 use crate::study::Study;
 use engine::Engine;
 use gate_net::Net;
-use line_model::{Line, Script};
+use model_line::{Line, Script};
 use relay_base::Sink;
 use std::alloc::Global;
 use timing_box::NamedTiming;

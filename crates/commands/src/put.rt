@@ -4,7 +4,7 @@ ghost use Rattle.std.specs.List.{concat};
 ghost use Rattle.commands.specs.Sinks.{Puts, Writes, sink_view};
 ghost use Rattle.commands.specs.declared.put.WriteStop.TheVariants as stop;
 
-use line_model::Memory;
+use model_line::Memory;
 use relay_base::{PutFailed, Sink, put_all};
 
 /// Why the writing of a text stopped.

@@ -10,7 +10,7 @@ use crate::said::Said;
 use crate::study::Study;
 use crate::text::text_of;
 use itoa::Buffer;
-use line_model::Memory;
+use model_line::Memory;
 use split_checker::{SplitFault, check_split};
 use std::alloc::Global;
 

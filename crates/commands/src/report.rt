@@ -4,7 +4,7 @@ ghost use Rattle.commands.specs.{Answers.Says, Report.report_answer, Study.IsStu
 
 use crate::said::Said;
 use crate::study::Study;
-use line_model::Memory;
+use model_line::Memory;
 use std::alloc::Global;
 use timing_report::report_text;
 

@@ -1,7 +1,7 @@
 //! The command `bench`: a line and scripts from a number, certified, and the certificate checked.
 ghost use Rattle.std.specs.Prelude.{◌≡◌, ◌≤◌, IfOk, OnOk, length};
 ghost use Rattle.std.specs.List.{All};
-ghost use Rattle.line_model.specs.Fits.{Fits};
+ghost use Rattle.model_line.specs.Fits.{Fits};
 ghost use Rattle.gate_net.specs.NetOf.{IsNetOf};
 ghost use Rattle.cert_checker.specs.declared.fault.CheckFault.{CheckFault};
 ghost use Rattle.engine.specs.Calls.{AskedCertify, AskedVerdicts, NoneFell};
@@ -9,14 +9,13 @@ ghost use Rattle.commands.specs.Answers.{Says};
 ghost use Rattle.commands.specs.Bench.{HasPart, IsOwnText, bench_answer, bench_asks};
 
 use crate::said::Said;
-use bench::{bench_line, bench_scripts};
-use bench_answer::bench_text;
+use bench::{bench_line, bench_scripts, bench_text};
 use cert_checker::CheckFault;
 use certificate::{CERT_END, CERT_HEAD, a_certificate_is_its_parts};
 use certify_core::cert_piece;
 use engine::Engine;
 use gate_net::Net;
-use line_model::{Line, Memory, Script};
+use model_line::{Line, Memory, Script};
 use net_compile::compile;
 use own_certificate::{
     a_certificate_grows_by_parts, answers_are_certified, what_is_certified_is_accepted,

@@ -1,7 +1,7 @@
 //! The command `split`: the parts of the declared box in which each obligation is decided.
 ghost use Rattle.std.specs.Prelude.{◌≡◌, ◌≤◌, IfOk, map};
 ghost use Rattle.std.specs.List.{list_any};
-ghost use Rattle.line_model.specs.{Fits.Fits, Parameters.terminal_count};
+ghost use Rattle.model_line.specs.{Fits.Fits, Parameters.terminal_count};
 ghost use Rattle.gate_net.specs.NetOf.{IsNetOf};
 ghost use Rattle.certify_core.specs.OneEach.{OneEach};
 ghost use Rattle.box_split.specs.Found.{IsFound};
@@ -17,7 +17,7 @@ use crate::said::Said;
 use crate::study::Study;
 use box_split::{Outcome, search};
 use gate_net::Net;
-use line_model::{Line, Memory, Script};
+use model_line::{Line, Memory, Script};
 use own_splits::what_is_searched_grows_by_parts;
 use split_checker::is_yes_tree;
 use split_text::{

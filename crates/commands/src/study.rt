@@ -1,7 +1,7 @@
 //! What most commands are over.
 
 use gate_net::Net;
-use line_model::{Line, Script};
+use model_line::{Line, Script};
 
 /// A line, scripts that fit it, and its net.
 #[derive(Drop)]

@@ -2,7 +2,7 @@
 ghost use Rattle.std.specs.Prelude.{◌≡◌, IfOk, map};
 ghost use Rattle.std.specs.List.{concat};
 
-use line_model::Memory;
+use model_line::Memory;
 use std::alloc::Global;
 
 /// The pieces, one after another.

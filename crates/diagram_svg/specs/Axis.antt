@@ -1,7 +1,7 @@
 -- The time axis: round ticks, each with a line through all rows and two numbers below.
 use Rattle.std.specs.Prelude.{◌++◌, ◌+◌, ◌-◌, ◌%◌, ◌==◌, ◌&&◌, ℕ, List, [], ◌∷◌}
 use Rattle.std.specs.Prelude.{codes, decimal, nat_le, nat_lt, if◌then◌else◌}
-use Rattle.line_model.specs.declared.line.Line.{Line}
+use Rattle.model_line.specs.declared.line.Line.{Line}
 use Rattle.timing_diagram.specs.{declared.window.Window.Window, Traces.each_of}
 use Rattle.drawing.specs.declared.class.Class.TheVariants as class
 use Rattle.drawing.specs.{Seen.SeenFigure}

@@ -1,12 +1,13 @@
 -- The drawing of a diagram: what a reader sees of it.
 use Rattle.std.specs.Prelude.{◌++◌, ◌+◌, ◌-◌, ℕ, Bool, true, false, List, [], ◌∷◌, codes}
 use Rattle.std.specs.Prelude.{if◌then◌else◌}
-use Rattle.line_model.specs.declared.line.{Line.Line, Scheme.Scheme}
-use Rattle.line_model.specs.declared.line.Scheme.TheVariants as scheme
-use Rattle.line_model.specs.declared.script.{Element.Element, Kind.Kind, Script.Script}
-use Rattle.line_model.specs.declared.script.Element.TheVariants.{Z1, Z2, Rv, Uv, Cur}
-use Rattle.line_model.specs.declared.script.Kind.TheVariants.{Internal, External}
-use Rattle.line_model.specs.NamesByNumber.{terminal_name}
+use Rattle.model_line.specs.declared.script.Element.TheVariants.{Z1, Z2, Rv, Uv, Cur}
+use Rattle.model_line.specs.declared.script.Kind.TheVariants.{Internal, External}
+use Rattle.model_line.specs.declared.script.Script.{Script}
+use Rattle.model_line.specs.{declared.line.Line.Line, declared.line.Scheme.Scheme}
+use Rattle.model_line.specs.{declared.script.Element.Element, declared.script.Kind.Kind}
+use Rattle.model_line.specs.declared.line.Scheme.TheVariants as scheme
+use Rattle.model_names.specs.NamesByNumber.{terminal_name}
 use Rattle.timing_diagram.specs.declared.{diagram.Diagram.Diagram, rows.Row.Row, trace.Trace.Trace}
 use Rattle.timing_diagram.specs.declared.trace.Trace.TheVariants.{Seen, Lost, Key, Trip}
 use Rattle.drawing.specs.declared.class.Class.TheVariants as class

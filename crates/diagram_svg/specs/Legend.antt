@@ -1,7 +1,7 @@
 -- The legend: what the bars are, and which ticks are shown.
 use Rattle.std.specs.Prelude.{◌++◌, ◌-◌, ◌==◌, ◌&&◌, ℕ, Bool, true, false, List, [], ◌∷◌, codes}
 use Rattle.std.specs.Prelude.{decimal, nat_le, if◌then◌else◌}
-use Rattle.line_model.specs.declared.line.Line.{Line}
+use Rattle.model_line.specs.declared.line.Line.{Line}
 use Rattle.timing_diagram.specs.{declared.diagram.Diagram.Diagram, declared.window.Window.Window}
 use Rattle.drawing.specs.declared.class.Class.{Class}
 use Rattle.drawing.specs.declared.class.Class.TheVariants as class

@@ -1,7 +1,7 @@
 -- The ticks that are marked by lines.
 use Rattle.std.specs.Prelude.{◌++◌, ◌-◌, ℕ, Bool, false, List, [], ◌∷◌, codes, nat_le, nat_lt}
 use Rattle.std.specs.Prelude.{if◌then◌else◌, Option, Some, None, option_map}
-use Rattle.line_model.specs.declared.line.Line.{Line}
+use Rattle.model_line.specs.declared.line.Line.{Line}
 use Rattle.timing_diagram.specs.declared.diagram.Diagram.{Diagram}
 use Rattle.drawing.specs.declared.class.Class.TheVariants as class
 use Rattle.drawing.specs.{Seen.SeenFigure}

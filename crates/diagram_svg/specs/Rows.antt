@@ -2,9 +2,9 @@
 use Rattle.std.specs.Prelude.{◌++◌, ◌-◌, ℕ, Bool, true, false, not, List, [], ◌∷◌, codes}
 use Rattle.std.specs.Prelude.{decimal, if◌then◌else◌}
 use Rattle.std.specs.List.{flat_map, list_any}
-use Rattle.line_model.specs.declared.line.Line.{Line}
-use Rattle.line_model.specs.{Channels.from_of, Channels.to_of, NamesByNumber.terminal_name}
-use Rattle.line_model.specs.NamesByNumber.{element_text}
+use Rattle.model_line.specs.Channels.{from_of, to_of}
+use Rattle.model_line.specs.declared.line.Line.{Line}
+use Rattle.model_names.specs.NamesByNumber.{terminal_name, element_text}
 use Rattle.tick_signal.specs.declared.tern.Tern.{Tern}
 use Rattle.tick_signal.specs.declared.tern.Tern.TheVariants as tern
 use Rattle.timing_diagram.specs.declared.{rows.Row.Row, stretch.Stretch.Stretch, trace.Trace.Trace}

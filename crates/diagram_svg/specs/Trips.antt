@@ -1,7 +1,7 @@
 -- What is drawn of a trip: its first ticks and its rule at the right of its bars, its margin below.
 use Rattle.std.specs.Prelude.{◌++◌, ◌-◌, ℕ, Bool, true, false, List, [], ◌∷◌, min, max, Option}
 use Rattle.std.specs.Prelude.{Some, None, slice_get}
-use Rattle.line_model.specs.declared.line.Line.{Line}
+use Rattle.model_line.specs.declared.line.Line.{Line}
 use Rattle.interval_wave.specs.{declared.rule.Rule.Rule, Rules.rule_named}
 use Rattle.interval_wave.specs.declared.rule.Rule.TheVariants as rule
 use Rattle.timing_diagram.specs.{declared.diagram.Diagram.Diagram, declared.times.TripTimes.TripTimes}

@@ -10,7 +10,7 @@ ghost use Rattle.timing_diagram.specs.Traces.{each_of};
 use crate::scale::{LEFT, RIGHT, label_step, x_of};
 use crate::words::Words;
 use drawing::{Class, Figure, put_line, put_text};
-use line_model::{Line, Memory};
+use model_line::{Line, Memory};
 use std::alloc::Global;
 use timing_diagram::Window;
 

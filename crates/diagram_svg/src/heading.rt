@@ -6,7 +6,7 @@ ghost use Rattle.diagram_svg.specs.Words.{said};
 
 use crate::subject::Subject;
 use crate::words::Words;
-use line_model::{Kind, Line, Memory, Scheme, Script};
+use model_line::{Kind, Line, Memory, Scheme, Script};
 use std::alloc::Global;
 
 /// `POTT, internal fault F1: every choice of delays`.

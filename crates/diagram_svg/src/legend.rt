@@ -9,7 +9,7 @@ ghost use Rattle.drawing.specs.Seen.{figures_seen};
 use crate::trip::has_no_rules;
 use crate::words::Words;
 use drawing::{Class, Figure, put_rectangle, put_text};
-use line_model::{Line, Memory};
+use model_line::{Line, Memory};
 use std::alloc::Global;
 use timing_diagram::{Diagram, Window};
 

@@ -6,12 +6,14 @@ ghost use Rattle.diagram_svg.specs.Rows.{is_drawn, is_ever_shown, is_shown, is_o
 ghost use Rattle.diagram_svg.specs.Rows.{others_said, terminal_of, value_word, stretch_said, stretches_said};
 ghost use Rattle.diagram_svg.specs.Rows.{row_title, bar_if_any, bars, row_figures, row_shape};
 ghost use Rattle.drawing.specs.Seen.{figures_seen, shape_seen};
-ghost use Rattle.line_model.specs.{Channels.from_of, NamesByNumber.terminal_name};
+ghost use Rattle.model_line.specs.Channels.{from_of};
+ghost use Rattle.model_names.specs.NamesByNumber.{terminal_name};
 
 use crate::scale::{LEFT, RIGHT, x_of};
 use crate::words::Words;
 use drawing::{Class, Figure, Shape, put_line, put_rectangle, put_text};
-use line_model::{Line, Memory, element_word, name_of_terminal};
+use model_line::{Line, Memory};
+use model_names::{element_word, name_of_terminal};
 use std::alloc::Global;
 use tick_signal::Tern;
 use timing_diagram::{Row, Stretch, Trace, Window};

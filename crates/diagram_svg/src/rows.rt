@@ -10,7 +10,8 @@ use crate::row::{drawn_row, is_drawn};
 use crate::trip::put_trip;
 use crate::words::Words;
 use drawing::{Class, Figure, Shape, put_text};
-use line_model::{Element, Line, Memory, name_of_terminal};
+use model_line::{Element, Line, Memory};
+use model_names::name_of_terminal;
 use std::alloc::Global;
 use timing_diagram::{Diagram, Row, Trace};
 

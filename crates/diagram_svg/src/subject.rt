@@ -1,6 +1,6 @@
 //! What a diagram is of.
 
-use line_model::Name;
+use model_line::Name;
 
 /// What a diagram is of: a play of one timing, or every choice of delays.
 #[derive(Clone, Copy)]

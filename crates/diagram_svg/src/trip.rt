@@ -12,7 +12,7 @@ use crate::scale::{RIGHT, x_of};
 use crate::words::Words;
 use drawing::{Class, Figure, put_line, put_text};
 use interval_wave::Rule;
-use line_model::{Line, Memory};
+use model_line::{Line, Memory};
 use std::alloc::Global;
 use timing_diagram::{Diagram, TripTimes, Window};
 use timing_report::rule_word;

@@ -14,7 +14,7 @@ use crate::mark::put_marks;
 use crate::rows::{TOP, bottom_of, put_rows};
 use crate::subject::Subject;
 use drawing::{Class, Drawing, Shape, put_rectangle, put_text};
-use line_model::{Line, Memory, Script};
+use model_line::{Line, Memory, Script};
 use std::alloc::Global;
 use timing_diagram::Diagram;
 

@@ -4,7 +4,7 @@ ghost use Rattle.std.specs.Prelude.{◌≡◌, ◌++◌, [], decimal, IfOk};
 ghost use Rattle.diagram_svg.specs.Words.{said, milliseconds_said, places_said, ticks_said};
 
 use itoa::Buffer;
-use line_model::Memory;
+use model_line::Memory;
 use std::alloc::Global;
 
 /// The bytes of a label so far.

@@ -1,6 +1,6 @@
 -- How often an engine was asked.
 use Rattle.std.specs.Prelude.{ℕ, ◌≤◌}
-use Rattle.line_model.specs.declared.line.Line.{Line}
+use Rattle.model_line.specs.declared.line.Line.{Line}
 use Rattle.line_file.specs.Lines.{LineValues, line_values}
 use Rattle.relay_base.specs.Counts.{Grew, Rose}
 

@@ -2,7 +2,8 @@
 
 ghost use Rattle.std.specs.Prelude.{◌≡◌, ◌≤◌, IfOk, MatchResult, length};
 ghost use Rattle.std.specs.List.{All};
-ghost use Rattle.line_model.specs.{Fits.Fits, Histories.History, Histories.IsLineHistory};
+ghost use Rattle.model_line.specs.Fits.{Fits};
+ghost use Rattle.model_logic.specs.Histories.{History, IsLineHistory};
 ghost use Rattle.gate_net.specs.NetOf.{IsNetOf};
 ghost use Rattle.simulator.specs.PlayRows.{run_rows};
 ghost use Rattle.timing_box.specs.{Choice.timing_choice, Inside.IsTimingInside};
@@ -13,7 +14,7 @@ ghost use Rattle.engine.specs.Certified.{IsCertified};
 use cert_checker::{CheckFault, Counts};
 use certify_core::ScriptVerdict;
 use gate_net::Net;
-use line_model::{Line, Memory, Script};
+use model_line::{Line, Memory, Script};
 use std::alloc::Global;
 use timing_box::NamedTiming;
 

@@ -2,7 +2,8 @@
 
 ghost use Rattle.std.specs.Prelude.{◌≡◌, ◌≤◌, IfOk, MatchResult, length};
 ghost use Rattle.std.specs.List.{All};
-ghost use Rattle.line_model.specs.{Fits.Fits, Histories.History, Histories.IsLineHistory};
+ghost use Rattle.model_line.specs.Fits.{Fits};
+ghost use Rattle.model_logic.specs.Histories.{History, IsLineHistory};
 ghost use Rattle.gate_net.specs.NetOf.{IsNetOf};
 ghost use Rattle.simulator.specs.PlayRows.{run_rows};
 ghost use Rattle.timing_box.specs.{Choice.timing_choice, Inside.IsTimingInside};
@@ -15,7 +16,7 @@ use crate::engine::Engine;
 use cert_checker::{CheckFault, Counts, check};
 use certify_core::{ScriptVerdict, certify};
 use gate_net::Net;
-use line_model::{Line, Memory, Script};
+use model_line::{Line, Memory, Script};
 use simulator::play_rows;
 use std::alloc::Global;
 use std::marker::Model;

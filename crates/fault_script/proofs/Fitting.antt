@@ -8,13 +8,12 @@ use Rattle.std.specs.List.{list_all}
 use Rattle.std.proofs.lemmas.Map.Entries.{option_filter}
 use Rattle.std.specs.Str.{bytes_eq}
 use Rattle.relay_base.specs.Number.{number_of}
-use Rattle.line_model.specs.declared.line.Line.{Line}
-use Rattle.line_model.specs.declared.script.Kind.TheVariants.{Internal, External}
-use Rattle.line_model.specs.declared.script.SeenSpan.{SeenSpan}
-use Rattle.line_model.specs.{declared.script.Kind.Kind, declared.script.What.What}
-use Rattle.line_model.specs.declared.script.What.TheVariants as what
-use Rattle.line_model.specs.Fits.{exists_in, span_fits, deadline_fits}
-use Rattle.line_model.specs.NumbersByName.{terminal_named, channel_named, has_name}
+use Rattle.model_line.specs.declared.script.Kind.TheVariants.{Internal, External}
+use Rattle.model_line.specs.Fits.{exists_in, span_fits, deadline_fits}
+use Rattle.model_line.specs.{declared.line.Line.Line, declared.script.SeenSpan.SeenSpan}
+use Rattle.model_line.specs.{declared.script.Kind.Kind, declared.script.What.What}
+use Rattle.model_line.specs.declared.script.What.TheVariants as what
+use Rattle.model_names.specs.NumbersByName.{terminal_named, channel_named, has_name}
 use Rattle.fault_script.specs.declared.item.Item.{Item}
 use Rattle.fault_script.specs.declared.item.Item.TheVariants.{Head, Seen, Lost}
 use Rattle.fault_script.specs.Checks.{deadline_of, span_between, what_at}

@@ -10,13 +10,13 @@ use Rattle.std.proofs.lemmas.Slice.Eq.{bytes_eq-Decides}
 use Rattle.std.specs.Prelude.{nat_le, slice_get}
 use Rattle.std.specs.List.{list_all, position_from}
 use Rattle.std.specs.Str.{bytes_eq}
-use Rattle.line_model.specs.FirstPositions.{position_from-first, none_before, list_any-take_none}
-use Rattle.line_model.specs.PlainNames.{is_plain_byte, is_plain_name}
-use Rattle.line_model.specs.Terminals.{are_plain_names, NamesDiffer}
-use Rattle.line_model.specs.Channels.{AreChannels, is_pair, from_of, to_of}
-use Rattle.line_model.specs.ParamNames.{name_at, pair_name, channel_name}
-use Rattle.line_model.specs.NumbersByName.{has_name}
-use Rattle.line_model.specs.{declared.line.Terminal.Terminal, declared.line.Channel.Channel}
+use Rattle.model_line.specs.FirstPositions.{position_from-first, none_before, list_any-take_none}
+use Rattle.model_line.specs.PlainNames.{is_plain_byte, is_plain_name}
+use Rattle.model_line.specs.Terminals.{are_plain_names, NamesDiffer}
+use Rattle.model_line.specs.Channels.{AreChannels, is_pair, from_of, to_of}
+use Rattle.model_line.specs.ParamNames.{name_at, pair_name, channel_name}
+use Rattle.model_line.specs.{declared.line.Terminal.Terminal, declared.line.Channel.Channel}
+use Rattle.model_names.specs.NumbersByName.{has_name}
 
 -- names that differ do so byte by byte
 pub bytes_differ : (a b : List ℕ) → a ≢ b → bytes_eq a b ≡ false

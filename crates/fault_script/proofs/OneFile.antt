@@ -1,6 +1,6 @@
 -- The scripts that a file says are of one file.
 use Rattle.std.proofs.Common.{◌≡◌, ℕ, ◌+◌, ◌≤◌, ◌<◌, Bool, List, [], ◌∷◌, Ok, subst, arith}
-use Rattle.line_model.specs.declared.line.Line.{Line}
+use Rattle.model_line.specs.declared.line.Line.{Line}
 use Rattle.csv_records.specs.{Fields.are_fields, Records.records_of, RecordFile.after_header}
 use Rattle.csv_records.specs.CheckLaws.{choice_passed, passed, same_ok}
 use Rattle.csv_records.specs.{RecordFile.after_records, RecordFile.said_in}

@@ -15,17 +15,16 @@ use Rattle.std.proofs.lemmas.List.Elements.{All-nil, All-cons, All-head, All-tai
 use Rattle.std.proofs.lemmas.List.Elements.{All-from_get_or}
 use Rattle.std.proofs.lemmas.List.Concat.{flat_map-cons}
 use Rattle.relay_base.specs.Number.{number_of}
-use Rattle.line_model.specs.declared.script.Element.{Element}
-use Rattle.line_model.specs.declared.script.Element.TheVariants.{Z1, Z2, Rv, Uv, Cur}
-use Rattle.line_model.specs.declared.script.Kind.TheVariants.{Internal, External}
-use Rattle.line_model.specs.declared.script.What.{What}
-use Rattle.line_model.specs.{declared.line.Line.Line, declared.line.Terminal.Terminal}
-use Rattle.line_model.specs.{declared.line.Channel.Channel, declared.script.Kind.Kind}
-use Rattle.line_model.specs.declared.script.What.TheVariants as what
-use Rattle.line_model.specs.Fits.{Fits, exists_in, span_fits, deadline_fits}
-use Rattle.line_model.specs.declared.script.SeenSpan.{SeenSpan}
-use Rattle.line_model.specs.{PlainNames.is_plain_name, ParamNames.channel_name}
-use Rattle.line_model.specs.{declared.script.Script.Script, NamesByNumber.element_text}
+use Rattle.model_line.specs.declared.script.Element.TheVariants.{Z1, Z2, Rv, Uv, Cur}
+use Rattle.model_line.specs.declared.script.Kind.TheVariants.{Internal, External}
+use Rattle.model_line.specs.Fits.{Fits, exists_in, span_fits, deadline_fits}
+use Rattle.model_line.specs.{declared.script.Element.Element, declared.script.What.What}
+use Rattle.model_line.specs.{declared.line.Line.Line, declared.line.Terminal.Terminal}
+use Rattle.model_line.specs.{declared.line.Channel.Channel, declared.script.Kind.Kind}
+use Rattle.model_line.specs.{declared.script.SeenSpan.SeenSpan, PlainNames.is_plain_name}
+use Rattle.model_line.specs.{ParamNames.channel_name, declared.script.Script.Script}
+use Rattle.model_line.specs.declared.script.What.TheVariants as what
+use Rattle.model_names.specs.{NamesByNumber.element_text, NumbersByName.channel_named}
 use Rattle.fault_script.specs.declared.item.Item.TheVariants.{Head, Seen, Lost}
 use Rattle.csv_records.specs.SoFar.{SoFar, all_of, nothing}
 use Rattle.fault_script.specs.Values.{ScriptValues, AreOfOneFile, values_of, with_head}
@@ -36,7 +35,6 @@ use Rattle.fault_script.specs.Printed.{row_record, script_records, file_records}
 use Rattle.fault_script.specs.{Checks.item_of, Checks.is_head, Checks.is_taken, Checks.what_at}
 use Rattle.fault_script.specs.{Checks.deadline_of, declared.item.Item.Item, Row.Row}
 use Rattle.fault_script.specs.SoFar.{ValuesFit}
-use Rattle.line_model.specs.NumbersByName.{channel_named}
 use Rattle.std.proofs.lemmas.Map.Entries.{option_filter}
 use Rattle.csv_records.specs.{Gives.◌>>=◌, RecordFile.after_header, RecordFile.after_records}
 use Rattle.relay_base.specs.DecimalLaws.{number_of-decimal}

@@ -5,9 +5,9 @@ use Rattle.std.proofs.lemmas.Bool.{and_parts}
 use Rattle.std.proofs.lemmas.Map.Entries.{option_filter}
 use Rattle.std.specs.Prelude.{nat_lt, not}
 use Rattle.std.specs.Str.{bytes_eq}
-use Rattle.line_model.specs.PlainNames.{is_plain_name}
-use Rattle.line_model.specs.{declared.line.Line.Line, declared.script.Kind.Kind}
-use Rattle.line_model.specs.{declared.script.What.What, declared.script.SeenSpan.SeenSpan}
+use Rattle.model_line.specs.{PlainNames.is_plain_name, declared.line.Line.Line}
+use Rattle.model_line.specs.{declared.script.Kind.Kind, declared.script.What.What}
+use Rattle.model_line.specs.declared.script.SeenSpan.{SeenSpan}
 use Rattle.relay_base.specs.Number.{number_of}
 use Rattle.fault_script.specs.declared.fault.ScriptFault.{ScriptFault}
 use Rattle.fault_script.specs.declared.fault.ScriptFault.TheVariants as fault

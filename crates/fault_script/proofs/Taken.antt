@@ -4,7 +4,7 @@ use Rattle.std.proofs.lemmas.List.Folds.{list_any-append}
 use Rattle.std.specs.Prelude.{option_map}
 use Rattle.std.specs.List.{list_any}
 use Rattle.std.specs.Str.{bytes_eq}
-use Rattle.line_model.specs.declared.script.Script.{Script}
+use Rattle.model_line.specs.declared.script.Script.{Script}
 use Rattle.csv_records.specs.declared.reading.Reading.{Reading}
 use Rattle.csv_records.specs.SoFar.{one_or_none, so_far_of}
 use Rattle.fault_script.specs.Values.{ScriptValues, values_of}

@@ -4,13 +4,13 @@ use Rattle.std.specs.Prelude.{codes, Option, None, Some, option_map, ifâ—Œthenâ—
 use Rattle.std.specs.List.{list_any}
 use Rattle.std.specs.Str.{bytes_eq}
 use Rattle.std.proofs.lemmas.Map.Entries.{option_filter}
-use Rattle.line_model.specs.declared.script.Element.TheVariants.{Z1, Z2, Rv, Uv, Cur}
-use Rattle.line_model.specs.declared.script.Kind.{Kind}
-use Rattle.line_model.specs.declared.script.Kind.TheVariants.{Internal, External}
-use Rattle.line_model.specs.{declared.line.Line.Line, declared.script.What.What}
-use Rattle.line_model.specs.declared.script.What.TheVariants as what
-use Rattle.line_model.specs.{declared.script.SeenSpan.SeenSpan, PlainNames.is_plain_name}
-use Rattle.line_model.specs.NumbersByName.{terminal_named, channel_named}
+use Rattle.model_line.specs.declared.script.Element.TheVariants.{Z1, Z2, Rv, Uv, Cur}
+use Rattle.model_line.specs.declared.script.Kind.TheVariants.{Internal, External}
+use Rattle.model_line.specs.PlainNames.{is_plain_name}
+use Rattle.model_line.specs.{declared.script.Kind.Kind, declared.line.Line.Line}
+use Rattle.model_line.specs.{declared.script.What.What, declared.script.SeenSpan.SeenSpan}
+use Rattle.model_line.specs.declared.script.What.TheVariants as what
+use Rattle.model_names.specs.NumbersByName.{terminal_named, channel_named}
 use Rattle.csv_records.specs.{Fields.is_empty, SoFar.SoFar, SoFar.all_of}
 use Rattle.relay_base.specs.Number.{number_of}
 use Rattle.fault_script.specs.declared.item.Item.{Item}

@@ -3,12 +3,12 @@ use Rattle.std.specs.Prelude.{[], ℕ, List, ◌∷◌, map, codes, slice_get}
 use Rattle.std.specs.List.{flat_map}
 use Rattle.std.specs.Fmt.{decimal}
 use Rattle.csv.specs.Writing.{row_text, default_writer}
-use Rattle.line_model.specs.declared.script.Kind.TheVariants.{Internal, External}
-use Rattle.line_model.specs.declared.line.Line.{Line}
-use Rattle.line_model.specs.{declared.script.Kind.Kind, declared.script.What.What}
-use Rattle.line_model.specs.declared.script.What.TheVariants as what
-use Rattle.line_model.specs.ParamNames.{name_at, channel_name}
-use Rattle.line_model.specs.{declared.script.SeenSpan.SeenSpan, NamesByNumber.element_text}
+use Rattle.model_line.specs.declared.script.Kind.TheVariants.{Internal, External}
+use Rattle.model_line.specs.ParamNames.{name_at, channel_name}
+use Rattle.model_line.specs.{declared.line.Line.Line, declared.script.Kind.Kind}
+use Rattle.model_line.specs.{declared.script.What.What, declared.script.SeenSpan.SeenSpan}
+use Rattle.model_line.specs.declared.script.What.TheVariants as what
+use Rattle.model_names.specs.NamesByNumber.{element_text}
 use Rattle.fault_script.specs.{Row.header_record, Values.ScriptValues}
 
 abbrev pub kind_text : Kind → List ℕ

@@ -2,7 +2,7 @@
 use Rattle.std.specs.Prelude.{ℕ, List, Result, Ok, length, nat_lt}
 use Rattle.std.specs.{Option.ok_or, Str.bytes_eq}
 use Rattle.std.proofs.lemmas.Map.Entries.{option_filter}
-use Rattle.line_model.specs.{declared.line.Line.Line, declared.script.Kind.Kind}
+use Rattle.model_line.specs.{declared.line.Line.Line, declared.script.Kind.Kind}
 use Rattle.csv_records.specs.Gives.{◌>>=◌, passes_or}
 use Rattle.csv_records.specs.{Fields.is_empty, SoFar.SoFar, SoFar.all_of, SoFar.nothing}
 use Rattle.csv_records.specs.{RecordFile.RecordFile, RecordFile.said_in, Records.records_of}

@@ -1,8 +1,8 @@
 -- What the scripts so far keep, before each record.
 use Rattle.std.specs.Prelude.{◌≡◌, ◌≢◌, ◌≤◌, ◌<◌, ◌+◌, ℕ, List, [], length, map, get_or, IsTrue}
 use Rattle.std.specs.List.{All, list_all, sum_by}
-use Rattle.line_model.specs.declared.line.Line.{Line}
-use Rattle.line_model.specs.{Fits.span_fits, Fits.deadline_fits, PlainNames.is_plain_name}
+use Rattle.model_line.specs.Fits.{span_fits, deadline_fits}
+use Rattle.model_line.specs.{declared.line.Line.Line, PlainNames.is_plain_name}
 use Rattle.csv_records.specs.SoFar.{SoFar, all_of}
 use Rattle.fault_script.specs.Values.{ScriptValues}
 

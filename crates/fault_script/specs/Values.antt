@@ -1,7 +1,7 @@
 -- What a script holds, and what the records of a file have said so far.
 use Rattle.std.specs.Prelude.{◌≢◌, ◌≤◌, ◌<◌, ◌++◌, ℕ, List, [], ◌∷◌, Some, map, length, get_or}
-use Rattle.line_model.specs.declared.script.Script.{Script}
-use Rattle.line_model.specs.{declared.script.Kind.Kind, declared.script.SeenSpan.SeenSpan}
+use Rattle.model_line.specs.{declared.script.Script.Script, declared.script.Kind.Kind}
+use Rattle.model_line.specs.declared.script.SeenSpan.{SeenSpan}
 use Rattle.csv_records.specs.SoFar.{SoFar, opened}
 
 -- a script, field by field

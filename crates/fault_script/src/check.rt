@@ -13,9 +13,8 @@ ghost use Rattle.fault_script.specs.Checks.{span_between};
 use crate::fields::Fields;
 use crate::item::{Item, item_named, opens};
 use csv_records::{Reading, is, is_nothing};
-use line_model::{
-    Kind, Line, Place, Script, SeenSpan, What, channel_of_name, is_plain, terminal_of_name,
-};
+use model_line::{Kind, Line, Place, Script, SeenSpan, What, is_plain};
+use model_names::{channel_of_name, terminal_of_name};
 use relay_base::number;
 
 /// Whether the record's name is plain and, in a head, that of no head before it.

@@ -4,7 +4,7 @@ ghost use Rattle.std.specs.Prelude.{◌≡◌};
 ghost use Rattle.fault_script.specs.Checks.{item_of, is_head};
 
 use csv_records::is;
-use line_model::{Element, Kind};
+use model_line::{Element, Kind};
 
 /// A head with its kind, an element that is seen, or a channel that is lost.
 #[derive(Clone, Copy, PartialEq, Eq)]

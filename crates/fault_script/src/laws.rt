@@ -1,7 +1,7 @@
 //! The law of what a file of scripts says.
 
 ghost use Rattle.std.specs.Prelude.{◌≡◌, ℕ, List, Ok};
-ghost use Rattle.line_model.specs.declared.line.Line.{Line};
+ghost use Rattle.model_line.specs.declared.line.Line.{Line};
 ghost use Rattle.fault_script.specs.{Scripts.scripts_of, Values.AreOfOneFile, Values.ScriptValues};
 
 /// The scripts that a file says are as many as one may hold, no two of one name.

@@ -4,14 +4,15 @@ ghost use Rattle.std.specs.Prelude.{[], ◌≡◌, ◌∷◌, ◌++◌, IfOk, On
 ghost use Rattle.std.specs.List.{All};
 ghost use Rattle.std.specs.Fmt.{decimal};
 ghost use Rattle.csv.specs.Writing.{row_text, default_writer};
-ghost use Rattle.line_model.specs.Fits.{Fits, exists_in};
+ghost use Rattle.model_line.specs.Fits.{Fits, exists_in};
 ghost use Rattle.fault_script.specs.Values.{values_of, AreOfOneFile};
 ghost use Rattle.fault_script.specs.Printed.{head_record, row_record, script_records, file_records};
 ghost use Rattle.fault_script.specs.Printed.{records_text};
 ghost use Rattle.fault_script.specs.Scripts.{scripts_in};
 
 use itoa::Buffer;
-use line_model::{Kind, Line, Memory, Script, SeenSpan, What, channel_name, element_word};
+use model_line::{Kind, Line, Memory, Script, SeenSpan, What, channel_name};
+use model_names::element_word;
 use std::alloc::Global;
 
 /// The file of these scripts: the header and each script's records.

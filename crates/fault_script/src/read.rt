@@ -2,7 +2,7 @@
 
 ghost use Rattle.std.specs.Prelude.{◌≡◌, IfOk, IsTrue, map};
 ghost use Rattle.std.specs.List.{All};
-ghost use Rattle.line_model.specs.{Fits.Fits, PlainNames.is_plain_name};
+ghost use Rattle.model_line.specs.{Fits.Fits, PlainNames.is_plain_name};
 ghost use Rattle.csv_records.specs.SoFar.{SoFar, all_of, so_far_of};
 ghost use Rattle.fault_script.specs.Values.{ScriptValues, values_of, AreOfOneFile};
 ghost use Rattle.fault_script.specs.Scripts.{scripts_of, script_file, after_record, after_head};
@@ -15,7 +15,7 @@ use crate::fields::{Fields, fields_in};
 use crate::item::{Item, item_named};
 use csv::ByteRecord;
 use csv_records::{Reading, RecordReader, has_five, is, is_nothing, read_file};
-use line_model::{Kind, Line, Name, Script};
+use model_line::{Kind, Line, Name, Script};
 use std::alloc::Global;
 
 /// Reads the scripts of a line.

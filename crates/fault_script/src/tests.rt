@@ -1,7 +1,7 @@
 //! Scripts files: what they say, how they are printed, and what is refused.
 
 use super::*;
-use line_model::{Element, Kind, Line, Place, Script, SeenSpan, What};
+use model_line::{Element, Kind, Line, Place, Script, SeenSpan, What};
 use sample_lines::{ONE_TO_FIVE, two_terminals};
 use std::alloc::Global;
 use std::test::Fail;

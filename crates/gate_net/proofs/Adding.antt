@@ -5,7 +5,7 @@ use Rattle.std.proofs.Common.{inr, ⊎_elim, length-append}
 use Rattle.std.proofs.Math.Seq.{take-append_seam, take-length}
 use Rattle.std.specs.Prelude.{slice_get}
 use Rattle.std.specs.List.{list_any}
-use Rattle.line_model.specs.declared.line.Line.{Line}
+use Rattle.model_line.specs.declared.line.Line.{Line}
 use Rattle.gate_net.specs.{declared.gate.Gate.Gate, Laws.HasArguments, Laws.AreGates, Growing.Grows}
 use Rattle.gate_net.specs.{Growing.Adds, Named.GateNames, Named.KeepsNames}
 use Rattle.gate_net.proofs.Standing.{grows_from}

@@ -4,7 +4,8 @@ use Rattle.std.proofs.Common.{arith, ⊎_elim}
 use Rattle.std.proofs.lemmas.Option.{slice_get_within}
 use Rattle.std.proofs.lemmas.Bool.{cases_lt}
 use Rattle.std.specs.Prelude.{slice_get}
-use Rattle.line_model.specs.{declared.line.Line.Line, Tree.Tree, Names.Names}
+use Rattle.model_line.specs.declared.line.Line.{Line}
+use Rattle.model_logic.specs.{Tree.Tree, Names.Names}
 use Rattle.gate_net.specs.declared.gate.Gate.TheVariants.{Const, Seen, Loss, Raw, Not, And, Or}
 use Rattle.gate_net.specs.declared.gate.Gate.TheVariants.{Timer, Seal}
 use Rattle.gate_net.specs.Formulas.{tree_at, tree_with, formulas_after, formula_of}

@@ -1,9 +1,10 @@
 -- A net of a line is a net of each line that agrees with it in all but the intervals.
 use Rattle.std.proofs.Common.{◌≡◌, ◌<◌, ℕ, sym, ◌∙◌, subst}
-use Rattle.line_model.specs.{declared.line.Line.Line, declared.formula.Time.Time}
-use Rattle.line_model.specs.declared.formula.Time.TheVariants as time
-use Rattle.line_model.specs.IntervalLaws.{CountsRestOnNoInterval, TreesRestOnNoInterval}
-use Rattle.line_model.specs.{Names.HasTime, SetBounds.SameButParams}
+use Rattle.model_line.specs.{declared.line.Line.Line, Laws.CountsRestOnNoInterval}
+use Rattle.model_line.specs.SetBounds.{SameButParams}
+use Rattle.model_logic.specs.{declared.time.Time.Time, IntervalLaws.TreesRestOnNoInterval}
+use Rattle.model_logic.specs.Names.{HasTime}
+use Rattle.model_logic.specs.declared.time.Time.TheVariants as time
 use Rattle.gate_net.specs.declared.gate.Gate.TheVariants.{Const, Seen, Loss, Raw, Not, And, Or}
 use Rattle.gate_net.specs.declared.gate.Gate.TheVariants.{Timer, Seal}
 use Rattle.gate_net.specs.{declared.gate.Gate.Gate, Named.GateNames, NetOf.NetOf, NetOf.IsNetOf}

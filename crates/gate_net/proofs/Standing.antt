@@ -5,8 +5,8 @@ use Rattle.std.proofs.lemmas.List.{take-append-drop, get_or_append_left}
 use Rattle.std.proofs.lemmas.Option.{slice_get_within}
 use Rattle.std.proofs.Math.Seq.{get_or-append_seam}
 use Rattle.std.specs.Prelude.{slice_get}
-use Rattle.line_model.specs.Tree.{Tree}
-use Rattle.line_model.specs.Tree as tree
+use Rattle.model_logic.specs.Tree.{Tree}
+use Rattle.model_logic.specs.Tree as tree
 use Rattle.gate_net.specs.declared.gate.Gate.TheVariants.{Const, Seen, Loss, Raw, Not, And, Or}
 use Rattle.gate_net.specs.declared.gate.Gate.TheVariants.{Timer, Seal}
 use Rattle.gate_net.specs.Laws.{HasArguments, AreGates}

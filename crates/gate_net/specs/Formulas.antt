@@ -1,7 +1,7 @@
 -- The trees that gates stand for.
 use Rattle.std.specs.Prelude.{◌≡◌, ◌<◌, ◌++◌, ℕ, false, List, [], ◌∷◌, length, get_or}
-use Rattle.line_model.specs.Tree.{Tree}
-use Rattle.line_model.specs.Tree as tree
+use Rattle.model_logic.specs.Tree.{Tree}
+use Rattle.model_logic.specs.Tree as tree
 use Rattle.gate_net.specs.declared.gate.Gate.{Gate}
 use Rattle.gate_net.specs.declared.gate.Gate.TheVariants.{Const, Seen, Loss, Raw, Not, And, Or}
 use Rattle.gate_net.specs.declared.gate.Gate.TheVariants.{Timer, Seal}

@@ -1,7 +1,7 @@
 -- How a list of gates grows.
 use Rattle.std.specs.Prelude.{◌≡◌, ◌≢◌, ◌<◌, ◌≤◌, ◌+◌, ◌++◌, ℕ, List, [], ◌∷◌, Some, length}
 use Rattle.std.specs.Prelude.{slice_get, Result, IfOk, OnErr}
-use Rattle.line_model.specs.declared.line.Line.{Line}
+use Rattle.model_line.specs.declared.line.Line.{Line}
 use Rattle.gate_net.specs.{declared.gate.Gate.Gate, declared.gate.GateId.GateId}
 use Rattle.gate_net.specs.Formulas.{formula_of, kind_over, Stands}
 use Rattle.gate_net.specs.Named.{GateNames, KeepsNames}

@@ -1,7 +1,8 @@
 -- What gates name of a line.
 use Rattle.std.specs.Prelude.{◌≡◌, ◌<◌, ◌≤◌, ℕ, List, Some, slice_get}
-use Rattle.line_model.specs.declared.line.Line.{Line}
-use Rattle.line_model.specs.{Parameters.terminal_count, Parameters.channel_count, Names.HasTime}
+use Rattle.model_line.specs.Parameters.{terminal_count, channel_count}
+use Rattle.model_line.specs.declared.line.Line.{Line}
+use Rattle.model_logic.specs.Names.{HasTime}
 use Rattle.gate_net.specs.declared.gate.Gate.{Gate}
 use Rattle.gate_net.specs.declared.gate.Gate.TheVariants.{Const, Seen, Loss, Raw, Not, And, Or}
 use Rattle.gate_net.specs.declared.gate.Gate.TheVariants.{Timer, Seal}

@@ -1,6 +1,7 @@
 -- Laws of gates and nets that proofs above cite.
 use Rattle.std.specs.Prelude.{◌≡◌, ℕ, List, Some, slice_get}
-use Rattle.line_model.specs.{declared.line.Line.Line, Names.Names}
+use Rattle.model_line.specs.declared.line.Line.{Line}
+use Rattle.model_logic.specs.Names.{Names}
 use Rattle.gate_net.specs.declared.gate.Gate.{Gate}
 use Rattle.gate_net.specs.{Laws.AreGates, Formulas.formula_of, Formulas.kind_over, Named.NamedFrom}
 

@@ -1,7 +1,7 @@
 -- A finished net, and when it is the net of a line.
 use Rattle.std.specs.Prelude.{◌≡◌, ◌<◌, ℕ, List, length, map, get_or}
-use Rattle.line_model.specs.declared.line.Line.{Line}
-use Rattle.line_model.specs.{Parameters.terminal_count, Logic.key_tree, Logic.trip_tree}
+use Rattle.model_line.specs.{declared.line.Line.Line, Parameters.terminal_count}
+use Rattle.model_logic.specs.Logic.{key_tree, trip_tree}
 use Rattle.gate_net.specs.{declared.gate.Gate.Gate, declared.gate.GateId.GateId, Laws.AreGates}
 use Rattle.gate_net.specs.{Formulas.formula_of, Named.NamedFrom}
 

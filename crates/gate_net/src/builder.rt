@@ -7,7 +7,8 @@ ghost use Rattle.gate_net.specs.{Laws.AreGates, NetOf.AreGatesOf, NetOf.IsNet};
 use crate::gate::{Gate, GateId};
 use crate::net::Net;
 use indexmap::IndexSet;
-use line_model::{Memory, Place, Time};
+use model_line::{Memory, Place};
+use model_logic::Time;
 use std::alloc::Global;
 use std::marker::Model;
 

@@ -1,6 +1,7 @@
 //! One gate of a net.
 
-use line_model::{Place, Time};
+use model_line::Place;
+use model_logic::Time;
 
 /// The number of a gate in its net.
 #[derive(Clone, Copy, PartialEq, Eq, Hash, Debug)]

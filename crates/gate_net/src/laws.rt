@@ -1,11 +1,10 @@
 //! The laws of gates and nets.
 
-ghost use Rattle.line_model.specs.{declared.line.Line.Line, SetBounds.SameButParams};
+ghost use Rattle.model_line.specs.{declared.line.Line.Line, SetBounds.SameButParams};
 ghost use Rattle.gate_net.specs.{NetOf.NetOf, NetOf.IsNetOf, NetLaws.GatesStandForTheirTrees};
 
-use line_model::interval_laws::{
-    counts_do_not_rest_on_the_intervals, trees_do_not_rest_on_the_intervals,
-};
+use model_line::laws::counts_do_not_rest_on_the_intervals;
+use model_logic::interval_laws::trees_do_not_rest_on_the_intervals;
 
 /// A gate stands for its own kind over the trees of its arguments, and names what they name.
 pub fn gates_stand_for_their_trees()

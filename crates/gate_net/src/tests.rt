@@ -1,7 +1,8 @@
 //! Nets built by hand: equal gates are one.
 
 use super::*;
-use line_model::{Element, Place, Time};
+use model_line::{Element, Place};
+use model_logic::Time;
 use std::test::Fail;
 
 // The gates of zone 2 and its opposite, and both of them, in a net of one terminal.

@@ -7,9 +7,9 @@ use Rattle.std.proofs.lemmas.Option.{get_or_from_slice_get, same_Some, slice_get
 use Rattle.std.specs.Prelude.{IsTrue, nat_le, slice_get}
 use Rattle.std.specs.List.{All, flat_map, list_all}
 use Rattle.tick_signal.specs.declared.tern.Tern.{Tern}
-use Rattle.line_model.specs.{declared.line.Line.Line, declared.script.Script.Script}
-use Rattle.line_model.specs.PlainNames.{is_plain_byte, is_plain_name}
-use Rattle.line_model.specs.{Terminals.are_plain_names, declared.line.Terminal.Terminal}
+use Rattle.model_line.specs.PlainNames.{is_plain_byte, is_plain_name}
+use Rattle.model_line.specs.{declared.line.Line.Line, declared.script.Script.Script}
+use Rattle.model_line.specs.{Terminals.are_plain_names, declared.line.Terminal.Terminal}
 use Rattle.text_lines.specs.Lines.{BeginsWith, Lines}
 use Rattle.text_lines.specs.LineLaws.{both_true}
 use Rattle.text_lines.specs.NamedLaws.{first_same}

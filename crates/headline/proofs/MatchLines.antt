@@ -9,12 +9,13 @@ use Rattle.std.specs.Prelude.{IsTrue, codes, slice_get}
 use Rattle.std.specs.List.{All, AllZip, concat}
 use Rattle.tick_signal.specs.declared.tern.Tern.{Tern}
 use Rattle.tick_signal.specs.declared.tern.Tern.TheVariants.{Zero, One, Unknown}
-use Rattle.line_model.specs.{declared.line.Line.Line, declared.script.Script.Script, Fits.Fits}
-use Rattle.line_model.specs.{Choice.Choice, Choice.IsInside}
-use Rattle.line_model.specs.Histories.{History, IsLineHistory, IsSameHistory}
-use Rattle.line_model.specs.{IntervalLaws.DeclaredIntervalsAreInOrder, Laws.LineLaws}
-use Rattle.line_model.specs.{NamesByNumber.terminal_name, Parameters.param_count, Parameters.terminal_count}
-use Rattle.line_model.specs.PlainNames.{is_plain_name}
+use Rattle.model_line.specs.Parameters.{param_count, terminal_count}
+use Rattle.model_line.specs.{declared.line.Line.Line, declared.script.Script.Script, Fits.Fits}
+use Rattle.model_line.specs.{Laws.DeclaredIntervalsAreInOrder, PlainNames.is_plain_name}
+use Rattle.model_logic.specs.Choice.{Choice, IsInside}
+use Rattle.model_logic.specs.Histories.{History, IsLineHistory, IsSameHistory}
+use Rattle.model_logic.specs.Laws.{LineLaws}
+use Rattle.model_names.specs.NamesByNumber.{terminal_name}
 use Rattle.timing_box.specs.Laws.{CandidatesAreInside, TimingsInsideAreChoicesInside}
 use Rattle.timing_box.specs.Candidates.{candidate, candidate_count}
 use Rattle.timing_box.specs.{Choice.timing_choice, Timing.TimingValues}

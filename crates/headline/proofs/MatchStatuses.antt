@@ -5,7 +5,7 @@ use Rattle.std.proofs.lemmas.List.Elements.{All-head, All-tail}
 use Rattle.std.proofs.lemmas.Option.{same_Some}
 use Rattle.std.specs.Prelude.{slice_get}
 use Rattle.std.specs.List.{All, AllZip, list_any}
-use Rattle.line_model.specs.{declared.line.Line.Line, declared.script.Script.Script}
+use Rattle.model_line.specs.{declared.line.Line.Line, declared.script.Script.Script}
 use Rattle.record_match.specs.Answer.{Head, IsHead, IsMatchAnswer, is_impossible, is_unsettled}
 use Rattle.record_match.specs.{Recorded.IsRecordOf, Waves.SeenValues, Waves.seen_values}
 use Rattle.record_match.specs.declared.seen.Match.{Match}

@@ -5,8 +5,7 @@ use Rattle.std.proofs.lemmas.List.Folds.{list_any-append}
 use Rattle.std.proofs.lemmas.Option.{same_Some, slice_get_within, slice_get-get_or}
 use Rattle.std.specs.Prelude.{slice_get}
 use Rattle.std.specs.List.{All, AllZip, flat_map, list_any}
-use Rattle.line_model.specs.{declared.line.Line.Line, declared.script.Script.Script}
-use Rattle.line_model.specs.{Fits.Fits}
+use Rattle.model_line.specs.{declared.line.Line.Line, declared.script.Script.Script, Fits.Fits}
 use Rattle.certificate.specs.Grammar.{Claims, HasOneEach, Verdict, yes, no, undecided}
 use Rattle.cert_checker.specs.Counts.{all_verdicts, is_no, is_undecided}
 use Rattle.own_certificate.specs.Certified.{AreCertified, IsCertified}

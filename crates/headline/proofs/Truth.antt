@@ -3,11 +3,12 @@ use Rattle.std.proofs.Common.{◌≡◌, ◌≢◌, ℕ, zero, suc, ◌<◌, Lis
 use Rattle.std.proofs.Common.{subst, arith}
 use Rattle.std.proofs.lemmas.Option.{slice_get_within}
 use Rattle.std.specs.Prelude.{slice_get}
-use Rattle.line_model.specs.{declared.line.Line.Line, declared.script.Script.Script}
-use Rattle.line_model.specs.Choice.{Choice, IsInside, declared_box, steady_choice}
-use Rattle.line_model.specs.Histories.{IsLineHistory, with_derived_trips}
-use Rattle.line_model.specs.{Laws.LineLaws, Parameters.terminal_count, Fits.Fits}
-use Rattle.line_model.specs.Rule.{Rule, Held, Broken, Unknown, rule_of}
+use Rattle.model_line.specs.{declared.line.Line.Line, declared.script.Script.Script}
+use Rattle.model_line.specs.{Parameters.terminal_count, Fits.Fits}
+use Rattle.model_logic.specs.Choice.{Choice, IsInside, declared_box, steady_choice}
+use Rattle.model_logic.specs.Histories.{IsLineHistory, with_derived_trips}
+use Rattle.model_logic.specs.Rule.{Rule, Held, Broken, Unknown, rule_of}
+use Rattle.model_logic.specs.Laws.{LineLaws}
 use Rattle.timing_box.specs.Laws.{CandidatesAreInside, TimingsInsideAreChoicesInside}
 use Rattle.timing_box.specs.{Candidates.candidate, Candidates.candidate_count, Choice.timing_choice}
 use Rattle.certificate.specs.Grammar.{Claims, HasOneEach, Verdict as Written, yes, no, undecided}

@@ -2,11 +2,11 @@
 use Rattle.std.specs.Prelude.{◌≡◌, ◌<◌, ◌^◌, ◌++◌, ℕ, List, Some, IsTrue, codes, length, slice_get}
 use Rattle.std.specs.List.{All}
 use Rattle.history.specs.Rails.{Covers}
-use Rattle.line_model.specs.{declared.line.Line.Line, declared.script.Script.Script}
-use Rattle.line_model.specs.Choice.{Choice, IsInside, steady_choice}
-use Rattle.line_model.specs.Histories.{History, IsLineHistory, IsSameHistory}
-use Rattle.line_model.specs.Parameters.{param_count, terminal_count}
-use Rattle.line_model.specs.PlainNames.{is_plain_name}
+use Rattle.model_line.specs.Parameters.{param_count, terminal_count}
+use Rattle.model_line.specs.PlainNames.{is_plain_name}
+use Rattle.model_line.specs.{declared.line.Line.Line, declared.script.Script.Script}
+use Rattle.model_logic.specs.Choice.{Choice, IsInside, steady_choice}
+use Rattle.model_logic.specs.Histories.{History, IsLineHistory, IsSameHistory}
 use Rattle.timing_box.specs.Candidates.{candidate, candidate_count}
 use Rattle.certificate.specs.Grammar.{numbers_text}
 use Rattle.cert_checker.specs.{Claims.pairs_of, Verdicts.derived_key, Verdicts.derived_trip}

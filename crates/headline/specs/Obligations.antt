@@ -1,10 +1,10 @@
 -- What is said of an obligation, for every choice of delays.
 use Rattle.std.specs.Prelude.{◌≡◌, ◌<◌, ℕ, List, Some, length, slice_get}
-use Rattle.line_model.specs.{declared.line.Line.Line, declared.script.Script.Script}
-use Rattle.line_model.specs.Choice.{Choice, IsInside, declared_box, steady_choice}
-use Rattle.line_model.specs.Histories.{History, IsLineHistory, Meets, PairHistory, IsPairHistory}
-use Rattle.line_model.specs.Parameters.{param_count, terminal_count}
-use Rattle.line_model.specs.Rule.{Unknown, rule_of}
+use Rattle.model_line.specs.Parameters.{param_count, terminal_count}
+use Rattle.model_line.specs.{declared.line.Line.Line, declared.script.Script.Script}
+use Rattle.model_logic.specs.Choice.{Choice, IsInside, declared_box, steady_choice}
+use Rattle.model_logic.specs.Histories.{History, IsLineHistory, Meets, PairHistory, IsPairHistory}
+use Rattle.model_logic.specs.Rule.{Unknown, rule_of}
 use Rattle.timing_box.specs.Candidates.{candidate, candidate_count}
 use Rattle.certificate.specs.Grammar.{Verdict, yes, no, undecided}
 use Rattle.certify_core.specs.Verdicts.{PassesAt}

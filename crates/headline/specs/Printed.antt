@@ -1,9 +1,9 @@
 -- Verdicts that a text has in whole lines, and the obligation that each is of.
 use Rattle.std.specs.Prelude.{◌≡◌, ◌<◌, ◌^◌, ℕ, List, Some, IsTrue, slice_get}
 use Rattle.std.specs.List.{All}
-use Rattle.line_model.specs.{declared.line.Line.Line, declared.script.Script.Script}
-use Rattle.line_model.specs.{NamesByNumber.terminal_name, Parameters.terminal_count}
-use Rattle.line_model.specs.PlainNames.{is_plain_name}
+use Rattle.model_line.specs.{declared.line.Line.Line, declared.script.Script.Script}
+use Rattle.model_line.specs.{Parameters.terminal_count, PlainNames.is_plain_name}
+use Rattle.model_names.specs.NamesByNumber.{terminal_name}
 use Rattle.certificate.specs.Grammar.{Verdict, yes, no, undecided, verdict_text}
 use Rattle.headline.specs.WholeLines.{StandsUnder, whole_lines}
 

@@ -2,8 +2,8 @@
 
 ghost use Rattle.std.specs.Prelude.{◌≡◌, ◌++◌, ℕ, Bool, true, false, List, Some, slice_get};
 ghost use Rattle.std.specs.List.{All, list_any};
-ghost use Rattle.line_model.specs.{declared.line.Line.Line, declared.script.Script.Script};
-ghost use Rattle.line_model.specs.Fits.{Fits};
+ghost use Rattle.model_line.specs.{declared.line.Line.Line, declared.script.Script.Script};
+ghost use Rattle.model_line.specs.Fits.{Fits};
 ghost use Rattle.certificate.specs.Grammar.{Claims, HasOneEach, Verdict};
 ghost use Rattle.certificate.specs.Text.{certificate_text};
 ghost use Rattle.cert_checker.specs.declared.counts.Counts.{Counts};
@@ -18,8 +18,8 @@ ghost use Rattle.headline.specs.Obligations.{AllMet, HoldsAsAccepted, HoldsAsCer
 ghost use Rattle.headline.specs.Obligations.{HoldsSomewhere, IsFailedBySome, IsUnknown};
 ghost use Rattle.headline.specs.Printed.{HasVerdict, HoldsOf};
 
-use line_model::interval_laws::declared_intervals_are_in_order;
-use line_model::laws::line_laws;
+use model_line::laws::declared_intervals_are_in_order;
+use model_logic::laws::line_laws;
 use own_certificate::what_is_certified_is_accepted;
 use record_match::what_a_choice_gives_is_allowed;
 use timing_box::{candidates_are_inside, timings_inside_are_choices_inside};

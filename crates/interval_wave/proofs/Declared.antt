@@ -7,10 +7,10 @@ use Rattle.std.proofs.lemmas.Option.{slice_get-map, slice_get_cases}
 use Rattle.std.specs.Prelude.{slice_get, option_map}
 use Rattle.history.specs.Rails.{Ends}
 use Rattle.tick_signal.specs.Spans.{ends_of}
-use Rattle.line_model.specs.declared.line.Line.{Line}
-use Rattle.line_model.specs.Choice.{Box, LeastFromOne, declared_box}
-use Rattle.line_model.specs.{declared.line.Param.Param, Intervals.IsInterval, Intervals.leasts}
-use Rattle.line_model.specs.{Intervals.greatests, Parameters.delay_param, Parameters.declared_ends}
+use Rattle.model_line.specs.Intervals.{IsInterval, leasts, greatests}
+use Rattle.model_line.specs.Parameters.{delay_param, declared_ends}
+use Rattle.model_line.specs.{declared.line.Line.Line, declared.line.Param.Param}
+use Rattle.model_logic.specs.Choice.{Box, LeastFromOne, declared_box}
 use Rattle.timing_box.specs.Timing.{number_at}
 use Rattle.simulator.specs.LaneBox.{ends_in, own_ends, ends_at, lane_box}
 use Rattle.simulator.specs.Runs.{AreDelayed}

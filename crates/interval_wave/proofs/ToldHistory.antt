@@ -5,11 +5,13 @@ use Rattle.std.proofs.lemmas.Option.{slice_get-map, slice_get_read, get_or_from_
 use Rattle.std.specs.Prelude.{slice_get, option_map}
 use Rattle.history.specs.Rails.{Rails, rails_at}
 use Rattle.tick_signal.specs.{declared.tern.Tern.Tern, Terns.tern_rails}
-use Rattle.line_model.specs.declared.line.Line.{Line}
-use Rattle.line_model.specs.Histories.{PairHistory, IsPairHistory, IsSamePairHistory}
-use Rattle.line_model.specs.{declared.script.Script.Script, Parameters.terminal_count}
-use Rattle.line_model.specs.{PairMean.PairSignals, Choice.Box, Choice.LeastFromOne, Logic.key_tree}
-use Rattle.line_model.specs.{Logic.trip_tree, Laws.TreesNameTheLine, Laws.ValuesRestOnEarlierKeys}
+use Rattle.model_line.specs.{declared.line.Line.Line, declared.script.Script.Script}
+use Rattle.model_line.specs.Parameters.{terminal_count}
+use Rattle.model_logic.specs.Histories.{PairHistory, IsPairHistory, IsSamePairHistory}
+use Rattle.model_logic.specs.Choice.{Box, LeastFromOne}
+use Rattle.model_logic.specs.Logic.{key_tree, trip_tree}
+use Rattle.model_logic.specs.Laws.{TreesNameTheLine, ValuesRestOnEarlierKeys}
+use Rattle.model_logic.specs.PairMean.{PairSignals}
 use Rattle.wave_runs.specs.Waves.{AreWaves, IsWaveOf}
 use Rattle.simulator.specs.ListLaws.{exists_at}
 use Rattle.interval_wave.specs.PairWavesOf.{pairs_of, told_by, AreWavesOf, pair_at}

@@ -3,7 +3,7 @@ use Rattle.std.specs.Prelude.{◌≡◌, ℕ, List, [], Some, length, map, get_o
 use Rattle.history.specs.Rails.{Rails, rails_at}
 use Rattle.tick_signal.specs.{declared.tern.Tern.Tern, Terns.tern_rails}
 use Rattle.channel.specs.SentKeys.{SentKeys}
-use Rattle.line_model.specs.{PairMean.PairSignals, Histories.PairHistory}
+use Rattle.model_logic.specs.{PairMean.PairSignals, Histories.PairHistory}
 use Rattle.wave_runs.specs.Waves.{IsWaveOf}
 use Rattle.simulator.specs.Tracks.{pair_of}
 

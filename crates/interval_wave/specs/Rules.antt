@@ -2,10 +2,10 @@
 use Rattle.std.specs.Prelude.{◌≡◌, ◌<◌, ℕ, suc, Bool, not, if◌then◌else◌}
 use Rattle.std.proofs.Common.{◌∙◌, ap}
 use Rattle.history.specs.{Elements.some_below, Rails.Rails}
-use Rattle.line_model.specs.declared.script.Kind.{Kind}
-use Rattle.line_model.specs.declared.script.Kind.TheVariants.{Internal, External}
-use Rattle.line_model.specs.Rule as of_line
-use Rattle.line_model.specs.Rule.{rule_by}
+use Rattle.model_line.specs.declared.script.Kind.TheVariants.{Internal, External}
+use Rattle.model_line.specs.declared.script.Kind.{Kind}
+use Rattle.model_logic.specs.Rule as of_line
+use Rattle.model_logic.specs.Rule.{rule_by}
 use Rattle.interval_wave.specs.declared.rule.Rule.{Rule}
 use Rattle.interval_wave.specs.declared.rule.Rule.TheVariants.{Held, Broken, Unknown}
 

@@ -2,7 +2,7 @@
 use Rattle.std.specs.Prelude.{List, map}
 use Rattle.history.specs.Rails.{Ends}
 use Rattle.tick_signal.specs.Spans.{ends_of}
-use Rattle.line_model.specs.{declared.line.Line.Line, declared.line.Param.Param}
+use Rattle.model_line.specs.{declared.line.Line.Line, declared.line.Param.Param}
 
 -- the declared interval of a parameter
 abbrev pub declared_span : Param → Ends

@@ -1,9 +1,9 @@
 //! The interval history of the declared intervals.
 
 ghost use Rattle.std.specs.Prelude.{◌≡◌, IfOk};
-ghost use Rattle.line_model.specs.Parameters.{terminal_count};
-ghost use Rattle.line_model.specs.Choice.{Choice, IsInside, declared_box};
-ghost use Rattle.line_model.specs.Histories.{History, IsLineHistory, CoversHistory};
+ghost use Rattle.model_line.specs.Parameters.{terminal_count};
+ghost use Rattle.model_logic.specs.Choice.{Choice, IsInside, declared_box};
+ghost use Rattle.model_logic.specs.Histories.{History, IsLineHistory, CoversHistory};
 ghost use Rattle.gate_net.specs.NetOf.{IsNetOf};
 ghost use Rattle.simulator.specs.Runs.{IsTheHistory};
 ghost use Rattle.interval_wave.specs.PairWavesOf.{pair_history};
@@ -12,11 +12,11 @@ use crate::pair_waves::PairWaves;
 use crate::spans::declared_spans;
 use crate::track_waves::track_waves;
 use gate_net::Net;
-use line_model::laws::{
+use model_line::{Line, Memory, Script};
+use model_logic::laws::{
     a_wider_box_covers, each_box_has_one_interval_history, each_line_has_a_choice_inside,
     trees_name_the_line, values_rest_on_earlier_keys,
 };
-use line_model::{Line, Memory, Script};
 use simulator::run_tracks;
 use std::alloc::Global;
 use tick_signal::{Tern, Within};

@@ -2,17 +2,17 @@
 
 ghost use Rattle.std.specs.Prelude.{◌≡◌, ◌<◌, ◌≤◌, ℕ, Bool};
 ghost use Rattle.history.specs.Elements.{some_below};
-ghost use Rattle.line_model.specs.declared.line.Line.{Line};
-ghost use Rattle.line_model.specs.Histories.{History, CoversHistory, Meets};
-ghost use Rattle.line_model.specs.{Parameters.terminal_count, Rule.rule_by};
+ghost use Rattle.model_line.specs.{declared.line.Line.Line, Parameters.terminal_count};
+ghost use Rattle.model_logic.specs.Histories.{History, CoversHistory, Meets};
+ghost use Rattle.model_logic.specs.Rule.{rule_by};
 ghost use Rattle.wave_runs.specs.FirstTick.{first_on};
 ghost use Rattle.interval_wave.specs.PairWavesOf.{pair_history};
 ghost use Rattle.interval_wave.specs.Rules.{rule_named, rule_from, counted_ticks, IsDeadlineWithin};
 
 use crate::pair_waves::PairWaves;
 use history::element_laws::tests_are_their_facts;
-use line_model::laws::the_rule_speaks_for_what_is_covered;
-use line_model::{Kind, Script};
+use model_line::{Kind, Script};
+use model_logic::laws::the_rule_speaks_for_what_is_covered;
 use wave_runs::the_first_tick_is_the_least;
 
 /// What the interval rules say of an obligation, which is a script at a terminal: every choice of

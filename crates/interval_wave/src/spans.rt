@@ -3,7 +3,7 @@
 ghost use Rattle.std.specs.Prelude.{◌≡◌, IfOk};
 ghost use Rattle.interval_wave.specs.Spans.{declared_spans as spans_of};
 
-use line_model::{Line, Memory};
+use model_line::{Line, Memory};
 use std::alloc::Global;
 use tick_signal::Within;
 

@@ -7,7 +7,7 @@ ghost use Rattle.wave_runs.specs.Waves.{wave_at, IsWaveOf};
 ghost use Rattle.interval_wave.specs.PairWavesOf.{AreWavesOf, track_pairs};
 
 use channel::Track;
-use line_model::Memory;
+use model_line::Memory;
 use std::alloc::Global;
 use tick_signal::Tern;
 use wave_runs::{Runs, waves_grow};

@@ -9,19 +9,18 @@ use Rattle.std.proofs.lemmas.Slice.Eq.{bytes_eq-Decides}
 use Rattle.std.specs.Str.{bytes_eq}
 use Rattle.std.specs.List.{list_any}
 use Rattle.toml.specs.{Data.string, Data.table, Data.Members, Data.get_member, View.items_of}
-use Rattle.line_model.specs.declared.line.Scheme.TheVariants.{Dcub}
-use Rattle.line_model.specs.declared.line.Scheme.{Scheme}
-use Rattle.line_model.specs.{declared.line.Line.Line, declared.line.Terminal.Terminal}
-use Rattle.line_model.specs.{declared.line.Channel.Channel, declared.line.Owner.Owner}
-use Rattle.line_model.specs.declared.line.Owner.TheVariants as owner
-use Rattle.line_model.specs.declared.line.Setting.TheVariants.{Delay}
-use Rattle.line_model.specs.Settings.{time_key, receiver_settings, channel_settings}
-use Rattle.line_model.specs.Settings.{settings_of_terminals}
-use Rattle.line_model.specs.FirstPositions.{is_some-position, position_from-first, none_before}
-use Rattle.line_model.specs.FirstPositions.{list_any-take_none}
-use Rattle.line_model.specs.{Channels.is_pair}
-use Rattle.line_model.specs.ParamNames.{name_at, key_path}
-use Rattle.line_model.specs.{Intervals.leasts, Intervals.delay_number_of, Laws.LineLaws}
+use Rattle.model_line.specs.Settings.{time_key, receiver_settings, channel_settings}
+use Rattle.model_line.specs.Settings.{settings_of_terminals}
+use Rattle.model_line.specs.FirstPositions.{is_some-position, position_from-first, none_before}
+use Rattle.model_line.specs.FirstPositions.{list_any-take_none}
+use Rattle.model_line.specs.ParamNames.{name_at, key_path}
+use Rattle.model_line.specs.Intervals.{leasts, delay_number_of}
+use Rattle.model_line.specs.{declared.line.Scheme.TheVariants.Dcub, declared.line.Scheme.Scheme}
+use Rattle.model_line.specs.{declared.line.Line.Line, declared.line.Terminal.Terminal}
+use Rattle.model_line.specs.{declared.line.Channel.Channel, declared.line.Owner.Owner}
+use Rattle.model_line.specs.{declared.line.Setting.TheVariants.Delay, Channels.is_pair}
+use Rattle.model_line.specs.declared.line.Owner.TheVariants as owner
+use Rattle.model_logic.specs.Laws.{LineLaws}
 use Rattle.line_file.specs.LineFiles.{two_pairs, three_pairs, pairs_of, all_joined, whole}
 use Rattle.line_file.specs.ChannelTables.{channel_keys, terminal_called, from_at, to_at, ends_at}
 use Rattle.line_file.specs.ChannelTables.{channel_at, channels_at}

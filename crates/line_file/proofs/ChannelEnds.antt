@@ -1,8 +1,8 @@
 -- The ends of a channel, by its number.
 use Rattle.std.proofs.Common.{◌≡◌, ◌<◌, ℕ, List, length, get_or, sym, ap, ◌∙◌}
 use Rattle.std.proofs.lemmas.List.{get_or-map}
-use Rattle.line_model.specs.declared.line.Channel.{Channel}
-use Rattle.line_model.specs.Channels.{from_of, to_of}
+use Rattle.model_line.specs.Channels.{from_of, to_of}
+use Rattle.model_line.specs.declared.line.Channel.{Channel}
 
 module _
     (cs : List Channel) (c : ℕ) (h : Channel) (lt : c < length cs) (is : h ≡ get_or cs c h) where

@@ -11,9 +11,9 @@ use Rattle.std.proofs.lemmas.List.{map-append, length-map}
 use Rattle.std.proofs.lemmas.Map.Keys.{IsDistinct-from_apart}
 use Rattle.std.proofs.lemmas.Map.Steps.{length-le_from_distinct_below}
 use Rattle.std.specs.List.{list_any, position_from, IsDistinct}
-use Rattle.line_model.specs.declared.line.Channel.{Channel}
-use Rattle.line_model.specs.Channels.{is_pair, from_of, to_of, IsChannel, AreChannelsBelow}
-use Rattle.line_model.specs.FirstPositions.{position_from-append_none}
+use Rattle.model_line.specs.Channels.{is_pair, from_of, to_of, IsChannel, AreChannelsBelow}
+use Rattle.model_line.specs.declared.line.Channel.{Channel}
+use Rattle.model_line.specs.FirstPositions.{position_from-append_none}
 use borrow.Author.Count.{below_more}
 
 -- the first place stays the first when the list grows

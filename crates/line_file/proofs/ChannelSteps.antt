@@ -6,12 +6,11 @@ use Rattle.std.proofs.lemmas.Bool.{eqb-false}
 use Rattle.std.specs.Str.{bytes_eq}
 use Rattle.std.specs.List.{list_any}
 use Rattle.toml.specs.Data.{Data, Members}
-use Rattle.line_model.specs.{declared.line.Terminal.Terminal, Channels.is_pair}
-use Rattle.line_model.specs.{declared.line.Channel.Channel, declared.bounds.Bounds.Bounds}
-use Rattle.line_model.specs.Settings.{time_key, receiver_settings, channel_settings}
-use Rattle.line_model.specs.declared.line.Setting.TheVariants.{Delay}
-use Rattle.line_model.specs.declared.line.Scheme.{Scheme}
-use Rattle.line_model.specs.{Making.least_ends, FirstPositions.position_within}
+use Rattle.model_line.specs.Settings.{time_key, receiver_settings, channel_settings}
+use Rattle.model_line.specs.{declared.line.Terminal.Terminal, Channels.is_pair}
+use Rattle.model_line.specs.{declared.line.Channel.Channel, declared.bounds.Bounds.Bounds}
+use Rattle.model_line.specs.{declared.line.Setting.TheVariants.Delay, declared.line.Scheme.Scheme}
+use Rattle.model_line.specs.{Making.least_ends, FirstPositions.position_within}
 use Rattle.line_file.specs.Keys.{all_known, table_in, text_at}
 use Rattle.line_file.specs.ChannelTables.{channel_keys, terminal_called, sender}
 use Rattle.line_file.specs.ChannelTables.{receiver, from_at, to_at, ends_at}

@@ -4,9 +4,9 @@ use Rattle.std.specs.Ordering.{nat_cmp, match_ordering}
 use Rattle.std.specs.Cmp.Lexicographic.{slice_cmp}
 use Rattle.toml.specs.Data.{Data, Members, no_members, member, depth, items_depth, members_depth}
 use Rattle.toml.specs.View.{items_of}
-use Rattle.line_model.specs.declared.line.Line.{Line}
-use Rattle.line_model.specs.{declared.line.Terminal.Terminal, declared.line.Channel.Channel}
-use Rattle.line_model.specs.{declared.line.Owner.Owner, declared.line.Setting.Setting}
+use Rattle.model_line.specs.{declared.line.Line.Line, declared.line.Terminal.Terminal}
+use Rattle.model_line.specs.{declared.line.Channel.Channel, declared.line.Owner.Owner}
+use Rattle.model_line.specs.declared.line.Setting.{Setting}
 use Rattle.line_file.specs.Canonical.{put_member, put_all, table_of, setting_pair, times_data}
 use Rattle.line_file.specs.Canonical.{terminal_members, channel_members}
 use Rattle.line_file.specs.Canonical.{tables_from, head_pairs, table_pairs, canonical_in}

@@ -3,8 +3,9 @@ use Rattle.std.proofs.Common.{◌≡◌, ◌<◌, ◌≤◌, ◌&&◌, ℕ, true
 use Rattle.std.proofs.Common.{ap, ◌∙◌, arith, codes, nat_le}
 use Rattle.std.proofs.lemmas.Bool.{le-leb}
 use Rattle.toml.specs.View.{items_of}
-use Rattle.line_model.specs.declared.line.Scheme.TheVariants.{Pott, Putt, Dcb, Dcub, Dtt}
-use Rattle.line_model.specs.{declared.line.Line.Line, declared.line.Scheme.Scheme, Laws.LineLaws}
+use Rattle.model_line.specs.declared.line.Scheme.TheVariants.{Pott, Putt, Dcb, Dcub, Dtt}
+use Rattle.model_line.specs.{declared.line.Line.Line, declared.line.Scheme.Scheme}
+use Rattle.model_logic.specs.Laws.{LineLaws}
 use Rattle.line_file.specs.Keys.{document_of, all_known, number_at, text_at, array_at}
 use Rattle.line_file.specs.Lines.{LineValues, line_values, scheme_named, scheme_of, zone1_trip_of}
 use Rattle.line_file.specs.Lines.{head_of, two_or_three, terminal_items, channel_items}

@@ -13,18 +13,18 @@ use Rattle.std.proofs.lemmas.List.{map-append, length-map}
 use Rattle.std.proofs.lemmas.List.Folds.{list_all-append, list_any_at}
 use Rattle.std.proofs.lemmas.Slice.Eq.{bytes_eq-Decides}
 use Rattle.toml.specs.Data.{Items}
-use Rattle.line_model.specs.declared.line.Scheme.TheVariants.{Pott, Putt, Dcb, Dcub, Dtt}
-use Rattle.line_model.specs.Settings.{OwnedSetting, owned_by, terminal_settings, channel_settings}
-use Rattle.line_model.specs.Settings.{settings_of_terminals}
-use Rattle.line_model.specs.{declared.bounds.Bounds.Bounds, declared.line.Terminal.Terminal}
-use Rattle.line_model.specs.{declared.line.Scheme.Scheme, declared.line.Param.Param}
-use Rattle.line_model.specs.{declared.line.Line.Line, PlainNames.is_plain_name, Terminals.names_of}
-use Rattle.line_model.specs.{Terminals.are_plain_names, Terminals.NamesDiffer, Terminals.has_flags}
-use Rattle.line_model.specs.{Terminals.has_no_flag, Terminals.flags_fit, Channels.AreChannelsBelow}
-use Rattle.line_model.specs.declared.line.Owner.TheVariants as owner
-use Rattle.line_model.specs.Intervals.{leasts, greatests, AreIntervals, delay_number_of}
-use Rattle.line_model.specs.Making.{least_ends, greatest_ends, MakesLine, IsMadeOf}
-use Rattle.line_model.specs.Laws.{SettingsAreCounted}
+use Rattle.model_line.specs.declared.line.Scheme.TheVariants.{Pott, Putt, Dcb, Dcub, Dtt}
+use Rattle.model_line.specs.Settings.{OwnedSetting, owned_by, terminal_settings, channel_settings}
+use Rattle.model_line.specs.Settings.{settings_of_terminals}
+use Rattle.model_line.specs.Terminals.{names_of, are_plain_names, NamesDiffer, has_flags}
+use Rattle.model_line.specs.Terminals.{has_no_flag, flags_fit}
+use Rattle.model_line.specs.Intervals.{leasts, greatests, AreIntervals, delay_number_of}
+use Rattle.model_line.specs.Making.{least_ends, greatest_ends, MakesLine, IsMadeOf}
+use Rattle.model_line.specs.{declared.bounds.Bounds.Bounds, declared.line.Terminal.Terminal}
+use Rattle.model_line.specs.{declared.line.Scheme.Scheme, declared.line.Param.Param}
+use Rattle.model_line.specs.{declared.line.Line.Line, PlainNames.is_plain_name}
+use Rattle.model_line.specs.{Channels.AreChannelsBelow, Laws.SettingsAreCounted}
+use Rattle.model_line.specs.declared.line.Owner.TheVariants as owner
 use Rattle.line_file.specs.Lines.{LineValues, intervals_of, line_values}
 use Rattle.line_file.specs.TerminalTables.{terminal_at, terminals_at}
 use Rattle.line_file.specs.{ChannelTables.channel_at, ChannelTables.channels_at, LineFiles.whole}

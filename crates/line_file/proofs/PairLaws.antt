@@ -1,12 +1,12 @@
 -- What holds of each value that the canonical table puts holds of the table.
 use Rattle.std.proofs.Common.{ℕ, List, [], ◌∷◌, codes}
 use Rattle.toml.specs.Data.{Data, string, Members}
-use Rattle.line_model.specs.Settings.{table_key, terminal_groups, receiver_settings}
-use Rattle.line_model.specs.{declared.line.Line.Line, declared.line.Terminal.Terminal}
-use Rattle.line_model.specs.{declared.line.Channel.Channel, declared.line.Owner.Owner}
-use Rattle.line_model.specs.declared.line.Owner.TheVariants as owner
-use Rattle.line_model.specs.declared.line.Setting.{Setting}
-use Rattle.line_model.specs.{declared.line.Setting.TheVariants.Delay, ParamNames.name_at}
+use Rattle.model_line.specs.Settings.{table_key, terminal_groups, receiver_settings}
+use Rattle.model_line.specs.ParamNames.{name_at}
+use Rattle.model_line.specs.{declared.line.Line.Line, declared.line.Terminal.Terminal}
+use Rattle.model_line.specs.{declared.line.Channel.Channel, declared.line.Owner.Owner}
+use Rattle.model_line.specs.{declared.line.Setting.Setting, declared.line.Setting.TheVariants.Delay}
+use Rattle.model_line.specs.declared.line.Owner.TheVariants as owner
 use Rattle.line_file.specs.Canonical.{put_member, put_all, table_of, setting_pair, times_data}
 use Rattle.line_file.specs.Canonical.{put_times, put_groups, terminal_members, channel_members}
 

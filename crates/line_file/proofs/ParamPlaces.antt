@@ -5,14 +5,14 @@ use Rattle.std.proofs.Common.{get_or, Option, Some, refl, sym, ap, ◌∙◌, ar
 use Rattle.std.proofs.lemmas.List.{take_more, length-map}
 use Rattle.std.proofs.lemmas.Bool.{and_parts, eqb-true}
 use Rattle.std.specs.Prelude.{option_map, unwrap_or}
-use Rattle.line_model.specs.Settings.{owned_by, terminal_settings, settings_of_terminals}
-use Rattle.line_model.specs.Settings.{setting_place}
-use Rattle.line_model.specs.declared.line.Line.{Line}
-use Rattle.line_model.specs.{declared.bounds.Bounds.Bounds, declared.line.Param.Param}
-use Rattle.line_model.specs.{declared.line.Scheme.Scheme, declared.line.Terminal.Terminal}
-use Rattle.line_model.specs.{declared.line.Owner.Owner, declared.line.Setting.Setting}
-use Rattle.line_model.specs.{Intervals.leasts, Intervals.greatests, Parameters.param_number}
-use Rattle.line_model.specs.declared.line.Owner.TheVariants as owner
+use Rattle.model_line.specs.Settings.{owned_by, terminal_settings, settings_of_terminals}
+use Rattle.model_line.specs.Settings.{setting_place}
+use Rattle.model_line.specs.Intervals.{leasts, greatests}
+use Rattle.model_line.specs.{declared.line.Line.Line, declared.bounds.Bounds.Bounds}
+use Rattle.model_line.specs.{declared.line.Param.Param, declared.line.Scheme.Scheme}
+use Rattle.model_line.specs.{declared.line.Terminal.Terminal, declared.line.Owner.Owner}
+use Rattle.model_line.specs.{declared.line.Setting.Setting, Parameters.param_number}
+use Rattle.model_line.specs.declared.line.Owner.TheVariants as owner
 use Rattle.line_file.specs.{Lines.intervals_of, Canonical.interval_of, Canonical.setting_interval}
 use Rattle.line_file.proofs.TimeLaws.{IsTime}
 

@@ -7,7 +7,7 @@ use Rattle.std.proofs.lemmas.Str.{IsUtf8-from_ascii}
 use Rattle.std.specs.Str.{IsAscii, IsUtf8}
 use Rattle.std.specs.List.{list_all}
 use Rattle.std.specs.Prelude.{nat_le}
-use Rattle.line_model.specs.PlainNames.{is_plain_byte, is_plain_name}
+use Rattle.model_line.specs.PlainNames.{is_plain_byte, is_plain_name}
 
 byte_below : (b : ℕ) → is_plain_byte b ≡ true → b < 128
 byte_below b h = grind (arith, nat_tests)

@@ -7,11 +7,10 @@ use Rattle.std.specs.Ordering.{match_ordering}
 use Rattle.std.specs.BTreeMap.{insert_entry}
 use Rattle.toml.specs.{Data.Members, View.view, View.members_view, declared.value.Value.Value}
 use Rattle.toml.proofs.Views.{Entry}
-use Rattle.line_model.specs.declared.line.Line.{Line}
-use Rattle.line_model.specs.{declared.line.Owner.Owner, declared.line.Setting.Setting}
+use Rattle.model_line.specs.{declared.line.Line.Line, declared.line.Owner.Owner}
+use Rattle.model_line.specs.{declared.line.Setting.Setting, Settings.time_key}
 use Rattle.line_file.specs.Canonical.{put_member, put_all, time_data, setting_interval}
 use Rattle.line_file.specs.Canonical.{setting_pair, put_times, put_groups}
-use Rattle.line_model.specs.Settings.{time_key}
 
 match_members :
     (o : Ordering) (a b c : List Entry)

@@ -9,19 +9,18 @@ use Rattle.std.specs.Prelude.{is_some}
 use Rattle.std.specs.Str.{bytes_eq}
 use Rattle.std.specs.List.{list_all, list_any}
 use Rattle.toml.specs.{Data.Data, Data.table, Data.Members, Data.get_member, View.items_of}
-use Rattle.line_model.specs.declared.line.Scheme.TheVariants.{Pott, Dcub}
-use Rattle.line_model.specs.declared.line.Terminal.{Terminal}
-use Rattle.line_model.specs.{declared.line.Line.Line}
-use Rattle.line_model.specs.{declared.line.Scheme.Scheme, declared.line.Owner.Owner}
-use Rattle.line_model.specs.declared.line.Owner.TheVariants as owner
-use Rattle.line_model.specs.PlainNames.{is_plain_name}
-use Rattle.line_model.specs.Settings.{zone1_settings, zone2_settings, reverse_settings}
-use Rattle.line_model.specs.Settings.{undervoltage_settings, groups_with, all_of}
-use Rattle.line_model.specs.Settings.{guard_settings, weak_settings, scheme_settings}
-use Rattle.line_model.specs.Settings.{terminal_settings, channel_settings, settings_of_terminals}
-use Rattle.line_model.specs.Terminals.{names_of, has_flags, has_no_flag}
-use Rattle.line_model.specs.FirstPositions.{list_any-take_none}
-use Rattle.line_model.specs.{declared.line.Setting.Setting, Laws.LineLaws}
+use Rattle.model_line.specs.declared.line.Scheme.TheVariants.{Pott, Dcub}
+use Rattle.model_line.specs.Settings.{zone1_settings, zone2_settings, reverse_settings}
+use Rattle.model_line.specs.Settings.{undervoltage_settings, groups_with, all_of, guard_settings}
+use Rattle.model_line.specs.Settings.{weak_settings, scheme_settings, terminal_settings}
+use Rattle.model_line.specs.Settings.{channel_settings, settings_of_terminals}
+use Rattle.model_line.specs.Terminals.{names_of, has_flags, has_no_flag}
+use Rattle.model_line.specs.declared.line.Setting.{Setting}
+use Rattle.model_line.specs.{declared.line.Terminal.Terminal, declared.line.Line.Line}
+use Rattle.model_line.specs.{declared.line.Scheme.Scheme, declared.line.Owner.Owner}
+use Rattle.model_line.specs.{PlainNames.is_plain_name, FirstPositions.list_any-take_none}
+use Rattle.model_line.specs.declared.line.Owner.TheVariants as owner
+use Rattle.model_logic.specs.Laws.{LineLaws}
 use Rattle.line_file.specs.Times.{group_key, required_times}
 use Rattle.line_file.specs.TerminalTables.{no_times, name_at, elements_times}
 use Rattle.line_file.specs.TerminalTables.{permissive_times, scheme_times}

@@ -2,12 +2,12 @@
 use Rattle.std.proofs.Common.{◌≡◌, ◌||◌, ℕ, Bool, true, false, not, List, [], ◌∷◌, Some}
 use Rattle.std.proofs.Common.{None, Ok, refl, ap, codes, map, get_or, ◌<◌}
 use Rattle.toml.specs.Data.{string, Members, get_member}
-use Rattle.line_model.specs.declared.line.Scheme.TheVariants.{Pott, Dcub}
-use Rattle.line_model.specs.{declared.line.Line.Line, Terminals.has_flags}
-use Rattle.line_model.specs.{declared.line.Scheme.Scheme, declared.line.Owner.Owner}
-use Rattle.line_model.specs.Settings.{zone1_settings, zone2_settings, reverse_settings}
-use Rattle.line_model.specs.Settings.{undervoltage_settings, guard_settings, weak_settings}
-use Rattle.line_model.specs.Settings.{scheme_settings, groups_with}
+use Rattle.model_line.specs.declared.line.Scheme.TheVariants.{Pott, Dcub}
+use Rattle.model_line.specs.Settings.{zone1_settings, zone2_settings, reverse_settings}
+use Rattle.model_line.specs.Settings.{undervoltage_settings, guard_settings, weak_settings}
+use Rattle.model_line.specs.Settings.{scheme_settings, groups_with}
+use Rattle.model_line.specs.{declared.line.Line.Line, Terminals.has_flags}
+use Rattle.model_line.specs.{declared.line.Scheme.Scheme, declared.line.Owner.Owner}
 use Rattle.line_file.specs.Canonical.{table_of, put_groups}
 use Rattle.line_file.specs.{Keys.all_known, TerminalTables.terminal_keys, Times.group_key}
 use Rattle.line_file.proofs.TimesBack.{value}

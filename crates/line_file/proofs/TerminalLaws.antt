@@ -6,13 +6,14 @@ use Rattle.std.specs.Prelude.{IsTrue, is_some}
 use Rattle.std.specs.Str.{bytes_eq}
 use Rattle.std.specs.List.{list_any}
 use Rattle.toml.specs.Data.{Data, Members, get_member}
-use Rattle.line_model.specs.declared.line.Scheme.TheVariants.{Pott, Putt, Dcb, Dcub, Dtt}
-use Rattle.line_model.specs.Settings.{guard_settings, weak_settings, scheme_settings}
-use Rattle.line_model.specs.Settings.{terminal_settings, zone1_settings, zone2_settings}
-use Rattle.line_model.specs.Settings.{reverse_settings, undervoltage_settings}
-use Rattle.line_model.specs.{declared.line.Scheme.Scheme, declared.line.Setting.Setting}
-use Rattle.line_model.specs.{declared.bounds.Bounds.Bounds, declared.line.Terminal.Terminal}
-use Rattle.line_model.specs.{PlainNames.is_plain_name, Terminals.has_flags, Terminals.has_no_flag}
+use Rattle.model_line.specs.declared.line.Scheme.TheVariants.{Pott, Putt, Dcb, Dcub, Dtt}
+use Rattle.model_line.specs.Settings.{guard_settings, weak_settings, scheme_settings}
+use Rattle.model_line.specs.Settings.{terminal_settings, zone1_settings, zone2_settings}
+use Rattle.model_line.specs.Settings.{reverse_settings, undervoltage_settings}
+use Rattle.model_line.specs.Terminals.{has_flags, has_no_flag}
+use Rattle.model_line.specs.PlainNames.{is_plain_name}
+use Rattle.model_line.specs.{declared.line.Scheme.Scheme, declared.line.Setting.Setting}
+use Rattle.model_line.specs.{declared.bounds.Bounds.Bounds, declared.line.Terminal.Terminal}
 use Rattle.line_file.specs.TerminalTables.{terminal_keys, name_at, no_times, element_times}
 use Rattle.line_file.specs.TerminalTables.{elements_times, permissive_times, scheme_times}
 use Rattle.line_file.specs.TerminalTables.{terminal_named, terminal_at}

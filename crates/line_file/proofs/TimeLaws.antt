@@ -9,8 +9,9 @@ use Rattle.std.proofs.Math.Nat.{div-lt_iff_lt-mul}
 use Rattle.std.specs.Prelude.{IsTrue, is_some, map}
 use Rattle.toml.specs.Data.{Data, string, integer, float, boolean, datetime, array, table, Members}
 use Rattle.toml.specs.Data.{Items, no_items, item, as_integer, get_member}
-use Rattle.line_model.specs.{declared.bounds.Bounds.Bounds, declared.line.Setting.Setting}
-use Rattle.line_model.specs.{Settings.table_key, Settings.time_key, ParamNames.key_path}
+use Rattle.model_line.specs.Settings.{table_key, time_key}
+use Rattle.model_line.specs.ParamNames.{key_path}
+use Rattle.model_line.specs.{declared.bounds.Bounds.Bounds, declared.line.Setting.Setting}
 use Rattle.line_file.specs.Times.{in_ticks, interval_in, two_ends, ends_in, time_in, time_at}
 use Rattle.line_file.specs.Times.{times_at, times_in, group_key, required_times, times_or}
 use Rattle.line_file.specs.Times.{optional_times}

@@ -7,13 +7,13 @@ use Rattle.std.proofs.lemmas.Bool.{le-leb}
 use Rattle.std.proofs.lemmas.Nat.{div-mul-add}
 use Rattle.std.proofs.lemmas.List.{append-nil}
 use Rattle.toml.specs.Data.{Data, Members, get_member}
-use Rattle.line_model.specs.Settings.{time_key, zone1_settings, zone2_settings, reverse_settings}
-use Rattle.line_model.specs.Settings.{undervoltage_settings, guard_settings, weak_settings}
-use Rattle.line_model.specs.Settings.{scheme_settings, receiver_settings, table_key}
-use Rattle.line_model.specs.declared.line.Scheme.TheVariants.{Dcb, Dcub, Dtt}
-use Rattle.line_model.specs.{declared.line.Scheme.Scheme, ParamNames.key_path}
-use Rattle.line_model.specs.{declared.bounds.Bounds.Bounds, declared.line.Setting.Setting}
-use Rattle.line_model.specs.{declared.line.Line.Line, declared.line.Owner.Owner}
+use Rattle.model_line.specs.Settings.{time_key, zone1_settings, zone2_settings, reverse_settings}
+use Rattle.model_line.specs.Settings.{undervoltage_settings, guard_settings, weak_settings}
+use Rattle.model_line.specs.Settings.{scheme_settings, receiver_settings, table_key}
+use Rattle.model_line.specs.declared.line.Scheme.TheVariants.{Dcb, Dcub, Dtt}
+use Rattle.model_line.specs.{declared.line.Scheme.Scheme, ParamNames.key_path}
+use Rattle.model_line.specs.{declared.bounds.Bounds.Bounds, declared.line.Setting.Setting}
+use Rattle.model_line.specs.{declared.line.Line.Line, declared.line.Owner.Owner}
 use Rattle.line_file.specs.Keys.{all_known, first_unknown}
 use Rattle.line_file.specs.Times.{time_in, time_at, times_at, times_in, group_key, required_times}
 use Rattle.line_file.specs.Times.{optional_times}

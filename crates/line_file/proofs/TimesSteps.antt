@@ -3,8 +3,8 @@ use Rattle.std.proofs.Common.{◌≡◌, ◌≢◌, ◌+◌, ◌++◌, ◌<◌, 
 use Rattle.std.proofs.Common.{Err, refl}
 use Rattle.std.proofs.lemmas.List.{drop_more}
 use Rattle.toml.specs.{Data.Members, View.items_view, declared.value.Value.Value}
-use Rattle.line_model.specs.{declared.bounds.Bounds.Bounds, declared.line.Setting.Setting}
-use Rattle.line_model.specs.Settings.{time_key}
+use Rattle.model_line.specs.{declared.bounds.Bounds.Bounds, declared.line.Setting.Setting}
+use Rattle.model_line.specs.Settings.{time_key}
 use Rattle.line_file.specs.declared.fault.LineFault.TheVariants as fault
 use Rattle.line_file.specs.{Reading.◌>>=◌, Times.ends_in, Times.time_at, Times.times_at}
 

@@ -9,10 +9,10 @@ use Rattle.std.proofs.lemmas.Map.Made.{length-le_from_is_member}
 use Rattle.std.specs.Cmp.{IsEquivalence}
 use Rattle.std.specs.Set.{is_member}
 use Rattle.std.specs.List.{list_any, IsDistinct}
-use Rattle.line_model.specs.declared.line.Terminal.{Terminal}
-use Rattle.line_model.specs.Channels.{is_pair, from_of, to_of, IsChannel, AreChannels}
-use Rattle.line_model.specs.Channels.{AreChannelsBelow, AreFoundBelow, channels_are}
-use Rattle.line_model.specs.{declared.line.Channel.Channel, FirstPositions.is_some-position}
+use Rattle.model_line.specs.Channels.{is_pair, from_of, to_of, IsChannel, AreChannels}
+use Rattle.model_line.specs.Channels.{AreChannelsBelow, AreFoundBelow, channels_are}
+use Rattle.model_line.specs.FirstPositions.{is_some-position}
+use Rattle.model_line.specs.{declared.line.Terminal.Terminal, declared.line.Channel.Channel}
 use Rattle.line_file.specs.LineFiles.{two_pairs, three_pairs, pair_joined, all_joined, whole}
 use Rattle.line_file.proofs.Binds.{bind_ok, taken_ok}
 use Rattle.line_file.proofs.ChannelPairs.{pair_code, pair_code-at, codes_distinct}

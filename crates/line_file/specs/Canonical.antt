@@ -6,16 +6,15 @@ use Rattle.std.specs.Cmp.Lexicographic.{slice_cmp}
 use Rattle.toml.specs.Data.{Data, string, integer, boolean, array, table, Members, no_members}
 use Rattle.toml.specs.Data.{member, no_items, item}
 use Rattle.toml.specs.View.{items_of}
-use Rattle.line_model.specs.declared.line.Scheme.TheVariants.{Pott, Putt, Dcb, Dcub, Dtt}
-use Rattle.line_model.specs.declared.line.Scheme.{Scheme}
-use Rattle.line_model.specs.{declared.line.Line.Line, declared.line.Terminal.Terminal}
-use Rattle.line_model.specs.{declared.line.Channel.Channel, declared.line.Owner.Owner}
-use Rattle.line_model.specs.declared.line.Owner.TheVariants as owner
-use Rattle.line_model.specs.declared.line.Setting.{Setting}
-use Rattle.line_model.specs.declared.line.Setting.TheVariants.{Delay}
-use Rattle.line_model.specs.Settings.{table_key, time_key, terminal_groups, receiver_settings}
-use Rattle.line_model.specs.{declared.bounds.Bounds.Bounds, Intervals.leasts, Intervals.greatests}
-use Rattle.line_model.specs.{Parameters.param_number, ParamNames.name_at}
+use Rattle.model_line.specs.declared.line.Scheme.TheVariants.{Pott, Putt, Dcb, Dcub, Dtt}
+use Rattle.model_line.specs.Settings.{table_key, time_key, terminal_groups, receiver_settings}
+use Rattle.model_line.specs.Intervals.{leasts, greatests}
+use Rattle.model_line.specs.{declared.line.Scheme.Scheme, declared.line.Line.Line}
+use Rattle.model_line.specs.{declared.line.Terminal.Terminal, declared.line.Channel.Channel}
+use Rattle.model_line.specs.{declared.line.Owner.Owner, declared.line.Setting.Setting}
+use Rattle.model_line.specs.{declared.line.Setting.TheVariants.Delay, declared.bounds.Bounds.Bounds}
+use Rattle.model_line.specs.{Parameters.param_number, ParamNames.name_at}
+use Rattle.model_line.specs.declared.line.Owner.TheVariants as owner
 use Rattle.line_file.specs.Times.{units_per_tick}
 
 -- a table with a value under one more key, at its place in the order of the keys

@@ -4,11 +4,11 @@ use Rattle.std.specs.Prelude.{Err, codes, if◌then◌else◌}
 use Rattle.std.specs.Str.{bytes_eq}
 use Rattle.std.specs.List.{list_any, position_from}
 use Rattle.toml.specs.Data.{Data, Members, Items}
-use Rattle.line_model.specs.Settings.{time_key, receiver_settings}
-use Rattle.line_model.specs.{declared.line.Scheme.Scheme, declared.line.Scheme.TheVariants.Dcub}
-use Rattle.line_model.specs.{declared.line.Terminal.Terminal, declared.line.Channel.Channel}
-use Rattle.line_model.specs.declared.line.Setting.TheVariants.{Delay}
-use Rattle.line_model.specs.{Channels.is_pair, ParamNames.key_path}
+use Rattle.model_line.specs.Settings.{time_key, receiver_settings}
+use Rattle.model_line.specs.ParamNames.{key_path}
+use Rattle.model_line.specs.{declared.line.Scheme.Scheme, declared.line.Scheme.TheVariants.Dcub}
+use Rattle.model_line.specs.{declared.line.Terminal.Terminal, declared.line.Channel.Channel}
+use Rattle.model_line.specs.{declared.line.Setting.TheVariants.Delay, Channels.is_pair}
 use Rattle.line_file.specs.declared.fault.LineFault.{LineFault}
 use Rattle.line_file.specs.declared.fault.LineFault.TheVariants as fault
 use Rattle.line_file.specs.Keys.{all_known, text_at, table_in}

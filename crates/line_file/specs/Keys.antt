@@ -6,7 +6,7 @@ use Rattle.std.specs.List.{list_any}
 use Rattle.toml.specs.Data.{Data, string, integer, boolean, array, table, Members, no_members}
 use Rattle.toml.specs.Data.{member, Items, get_member}
 use Rattle.toml.specs.Parse.{parse_document}
-use Rattle.line_model.specs.ParamNames.{key_path}
+use Rattle.model_line.specs.ParamNames.{key_path}
 use Rattle.line_file.specs.declared.fault.LineFault.{LineFault}
 use Rattle.line_file.specs.declared.fault.LineFault.TheVariants as fault
 use Rattle.line_file.specs.{Paths.shown_key, Reading.◌>>=◌}

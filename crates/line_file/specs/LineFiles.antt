@@ -2,8 +2,8 @@
 use Rattle.std.specs.Prelude.{◌==◌, ℕ, List, [], ◌∷◌, Result, Ok, Err, length, codes, if◌then◌else◌}
 use Rattle.std.specs.List.{list_any}
 use Rattle.toml.specs.Data.{Members}
-use Rattle.line_model.specs.declared.line.Terminal.{Terminal}
-use Rattle.line_model.specs.{declared.line.Channel.Channel, Channels.is_pair, ParamNames.name_at}
+use Rattle.model_line.specs.{declared.line.Terminal.Terminal, declared.line.Channel.Channel}
+use Rattle.model_line.specs.{Channels.is_pair, ParamNames.name_at}
 use Rattle.line_file.specs.declared.fault.LineFault.{LineFault}
 use Rattle.line_file.specs.declared.fault.LineFault.TheVariants as fault
 use Rattle.line_file.specs.Keys.{document_of, opened, all_known, number_at}

@@ -3,10 +3,10 @@ use Rattle.std.specs.Prelude.{◌+◌, ℕ, Bool, List, [], Result, Ok, Err, cod
 use Rattle.std.specs.Prelude.{if◌then◌else◌}
 use Rattle.std.specs.Str.{bytes_eq}
 use Rattle.toml.specs.Data.{Data, Members, Items, no_items, item, get_member}
-use Rattle.line_model.specs.declared.line.Scheme.TheVariants.{Pott, Putt, Dcb, Dcub, Dtt}
-use Rattle.line_model.specs.{declared.bounds.Bounds.Bounds, declared.line.Line.Line}
-use Rattle.line_model.specs.{declared.line.Scheme.Scheme, declared.line.Param.Param}
-use Rattle.line_model.specs.{declared.line.Terminal.Terminal, declared.line.Channel.Channel}
+use Rattle.model_line.specs.declared.line.Scheme.TheVariants.{Pott, Putt, Dcb, Dcub, Dtt}
+use Rattle.model_line.specs.{declared.bounds.Bounds.Bounds, declared.line.Line.Line}
+use Rattle.model_line.specs.{declared.line.Scheme.Scheme, declared.line.Param.Param}
+use Rattle.model_line.specs.{declared.line.Terminal.Terminal, declared.line.Channel.Channel}
 use Rattle.line_file.specs.{declared.draft.Draft.Draft, declared.fault.LineFault.LineFault}
 use Rattle.line_file.specs.declared.fault.LineFault.TheVariants as fault
 use Rattle.line_file.specs.{Paths.item_path, Reading.◌>>=◌}

@@ -1,6 +1,6 @@
 -- A path's list gives its fields back.
 use Rattle.std.specs.Prelude.{◌≡◌, ℕ, List, take, length}
-use Rattle.line_model.specs.ShortTexts.{IsPadded, padded, length-text}
+use Rattle.model_line.specs.ShortTexts.{IsPadded, padded, length-text}
 use Rattle.line_file.specs.declared.path.Path.TheInside.{Inside}
 
 -- 96 bytes at most

@@ -4,13 +4,13 @@ use Rattle.std.specs.Prelude.{is_some, if◌then◌else◌, map}
 use Rattle.std.specs.Str.{bytes_eq}
 use Rattle.std.specs.List.{list_any}
 use Rattle.toml.specs.Data.{Data, Members, Items, get_member}
-use Rattle.line_model.specs.declared.line.Scheme.TheVariants.{Pott, Putt, Dcb, Dcub, Dtt}
-use Rattle.line_model.specs.Settings.{zone1_settings, zone2_settings, reverse_settings}
-use Rattle.line_model.specs.Settings.{undervoltage_settings, guard_settings, weak_settings}
-use Rattle.line_model.specs.Settings.{scheme_settings}
-use Rattle.line_model.specs.{declared.line.Scheme.Scheme, declared.line.Setting.Setting}
-use Rattle.line_model.specs.{declared.bounds.Bounds.Bounds, declared.line.Terminal.Terminal}
-use Rattle.line_model.specs.{PlainNames.is_plain_name, Terminals.has_flags, ParamNames.key_path}
+use Rattle.model_line.specs.declared.line.Scheme.TheVariants.{Pott, Putt, Dcb, Dcub, Dtt}
+use Rattle.model_line.specs.Settings.{zone1_settings, zone2_settings, reverse_settings}
+use Rattle.model_line.specs.Settings.{undervoltage_settings, guard_settings, weak_settings}
+use Rattle.model_line.specs.Settings.{scheme_settings}
+use Rattle.model_line.specs.{declared.line.Scheme.Scheme, declared.line.Setting.Setting}
+use Rattle.model_line.specs.{declared.bounds.Bounds.Bounds, declared.line.Terminal.Terminal}
+use Rattle.model_line.specs.{PlainNames.is_plain_name, Terminals.has_flags, ParamNames.key_path}
 use Rattle.line_file.specs.declared.fault.LineFault.{LineFault}
 use Rattle.line_file.specs.declared.fault.LineFault.TheVariants as fault
 use Rattle.line_file.specs.{Reading.◌>>=◌, Keys.all_known, Keys.text_at, Keys.table_in}

@@ -3,8 +3,9 @@ use Rattle.std.specs.Prelude.{◌+◌, ◌-◌, ◌*◌, ◌/◌, ◌&&◌, ◌=
 use Rattle.std.specs.Prelude.{◌∷◌, Option, None, Some, Result, Ok, Err, if◌then◌else◌, nat_le, map}
 use Rattle.toml.specs.Data.{Data, integer, array, Members, Items, no_items, item, as_integer}
 use Rattle.toml.specs.Data.{get_member}
-use Rattle.line_model.specs.{declared.bounds.Bounds.Bounds, declared.line.Setting.Setting}
-use Rattle.line_model.specs.{Settings.table_key, Settings.time_key, ParamNames.key_path}
+use Rattle.model_line.specs.Settings.{table_key, time_key}
+use Rattle.model_line.specs.ParamNames.{key_path}
+use Rattle.model_line.specs.{declared.bounds.Bounds.Bounds, declared.line.Setting.Setting}
 use Rattle.line_file.specs.declared.fault.LineFault.{LineFault}
 use Rattle.line_file.specs.declared.fault.LineFault.TheVariants as fault
 use Rattle.line_file.specs.{Reading.◌>>=◌, Keys.all_known, Keys.value_at, Keys.table_in}

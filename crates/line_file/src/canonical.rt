@@ -4,14 +4,14 @@ ghost use Rattle.std.specs.Prelude.{◌≡◌, ◌<◌, ◌≤◌, ℕ, true, po
 ghost use Rattle.std.specs.Prelude.{get_or};
 ghost use Rattle.toml.specs.{Data.table, Data.string, Data.integer, Data.Members};
 ghost use Rattle.toml.specs.{View.view, View.table_view, declared.value.Value.Value};
-ghost use Rattle.line_model.specs.{PlainNames.is_plain_name, ParamNames.name_at};
-ghost use Rattle.line_model.specs.declared.line.Owner.TheVariants as owner;
+ghost use Rattle.model_line.specs.{PlainNames.is_plain_name, ParamNames.name_at};
+ghost use Rattle.model_line.specs.declared.line.Owner.TheVariants as owner;
 ghost use Rattle.line_file.specs.Canonical.{put_member, put_all, terminal_members, tables_from};
 ghost use Rattle.line_file.specs.Canonical.{channel_members, scheme_text};
 ghost use Rattle.line_file.specs.Canonical.{head_pairs, canonical_in};
 
 use crate::table::{OwnerTimes, put};
-use line_model::{
+use model_line::{
     Channel, Line, Memory, Name, Owner, Scheme, Setting, Terminal, groups_of_terminal,
     receiver_settings,
 };

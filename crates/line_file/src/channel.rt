@@ -3,7 +3,7 @@
 ghost use Rattle.std.specs.Prelude.{◌≡◌, ◌<◌, ◌≤◌, [], IfSome, OnOk, map, length};
 ghost use Rattle.std.specs.List.{list_any};
 ghost use Rattle.toml.specs.View.{view, table_view, items_view};
-ghost use Rattle.line_model.specs.Channels.{is_pair};
+ghost use Rattle.model_line.specs.Channels.{is_pair};
 ghost use Rattle.line_file.specs.ChannelTables.{channel_keys, terminal_called, from_at, to_at};
 ghost use Rattle.line_file.specs.ChannelTables.{ends_at, channel_at, channels_at};
 ghost use Rattle.line_file.specs.{Reading.Becomes, Lines.values_of};
@@ -13,7 +13,7 @@ use crate::fault::LineFault;
 use crate::keys::{only, table_of, text};
 use crate::path::Path;
 use crate::times::TableTimes;
-use line_model::{Channel, Scheme, Setting, Terminal, receiver_settings};
+use model_line::{Channel, Scheme, Setting, Terminal, receiver_settings};
 use toml::{Table, Value};
 
 fn keys(scheme: Scheme) -> &'static [&'static str]

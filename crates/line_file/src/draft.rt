@@ -2,7 +2,7 @@
 
 ghost use Rattle.std.specs.Prelude.{◌≤◌};
 
-use line_model::{Bounds, Channel, Scheme, Terminal};
+use model_line::{Bounds, Channel, Scheme, Terminal};
 
 /// A line while its file is read: the intervals are those of its parameters, in order.
 #[derive(Drop)]

@@ -5,7 +5,7 @@ ghost use Rattle.line_file.specs.declared.fault.LineFault.TheVariants.{Memory};
 ghost use Rattle.line_file.specs.Faults.{fault_name, fault_number};
 
 use crate::path::Path;
-use line_model::Name;
+use model_line::Name;
 use std::alloc::{AllocError, AllocFailed};
 use std::error::Error;
 use std::fmt;
@@ -115,10 +115,10 @@ impl<T: Drop> From<AllocFailed<T>> for LineFault {
     }
 }
 
-impl From<line_model::Memory> for LineFault {
+impl From<model_line::Memory> for LineFault {
     ghost from_gives = { λ _ e. e ≡ Memory };
 
-    fn from(_: line_model::Memory) -> Self {
+    fn from(_: model_line::Memory) -> Self {
         LineFault::Memory
     }
 }

@@ -10,7 +10,7 @@ use crate::draft::Draft;
 use crate::fault::LineFault;
 use crate::keys::{find, flag, items, number, text};
 use crate::path::Path;
-use line_model::Scheme;
+use model_line::Scheme;
 use std::alloc::Global;
 use toml::{Table, Value};
 

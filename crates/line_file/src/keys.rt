@@ -4,7 +4,7 @@ ghost use Rattle.std.specs.Prelude.{◌≡◌, ◌≤◌, ◌+◌, ◌++◌, IfO
 ghost use Rattle.std.specs.Str.{bytes_eq};
 ghost use Rattle.std.specs.List.{list_any};
 ghost use Rattle.toml.specs.{Data.get_member, View.view, View.table_view, View.items_view};
-ghost use Rattle.line_model.specs.Settings.{time_key};
+ghost use Rattle.model_line.specs.Settings.{time_key};
 ghost use Rattle.line_file.specs.Reading.{Gives, seen};
 ghost use Rattle.line_file.specs.Keys.{document_of, opened, first_unknown, all_known, value_at};
 ghost use Rattle.line_file.specs.Keys.{number_in, number_at, text_in, text_at, flag_or_false};
@@ -12,7 +12,7 @@ ghost use Rattle.line_file.specs.Keys.{array_in, array_at, table_in};
 
 use crate::fault::LineFault;
 use crate::path::Path;
-use line_model::Setting;
+use model_line::Setting;
 use std::alloc::Global;
 use toml::{Table, Value};
 

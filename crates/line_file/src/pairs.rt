@@ -1,12 +1,12 @@
 //! Whether each ordered pair of terminals has a channel.
 
 ghost use Rattle.std.specs.Prelude.{◌≡◌, ◌<◌, ◌≤◌, length};
-ghost use Rattle.line_model.specs.ParamNames.{name_at};
+ghost use Rattle.model_line.specs.ParamNames.{name_at};
 ghost use Rattle.line_file.specs.LineFiles.{two_pairs, three_pairs, pair_joined, all_joined, whole};
 
 use crate::channel::has_pair;
 use crate::fault::LineFault;
-use line_model::{Channel, Name, Terminal};
+use model_line::{Channel, Name, Terminal};
 
 fn name(terminals: &[Terminal], place: u32) -> Name
     requires { place < length terminals.now }

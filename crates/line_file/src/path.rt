@@ -1,7 +1,7 @@
 //! Where in a line file something stands.
 
 ghost use Rattle.std.specs.Prelude.{◌≡◌, ◌+◌, ◌<◌, ◌≤◌, ◌++◌, ◌∷◌, [], ℕ, length, take};
-ghost use Rattle.line_model.specs.ParamNames.{key_path};
+ghost use Rattle.model_line.specs.ParamNames.{key_path};
 ghost use Rattle.line_file.specs.Paths.{item_path, shown_byte, shown_key};
 
 use std::fmt;

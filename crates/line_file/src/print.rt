@@ -6,8 +6,8 @@ ghost use Rattle.line_file.specs.Canonical.{canonical_in, canonical};
 ghost use Rattle.line_file.specs.{Keys.document_of, Lines.line_values, LineFiles.line_of};
 
 use crate::canonical;
-use line_model::laws::line_laws;
-use line_model::{Line, Memory};
+use model_line::{Line, Memory};
+use model_logic::laws::line_laws;
 use std::alloc::Global;
 use toml::ser::Error;
 

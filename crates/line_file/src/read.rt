@@ -2,7 +2,7 @@
 
 ghost use Rattle.std.specs.Prelude.{◌<◌, Ok, IfOk};
 ghost use Rattle.toml.specs.View.{table_view};
-ghost use Rattle.line_model.specs.Making.{MakesLine};
+ghost use Rattle.model_line.specs.Making.{MakesLine};
 ghost use Rattle.line_file.specs.Lines.{line_values, values_of};
 ghost use Rattle.line_file.specs.{Reading.Gives, LineFiles.line_in, LineFiles.line_of};
 
@@ -15,8 +15,8 @@ use crate::pairs::all_joined;
 use crate::path::Path;
 use crate::terminal::terminals;
 use crate::times::units;
-use line_model::Line;
-use line_model::laws::settings_are_counted;
+use model_line::Line;
+use model_line::laws::settings_are_counted;
 use std::alloc::Global;
 use toml::Table;
 

@@ -2,14 +2,14 @@
 
 ghost use Rattle.std.specs.Prelude.{◌≡◌, ◌<◌, ◌≤◌, ◌*◌, pos, IfOk, OnOk, map};
 ghost use Rattle.toml.specs.{Data.table, Data.integer, View.view, View.table_view};
-ghost use Rattle.line_model.specs.Parameters.{IsOwner};
-ghost use Rattle.line_model.specs.declared.line.Owner.TheVariants as owner;
+ghost use Rattle.model_line.specs.Parameters.{IsOwner};
+ghost use Rattle.model_line.specs.declared.line.Owner.TheVariants as owner;
 ghost use Rattle.line_file.specs.Canonical.{put_member, time_data, interval_of};
 ghost use Rattle.line_file.specs.Canonical.{setting_interval, times_data};
 ghost use Rattle.line_file.specs.Canonical.{put_times, put_groups};
 ghost use Rattle.line_file.specs.Owners.{IsOwner-prop};
 
-use line_model::{Bounds, Line, Memory, Owner, Setting};
+use model_line::{Bounds, Line, Memory, Owner, Setting};
 use std::alloc::Global;
 use toml::{Table, Value};
 

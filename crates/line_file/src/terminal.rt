@@ -4,7 +4,7 @@ ghost use Rattle.std.specs.Prelude.{◌≡◌, ◌<◌, ◌≤◌, ◌+◌, OnOk
 ghost use Rattle.std.specs.Str.{bytes_eq};
 ghost use Rattle.std.specs.List.{list_any};
 ghost use Rattle.toml.specs.View.{view, table_view, items_view};
-ghost use Rattle.line_model.specs.Terminals.{has_flags};
+ghost use Rattle.model_line.specs.Terminals.{has_flags};
 ghost use Rattle.line_file.specs.TerminalTables.{terminal_keys, name_in, name_at, element_times};
 ghost use Rattle.line_file.specs.TerminalTables.{elements_times, permissive_times, scheme_times};
 ghost use Rattle.line_file.specs.TerminalTables.{terminal_named, terminal_at, terminals_at};
@@ -15,7 +15,7 @@ use crate::fault::LineFault;
 use crate::keys::{find, only, table_of, text};
 use crate::path::Path;
 use crate::times::{TableTimes, group_key};
-use line_model::{
+use model_line::{
     Bounds, Name, REVERSE_SETTINGS, Scheme, Setting, Terminal, UNDERVOLTAGE_SETTINGS,
     ZONE1_SETTINGS, ZONE2_SETTINGS, guard_settings, is_plain, scheme_settings, weak_settings,
 };

@@ -1,7 +1,7 @@
 //! Worked line files, taken and refused.
 
 use crate::{print_line, print_line_us, read_line};
-use line_model::Line;
+use model_line::Line;
 use std::alloc::Global;
 use std::process::Abort;
 use std::test::Fail;

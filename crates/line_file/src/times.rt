@@ -6,12 +6,12 @@ ghost use Rattle.line_file.specs.Times.{units_per_tick, in_ticks, interval_in, e
 ghost use Rattle.line_file.specs.Times.{time_at, times_at, times_in, group_key, required_times};
 ghost use Rattle.line_file.specs.Times.{optional_times};
 ghost use Rattle.line_file.specs.{Reading.Becomes};
-ghost use Rattle.line_model.specs.{Settings.time_key, ParamNames.key_path};
+ghost use Rattle.model_line.specs.{Settings.time_key, ParamNames.key_path};
 
 use crate::fault::LineFault;
 use crate::keys::{find, only_settings, table_of, value};
 use crate::path::Path;
-use line_model::{Bounds, Setting};
+use model_line::{Bounds, Setting};
 use toml::{Table, Value};
 
 /// How many units of time a tick has: version 1 writes ticks, version 2 microseconds.

@@ -4,11 +4,11 @@ use Rattle.std.proofs.Common.{arith, ⊎_elim, length, zero, [], ◌∷◌, get_
 use Rattle.std.proofs.lemmas.Bool.{cases_lt}
 use Rattle.std.proofs.lemmas.Option.{slice_get_within}
 use Rattle.std.specs.Prelude.{slice_get}
-use Rattle.line_model.specs.declared.line.Line.{Line}
-use Rattle.line_model.specs.Parameters.{terminal_count, param_count, declared_ends}
-use Rattle.line_model.specs.Choice.{Box, declared_box}
-use Rattle.line_model.specs.{declared.script.Script.Script, SetBounds.SameButParams}
-use Rattle.line_model.specs.{WithBounds.IsWithBounds, Boxes.IsSameBox, HeldOver.IsHeldOver}
+use Rattle.model_line.specs.Parameters.{terminal_count, param_count, declared_ends}
+use Rattle.model_line.specs.{declared.line.Line.Line, declared.script.Script.Script}
+use Rattle.model_line.specs.{SetBounds.SameButParams, WithBounds.IsWithBounds}
+use Rattle.model_logic.specs.Choice.{Box, declared_box}
+use Rattle.model_logic.specs.{Boxes.IsSameBox, HeldOver.IsHeldOver}
 use Rattle.margin_search.specs.Lost.{IsScriptHeld, AreHeld, AllHeld, IsLoss}
 use Rattle.margin_search.specs.{Known.Known, declared.upper_end.Lost.Lost, Raised.raised}
 

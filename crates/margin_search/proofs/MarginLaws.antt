@@ -4,10 +4,10 @@ use Rattle.std.proofs.lemmas.List.Elements.{All-get_or}
 use Rattle.std.proofs.lemmas.Option.{slice_get_within, get_or_from_slice_get}
 use Rattle.std.specs.Prelude.{slice_get}
 use Rattle.std.specs.List.{All}
-use Rattle.line_model.specs.declared.line.Line.{Line}
-use Rattle.line_model.specs.Parameters.{terminal_count, declared_ends}
-use Rattle.line_model.specs.{declared.script.Script.Script, Choice.Choice, Choice.IsWithin}
-use Rattle.line_model.specs.{Fits.Fits, Histories.History, Histories.IsLineHistory, Histories.Meets}
+use Rattle.model_line.specs.Parameters.{terminal_count, declared_ends}
+use Rattle.model_line.specs.{declared.line.Line.Line, declared.script.Script.Script, Fits.Fits}
+use Rattle.model_logic.specs.Choice.{Choice, IsWithin}
+use Rattle.model_logic.specs.Histories.{History, IsLineHistory, Meets}
 use Rattle.margin_search.specs.Margin.{IsHeldTo, IsMargin, HasNoMargin, IsLostAt, IsBracket}
 use Rattle.margin_search.specs.{Known.Known, declared.upper_end.Lost.Lost, Raised.raised}
 use Rattle.margin_search.proofs.RaisedLaws.{raised_from_one, raised_within}

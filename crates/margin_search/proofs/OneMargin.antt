@@ -4,8 +4,9 @@ use Rattle.std.proofs.Common.{◌∙◌, ap, subst, arith, ⊎_elim}
 use Rattle.std.proofs.lemmas.Bool.{cases_lt}
 use Rattle.std.proofs.lemmas.Option.{slice_get_within}
 use Rattle.std.specs.Prelude.{MatchOption, IfSome, slice_get}
-use Rattle.line_model.specs.Parameters.{terminal_count}
-use Rattle.line_model.specs.{declared.line.Line.Line, declared.script.Script.Script, Choice.Box}
+use Rattle.model_line.specs.{Parameters.terminal_count, declared.line.Line.Line}
+use Rattle.model_line.specs.declared.script.Script.{Script}
+use Rattle.model_logic.specs.Choice.{Box}
 use Rattle.margin_search.specs.Lost.{IsFirstLost, IsFirstTerminal}
 use Rattle.margin_search.specs.Margin.{HasNoMargin, IsLostAbove, IsLostAtLeast, IsMargin}
 use Rattle.margin_search.specs.Margin.{IsUpperEnd}

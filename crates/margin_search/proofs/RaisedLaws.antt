@@ -2,9 +2,10 @@
 use Rattle.std.proofs.Common.{◌≡◌, ◌≤◌, ℕ, sym, ◌∙◌, ap, subst, arith, inl, inr, eq-eqb, cond, Bool}
 use Rattle.std.proofs.lemmas.Bool.{cases_eq, ne_eqb}
 use Rattle.history.specs.Rails.{Ends, IsPartOf}
-use Rattle.line_model.specs.declared.line.Line.{Line}
-use Rattle.line_model.specs.Parameters.{delay_param, declared_ends}
-use Rattle.line_model.specs.{Choice.IsBoxWithin, Choice.LeastFromOne, Boxes.ends_with}
+use Rattle.model_line.specs.Parameters.{delay_param, declared_ends}
+use Rattle.model_line.specs.declared.line.Line.{Line}
+use Rattle.model_logic.specs.Choice.{IsBoxWithin, LeastFromOne}
+use Rattle.model_logic.specs.Boxes.{ends_with}
 use Rattle.margin_search.specs.Raised.{raised}
 
 -- at the parameter the new interval, elsewhere the old one

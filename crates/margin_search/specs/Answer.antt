@@ -1,6 +1,6 @@
 -- What is answered of a parameter: its line, and whether it has a margin.
 use Rattle.std.specs.Prelude.{◌≡◌, ℕ, Bool, List, is_some}
-use Rattle.line_model.specs.{declared.line.Line.Line, declared.script.Script.Script}
+use Rattle.model_line.specs.{declared.line.Line.Line, declared.script.Script.Script}
 use Rattle.margin_search.specs.declared.upper_end.UpperEnd.{UpperEnd}
 use Rattle.margin_search.specs.{Margin.IsUpperEnd, MarginText.margin_line}
 

@@ -1,7 +1,8 @@
 -- Whether the rules of all obligations are held over a box, and the first that is not.
 use Rattle.std.specs.Prelude.{◌≡◌, ◌<◌, ℕ, List, Some, Option, MatchOption, slice_get}
-use Rattle.line_model.specs.{declared.line.Line.Line, declared.script.Script.Script}
-use Rattle.line_model.specs.{Parameters.terminal_count, Choice.Box, HeldOver.IsHeldOver}
+use Rattle.model_line.specs.{declared.line.Line.Line, declared.script.Script.Script}
+use Rattle.model_line.specs.Parameters.{terminal_count}
+use Rattle.model_logic.specs.{Choice.Box, HeldOver.IsHeldOver}
 use Rattle.margin_search.specs.declared.upper_end.Lost.{Lost}
 
 -- the rule of a script is held at each of the first n terminals

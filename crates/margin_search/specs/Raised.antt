@@ -1,7 +1,7 @@
 -- The declared box with another greatest number for one parameter.
 use Rattle.std.specs.Prelude.{ℕ}
-use Rattle.line_model.specs.declared.line.Line.{Line}
-use Rattle.line_model.specs.{Parameters.declared_ends, Choice.Box, Boxes.declared_with}
+use Rattle.model_line.specs.{declared.line.Line.Line, Parameters.declared_ends}
+use Rattle.model_logic.specs.{Choice.Box, Boxes.declared_with}
 
 abbrev pub raised : Line → ℕ → ℕ → Box
 raised line param greatest =

@@ -2,14 +2,14 @@
 
 ghost use Rattle.std.specs.Prelude.{◌≤◌, ◌<◌, length, IfOk};
 ghost use Rattle.std.specs.List.{All};
-ghost use Rattle.line_model.specs.{Parameters.param_count, Fits.Fits};
+ghost use Rattle.model_line.specs.{Parameters.param_count, Fits.Fits};
 ghost use Rattle.gate_net.specs.NetOf.{IsNetOf};
 ghost use Rattle.margin_search.specs.Answer.{IsMarginAnswer};
 
 use crate::searching::margin;
 use crate::text::margin_text;
 use gate_net::Net;
-use line_model::{Line, Memory, Script};
+use model_line::{Line, Memory, Script};
 use std::alloc::Global;
 
 /// The line of a parameter, and whether it has a margin.

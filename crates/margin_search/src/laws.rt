@@ -2,10 +2,11 @@
 
 ghost use Rattle.std.specs.Prelude.{◌≡◌, ◌≤◌, ◌<◌, ℕ, List, Some, slice_get};
 ghost use Rattle.std.specs.List.{All};
-ghost use Rattle.line_model.specs.Parameters.{terminal_count, param_count};
-ghost use Rattle.line_model.specs.Histories.{History, IsLineHistory, Meets};
-ghost use Rattle.line_model.specs.{declared.line.Line.Line, declared.script.Script.Script};
-ghost use Rattle.line_model.specs.{Choice.Choice, Choice.IsWithin, Fits.Fits};
+ghost use Rattle.model_line.specs.Parameters.{terminal_count, param_count};
+ghost use Rattle.model_line.specs.Fits.{Fits};
+ghost use Rattle.model_line.specs.{declared.line.Line.Line, declared.script.Script.Script};
+ghost use Rattle.model_logic.specs.Histories.{History, IsLineHistory, Meets};
+ghost use Rattle.model_logic.specs.Choice.{Choice, IsWithin};
 ghost use Rattle.margin_search.specs.Margin.{IsHeldTo, IsUpperEnd};
 ghost use Rattle.margin_search.specs.{Raised.raised, declared.upper_end.UpperEnd.UpperEnd};
 

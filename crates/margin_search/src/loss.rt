@@ -2,8 +2,10 @@
 
 ghost use Rattle.std.specs.Prelude.{◌≡◌, ◌≤◌, ◌<◌, length, IsTrue, IfOk, MatchOption};
 ghost use Rattle.std.specs.List.{All};
-ghost use Rattle.line_model.specs.Parameters.{terminal_count, param_count, declared_ends};
-ghost use Rattle.line_model.specs.{Choice.declared_box, Fits.Fits, Rule.Held, Rule.rule_of};
+ghost use Rattle.model_line.specs.Parameters.{terminal_count, param_count, declared_ends};
+ghost use Rattle.model_line.specs.Fits.{Fits};
+ghost use Rattle.model_logic.specs.Rule.{Held, rule_of};
+ghost use Rattle.model_logic.specs.Choice.{declared_box};
 ghost use Rattle.gate_net.specs.NetOf.{IsNetOf};
 ghost use Rattle.interval_wave.specs.PairWavesOf.{pair_history};
 ghost use Rattle.margin_search.specs.Raised.{raised};
@@ -14,8 +16,8 @@ use crate::upper_end::Lost;
 use gate_net::Net;
 use gate_net::laws::nets_do_not_rest_on_the_intervals;
 use interval_wave::{PairWaves, Rule, analyse, judge};
-use line_model::interval_laws::scripts_fit_whatever_the_intervals;
-use line_model::{Line, Memory, Script};
+use model_line::laws::scripts_fit_whatever_the_intervals;
+use model_line::{Line, Memory, Script};
 use std::alloc::Global;
 
 /// The first obligation that is not held over the declared box whose greatest number of this

@@ -2,10 +2,10 @@
 
 ghost use Rattle.std.specs.Prelude.{◌≡◌, ◌≤◌, ◌<◌, ℕ, Some, length, slice_get, IfOk};
 ghost use Rattle.std.specs.List.{All};
-ghost use Rattle.line_model.specs.Parameters.{terminal_count, param_count, declared_ends};
-ghost use Rattle.line_model.specs.Choice.{Choice, IsWithin};
-ghost use Rattle.line_model.specs.Histories.{History, IsLineHistory, Meets};
-ghost use Rattle.line_model.specs.{declared.script.Script.Script, Fits.Fits};
+ghost use Rattle.model_line.specs.Parameters.{terminal_count, param_count, declared_ends};
+ghost use Rattle.model_line.specs.{declared.script.Script.Script, Fits.Fits};
+ghost use Rattle.model_logic.specs.Choice.{Choice, IsWithin};
+ghost use Rattle.model_logic.specs.Histories.{History, IsLineHistory, Meets};
 ghost use Rattle.gate_net.specs.NetOf.{IsNetOf};
 ghost use Rattle.margin_search.specs.Raised.{raised};
 ghost use Rattle.margin_search.specs.Margin.{IsUpperEnd, IsMargin, IsBracket, IsHeldTo, IsLostAt};
@@ -15,7 +15,7 @@ use crate::laws::what_is_held_to_a_number_is_met;
 use crate::loss::lost_at;
 use crate::upper_end::{Lost, UpperEnd};
 use gate_net::Net;
-use line_model::{Line, Memory, Script};
+use model_line::{Line, Memory, Script};
 use std::alloc::Global;
 
 /// The greatest number of a parameter, up to 4,000, over which the rule of every script is held at

@@ -1,7 +1,7 @@
 //! The text of a margin.
 
 use super::*;
-use line_model::{Bounds, Line, Name, Script};
+use model_line::{Bounds, Line, Name, Script};
 use sample_lines::{two_terminals, unseen_fault};
 use std::alloc::Global;
 use std::test::Fail;

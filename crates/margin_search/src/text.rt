@@ -1,12 +1,13 @@
 //! The line of a margin.
 
 ghost use Rattle.std.specs.Prelude.{◌≡◌, ◌++◌, ◌<◌, length, OnOk, IfOk, IfSome, decimal};
-ghost use Rattle.line_model.specs.Parameters.{terminal_count, param_count};
+ghost use Rattle.model_line.specs.Parameters.{terminal_count, param_count};
 ghost use Rattle.margin_search.specs.MarginText.{greatest_words, lost_words, margin_line};
 
 use crate::upper_end::{Lost, UpperEnd};
 use itoa::Buffer;
-use line_model::{Line, Memory, Script, name_of_parameter, name_of_script, name_of_terminal};
+use model_line::{Line, Memory, Script};
+use model_names::{name_of_parameter, name_of_script, name_of_terminal};
 use std::alloc::Global;
 
 /// The line of a parameter's margin: `margin PARAMETER V declared G` with `lost SCRIPT TERMINAL` or

@@ -6,12 +6,13 @@ use Rattle.std.proofs.lemmas.Option.{slice_get_within, slice_get-get_or}
 use Rattle.std.specs.Prelude.{slice_get}
 use Rattle.history.specs.Rails.{RailsCover}
 use Rattle.tick_signal.specs.declared.tern.Tern.{Tern}
-use Rattle.line_model.specs.declared.line.Line.{Line}
-use Rattle.line_model.specs.Parameters.{param_count, terminal_count}
-use Rattle.line_model.specs.Histories.{PairHistory, IsPairHistory, AreCovered}
-use Rattle.line_model.specs.{declared.script.Script.Script, Choice.Choice, Choice.declared_box}
-use Rattle.line_model.specs.{Choice.pair_world_of, Fits.Fits, Logic.key_tree, Logic.trip_tree}
-use Rattle.line_model.specs.{Names.Names, PairMean.pair_mean, Tree.Tree, Rule.Held, Rule.rule_of}
+use Rattle.model_line.specs.Parameters.{param_count, terminal_count}
+use Rattle.model_line.specs.{declared.line.Line.Line, declared.script.Script.Script, Fits.Fits}
+use Rattle.model_logic.specs.Histories.{PairHistory, IsPairHistory, AreCovered}
+use Rattle.model_logic.specs.Choice.{Choice, declared_box, pair_world_of}
+use Rattle.model_logic.specs.Logic.{key_tree, trip_tree}
+use Rattle.model_logic.specs.Rule.{Held, rule_of}
+use Rattle.model_logic.specs.{Names.Names, PairMean.pair_mean, Tree.Tree}
 use Rattle.timing_box.specs.Candidates.{candidate}
 use Rattle.timing_box.specs.{Choice.timing_choice, Inside.IsTimingInside, Timing.TimingValues}
 use Rattle.certificate.specs.Grammar.{AreNumbers, HasNumbers, Verdict as Written}

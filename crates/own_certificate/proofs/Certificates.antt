@@ -4,8 +4,8 @@ use Rattle.std.proofs.Common.{sym, ◌∙◌, ap, subst, arith, append_assoc}
 use Rattle.std.proofs.lemmas.List.{append-nil}
 use Rattle.std.proofs.lemmas.Slice.Zip.{AllZip-long}
 use Rattle.std.specs.List.{All}
-use Rattle.line_model.specs.declared.line.Line.{Line}
-use Rattle.line_model.specs.{declared.script.Script.Script, Choice.declared_box, Fits.Fits}
+use Rattle.model_line.specs.{declared.line.Line.Line, declared.script.Script.Script, Fits.Fits}
+use Rattle.model_logic.specs.Choice.{declared_box}
 use Rattle.tick_signal.specs.declared.tern.Tern.{Tern}
 use Rattle.certificate.specs.Grammar.{Claims, IsCertificate, Verdict as Written}
 use Rattle.certificate.specs.Text.{CanBeWritten, certificate_text, part_text, parts_text}

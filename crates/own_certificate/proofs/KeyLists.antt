@@ -7,9 +7,10 @@ use Rattle.std.specs.Prelude.{slice_get, option_map}
 use Rattle.history.specs.Rails.{Rails, IsSound, both}
 use Rattle.tick_signal.specs.Terns.{tern_rails, tern_with, tern_once, rails_told}
 use Rattle.tick_signal.specs.{declared.tern.Tern.Tern, declared.tern.Tern.TheVariants.Zero}
-use Rattle.line_model.specs.{declared.line.Line.Line, declared.script.Script.Script}
-use Rattle.line_model.specs.{Intervals.leasts, Parameters.terminal_count, Choice.declared_box}
-use Rattle.line_model.specs.{Choice.steady_choice, Histories.PairHistory, Histories.IsPairHistory}
+use Rattle.model_line.specs.{declared.line.Line.Line, declared.script.Script.Script}
+use Rattle.model_line.specs.{Intervals.leasts, Parameters.terminal_count}
+use Rattle.model_logic.specs.Choice.{declared_box, steady_choice}
+use Rattle.model_logic.specs.Histories.{PairHistory, IsPairHistory}
 use Rattle.wave_runs.specs.Waves.{IsWaveOf, wave_at}
 use Rattle.certify_core.specs.Verdicts.{AreKeys}
 use Rattle.own_certificate.specs.Known.{Known}

@@ -2,11 +2,11 @@
 use Rattle.std.proofs.Common.{◌≡◌, ◌≢◌, ◌⊎◌, ℕ, ◌<◌, Bool, sym, ◌∙◌, ap, refl, arith, inl, inr}
 use Rattle.std.proofs.Common.{⊎_elim}
 use Rattle.history.specs.Rails.{Rails, both, must_of, may_of}
-use Rattle.line_model.specs.declared.line.Line.{Line}
-use Rattle.line_model.specs.declared.script.Kind.TheVariants.{Internal, External}
-use Rattle.line_model.specs.Histories.{History, Meets, MeetsBy}
-use Rattle.line_model.specs.Rule.{Rule, Held, Broken, Unknown, IsHeld, rule_of}
-use Rattle.line_model.specs.{declared.script.Kind.Kind, declared.script.Script.Script}
+use Rattle.model_line.specs.declared.script.Kind.TheVariants.{Internal, External}
+use Rattle.model_line.specs.declared.script.Script.{Script}
+use Rattle.model_line.specs.{declared.line.Line.Line, declared.script.Kind.Kind}
+use Rattle.model_logic.specs.Histories.{History, Meets, MeetsBy}
+use Rattle.model_logic.specs.Rule.{Rule, Held, Broken, Unknown, IsHeld, rule_of}
 use Rattle.own_certificate.specs.Known.{Known}
 
 -- ---- rules that are held

@@ -2,10 +2,10 @@
 use Rattle.std.proofs.Common.{◌≡◌, ◌⊎◌, ℕ, zero, suc, ◌<◌, ◌≤◌, List, refl, sym, subst}
 use Rattle.std.proofs.Common.{arith, inl, inr, ⊎_elim}
 use Rattle.std.proofs.lemmas.Bool.{cases_lt}
-use Rattle.line_model.specs.declared.line.Line.{Line}
-use Rattle.line_model.specs.Choice.{Choice, DelaysFromOne, declared_box}
-use Rattle.line_model.specs.Histories.{PairHistory, IsPairHistory}
-use Rattle.line_model.specs.{declared.script.Script.Script, Parameters.terminal_count, Fits.Fits}
+use Rattle.model_line.specs.{declared.line.Line.Line, declared.script.Script.Script}
+use Rattle.model_line.specs.{Parameters.terminal_count, Fits.Fits}
+use Rattle.model_logic.specs.Choice.{Choice, DelaysFromOne, declared_box}
+use Rattle.model_logic.specs.Histories.{PairHistory, IsPairHistory}
 use Rattle.timing_box.specs.{Candidates.candidate, Candidates.candidate_count, Choice.timing_choice}
 use Rattle.certify_core.specs.declared.verdict.Verdict.{Verdict}
 use Rattle.certify_core.specs.declared.verdict.Verdict.TheVariants.{Yes, No, Undecided}

@@ -1,8 +1,9 @@
 -- What is certified of a script, and of several.
 use Rattle.std.specs.Prelude.{◌≡◌, List, map}
 use Rattle.std.specs.List.{AllZip}
-use Rattle.line_model.specs.{declared.line.Line.Line, declared.script.Script.Script}
-use Rattle.line_model.specs.{Choice.declared_box, Histories.PairHistory, Histories.IsPairHistory}
+use Rattle.model_line.specs.{declared.line.Line.Line, declared.script.Script.Script}
+use Rattle.model_logic.specs.Histories.{PairHistory, IsPairHistory}
+use Rattle.model_logic.specs.Choice.{declared_box}
 use Rattle.certificate.specs.Grammar.{Claims}
 use Rattle.certify_core.specs.declared.verdict.Verdict.{Verdict}
 use Rattle.certify_core.specs.{Piece.written_as, Verdicts.AreKeys, Verdicts.AreVerdicts}

@@ -2,8 +2,8 @@
 
 ghost use Rattle.own_certificate.specs.Known.{Known};
 
-use line_model::interval_laws::declared_intervals_are_in_order;
-use line_model::laws::line_laws;
+use model_line::laws::declared_intervals_are_in_order;
+use model_logic::laws::line_laws;
 use timing_box::{candidates_are_inside, timings_inside_are_choices_inside};
 
 /// The laws of lines, histories and candidates, as their crates state them.

@@ -3,9 +3,10 @@
 ghost use Rattle.std.specs.Prelude.{◌≡◌, ◌∷◌, ◌++◌, [], List, length};
 ghost use Rattle.std.specs.List.{All};
 ghost use Rattle.tick_signal.specs.declared.tern.Tern.{Tern};
-ghost use Rattle.line_model.specs.declared.line.Line.{Line};
-ghost use Rattle.line_model.specs.Histories.{PairHistory, IsPairHistory};
-ghost use Rattle.line_model.specs.{declared.script.Script.Script, Choice.declared_box, Fits.Fits};
+ghost use Rattle.model_line.specs.{declared.line.Line.Line, declared.script.Script.Script};
+ghost use Rattle.model_line.specs.Fits.{Fits};
+ghost use Rattle.model_logic.specs.Histories.{PairHistory, IsPairHistory};
+ghost use Rattle.model_logic.specs.Choice.{declared_box};
 ghost use Rattle.certificate.specs.Grammar.{Claims, IsCertificate};
 ghost use Rattle.certificate.specs.Text.{CanBeWritten, certificate_text, part_text, parts_text};
 ghost use Rattle.certify_core.specs.declared.verdict.Verdict.{Verdict};

@@ -5,8 +5,8 @@ use Rattle.std.proofs.lemmas.List.{length-append}
 use Rattle.std.proofs.lemmas.Option.{same_Some}
 use Rattle.std.specs.Prelude.{slice_get}
 use Rattle.std.specs.List.{All}
-use Rattle.line_model.specs.{declared.line.Line.Line, declared.script.Script.Script}
-use Rattle.line_model.specs.{Fits.Fits, Parameters.terminal_count}
+use Rattle.model_line.specs.{declared.line.Line.Line, declared.script.Script.Script, Fits.Fits}
+use Rattle.model_line.specs.Parameters.{terminal_count}
 use Rattle.certify_core.specs.OneEach.{OneEach}
 use Rattle.cert_checker.specs.ZipLaws.{zip_exists}
 use Rattle.box_split.specs.declared.node.Outcome.{Outcome}

@@ -3,10 +3,9 @@ use Rattle.std.proofs.Common.{◌≡◌, ◌+◌, ◌-◌, ◌/◌, ◌<◌, ◌
 use Rattle.std.proofs.Common.{List, None, Some, cond, length, refl, sym, ◌∙◌, ap, subst, arith}
 use Rattle.std.proofs.lemmas.Bool.{cases_eq, cases_lt}
 use Rattle.std.specs.Prelude.{Option, IsTrue}
-use Rattle.line_model.specs.{declared.line.Line.Line, declared.script.Script.Script}
-use Rattle.line_model.specs.Parameters.{declared_ends, is_delay, param_count, terminal_count}
-use Rattle.line_model.specs.WithBounds.{IsWithBounds}
-use Rattle.line_model.specs.declared.line.Terminal.{Terminal}
+use Rattle.model_line.specs.Parameters.{declared_ends, is_delay, param_count, terminal_count}
+use Rattle.model_line.specs.{declared.line.Line.Line, declared.script.Script.Script}
+use Rattle.model_line.specs.{WithBounds.IsWithBounds, declared.line.Terminal.Terminal}
 use Rattle.certify_core.specs.declared.verdict.Verdict.{Verdict}
 use Rattle.certify_core.specs.declared.verdict.Verdict.TheVariants as verdict
 use Rattle.box_split.specs.Search.{Found, Tree, Fails, IsLower, IsUpper, IsVerdictOf, IsSplitAt}

@@ -4,14 +4,13 @@ use Rattle.std.proofs.Common.{refl, sym, ◌∙◌, subst, arith}
 use Rattle.std.proofs.lemmas.Bool.{cases_eq}
 use Rattle.std.specs.Prelude.{Decides, IsTrue}
 use Rattle.history.specs.Rails.{both}
-use Rattle.line_model.specs.Choice.{DelaysFromOne, declared_box}
-use Rattle.line_model.specs.Histories.{MeetsBy, PairHistory}
-use Rattle.line_model.specs.Histories.{IsPairHistory, IsSameHistory}
-use Rattle.line_model.specs.declared.script.Kind.{Kind}
-use Rattle.line_model.specs.declared.script.Kind.TheVariants.{Internal, External}
-use Rattle.line_model.specs.{declared.line.Line.Line, declared.script.Script.Script}
-use Rattle.line_model.specs.{Parameters.terminal_count, Laws.LineLaws}
-use Rattle.line_model.specs.Rule.{Rule, Held, Broken, Unknown, rule_of}
+use Rattle.model_logic.specs.Choice.{DelaysFromOne, declared_box}
+use Rattle.model_logic.specs.Histories.{MeetsBy, PairHistory, IsPairHistory, IsSameHistory}
+use Rattle.model_logic.specs.Rule.{Rule, Held, Broken, Unknown, rule_of}
+use Rattle.model_logic.specs.Laws.{LineLaws}
+use Rattle.model_line.specs.declared.script.Kind.TheVariants.{Internal, External}
+use Rattle.model_line.specs.{declared.script.Kind.Kind, declared.line.Line.Line}
+use Rattle.model_line.specs.{declared.script.Script.Script, Parameters.terminal_count}
 use Rattle.timing_box.specs.Candidates.{candidate, candidate_count}
 use Rattle.timing_box.specs.Choice.{timing_choice}
 use Rattle.certify_core.specs.declared.verdict.Verdict.{Verdict}

@@ -6,11 +6,10 @@ use Rattle.std.proofs.lemmas.Bool.{cases_eq}
 use Rattle.std.proofs.lemmas.List.{length-map, length-set, map-set, get_or-set_same}
 use Rattle.std.proofs.lemmas.List.{get_or-set_other}
 use Rattle.std.specs.Prelude.{IsTrue}
-use Rattle.line_model.specs.Parameters.{param_count, channel_count, delay_param, is_delay}
-use Rattle.line_model.specs.{declared.line.Line.Line, declared.line.Param.Param, Intervals.leasts}
-use Rattle.line_model.specs.{Intervals.greatests, Intervals.IsInterval}
-use Rattle.line_model.specs.{WithBounds.IsWithBounds}
-use Rattle.line_model.specs.Laws.{DelaysAreParameters}
+use Rattle.model_line.specs.Parameters.{param_count, channel_count, delay_param, is_delay}
+use Rattle.model_line.specs.Intervals.{leasts, greatests, IsInterval}
+use Rattle.model_line.specs.{declared.line.Line.Line, declared.line.Param.Param}
+use Rattle.model_line.specs.{WithBounds.IsWithBounds, Laws.DelaysAreParameters}
 
 module _ (delays : DelaysAreParameters) (line : Line) (param least greatest : ℕ)
     (here : param < param_count line) (number : ¬ (IsTrue (is_delay line param)))

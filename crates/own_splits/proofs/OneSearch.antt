@@ -1,8 +1,8 @@
 -- A search has one outcome.
 use Rattle.std.proofs.Common.{◌≡◌, ◌+◌, ◌⊎◌, inl, inr, ⊎_elim, ℕ, zero, suc, refl, sym, ◌∙◌, ap}
 use Rattle.std.proofs.Common.{subst, arith}
-use Rattle.line_model.specs.{declared.line.Line.Line, declared.script.Script.Script}
-use Rattle.line_model.specs.{SameLine.SameLine, Parameters.declared_ends, WithBounds.IsWithBounds}
+use Rattle.model_line.specs.{declared.line.Line.Line, declared.script.Script.Script}
+use Rattle.model_line.specs.{SameLine.SameLine, Parameters.declared_ends, WithBounds.IsWithBounds}
 use Rattle.timing_box.specs.Timing.{TimingValues}
 use Rattle.certify_core.specs.declared.verdict.Verdict.{Verdict}
 use Rattle.certify_core.specs.declared.verdict.Verdict.TheVariants as verdict

@@ -6,14 +6,15 @@ use Rattle.std.proofs.lemmas.Bool.{cases_lt}
 use Rattle.std.specs.Prelude.{◌&&◌, length, take, nat_le, nat_lt, slice_set, if◌then◌else◌}
 use Rattle.std.specs.List.{count_by, range_with_len}
 use Rattle.history.specs.Rails.{Ends, Rails}
-use Rattle.line_model.specs.declared.script.Script.{Script}
-use Rattle.line_model.specs.Parameters.{delay_param, is_delay, declared_ends}
-use Rattle.line_model.specs.Choice.{Box, Choice, declared_box}
-use Rattle.line_model.specs.Histories.{History, IsLineHistory, Meets, MeetsBy, PairHistory}
-use Rattle.line_model.specs.Histories.{IsPairHistory}
-use Rattle.line_model.specs.{declared.line.Line.Line, declared.line.Param.Param, SameLine.SameLine}
-use Rattle.line_model.specs.{SetBounds.SameButParams, WithBounds.IsWithBounds, Intervals.leasts}
-use Rattle.line_model.specs.{Intervals.greatests, Rule.Held, Rule.rule_by, Rule.rule_of}
+use Rattle.model_line.specs.Parameters.{delay_param, is_delay, declared_ends}
+use Rattle.model_line.specs.Intervals.{leasts, greatests}
+use Rattle.model_line.specs.WithBounds.{IsWithBounds}
+use Rattle.model_line.specs.{declared.script.Script.Script, declared.line.Line.Line}
+use Rattle.model_line.specs.{declared.line.Param.Param, SameLine.SameLine, SetBounds.SameButParams}
+use Rattle.model_logic.specs.Choice.{Box, Choice, declared_box}
+use Rattle.model_logic.specs.Histories.{History, IsLineHistory, Meets, MeetsBy, PairHistory}
+use Rattle.model_logic.specs.Histories.{IsPairHistory}
+use Rattle.model_logic.specs.Rule.{Held, rule_by, rule_of}
 use Rattle.timing_box.specs.Candidates.{is_free, candidate, candidate_count, candidate_value}
 use Rattle.timing_box.specs.{Timing.TimingValues, Timing.number_at, Choice.timing_choice}
 use Rattle.certify_core.specs.declared.verdict.Verdict.{Verdict}

@@ -1,7 +1,7 @@
 -- The laws of lines below that the proofs here rest on.
-use Rattle.line_model.specs.IntervalLaws.{CountsRestOnNoInterval, DeclaredIntervalsAreInOrder}
-use Rattle.line_model.specs.IntervalLaws.{HistoriesRestOnNoInterval, TheRuleOverABox}
-use Rattle.line_model.specs.Laws.{LineLaws}
+use Rattle.model_line.specs.Laws.{CountsRestOnNoInterval, DeclaredIntervalsAreInOrder}
+use Rattle.model_logic.specs.IntervalLaws.{HistoriesRestOnNoInterval, TheRuleOverABox}
+use Rattle.model_logic.specs.Laws.{LineLaws}
 use Rattle.timing_box.specs.Laws.{CandidatesAreInside, TimingsInsideAreChoicesInside}
 
 pub record LinesKnown : Type 0 where

@@ -1,8 +1,8 @@
 -- What is searched of a script, and of several.
 use Rattle.std.specs.Prelude.{◌≡◌, ℕ, List, map}
 use Rattle.std.specs.List.{AllZip}
-use Rattle.line_model.specs.declared.line.Line.{Line}
-use Rattle.line_model.specs.{declared.script.Script.Script, Parameters.terminal_count}
+use Rattle.model_line.specs.{declared.line.Line.Line, declared.script.Script.Script}
+use Rattle.model_line.specs.Parameters.{terminal_count}
 use Rattle.certify_core.specs.OneEach.{OneEach}
 use Rattle.box_split.specs.{declared.node.Outcome.Outcome, Found.IsFound}
 use Rattle.split_text.specs.{Grammar.SplitResult, Piece.written_as}

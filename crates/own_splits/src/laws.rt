@@ -2,9 +2,8 @@
 
 ghost use Rattle.std.specs.Prelude.{◌≡◌, ◌≤◌, ◌<◌, ◌∷◌, ◌++◌, [], ℕ, List, length};
 ghost use Rattle.std.specs.List.{All};
-ghost use Rattle.line_model.specs.declared.line.Line.{Line};
-ghost use Rattle.line_model.specs.{declared.script.Script.Script, Fits.Fits};
-ghost use Rattle.line_model.specs.Parameters.{terminal_count};
+ghost use Rattle.model_line.specs.{declared.line.Line.Line, declared.script.Script.Script};
+ghost use Rattle.model_line.specs.{Fits.Fits, Parameters.terminal_count};
 ghost use Rattle.cert_checker.specs.declared.counts.Counts.{Counts};
 ghost use Rattle.box_split.specs.declared.node.Outcome.{Outcome};
 ghost use Rattle.box_split.specs.{Found.IsFound, Search.Found, Search.IsSearch};
@@ -18,11 +17,12 @@ ghost use Rattle.own_splits.specs.Searched.{AreSearched, AllSearched};
 use box_split::{
     what_a_search_finds_is_as_deep, what_a_search_finds_is_sound, what_fails_in_a_part_fails,
 };
-use line_model::interval_laws::{
-    counts_do_not_rest_on_the_intervals, declared_intervals_are_in_order,
-    histories_do_not_rest_on_the_intervals, the_rule_over_a_box,
+use model_line::laws::{
+    counts_do_not_rest_on_the_intervals, deadlines_are_below_the_horizon,
+    declared_intervals_are_in_order,
 };
-use line_model::laws::{deadlines_are_below_the_horizon, line_laws};
+use model_logic::interval_laws::{histories_do_not_rest_on_the_intervals, the_rule_over_a_box};
+use model_logic::laws::line_laws;
 use split_checker::a_fault_refuses_the_split_text;
 use split_text::{
     a_split_text_has_one_meaning, printed_results_are_a_split_text,

@@ -2,7 +2,8 @@
 use Rattle.std.specs.Prelude.{ℕ, List, [], ◌∷◌, Option, Some, None}
 use Rattle.std.specs.List.{position_from}
 use Rattle.std.specs.Str.{bytes_eq}
-use Rattle.line_model.specs.{declared.script.Script.Script, NumbersByName.script_named}
+use Rattle.model_line.specs.declared.script.Script.{Script}
+use Rattle.model_names.specs.NumbersByName.{script_named}
 use Rattle.timing_box.specs.declared.timing.NamedTiming.{NamedTiming}
 
 -- the first place, where there is one

@@ -1,10 +1,10 @@
 -- What a timing diagram's text is: the printed form of the drawing of the diagram of a history.
 use Rattle.std.specs.Prelude.{◌≡◌, ℕ, List, [], map}
 use Rattle.history.specs.Recorded.{first_ticks}
-use Rattle.line_model.specs.{declared.line.Line.Line, declared.script.Script.Script}
-use Rattle.line_model.specs.{Choice.declared_box, Histories.PairHistory, Parameters.terminal_count}
-use Rattle.line_model.specs.Histories.{History, IsLineHistory, IsSameHistory}
-use Rattle.line_model.specs.Rule.{rule_of}
+use Rattle.model_line.specs.{declared.line.Line.Line, declared.script.Script.Script}
+use Rattle.model_line.specs.Parameters.{terminal_count}
+use Rattle.model_logic.specs.Histories.{PairHistory, History, IsLineHistory, IsSameHistory}
+use Rattle.model_logic.specs.{Choice.declared_box, Rule.rule_of}
 use Rattle.interval_wave.specs.Rules.{rule_named}
 use Rattle.simulator.specs.Runs.{IsTheHistory}
 use Rattle.timing_box.specs.{declared.timing.NamedTiming.NamedTiming, Choice.timing_choice}

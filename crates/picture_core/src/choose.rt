@@ -4,7 +4,8 @@ ghost use Rattle.std.specs.Prelude.{◌≡◌, ◌<◌, length, IfSome};
 ghost use Rattle.std.specs.Option.{option_copied};
 ghost use Rattle.picture_core.specs.Chosen.{chosen_script, chosen_timing, place_of_timing};
 
-use line_model::{Script, script_of_name};
+use model_line::Script;
+use model_names::script_of_name;
 use timing_box::NamedTiming;
 
 /// The place of the script of that name, or of the first where none is asked for.

@@ -5,7 +5,7 @@ ghost use Rattle.commands.specs.Sinks.{Puts, sink_view};
 ghost use Rattle.picture_core.specs.Halts.{halt_line};
 
 use commands::put_pieces;
-use line_model::Memory;
+use model_line::Memory;
 use pilot_core::{Stop, put_message};
 use relay_base::{PutFailed, Sink};
 use timing_box::TimingFault;

@@ -2,7 +2,7 @@
 
 ghost use Rattle.std.specs.Prelude.{IfOk};
 ghost use Rattle.gate_net.specs.NetOf.{IsNetOf};
-ghost use Rattle.line_model.specs.Fits.{Fits};
+ghost use Rattle.model_line.specs.Fits.{Fits};
 ghost use Rattle.picture_core.specs.Pictures.{IsBandsText, IsRunText};
 ghost use Rattle.svg_text.specs.Content.{IsContent};
 ghost use Rattle.timing_box.specs.Inside.{IsTimingInside};
@@ -11,8 +11,8 @@ use diagram_svg::{Subject, draw};
 use drawing::svg;
 use gate_net::Net;
 use interval_wave::analyse;
-use line_model::laws::deadlines_are_below_the_horizon;
-use line_model::{Line, Memory, Script};
+use model_line::laws::deadlines_are_below_the_horizon;
+use model_line::{Line, Memory, Script};
 use std::alloc::Global;
 use timing_box::NamedTiming;
 use timing_diagram::{history_diagram, play_diagram};

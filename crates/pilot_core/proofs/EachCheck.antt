@@ -9,13 +9,13 @@ use Rattle.std.specs.List.{All, concat}
 use Rattle.history.specs.Rails.{Ends, IsSound, Rails, RailsCover}
 use Rattle.tick_signal.specs.Terns.{rails_told, tern_sound, tern_with}
 use Rattle.tick_signal.specs.declared.tern.Tern.{Tern}
-use Rattle.line_model.specs.{declared.line.Line.Line, declared.script.Script.Script, Fits.Fits}
-use Rattle.line_model.specs.declared.script.Kind.{Kind}
-use Rattle.line_model.specs.declared.script.Kind.TheVariants.{Internal, External}
-use Rattle.line_model.specs.Choice.{DelaysFromOne, IsIn, declared_box}
-use Rattle.line_model.specs.Histories.{AreCovered, MeetsBy}
-use Rattle.line_model.specs.Parameters.{declared_ends, param_count, terminal_count}
-use Rattle.line_model.specs.{Laws.LineLaws, Logic.key_tree, PairMean.PairSignals, Rule.rule_of}
+use Rattle.model_line.specs.declared.script.Kind.TheVariants.{Internal, External}
+use Rattle.model_line.specs.Parameters.{declared_ends, param_count, terminal_count}
+use Rattle.model_line.specs.declared.script.Kind.{Kind}
+use Rattle.model_line.specs.{declared.line.Line.Line, declared.script.Script.Script, Fits.Fits}
+use Rattle.model_logic.specs.Choice.{DelaysFromOne, IsIn, declared_box}
+use Rattle.model_logic.specs.Histories.{AreCovered, MeetsBy}
+use Rattle.model_logic.specs.{Laws.LineLaws, Logic.key_tree, PairMean.PairSignals, Rule.rule_of}
 use Rattle.timing_box.specs.{Inside.IsStepInside, Inside.IsTimingInside}
 use Rattle.timing_box.specs.Laws.{TimingsInsideAreChoicesInside}
 use Rattle.wave_runs.specs.Waves.{wave_at}

@@ -7,12 +7,12 @@ use Rattle.std.proofs.lemmas.Option.{slice_get_within, same_Some}
 use Rattle.std.specs.Prelude.{Option, Bool, true, false, cond, is_some, slice_get, ◌==◌}
 use Rattle.std.specs.List.{All}
 use Rattle.history.specs.Rails.{Ends}
-use Rattle.line_model.specs.{declared.line.Line.Line, declared.script.Script.Script, Fits.Fits}
-use Rattle.line_model.specs.Parameters.{declared_ends, delay_param, terminal_count}
-use Rattle.line_model.specs.Boxes.{ends_with}
-use Rattle.line_model.specs.{Choice.Box, Choice.LeastFromOne, HeldOver.IsHeldOver, Laws.LineLaws}
-use Rattle.line_model.specs.IntervalLaws.{TheRuleOverABox}
-use Rattle.line_model.specs.Rule.{Rule, Held, Broken, Unknown, rule_of}
+use Rattle.model_line.specs.Parameters.{declared_ends, delay_param, terminal_count}
+use Rattle.model_line.specs.{declared.line.Line.Line, declared.script.Script.Script, Fits.Fits}
+use Rattle.model_logic.specs.Choice.{Box, LeastFromOne}
+use Rattle.model_logic.specs.Rule.{Rule, Held, Broken, Unknown, rule_of}
+use Rattle.model_logic.specs.IntervalLaws.{TheRuleOverABox}
+use Rattle.model_logic.specs.{Boxes.ends_with, HeldOver.IsHeldOver, Laws.LineLaws}
 use Rattle.margin_search.specs.declared.upper_end.Lost.{Lost}
 use Rattle.margin_search.specs.declared.upper_end.UpperEnd.{UpperEnd}
 use Rattle.margin_search.specs.Lost.{AllHeld, IsFirstLost, IsFirstTerminal, IsLoss}

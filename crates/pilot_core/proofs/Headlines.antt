@@ -5,8 +5,9 @@ use Rattle.std.proofs.Common.{zero, suc}
 use Rattle.std.proofs.lemmas.List.{length-map}
 use Rattle.std.proofs.lemmas.List.Elements.{All-head, All-tail}
 use Rattle.std.specs.Prelude.{MatchOption, slice_get}
-use Rattle.line_model.specs.{NumbersByName.param_named}
-use Rattle.line_model.specs.Parameters.{terminal_count}
+use Rattle.model_names.specs.NumbersByName.{param_named}
+use Rattle.model_line.specs.{Parameters.terminal_count, declared.line.Line.Line}
+use Rattle.model_line.specs.{declared.script.Script.Script, Fits.Fits}
 use Rattle.cert_checker.specs.{Check.IsCheckFault, ZipLaws.zip_each}
 use Rattle.cert_checker.specs.declared.fault.CheckFault.TheVariants as check_fault
 use Rattle.margin_search.specs.Answer.{IsMarginAnswer}
@@ -32,7 +33,6 @@ use Rattle.std.proofs.Common.{⊎_elim}
 use Rattle.std.proofs.lemmas.Option.{same_Some}
 use Rattle.std.specs.Prelude.{nat_lt, unwrap_or}
 use Rattle.std.specs.List.{All, list_any}
-use Rattle.line_model.specs.{declared.line.Line.Line, declared.script.Script.Script, Fits.Fits}
 use Rattle.line_file.specs.{LineFiles.line_of, Lines.line_values}
 use Rattle.fault_script.specs.Scripts.{scripts_of}
 use Rattle.fault_script.specs.Values.{values_of}

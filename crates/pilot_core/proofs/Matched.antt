@@ -3,7 +3,7 @@ use Rattle.std.proofs.Common.{◌≡◌, ℕ, Bool, true, false, List, [], ◌++
 use Rattle.std.proofs.Common.{sym, ◌∙◌, ap, subst, ⊎_elim}
 use Rattle.std.specs.Prelude.{slice_get}
 use Rattle.std.specs.List.{All}
-use Rattle.line_model.specs.{declared.line.Line.Line, declared.script.Script.Script}
+use Rattle.model_line.specs.{declared.line.Line.Line, declared.script.Script.Script}
 use Rattle.record_match.specs.{Answer.IsMatchAnswer, Recorded.IsRecordOf}
 use Rattle.record_match.specs.Waves.{SeenValues, records_said}
 use Rattle.record_match.specs.declared.fault.SeenFault.{SeenFault}

@@ -5,12 +5,13 @@ use Rattle.std.proofs.lemmas.List.Elements.{All-head, All-tail}
 use Rattle.std.specs.Prelude.{codes, is_some, Option, if◌then◌else◌}
 use Rattle.std.specs.List.{All, concat, count_by}
 use Rattle.history.specs.{Elements.some_below, Rails.Rails}
-use Rattle.line_model.specs.declared.script.Kind.{Kind}
-use Rattle.line_model.specs.declared.script.Kind.TheVariants.{Internal, External}
-use Rattle.line_model.specs.{declared.line.Line.Line, declared.script.Script.Script, Fits.Fits}
-use Rattle.line_model.specs.Histories.{IsPairHistory, IsSamePairHistory, PairHistory}
-use Rattle.line_model.specs.{Choice.declared_box, Parameters.terminal_count}
-use Rattle.line_model.specs.Rule.{Held, Broken, Unknown, Rule, is_broken, is_held, rule_by, rule_of}
+use Rattle.model_line.specs.declared.script.Kind.TheVariants.{Internal, External}
+use Rattle.model_line.specs.{declared.script.Kind.Kind, declared.line.Line.Line}
+use Rattle.model_line.specs.{declared.script.Script.Script, Fits.Fits, Parameters.terminal_count}
+use Rattle.model_logic.specs.Histories.{IsPairHistory, IsSamePairHistory, PairHistory}
+use Rattle.model_logic.specs.Rule.{Held, Broken, Unknown, Rule, is_broken, is_held, rule_by}
+use Rattle.model_logic.specs.Rule.{rule_of}
+use Rattle.model_logic.specs.Choice.{declared_box}
 use Rattle.simulator.specs.PlayRows.{each_below}
 use Rattle.wave_runs.specs.FirstTick.{first_on, first_on-same}
 use Rattle.timing_report.specs.ReportText.{AreHistories, fields_text, report_header}

@@ -6,7 +6,7 @@ use Rattle.std.specs.List.{count_by}
 use Rattle.bench.specs.BenchLine.{IsBenchLine}
 use Rattle.bench.specs.BenchScripts.{AreScriptsFrom, IsBenchScript}
 use Rattle.bench.specs.BenchScripts.{inception, is_internal}
-use Rattle.bench_answer.specs.{Answer.IsBenchText, BenchText.bench_text}
+use Rattle.bench.specs.{Answer.IsBenchText, BenchText.bench_text}
 use Rattle.certificate.specs.Grammar.{Claims, Verdict as Written}
 use Rattle.cert_checker.specs.Counts.{all_verdicts, is_no, is_undecided, is_yes}
 use Rattle.certify_core.specs.declared.verdict.Verdict.{Verdict}
@@ -15,17 +15,17 @@ use Rattle.certify_core.specs.{VerdictLaws.verdict_once}
 use Rattle.certify_core.specs.Verdicts.{FailsAt, IsRuleHeld, IsVerdict, PassesAt}
 use Rattle.fault_script.specs.Values.{ScriptValues, values_of}
 use Rattle.line_file.specs.Lines.{LineValues, intervals_of, line_values}
-use Rattle.line_model.specs.{declared.line.Line.Line, declared.script.Script.Script}
-use Rattle.line_model.specs.declared.bounds.Bounds.{Bounds}
-use Rattle.line_model.specs.declared.line.{Channel.Channel, Param.Param, Scheme.Scheme}
-use Rattle.line_model.specs.declared.line.Terminal.{Terminal}
-use Rattle.line_model.specs.declared.script.{Kind.Kind, SeenSpan.SeenSpan}
-use Rattle.line_model.specs.Histories.{IsLineHistory, IsPairHistory, PairHistory}
-use Rattle.line_model.specs.IntervalLaws.{CountsRestOnNoInterval, HistoriesRestOnNoInterval}
-use Rattle.line_model.specs.IntervalLaws.{TheRuleOverABox}
-use Rattle.line_model.specs.Intervals.{greatests, leasts}
-use Rattle.line_model.specs.{Choice.Choice, Choice.declared_box, Laws.LineLaws}
-use Rattle.line_model.specs.Parameters.{terminal_count}
+use Rattle.model_line.specs.Intervals.{greatests, leasts}
+use Rattle.model_line.specs.Parameters.{terminal_count}
+use Rattle.model_line.specs.{declared.line.Line.Line, declared.script.Script.Script}
+use Rattle.model_line.specs.{declared.bounds.Bounds.Bounds, declared.line.Channel.Channel}
+use Rattle.model_line.specs.{declared.line.Param.Param, declared.line.Scheme.Scheme}
+use Rattle.model_line.specs.{declared.line.Terminal.Terminal, declared.script.Kind.Kind}
+use Rattle.model_line.specs.{declared.script.SeenSpan.SeenSpan, Laws.CountsRestOnNoInterval}
+use Rattle.model_logic.specs.Histories.{IsLineHistory, IsPairHistory, PairHistory}
+use Rattle.model_logic.specs.IntervalLaws.{HistoriesRestOnNoInterval, TheRuleOverABox}
+use Rattle.model_logic.specs.Choice.{Choice, declared_box}
+use Rattle.model_logic.specs.Laws.{LineLaws}
 use Rattle.own_certificate.specs.Certified.{AreCertified, IsCertified}
 use Rattle.own_certificate.specs.Written.{written_as}
 use Rattle.timing_box.specs.Candidates.{candidate}

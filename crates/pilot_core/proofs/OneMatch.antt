@@ -5,8 +5,8 @@ use Rattle.cert_checker.specs.ZipLaws.{zip_once}
 use Rattle.cert_checker.specs.{Claims.pairs_of}
 use Rattle.cert_checker.specs.Verdicts.{derived_key, derived_trip}
 use Rattle.history.specs.Rails.{Covers, Rails}
-use Rattle.line_model.specs.{declared.line.Line.Line, declared.script.Script.Script}
-use Rattle.line_model.specs.Histories.{History, IsSameHistory}
+use Rattle.model_line.specs.{declared.line.Line.Line, declared.script.Script.Script}
+use Rattle.model_logic.specs.Histories.{History, IsSameHistory}
 use Rattle.timing_box.specs.Timing.{TimingValues}
 use Rattle.record_match.specs.Answer.{Head, IsHead, IsMatchAnswer, is_impossible, is_unsettled}
 use Rattle.record_match.specs.Clash.{AllAllowed, IsAllowed, IsTerminalAllowed}

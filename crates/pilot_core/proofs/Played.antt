@@ -3,8 +3,8 @@ use Rattle.std.proofs.Common.{◌≡◌, ℕ, List, [], ◌∷◌, Option, Some,
 use Rattle.std.proofs.Common.{get_or, refl, ◌∙◌, subst}
 use Rattle.std.proofs.lemmas.List.Elements.{All-head, All-tail}
 use Rattle.std.specs.List.{All, flat_map}
-use Rattle.line_model.specs.{declared.line.Line.Line, declared.script.Script.Script}
-use Rattle.line_model.specs.Histories.{History}
+use Rattle.model_line.specs.{declared.line.Line.Line, declared.script.Script.Script}
+use Rattle.model_logic.specs.Histories.{History}
 use Rattle.timing_box.specs.{Inside.IsTimingInside, SoFar.NamedValues, Timings.timings_of}
 use Rattle.timing_box.specs.declared.fault.TimingFault.{TimingFault}
 use Rattle.simulator.specs.PlayRows.{run_rows}

@@ -1,7 +1,7 @@
 -- What `certify` prints is accepted.
 use Rattle.std.proofs.Common.{◌≡◌, ℕ, List, refl, sym, ◌∙◌, ap, subst}
 use Rattle.std.specs.List.{All, concat}
-use Rattle.line_model.specs.{declared.line.Line.Line, declared.script.Script.Script, Fits.Fits}
+use Rattle.model_line.specs.{declared.line.Line.Line, declared.script.Script.Script, Fits.Fits}
 use Rattle.certificate.specs.{Grammar.Claims, Text.certificate_text}
 use Rattle.cert_checker.specs.{declared.counts.Counts.Counts, Check.IsAccepted, Check.IsCheckFault}
 use Rattle.cert_checker.specs.Counts.{AreCounts, all_verdicts, are_counts, counts_in}

@@ -1,7 +1,7 @@
 -- What `split` writes is accepted.
 use Rattle.std.proofs.Common.{◌≡◌, ◌≤◌, ℕ, List, refl, sym, ◌∙◌, ap, subst}
 use Rattle.std.specs.List.{All, concat}
-use Rattle.line_model.specs.{declared.line.Line.Line, declared.script.Script.Script, Fits.Fits}
+use Rattle.model_line.specs.{declared.line.Line.Line, declared.script.Script.Script, Fits.Fits}
 use Rattle.cert_checker.specs.declared.counts.Counts.{Counts}
 use Rattle.cert_checker.specs.Counts.{are_counts, counts_in}
 use Rattle.split_text.specs.{Grammar.SplitResult, Text.split_text}

@@ -3,7 +3,7 @@ use Rattle.std.proofs.Common.{◌≡◌, ℕ, List, Option, None, Some, Result, 
 use Rattle.std.proofs.Common.{inl}
 use Rattle.std.specs.Prelude.{⊤}
 use Rattle.std.specs.List.{All}
-use Rattle.line_model.specs.{declared.line.Line.Line, declared.script.Script.Script}
+use Rattle.model_line.specs.{declared.line.Line.Line, declared.script.Script.Script}
 use Rattle.line_file.specs.{LineFiles.line_of, Lines.LineValues, Lines.line_values}
 use Rattle.line_file.specs.Reading as line_reading
 use Rattle.line_file.specs.declared.fault.LineFault.{LineFault}

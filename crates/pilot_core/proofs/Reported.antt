@@ -4,11 +4,12 @@ use Rattle.std.proofs.Common.{None, Some, map, length, refl, sym, ◌∙◌, ap,
 use Rattle.std.proofs.lemmas.List.{append-nil}
 use Rattle.std.specs.Prelude.{IsFalse, IsTrue, slice_get}
 use Rattle.std.specs.List.{concat}
-use Rattle.line_model.specs.{declared.line.Line.Line, declared.script.Script.Script, Fits.Fits}
-use Rattle.line_model.specs.Histories.{CoversHistory, History, IsLineHistory, IsPairHistory}
-use Rattle.line_model.specs.Histories.{PairHistory}
-use Rattle.line_model.specs.{Choice.Choice, Choice.IsInside, Choice.declared_box}
-use Rattle.line_model.specs.{Parameters.terminal_count, Rule.rule_of}
+use Rattle.model_line.specs.{declared.line.Line.Line, declared.script.Script.Script, Fits.Fits}
+use Rattle.model_line.specs.Parameters.{terminal_count}
+use Rattle.model_logic.specs.Histories.{CoversHistory, History, IsLineHistory, IsPairHistory}
+use Rattle.model_logic.specs.Histories.{PairHistory}
+use Rattle.model_logic.specs.Choice.{Choice, IsInside, declared_box}
+use Rattle.model_logic.specs.Rule.{rule_of}
 use Rattle.simulator.specs.PlayRows.{each_below}
 use Rattle.wave_runs.specs.FirstTick.{first_on}
 use Rattle.timing_report.specs.ReportText.{IsReportText, report_header, row_text, script_rows}

@@ -5,19 +5,21 @@ use Rattle.std.proofs.Math.Path.{fun_ext}
 use Rattle.std.proofs.lemmas.List.Elements.{All-nil}
 use Rattle.std.specs.List.{count_by, range_with_len}
 use Rattle.history.specs.Rails.{Ends, Rails}
-use Rattle.line_model.specs.{declared.line.Line.Line, declared.script.Script.Script}
-use Rattle.line_model.specs.declared.line.{Channel.Channel, Param.Param, Scheme.Scheme}
-use Rattle.line_model.specs.declared.line.Terminal.{Terminal}
-use Rattle.line_model.specs.declared.script.{Kind.Kind, SeenSpan.SeenSpan}
-use Rattle.line_model.specs.Choice.{Box, Choice, IsIn, IsWithin, declared_box, ends_by}
-use Rattle.line_model.specs.Choice.{pair_world_of}
-use Rattle.line_model.specs.Histories.{IsLineHistory, IsPairHistory, PairHistory}
-use Rattle.line_model.specs.IntervalLaws.{CountsRestOnNoInterval, HistoriesRestOnNoInterval}
-use Rattle.line_model.specs.{Boxes.ends_with, Channels.from_of, Logic.key_tree, Logic.trip_tree}
-use Rattle.line_model.specs.{PairMean.PairWorld, PairMean.pair_mean, ParamNames.param_name}
-use Rattle.line_model.specs.Parameters.{declared_ends, delay_param, param_count}
-use Rattle.line_model.specs.{Rule.rule_by, Rule.rule_of, Seen.is_lost}
-use Rattle.line_model.specs.{Seen.is_seen, Settings.line_settings, SetBounds.SameButParams}
+use Rattle.model_line.specs.Parameters.{declared_ends, delay_param, param_count}
+use Rattle.model_line.specs.Seen.{is_lost, is_seen}
+use Rattle.model_line.specs.{declared.line.Line.Line, declared.script.Script.Script}
+use Rattle.model_line.specs.{declared.line.Channel.Channel, declared.line.Param.Param}
+use Rattle.model_line.specs.{declared.line.Scheme.Scheme, declared.line.Terminal.Terminal}
+use Rattle.model_line.specs.{declared.script.Kind.Kind, declared.script.SeenSpan.SeenSpan}
+use Rattle.model_line.specs.{Laws.CountsRestOnNoInterval, Channels.from_of, ParamNames.param_name}
+use Rattle.model_line.specs.{Settings.line_settings, SetBounds.SameButParams}
+use Rattle.model_logic.specs.Choice.{Box, Choice, IsIn, IsWithin, declared_box, ends_by}
+use Rattle.model_logic.specs.Choice.{pair_world_of}
+use Rattle.model_logic.specs.Histories.{IsLineHistory, IsPairHistory, PairHistory}
+use Rattle.model_logic.specs.Logic.{key_tree, trip_tree}
+use Rattle.model_logic.specs.PairMean.{PairWorld, pair_mean}
+use Rattle.model_logic.specs.Rule.{rule_by, rule_of}
+use Rattle.model_logic.specs.{IntervalLaws.HistoriesRestOnNoInterval, Boxes.ends_with}
 use Rattle.line_file.specs.Lines.{LineValues, line_values}
 use Rattle.fault_script.specs.Values.{ScriptValues, values_of}
 use Rattle.timing_box.specs.Candidates.{candidate, candidate_count, candidate_value, is_free}

@@ -4,12 +4,10 @@ use Rattle.std.proofs.Common.{length, sym, ◌∙◌, ap, subst}
 use Rattle.std.proofs.lemmas.List.{length-map}
 use Rattle.std.specs.Prelude.{codes}
 use Rattle.std.specs.{List.position_from, Str.bytes_eq}
-use Rattle.line_model.specs.{declared.line.Line.Line, declared.line.Param.Param}
-use Rattle.line_model.specs.declared.script.Script.{Script}
-use Rattle.line_model.specs.{Choice.IsWithin}
-use Rattle.line_model.specs.{Parameters.terminal_count}
-use Rattle.line_model.specs.{SetBounds.SameButParams}
-use Rattle.line_model.specs.IntervalLaws.{CountsRestOnNoInterval, HistoriesRestOnNoInterval}
+use Rattle.model_line.specs.{declared.line.Line.Line, declared.line.Param.Param}
+use Rattle.model_line.specs.{declared.script.Script.Script, Parameters.terminal_count}
+use Rattle.model_line.specs.{SetBounds.SameButParams, Laws.CountsRestOnNoInterval}
+use Rattle.model_logic.specs.{Choice.IsWithin, IntervalLaws.HistoriesRestOnNoInterval}
 use Rattle.line_file.specs.{LineFiles.line_of, Lines.line_values}
 use Rattle.fault_script.specs.{Scripts.scripts_of, Values.AreOfOneFile, Values.ScriptValues}
 use Rattle.fault_script.specs.Values.{values_of}

@@ -3,10 +3,11 @@
 use Rattle.std.proofs.Common.{◌≡◌, ◌<◌, ◌≤◌, ◌+◌, ℕ, List, Option, None, Some, map, sym, ◌∙◌}
 use Rattle.std.proofs.Common.{subst}
 use Rattle.history.specs.Rails.{Ends}
-use Rattle.line_model.specs.{declared.line.Line.Line, declared.script.Script.Script}
-use Rattle.line_model.specs.{Choice.Box, HeldOver.IsHeldOver, Parameters.declared_ends}
-use Rattle.line_model.specs.{Parameters.terminal_count}
-use Rattle.line_model.specs.IntervalLaws.{CountsRestOnNoInterval, HistoriesRestOnNoInterval}
+use Rattle.model_line.specs.Parameters.{declared_ends, terminal_count}
+use Rattle.model_line.specs.Laws.{CountsRestOnNoInterval}
+use Rattle.model_line.specs.{declared.line.Line.Line, declared.script.Script.Script}
+use Rattle.model_logic.specs.{Choice.Box, HeldOver.IsHeldOver}
+use Rattle.model_logic.specs.IntervalLaws.{HistoriesRestOnNoInterval}
 use Rattle.line_file.specs.Lines.{line_values}
 use Rattle.fault_script.specs.Values.{values_of}
 use Rattle.margin_search.specs.declared.upper_end.Lost.{Lost}

@@ -1,17 +1,17 @@
 -- What is said of a record of the field rests on the values of a line and of scripts alone.
 use Rattle.std.proofs.Common.{◌≡◌, ◌<◌, ℕ, List, map, sym, ◌∙◌, ap, subst}
 use Rattle.history.specs.Rails.{Covers, Rails}
-use Rattle.line_model.specs.{declared.line.Line.Line, declared.script.Script.Script}
-use Rattle.line_model.specs.declared.line.Channel.{Channel}
-use Rattle.line_model.specs.{Choice.Box, Choice.Choice, Choice.declared_box, Choice.pair_world_of}
-use Rattle.line_model.specs.Choice.{IsInside, steady_choice, ends_by}
-use Rattle.line_model.specs.Histories.{History, IsLineHistory, IsSameHistory}
-use Rattle.line_model.specs.IntervalLaws.{CountsRestOnNoInterval, HistoriesRestOnNoInterval}
-use Rattle.line_model.specs.IntervalLaws.{TreesRestOnNoInterval}
-use Rattle.line_model.specs.{Channels.from_of, Logic.key_tree, Logic.trip_tree, Tree.Tree}
-use Rattle.line_model.specs.{PairMean.PairSignals, PairMean.PairWorld, PairMean.pair_mean}
-use Rattle.line_model.specs.{Parameters.terminal_count, Seen.is_lost, Seen.is_seen}
-use Rattle.line_model.specs.SetBounds.{SameButParams}
+use Rattle.model_line.specs.Seen.{is_lost, is_seen}
+use Rattle.model_line.specs.{declared.line.Line.Line, declared.script.Script.Script}
+use Rattle.model_line.specs.{declared.line.Channel.Channel, Laws.CountsRestOnNoInterval}
+use Rattle.model_line.specs.{Channels.from_of, Parameters.terminal_count, SetBounds.SameButParams}
+use Rattle.model_logic.specs.Choice.{Box, Choice, declared_box, pair_world_of, IsInside}
+use Rattle.model_logic.specs.Choice.{steady_choice, ends_by}
+use Rattle.model_logic.specs.Histories.{History, IsLineHistory, IsSameHistory}
+use Rattle.model_logic.specs.IntervalLaws.{HistoriesRestOnNoInterval, TreesRestOnNoInterval}
+use Rattle.model_logic.specs.Logic.{key_tree, trip_tree}
+use Rattle.model_logic.specs.PairMean.{PairSignals, PairWorld, pair_mean}
+use Rattle.model_logic.specs.Tree.{Tree}
 use Rattle.line_file.specs.Lines.{line_values}
 use Rattle.fault_script.specs.Values.{ScriptValues, values_of}
 use Rattle.timing_box.specs.Candidates.{candidate}

@@ -11,14 +11,15 @@ use Rattle.csv_records.specs.Gives.{◌>>=◌, passes_or}
 use Rattle.csv_records.specs.{RecordFile.RecordFile, RecordFile.said_in, Records.records_of}
 use Rattle.history.specs.Rails.{Ends}
 use Rattle.relay_base.specs.Number.{number_of}
-use Rattle.line_model.specs.{declared.line.Line.Line, declared.script.Script.Script}
-use Rattle.line_model.specs.declared.line.{Param.Param, Terminal.Terminal}
-use Rattle.line_model.specs.{Choice.Choice, Choice.IsIn, Histories.History}
-use Rattle.line_model.specs.{Histories.IsLineHistory, SetBounds.SameButParams}
-use Rattle.line_model.specs.IntervalLaws.{CountsRestOnNoInterval, HistoriesRestOnNoInterval}
-use Rattle.line_model.specs.{Intervals.leasts, NumbersByName.param_named, ParamNames.name_at}
-use Rattle.line_model.specs.{Parameters.declared_ends, Parameters.is_delay}
-use Rattle.line_model.specs.PlainNames.{is_plain_name}
+use Rattle.model_line.specs.Parameters.{declared_ends, is_delay}
+use Rattle.model_line.specs.{declared.line.Line.Line, declared.script.Script.Script}
+use Rattle.model_line.specs.{declared.line.Param.Param, declared.line.Terminal.Terminal}
+use Rattle.model_line.specs.{SetBounds.SameButParams, Laws.CountsRestOnNoInterval, Intervals.leasts}
+use Rattle.model_line.specs.{ParamNames.name_at, PlainNames.is_plain_name}
+use Rattle.model_logic.specs.Choice.{Choice, IsIn}
+use Rattle.model_logic.specs.Histories.{History, IsLineHistory}
+use Rattle.model_logic.specs.IntervalLaws.{HistoriesRestOnNoInterval}
+use Rattle.model_names.specs.NumbersByName.{param_named}
 use Rattle.line_file.specs.Lines.{line_values}
 use Rattle.fault_script.specs.Values.{ScriptValues, values_of}
 use Rattle.simulator.specs.PlayRows.{each_below, run_rows, signal_row}

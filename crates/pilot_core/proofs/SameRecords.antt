@@ -10,10 +10,9 @@ use Rattle.csv_records.specs.Gives.{◌>>=◌, passes_or}
 use Rattle.csv_records.specs.{SoFar.SoFar, SoFar.all_of, SoFar.nothing}
 use Rattle.csv_records.specs.{RecordFile.RecordFile, RecordFile.said_in, Records.records_of}
 use Rattle.relay_base.specs.Number.{number_of}
-use Rattle.line_model.specs.{declared.line.Line.Line, declared.script.Script.Script}
-use Rattle.line_model.specs.declared.line.Terminal.{Terminal}
-use Rattle.line_model.specs.{NumbersByName.script_named}
-use Rattle.line_model.specs.SetBounds.{SameButParams}
+use Rattle.model_line.specs.{declared.line.Line.Line, declared.script.Script.Script}
+use Rattle.model_line.specs.{declared.line.Terminal.Terminal, SetBounds.SameButParams}
+use Rattle.model_names.specs.NumbersByName.{script_named}
 use Rattle.fault_script.specs.Values.{values_of}
 use Rattle.record_match.specs.declared.fault.SeenFault.{SeenFault}
 use Rattle.record_match.specs.declared.fault.SeenFault.TheVariants as fault

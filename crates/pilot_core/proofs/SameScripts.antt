@@ -8,13 +8,12 @@ use Rattle.csv_records.specs.Gives.{◌>>=◌, passes_or}
 use Rattle.csv_records.specs.{Fields.is_empty, SoFar.SoFar, SoFar.all_of, SoFar.nothing}
 use Rattle.csv_records.specs.{RecordFile.RecordFile, RecordFile.said_in, Records.records_of}
 use Rattle.relay_base.specs.Number.{number_of}
-use Rattle.line_model.specs.{declared.line.Line.Line, declared.script.Kind.Kind}
-use Rattle.line_model.specs.declared.line.{Channel.Channel, Terminal.Terminal}
-use Rattle.line_model.specs.declared.script.Kind.TheVariants.{Internal, External}
-use Rattle.line_model.specs.declared.script.What.{What}
-use Rattle.line_model.specs.declared.script.What.TheVariants as what
-use Rattle.line_model.specs.{NumbersByName.channel_named, NumbersByName.has_name}
-use Rattle.line_model.specs.{NumbersByName.terminal_named, SetBounds.SameButParams}
+use Rattle.model_line.specs.declared.script.Kind.TheVariants.{Internal, External}
+use Rattle.model_line.specs.{declared.line.Line.Line, declared.script.Kind.Kind}
+use Rattle.model_line.specs.{declared.line.Channel.Channel, declared.line.Terminal.Terminal}
+use Rattle.model_line.specs.{declared.script.What.What, SetBounds.SameButParams}
+use Rattle.model_line.specs.declared.script.What.TheVariants as what
+use Rattle.model_names.specs.NumbersByName.{channel_named, has_name, terminal_named}
 use Rattle.fault_script.specs.declared.fault.ScriptFault.{ScriptFault}
 use Rattle.fault_script.specs.declared.fault.ScriptFault.TheVariants as fault
 use Rattle.fault_script.specs.declared.item.Item.{Item}

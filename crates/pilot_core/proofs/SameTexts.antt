@@ -3,12 +3,12 @@ use Rattle.std.proofs.Common.{◌≡◌, ℕ, List, [], ◌∷◌, ◌++◌, Opt
 use Rattle.std.proofs.Math.Path.{fun_ext}
 use Rattle.std.specs.Prelude.{codes, decimal, get_or}
 use Rattle.std.specs.List.{flat_map}
-use Rattle.line_model.specs.{declared.line.Line.Line, declared.script.Script.Script}
-use Rattle.line_model.specs.declared.line.{Param.Param, Terminal.Terminal}
-use Rattle.line_model.specs.declared.script.Kind.{Kind}
-use Rattle.line_model.specs.NamesByNumber.{parameter_name, terminal_name}
-use Rattle.line_model.specs.{ParamNames.name_at, ParamNamesApart.name_of_param}
-use Rattle.line_model.specs.{Parameters.declared_ends, SetBounds.SameButParams}
+use Rattle.model_line.specs.{declared.line.Line.Line, declared.script.Script.Script}
+use Rattle.model_line.specs.{declared.line.Param.Param, declared.line.Terminal.Terminal}
+use Rattle.model_line.specs.{declared.script.Kind.Kind, ParamNames.name_at}
+use Rattle.model_line.specs.{Parameters.declared_ends, SetBounds.SameButParams}
+use Rattle.model_names.specs.NamesByNumber.{parameter_name, terminal_name}
+use Rattle.model_names.specs.ParamNamesApart.{name_of_param}
 use Rattle.fault_script.specs.Values.{ScriptValues, values_of}
 use Rattle.certificate.specs.Grammar.{end_text, script_text, terminal_names}
 use Rattle.certificate.specs.Text.{fed}

@@ -2,18 +2,19 @@
 use Rattle.std.proofs.Common.{◌≡◌, ℕ, ◌<◌, List, [], ◌∷◌, map, get_or, refl, sym, ◌∙◌, ap, subst}
 use Rattle.std.proofs.Math.Path.{fun_ext}
 use Rattle.history.specs.Rails.{Ends}
-use Rattle.line_model.specs.{declared.line.Line.Line, declared.script.Script.Script}
-use Rattle.line_model.specs.declared.bounds.Bounds.{Bounds}
-use Rattle.line_model.specs.declared.line.Param.{Param}
-use Rattle.line_model.specs.Choice.{Choice, IsIn, IsInside, declared_box, steady_choice, world_of}
-use Rattle.line_model.specs.Histories.{History, IsLineHistory, Meets, MeetsBy}
-use Rattle.line_model.specs.IntervalLaws.{CountsRestOnNoInterval, HistoriesRestOnNoInterval}
-use Rattle.line_model.specs.Parameters.{declared_ends, delay_param}
-use Rattle.line_model.specs.{Mean.World, Mean.mean, Logic.key_tree, Logic.trip_tree}
-use Rattle.line_model.specs.{SetBounds.SameButParams, Seen.is_lost}
-use Rattle.line_model.specs.{Seen.is_seen, declared.script.SeenSpan.SeenSpan, Channels.from_of}
-use Rattle.line_model.specs.Choice.{time_by}
-use Rattle.line_model.specs.declared.script.Kind.{Kind}
+use Rattle.model_line.specs.Parameters.{declared_ends, delay_param}
+use Rattle.model_line.specs.Seen.{is_lost, is_seen}
+use Rattle.model_line.specs.declared.script.Kind.{Kind}
+use Rattle.model_line.specs.{declared.line.Line.Line, declared.script.Script.Script}
+use Rattle.model_line.specs.{declared.bounds.Bounds.Bounds, declared.line.Param.Param}
+use Rattle.model_line.specs.{Laws.CountsRestOnNoInterval, SetBounds.SameButParams}
+use Rattle.model_line.specs.{declared.script.SeenSpan.SeenSpan, Channels.from_of}
+use Rattle.model_logic.specs.Choice.{Choice, IsIn, IsInside, declared_box, steady_choice, world_of}
+use Rattle.model_logic.specs.Choice.{time_by}
+use Rattle.model_logic.specs.Histories.{History, IsLineHistory, Meets, MeetsBy}
+use Rattle.model_logic.specs.Mean.{World, mean}
+use Rattle.model_logic.specs.Logic.{key_tree, trip_tree}
+use Rattle.model_logic.specs.IntervalLaws.{HistoriesRestOnNoInterval}
 use Rattle.line_file.specs.Lines.{LineValues, intervals_of, line_values}
 use Rattle.fault_script.specs.Values.{ScriptValues, values_of}
 use Rattle.headline.specs.Obligations.{IsFailedBy, IsMetByAll}

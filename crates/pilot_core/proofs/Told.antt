@@ -11,7 +11,7 @@ use Rattle.std.proofs.lemmas.Option.{same_Some}
 use Rattle.std.specs.Prelude.{IsSome, nat_lt, unwrap_or}
 use Rattle.std.specs.Io.KnownBytes.{Appends, Keeps}
 use Rattle.std.specs.List.{All}
-use Rattle.line_model.specs.{declared.line.Line.Line, declared.script.Script.Script, Fits.Fits}
+use Rattle.model_line.specs.{declared.line.Line.Line, declared.script.Script.Script, Fits.Fits}
 use Rattle.line_file.specs.{LineFiles.line_of, Lines.LineValues, Lines.line_values}
 use Rattle.line_file.specs.declared.fault.LineFault.{LineFault}
 use Rattle.fault_script.specs.Scripts.{scripts_of}

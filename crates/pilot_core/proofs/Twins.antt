@@ -2,7 +2,7 @@
 use Rattle.std.proofs.Common.{◌≡◌, ℕ, zero, suc, List, [], ◌∷◌, Some, map, refl, sym, ◌∙◌, ap}
 use Rattle.std.proofs.lemmas.Option.{same_Some}
 use Rattle.std.specs.Prelude.{slice_get}
-use Rattle.line_model.specs.declared.script.Script.{Script}
+use Rattle.model_line.specs.declared.script.Script.{Script}
 use Rattle.fault_script.specs.Values.{values_of}
 use Rattle.pilot_core.proofs.SameTexts.{heads_same}
 

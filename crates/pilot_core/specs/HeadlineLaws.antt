@@ -2,14 +2,14 @@
 use Rattle.std.specs.Prelude.{◌≡◌, ◌↔◌, ◌++◌, ◌<◌, ℕ, Bool, true, false, List, None, Some, Ok}
 use Rattle.std.specs.Prelude.{IsFalse, IsTrue, length, slice_get}
 use Rattle.std.specs.List.{All, list_any}
-use Rattle.line_model.specs.{declared.line.Line.Line, declared.script.Script.Script, Fits.Fits}
-use Rattle.line_model.specs.Histories.{History, IsLineHistory, Meets}
-use Rattle.line_model.specs.IntervalLaws.{CountsRestOnNoInterval, HistoriesRestOnNoInterval}
-use Rattle.line_model.specs.IntervalLaws.{TreesRestOnNoInterval}
-use Rattle.line_model.specs.Laws.{AWiderBoxCovers, DeadlinesAreBelowTheHorizon}
-use Rattle.line_model.specs.Laws.{EachLineHasAChoiceInside}
-use Rattle.line_model.specs.Laws.{TheRuleSpeaksForEveryChoice}
-use Rattle.line_model.specs.{Choice.Choice, Choice.IsWithin, Parameters.terminal_count}
+use Rattle.model_line.specs.Laws.{CountsRestOnNoInterval, DeadlinesAreBelowTheHorizon}
+use Rattle.model_line.specs.Parameters.{terminal_count}
+use Rattle.model_line.specs.{declared.line.Line.Line, declared.script.Script.Script, Fits.Fits}
+use Rattle.model_logic.specs.Histories.{History, IsLineHistory, Meets}
+use Rattle.model_logic.specs.IntervalLaws.{HistoriesRestOnNoInterval, TreesRestOnNoInterval}
+use Rattle.model_logic.specs.Laws.{AWiderBoxCovers, EachLineHasAChoiceInside}
+use Rattle.model_logic.specs.Laws.{TheRuleSpeaksForEveryChoice}
+use Rattle.model_logic.specs.Choice.{Choice, IsWithin}
 use Rattle.fault_script.specs.{Scripts.scripts_of, Values.AreOfOneFile, Values.ScriptValues}
 use Rattle.certificate.specs.{Grammar.Claims, Grammar.Verdict, Text.certificate_text}
 use Rattle.cert_checker.specs.{declared.counts.Counts.Counts, Check.IsAccepted}

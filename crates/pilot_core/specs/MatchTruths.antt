@@ -1,6 +1,6 @@
 -- What is so of every choice of delays where `match` has put a line, and by its status.
 use Rattle.std.specs.Prelude.{◌≡◌, ℕ, List, Ok}
-use Rattle.line_model.specs.{declared.line.Line.Line, declared.script.Script.Script}
+use Rattle.model_line.specs.{declared.line.Line.Line, declared.script.Script.Script}
 use Rattle.record_match.specs.Waves.{SeenValues, records_said}
 use Rattle.headline.specs.Matched.{AllGiven, HoldsOfRecord, HoldsOfRecordAt, HoldsOfSomeRecord}
 use Rattle.headline.specs.Matched.{IsGivenByNone, IsOpenRecord, Matched}

@@ -1,8 +1,8 @@
 -- What `play` has put, in words of choices and histories.
 use Rattle.std.specs.Prelude.{◌≡◌, ◌++◌, ℕ, List, Ok}
 use Rattle.std.specs.List.{All, flat_map}
-use Rattle.line_model.specs.{declared.line.Line.Line, declared.script.Script.Script}
-use Rattle.line_model.specs.Histories.{History, IsLineHistory}
+use Rattle.model_line.specs.{declared.line.Line.Line, declared.script.Script.Script}
+use Rattle.model_logic.specs.Histories.{History, IsLineHistory}
 use Rattle.timing_box.specs.{Choice.timing_choice, Inside.IsTimingInside, SoFar.NamedValues}
 use Rattle.timing_box.specs.Timings.{timings_of}
 use Rattle.simulator.specs.PlayRows.{run_rows}

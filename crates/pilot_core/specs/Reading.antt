@@ -2,8 +2,8 @@
 -- too long or that a reader refuses.
 use Rattle.std.specs.Prelude.{◌≡◌, ◌∷◌, ℕ, List, [], Option, None, Some, Result, Ok, Err, map}
 use Rattle.std.specs.List.{All}
-use Rattle.line_model.specs.{declared.line.Line.Line, declared.script.Script.Script, Fits.Fits}
-use Rattle.line_model.specs.NumbersByName.{param_named}
+use Rattle.model_line.specs.{declared.line.Line.Line, declared.script.Script.Script, Fits.Fits}
+use Rattle.model_names.specs.NumbersByName.{param_named}
 use Rattle.line_file.specs.LineFiles.{line_of}
 use Rattle.line_file.specs.{Lines.LineValues, Lines.line_values, declared.fault.LineFault.LineFault}
 use Rattle.fault_script.specs.Values.{ScriptValues, values_of}

@@ -1,7 +1,7 @@
 -- The laws that what is said of records of the field, and of plays, rests on.
 use Rattle.std.specs.Prelude.{◌≡◌, ◌++◌, ℕ, Bool, true, false, List, Ok}
 use Rattle.std.specs.List.{All}
-use Rattle.line_model.specs.{declared.line.Line.Line, declared.script.Script.Script, Fits.Fits}
+use Rattle.model_line.specs.{declared.line.Line.Line, declared.script.Script.Script, Fits.Fits}
 use Rattle.timing_box.specs.{Inside.IsTimingInside, SoFar.NamedValues}
 use Rattle.record_match.specs.{Answer.IsMatchAnswer, Recorded.IsRecordOf}
 use Rattle.record_match.specs.Waves.{SeenValues, records_said}

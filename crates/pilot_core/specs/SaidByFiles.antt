@@ -1,6 +1,6 @@
 -- What is so of the line and of the scripts that two files say.
 use Rattle.std.specs.Prelude.{◌≡◌, ℕ, List, Ok, map}
-use Rattle.line_model.specs.{declared.line.Line.Line, declared.script.Script.Script}
+use Rattle.model_line.specs.{declared.line.Line.Line, declared.script.Script.Script}
 use Rattle.line_file.specs.{LineFiles.line_of, Lines.line_values}
 use Rattle.fault_script.specs.{Scripts.scripts_of, Values.AreOfOneFile, Values.values_of}
 use Rattle.headline.specs.Printed.{HoldsOf}

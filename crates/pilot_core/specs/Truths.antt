@@ -1,11 +1,12 @@
 -- What is so of every choice of delays where a command has answered a text.
 use Rattle.std.specs.Prelude.{◌≡◌, ◌<◌, ◌++◌, ℕ, List, Option, Some, IsFalse, IsTrue, MatchOption}
 use Rattle.std.specs.Prelude.{codes, length, slice_get}
-use Rattle.line_model.specs.{declared.line.Line.Line, declared.script.Script.Script}
-use Rattle.line_model.specs.Choice.{Choice, IsInside, IsWithin}
-use Rattle.line_model.specs.Histories.{History, IsLineHistory, Meets}
-use Rattle.line_model.specs.{NumbersByName.param_named, Parameters.terminal_count}
-use Rattle.line_model.specs.Rule.{Broken, Held, Rule}
+use Rattle.model_line.specs.{declared.line.Line.Line, declared.script.Script.Script}
+use Rattle.model_line.specs.Parameters.{terminal_count}
+use Rattle.model_logic.specs.Choice.{Choice, IsInside, IsWithin}
+use Rattle.model_logic.specs.Histories.{History, IsLineHistory, Meets}
+use Rattle.model_logic.specs.Rule.{Broken, Held, Rule}
+use Rattle.model_names.specs.NumbersByName.{param_named}
 use Rattle.simulator.specs.PlayRows.{each_below}
 use Rattle.timing_report.specs.ReportText.{fields_text, report_header, rule_word}
 use Rattle.margin_search.specs.declared.upper_end.UpperEnd.{UpperEnd}

@@ -1,6 +1,6 @@
 -- A command, over what its files say.
 use Rattle.std.specs.Prelude.{ℕ, List}
-use Rattle.line_model.specs.{declared.line.Line.Line, declared.script.Script.Script}
+use Rattle.model_line.specs.{declared.line.Line.Line, declared.script.Script.Script}
 use Rattle.timing_box.specs.SoFar.{NamedValues}
 use Rattle.record_match.specs.Waves.{SeenValues}
 

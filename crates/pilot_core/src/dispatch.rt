@@ -21,7 +21,8 @@ use commands::{
 };
 use engine::Engine;
 use line_file::read_line;
-use line_model::{Line, Memory, parameter_of_name};
+use model_line::{Line, Memory};
+use model_names::parameter_of_name;
 use record_match::read_seen;
 use relay_base::Sink;
 use std::alloc::Global;

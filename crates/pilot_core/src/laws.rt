@@ -1,8 +1,8 @@
 //! What the headline rests on.
 ghost use Rattle.std.specs.Prelude.{◌≡◌, ◌≤◌, ℕ, List};
 ghost use Rattle.std.specs.List.{All};
-ghost use Rattle.line_model.specs.{declared.line.Line.Line, declared.script.Script.Script};
-ghost use Rattle.line_model.specs.Fits.{Fits};
+ghost use Rattle.model_line.specs.{declared.line.Line.Line, declared.script.Script.Script};
+ghost use Rattle.model_line.specs.Fits.{Fits};
 ghost use Rattle.line_file.specs.Lines.{line_values};
 ghost use Rattle.fault_script.specs.{Scripts.scripts_of, Values.values_of};
 ghost use Rattle.headline.specs.Obligations.{IsFailedBy, IsMetByAll, IsUnknown};
@@ -16,15 +16,14 @@ ghost use Rattle.pilot_core.specs.{Accepted.counted_line, HeadlineLaws.HeadlineL
 use crate::record_laws::what_is_recorded_is_true;
 use fault_script::a_file_says_scripts_of_one_file;
 use headline::{what_is_accepted_is_true, what_is_certified_is_true};
-use line_model::interval_laws::{
-    counts_do_not_rest_on_the_intervals, histories_do_not_rest_on_the_intervals,
-    trees_do_not_rest_on_the_intervals,
-};
-use line_model::laws::{
-    a_wider_box_covers, deadlines_are_below_the_horizon, each_line_has_a_choice_inside,
-    the_rule_speaks_for_every_choice,
-};
 use margin_search::what_is_held_to_a_number_is_met;
+use model_line::laws::{counts_do_not_rest_on_the_intervals, deadlines_are_below_the_horizon};
+use model_logic::interval_laws::{
+    histories_do_not_rest_on_the_intervals, trees_do_not_rest_on_the_intervals,
+};
+use model_logic::laws::{
+    a_wider_box_covers, each_line_has_a_choice_inside, the_rule_speaks_for_every_choice,
+};
 use own_certificate::what_is_certified_is_accepted;
 use own_splits::what_is_searched_is_accepted;
 use split_checker::accepted_split_trees_are_so;

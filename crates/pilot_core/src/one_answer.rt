@@ -1,8 +1,8 @@
 //! That a command has one answer.
 ghost use Rattle.std.specs.Prelude.{◌≡◌, ◌⊎◌, ◌≤◌, ◌<◌, ℕ, List};
 ghost use Rattle.std.specs.List.{All};
-ghost use Rattle.line_model.specs.{declared.line.Line.Line, declared.script.Script.Script};
-ghost use Rattle.line_model.specs.{Fits.Fits, Parameters.param_count};
+ghost use Rattle.model_line.specs.{declared.line.Line.Line, declared.script.Script.Script};
+ghost use Rattle.model_line.specs.{Fits.Fits, Parameters.param_count};
 ghost use Rattle.certificate.specs.Grammar.{Claims, IsCertificate, LeavesGrammar};
 ghost use Rattle.commands.specs.Bench.{bench_answer};
 ghost use Rattle.commands.specs.{Check.check_answer, Margin.margin_answer, Recheck.recheck_answer};
@@ -12,15 +12,15 @@ ghost use Rattle.record_match.specs.Waves.{SeenValues};
 
 use cert_checker::{a_certificate_has_one_first_fault, a_fault_refuses_the_certificate};
 use certificate::{a_text_has_one_meaning, certificates_can_be_written};
-use line_model::interval_laws::{
-    counts_do_not_rest_on_the_intervals, declared_intervals_are_in_order,
-    histories_do_not_rest_on_the_intervals, the_rule_over_a_box,
-};
-use line_model::laws::{
-    deadlines_are_below_the_horizon, each_box_has_one_interval_history,
-    each_line_has_a_choice_inside, line_laws,
-};
 use margin_search::a_parameter_has_one_margin;
+use model_line::laws::{
+    counts_do_not_rest_on_the_intervals, deadlines_are_below_the_horizon,
+    declared_intervals_are_in_order,
+};
+use model_logic::interval_laws::{histories_do_not_rest_on_the_intervals, the_rule_over_a_box};
+use model_logic::laws::{
+    each_box_has_one_interval_history, each_line_has_a_choice_inside, line_laws,
+};
 use own_splits::{each_search_has_an_outcome, each_search_has_one_outcome};
 use record_match::a_record_is_settled_once;
 use split_checker::{a_fault_refuses_the_split_text, a_split_text_has_one_first_fault};

@@ -6,7 +6,7 @@ ghost use Rattle.pilot_core.specs.Refusals.{record_detail};
 use crate::stop::File;
 use fault_script::ScriptFault;
 use line_file::{LineFault, Path};
-use line_model::Name;
+use model_line::Name;
 use record_match::SeenFault;
 use timing_box::TimingFault;
 

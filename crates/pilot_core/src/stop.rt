@@ -90,10 +90,10 @@ impl Stop {
     }
 }
 
-impl From<line_model::Memory> for Stop {
+impl From<model_line::Memory> for Stop {
     ghost from_gives = { λ _ stop. stop ≡ Memory };
 
-    fn from(_: line_model::Memory) -> Self {
+    fn from(_: model_line::Memory) -> Self {
         Stop::Memory
     }
 }

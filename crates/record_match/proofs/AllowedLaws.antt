@@ -1,11 +1,12 @@
 -- What a choice inside the declared intervals gives is allowed by what is derived.
 use Rattle.std.proofs.Common.{◌≡◌, ◌<◌, ℕ, Bool, true, false, sym, ◌∙◌, subst, arith}
 use Rattle.history.specs.Rails.{Rails, Covers, both}
-use Rattle.line_model.specs.declared.script.Script.{Script}
-use Rattle.line_model.specs.Choice.{Choice, IsInside, declared_box}
-use Rattle.line_model.specs.Histories.{History, IsLineHistory, IsSameHistory}
-use Rattle.line_model.specs.{declared.line.Line.Line, Parameters.terminal_count, PairMean.pair_mean}
-use Rattle.line_model.specs.{Laws.LineLaws, Logic.key_tree, Logic.trip_tree}
+use Rattle.model_line.specs.{declared.script.Script.Script, declared.line.Line.Line}
+use Rattle.model_line.specs.Parameters.{terminal_count}
+use Rattle.model_logic.specs.Choice.{Choice, IsInside, declared_box}
+use Rattle.model_logic.specs.Histories.{History, IsLineHistory, IsSameHistory}
+use Rattle.model_logic.specs.Logic.{key_tree, trip_tree}
+use Rattle.model_logic.specs.{PairMean.pair_mean, Laws.LineLaws}
 use Rattle.cert_checker.specs.Claims.{pairs_of, declared_world}
 use Rattle.record_match.specs.declared.seen.Seen.{Seen}
 use Rattle.record_match.specs.{Seen.AreSeen, Seen.seen_history, Clash.IsAllowed}

@@ -4,7 +4,7 @@ use Rattle.std.proofs.Common.{◌∙◌, ap, subst}
 use Rattle.std.proofs.lemmas.List.{append-nil, map-append}
 use Rattle.std.proofs.lemmas.List.Folds.{concat-append}
 use Rattle.std.specs.List.{AllZip, concat, list_any}
-use Rattle.line_model.specs.{declared.line.Line.Line, declared.script.Script.Script}
+use Rattle.model_line.specs.{declared.line.Line.Line, declared.script.Script.Script}
 use Rattle.cert_checker.specs.ZipLaws.{zip_push}
 use Rattle.record_match.specs.Answer.{Head, IsHead, IsMatchAnswer, is_impossible, is_unsettled}
 use Rattle.record_match.specs.Waves.{SeenValues}

@@ -4,8 +4,9 @@ use Rattle.std.proofs.Common.{get_or, refl, sym, ◌∙◌, ap, subst, arith}
 use Rattle.std.specs.Prelude.{IsTrue, MatchOption}
 use Rattle.history.specs.Rails.{Rails, Covers, RailsCover, both}
 use Rattle.tick_signal.specs.declared.tern.Tern.{Tern}
-use Rattle.line_model.specs.{declared.line.Line.Line, declared.script.Script.Script}
-use Rattle.line_model.specs.{Parameters.terminal_count, PairMean.pair_mean, Tree.Tree}
+use Rattle.model_line.specs.{declared.line.Line.Line, declared.script.Script.Script}
+use Rattle.model_line.specs.Parameters.{terminal_count}
+use Rattle.model_logic.specs.{PairMean.pair_mean, Tree.Tree}
 use Rattle.gate_net.specs.NetOf.{NetOf, IsNetOf, key_of, trip_of}
 use Rattle.wave_runs.specs.Waves.{wave_at}
 use Rattle.cert_checker.specs.Claims.{AreGateWaves, pairs_of, declared_world}

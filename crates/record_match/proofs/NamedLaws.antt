@@ -7,8 +7,8 @@ use Rattle.std.specs.Prelude.{◌&&◌, ◌==◌, nat_lt, IfOk, Vec}
 use Rattle.std.specs.declared.alloc.Global.{Global}
 use Rattle.std.specs.{List.All, Str.bytes_eq}
 use Rattle.relay_base.specs.Number.{number_of}
-use Rattle.line_model.specs.{declared.line.Line.Line, declared.script.Script.Script}
-use Rattle.line_model.specs.NumbersByName.{script_named}
+use Rattle.model_line.specs.{declared.line.Line.Line, declared.script.Script.Script}
+use Rattle.model_names.specs.NumbersByName.{script_named}
 use Rattle.csv_records.specs.{Gives.◌>>=◌, Gives.passes_or, SoFar.SoFar, SoFar.all_of}
 use Rattle.csv_records.specs.ListLaws.{All-front, All-last, position_within}
 use Rattle.csv_records.specs.CheckLaws.{filtered, found, passed, same_ok}

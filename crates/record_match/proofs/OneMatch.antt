@@ -3,7 +3,7 @@ use Rattle.std.proofs.Common.{◌≡◌, ℕ, ◌<◌, Bool, true, false, refl, 
 use Rattle.std.proofs.Common.{⊎_elim}
 use Rattle.std.proofs.lemmas.Bool.{cases_lt}
 use Rattle.tick_signal.specs.{declared.tern.Tern.Tern, Terns.tern_once}
-use Rattle.line_model.specs.{declared.line.Line.Line, declared.script.Script.Script}
+use Rattle.model_line.specs.{declared.line.Line.Line, declared.script.Script.Script}
 use Rattle.timing_box.specs.Candidates.{candidate}
 use Rattle.cert_checker.specs.Firsts.{IsFirstFailing}
 use Rattle.record_match.specs.declared.seen.Match.TheVariants.{Explained, Impossible, Unsettled}

@@ -2,7 +2,7 @@
 use Rattle.std.proofs.Common.{◌≡◌, ◌+◌, ℕ, true, false, List, [], ◌∷◌, Ok, length, map, subst}
 use Rattle.std.proofs.lemmas.List.Elements.{All-nil, All-cons, All-head, All-tail}
 use Rattle.std.specs.List.{All}
-use Rattle.line_model.specs.{declared.line.Line.Line, declared.script.Script.Script}
+use Rattle.model_line.specs.{declared.line.Line.Line, declared.script.Script.Script}
 use Rattle.csv_records.specs.{Fields.are_fields, Records.records_of, RecordFile.after_header}
 use Rattle.csv_records.specs.{RecordFile.after_records, RecordFile.said_in}
 use Rattle.csv_records.specs.CheckLaws.{choice_passed, passed, same_ok}

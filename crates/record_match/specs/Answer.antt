@@ -1,7 +1,7 @@
 -- What is answered of the records of a file: a line for each head, in file order.
 use Rattle.std.specs.Prelude.{◌≡◌, ℕ, Bool, true, false, List, Some, map, slice_get}
 use Rattle.std.specs.List.{AllZip, concat, list_any}
-use Rattle.line_model.specs.{declared.line.Line.Line, declared.script.Script.Script}
+use Rattle.model_line.specs.{declared.line.Line.Line, declared.script.Script.Script}
 use Rattle.record_match.specs.declared.seen.Seen.{Seen}
 use Rattle.record_match.specs.declared.seen.Match.TheVariants.{Explained, Impossible, Unsettled}
 use Rattle.record_match.specs.Waves.{SeenValues, seen_values}

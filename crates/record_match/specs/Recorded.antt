@@ -1,8 +1,9 @@
 -- What the records of a file are to a line and its scripts.
 use Rattle.std.specs.Prelude.{◌≡◌, ◌<◌, ℕ, List, length}
 use Rattle.history.specs.Rails.{both}
-use Rattle.line_model.specs.{declared.line.Line.Line, declared.script.Script.Script}
-use Rattle.line_model.specs.{Histories.History, Parameters.terminal_count}
+use Rattle.model_line.specs.{declared.line.Line.Line, declared.script.Script.Script}
+use Rattle.model_line.specs.Parameters.{terminal_count}
+use Rattle.model_logic.specs.Histories.{History}
 use Rattle.wave_runs.specs.Waves.{AreWaves}
 use Rattle.cert_checker.specs.Claims.{pairs_of}
 use Rattle.record_match.specs.Waves.{SeenValues}

@@ -11,7 +11,7 @@ use crate::seen::{Match, Seen};
 use crate::settling::settle;
 use crate::text::match_text;
 use gate_net::Net;
-use line_model::{Line, Memory, Script};
+use model_line::{Line, Memory, Script};
 use std::alloc::Global;
 
 /// A line for each record, in file order; whether some record is impossible, and whether some is

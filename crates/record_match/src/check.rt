@@ -3,7 +3,7 @@
 ghost use Rattle.std.specs.Prelude.{◌≡◌, ◌==◌, ◌≤◌, option_map, false, length, nat_lt};
 ghost use Rattle.std.specs.List.{list_any};
 ghost use Rattle.std.proofs.lemmas.Map.Entries.{option_filter};
-ghost use Rattle.line_model.specs.NumbersByName.{script_named};
+ghost use Rattle.model_names.specs.NumbersByName.{script_named};
 ghost use Rattle.csv_records.specs.SoFar.{one_or_none, so_far_of};
 ghost use Rattle.relay_base.specs.Number.{number_of};
 ghost use Rattle.record_match.specs.Row.{row_of};
@@ -17,7 +17,8 @@ use crate::change::{Change, Place};
 use crate::fields::Fields;
 use crate::heads::Head;
 use csv_records::{Reading, is, is_nothing};
-use line_model::{Line, Script, script_of_name, terminal_of_name};
+use model_line::{Line, Script};
+use model_names::{script_of_name, terminal_of_name};
 use relay_base::number;
 
 /// Whether the record is a head: all fields behind its name are empty.

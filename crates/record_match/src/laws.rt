@@ -2,15 +2,16 @@
 
 ghost use Rattle.std.specs.Prelude.{◌≡◌, ◌<◌, ℕ, Bool, List, Ok};
 ghost use Rattle.std.specs.List.{All};
-ghost use Rattle.line_model.specs.Histories.{History, IsLineHistory, IsSameHistory};
-ghost use Rattle.line_model.specs.{declared.line.Line.Line, declared.script.Script.Script};
-ghost use Rattle.line_model.specs.{Parameters.terminal_count, Choice.Choice, Choice.IsInside};
+ghost use Rattle.model_logic.specs.Histories.{History, IsLineHistory, IsSameHistory};
+ghost use Rattle.model_logic.specs.Choice.{Choice, IsInside};
+ghost use Rattle.model_line.specs.{declared.line.Line.Line, declared.script.Script.Script};
+ghost use Rattle.model_line.specs.Parameters.{terminal_count};
 ghost use Rattle.record_match.specs.{declared.seen.Seen.Seen, Seen.AreSeen, Seen.seen_history};
 ghost use Rattle.record_match.specs.{declared.seen.Match.Match, Clash.IsAllowed, Match.IsMatch};
 ghost use Rattle.record_match.specs.Recorded.{IsRecordOf};
 ghost use Rattle.record_match.specs.Waves.{SeenValues, records_said};
 
-use line_model::laws::line_laws;
+use model_logic::laws::line_laws;
 
 /// What a choice of delays inside the declared intervals gives is allowed everywhere. So no choice
 /// gives a record that is not allowed at some place.

@@ -1,8 +1,8 @@
 //! Whether a timing gives a record.
 
 ghost use Rattle.std.specs.Prelude.{◌≡◌, ◌<◌, ◌↔◌, ℕ, length, IsTrue, IfOk};
-ghost use Rattle.line_model.specs.Parameters.{terminal_count};
-ghost use Rattle.line_model.specs.Histories.{IsSameHistory};
+ghost use Rattle.model_line.specs.Parameters.{terminal_count};
+ghost use Rattle.model_logic.specs.Histories.{IsSameHistory};
 ghost use Rattle.gate_net.specs.NetOf.{IsNetOf};
 ghost use Rattle.timing_box.specs.Inside.{IsTimingInside};
 ghost use Rattle.wave_runs.specs.Waves.{AreWaves};
@@ -13,8 +13,8 @@ use crate::seen::Seen;
 use cert_checker::nth;
 use channel::Track;
 use gate_net::Net;
-use line_model::laws::line_laws;
-use line_model::{Line, Memory, Script};
+use model_line::{Line, Memory, Script};
+use model_logic::laws::line_laws;
 use simulator::laws::a_timing_is_one_choice;
 use simulator::{Tracks, run_tracks};
 use std::alloc::Global;

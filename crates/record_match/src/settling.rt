@@ -2,8 +2,8 @@
 
 ghost use Rattle.std.specs.Prelude.{◌≡◌, ℕ, Bool, IfOk};
 ghost use Rattle.tick_signal.specs.declared.tern.Tern.{Tern};
-ghost use Rattle.line_model.specs.Choice.{Choice, IsInside};
-ghost use Rattle.line_model.specs.Histories.{History, IsLineHistory, IsSameHistory};
+ghost use Rattle.model_logic.specs.Choice.{Choice, IsInside};
+ghost use Rattle.model_logic.specs.Histories.{History, IsLineHistory, IsSameHistory};
 ghost use Rattle.gate_net.specs.NetOf.{IsNetOf};
 ghost use Rattle.record_match.specs.Seen.{AreSeen, seen_history};
 ghost use Rattle.record_match.specs.{declared.seen.Match.Match, Match.IsMatch, MatchText.IsWritten};
@@ -14,7 +14,7 @@ use crate::replay::gives;
 use crate::seen::{Match, Seen};
 use cert_checker::gate_waves;
 use gate_net::Net;
-use line_model::{Line, Memory, Script};
+use model_line::{Line, Memory, Script};
 use std::alloc::Global;
 use timing_box::{candidate, candidate_count, candidates_are_inside};
 

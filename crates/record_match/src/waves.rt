@@ -10,7 +10,7 @@ use crate::check::is_of;
 use crate::fault::SeenFault;
 use crate::heads::Head;
 use crate::seen::Seen;
-use line_model::{Line, Memory};
+use model_line::{Line, Memory};
 use std::alloc::Global;
 use tick_signal::Tern;
 use wave_runs::Runs;

@@ -1,6 +1,6 @@
 -- What the lines for tests are made of.
 use Rattle.std.specs.Prelude.{◌∷◌, false, ℕ, List, [], codes}
-use Rattle.line_model.specs.{declared.line.Terminal.Terminal, declared.line.Channel.Channel}
+use Rattle.model_line.specs.{declared.line.Terminal.Terminal, declared.line.Channel.Channel}
 
 abbrev pub terminal_named : List ℕ → Terminal
 terminal_named name = record { name = name; weak = false; guard = false }

@@ -1,11 +1,11 @@
 //! A line of two terminals.
 
 ghost use Rattle.std.specs.Prelude.{◌≡◌, ◌≤◌, ◌<◌, false, length, IfOk, MatchOption};
-ghost use Rattle.line_model.specs.declared.line.Scheme.TheVariants.{Pott};
-ghost use Rattle.line_model.specs.Making.{MakesLine, IsMadeOf};
+ghost use Rattle.model_line.specs.Making.{MakesLine, IsMadeOf};
+ghost use Rattle.model_line.specs.declared.line.Scheme.TheVariants.{Pott};
 ghost use Rattle.sample_lines.specs.Samples.{two_ends, both_ways, terminal_named};
 
-use line_model::{Bounds, Channel, Line, Memory, Name, Scheme, Terminal, makes_line};
+use model_line::{Bounds, Channel, Line, Memory, Name, Scheme, Terminal, makes_line};
 use std::alloc::Global;
 
 /// An interval for each parameter of the line, all of them free.

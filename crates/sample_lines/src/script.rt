@@ -1,9 +1,9 @@
 //! A script.
 
 ghost use Rattle.std.specs.Prelude.{◌≡◌, []};
-ghost use Rattle.line_model.specs.declared.script.Kind.TheVariants.{Internal};
+ghost use Rattle.model_line.specs.declared.script.Kind.TheVariants.{Internal};
 
-use line_model::{Kind, Name, Script};
+use model_line::{Kind, Name, Script};
 use std::alloc::Global;
 
 /// An internal fault of this name, to be tripped by tick 19, of which nothing is seen.

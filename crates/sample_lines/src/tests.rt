@@ -1,7 +1,7 @@
 //! The line and the script.
 
 use super::*;
-use line_model::{Bounds, Kind, Name};
+use model_line::{Bounds, Kind, Name};
 use std::test::Fail;
 
 #[test]

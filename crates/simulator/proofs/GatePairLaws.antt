@@ -1,7 +1,7 @@
 -- The pair of a gate is its kind over the pairs of its arguments.
 use Rattle.std.proofs.Common.{◌≡◌, ℕ, List, Some, refl, ◌∙◌, ap}
 use Rattle.std.specs.Prelude.{slice_get}
-use Rattle.line_model.specs.PairMean.{PairWorld, PairSignals, pair_mean}
+use Rattle.model_logic.specs.PairMean.{PairWorld, PairSignals, pair_mean}
 use Rattle.gate_net.specs.declared.gate.Gate.TheVariants.{Const, Seen, Loss, Raw, Not, And, Or}
 use Rattle.gate_net.specs.declared.gate.Gate.TheVariants.{Timer, Seal}
 use Rattle.gate_net.specs.Laws.{AreGates}

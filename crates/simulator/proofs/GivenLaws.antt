@@ -4,10 +4,11 @@ use Rattle.std.proofs.Common.{arith, subst, ⊎_elim, length-set}
 use Rattle.std.proofs.lemmas.Option.{slice_get-map, slice_get_within, get_or_from_slice_get}
 use Rattle.std.specs.Prelude.{slice_get, slice_set, option_map}
 use Rattle.history.specs.Rails.{Ends}
-use Rattle.line_model.specs.declared.script.SeenSpan.{SeenSpan}
-use Rattle.line_model.specs.Parameters.{terminal_count, channel_count, param_count, delay_param}
-use Rattle.line_model.specs.{declared.line.Line.Line, declared.line.Channel.Channel}
-use Rattle.line_model.specs.{declared.script.Script.Script, Channels.from_of, Choice.pair_world_of}
+use Rattle.model_line.specs.Parameters.{terminal_count, channel_count, param_count, delay_param}
+use Rattle.model_line.specs.Channels.{from_of}
+use Rattle.model_line.specs.{declared.script.SeenSpan.SeenSpan, declared.line.Line.Line}
+use Rattle.model_line.specs.{declared.line.Channel.Channel, declared.script.Script.Script}
+use Rattle.model_logic.specs.Choice.{pair_world_of}
 use Rattle.timing_box.specs.declared.step.Step.{Step}
 use Rattle.simulator.specs.Inputs.{AreDelays, DelaysHold, IsWorldAt, CanReceive}
 use Rattle.simulator.specs.Shown.{ShowTheSame, ShownSpans, AreShown, not_over}

@@ -5,8 +5,8 @@ use Rattle.std.proofs.lemmas.Bool.{cases_lt, leb-true, le-leb, eqb-true}
 use Rattle.std.proofs.lemmas.Bool.Decides.{Decides-like, Decides-ltb, same_from_decides}
 use Rattle.std.specs.Prelude.{slice_get, nat_le, nat_lt, if◌then◌else◌, ◌==◌, Decides, true, false}
 use Rattle.std.specs.List.{list_any}
-use Rattle.line_model.specs.declared.script.SeenSpan.{SeenSpan}
-use Rattle.line_model.specs.Seen.{is_of_place, is_of_loss, shows, loses}
+use Rattle.model_line.specs.Seen.{is_of_place, is_of_loss, shows, loses}
+use Rattle.model_line.specs.declared.script.SeenSpan.{SeenSpan}
 use Rattle.timing_box.specs.{declared.step.Step.Step, Timing.number_at}
 use Rattle.simulator.specs.Quiet.{Keeps, ScriptKeeps, SpanKeeps, NoStepIn}
 

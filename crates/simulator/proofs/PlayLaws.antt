@@ -4,10 +4,9 @@ use Rattle.std.proofs.Common.{length, Option, Some, None, refl, sym, ◌∙◌, 
 use Rattle.std.proofs.lemmas.Option.{unwrap_or-slice_get, get_or_from_slice_get}
 use Rattle.std.specs.Prelude.{slice_get, option_map, unwrap_or}
 use Rattle.history.specs.Rails.{Ends, single}
-use Rattle.line_model.specs.declared.line.Line.{Line}
-use Rattle.line_model.specs.Parameters.{param_count, delay_param}
-use Rattle.line_model.specs.Choice.{DelaysFromOne}
-use Rattle.line_model.specs.{Laws.LineLaws}
+use Rattle.model_line.specs.Parameters.{param_count, delay_param}
+use Rattle.model_line.specs.declared.line.Line.{Line}
+use Rattle.model_logic.specs.{Choice.DelaysFromOne, Laws.LineLaws}
 use Rattle.timing_box.specs.{Timing.TimingValues, Timing.number_at}
 use Rattle.timing_box.specs.{Inside.IsTimingInside, Choice.timing_choice}
 use Rattle.simulator.specs.LaneBox.{ends_in, lane_box}

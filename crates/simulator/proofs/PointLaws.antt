@@ -1,12 +1,14 @@
 -- Over a box that holds one choice alone the interval history is, on both rails, the history at it.
 use Rattle.std.proofs.Common.{◌≡◌, ℕ, ◌<◌, ◌≤◌, Bool, true, false, refl, sym, ◌∙◌, ap, subst, arith}
 use Rattle.history.specs.Rails.{Rails, Ends, Covers, RailsCover, IsPartOf, both, single, must_of}
-use Rattle.line_model.specs.Choice.{Choice, Box, IsIn, IsWithin, IsBoxWithin, DelaysFromOne}
-use Rattle.line_model.specs.Choice.{LeastFromOne, point_box}
-use Rattle.line_model.specs.Histories.{History, IsLineHistory, PairHistory, IsPairHistory}
-use Rattle.line_model.specs.Histories.{IsBothRails, CoversHistory, CoversPairHistory, must_history}
-use Rattle.line_model.specs.{declared.line.Line.Line, Parameters.terminal_count, Logic.key_tree}
-use Rattle.line_model.specs.{Logic.trip_tree, Laws.LineLaws, declared.script.Script.Script}
+use Rattle.model_logic.specs.Choice.{Choice, Box, IsIn, IsWithin, IsBoxWithin, DelaysFromOne}
+use Rattle.model_logic.specs.Choice.{LeastFromOne, point_box}
+use Rattle.model_logic.specs.Histories.{History, IsLineHistory, PairHistory, IsPairHistory}
+use Rattle.model_logic.specs.Histories.{IsBothRails, CoversHistory, CoversPairHistory, must_history}
+use Rattle.model_logic.specs.Logic.{key_tree, trip_tree}
+use Rattle.model_logic.specs.Laws.{LineLaws}
+use Rattle.model_line.specs.{declared.line.Line.Line, Parameters.terminal_count}
+use Rattle.model_line.specs.declared.script.Script.{Script}
 use Rattle.simulator.specs.Runs.{IsPoint, IsExactAt}
 
 -- rails that allow only the value, and that the value allows, are both the value

@@ -5,8 +5,8 @@ use Rattle.std.proofs.lemmas.Bool.{cases_lt}
 use Rattle.history.specs.Rails.{Rails, Ends, both, rails_not, rails_and, rails_or, rails_delayed}
 use Rattle.history.specs.Rails.{rails_timed}
 use Rattle.timers.specs.Stretches.{ElementsInAStretch}
-use Rattle.line_model.specs.declared.line.Line.{Line}
-use Rattle.line_model.specs.{Parameters.channel_count, PairMean.PairWorld, PairMean.PairSignals}
+use Rattle.model_line.specs.{declared.line.Line.Line, Parameters.channel_count}
+use Rattle.model_logic.specs.PairMean.{PairWorld, PairSignals}
 use Rattle.gate_net.specs.declared.gate.Gate.TheVariants.{Const, Seen, Loss, Raw, Not, And, Or}
 use Rattle.gate_net.specs.declared.gate.Gate.TheVariants.{Timer, Seal}
 use Rattle.gate_net.specs.Laws.{AreGates, HasArguments}

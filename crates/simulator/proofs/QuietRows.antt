@@ -4,8 +4,9 @@ use Rattle.std.proofs.Common.{◌≡◌, ◌<◌, ◌≤◌, ◌++◌, ℕ, zero
 use Rattle.std.proofs.Common.{◌∙◌, ap, arith, ⊎_elim}
 use Rattle.std.proofs.lemmas.Bool.{cases_lt}
 use Rattle.std.proofs.lemmas.List.{append-nil}
-use Rattle.line_model.specs.NamesByNumber.{terminal_name}
-use Rattle.line_model.specs.{declared.line.Line.Line, Parameters.terminal_count, Histories.History}
+use Rattle.model_names.specs.NamesByNumber.{terminal_name}
+use Rattle.model_line.specs.{declared.line.Line.Line, Parameters.terminal_count}
+use Rattle.model_logic.specs.Histories.{History}
 use Rattle.simulator.specs.PlayRows.{change_row, value_before, signal_row, each_below}
 use Rattle.simulator.specs.PlayRows.{terminal_rows, tick_rows}
 

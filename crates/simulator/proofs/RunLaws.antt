@@ -1,12 +1,13 @@
 -- From the values of all ticks to the interval history of the run's own keys.
 use Rattle.std.proofs.Common.{◌≡◌, ℕ, ◌*◌, ◌<◌, ◌≤◌, List, length, sym, ◌∙◌, ap, subst, arith}
 use Rattle.history.specs.Rails.{Rails, Covers}
-use Rattle.line_model.specs.PairMean.{PairWorld, PairSignals, pair_mean}
-use Rattle.line_model.specs.Choice.{Box, LeastFromOne, world_of, pair_world_of}
-use Rattle.line_model.specs.Histories.{PairHistory, IsPairHistory}
-use Rattle.line_model.specs.{declared.line.Line.Line, declared.script.Script.Script}
-use Rattle.line_model.specs.{Parameters.terminal_count, Names.Names, Tree.Tree, Mean.mean}
-use Rattle.line_model.specs.{Logic.key_tree, Solution.SameBefore, Solution.the_keys, Laws.LineLaws}
+use Rattle.model_logic.specs.PairMean.{PairWorld, PairSignals, pair_mean}
+use Rattle.model_logic.specs.Choice.{Box, LeastFromOne, world_of, pair_world_of}
+use Rattle.model_logic.specs.Histories.{PairHistory, IsPairHistory}
+use Rattle.model_logic.specs.Solution.{SameBefore, the_keys}
+use Rattle.model_logic.specs.{Names.Names, Tree.Tree, Mean.mean, Logic.key_tree, Laws.LineLaws}
+use Rattle.model_line.specs.{declared.line.Line.Line, declared.script.Script.Script}
+use Rattle.model_line.specs.Parameters.{terminal_count}
 use Rattle.gate_net.specs.declared.gate.GateId.{GateId}
 use Rattle.gate_net.specs.NetOf.{NetOf, IsNet, IsNetOf, AreGatesOf, key_of, trip_of, id_at}
 use Rattle.gate_net.specs.{NetLaws.GatesStandForTheirTrees, Formulas.formula_of}

@@ -13,7 +13,7 @@ use Rattle.history.specs.Rails.{Rails, Ends, rails_at, rails_delayed}
 use Rattle.history.specs.{Recorded.first_ticks, Laws.HistoryLaws}
 use Rattle.tick_signal.specs.Lanes.{in_lane}
 use Rattle.channel.specs.SentKeys.{SentKeys}
-use Rattle.line_model.specs.PairMean.{PairSignals}
+use Rattle.model_logic.specs.PairMean.{PairSignals}
 
 pub fresh_more : {V : Type 0} (n horizon : ℕ) (lines : List (SentKeys V)) (s : SentKeys V)
     → s ≡ record { keys = []; horizon = horizon } → AreFresh n horizon lines

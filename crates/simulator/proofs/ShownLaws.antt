@@ -12,8 +12,8 @@ use Rattle.std.proofs.lemmas.Option.{slice_get-get_or, slice_get_within, get_or_
 use Rattle.std.specs.Prelude.{nat_le, nat_lt, slice_get}
 use Rattle.std.specs.List.{list_any, filter}
 use Rattle.std.specs.List.Sorted.{IsPermutation, IsNonDecreasingBy}
-use Rattle.line_model.specs.declared.script.SeenSpan.{SeenSpan}
-use Rattle.line_model.specs.Seen.{is_of_place, is_of_loss, shows, loses}
+use Rattle.model_line.specs.Seen.{is_of_place, is_of_loss, shows, loses}
+use Rattle.model_line.specs.declared.script.SeenSpan.{SeenSpan}
 use Rattle.simulator.specs.{Shown.ShowTheSame, Quiet.ScriptKeeps, Quiet.AllKeep}
 use Rattle.simulator.proofs.InputLaws.{script_keeps}
 

@@ -4,11 +4,11 @@ use Rattle.std.proofs.Common.{subst}
 use Rattle.std.specs.Prelude.{slice_get}
 use Rattle.history.specs.Rails.{Rails, Ends}
 use Rattle.timers.specs.Stretches.{ElementsInAStretch}
-use Rattle.line_model.specs.declared.line.Line.{Line}
-use Rattle.line_model.specs.Choice.{Box, LeastFromOne, pair_world_of}
-use Rattle.line_model.specs.{declared.script.Script.Script}
-use Rattle.line_model.specs.{Channels.from_of, Parameters.channel_count, PairMean.PairWorld}
-use Rattle.line_model.specs.{PairMean.PairSignals, Logic.key_tree, Solution.the_keys, Laws.LineLaws}
+use Rattle.model_line.specs.{declared.line.Line.Line, declared.script.Script.Script}
+use Rattle.model_line.specs.{Channels.from_of, Parameters.channel_count}
+use Rattle.model_logic.specs.Choice.{Box, LeastFromOne, pair_world_of}
+use Rattle.model_logic.specs.PairMean.{PairWorld, PairSignals}
+use Rattle.model_logic.specs.{Logic.key_tree, Solution.the_keys, Laws.LineLaws}
 use Rattle.gate_net.specs.declared.gate.Gate.{Gate}
 use Rattle.gate_net.specs.NetOf.{NetOf, IsNetOf, AreGatesOf, key_of, id_at}
 use Rattle.gate_net.specs.{declared.gate.GateId.GateId, NetLaws.GatesStandForTheirTrees}

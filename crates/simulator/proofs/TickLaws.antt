@@ -8,8 +8,9 @@ use Rattle.simulator.specs.{declared.cell.Cell.Cell, GatePairs.GateSignals, Gate
 use Rattle.history.specs.Rails.{Rails, Ends, rails_at, rails_delayed, rails_timed, rails_sealed}
 use Rattle.history.specs.Rails.{both}
 use Rattle.history.specs.{Recorded.first_ticks, Laws.RecordedTicksSuffice}
-use Rattle.line_model.specs.declared.script.Place.{Place}
-use Rattle.line_model.specs.{declared.formula.Time.Time, PairMean.PairWorld, PairMean.PairSignals}
+use Rattle.model_line.specs.declared.script.Place.{Place}
+use Rattle.model_logic.specs.PairMean.{PairWorld, PairSignals}
+use Rattle.model_logic.specs.declared.time.Time.{Time}
 use Rattle.gate_net.specs.declared.gate.Gate.TheVariants.{Seen, Loss, Raw, Timer, Seal}
 use Rattle.gate_net.specs.{declared.gate.GateId.GateId, declared.gate.Gate.Gate}
 

@@ -2,12 +2,13 @@
 use Rattle.std.proofs.Common.{◌≡◌, ℕ, ◌<◌, List, length, sym, ◌∙◌, ap, arith}
 use Rattle.std.specs.Prelude.{slice_get}
 use Rattle.history.specs.{Rails.Rails, Rails.rails_at, Laws.HistoryLaws}
-use Rattle.line_model.specs.declared.script.Script.{Script}
-use Rattle.line_model.specs.PairMean.{PairWorld, PairSignals, pair_mean}
-use Rattle.line_model.specs.Choice.{Box, LeastFromOne, pair_world_of}
-use Rattle.line_model.specs.Histories.{PairHistory, IsPairHistory}
-use Rattle.line_model.specs.{Laws.LineLaws, declared.line.Line.Line, Parameters.terminal_count}
-use Rattle.line_model.specs.{Tree.Tree, Logic.key_tree, Solution.SameBefore, Solution.the_keys}
+use Rattle.model_line.specs.{declared.script.Script.Script, declared.line.Line.Line}
+use Rattle.model_line.specs.Parameters.{terminal_count}
+use Rattle.model_logic.specs.PairMean.{PairWorld, PairSignals, pair_mean}
+use Rattle.model_logic.specs.Choice.{Box, LeastFromOne, pair_world_of}
+use Rattle.model_logic.specs.Histories.{PairHistory, IsPairHistory}
+use Rattle.model_logic.specs.Solution.{SameBefore, the_keys}
+use Rattle.model_logic.specs.{Laws.LineLaws, Tree.Tree, Logic.key_tree}
 use Rattle.gate_net.specs.NetLaws.{GatesStandForTheirTrees}
 use Rattle.gate_net.specs.{Formulas.formula_of, NetOf.NetOf, NetOf.IsNetOf, NetOf.trip_of}
 use Rattle.channel.specs.SentKeys.{SentKeys}

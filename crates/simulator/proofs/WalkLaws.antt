@@ -3,7 +3,7 @@ use Rattle.std.proofs.Common.{◌≡◌, ◌≢◌, ℕ, suc, ◌+◌, List, [],
 use Rattle.std.proofs.Common.{ap, subst, arith, ⊎_elim, length-set, ◌≤◌}
 use Rattle.std.specs.Prelude.{slice_get, slice_set}
 use Rattle.history.specs.Rails.{Rails, Ends}
-use Rattle.line_model.specs.PairMean.{PairWorld, PairSignals}
+use Rattle.model_logic.specs.PairMean.{PairWorld, PairSignals}
 use Rattle.gate_net.specs.declared.gate.Gate.TheVariants.{Const, Seen, Loss, Raw, Not, And, Or}
 use Rattle.gate_net.specs.declared.gate.Gate.TheVariants.{Timer, Seal}
 use Rattle.gate_net.specs.{declared.gate.Gate.Gate, Laws.HasArguments}

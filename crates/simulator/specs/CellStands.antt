@@ -2,7 +2,7 @@
 use Rattle.std.specs.Prelude.{◌≡◌, ℕ, List}
 use Rattle.history.specs.{Rails.Rails, Rails.Ends, Recorded.first_ticks}
 use Rattle.timers.specs.Seals.{SealStandsFor}
-use Rattle.line_model.specs.PairMean.{PairWorld}
+use Rattle.model_logic.specs.PairMean.{PairWorld}
 use Rattle.gate_net.specs.declared.gate.Gate.{Gate}
 use Rattle.gate_net.specs.declared.gate.Gate.TheVariants as gate
 use Rattle.simulator.specs.declared.cell.Cell.TheVariants.{Nothing, Timer, Seal}

@@ -2,9 +2,10 @@
 use Rattle.std.specs.Prelude.{◌≡◌, ℕ, List, Some, slice_get}
 use Rattle.history.specs.Rails.{Rails, both, rails_not, rails_and, rails_or, rails_timed}
 use Rattle.history.specs.Rails.{rails_sealed, rails_delayed}
-use Rattle.line_model.specs.PairMean.{PairWorld, PairSignals, pair_mean}
-use Rattle.line_model.specs.{declared.line.Line.Line, declared.script.Script.Script, Choice.Box}
-use Rattle.line_model.specs.{Choice.pair_world_of, Logic.key_tree, Solution.the_keys}
+use Rattle.model_logic.specs.PairMean.{PairWorld, PairSignals, pair_mean}
+use Rattle.model_logic.specs.Choice.{Box, pair_world_of}
+use Rattle.model_logic.specs.{Logic.key_tree, Solution.the_keys}
+use Rattle.model_line.specs.{declared.line.Line.Line, declared.script.Script.Script}
 use Rattle.gate_net.specs.declared.gate.Gate.TheVariants.{Const, Seen, Loss, Raw, Not, And, Or}
 use Rattle.gate_net.specs.declared.gate.Gate.TheVariants.{Timer, Seal}
 use Rattle.gate_net.specs.{declared.gate.Gate.Gate, Formulas.formula_of, Laws.AreGates, NetOf.NetOf}

@@ -1,10 +1,11 @@
 -- What a net is given from outside: what its script shows and loses, and its delays.
 use Rattle.std.specs.Prelude.{◌≡◌, ◌<◌, ◌≤◌, ℕ, List, Some, length, slice_get}
 use Rattle.history.specs.Rails.{Ends}
-use Rattle.line_model.specs.Parameters.{terminal_count, channel_count, param_count, delay_param}
-use Rattle.line_model.specs.{declared.line.Line.Line}
-use Rattle.line_model.specs.{declared.script.Place.Place, declared.script.SeenSpan.SeenSpan}
-use Rattle.line_model.specs.{Channels.from_of, PairMean.PairWorld, Seen.is_seen, Seen.is_lost}
+use Rattle.model_line.specs.Parameters.{terminal_count, channel_count, param_count, delay_param}
+use Rattle.model_line.specs.Seen.{is_seen, is_lost}
+use Rattle.model_line.specs.{declared.line.Line.Line, declared.script.Place.Place}
+use Rattle.model_line.specs.{declared.script.SeenSpan.SeenSpan, Channels.from_of}
+use Rattle.model_logic.specs.PairMean.{PairWorld}
 use Rattle.timing_box.specs.declared.step.Step.{Step}
 use Rattle.simulator.specs.{declared.inputs.Delay.Delay, LaneBox.ends_at}
 

@@ -1,9 +1,10 @@
 -- The box that a run's spans and steps are in a lane.
 use Rattle.std.specs.Prelude.{ℕ, List, Option, Some, None, slice_get, option_map}
 use Rattle.history.specs.Rails.{Ends, single}
-use Rattle.line_model.specs.Choice.{Box, ends_by, pair_world_of}
-use Rattle.line_model.specs.{declared.line.Line.Line, declared.script.Script.Script}
-use Rattle.line_model.specs.{declared.formula.Time.Time, Parameters.delay_param, PairMean.PairWorld}
+use Rattle.model_logic.specs.Choice.{Box, ends_by, pair_world_of}
+use Rattle.model_logic.specs.{declared.time.Time.Time, PairMean.PairWorld}
+use Rattle.model_line.specs.{declared.line.Line.Line, declared.script.Script.Script}
+use Rattle.model_line.specs.Parameters.{delay_param}
 use Rattle.timing_box.specs.{declared.step.Step.Step, Timing.number_at}
 
 -- the ends of a span in a lane; where there is no span, those of 0

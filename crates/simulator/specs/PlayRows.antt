@@ -1,8 +1,9 @@
 -- The rows of one timing and script: a row for every change of every key and trip.
 use Rattle.std.specs.Prelude.{[], ◌∷◌, ◌++◌, ℕ, zero, suc, Bool, true, false, List, codes, decimal}
 use Rattle.std.specs.List.{concat}
-use Rattle.line_model.specs.{declared.line.Line.Line, Parameters.terminal_count, Histories.History}
-use Rattle.line_model.specs.NamesByNumber.{terminal_name}
+use Rattle.model_line.specs.{declared.line.Line.Line, Parameters.terminal_count}
+use Rattle.model_logic.specs.Histories.{History}
+use Rattle.model_names.specs.NamesByNumber.{terminal_name}
 
 abbrev pub level_word : Bool → List ℕ
 level_word true = codes "1"

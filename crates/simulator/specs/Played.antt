@@ -2,7 +2,7 @@
 use Rattle.std.specs.Prelude.{ℕ, Bool}
 use Rattle.history.specs.Rails.{Ends, single}
 use Rattle.tick_signal.specs.{declared.level.Level.Level, Levels.level_rails}
-use Rattle.line_model.specs.Histories.{History, must_history}
+use Rattle.model_logic.specs.Histories.{History, must_history}
 use Rattle.simulator.specs.WavesOf.{WavesOf, wave_pair, waves_history}
 
 -- the ends of a tick, whatever the lane

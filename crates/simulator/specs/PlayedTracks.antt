@@ -4,7 +4,7 @@ use Rattle.std.proofs.Common.{ap}
 use Rattle.history.specs.Rails.{rails_at, must_of}
 use Rattle.tick_signal.specs.{declared.level.Level.Level, Lanes.in_lane, Levels.level_rails}
 use Rattle.channel.specs.SentKeys.{SentKeys}
-use Rattle.line_model.specs.Histories.{History, must_history}
+use Rattle.model_logic.specs.Histories.{History, must_history}
 use Rattle.simulator.specs.{LaneLaws.lane_at, Tracks.pair_of, Tracks.tracks_history}
 
 -- whether a signal is on at a tick

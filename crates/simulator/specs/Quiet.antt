@@ -3,9 +3,9 @@ use Rattle.std.specs.Prelude.{◌≡◌, ◌<◌, ◌≤◌, ◌+◌, ◌-◌, �
 use Rattle.history.specs.Rails.{Rails, Ends, rails_delayed, rails_timed}
 use Rattle.history.specs.Recorded.{first_ticks}
 use Rattle.tick_signal.specs.Lanes.{in_lane}
-use Rattle.line_model.specs.declared.script.Place.{Place}
-use Rattle.line_model.specs.{declared.script.SeenSpan.SeenSpan, Seen.shows, Seen.loses}
-use Rattle.line_model.specs.{Seen.is_seen, Seen.is_lost, PairMean.PairWorld, PairMean.PairSignals}
+use Rattle.model_line.specs.Seen.{shows, loses, is_seen, is_lost}
+use Rattle.model_line.specs.{declared.script.Place.Place, declared.script.SeenSpan.SeenSpan}
+use Rattle.model_logic.specs.PairMean.{PairWorld, PairSignals}
 use Rattle.gate_net.specs.declared.gate.Gate.{Gate}
 use Rattle.gate_net.specs.declared.gate.Gate.TheVariants.{Const, Seen, Loss, Raw, Not, And, Or}
 use Rattle.gate_net.specs.declared.gate.Gate.TheVariants.{Timer, Seal}

@@ -5,8 +5,9 @@ use Rattle.std.proofs.lemmas.List.{append-nil, map_more}
 use Rattle.std.proofs.lemmas.List.Folds.{concat-append}
 use Rattle.std.specs.List.{concat}
 use Rattle.std.specs.Prelude.{codes}
-use Rattle.line_model.specs.{declared.line.Line.Line, Parameters.terminal_count, Histories.History}
-use Rattle.line_model.specs.{Histories.IsSameHistory, NamesByNumber.terminal_name}
+use Rattle.model_line.specs.{declared.line.Line.Line, Parameters.terminal_count}
+use Rattle.model_logic.specs.Histories.{History, IsSameHistory}
+use Rattle.model_names.specs.NamesByNumber.{terminal_name}
 use Rattle.simulator.specs.PlayRows.{change_row, value_before, signal_row, each_below}
 use Rattle.simulator.specs.PlayRows.{terminal_rows, tick_rows, run_rows}
 

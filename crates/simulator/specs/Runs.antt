@@ -1,13 +1,12 @@
 -- What a run is: in each lane the interval history over the lane's box, gate by gate.
 use Rattle.std.specs.Prelude.{◌≡◌, ◌<◌, ℕ, List, IsTrue, length}
 use Rattle.history.specs.Rails.{Rails, Ends, Covers, single}
-use Rattle.line_model.specs.Parameters.{param_count, channel_count}
-use Rattle.line_model.specs.Choice.{Choice, Box, IsWithin, LeastFromOne, world_of, pair_world_of}
-use Rattle.line_model.specs.Histories.{History, IsLineHistory, PairHistory, IsPairHistory}
-use Rattle.line_model.specs.Histories.{IsSamePairHistory, IsBothRails, CoversHistory}
-use Rattle.line_model.specs.declared.script.Script.{Script}
-use Rattle.line_model.specs.{declared.line.Line.Line, Mean.mean, PairMean.pair_mean}
-use Rattle.line_model.specs.Histories.{must_history}
+use Rattle.model_line.specs.Parameters.{param_count, channel_count}
+use Rattle.model_line.specs.{declared.script.Script.Script, declared.line.Line.Line}
+use Rattle.model_logic.specs.Choice.{Choice, Box, IsWithin, LeastFromOne, world_of, pair_world_of}
+use Rattle.model_logic.specs.Histories.{History, IsLineHistory, PairHistory, IsPairHistory}
+use Rattle.model_logic.specs.Histories.{IsSamePairHistory, IsBothRails, CoversHistory, must_history}
+use Rattle.model_logic.specs.{Mean.mean, PairMean.pair_mean}
 use Rattle.gate_net.specs.{NetOf.NetOf, NetOf.IsNetOf, Formulas.formula_of}
 use Rattle.timing_box.specs.{declared.step.Step.Step, Timing.ascend}
 use Rattle.simulator.specs.LaneBox.{lane_box}

@@ -1,8 +1,8 @@
 -- The spans of a script that hold a tick, and those that begin later.
 use Rattle.std.specs.Prelude.{◌≡◌, ◌<◌, ◌≤◌, ◌-◌, ◌++◌, ℕ, List, length}
 use Rattle.std.specs.List.Sorted.{IsNonDecreasingBy}
-use Rattle.line_model.specs.declared.script.Place.{Place}
-use Rattle.line_model.specs.{declared.script.SeenSpan.SeenSpan, Seen.is_seen, Seen.is_lost}
+use Rattle.model_line.specs.Seen.{is_seen, is_lost}
+use Rattle.model_line.specs.{declared.script.Place.Place, declared.script.SeenSpan.SeenSpan}
 use Rattle.simulator.specs.Quiet.{ScriptKeeps}
 
 -- at tick t the spans show and lose the same as all

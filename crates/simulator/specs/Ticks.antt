@@ -3,7 +3,7 @@ use Rattle.std.specs.Prelude.{◌≡◌, ◌<◌, ◌≤◌, ◌%◌, ◌/◌, �
 use Rattle.history.specs.{Rails.Rails, Rails.Ends, Recorded.first_ticks}
 use Rattle.tick_signal.specs.Lanes.{in_lane}
 use Rattle.channel.specs.SentKeys.{SentKeys}
-use Rattle.line_model.specs.PairMean.{PairWorld, PairSignals}
+use Rattle.model_logic.specs.PairMean.{PairWorld, PairSignals}
 use Rattle.gate_net.specs.declared.gate.Gate.{Gate}
 use Rattle.simulator.specs.CellStands.{HasCell, CellStands}
 use Rattle.simulator.specs.{declared.cell.Cell.Cell, GatePairs.GateSignals, GatePairs.kind_pair}

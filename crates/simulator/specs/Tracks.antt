@@ -4,9 +4,9 @@ use Rattle.std.specs.Prelude.{vec_capacity}
 use Rattle.history.specs.Rails.{Rails, Ends, rails_at, both}
 use Rattle.tick_signal.specs.Lanes.{in_lane}
 use Rattle.channel.specs.SentKeys.{SentKeys}
-use Rattle.line_model.specs.declared.script.Script.{Script}
-use Rattle.line_model.specs.{declared.line.Line.Line, PairMean.PairWorld, PairMean.PairSignals}
-use Rattle.line_model.specs.{Logic.key_tree, Solution.the_keys, Histories.PairHistory}
+use Rattle.model_line.specs.{declared.script.Script.Script, declared.line.Line.Line}
+use Rattle.model_logic.specs.PairMean.{PairWorld, PairSignals}
+use Rattle.model_logic.specs.{Logic.key_tree, Solution.the_keys, Histories.PairHistory}
 use Rattle.gate_net.specs.{declared.gate.Gate.Gate, NetOf.NetOf, NetOf.trip_of}
 use Rattle.timing_box.specs.declared.step.Step.{Step}
 use Rattle.simulator.specs.GatePairs.{GateSignals, line_pairs}

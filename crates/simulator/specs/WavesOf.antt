@@ -2,7 +2,7 @@
 use Rattle.std.specs.Prelude.{◌≡◌, ◌≤◌, ◌+◌, ◌*◌, ℕ, List, Option, Some, None, false, length}
 use Rattle.std.specs.Prelude.{slice_get}
 use Rattle.history.specs.Rails.{Rails, both}
-use Rattle.line_model.specs.Histories.{PairHistory}
+use Rattle.model_logic.specs.Histories.{PairHistory}
 use Rattle.gate_net.specs.{declared.gate.GateId.GateId, NetOf.AreGatesOf, NetOf.id_at}
 
 -- a value for each tick and, in it, for each gate; and the gates of each terminal's key and trip

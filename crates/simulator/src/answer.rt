@@ -2,8 +2,8 @@
 
 ghost use Rattle.std.specs.Prelude.{◌≡◌, ℕ, suc, ◌<◌, ◌≤◌, length, Some, slice_get};
 ghost use Rattle.history.specs.Rails.{rails_delayed};
-ghost use Rattle.line_model.specs.Parameters.{terminal_count, channel_count};
-ghost use Rattle.line_model.specs.PairMean.{PairWorld, PairSignals};
+ghost use Rattle.model_line.specs.Parameters.{terminal_count, channel_count};
+ghost use Rattle.model_logic.specs.PairMean.{PairWorld, PairSignals};
 ghost use Rattle.gate_net.specs.{Laws.HasArguments, Named.GateNames};
 ghost use Rattle.simulator.specs.GatePairs.{GateSignals, kind_pair};
 ghost use Rattle.simulator.specs.Inputs.{AreDelaysOf, CanReceive, IsWorldAt};
@@ -17,7 +17,7 @@ use channel::{Carried, Track};
 use gate_net::{Gate, GateId};
 use history::laws::history_laws;
 use history::recorded_laws::recorded_ticks_suffice;
-use line_model::{Line, SeenSpan, lost_in, shown_in};
+use model_line::{Line, SeenSpan, lost_in, shown_in};
 use tick_signal::Signal;
 use timers::{SealCell, Timed, elements_stay_in_a_stretch};
 

@@ -3,8 +3,8 @@
 ghost use Rattle.std.specs.Prelude.{◌≡◌, ℕ, suc, ◌<◌, ◌≤◌, length};
 ghost use Rattle.history.specs.{Rails.Rails, Recorded.first_ticks};
 ghost use Rattle.tick_signal.specs.Lanes.{in_lane};
-ghost use Rattle.line_model.specs.Parameters.{terminal_count};
-ghost use Rattle.line_model.specs.PairMean.{PairWorld, PairSignals};
+ghost use Rattle.model_line.specs.Parameters.{terminal_count};
+ghost use Rattle.model_logic.specs.PairMean.{PairWorld, PairSignals};
 ghost use Rattle.simulator.specs.{Inputs.AreDelaysOf, Inputs.CanReceive, Quiet.ArrivalKeeps};
 ghost use Rattle.simulator.specs.{Quiet.EndStays, Ticks.KeysSent, Ticks.AreSent};
 
@@ -12,7 +12,7 @@ use crate::inputs::Delay;
 use crate::lesser::lesser;
 use channel::Track;
 use history::laws::history_laws;
-use line_model::Line;
+use model_line::Line;
 use tick_signal::Signal;
 
 /// For how many ticks from this one on, up to a limit, the same arrives over each channel, where

@@ -1,8 +1,8 @@
 //! Cells and tracks before the first tick.
 
 ghost use Rattle.std.specs.Prelude.{◌≡◌, ℕ, [], ◌<◌, ◌≤◌, length, IfOk};
-ghost use Rattle.line_model.specs.declared.formula.Time.{Time};
-ghost use Rattle.line_model.specs.{Parameters.param_count, PairMean.PairWorld};
+ghost use Rattle.model_logic.specs.{declared.time.Time.Time, PairMean.PairWorld};
+ghost use Rattle.model_line.specs.Parameters.{param_count};
 ghost use Rattle.gate_net.specs.Named.{GateNames, NamedFrom};
 ghost use Rattle.simulator.specs.CellStands.{HasCell, CellStands, HasTimer, TimerStands};
 ghost use Rattle.simulator.specs.Ticks.{HaveCells, AllStand, AreFresh};
@@ -12,7 +12,7 @@ use crate::cell::Cell;
 use crate::spans::time_span;
 use channel::Track;
 use gate_net::{Gate, GateId, Net};
-use line_model::{Line, Memory};
+use model_line::{Line, Memory};
 use std::alloc::Global;
 use tick_signal::Signal;
 use timers::{SealCell, Timed};

@@ -1,7 +1,7 @@
 //! The cells of all gates take a stretch of ticks through which no gate changes.
 
 ghost use Rattle.std.specs.Prelude.{◌≡◌, ℕ, suc, ◌<◌, ◌≤◌, ◌+◌, length};
-ghost use Rattle.line_model.specs.PairMean.{PairWorld};
+ghost use Rattle.model_logic.specs.PairMean.{PairWorld};
 ghost use Rattle.gate_net.specs.Laws.{HasArguments};
 ghost use Rattle.simulator.specs.{GatePairs.GateSignals, CellStands.HasCell, CellStands.CellStands};
 ghost use Rattle.simulator.specs.{Ticks.HaveCells, Ticks.AllStand, Ticks.ValuesAgree, Quiet.Keeps};

@@ -1,8 +1,8 @@
 //! What a net is given at a tick: what its script shows and loses, and its delays.
 
 ghost use Rattle.std.specs.Prelude.{◌≡◌, ℕ, ◌<◌, ◌≤◌, ◌+◌, List, length, IfOk, IsTrue};
-ghost use Rattle.line_model.specs.Parameters.{channel_count, param_count, delay_param};
-ghost use Rattle.line_model.specs.declared.script.SeenSpan.{SeenSpan};
+ghost use Rattle.model_line.specs.Parameters.{channel_count, param_count, delay_param};
+ghost use Rattle.model_line.specs.declared.script.SeenSpan.{SeenSpan};
 ghost use Rattle.timing_box.specs.Timing.{ascend};
 ghost use Rattle.simulator.specs.Inputs.{AreDelays, DelayHolds, DelaysHold};
 ghost use Rattle.simulator.specs.Shown.{ShowTheSame, AreShown, not_over};
@@ -10,7 +10,7 @@ ghost use Rattle.simulator.specs.Shown.{ShowTheSame, AreShown, not_over};
 use crate::lesser::lesser;
 use crate::shown::Shown;
 use crate::steps::{steps_stay, value_at};
-use line_model::{Line, Memory, Script};
+use model_line::{Line, Memory, Script};
 use std::alloc::Global;
 use tick_signal::Signal;
 use timing_box::Step;

@@ -4,11 +4,11 @@
 
 ghost use Rattle.std.specs.Prelude.{ℕ, ◌≤◌, ◌<◌, ◌+◌, List, length};
 ghost use Rattle.history.specs.Rails.{Rails, Ends};
-ghost use Rattle.line_model.specs.declared.line.Line.{Line};
-ghost use Rattle.line_model.specs.Histories.{History, IsLineHistory, IsSameHistory};
-ghost use Rattle.line_model.specs.Parameters.{channel_count};
-ghost use Rattle.line_model.specs.PairMean.{PairWorld, PairSignals};
-ghost use Rattle.line_model.specs.{declared.script.Script.Script, Choice.DelaysFromOne};
+ghost use Rattle.model_line.specs.{declared.line.Line.Line, Parameters.channel_count};
+ghost use Rattle.model_line.specs.declared.script.Script.{Script};
+ghost use Rattle.model_logic.specs.Histories.{History, IsLineHistory, IsSameHistory};
+ghost use Rattle.model_logic.specs.PairMean.{PairWorld, PairSignals};
+ghost use Rattle.model_logic.specs.Choice.{DelaysFromOne};
 ghost use Rattle.timing_box.specs.Timing.{TimingValues};
 ghost use Rattle.timing_box.specs.{Inside.IsTimingInside, Choice.timing_choice};
 ghost use Rattle.simulator.specs.LaneBox.{lane_box};
@@ -19,7 +19,7 @@ ghost use Rattle.gate_net.specs.{declared.gate.Gate.Gate, Laws.AreGates, Named.N
 
 use gate_net::laws::gates_stand_for_their_trees;
 use history::laws::history_laws;
-use line_model::laws::line_laws;
+use model_logic::laws::line_laws;
 use timers::elements_stay_in_a_stretch;
 use timing_box::timings_inside_are_choices_inside;
 

@@ -8,7 +8,7 @@ ghost use Rattle.simulator.specs.PlayedTracks.{is_on};
 
 use channel::Track;
 use itoa::Buffer;
-use line_model::{Memory, Name};
+use model_line::{Memory, Name};
 use tick_signal::{Level, Signal};
 
 /// What all rows of one run begin with.

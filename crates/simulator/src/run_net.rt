@@ -1,7 +1,8 @@
 //! A run.
 
 ghost use Rattle.std.specs.Prelude.{◌≡◌, ℕ, ◌<◌, length, IfOk, IsTrue};
-ghost use Rattle.line_model.specs.{Parameters.param_count, Choice.Choice};
+ghost use Rattle.model_line.specs.Parameters.{param_count};
+ghost use Rattle.model_logic.specs.Choice.{Choice};
 ghost use Rattle.gate_net.specs.NetOf.{IsNetOf};
 ghost use Rattle.timing_box.specs.Timing.{ascend};
 ghost use Rattle.simulator.specs.Runs.{AreDelayed, AreWavesOf, HavePairs, IsTheHistory};
@@ -13,8 +14,8 @@ use crate::waves::Waves;
 use channel::Carried;
 use gate_net::Net;
 use gate_net::laws::gates_stand_for_their_trees;
-use line_model::laws::line_laws;
-use line_model::{Line, Memory, Script};
+use model_line::{Line, Memory, Script};
+use model_logic::laws::line_laws;
 use std::alloc::Global;
 use timers::Timed;
 use timing_box::Step;

@@ -2,7 +2,7 @@
 
 ghost use Rattle.std.specs.Prelude.{◌≡◌, ℕ, ◌<◌, ◌≤◌, ◌+◌, ◌++◌, length, replicate, slice_get};
 ghost use Rattle.std.specs.Prelude.{Some};
-ghost use Rattle.line_model.specs.PairMean.{PairSignals};
+ghost use Rattle.model_logic.specs.PairMean.{PairSignals};
 ghost use Rattle.gate_net.specs.NetOf.{AreGatesOf, id_at};
 ghost use Rattle.simulator.specs.Ticks.{KeysSent, AreSent};
 

@@ -4,12 +4,12 @@ ghost use Rattle.std.specs.Prelude.{◌≡◌, ℕ, ◌<◌, ◌≤◌, ◌+◌,
 ghost use Rattle.std.specs.Prelude.{slice_get, vec_capacity};
 ghost use Rattle.std.specs.List.{filter};
 ghost use Rattle.std.specs.List.Sorted.{IsPermutation, IsNonDecreasingBy};
-ghost use Rattle.line_model.specs.declared.script.SeenSpan.{SeenSpan};
+ghost use Rattle.model_line.specs.declared.script.SeenSpan.{SeenSpan};
 ghost use Rattle.simulator.specs.Quiet.{ScriptKeeps, SpanKeeps, AllKeep};
 ghost use Rattle.simulator.specs.Shown.{ShowTheSame, not_over};
 
 use crate::lesser::lesser;
-use line_model::{Memory, Script, SeenSpan};
+use model_line::{Memory, Script, SeenSpan};
 use std::alloc::Global;
 use std::marker::Model;
 

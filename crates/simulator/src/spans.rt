@@ -1,10 +1,12 @@
 //! The spans of pickups and dropouts.
 
 ghost use Rattle.std.specs.Prelude.{◌≡◌, ℕ, ◌<◌, length};
-ghost use Rattle.line_model.specs.{Parameters.param_count, Names.HasTime};
+ghost use Rattle.model_line.specs.Parameters.{param_count};
+ghost use Rattle.model_logic.specs.Names.{HasTime};
 ghost use Rattle.simulator.specs.LaneBox.{time_ends};
 
-use line_model::{Line, Time};
+use model_line::Line;
+use model_logic::Time;
 use tick_signal::Signal;
 
 /// The span of a pickup or dropout.

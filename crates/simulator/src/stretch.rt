@@ -1,8 +1,8 @@
 //! One stretch of ticks through which no gate changes.
 
 ghost use Rattle.std.specs.Prelude.{◌≡◌, ℕ, suc, ◌<◌, ◌≤◌, ◌+◌, length};
-ghost use Rattle.line_model.specs.PairMean.{PairWorld, PairSignals};
-ghost use Rattle.line_model.specs.declared.script.Script.{Script};
+ghost use Rattle.model_logic.specs.PairMean.{PairWorld, PairSignals};
+ghost use Rattle.model_line.specs.declared.script.Script.{Script};
 ghost use Rattle.gate_net.specs.NetOf.{IsNet, key_of};
 ghost use Rattle.simulator.specs.Ticks.{HaveCells, ValuesAgree, AreSent};
 ghost use Rattle.simulator.specs.Tracks.{CanTake, IsKeptOf, LaneTracked, trips_of};
@@ -19,8 +19,8 @@ use crate::walk::walk;
 use channel::{Carried, Track};
 use gate_net::Net;
 use gate_net::laws::gates_stand_for_their_trees;
-use line_model::Line;
-use line_model::laws::line_laws;
+use model_line::Line;
+use model_logic::laws::line_laws;
 use tick_signal::Signal;
 use timers::{SealCell, Timed, elements_stay_in_a_stretch};
 use timing_box::Step;

@@ -1,8 +1,8 @@
 //! A run from one tick at which some gate may change to the next.
 
 ghost use Rattle.std.specs.Prelude.{◌≡◌, ℕ, ◌<◌, ◌≤◌, length, IfOk, IsTrue};
-ghost use Rattle.line_model.specs.{declared.script.Script.Script, Choice.Choice};
-ghost use Rattle.line_model.specs.Parameters.{param_count};
+ghost use Rattle.model_line.specs.{declared.script.Script.Script, Parameters.param_count};
+ghost use Rattle.model_logic.specs.Choice.{Choice};
 ghost use Rattle.gate_net.specs.NetOf.{IsNetOf};
 ghost use Rattle.timing_box.specs.Timing.{ascend};
 ghost use Rattle.simulator.specs.Runs.{CanRun, AreDelayed, IsTheHistory, IsPoint, IsExactAt};
@@ -17,8 +17,8 @@ use channel::{Carried, Track};
 use gate_net::Net;
 use gate_net::laws::gates_stand_for_their_trees;
 use history::laws::history_laws;
-use line_model::laws::line_laws;
-use line_model::{Line, Memory, Script};
+use model_line::{Line, Memory, Script};
+use model_logic::laws::line_laws;
 use std::alloc::Global;
 use tick_signal::Signal;
 use timers::Timed;

@@ -1,8 +1,8 @@
 //! One tick of all gates of a net.
 
 ghost use Rattle.std.specs.Prelude.{◌≡◌, ℕ, suc, ◌<◌, ◌≤◌, length, vec_capacity, slice_get, Some};
-ghost use Rattle.line_model.specs.Parameters.{terminal_count};
-ghost use Rattle.line_model.specs.PairMean.{PairWorld, PairSignals};
+ghost use Rattle.model_line.specs.Parameters.{terminal_count};
+ghost use Rattle.model_logic.specs.PairMean.{PairWorld, PairSignals};
 ghost use Rattle.gate_net.specs.{declared.gate.Gate.Gate, Named.NamedFrom};
 ghost use Rattle.simulator.specs.Inputs.{CanReceive, IsWorldAt};
 ghost use Rattle.simulator.specs.Ticks.{HaveCells, AllStand, ValuesAgree, AreSent, IsReady};
@@ -13,7 +13,7 @@ use crate::cell::Cell;
 use crate::inputs::Delay;
 use channel::{Carried, Track};
 use gate_net::{GateId, Net};
-use line_model::{Line, SeenSpan};
+use model_line::{Line, SeenSpan};
 use timers::{SealCell, Timed};
 
 /// Takes one tick: the column, which has room for it, gets the value of each gate. Answers for how

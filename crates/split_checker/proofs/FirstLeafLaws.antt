@@ -3,8 +3,8 @@ use Rattle.std.proofs.Common.{◌≡◌, ◌+◌, ⊎_elim, ℕ, zero, suc, List
 use Rattle.std.proofs.Common.{Some, length, ◌∙◌, arith, IsTrue}
 use Rattle.std.proofs.lemmas.Option.{slice_get_within}
 use Rattle.std.specs.Prelude.{slice_get}
-use Rattle.line_model.specs.declared.line.Line.{Line}
-use Rattle.line_model.specs.{declared.script.Script.Script, Choice.Box, HeldOver.IsHeldOver}
+use Rattle.model_line.specs.{declared.line.Line.Line, declared.script.Script.Script}
+use Rattle.model_logic.specs.{Choice.Box, HeldOver.IsHeldOver}
 use Rattle.box_split.specs.Trees.{SplitTree, Yes, Undecided, Split}
 use Rattle.box_split.specs.ListLaws.{at_append, before_append, after_append}
 use Rattle.box_split.specs.Leaves.{Leaf, leaves, lower_half, upper_half, AreSound}

@@ -1,7 +1,7 @@
 -- The results of a script have one first fault, and none where they are supported.
 use Rattle.std.proofs.Common.{◌≡◌, ◌≢◌, ℕ, List, refl, sym, ◌∙◌, subst}
-use Rattle.line_model.specs.declared.line.Line.{Line}
-use Rattle.line_model.specs.{declared.script.Script.Script, Choice.declared_box}
+use Rattle.model_line.specs.{declared.line.Line.Line, declared.script.Script.Script}
+use Rattle.model_logic.specs.Choice.{declared_box}
 use Rattle.cert_checker.specs.declared.no.NoFault.{NoFault}
 use Rattle.cert_checker.specs.{NoFaults.IsNoFault, Refutations.IsRefutation}
 use Rattle.cert_checker.specs.ScriptLaws.{wrong_refuses, wrong_once}

@@ -1,6 +1,6 @@
 -- The fault of a text of split trees is one of the text, or of a script.
 use Rattle.std.proofs.Common.{◌≢◌, inl, inr, ℕ, List, refl}
-use Rattle.line_model.specs.{declared.line.Line.Line, declared.script.Script.Script}
+use Rattle.model_line.specs.{declared.line.Line.Line, declared.script.Script.Script}
 use Rattle.cert_checker.specs.declared.no.NoFault.TheVariants as no
 use Rattle.cert_checker.specs.ScriptLaws.{IsOfEither}
 use Rattle.split_text.specs.Grammar.{IsSplitText, LeavesGrammar}

@@ -3,10 +3,10 @@ use Rattle.std.proofs.Common.{◌≡◌, ◌<◌, ◌≤◌, ◌+◌, ◌^◌, �
 use Rattle.std.proofs.Common.{sym, ◌∙◌, ap, subst, arith, length-append, IsTrue}
 use Rattle.std.proofs.lemmas.List.Folds.{list_all-append}
 use Rattle.std.specs.List.{list_all}
-use Rattle.line_model.specs.declared.line.Line.{Line}
-use Rattle.line_model.specs.Choice.{Box, Choice, IsWithin, LeastFromOne, declared_box}
-use Rattle.line_model.specs.Histories.{History, IsLineHistory, Meets}
-use Rattle.line_model.specs.{declared.script.Script.Script, Parameters.terminal_count}
+use Rattle.model_line.specs.{declared.line.Line.Line, declared.script.Script.Script}
+use Rattle.model_line.specs.Parameters.{terminal_count}
+use Rattle.model_logic.specs.Choice.{Box, Choice, IsWithin, LeastFromOne, declared_box}
+use Rattle.model_logic.specs.Histories.{History, IsLineHistory, Meets}
 use Rattle.box_split.specs.Trees.{SplitTree, Yes, Undecided, Split, preorder, height, are_yes}
 use Rattle.box_split.specs.Trees.{is_decided}
 use Rattle.box_split.specs.{declared.node.Node.Node, Leaves.leaves, Leaves.AreSound}

@@ -1,6 +1,6 @@
 -- When a text of split trees is accepted, and its first fault where it is not.
 use Rattle.std.specs.Prelude.{ℕ, List, length}
-use Rattle.line_model.specs.{declared.line.Line.Line, declared.script.Script.Script}
+use Rattle.model_line.specs.{declared.line.Line.Line, declared.script.Script.Script}
 use Rattle.cert_checker.specs.{declared.counts.Counts.Counts, Scripts.EachBelow}
 use Rattle.cert_checker.specs.{Scripts.IsAllGood, Scripts.IsFirstWrong}
 use Rattle.cert_checker.specs.declared.no.NoFault.TheVariants as no

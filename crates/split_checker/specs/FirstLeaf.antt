@@ -1,7 +1,7 @@
 -- Trees whose yes leaves are held, and the first yes leaf that is not.
 use Rattle.std.specs.Prelude.{◌≡◌, ◌<◌, ℕ, List, Some, slice_get, IsTrue}
-use Rattle.line_model.specs.declared.script.Script.{Script}
-use Rattle.line_model.specs.{declared.line.Line.Line, HeldOver.IsHeldOver, Choice.declared_box}
+use Rattle.model_line.specs.{declared.script.Script.Script, declared.line.Line.Line}
+use Rattle.model_logic.specs.{HeldOver.IsHeldOver, Choice.declared_box}
 use Rattle.box_split.specs.Trees.{SplitTree, preorder}
 use Rattle.box_split.specs.{declared.node.Node.Node, Leaves.Leaf, Leaves.leaves, Leaves.AreSound}
 

@@ -1,8 +1,8 @@
 -- When the results of a script are supported, and the first fault where they are not.
 use Rattle.std.specs.Prelude.{◌≡◌, ℕ, List, length, IsTrue}
-use Rattle.line_model.specs.declared.line.Line.{Line}
-use Rattle.line_model.specs.Histories.{History, IsLineHistory, Meets}
-use Rattle.line_model.specs.{declared.script.Script.Script, Choice.Choice, Choice.IsInside}
+use Rattle.model_line.specs.{declared.line.Line.Line, declared.script.Script.Script}
+use Rattle.model_logic.specs.Histories.{History, IsLineHistory, Meets}
+use Rattle.model_logic.specs.Choice.{Choice, IsInside}
 use Rattle.cert_checker.specs.{NoFaults.IsNoFault, Refutations.IsRefutation}
 use Rattle.cert_checker.specs.Firsts.{EachOf, IsWrongFirst}
 use Rattle.box_split.specs.declared.node.Node.{Node}

@@ -1,7 +1,8 @@
 -- A walk through the nodes of a tree, as the code does it.
 use Rattle.std.specs.Prelude.{◌≡◌, ◌+◌, ◌++◌, ℕ, List, length}
-use Rattle.line_model.specs.{declared.line.Line.Line, declared.script.Script.Script, Choice.Box}
-use Rattle.line_model.specs.{Choice.declared_box, HeldOver.IsHeldOver}
+use Rattle.model_line.specs.{declared.line.Line.Line, declared.script.Script.Script}
+use Rattle.model_logic.specs.Choice.{Box, declared_box}
+use Rattle.model_logic.specs.HeldOver.{IsHeldOver}
 use Rattle.box_split.specs.Leaves.{leaves, Splits, AreSound}
 use Rattle.box_split.specs.{declared.node.Node.Node, Trees.SplitTree, Trees.preorder, Parts.IsPart}
 use Rattle.split_checker.specs.declared.fault.ResultFault.{ResultFault}

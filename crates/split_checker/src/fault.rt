@@ -4,7 +4,7 @@ ghost use Rattle.std.specs.Prelude.{◌≡◌};
 ghost use Rattle.split_checker.specs.Check.{fault_in};
 
 use cert_checker::NoFault;
-use line_model::Memory;
+use model_line::Memory;
 
 /// What is wrong with a script's result at a terminal.
 #[derive(Clone, Copy, PartialEq, Eq, Debug)]

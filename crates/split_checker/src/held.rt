@@ -2,16 +2,18 @@
 
 ghost use Rattle.std.specs.Prelude.{◌≡◌, ◌<◌, IfOk};
 ghost use Rattle.std.specs.Bool.{Decides};
-ghost use Rattle.line_model.specs.{Choice.declared_box, Fits.Fits, HeldOver.IsHeldOver};
-ghost use Rattle.line_model.specs.{Parameters.terminal_count, Rule.Held, Rule.rule_of};
+ghost use Rattle.model_logic.specs.Rule.{Held, rule_of};
+ghost use Rattle.model_logic.specs.{Choice.declared_box, HeldOver.IsHeldOver};
+ghost use Rattle.model_line.specs.{Fits.Fits, Parameters.terminal_count};
 ghost use Rattle.gate_net.specs.NetOf.{IsNetOf};
 ghost use Rattle.interval_wave.specs.PairWavesOf.{pair_history};
 
 use gate_net::Net;
 use interval_wave::{PairWaves, Rule, analyse, judge};
-use line_model::interval_laws::the_rule_over_a_box;
-use line_model::laws::{deadlines_are_below_the_horizon, each_line_has_a_choice_inside};
-use line_model::{Line, Memory, Script};
+use model_line::laws::deadlines_are_below_the_horizon;
+use model_line::{Line, Memory, Script};
+use model_logic::interval_laws::the_rule_over_a_box;
+use model_logic::laws::each_line_has_a_choice_inside;
 use std::alloc::Global;
 
 /// Whether the rule of a script at a terminal is held, by one analysis of the line.

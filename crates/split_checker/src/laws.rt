@@ -2,8 +2,8 @@
 
 ghost use Rattle.std.specs.Prelude.{◌≡◌, ◌≢◌, ℕ, List, length};
 ghost use Rattle.std.specs.List.{All};
-ghost use Rattle.line_model.specs.{Fits.Fits, Parameters.terminal_count};
-ghost use Rattle.line_model.specs.{declared.line.Line.Line, declared.script.Script.Script};
+ghost use Rattle.model_line.specs.{Fits.Fits, Parameters.terminal_count, declared.line.Line.Line};
+ghost use Rattle.model_line.specs.declared.script.Script.{Script};
 ghost use Rattle.cert_checker.specs.declared.counts.Counts.{Counts};
 ghost use Rattle.split_checker.specs.declared.fault.SplitFault.{SplitFault};
 ghost use Rattle.cert_checker.specs.ScriptLaws.{IsOneText, AreApart};
@@ -14,7 +14,8 @@ ghost use Rattle.split_checker.specs.Check.{IsAccepted, IsSound, IsSplitFault};
 
 use box_split::a_sound_tree_that_is_yes_speaks_for_every_choice;
 use cert_checker::a_no_has_one_fault;
-use line_model::laws::{deadlines_are_below_the_horizon, each_line_has_a_choice_inside};
+use model_line::laws::deadlines_are_below_the_horizon;
+use model_logic::laws::each_line_has_a_choice_inside;
 use split_text::{a_split_text_has_one_meaning, a_split_text_leaves_at_one_line};
 
 // A text says one thing or leaves its grammar at one line, and results are supported or have one

@@ -1,7 +1,7 @@
 //! The check of what is said of a script.
 
 ghost use Rattle.std.specs.Prelude.{◌<◌, map, IfOk, MatchResult};
-ghost use Rattle.line_model.specs.{Fits.Fits, Parameters.terminal_count};
+ghost use Rattle.model_line.specs.{Fits.Fits, Parameters.terminal_count};
 ghost use Rattle.gate_net.specs.NetOf.{IsNetOf};
 ghost use Rattle.split_text.specs.Grammar.{AreTree, IsSplitResult, HasOneEach};
 ghost use Rattle.split_text.specs.Reading.{result_in};
@@ -16,8 +16,9 @@ use box_split::{
 };
 use cert_checker::check_no;
 use gate_net::Net;
-use line_model::laws::{deadlines_are_below_the_horizon, each_line_has_a_choice_inside};
-use line_model::{Line, Script};
+use model_line::laws::deadlines_are_below_the_horizon;
+use model_line::{Line, Script};
+use model_logic::laws::each_line_has_a_choice_inside;
 use split_text::SplitClaim;
 use std::alloc::Global;
 

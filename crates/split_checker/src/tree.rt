@@ -1,8 +1,9 @@
 //! The check of a tree: a walk through its nodes, each leaf with its part of the box.
 
 ghost use Rattle.std.specs.Prelude.{◌≡◌, ◌≤◌, ◌<◌, ◌+◌, ◌++◌, ◌^◌, List, length, drop, MatchResult};
-ghost use Rattle.line_model.specs.{declared.line.Line.Line, Choice.Box, Choice.declared_box};
-ghost use Rattle.line_model.specs.{Fits.Fits, HeldOver.IsHeldOver, Parameters.terminal_count};
+ghost use Rattle.model_line.specs.{declared.line.Line.Line, Fits.Fits, Parameters.terminal_count};
+ghost use Rattle.model_logic.specs.Choice.{Box, declared_box};
+ghost use Rattle.model_logic.specs.HeldOver.{IsHeldOver};
 ghost use Rattle.gate_net.specs.NetOf.{IsNetOf};
 ghost use Rattle.box_split.specs.declared.node.Node.{Node};
 ghost use Rattle.box_split.specs.{Leaves.Splits, Parts.IsPart, Trees.SplitTree, Trees.preorder};
@@ -13,10 +14,8 @@ use crate::held::is_held;
 use box_split::{Node, a_part_stands_for_its_box, lower_part, upper_part};
 use gate_net::Net;
 use gate_net::laws::nets_do_not_rest_on_the_intervals;
-use line_model::interval_laws::{
-    counts_do_not_rest_on_the_intervals, scripts_fit_whatever_the_intervals,
-};
-use line_model::{Line, Script};
+use model_line::laws::{counts_do_not_rest_on_the_intervals, scripts_fit_whatever_the_intervals};
+use model_line::{Line, Script};
 use std::alloc::Global;
 
 /// How many nodes and how many leaves of a tree a walk has passed.

@@ -2,7 +2,7 @@
 
 ghost use Rattle.std.specs.Prelude.{◌≡◌, ◌≤◌, ℕ, List, length, map, IfOk, MatchResult};
 ghost use Rattle.std.specs.List.{All};
-ghost use Rattle.line_model.specs.Fits.{Fits};
+ghost use Rattle.model_line.specs.Fits.{Fits};
 ghost use Rattle.gate_net.specs.NetOf.{IsNetOf};
 ghost use Rattle.cert_checker.specs.Scripts.{EachBelow};
 ghost use Rattle.split_text.specs.Grammar.{HasOneEach, IsSplitText};
@@ -15,7 +15,7 @@ use crate::fault::{SplitFault, in_script};
 use crate::result::check_results;
 use cert_checker::Counts;
 use gate_net::Net;
-use line_model::{Line, Script};
+use model_line::{Line, Script};
 use split_text::{
     SplitClaim, a_split_text_has_one_meaning, a_split_text_leaves_at_one_line, read_split_text,
 };

@@ -2,7 +2,8 @@
 use Rattle.std.proofs.Common.{◌≡◌, ◌≤◌, ◌+◌, ◌-◌, ◌*◌, ℕ, zero, suc, List, [], ◌∷◌, ◌++◌, length}
 use Rattle.std.proofs.Common.{arith, refl, ap}
 use Rattle.std.specs.List.{flat_map}
-use Rattle.line_model.specs.{declared.line.Line.Line, declared.script.Script.Script, Choice.Box}
+use Rattle.model_line.specs.{declared.line.Line.Line, declared.script.Script.Script}
+use Rattle.model_logic.specs.Choice.{Box}
 use Rattle.certificate.specs.Grammar.{terminal_names, end_text}
 use Rattle.box_split.specs.declared.node.Node.{Node}
 use Rattle.box_split.specs.declared.node.Node.TheVariants as node

@@ -1,8 +1,9 @@
 -- What a search finds can be written.
 use Rattle.std.proofs.Common.{◌≤◌, ◌<◌, ◌^◌, ℕ, List, arith}
 use Rattle.std.proofs.lemmas.List.Elements.{All-from_get_or}
-use Rattle.line_model.specs.declared.script.Script.{Script}
-use Rattle.line_model.specs.{declared.line.Line.Line, Parameters.param_count, Choice.declared_box}
+use Rattle.model_line.specs.{declared.script.Script.Script, declared.line.Line.Line}
+use Rattle.model_line.specs.Parameters.{param_count}
+use Rattle.model_logic.specs.Choice.{declared_box}
 use Rattle.timing_box.specs.{Timing.TimingValues, Inside.IsTimingInside}
 use Rattle.certify_core.specs.Verdicts.{IsRefutation}
 use Rattle.certificate.specs.Grammar.{AreNumbers}

@@ -6,15 +6,15 @@ use Rattle.std.proofs.lemmas.Bool.Decides.{leb_tells}
 use Rattle.std.proofs.lemmas.List.Elements.{All-nil, All-cons}
 use Rattle.std.specs.Prelude.{nat_le, slice_get, Option}
 use Rattle.std.specs.List.{All, list_all}
-use Rattle.line_model.specs.{declared.line.Line.Line, declared.line.Terminal.Terminal}
-use Rattle.line_model.specs.{declared.line.Channel.Channel, declared.line.Owner.Owner}
-use Rattle.line_model.specs.declared.line.Owner.TheVariants as owner
-use Rattle.line_model.specs.declared.line.Setting.{Setting}
-use Rattle.line_model.specs.declared.line.Setting.TheVariants as setting
-use Rattle.line_model.specs.PlainNames.{is_plain_byte, is_plain_name}
-use Rattle.line_model.specs.ParamNames.{setting_text, name_at, channel_name, owner_name, param_name}
-use Rattle.line_model.specs.ParamNamesApart.{name_of_param}
-use Rattle.line_model.specs.Settings.{OwnedSetting, line_settings}
+use Rattle.model_line.specs.PlainNames.{is_plain_byte, is_plain_name}
+use Rattle.model_line.specs.ParamNames.{setting_text, name_at, channel_name, owner_name, param_name}
+use Rattle.model_line.specs.Settings.{OwnedSetting, line_settings}
+use Rattle.model_line.specs.declared.line.Setting.{Setting}
+use Rattle.model_line.specs.{declared.line.Line.Line, declared.line.Terminal.Terminal}
+use Rattle.model_line.specs.{declared.line.Channel.Channel, declared.line.Owner.Owner}
+use Rattle.model_line.specs.declared.line.Owner.TheVariants as owner
+use Rattle.model_line.specs.declared.line.Setting.TheVariants as setting
+use Rattle.model_names.specs.ParamNamesApart.{name_of_param}
 use Rattle.text_lines.specs.Lines.{is_no_feed, is_one_line}
 use Rattle.text_lines.specs.{LineLaws.both_true, NamedLaws.whole_append, NamedLaws.whole_more}
 use Rattle.certificate.specs.{Grammar.terminal_names, NameLaws.name_whole}

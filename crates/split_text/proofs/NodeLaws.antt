@@ -5,11 +5,12 @@ use Rattle.relay_base.specs.{Number.number_of, DecimalLaws.number_of-decimal}
 use Rattle.text_lines.specs.NamedLaws.{one_text}
 use Rattle.std.specs.Prelude.{codes}
 use Rattle.std.specs.Bool.{Decides}
-use Rattle.line_model.specs.{declared.line.Line.Line, Choice.Box, Choice.declared_box}
+use Rattle.model_line.specs.{declared.line.Line.Line, Parameters.param_count}
+use Rattle.model_line.specs.SetBounds.{SameButParams}
+use Rattle.model_logic.specs.Choice.{Box, declared_box}
 use Rattle.box_split.specs.declared.node.Node.{Node}
 use Rattle.box_split.specs.declared.node.Node.TheVariants as node
-use Rattle.line_model.specs.ParamNamesApart.{name_of_param}
-use Rattle.line_model.specs.{Parameters.param_count, SetBounds.SameButParams}
+use Rattle.model_names.specs.ParamNamesApart.{name_of_param}
 use Rattle.box_split.specs.{Leaves.CanSplit, Parts.IsPart}
 use Rattle.split_text.specs.Known.{Known}
 use Rattle.split_text.specs.Grammar.{Said, says_nothing, says_fails, says_node, MayStand, IsNode}

@@ -1,6 +1,6 @@
 -- Lines of split trees, read one after another.
 use Rattle.std.proofs.Common.{ℕ, List}
-use Rattle.line_model.specs.declared.line.Line.{Line}
+use Rattle.model_line.specs.declared.line.Line.{Line}
 use Rattle.text_lines.specs.Lines.{Goes}
 use Rattle.split_text.specs.Grammar.{Place, Said, Stands, opens}
 

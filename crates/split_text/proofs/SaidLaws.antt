@@ -3,7 +3,7 @@ use Rattle.std.proofs.Common.{◌≡◌, ℕ, List, [], ◌∷◌, ◌++◌, len
 use Rattle.std.proofs.Common.{arith, append_assoc}
 use Rattle.std.proofs.lemmas.List.Elements.{All-head, All-tail}
 use Rattle.std.specs.List.{All, flat_map}
-use Rattle.line_model.specs.declared.line.Line.{Line}
+use Rattle.model_line.specs.declared.line.Line.{Line}
 use Rattle.box_split.specs.declared.node.Node.{Node}
 use Rattle.split_text.specs.Grammar.{SplitResult, tree, fails, HasOneEach, Said, says_nothing}
 use Rattle.split_text.specs.Grammar.{says_fails, says_node, result_said, tree_said, part_said}

@@ -6,8 +6,9 @@ use Rattle.std.proofs.lemmas.Fmt.{length-decimal-le}
 use Rattle.std.proofs.lemmas.List.Concat.{flat_map-append}
 use Rattle.std.proofs.lemmas.List.Elements.{All-head, All-tail}
 use Rattle.std.specs.List.{All}
-use Rattle.line_model.specs.{declared.line.Line.Line, declared.script.Script.Script, Choice.Box}
-use Rattle.line_model.specs.{Choice.declared_box, Fits.Fits, ParamNamesApart.name_of_param}
+use Rattle.model_line.specs.{declared.line.Line.Line, declared.script.Script.Script, Fits.Fits}
+use Rattle.model_logic.specs.Choice.{Box, declared_box}
+use Rattle.model_names.specs.ParamNamesApart.{name_of_param}
 use Rattle.certificate.specs.Grammar.{numbers_text, no_words, script_text, end_text, terminal_names}
 use Rattle.certificate.specs.Text.{fed}
 use Rattle.box_split.specs.declared.node.Node.{Node}

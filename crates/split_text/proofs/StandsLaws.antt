@@ -2,8 +2,9 @@
 use Rattle.std.proofs.Common.{◌≡◌, ◌<◌, ◌^◌, ℕ, List, drop, refl, sym, ◌∙◌, ap, arith}
 use Rattle.std.proofs.Common.{decimal, inl, inr}
 use Rattle.std.proofs.lemmas.Bool.{cases_order}
-use Rattle.line_model.specs.declared.line.Line.{Line}
-use Rattle.line_model.specs.{Parameters.param_count, ParamNamesApart.name_of_param, Choice.Box}
+use Rattle.model_line.specs.{declared.line.Line.Line, Parameters.param_count}
+use Rattle.model_names.specs.ParamNamesApart.{name_of_param}
+use Rattle.model_logic.specs.Choice.{Box}
 use Rattle.box_split.specs.declared.node.Node.{Node}
 use Rattle.box_split.specs.declared.node.Node.TheVariants as node
 use Rattle.text_lines.specs.NamedLaws.{first_same}

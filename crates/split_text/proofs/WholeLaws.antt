@@ -1,7 +1,8 @@
 -- The line of a split has no line feed.
 use Rattle.std.proofs.Common.{◌≡◌, ◌<◌, ◌^◌, ℕ, true, refl, arith, decimal}
 use Rattle.std.specs.Prelude.{codes}
-use Rattle.line_model.specs.{declared.line.Line.Line, ParamNamesApart.name_of_param}
+use Rattle.model_line.specs.declared.line.Line.{Line}
+use Rattle.model_names.specs.ParamNamesApart.{name_of_param}
 use Rattle.text_lines.specs.Lines.{is_one_line}
 use Rattle.text_lines.specs.NamedLaws.{named_whole, decimal_whole}
 use Rattle.box_split.specs.declared.node.Node.TheVariants as node

@@ -9,8 +9,9 @@ use Rattle.std.proofs.lemmas.List.Elements.{All-head, All-tail}
 use Rattle.std.specs.Prelude.{codes}
 use Rattle.std.specs.List.{All, flat_map}
 use Rattle.history.specs.Rails.{Ends}
-use Rattle.line_model.specs.{declared.line.Line.Line, declared.script.Script.Script}
-use Rattle.line_model.specs.{Parameters.param_count, Fits.Fits, Choice.Box, Choice.declared_box}
+use Rattle.model_line.specs.{declared.line.Line.Line, declared.script.Script.Script}
+use Rattle.model_line.specs.{Parameters.param_count, Fits.Fits}
+use Rattle.model_logic.specs.Choice.{Box, declared_box}
 use Rattle.certificate.specs.Grammar.{script_text, end_text, terminal_names, numbers_text, no_words}
 use Rattle.certificate.specs.Text.{fed}
 use Rattle.box_split.specs.declared.node.Node.{Node}

@@ -2,10 +2,11 @@
 use Rattle.std.specs.Prelude.{◌≡◌, ◌≤◌, ◌<◌, ◌^◌, ◌++◌, ◌-◌, ℕ, List, [], ◌∷◌, length, map, codes}
 use Rattle.std.specs.Prelude.{decimal, refl}
 use Rattle.std.specs.List.{All, flat_map}
-use Rattle.line_model.specs.Parameters.{terminal_count, param_count}
-use Rattle.line_model.specs.declared.line.{Line.Line, Terminal.Terminal}
-use Rattle.line_model.specs.declared.script.Script.{Script}
-use Rattle.line_model.specs.{ParamNamesApart.name_of_param, Choice.Box, Choice.declared_box}
+use Rattle.model_line.specs.Parameters.{terminal_count, param_count}
+use Rattle.model_line.specs.declared.script.Script.{Script}
+use Rattle.model_line.specs.{declared.line.Line.Line, declared.line.Terminal.Terminal}
+use Rattle.model_names.specs.ParamNamesApart.{name_of_param}
+use Rattle.model_logic.specs.Choice.{Box, declared_box}
 use Rattle.text_lines.specs.{Named.named, Grammar.Grammar, Grammar.IsFixed, Grammar.Parts}
 use Rattle.text_lines.specs.Grammar.{IsText, LeavesText}
 use Rattle.certificate.specs.Grammar.{AreNumbers, no_words, script_text, end_text}

@@ -1,7 +1,8 @@
 -- The laws below that the proofs here rest on: those of lines, their parameters and their parts.
-use Rattle.line_model.specs.IntervalLaws.{CountsRestOnNoInterval, DeclaredIntervalsAreInOrder}
-use Rattle.line_model.specs.{declared.line.Line.Line, Laws.ParametersAreNumbered}
-use Rattle.line_model.specs.ParamNamesApart.{ParamNamesApart}
+use Rattle.model_line.specs.Laws.{CountsRestOnNoInterval, DeclaredIntervalsAreInOrder}
+use Rattle.model_line.specs.Laws.{ParametersAreNumbered}
+use Rattle.model_line.specs.declared.line.Line.{Line}
+use Rattle.model_names.specs.ParamNamesApart.{ParamNamesApart}
 use Rattle.box_split.specs.Laws.{APartStandsForItsBox, MiddlesAreBelowTheGreatestInterval}
 
 pub record Known : Type 0 where

@@ -1,8 +1,8 @@
 -- A script's part of the text, of what was searched.
 use Rattle.std.specs.Prelude.{◌≡◌, List, [], length}
 use Rattle.std.specs.List.{All}
-use Rattle.line_model.specs.declared.line.Line.{Line}
-use Rattle.line_model.specs.Parameters.{terminal_count, param_count}
+use Rattle.model_line.specs.Parameters.{terminal_count, param_count}
+use Rattle.model_line.specs.declared.line.Line.{Line}
 use Rattle.box_split.specs.declared.node.Outcome.{Outcome}
 use Rattle.box_split.specs.declared.node.Outcome.TheVariants as outcome
 use Rattle.split_text.specs.Grammar.{SplitResult, tree, fails, AreTree}

@@ -1,7 +1,8 @@
 -- Split trees as they are read.
 use Rattle.std.specs.Prelude.{◌≡◌, ◌≤◌, ◌++◌, ℕ, List, [], ◌∷◌, map, Vec}
 use Rattle.std.specs.declared.alloc.Global.{Global}
-use Rattle.line_model.specs.{declared.line.Line.Line, declared.script.Script.Script, Choice.Box}
+use Rattle.model_line.specs.{declared.line.Line.Line, declared.script.Script.Script}
+use Rattle.model_logic.specs.Choice.{Box}
 use Rattle.text_lines.specs.{declared.fault.TextFault.TextFault, Grammar.Reads, Grammar.IsTextFault}
 use Rattle.box_split.specs.declared.node.Node.{Node}
 use Rattle.box_split.specs.{Trees.SplitTree, Trees.preorder, Trees.height, Leaves.Splits}

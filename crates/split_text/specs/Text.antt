@@ -1,8 +1,8 @@
 -- The text that says something.
 use Rattle.std.specs.Prelude.{◌<◌, ◌++◌, ℕ, List, [], ◌∷◌}
 use Rattle.std.specs.List.{flat_map}
-use Rattle.line_model.specs.declared.line.Line.{Line}
-use Rattle.line_model.specs.{declared.script.Script.Script, Parameters.param_count}
+use Rattle.model_line.specs.{declared.line.Line.Line, declared.script.Script.Script}
+use Rattle.model_line.specs.Parameters.{param_count}
 use Rattle.certificate.specs.Text.{fed}
 use Rattle.certificate.specs.Grammar.{no_words, script_text, end_text, terminal_names}
 use Rattle.box_split.specs.declared.node.Node.{Node}

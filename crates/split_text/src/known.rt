@@ -3,11 +3,10 @@
 ghost use Rattle.split_text.specs.Known.{Known};
 
 use box_split::{a_part_stands_for_its_box, middles_are_below_the_greatest_interval};
-use line_model::interval_laws::{
-    counts_do_not_rest_on_the_intervals, declared_intervals_are_in_order,
+use model_line::laws::{
+    counts_do_not_rest_on_the_intervals, declared_intervals_are_in_order, parameters_are_numbered,
 };
-use line_model::laws::parameters_are_numbered;
-use line_model::name_laws::parameters_have_names_of_their_own;
+use model_names::name_laws::parameters_have_names_of_their_own;
 
 /// The laws of lines and of their parts, as their crates state them.
 pub(crate) fn laws_below()

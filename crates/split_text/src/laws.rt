@@ -2,8 +2,8 @@
 
 ghost use Rattle.std.specs.Prelude.{◌≡◌, ◌≤◌, ◌<◌, ◌+◌, ◌*◌, ◌++◌, [], ◌∷◌, ℕ, List, length};
 ghost use Rattle.std.specs.List.{All};
-ghost use Rattle.line_model.specs.declared.script.Script.{Script};
-ghost use Rattle.line_model.specs.{declared.line.Line.Line, Fits.Fits, Parameters.terminal_count};
+ghost use Rattle.model_line.specs.{declared.script.Script.Script, declared.line.Line.Line};
+ghost use Rattle.model_line.specs.{Fits.Fits, Parameters.terminal_count};
 ghost use Rattle.box_split.specs.{declared.node.Outcome.Outcome, Found.IsFound};
 ghost use Rattle.split_text.specs.Grammar.{SplitResult, IsSplitResult, HasOneEach, IsSplitText};
 ghost use Rattle.split_text.specs.Grammar.{LeavesGrammar};
@@ -15,7 +15,7 @@ use box_split::{
     a_sound_tree_splits_its_box, what_a_search_finds_is_as_deep, what_a_search_finds_is_sound,
     what_fails_in_a_part_fails,
 };
-use line_model::laws::deadlines_are_below_the_horizon;
+use model_line::laws::deadlines_are_below_the_horizon;
 
 /// A text has at most one meaning: the trees and numbers that it says of the scripts.
 pub fn a_split_text_has_one_meaning()

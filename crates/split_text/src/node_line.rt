@@ -1,14 +1,15 @@
 //! The line of a node, read.
 
 ghost use Rattle.std.specs.Prelude.{◌≡◌, ◌≢◌, ◌<◌, ◌^◌, ℕ, decimal, MatchOption};
-ghost use Rattle.line_model.specs.Choice.{declared_box};
-ghost use Rattle.line_model.specs.{Parameters.param_count, ParamNamesApart.name_of_param};
+ghost use Rattle.model_logic.specs.Choice.{declared_box};
+ghost use Rattle.model_line.specs.Parameters.{param_count};
+ghost use Rattle.model_names.specs.ParamNamesApart.{name_of_param};
 ghost use Rattle.box_split.specs.{Leaves.CanSplit, declared.node.Node.Node};
 ghost use Rattle.split_text.specs.Grammar.{MayStand, node_text, split_line};
 
 use box_split::{Node, can_split, middles_are_below_the_greatest_interval};
 use itoa::Buffer;
-use line_model::{Line, Name};
+use model_line::{Line, Name};
 use relay_base::number;
 use text_lines::{after_name, is};
 

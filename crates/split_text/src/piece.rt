@@ -8,7 +8,7 @@ use crate::print::{push_fails, push_nodes};
 use box_split::Outcome;
 use certificate::{name_at, push_named};
 use certify_core::numbers_of;
-use line_model::{Line, Memory, Script};
+use model_line::{Line, Memory, Script};
 use std::alloc::Global;
 
 /// A script's part of the text: its name, and for each terminal, in line order, its name and what

@@ -10,7 +10,7 @@ use crate::node_line::param_name_at;
 use box_split::Node;
 use certificate::{push_no, push_start};
 use itoa::Buffer;
-use line_model::{Line, Memory, Name};
+use model_line::{Line, Memory, Name};
 
 // Appends the line of a split.
 fn push_split(text: &mut Vec<u8>, name: Name, mid: u32) -> Result<(), Memory>

@@ -1,7 +1,7 @@
 //! The lines of split trees, read one after another.
 
 ghost use Rattle.std.specs.Prelude.{◌++◌, [], ◌∷◌, List, map, MatchResult};
-ghost use Rattle.line_model.specs.Choice.{declared_box};
+ghost use Rattle.model_logic.specs.Choice.{declared_box};
 ghost use Rattle.text_lines.specs.Grammar.{Reads, IsFault};
 ghost use Rattle.split_text.specs.Grammar.{Place, SplitResult, result_over};
 ghost use Rattle.split_text.specs.Grammar.{result_said, terminal_parts, script_parts, grammar_of};
@@ -13,7 +13,7 @@ use crate::known::laws_below;
 use crate::node_line::node_in;
 use crate::read_tree::read_below;
 use certificate::read_no;
-use line_model::{Line, Script, Terminal};
+use model_line::{Line, Script, Terminal};
 use std::alloc::Global;
 use text_lines::{LineCursor, PartReader, TextFault, read_each, read_text};
 

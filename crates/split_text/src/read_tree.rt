@@ -1,7 +1,8 @@
 //! The lines of a tree, read one after another.
 
 ghost use Rattle.std.specs.Prelude.{◌≡◌, ◌++◌, [], ◌∷◌, List, MatchResult};
-ghost use Rattle.line_model.specs.{SetBounds.SameButParams, Choice.Box, Choice.declared_box};
+ghost use Rattle.model_line.specs.SetBounds.{SameButParams};
+ghost use Rattle.model_logic.specs.Choice.{Box, declared_box};
 ghost use Rattle.text_lines.specs.{Lines.Goes, Grammar.IsFault};
 ghost use Rattle.box_split.specs.Parts.{IsPart};
 ghost use Rattle.split_text.specs.Grammar.{Place, node_over, says_node, MayStand, below, Stands};
@@ -11,7 +12,7 @@ ghost use Rattle.split_text.specs.Reading.{IsBelow, IsOver};
 use crate::known::laws_below;
 use crate::node_line::node_in;
 use box_split::{Node, lower_part, upper_part};
-use line_model::Line;
+use model_line::Line;
 use std::alloc::Global;
 use text_lines::{LineCursor, TextFault};
 

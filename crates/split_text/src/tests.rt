@@ -3,7 +3,7 @@
 
 use super::*;
 use box_split::Node;
-use line_model::Name;
+use model_line::Name;
 use sample_lines::{ONE_TO_FIVE, two_terminals, unseen_fault};
 use std::alloc::Global;
 use std::test::Fail;

@@ -6,8 +6,9 @@ use Rattle.std.proofs.lemmas.List.FromFn.{get_or-map-range_with_len, length-rang
 use Rattle.std.proofs.lemmas.List.Elements.{All-nil}
 use Rattle.std.specs.Prelude.{nat_le}
 use Rattle.std.specs.List.{range_with_len}
-use Rattle.line_model.specs.Parameters.{param_count, declared_ends}
-use Rattle.line_model.specs.{declared.line.Line.Line, Choice.IsIn, Intervals.leasts}
+use Rattle.model_line.specs.Parameters.{param_count, declared_ends}
+use Rattle.model_line.specs.{declared.line.Line.Line, Intervals.leasts}
+use Rattle.model_logic.specs.Choice.{IsIn}
 use Rattle.timing_box.specs.Inside.{IsStepInside, IsTimingInside}
 use Rattle.timing_box.specs.Candidates.{free_count, is_free_number, candidate_value, candidate}
 

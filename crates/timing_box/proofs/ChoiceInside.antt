@@ -6,9 +6,10 @@ use Rattle.std.proofs.lemmas.List.{length-map, get_or_past}
 use Rattle.std.proofs.lemmas.List.Elements.{All-head, All-tail}
 use Rattle.std.specs.Prelude.{nat_le}
 use Rattle.std.specs.List.{All}
-use Rattle.line_model.specs.Choice.{IsIn, IsInside, declared_box}
-use Rattle.line_model.specs.Parameters.{param_count, delay_param, declared_ends}
-use Rattle.line_model.specs.{declared.line.Line.Line, Intervals.leasts, Intervals.greatests}
+use Rattle.model_logic.specs.Choice.{IsIn, IsInside, declared_box}
+use Rattle.model_line.specs.Parameters.{param_count, delay_param, declared_ends}
+use Rattle.model_line.specs.Intervals.{leasts, greatests}
+use Rattle.model_line.specs.declared.line.Line.{Line}
 use Rattle.timing_box.specs.{declared.step.Step.Step, Inside.IsStepInside, Inside.IsTimingInside}
 use Rattle.timing_box.specs.{Timing.TimingValues, Timing.number_at, Choice.timing_choice}
 

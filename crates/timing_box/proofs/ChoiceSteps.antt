@@ -8,10 +8,10 @@ use Rattle.std.proofs.lemmas.List.Elements.{All-nil, All-cons, All-append, Conta
 use Rattle.std.proofs.lemmas.List.Elements.{Contains-append_right}
 use Rattle.std.specs.Prelude.{IsTrue}
 use Rattle.std.specs.List.{All, Contains, range_with_len}
-use Rattle.line_model.specs.Parameters.{param_count, channel_count, delay_param, declared_ends}
-use Rattle.line_model.specs.Choice.{Choice, IsIn, IsInside, declared_box}
-use Rattle.line_model.specs.{declared.line.Line.Line, Laws.SettingsAreCounted}
-use Rattle.line_model.specs.Laws.{DelaysAreParameters}
+use Rattle.model_line.specs.Parameters.{param_count, channel_count, delay_param, declared_ends}
+use Rattle.model_line.specs.Laws.{SettingsAreCounted, DelaysAreParameters}
+use Rattle.model_line.specs.declared.line.Line.{Line}
+use Rattle.model_logic.specs.Choice.{Choice, IsIn, IsInside, declared_box}
 use Rattle.timing_box.specs.declared.step.Step.{Step}
 use Rattle.timing_box.specs.Timing.{TimingValues, comes_before, ascend, IsLatest}
 use Rattle.timing_box.specs.Choice.{timing_choice, IsSameChoice}

@@ -1,11 +1,11 @@
 -- The delays stand among the parameters in the order of their channels.
 use Rattle.std.proofs.Common.{◌≡◌, ◌+◌, ◌*◌, ℕ, suc, ◌<◌, ◌≤◌, length, refl, arith}
 use Rattle.std.proofs.Math.Nat.{mul-le-mul_right}
-use Rattle.line_model.specs.declared.line.Line.{Line}
-use Rattle.line_model.specs.declared.line.Scheme.TheVariants.{Pott, Putt, Dcb, Dcub, Dtt}
-use Rattle.line_model.specs.Settings.{channel_settings, settings_of_terminals}
-use Rattle.line_model.specs.Parameters.{channel_count, delay_param}
-use Rattle.line_model.specs.{declared.line.Scheme.Scheme, Laws.SettingsAreCounted}
+use Rattle.model_line.specs.declared.line.Scheme.TheVariants.{Pott, Putt, Dcb, Dcub, Dtt}
+use Rattle.model_line.specs.Settings.{channel_settings, settings_of_terminals}
+use Rattle.model_line.specs.Parameters.{channel_count, delay_param}
+use Rattle.model_line.specs.Laws.{SettingsAreCounted}
+use Rattle.model_line.specs.{declared.line.Line.Line, declared.line.Scheme.Scheme}
 
 some_settings : (s : Scheme) → 1 ≤ length (channel_settings s)
 some_settings Pott = omega arith

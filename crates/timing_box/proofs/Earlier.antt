@@ -5,7 +5,7 @@ use Rattle.std.proofs.lemmas.List.{length-map}
 use Rattle.std.proofs.lemmas.Bool.{lt-ltb, le-ltb}
 use Rattle.std.specs.Prelude.{nat_lt}
 use Rattle.std.specs.List.{list_any}
-use Rattle.line_model.specs.declared.line.Line.{Line}
+use Rattle.model_line.specs.declared.line.Line.{Line}
 use Rattle.timing_box.specs.declared.fault.TimingFault.TheVariants as fault
 use Rattle.std.specs.Str.{bytes_eq}
 use Rattle.timing_box.specs.declared.timing.NamedTiming.{NamedTiming}

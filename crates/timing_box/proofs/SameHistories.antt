@@ -4,15 +4,16 @@ use Rattle.std.proofs.Common.{◌∙◌, ap, arith}
 use Rattle.std.proofs.lemmas.Bool.{lt-leb}
 use Rattle.std.specs.Prelude.{◌||◌}
 use Rattle.history.specs.{Elements.timed, Elements.delayed, Laws.ElementsReadThePast}
-use Rattle.line_model.specs.declared.script.Script.{Script}
-use Rattle.line_model.specs.declared.formula.Time.TheVariants.{Zero, Param}
-use Rattle.line_model.specs.Channels.{from_of}
-use Rattle.line_model.specs.Tree.{Tree, Const, Seen, Loss, Raw, Not, And, Or, Timer, Seal}
-use Rattle.line_model.specs.Mean.{World, Signals, mean}
-use Rattle.line_model.specs.Choice.{Choice, DelaysFromOne, time_by, world_of}
-use Rattle.line_model.specs.{declared.line.Line.Line, declared.formula.Time.Time, Names.HasTime}
-use Rattle.line_model.specs.{Names.Names, Parameters.channel_count, Logic.key_tree, Logic.trip_tree}
-use Rattle.line_model.specs.{Histories.History, Histories.IsLineHistory, Laws.TreesNameTheLine}
+use Rattle.model_line.specs.{declared.script.Script.Script, Channels.from_of}
+use Rattle.model_line.specs.{declared.line.Line.Line, Parameters.channel_count}
+use Rattle.model_logic.specs.declared.time.Time.TheVariants.{Zero, Param}
+use Rattle.model_logic.specs.Tree.{Tree, Const, Seen, Loss, Raw, Not, And, Or, Timer, Seal}
+use Rattle.model_logic.specs.Mean.{World, Signals, mean}
+use Rattle.model_logic.specs.Choice.{Choice, DelaysFromOne, time_by, world_of}
+use Rattle.model_logic.specs.Names.{HasTime, Names}
+use Rattle.model_logic.specs.Logic.{key_tree, trip_tree}
+use Rattle.model_logic.specs.Histories.{History, IsLineHistory}
+use Rattle.model_logic.specs.{declared.time.Time.Time, Laws.TreesNameTheLine}
 use Rattle.timing_box.specs.Choice.{IsSameChoice}
 
 -- nothing arrives at tick 0

@@ -12,10 +12,10 @@ use Rattle.std.specs.Option.{ok_or}
 use Rattle.std.specs.declared.alloc.Global.{Global}
 use Rattle.std.specs.List.{All, before_first, after_first}
 use Rattle.relay_base.specs.Number.{number_of}
-use Rattle.line_model.specs.declared.line.Line.{Line}
-use Rattle.line_model.specs.Parameters.{is_delay, declared_ends}
-use Rattle.line_model.specs.{Choice.IsIn, Intervals.leasts}
-use Rattle.line_model.specs.{NumbersByName.param_named, PlainNames.is_plain_name}
+use Rattle.model_line.specs.Parameters.{is_delay, declared_ends}
+use Rattle.model_line.specs.{declared.line.Line.Line, Intervals.leasts, PlainNames.is_plain_name}
+use Rattle.model_logic.specs.Choice.{IsIn}
+use Rattle.model_names.specs.NumbersByName.{param_named}
 use Rattle.timing_box.specs.declared.fault.TimingFault.{TimingFault}
 use Rattle.timing_box.specs.declared.fault.TimingFault.TheVariants as fault
 use Rattle.timing_box.specs.declared.named.Named.{Named}

@@ -18,11 +18,12 @@ use Rattle.std.specs.List.{prefix_len}
 use Rattle.std.specs.Str.{bytes_eq}
 use Rattle.std.specs.Fmt.{decimal}
 use Rattle.relay_base.specs.{Number.number_of, DecimalLaws.number_of-decimal}
-use Rattle.line_model.specs.Parameters.{param_count, is_delay, declared_ends}
-use Rattle.line_model.specs.ParamNamesApart.{name_of_param, has_no, ParamNamesApart}
-use Rattle.line_model.specs.{declared.line.Line.Line, declared.line.Param.Param, Choice.IsIn}
-use Rattle.line_model.specs.{Intervals.leasts, NumbersByName.param_named, PlainNames.is_plain_name}
-use Rattle.line_model.specs.Laws.{DelaysAreParameters}
+use Rattle.model_line.specs.Parameters.{param_count, is_delay, declared_ends}
+use Rattle.model_line.specs.{declared.line.Line.Line, declared.line.Param.Param, Intervals.leasts}
+use Rattle.model_line.specs.{PlainNames.is_plain_name, Laws.DelaysAreParameters}
+use Rattle.model_names.specs.ParamNamesApart.{name_of_param, has_no, ParamNamesApart}
+use Rattle.model_names.specs.NumbersByName.{param_named}
+use Rattle.model_logic.specs.Choice.{IsIn}
 use Rattle.timing_box.specs.{declared.step.Step.Step, declared.named.Named.Named}
 use Rattle.timing_box.specs.declared.named.Named.TheVariants as named
 use Rattle.timing_box.specs.Inside.{IsStepInside, IsTimingInside}

@@ -2,8 +2,8 @@
 use Rattle.std.specs.Prelude.{◌+◌, ◌-◌, ◌*◌, ◌&&◌, ◌==◌, ℕ, Bool, [], map, take, nat_le, nat_lt}
 use Rattle.std.specs.Prelude.{if◌then◌else◌}
 use Rattle.std.specs.List.{count_by, range_with_len}
-use Rattle.line_model.specs.Parameters.{param_count, declared_ends}
-use Rattle.line_model.specs.{declared.line.Line.Line, declared.line.Param.Param}
+use Rattle.model_line.specs.Parameters.{param_count, declared_ends}
+use Rattle.model_line.specs.{declared.line.Line.Line, declared.line.Param.Param}
 use Rattle.timing_box.specs.Timing.{TimingValues}
 
 -- a parameter is free where its interval has more than one number

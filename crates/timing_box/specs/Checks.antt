@@ -4,9 +4,9 @@ use Rattle.std.specs.Prelude.{nat_le, nat_lt, Option, None, Some, Result, Ok, Er
 use Rattle.std.specs.List.{list_any, before_first, after_first}
 use Rattle.std.specs.Str.{bytes_eq}
 use Rattle.std.proofs.lemmas.Map.Entries.{option_filter}
-use Rattle.line_model.specs.declared.line.Line.{Line}
-use Rattle.line_model.specs.{NumbersByName.param_named, Parameters.is_delay}
-use Rattle.line_model.specs.Parameters.{declared_ends}
+use Rattle.model_line.specs.Parameters.{is_delay, declared_ends}
+use Rattle.model_line.specs.declared.line.Line.{Line}
+use Rattle.model_names.specs.NumbersByName.{param_named}
 use Rattle.csv_records.specs.Fields.{is_empty}
 use Rattle.relay_base.specs.Number.{number_of}
 use Rattle.timing_box.specs.declared.fault.TimingFault.{TimingFault}

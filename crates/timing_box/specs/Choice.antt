@@ -1,7 +1,8 @@
 -- The choice of delays that a timing stands for.
 use Rattle.std.specs.Prelude.{◌≡◌, ◌≤◌, ◌<◌, ℕ, get_or}
-use Rattle.line_model.specs.Parameters.{param_count, channel_count, delay_param}
-use Rattle.line_model.specs.{declared.line.Line.Line, Choice.Choice}
+use Rattle.model_line.specs.Parameters.{param_count, channel_count, delay_param}
+use Rattle.model_line.specs.declared.line.Line.{Line}
+use Rattle.model_logic.specs.Choice.{Choice}
 use Rattle.timing_box.specs.Timing.{TimingValues, number_at}
 
 -- each parameter has its own number; each delay has at every tick that of its step with the

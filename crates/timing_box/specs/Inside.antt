@@ -1,9 +1,9 @@
 -- The timings inside the declared intervals of a line.
 use Rattle.std.specs.Prelude.{◌≡◌, ◌≤◌, ◌<◌, ℕ, length, get_or, IsTrue}
 use Rattle.std.specs.List.{All}
-use Rattle.line_model.specs.declared.line.Line.{Line}
-use Rattle.line_model.specs.Parameters.{param_count, is_delay, declared_ends}
-use Rattle.line_model.specs.Choice.{IsIn}
+use Rattle.model_line.specs.Parameters.{param_count, is_delay, declared_ends}
+use Rattle.model_line.specs.declared.line.Line.{Line}
+use Rattle.model_logic.specs.Choice.{IsIn}
 use Rattle.timing_box.specs.{declared.step.Step.Step, Timing.TimingValues}
 
 -- a step of a delay, within the run, with a number of its interval

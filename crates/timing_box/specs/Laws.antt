@@ -1,6 +1,7 @@
 -- Laws of timings that proofs above cite, each under the name of the function that ensures it.
 use Rattle.std.specs.Prelude.{◌<◌, ℕ}
-use Rattle.line_model.specs.{declared.line.Line.Line, Choice.IsInside}
+use Rattle.model_line.specs.declared.line.Line.{Line}
+use Rattle.model_logic.specs.Choice.{IsInside}
 use Rattle.timing_box.specs.Candidates.{candidate, candidate_count}
 use Rattle.timing_box.specs.{Choice.timing_choice, Inside.IsTimingInside, Timing.TimingValues}
 

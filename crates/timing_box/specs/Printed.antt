@@ -4,8 +4,8 @@ use Rattle.std.specs.Prelude.{IsTrue}
 use Rattle.std.specs.List.{flat_map}
 use Rattle.std.specs.Fmt.{decimal}
 use Rattle.csv.specs.Writing.{row_text, default_writer}
-use Rattle.line_model.specs.declared.line.Line.{Line}
-use Rattle.line_model.specs.{PlainNames.is_plain_name, ParamNamesApart.name_of_param}
+use Rattle.model_line.specs.{declared.line.Line.Line, PlainNames.is_plain_name}
+use Rattle.model_names.specs.ParamNamesApart.{name_of_param}
 use Rattle.timing_box.specs.declared.step.Step.{Step}
 use Rattle.timing_box.specs.{Row.header_record, Timing.ascend, Inside.IsTimingInside}
 use Rattle.timing_box.specs.SoFar.{NamedValues}

@@ -1,7 +1,7 @@
 -- What the records of a file of timings have said so far.
 use Rattle.std.specs.Prelude.{◌≡◌, ◌<◌, ◌++◌, ℕ, List, [], ◌∷◌, Option, None, Some, option_map}
 use Rattle.std.specs.Prelude.{length, map, slice_set}
-use Rattle.line_model.specs.{declared.line.Line.Line, Intervals.leasts, Parameters.param_count}
+use Rattle.model_line.specs.{declared.line.Line.Line, Intervals.leasts, Parameters.param_count}
 use Rattle.timing_box.specs.{declared.timing.NamedTiming.NamedTiming, declared.named.Named.Named}
 use Rattle.timing_box.specs.declared.named.Named.TheVariants as named
 use Rattle.timing_box.specs.declared.reading.Reading.{Reading}

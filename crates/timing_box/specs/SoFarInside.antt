@@ -1,7 +1,7 @@
 -- The timings so far are inside the declared intervals.
 use Rattle.std.specs.Prelude.{IfSome}
 use Rattle.std.specs.List.{All}
-use Rattle.line_model.specs.declared.line.Line.{Line}
+use Rattle.model_line.specs.declared.line.Line.{Line}
 use Rattle.timing_box.specs.{Inside.IsTimingInside, SoFar.NamedValues, SoFar.TimingsSoFar}
 
 abbrev pub IsInside : Line → NamedValues → Type 0

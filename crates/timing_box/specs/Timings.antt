@@ -1,7 +1,7 @@
 -- What a file of timings says: its timings, or its first fault.
 use Rattle.std.specs.Prelude.{ℕ, List, Some, Result, Ok, not}
 use Rattle.std.specs.Option.{ok_or}
-use Rattle.line_model.specs.{declared.line.Line.Line, PlainNames.is_plain_name}
+use Rattle.model_line.specs.{declared.line.Line.Line, PlainNames.is_plain_name}
 use Rattle.csv_records.specs.Gives.{◌>>=◌, passes_or}
 use Rattle.csv_records.specs.{RecordFile.RecordFile, RecordFile.said_in, Records.records_of}
 use Rattle.timing_box.specs.declared.fault.TimingFault.{TimingFault}

@@ -2,15 +2,15 @@
 
 ghost use Rattle.std.specs.Prelude.{◌≡◌, ◌≤◌, ◌<◌, length, IfOk};
 ghost use Rattle.std.specs.List.{count_by};
-ghost use Rattle.line_model.specs.Parameters.{param_count};
+ghost use Rattle.model_line.specs.Parameters.{param_count};
 ghost use Rattle.timing_box.specs.Candidates.{is_free as is_free_param};
 ghost use Rattle.timing_box.specs.Candidates.{candidate_count as count_of_candidates};
 ghost use Rattle.timing_box.specs.Candidates.{candidate_value as value_of_candidate};
 ghost use Rattle.timing_box.specs.Candidates.{is_free_number, candidate as candidate_timing};
 
 use crate::timing::Timing;
-use line_model::laws::parameters_are_numbered;
-use line_model::{Line, Memory, Param};
+use model_line::laws::parameters_are_numbered;
+use model_line::{Line, Memory, Param};
 use std::alloc::Global;
 use tick_signal::Tick;
 

@@ -13,7 +13,8 @@ use crate::places::has_step;
 use crate::reading::Open;
 use crate::timing::NamedTiming;
 use csv_records::{is, is_nothing};
-use line_model::{Line, parameter_of_name};
+use model_line::Line;
+use model_names::parameter_of_name;
 use relay_base::number;
 
 /// Whether one of the timings has the name.

@@ -1,13 +1,14 @@
 //! Whether a timing is inside the declared intervals.
 
 ghost use Rattle.std.specs.Prelude.{◌≡◌, ◌<◌, ◌↔◌, ℕ, length, get_or, IsTrue};
-ghost use Rattle.line_model.specs.{Choice.IsIn, Parameters.param_count, Parameters.declared_ends};
+ghost use Rattle.model_logic.specs.Choice.{IsIn};
+ghost use Rattle.model_line.specs.Parameters.{param_count, declared_ends};
 ghost use Rattle.timing_box.specs.Inside.{IsStepInside, IsTimingInside};
 
 use crate::step::Step;
 use crate::timing::Timing;
-use line_model::Line;
-use line_model::laws::parameters_are_numbered;
+use model_line::Line;
+use model_line::laws::parameters_are_numbered;
 use tick_signal::Tick;
 
 /// Whether there is one number for each parameter, each lies in its interval, and each step is of

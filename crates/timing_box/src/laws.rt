@@ -2,9 +2,10 @@
 
 ghost use Rattle.std.specs.Prelude.{◌≡◌, ◌<◌, ◌↔◌, ℕ, List, [], ◌∷◌, IsTrue};
 ghost use Rattle.std.specs.List.{All};
-ghost use Rattle.line_model.specs.{declared.line.Line.Line, declared.script.Script.Script};
-ghost use Rattle.line_model.specs.{PlainNames.is_plain_name, Choice.Choice, Choice.DelaysFromOne};
-ghost use Rattle.line_model.specs.{Choice.IsInside, Histories.History, Histories.IsLineHistory};
+ghost use Rattle.model_line.specs.{declared.line.Line.Line, declared.script.Script.Script};
+ghost use Rattle.model_line.specs.PlainNames.{is_plain_name};
+ghost use Rattle.model_logic.specs.Choice.{Choice, DelaysFromOne, IsInside};
+ghost use Rattle.model_logic.specs.Histories.{History, IsLineHistory};
 ghost use Rattle.timing_box.specs.Timing.{TimingValues, ascend, number_at, IsLatest, HasNoStepBy};
 ghost use Rattle.timing_box.specs.Inside.{IsTimingInside};
 ghost use Rattle.timing_box.specs.Choice.{timing_choice, IsSameChoice};
@@ -13,10 +14,9 @@ ghost use Rattle.timing_box.specs.Printed.{MayStand, AreOfOneFile, file_records}
 ghost use Rattle.timing_box.specs.{declared.step.Step.Step, SoFar.NamedValues, Timings.timings_in};
 
 use history::element_laws::elements_read_the_past;
-use line_model::laws::{
-    delays_are_parameters, each_line_has_a_choice_inside, settings_are_counted, trees_name_the_line,
-};
-use line_model::name_laws::parameters_have_names_of_their_own;
+use model_line::laws::{delays_are_parameters, settings_are_counted};
+use model_logic::laws::{each_line_has_a_choice_inside, trees_name_the_line};
+use model_names::name_laws::parameters_have_names_of_their_own;
 
 /// Each candidate is inside the declared intervals.
 pub fn candidates_are_inside()

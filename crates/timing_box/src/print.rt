@@ -3,7 +3,7 @@
 ghost use Rattle.std.specs.Prelude.{◌≡◌, ◌≤◌, ◌<◌, ◌∷◌, [], ◌++◌, ℕ, Ok, length, IfOk, OnOk, map};
 ghost use Rattle.std.specs.List.{All};
 ghost use Rattle.csv.specs.Writing.{row_text, default_writer};
-ghost use Rattle.line_model.specs.Parameters.{param_count};
+ghost use Rattle.model_line.specs.Parameters.{param_count};
 ghost use Rattle.timing_box.specs.Printed.{number_record, number_records, step_record};
 ghost use Rattle.timing_box.specs.Printed.{timing_records, file_records, records_text, MayStand};
 ghost use Rattle.timing_box.specs.Printed.{AreOfOneFile};
@@ -14,8 +14,8 @@ use crate::step::Step;
 use crate::timing::NamedTiming;
 use csv_records::{Memory, push_record};
 use itoa::Buffer;
-use line_model::Line;
-use line_model::laws::{delays_are_parameters, parameters_are_numbered};
+use model_line::Line;
+use model_line::laws::{delays_are_parameters, parameters_are_numbered};
 use std::alloc::Global;
 use tick_signal::Tick;
 

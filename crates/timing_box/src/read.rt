@@ -17,7 +17,7 @@ use crate::step::Step;
 use crate::timing::NamedTiming;
 use csv::ByteRecord;
 use csv_records::{RecordReader, has_three, read_file};
-use line_model::{Line, is_plain};
+use model_line::{Line, is_plain};
 use std::alloc::Global;
 use tick_signal::Tick;
 

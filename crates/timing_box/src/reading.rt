@@ -1,7 +1,7 @@
 //! The timings that the records so far say.
 
 ghost use Rattle.std.specs.Prelude.{◌≡◌, IsTrue, IfSome, IfOk, map, option_map};
-ghost use Rattle.line_model.specs.{Intervals.leasts, PlainNames.is_plain_name};
+ghost use Rattle.model_line.specs.{Intervals.leasts, PlainNames.is_plain_name};
 ghost use Rattle.timing_box.specs.SoFar.{so_far_of, no_timings, all_timings, values_of, open_of};
 ghost use Rattle.timing_box.specs.SoFar.{opened, closed as closed_of, IsFull};
 ghost use Rattle.timing_box.specs.{Gives.Gives, Checks.check_timing, Opened.opening_of};
@@ -10,7 +10,7 @@ use crate::check::is_any;
 use crate::fault::TimingFault;
 use crate::timing::{NamedTiming, Timing};
 use csv_records::is;
-use line_model::{Line, Name};
+use model_line::{Line, Name};
 use std::alloc::Global;
 use tick_signal::Tick;
 

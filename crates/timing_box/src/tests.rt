@@ -1,7 +1,7 @@
 //! Timings files: what they say, and what is refused.
 
 use super::*;
-use line_model::{Bounds, Line, Name, is_plain};
+use model_line::{Bounds, Line, Name, is_plain};
 use sample_lines::two_terminals;
 use std::alloc::Global;
 use std::process::Abort;

@@ -7,7 +7,7 @@ ghost use Rattle.std.specs.List.{list_any};
 use crate::fault::TimingFault;
 use crate::places::place_after;
 use crate::step::Step;
-use line_model::Name;
+use model_line::Name;
 use std::marker::Model;
 use tick_signal::Tick;
 

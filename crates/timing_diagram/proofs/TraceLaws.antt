@@ -3,9 +3,9 @@ use Rattle.std.proofs.Common.{◌<◌, ◌++◌, ◌∷◌, [], ℕ, Bool, true,
 use Rattle.std.proofs.lemmas.List.Elements.{All-nil, All-cons, All-append}
 use Rattle.std.specs.Prelude.{◌==◌, if◌then◌else◌}
 use Rattle.std.specs.List.{All}
-use Rattle.line_model.specs.declared.script.Element.TheVariants.{Z1, Z2, Rv, Uv, Cur}
-use Rattle.line_model.specs.Parameters.{terminal_count, channel_count}
-use Rattle.line_model.specs.{declared.line.Line.Line, Channels.to_of}
+use Rattle.model_line.specs.declared.script.Element.TheVariants.{Z1, Z2, Rv, Uv, Cur}
+use Rattle.model_line.specs.Parameters.{terminal_count, channel_count}
+use Rattle.model_line.specs.{declared.line.Line.Line, Channels.to_of}
 use Rattle.timing_diagram.specs.declared.trace.Trace.{Trace}
 use Rattle.timing_diagram.specs.declared.trace.Trace.TheVariants.{Lost, Key, Trip}
 use Rattle.timing_diagram.specs.Traces.{IsTraceOf, each_of, loss_at, seen_at, seen_by, traces_at}

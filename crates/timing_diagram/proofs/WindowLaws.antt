@@ -3,7 +3,8 @@ use Rattle.std.proofs.Common.{◌≤◌, ◌∷◌, ℕ, List, [], arith}
 use Rattle.std.proofs.lemmas.List.Elements.{All-weaker, All-nil, All-cons}
 use Rattle.std.specs.List.{All}
 use Rattle.history.specs.Rails.{Rails}
-use Rattle.line_model.specs.{declared.script.Script.Script, Histories.PairHistory}
+use Rattle.model_line.specs.declared.script.Script.{Script}
+use Rattle.model_logic.specs.Histories.{PairHistory}
 use Rattle.timing_diagram.specs.declared.rows.Row.{Row}
 use Rattle.timing_diagram.specs.Windows.{BeginsBelow, ChangesBelow}
 use Rattle.timing_diagram.specs.Windows.{IsChangeShown, IsShown, IsWider}

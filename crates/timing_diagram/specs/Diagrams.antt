@@ -2,8 +2,9 @@
 use Rattle.std.specs.Prelude.{◌≡◌, ◌<◌, ◌≤◌, ℕ, map, IfSome}
 use Rattle.std.specs.List.{All}
 use Rattle.history.specs.Recorded.{first_ticks}
-use Rattle.line_model.specs.{declared.line.Line.Line, declared.script.Script.Script}
-use Rattle.line_model.specs.{Histories.PairHistory, Parameters.terminal_count}
+use Rattle.model_line.specs.{declared.line.Line.Line, declared.script.Script.Script}
+use Rattle.model_line.specs.Parameters.{terminal_count}
+use Rattle.model_logic.specs.Histories.{PairHistory}
 use Rattle.timing_diagram.specs.{declared.diagram.Diagram.Diagram, declared.rows.Row.Row}
 use Rattle.timing_diagram.specs.{declared.trace.Trace.Trace, Stretches.AreStretches}
 use Rattle.timing_diagram.specs.{Times.trip_times_of, Times.is_begun, Traces.traces_of}

@@ -2,11 +2,10 @@
 use Rattle.std.specs.Prelude.{◌&&◌, ℕ, Bool, true, false, List, nat_le, nat_lt}
 use Rattle.std.specs.List.{list_any}
 use Rattle.history.specs.Rails.{Rails}
-use Rattle.line_model.specs.declared.script.Element.{Element}
-use Rattle.line_model.specs.declared.script.Element.TheVariants.{Z1, Z2, Rv, Uv, Cur}
-use Rattle.line_model.specs.declared.script.Script.{Script}
-use Rattle.line_model.specs.{declared.script.SeenSpan.SeenSpan, declared.script.What.What}
-use Rattle.line_model.specs.declared.script.What.TheVariants as what
+use Rattle.model_line.specs.declared.script.Element.TheVariants.{Z1, Z2, Rv, Uv, Cur}
+use Rattle.model_line.specs.{declared.script.Element.Element, declared.script.Script.Script}
+use Rattle.model_line.specs.{declared.script.SeenSpan.SeenSpan, declared.script.What.What}
+use Rattle.model_line.specs.declared.script.What.TheVariants as what
 use Rattle.timing_diagram.specs.declared.times.TripTimes.{TripTimes}
 use Rattle.wave_runs.specs.FirstTick.{first_on}
 use Rattle.timing_report.specs.Margin.{margin_of}

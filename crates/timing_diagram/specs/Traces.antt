@@ -1,11 +1,12 @@
 -- What the rows of a diagram are of, and the pair that each has at a tick.
 use Rattle.std.specs.Prelude.{◌++◌, ◌==◌, ◌<◌, ℕ, zero, suc, List, [], ◌∷◌, if◌then◌else◌}
 use Rattle.history.specs.Rails.{Rails, both}
-use Rattle.line_model.specs.declared.script.Element.{Element}
-use Rattle.line_model.specs.declared.script.Element.TheVariants.{Z1, Z2, Rv, Uv, Cur}
-use Rattle.line_model.specs.Parameters.{terminal_count, channel_count}
-use Rattle.line_model.specs.{declared.line.Line.Line, declared.script.Script.Script, Channels.to_of}
-use Rattle.line_model.specs.{Histories.History, Histories.PairHistory, Seen.is_seen, Seen.is_lost}
+use Rattle.model_line.specs.declared.script.Element.TheVariants.{Z1, Z2, Rv, Uv, Cur}
+use Rattle.model_line.specs.Parameters.{terminal_count, channel_count}
+use Rattle.model_line.specs.Seen.{is_seen, is_lost}
+use Rattle.model_line.specs.{declared.script.Element.Element, declared.line.Line.Line}
+use Rattle.model_line.specs.{declared.script.Script.Script, Channels.to_of}
+use Rattle.model_logic.specs.Histories.{History, PairHistory}
 use Rattle.timing_diagram.specs.declared.trace.Trace.{Trace}
 use Rattle.timing_diagram.specs.declared.trace.Trace.TheVariants.{Seen, Lost, Key, Trip}
 

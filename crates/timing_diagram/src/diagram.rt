@@ -2,7 +2,8 @@
 
 ghost use Rattle.std.specs.Prelude.{◌≡◌, ◌<◌, [], length, map, min, IfOk};
 ghost use Rattle.history.specs.Recorded.{first_ticks};
-ghost use Rattle.line_model.specs.{Parameters.terminal_count, Rule.rule_of};
+ghost use Rattle.model_line.specs.Parameters.{terminal_count};
+ghost use Rattle.model_logic.specs.Rule.{rule_of};
 ghost use Rattle.interval_wave.specs.{PairWavesOf.pair_history, Rules.rule_named};
 ghost use Rattle.simulator.specs.Played.{played};
 ghost use Rattle.timing_diagram.specs.{Diagrams.IsDiagramOf, Traces.known_history};
@@ -13,7 +14,7 @@ use crate::shown::Shown;
 use crate::times::{TripTimes, trips};
 use crate::window::{Window, shown_window};
 use interval_wave::{PairWaves, Rule, judge};
-use line_model::{Line, Memory, Script};
+use model_line::{Line, Memory, Script};
 use simulator::Waves;
 use std::alloc::Global;
 use tick_signal::Level;

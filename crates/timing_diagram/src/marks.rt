@@ -4,7 +4,7 @@ ghost use Rattle.std.specs.Prelude.{◌≡◌, ◌<◌, IfSome};
 ghost use Rattle.timing_diagram.specs.Times.{is_begun, shows_fault, is_of_fault};
 ghost use Rattle.wave_runs.specs.FirstTick.{first_on};
 
-use line_model::{Element, Script, SeenSpan, What};
+use model_line::{Element, Script, SeenSpan, What};
 use wave_runs::the_first_tick_is_the_least;
 
 /// The first tick below the horizon at which some terminal sees a zone, the reverse or the

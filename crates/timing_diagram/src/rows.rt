@@ -2,14 +2,14 @@
 
 ghost use Rattle.std.specs.Prelude.{◌≡◌, map, IfOk};
 ghost use Rattle.std.specs.List.{All};
-ghost use Rattle.line_model.specs.Parameters.{terminal_count};
+ghost use Rattle.model_line.specs.Parameters.{terminal_count};
 ghost use Rattle.timing_diagram.specs.Diagrams.{IsRow, trace_of};
 ghost use Rattle.timing_diagram.specs.Traces.{traces_of, IsTraceOf};
 
 use crate::shown::Shown;
 use crate::stretch::{Stretch, stretches};
 use crate::trace::{Trace, traces};
-use line_model::{Line, Memory, Script};
+use model_line::{Line, Memory, Script};
 use std::alloc::Global;
 
 /// What a row is of, and its stretches from tick 0 to the horizon.

@@ -1,7 +1,7 @@
 //! The keys and trips that a diagram shows.
 
 ghost use Rattle.std.specs.Prelude.{◌≡◌, ◌<◌, ℕ, length, min};
-ghost use Rattle.line_model.specs.Histories.{PairHistory};
+ghost use Rattle.model_logic.specs.Histories.{PairHistory};
 ghost use Rattle.interval_wave.specs.PairWavesOf.{pair_history};
 ghost use Rattle.simulator.specs.Played.{played};
 ghost use Rattle.tick_signal.specs.{Levels.level_rails, Terns.tern_rails};

@@ -2,13 +2,13 @@
 
 ghost use Rattle.std.specs.Prelude.{◌≡◌, ◌≢◌, ◌<◌, ◌≤◌, ℕ, IfOk};
 ghost use Rattle.history.specs.Rails.{both};
-ghost use Rattle.line_model.specs.Parameters.{terminal_count};
+ghost use Rattle.model_line.specs.Parameters.{terminal_count};
 ghost use Rattle.tick_signal.specs.Terns.{tern_rails};
 ghost use Rattle.timing_diagram.specs.{Stretches.AreStretches, Traces.IsTraceOf, Traces.trace_pair};
 
 use crate::shown::Shown;
 use crate::trace::Trace;
-use line_model::{Line, Memory, Script, loss, seen};
+use model_line::{Line, Memory, Script, loss, seen};
 use std::alloc::Global;
 use tick_signal::Tern;
 

@@ -2,13 +2,13 @@
 
 ghost use Rattle.std.specs.Prelude.{◌≡◌, ◌<◌, Bool, IfOk};
 ghost use Rattle.history.specs.{Rails.Rails, Recorded.first_ticks};
-ghost use Rattle.line_model.specs.Parameters.{terminal_count};
+ghost use Rattle.model_line.specs.Parameters.{terminal_count};
 ghost use Rattle.tick_signal.specs.declared.tern.Tern.{Tern};
 ghost use Rattle.timing_diagram.specs.Times.{trip_times_of};
 ghost use Rattle.wave_runs.specs.{FirstTick.first_on, Waves.Tells};
 
 use crate::shown::Shown;
-use line_model::{Line, Memory, Script};
+use model_line::{Line, Memory, Script};
 use std::alloc::Global;
 use tick_signal::{Signal, Tern};
 use timing_report::margin;

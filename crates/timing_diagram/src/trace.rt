@@ -2,11 +2,11 @@
 
 ghost use Rattle.std.specs.Prelude.{◌≡◌, ◌++◌, ◌<◌, OnOk, IfOk};
 ghost use Rattle.std.specs.List.{All};
-ghost use Rattle.line_model.specs.Parameters.{terminal_count, channel_count};
+ghost use Rattle.model_line.specs.Parameters.{terminal_count, channel_count};
 ghost use Rattle.timing_diagram.specs.Traces.{traces_of, traces_at, seen_at, loss_at, each_of};
 ghost use Rattle.timing_diagram.specs.Traces.{IsTraceOf};
 
-use line_model::{Element, Line, Memory, Place};
+use model_line::{Element, Line, Memory, Place};
 use std::alloc::Global;
 
 /// What a row is of: what a terminal sees; whether a channel is lost, by its number; what a

@@ -3,11 +3,11 @@ use Rattle.std.proofs.Common.{◌≡◌, ◌<◌, ◌≤◌, ◌++◌, ◌||◌,
 use Rattle.std.proofs.Common.{sym, ◌∙◌, ap, arith}
 use Rattle.std.specs.Prelude.{codes}
 use Rattle.history.specs.{Elements.some_below, Rails.Rails, Rails.must_of, Rails.may_of}
-use Rattle.line_model.specs.declared.line.Line.{Line}
-use Rattle.line_model.specs.declared.script.Kind.TheVariants.{Internal, External}
-use Rattle.line_model.specs.Histories.{PairHistory, IsSamePairHistory}
-use Rattle.line_model.specs.{declared.script.Kind.Kind, declared.script.Script.Script}
-use Rattle.line_model.specs.{Parameters.terminal_count, Rule.Rule, Rule.rule_by}
+use Rattle.model_line.specs.declared.script.Kind.TheVariants.{Internal, External}
+use Rattle.model_line.specs.{declared.line.Line.Line, declared.script.Kind.Kind}
+use Rattle.model_line.specs.{declared.script.Script.Script, Parameters.terminal_count}
+use Rattle.model_logic.specs.Histories.{PairHistory, IsSamePairHistory}
+use Rattle.model_logic.specs.Rule.{Rule, rule_by}
 use Rattle.simulator.specs.PlayRows.{each_below}
 use Rattle.interval_wave.specs.Rules.{counted_ticks, rule_by_rails}
 use Rattle.timing_report.specs.ReportText.{fields_text, rule_word, row_text, script_rows}

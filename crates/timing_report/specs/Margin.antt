@@ -1,7 +1,7 @@
 -- The deadline and the margin of an obligation.
 use Rattle.std.specs.Prelude.{ℕ, ℤ, pos, ◌-ℤ◌, ◌*ℤ◌, Option, None, Some, option_map}
-use Rattle.line_model.specs.declared.script.Kind.{Kind}
-use Rattle.line_model.specs.declared.script.Kind.TheVariants.{Internal, External}
+use Rattle.model_line.specs.declared.script.Kind.TheVariants.{Internal, External}
+use Rattle.model_line.specs.declared.script.Kind.{Kind}
 
 -- an internal fault has a deadline, an external one has none
 abbrev pub deadline_of : Kind → ℕ → Option ℕ

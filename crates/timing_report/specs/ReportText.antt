@@ -3,12 +3,13 @@ use Rattle.std.specs.Prelude.{◌≡◌, ◌++◌, ℕ, ℤ, List, Option, None,
 use Rattle.std.specs.Fmt.{signed_decimal}
 use Rattle.std.specs.List.{concat}
 use Rattle.history.specs.Rails.{Rails}
-use Rattle.line_model.specs.declared.script.Kind.TheVariants.{Internal, External}
-use Rattle.line_model.specs.declared.script.Script.{Script}
-use Rattle.line_model.specs.Rule.{Rule, Held, Broken, Unknown, rule_of}
-use Rattle.line_model.specs.{declared.line.Line.Line, declared.script.Kind.Kind}
-use Rattle.line_model.specs.{Parameters.terminal_count, Choice.declared_box, Histories.PairHistory}
-use Rattle.line_model.specs.{Histories.IsPairHistory, NamesByNumber.terminal_name}
+use Rattle.model_line.specs.declared.script.Kind.TheVariants.{Internal, External}
+use Rattle.model_line.specs.{declared.script.Script.Script, declared.line.Line.Line}
+use Rattle.model_line.specs.{declared.script.Kind.Kind, Parameters.terminal_count}
+use Rattle.model_logic.specs.Rule.{Rule, Held, Broken, Unknown, rule_of}
+use Rattle.model_logic.specs.Histories.{PairHistory, IsPairHistory}
+use Rattle.model_logic.specs.Choice.{declared_box}
+use Rattle.model_names.specs.NamesByNumber.{terminal_name}
 use Rattle.simulator.specs.PlayRows.{each_below}
 use Rattle.wave_runs.specs.FirstTick.{first_on}
 use Rattle.timing_report.specs.Margin.{deadline_of, margin_of, margin_us_of}

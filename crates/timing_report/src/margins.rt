@@ -3,7 +3,7 @@
 ghost use Rattle.std.specs.Prelude.{◌≡◌, ◌≤◌, IfSome};
 ghost use Rattle.timing_report.specs.Margin.{deadline_of, margin_of, margin_us_of};
 
-use line_model::Kind;
+use model_line::Kind;
 
 /// The deadline of an internal fault.
 pub fn deadline(kind: Kind, deadline: u32) -> Option<u32>

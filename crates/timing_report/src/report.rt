@@ -2,9 +2,10 @@
 
 ghost use Rattle.std.specs.Prelude.{◌≡◌, ◌++◌, ◌<◌, OnOk, IfOk};
 ghost use Rattle.std.specs.List.{All};
-ghost use Rattle.line_model.specs.declared.script.Script.{Script};
-ghost use Rattle.line_model.specs.Histories.{PairHistory, IsPairHistory};
-ghost use Rattle.line_model.specs.{Parameters.terminal_count, Choice.declared_box, Fits.Fits};
+ghost use Rattle.model_line.specs.{declared.script.Script.Script, Parameters.terminal_count};
+ghost use Rattle.model_line.specs.Fits.{Fits};
+ghost use Rattle.model_logic.specs.Histories.{PairHistory, IsPairHistory};
+ghost use Rattle.model_logic.specs.Choice.{declared_box};
 ghost use Rattle.gate_net.specs.NetOf.{IsNetOf};
 ghost use Rattle.interval_wave.specs.PairWavesOf.{pair_history};
 ghost use Rattle.timing_report.specs.ReportText.{script_rows, report_text_of, AreHistories};
@@ -13,11 +14,9 @@ ghost use Rattle.timing_report.specs.ReportText.{IsReportText};
 use crate::rows::push_row;
 use gate_net::Net;
 use interval_wave::{PairWaves, analyse};
-use line_model::laws::{
-    deadlines_are_below_the_horizon, each_box_has_one_interval_history,
-    each_line_has_a_choice_inside,
-};
-use line_model::{Line, Memory, Script};
+use model_line::laws::deadlines_are_below_the_horizon;
+use model_line::{Line, Memory, Script};
+use model_logic::laws::{each_box_has_one_interval_history, each_line_has_a_choice_inside};
 use std::alloc::Global;
 
 /// The first line of a report.

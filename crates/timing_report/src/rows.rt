@@ -1,7 +1,7 @@
 //! The rows of a report, as text.
 
 ghost use Rattle.std.specs.Prelude.{◌≡◌, ◌++◌, ◌<◌, ◌≤◌, OnOk, IfSome};
-ghost use Rattle.line_model.specs.Parameters.{terminal_count};
+ghost use Rattle.model_line.specs.Parameters.{terminal_count};
 ghost use Rattle.interval_wave.specs.{PairWavesOf.pair_history, Rules.rule_named};
 ghost use Rattle.timing_report.specs.ReportText.{kind_word as word_of_kind};
 ghost use Rattle.timing_report.specs.ReportText.{rule_word as word_of_rule, field, tick_text};
@@ -10,7 +10,7 @@ ghost use Rattle.timing_report.specs.ReportText.{margin_text, fields_text, row_t
 use crate::margins::{deadline, margin, margin_us};
 use interval_wave::{PairWaves, Rule, judge};
 use itoa::Buffer;
-use line_model::{Kind, Line, Memory, Script};
+use model_line::{Kind, Line, Memory, Script};
 
 fn kind_word(kind: Kind) -> &'static [u8]
     ensures { result.now ≡ word_of_kind kind }

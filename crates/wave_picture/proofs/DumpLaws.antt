@@ -1,7 +1,7 @@
 -- A dump speaks of the net's gates and the line's ticks alone.
 use Rattle.std.proofs.Common.{◌≡◌, ℕ, zero, suc, ◌-◌, ◌<◌, ◌≤◌, Bool, List, ◌++◌, length, refl, ◌∙◌}
 use Rattle.std.proofs.Common.{ap, arith}
-use Rattle.line_model.specs.declared.line.Line.{Line}
+use Rattle.model_line.specs.declared.line.Line.{Line}
 use Rattle.gate_net.specs.NetOf.{NetOf}
 use Rattle.simulator.specs.PlayRows.{each_below}
 use Rattle.wave_picture.specs.Dump.{GateLevels, value_text, change_text, timed_text, first_text}

@@ -5,9 +5,9 @@ use Rattle.std.specs.Prelude.{Result, Ok, Err, IfOk}
 use Rattle.history.specs.Rails.{Rails, Ends, Covers, single}
 use Rattle.tick_signal.specs.declared.level.Level.TheVariants.{Off, On}
 use Rattle.tick_signal.specs.{declared.level.Level.Level, Levels.level_rails}
-use Rattle.line_model.specs.declared.line.Line.{Line}
-use Rattle.line_model.specs.{declared.script.Script.Script, Choice.Choice, Choice.Box, Choice.IsIn}
-use Rattle.line_model.specs.{Choice.IsWithin, Histories.History, Histories.IsLineHistory}
+use Rattle.model_line.specs.{declared.line.Line.Line, declared.script.Script.Script}
+use Rattle.model_logic.specs.Choice.{Choice, Box, IsIn, IsWithin}
+use Rattle.model_logic.specs.Histories.{History, IsLineHistory}
 use Rattle.gate_net.specs.NetOf.{NetOf}
 use Rattle.simulator.specs.WavesOf.{WavesOf, pair_in, wave_value}
 use Rattle.simulator.specs.{Runs.CoverChoices, Runs.IsPoint, Played.is_on}

@@ -1,7 +1,7 @@
 -- The names of a line's terminals.
 use Rattle.std.proofs.Common.{◌≡◌, ℕ, zero, suc, ◌<◌, ◌≤◌, List, [], ◌∷◌, length, get_or, refl, sym}
 use Rattle.std.proofs.Common.{ap, arith}
-use Rattle.line_model.specs.{declared.line.Terminal.Terminal, ParamNames.name_at}
+use Rattle.model_line.specs.{declared.line.Terminal.Terminal, ParamNames.name_at}
 
 -- the name of a terminal of the list
 pub name_there : (ts : List Terminal) (k : ℕ) (t : Terminal) → k < length ts → t ≡ get_or ts k t

@@ -1,7 +1,7 @@
 -- A value change dump (IEEE 1364): all values at time 0, and then each change at its time.
 use Rattle.std.specs.Prelude.{◌++◌, ◌*◌, ◌-◌, ℕ, suc, Bool, true, false, List, [], ◌∷◌, codes}
 use Rattle.std.specs.Prelude.{decimal, length}
-use Rattle.line_model.specs.declared.line.Line.{Line}
+use Rattle.model_line.specs.declared.line.Line.{Line}
 use Rattle.gate_net.specs.NetOf.{NetOf}
 use Rattle.simulator.specs.PlayRows.{level_word, each_below}
 use Rattle.wave_picture.specs.Variables.{code_of, declarations}

@@ -1,7 +1,8 @@
 -- The value of each gate in a line's history at a choice.
 use Rattle.std.specs.Prelude.{ℕ, Bool}
-use Rattle.line_model.specs.{declared.line.Line.Line, declared.script.Script.Script, Mean.mean}
-use Rattle.line_model.specs.{Choice.Choice, Choice.world_of, Histories.History}
+use Rattle.model_line.specs.{declared.line.Line.Line, declared.script.Script.Script}
+use Rattle.model_logic.specs.Choice.{Choice, world_of}
+use Rattle.model_logic.specs.{Mean.mean, Histories.History}
 use Rattle.gate_net.specs.{NetOf.NetOf, Formulas.formula_of}
 
 -- the value of the tree that a gate stands for, over the keys of the history

@@ -1,8 +1,8 @@
 -- What each gate of a net is to a protection engineer.
 use Rattle.std.specs.Prelude.{◌==◌, ℕ, List, Option, Some, None, slice_get, option_map, nat_lt}
 use Rattle.std.specs.Prelude.{if◌then◌else◌}
-use Rattle.line_model.specs.declared.line.Line.{Line}
-use Rattle.line_model.specs.{declared.script.Place.Place, Channels.to_of, Parameters.terminal_count}
+use Rattle.model_line.specs.{declared.line.Line.Line, declared.script.Place.Place, Channels.to_of}
+use Rattle.model_line.specs.Parameters.{terminal_count}
 use Rattle.gate_net.specs.declared.gate.Gate.{Gate}
 use Rattle.gate_net.specs.declared.gate.Gate.TheVariants as gate
 use Rattle.wave_picture.specs.declared.roles.Role.{Role}

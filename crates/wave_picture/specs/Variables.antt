@@ -2,8 +2,9 @@
 -- terminal's key and trip.
 use Rattle.std.specs.Prelude.{[], ◌++◌, ◌+◌, ◌/◌, ◌%◌, ◌==◌, ℕ, Bool, true, false, List, ◌∷◌}
 use Rattle.std.specs.Prelude.{Option, Some, None, codes, decimal, length, slice_get}
-use Rattle.line_model.specs.{Channels.from_of, Channels.to_of, NamesByNumber.element_text}
-use Rattle.line_model.specs.{declared.line.Line.Line, ParamNames.name_at, Parameters.terminal_count}
+use Rattle.model_line.specs.Channels.{from_of, to_of}
+use Rattle.model_line.specs.{declared.line.Line.Line, ParamNames.name_at, Parameters.terminal_count}
+use Rattle.model_names.specs.NamesByNumber.{element_text}
 use Rattle.gate_net.specs.declared.gate.Gate.{Gate}
 use Rattle.gate_net.specs.declared.gate.Gate.TheVariants as gate
 use Rattle.gate_net.specs.NetOf.{NetOf, key_of, trip_of}

@@ -8,7 +8,7 @@ ghost use Rattle.wave_picture.specs.Dump.{next_text, timed_text, tick_text, chan
 use crate::gates::on_at;
 use crate::put::{put, put_number};
 use crate::variables::put_code;
-use line_model::Memory;
+use model_line::Memory;
 use simulator::{Waves, level_word};
 use std::alloc::Global;
 use tick_signal::Level;

@@ -1,15 +1,15 @@
 //! The run of a timing over a script.
 
 ghost use Rattle.std.specs.Prelude.{◌≡◌, ◌<◌, ℕ, length, IfOk};
-ghost use Rattle.line_model.specs.Histories.{History, IsLineHistory, IsSameHistory};
+ghost use Rattle.model_logic.specs.Histories.{History, IsLineHistory, IsSameHistory};
 ghost use Rattle.gate_net.specs.NetOf.{IsNetOf};
 ghost use Rattle.timing_box.specs.{Inside.IsTimingInside, Choice.timing_choice};
 ghost use Rattle.simulator.specs.{Played.is_on, Played.played, Runs.AreWavesOf};
 ghost use Rattle.wave_picture.specs.GateValues.{gate_levels};
 
 use gate_net::Net;
-use line_model::laws::each_choice_has_one_history;
-use line_model::{Line, Memory, Script};
+use model_line::{Line, Memory, Script};
+use model_logic::laws::each_choice_has_one_history;
 use simulator::laws::a_timing_is_one_choice;
 use simulator::{Waves, run};
 use std::alloc::Global;

@@ -3,7 +3,7 @@
 ghost use Rattle.std.specs.Prelude.{◌≡◌, ◌++◌, decimal, OnOk};
 
 use itoa::Buffer;
-use line_model::Memory;
+use model_line::Memory;
 
 /// Appends the bytes.
 pub fn put(text: &mut Vec<u8>, bytes: &[u8]) -> Result<(), Memory>

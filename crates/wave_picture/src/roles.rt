@@ -1,7 +1,7 @@
 //! What a gate is to a protection engineer.
 
 ghost use Rattle.std.specs.Prelude.{◌≡◌, slice_get};
-ghost use Rattle.line_model.specs.Channels.{from_of, to_of};
+ghost use Rattle.model_line.specs.Channels.{from_of, to_of};
 ghost use Rattle.wave_picture.specs.Roles.{role_of, seen_place, raw_channel, lost_channel};
 ghost use Rattle.wave_picture.specs.Roles.{denied_gate, received_over, received_at};
 ghost use Rattle.wave_picture.specs.Roles.{both_received_at, and_role, any_role, timed_role};
@@ -9,7 +9,7 @@ ghost use Rattle.wave_picture.specs.Roles.{home_of, terminal_of, same_number as 
 
 use crate::gates::find_gate;
 use gate_net::{Gate, GateId, Net};
-use line_model::{Line, Place};
+use model_line::{Line, Place};
 
 /// What a gate is: what a terminal sees, at once or timed; a channel by its number, as lost, with
 /// what arrives over it, or with what is received over it; what two others permit a terminal, or

@@ -1,7 +1,7 @@
 //! The variables of a value change dump.
 
 ghost use Rattle.std.specs.Prelude.{◌≡◌, ◌<◌, ◌++◌, length, OnOk};
-ghost use Rattle.line_model.specs.{ParamNames.name_at, Parameters.terminal_count};
+ghost use Rattle.model_line.specs.{ParamNames.name_at, Parameters.terminal_count};
 ghost use Rattle.gate_net.specs.NetOf.{IsNetOf};
 ghost use Rattle.simulator.specs.PlayRows.{each_below};
 ghost use Rattle.wave_picture.specs.Variables.{code_of, kind_text, channel_text, role_text};
@@ -12,7 +12,8 @@ ghost use Rattle.wave_picture.specs.Variables.{terminal_scope, declarations};
 use crate::put::{put, put_number};
 use crate::roles::{Role, gate_role, home, receiver, sender};
 use gate_net::{Gate, GateId, Net};
-use line_model::{Line, Memory, element_word};
+use model_line::{Line, Memory};
+use model_names::element_word;
 
 /// Appends all declarations.
 #[tactic(auto, unfolding(crate::specs::Variables::declarations))]

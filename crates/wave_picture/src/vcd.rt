@@ -1,7 +1,7 @@
 //! A run as a value change dump.
 
 ghost use Rattle.std.specs.Prelude.{◌≡◌, ◌++◌, IfOk, OnOk};
-ghost use Rattle.line_model.specs.Histories.{History, IsLineHistory};
+ghost use Rattle.model_logic.specs.Histories.{History, IsLineHistory};
 ghost use Rattle.gate_net.specs.NetOf.{IsNetOf};
 ghost use Rattle.timing_box.specs.{Inside.IsTimingInside, Choice.timing_choice};
 ghost use Rattle.simulator.specs.{Played.is_on, Runs.AreWavesOf};
@@ -12,7 +12,7 @@ use crate::play::play_waves;
 use crate::put::put;
 use crate::variables::put_declarations;
 use gate_net::Net;
-use line_model::{Line, Memory, Name, Script};
+use model_line::{Line, Memory, Name, Script};
 use simulator::Waves;
 use std::alloc::Global;
 use tick_signal::Level;

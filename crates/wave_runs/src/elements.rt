@@ -7,7 +7,7 @@ ghost use Rattle.wave_runs.specs.Waves.{wave_at, IsWaveOf};
 
 use crate::runs::Runs;
 use history::laws::history_laws;
-use line_model::Memory;
+use model_line::Memory;
 use std::alloc::Global;
 use tick_signal::{Tern, Within};
 use timers::{SealCell, Timed, a_seal_is_its_last_answer, elements_stay_in_a_stretch};

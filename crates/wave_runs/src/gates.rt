@@ -7,7 +7,7 @@ ghost use Rattle.tick_signal.specs.declared.tern.Tern.{Tern};
 ghost use Rattle.wave_runs.specs.Waves.{wave_at, IsWaveOf, Combines};
 
 use crate::runs::Runs;
-use line_model::Memory;
+use model_line::Memory;
 use std::alloc::Global;
 use tick_signal::{Signal, Tern};
 

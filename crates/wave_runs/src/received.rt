@@ -10,7 +10,7 @@ use crate::cursor::Cursor;
 use crate::first::first_from;
 use crate::runs::Runs;
 use history::delay_laws::{delays_are_their_facts, delays_read_earlier_ticks, delays_stay_sound};
-use line_model::Memory;
+use model_line::Memory;
 use std::alloc::Global;
 use tick_signal::{Signal, Tern, Within};
 

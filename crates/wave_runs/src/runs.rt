@@ -7,7 +7,7 @@ ghost use Rattle.tick_signal.specs.Terns.{tern_rails};
 ghost use Rattle.wave_runs.specs.Waves.{wave_at, AreApart, AreRunsOf, levels_of, runs_from};
 
 use crate::cursor::Cursor;
-use line_model::Memory;
+use model_line::Memory;
 use std::alloc::Global;
 use std::marker::Model;
 use tick_signal::Tern;

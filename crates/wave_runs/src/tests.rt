@@ -3,7 +3,7 @@
 ghost use Rattle.std.specs.Prelude.{◌≤◌};
 
 use super::*;
-use line_model::Memory;
+use model_line::Memory;
 use std::alloc::Global;
 use std::process::Abort;
 use std::test::Fail;

@@ -11,7 +11,7 @@ ghost use Rattle.wave_runs.specs.Text.{runs_text, gap, IsTextOf, level_in, run_i
 
 use crate::runs::{Run, Runs, Stretch};
 use itoa::Buffer;
-use line_model::Memory;
+use model_line::Memory;
 use relay_base::number;
 use std::alloc::Global;
 use text_lines::find_byte;

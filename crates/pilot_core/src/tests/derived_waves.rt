@@ -2,14 +2,14 @@
 
 ghost use Rattle.std.specs.Prelude.{◌≡◌, ◌∷◌, [], length, IfOk};
 ghost use Rattle.wave_runs.specs.Waves.{AreWaves};
-ghost use Rattle.line_model.specs.Parameters.{terminal_count};
+ghost use Rattle.model_line.specs.Parameters.{terminal_count};
 
 use super::worked_files::*;
 use super::*;
 use cert_checker::gate_waves;
 use fault_script::read_scripts;
 use line_file::read_line;
-use line_model::Line;
+use model_line::Line;
 use net_compile::compile;
 use tick_signal::Tern;
 use wave_runs::{Runs, read_runs};

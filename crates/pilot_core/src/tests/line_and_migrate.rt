@@ -3,7 +3,7 @@
 use super::worked_files::*;
 use super::*;
 use line_file::read_line;
-use line_model::Line;
+use model_line::Line;
 
 fn is_equal(a: &Line, b: &Line) -> bool {
     let heads = (a.tick_us, a.horizon, a.scheme, a.zone1_trip);

@@ -6,7 +6,7 @@ use super::*;
 use fault_script::read_scripts;
 use gate_net::Net;
 use line_file::read_line;
-use line_model::{Line, Script};
+use model_line::{Line, Script};
 use net_compile::compile;
 use simulator::play_rows;
 use timing_box::{NamedTiming, inside, read_timings};

@@ -2,7 +2,7 @@ use Rattle.std.proofs.Common.{◌≡◌, Some, List, ◌∙◌, sym, subst}
 use Rattle.std.proofs.lemmas.Option.{slice_get_read}
 use Rattle.std.specs.Prelude.{slice_get}
 use Rattle.tick_signal.specs.Bits.{bit_on}
-use Rattle.line_model.specs.Parameters.{terminal_count}
+use Rattle.model_line.specs.Parameters.{terminal_count}
 use Rattle.box_lanes.specs.{Spans.SpanLists, Held.ArePartSpans}
 use Rattle.box_lanes.proofs.HeldLaws.{parts_delayed, tells_held}
 use Rattle.box_lanes.proofs.held.held_block.Goals as goal

@@ -1,7 +1,7 @@
 use Rattle.std.proofs.Common.{◌≡◌, ◌+◌, ◌*◌, ◌/◌, ◌%◌, ◌<◌, ℕ, Bool, Some, [], ◌∷◌, length}
 use Rattle.std.proofs.Common.{length-append, sym, ◌∙◌, ap, subst, arith, List}
 use Rattle.std.specs.Prelude.{Decides, slice_get}
-use Rattle.line_model.specs.declared.line.Line.{Line}
+use Rattle.model_line.specs.declared.line.Line.{Line}
 use Rattle.simulator.specs.ListLaws.{exists_at}
 use Rattle.box_lanes.specs.Held.{IsHeldOf, TellBlock, part_in}
 use Rattle.box_lanes.proofs.{HeldLaws.part_is, ListLaws.each_more}

@@ -1,6 +1,6 @@
 use Rattle.std.proofs.Common.{◌≡◌, ℕ, Bool, Some, length}
 use Rattle.std.specs.Prelude.{Decides, slice_get}
-use Rattle.line_model.specs.declared.line.Line.{Line}
+use Rattle.model_line.specs.declared.line.Line.{Line}
 use Rattle.box_lanes.specs.Held.{IsHeldOf}
 use Rattle.box_lanes.proofs.held.held_each.Given as goal
 

@@ -1,6 +1,6 @@
 use Rattle.std.proofs.Common.{◌≡◌, ℕ, ◌<◌, Some, length}
 use Rattle.std.specs.Prelude.{slice_get, slice_index}
-use Rattle.line_model.specs.{declared.line.Line.Line, Parameters.declared_ends}
+use Rattle.model_line.specs.{declared.line.Line.Line, Parameters.declared_ends}
 use Rattle.box_lanes.specs.Held.{part_in}
 use Rattle.box_lanes.proofs.held.part_span.Given as goal
 

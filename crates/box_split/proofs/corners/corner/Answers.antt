@@ -1,6 +1,6 @@
 use Rattle.std.proofs.Common.{◌≡◌, ◌<◌, ◌+◌, true, false, rules, subst, sym, arith}
 use Rattle.box_split.specs.Quiet.{is_wide}
-use Rattle.line_model.specs.{declared.line.Line.Line, Parameters.param_count}
+use Rattle.model_line.specs.{declared.line.Line.Line, Parameters.param_count}
 use Rattle.box_split.proofs.CornerLaws.{CornerSoFar, no_corner_yet, wide_more, closed_more}
 use Rattle.box_split.proofs.corners.corner.Goals as goal
 use Rattle.box_split.proofs.corners.corner.Goals.{then-not-wide-param, else-not-wide-param}

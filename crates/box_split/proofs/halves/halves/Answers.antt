@@ -1,5 +1,5 @@
 use Rattle.std.proofs.Common.{◌+◌, ℕ, subst}
-use Rattle.line_model.specs.{Parameters.declared_ends, WithBounds.IsWithBounds}
+use Rattle.model_line.specs.{Parameters.declared_ends, WithBounds.IsWithBounds}
 use Rattle.box_split.proofs.SoundLaws.{split_at_middle}
 use Rattle.box_split.proofs.halves.halves.Goals as goal
 

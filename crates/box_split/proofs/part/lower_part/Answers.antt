@@ -1,7 +1,7 @@
 use Rattle.std.proofs.Common.{ℕ, subst, arith}
 use Rattle.std.proofs.lemmas.Result.{IfOk-weaker}
 use Rattle.std.specs.Prelude.{IfOk}
-use Rattle.line_model.specs.{Parameters.declared_ends, WithBounds.IsWithBounds}
+use Rattle.model_line.specs.{Parameters.declared_ends, WithBounds.IsWithBounds}
 use Rattle.box_split.proofs.HalfLaws.{can_split_when, lower_of, mid_small}
 use Rattle.box_split.proofs.part.lower_part.Goals as goal
 

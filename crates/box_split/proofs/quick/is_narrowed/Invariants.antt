@@ -1,6 +1,6 @@
 use Rattle.std.proofs.Common.{◌≡◌, ◌<◌, ℕ, false}
 use Rattle.history.specs.Rails.{IsPartOf}
-use Rattle.line_model.specs.Parameters.{declared_ends}
+use Rattle.model_line.specs.Parameters.{declared_ends}
 use Rattle.box_split.specs.Quiet.{is_wide}
 use Rattle.box_split.proofs.quick.is_narrowed.Given as goal
 

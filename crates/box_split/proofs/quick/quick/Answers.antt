@@ -1,7 +1,7 @@
 use Rattle.std.proofs.Common.{◌≡◌, ◌+◌, ◌-◌, ℕ, Bool, List, refl, sym, subst}
 use Rattle.std.proofs.Common.{arith}
 use Rattle.std.specs.Prelude.{IsTrue, Some, slice_get}
-use Rattle.line_model.specs.{declared.line.Line.Line, Parameters.param_count}
+use Rattle.model_line.specs.{declared.line.Line.Line, Parameters.param_count}
 use Rattle.box_lanes.specs.Held.{AreParts, TellHeld}
 use Rattle.box_split.specs.Quiet.{AreCorners, AreNodesIfTold, AreSettled, ArePartNodes}
 use Rattle.box_split.proofs.NodeLaws.{split_nodes, joined, told_of_same}

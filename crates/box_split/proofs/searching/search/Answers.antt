@@ -1,7 +1,7 @@
 use Rattle.std.proofs.Common.{◌≡◌, subst}
 use Rattle.std.proofs.lemmas.Result.{IfOk-weaker}
-use Rattle.line_model.specs.Choice.{Choice, IsInside}
-use Rattle.line_model.specs.Histories.{History, IsLineHistory, Meets}
+use Rattle.model_logic.specs.Choice.{Choice, IsInside}
+use Rattle.model_logic.specs.Histories.{History, IsLineHistory, Meets}
 use Rattle.timing_box.specs.Timing.{TimingValues}
 use Rattle.certify_core.specs.Verdicts.{IsRefutation}
 use Rattle.box_split.specs.declared.node.Outcome.{Outcome}

@@ -1,5 +1,5 @@
 use Rattle.std.proofs.Common.{ℕ, ◌<◌}
-use Rattle.line_model.specs.declared.script.Script.{Script}
+use Rattle.model_line.specs.declared.script.Script.{Script}
 use Rattle.cert_checker.specs.{Claims.AreGateWaves, Claims.pairs_of, Verdicts.IsKeyCovered}
 use Rattle.cert_checker.proofs.cover.first_uncovered.Given as goal
 

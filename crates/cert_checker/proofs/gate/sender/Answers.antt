@@ -1,6 +1,6 @@
 use Rattle.std.proofs.Common.{arith, ap}
 use Rattle.std.proofs.lemmas.List.{get_or-map}
-use Rattle.line_model.specs.declared.line.Channel.{Channel}
+use Rattle.model_line.specs.declared.line.Channel.{Channel}
 use Rattle.cert_checker.proofs.gate.sender.Goals as goal
 
 pub returns-clause-exists : goal.returns-clause-exists

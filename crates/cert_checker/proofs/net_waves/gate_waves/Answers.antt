@@ -1,6 +1,6 @@
 use Rattle.std.proofs.Common.{◌≡◌, ◌++◌, ◌∷◌, ℕ, List, [], length, ap, arith, subst, length-append}
 use Rattle.tick_signal.specs.declared.tern.Tern.{Tern}
-use Rattle.line_model.specs.PairMean.{PairWorld, PairSignals, pair_mean}
+use Rattle.model_logic.specs.PairMean.{PairWorld, PairSignals, pair_mean}
 use Rattle.gate_net.specs.Formulas.{formula_of}
 use Rattle.simulator.specs.GatePairs.{kind_pair}
 use Rattle.wave_runs.specs.Waves.{IsWaveOf}

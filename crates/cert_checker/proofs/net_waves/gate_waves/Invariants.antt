@@ -1,6 +1,6 @@
 use Rattle.std.proofs.Common.{◌≡◌, ◌<◌, ℕ, [], length}
 use Rattle.std.specs.Prelude.{get_or}
-use Rattle.line_model.specs.PairMean.{pair_mean}
+use Rattle.model_logic.specs.PairMean.{pair_mean}
 use Rattle.gate_net.specs.Formulas.{formula_of}
 use Rattle.wave_runs.specs.Waves.{IsWaveOf}
 use Rattle.cert_checker.specs.Claims.{pairs_of, declared_world}

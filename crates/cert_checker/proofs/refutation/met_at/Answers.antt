@@ -1,7 +1,8 @@
 use Rattle.std.proofs.Common.{◌≡◌, ℕ, Bool, List, [], Some, sym, ◌∙◌, arith, subst}
 use Rattle.std.proofs.lemmas.Option.{slice_get_read}
 use Rattle.std.specs.Prelude.{slice_get, MatchOption}
-use Rattle.line_model.specs.{Parameters.terminal_count, Histories.MeetsBy}
+use Rattle.model_line.specs.Parameters.{terminal_count}
+use Rattle.model_logic.specs.Histories.{MeetsBy}
 use Rattle.timing_box.specs.{Timing.TimingValues, Choice.timing_choice}
 use Rattle.simulator.specs.PlayedTracks.{played, shown_is}
 use Rattle.simulator.specs.{LaneBox.lane_box, Played.ends_of_tick, Runs.AreDelayed, Runs.IsPoint}

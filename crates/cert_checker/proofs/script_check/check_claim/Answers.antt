@@ -1,5 +1,5 @@
 use Rattle.std.proofs.Common.{ℕ, refl, sym, subst}
-use Rattle.line_model.specs.Rule.{IsHeld}
+use Rattle.model_logic.specs.Rule.{IsHeld}
 use Rattle.wave_runs.specs.Waves.{wave_at}
 use Rattle.certificate.specs.{declared.claim.Claim.Claim, Grammar.verdict_in}
 use Rattle.cert_checker.specs.declared.claim.ClaimFault.TheVariants.{NotHeld}

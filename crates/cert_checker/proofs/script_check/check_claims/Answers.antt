@@ -2,8 +2,9 @@ use Rattle.std.proofs.Common.{◌<◌, List, map, sym, subst, arith}
 use Rattle.std.proofs.lemmas.Option.{slice_get_within}
 use Rattle.std.specs.Prelude.{MatchResult}
 use Rattle.tick_signal.specs.declared.tern.Tern.{Tern}
-use Rattle.line_model.specs.Histories.{AreCovered, with_derived_trips}
-use Rattle.line_model.specs.{Parameters.terminal_count, PairMean.PairSignals, Choice.declared_box}
+use Rattle.model_logic.specs.Histories.{AreCovered, with_derived_trips}
+use Rattle.model_logic.specs.{PairMean.PairSignals, Choice.declared_box}
+use Rattle.model_line.specs.Parameters.{terminal_count}
 use Rattle.certificate.specs.declared.claim.Claim.{Claim}
 use Rattle.certificate.specs.Grammar.{Claims, yes, claims_in, verdict_in}
 use Rattle.cert_checker.specs.Claims.{AreGateWaves, pairs_of}

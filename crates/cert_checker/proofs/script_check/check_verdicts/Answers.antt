@@ -2,7 +2,8 @@ use Rattle.std.proofs.Common.{ℕ, ◌<◌, List, length, map, ◌∙◌, ap, ar
 use Rattle.std.proofs.lemmas.Option.{slice_get_within}
 use Rattle.std.proofs.lemmas.List.{length-map}
 use Rattle.std.proofs.lemmas.Result.{err_from_is_err_and}
-use Rattle.line_model.specs.{Parameters.terminal_count, Logic.trip_tree}
+use Rattle.model_line.specs.Parameters.{terminal_count}
+use Rattle.model_logic.specs.Logic.{trip_tree}
 use Rattle.gate_net.specs.Formulas.{formula_of}
 use Rattle.certificate.specs.declared.claim.Claim.{Claim}
 use Rattle.certificate.specs.Grammar.{HasNumbers, Verdict, verdict_in}

@@ -1,6 +1,6 @@
 use Rattle.std.proofs.Common.{◌≡◌, ◌<◌, ℕ, Some, map}
 use Rattle.std.specs.Prelude.{slice_get}
-use Rattle.line_model.specs.PairMean.{PairSignals}
+use Rattle.model_logic.specs.PairMean.{PairSignals}
 use Rattle.certificate.specs.Grammar.{Verdict, verdict_in}
 use Rattle.cert_checker.specs.{Claims.AreGateWaves, Verdicts.IsSupported, Verdicts.derived_trip}
 use Rattle.cert_checker.proofs.script_check.check_verdicts.Given as goal

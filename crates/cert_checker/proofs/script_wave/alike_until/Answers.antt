@@ -2,7 +2,7 @@ use Rattle.std.proofs.Common.{◌<◌, List, length, arith, subst}
 use Rattle.std.proofs.lemmas.List.{take_all}
 use Rattle.std.proofs.lemmas.List.Elements.{All-nil}
 use Rattle.std.specs.List.{All}
-use Rattle.line_model.specs.declared.script.SeenSpan.{SeenSpan}
+use Rattle.model_line.specs.declared.script.SeenSpan.{SeenSpan}
 use Rattle.cert_checker.specs.Stretches.{ShowsAlike}
 use Rattle.cert_checker.proofs.StretchLaws.{one_span_more}
 use Rattle.cert_checker.proofs.script_wave.alike_until.Goals as goal

@@ -3,7 +3,7 @@ use Rattle.std.proofs.Common.{subst}
 use Rattle.std.specs.List.{All}
 use Rattle.history.specs.Rails.{Rails, both}
 use Rattle.tick_signal.specs.declared.tern.Tern.{Tern}
-use Rattle.line_model.specs.declared.script.SeenSpan.{SeenSpan}
+use Rattle.model_line.specs.declared.script.SeenSpan.{SeenSpan}
 use Rattle.wave_runs.specs.Waves.{IsWaveOf}
 use Rattle.cert_checker.specs.Stretches.{ShowsAlike, holds}
 use Rattle.cert_checker.proofs.{StretchLaws.holds_alike, Waves.at_none}

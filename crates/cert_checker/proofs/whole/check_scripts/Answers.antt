@@ -1,5 +1,5 @@
 use Rattle.std.proofs.Common.{◌<◌, ◌≤◌, ℕ, List, length, map, sym, arith, subst}
-use Rattle.line_model.specs.{declared.script.Script.Script, Fits.Fits}
+use Rattle.model_line.specs.{declared.script.Script.Script, Fits.Fits}
 use Rattle.certificate.specs.declared.claim.ScriptClaims.{ScriptClaims}
 use Rattle.certificate.specs.{Grammar.claims_in, Text.CanBeWritten}
 use Rattle.cert_checker.specs.{Check.IsCheckFault, Verdicts.AreAccepted, Verdicts.AreSound}

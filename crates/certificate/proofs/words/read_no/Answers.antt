@@ -3,7 +3,7 @@ use Rattle.std.proofs.lemmas.List.{append_cancel_left}
 use Rattle.std.specs.Prelude.{codes}
 use Rattle.certificate.specs.Grammar.{AreNumbers, numbers_text}
 use Rattle.text_lines.specs.AnswerLaws.{map_read}
-use Rattle.line_model.specs.Parameters.{param_count}
+use Rattle.model_line.specs.Parameters.{param_count}
 use Rattle.certificate.proofs.words.read_no.Goals as goal
 
 pub returns : goal.returns

@@ -1,9 +1,10 @@
 use Rattle.std.proofs.Common.{◌≡◌, ℕ, ◌<◌, List, Some, map, refl, sym, ◌∙◌, ap, subst, arith}
 use Rattle.std.proofs.lemmas.Option.{slice_get_within}
 use Rattle.std.specs.Prelude.{slice_get}
-use Rattle.line_model.specs.Choice.{Choice, DelaysFromOne, IsInside, declared_box}
-use Rattle.line_model.specs.Histories.{PairHistory, IsPairHistory}
-use Rattle.line_model.specs.{Parameters.terminal_count, Rule.Broken, Rule.rule_of}
+use Rattle.model_logic.specs.Choice.{Choice, DelaysFromOne, IsInside, declared_box}
+use Rattle.model_logic.specs.Histories.{PairHistory, IsPairHistory}
+use Rattle.model_logic.specs.Rule.{Broken, rule_of}
+use Rattle.model_line.specs.Parameters.{terminal_count}
 use Rattle.timing_box.specs.Timing.{TimingValues}
 use Rattle.timing_box.specs.{Choice.timing_choice, Candidates.candidate, Candidates.candidate_count}
 use Rattle.interval_wave.specs.PairWavesOf.{pair_history}

@@ -2,8 +2,9 @@ use Rattle.std.proofs.Common.{◌≡◌, ◌<◌, ℕ, Some, Option, sym, subst}
 use Rattle.std.proofs.lemmas.Option.{slice_get_read}
 use Rattle.std.specs.Prelude.{slice_get}
 use Rattle.channel.specs.SentKeys.{SentKeys}
-use Rattle.line_model.specs.Histories.{History, Meets, MeetsBy, must_history}
-use Rattle.line_model.specs.{Parameters.terminal_count, Choice.Choice, Choice.DelaysFromOne}
+use Rattle.model_logic.specs.Histories.{History, Meets, MeetsBy, must_history}
+use Rattle.model_logic.specs.Choice.{Choice, DelaysFromOne}
+use Rattle.model_line.specs.Parameters.{terminal_count}
 use Rattle.tick_signal.specs.Bits.{bit_on, bit_rails}
 use Rattle.timing_box.specs.{Choice.timing_choice, Candidates.candidate}
 use Rattle.simulator.specs.Tracks.{pair_of, tracks_history}

@@ -1,6 +1,7 @@
 use Rattle.std.proofs.Common.{◌≡◌, ℕ, suc, ◌+◌, Bool, not, sym, ◌∙◌, ap, subst, arith}
 use Rattle.history.specs.{Elements.some_below, Rails.must_of}
-use Rattle.line_model.specs.{declared.script.Kind.Kind, Histories.MeetsBy}
+use Rattle.model_line.specs.declared.script.Kind.{Kind}
+use Rattle.model_logic.specs.Histories.{MeetsBy}
 use Rattle.tick_signal.specs.Bits.{bit_on}
 use Rattle.certify_core.specs.Candidates.{trips_in, TellsFailing}
 use Rattle.certify_core.proofs.FailingLaws.{internal_tells, external_tells}

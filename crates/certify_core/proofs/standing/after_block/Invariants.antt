@@ -1,5 +1,5 @@
 use Rattle.std.proofs.Common.{◌≡◌, ◌+◌, length}
-use Rattle.line_model.specs.Histories.{PairHistory}
+use Rattle.model_logic.specs.Histories.{PairHistory}
 use Rattle.certify_core.specs.{OneEach.OneEach, Standings.IsStanding, Standings.AllStand}
 use Rattle.certify_core.proofs.standing.after_block.Given as goal
 

@@ -1,5 +1,6 @@
 use Rattle.std.proofs.Common.{◌≡◌, ◌-◌, length}
-use Rattle.line_model.specs.{Parameters.terminal_count, Histories.PairHistory}
+use Rattle.model_line.specs.Parameters.{terminal_count}
+use Rattle.model_logic.specs.Histories.{PairHistory}
 use Rattle.certify_core.specs.Standings.{AllStand}
 use Rattle.certify_core.proofs.standing.after_candidates.Given as goal
 

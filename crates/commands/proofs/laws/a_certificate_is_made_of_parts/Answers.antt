@@ -1,6 +1,6 @@
 use Rattle.std.proofs.Common.{[], ◌∷◌}
 use Rattle.std.proofs.lemmas.List.Elements.{All-cons, All-nil}
-use Rattle.line_model.specs.Fits.{Fits}
+use Rattle.model_line.specs.Fits.{Fits}
 use Rattle.certificate.specs.Grammar.{end_text, head_text}
 use Rattle.certificate.specs.Text.{fed}
 use Rattle.commands.proofs.Parts.{in_pieces, only_one}

@@ -3,7 +3,7 @@ use Rattle.std.proofs.lemmas.List.{length-map}
 use Rattle.std.proofs.lemmas.List.Elements.{All-map}
 use Rattle.std.proofs.lemmas.Result.{err_from_is_err_and}
 use Rattle.std.specs.List.{All}
-use Rattle.line_model.specs.{declared.line.Line.Line, declared.script.Script.Script}
+use Rattle.model_line.specs.{declared.line.Line.Line, declared.script.Script.Script}
 use Rattle.timing_box.specs.{Inside.IsTimingInside, SoFar.NamedValues, SoFar.values_of}
 use Rattle.commands.specs.Play.{IsPlayText, IsTimingText, Pieces, play_answer, play_header}
 use Rattle.commands.specs.{Answers.WritesAnswer, SinkLaws.grew_both}

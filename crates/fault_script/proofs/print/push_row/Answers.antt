@@ -1,7 +1,7 @@
 use Rattle.std.proofs.Common.{◌≡◌, ◌∙◌, length, sym, ap, arith, true}
 use Rattle.std.proofs.lemmas.Bool.{ltb-true}
-use Rattle.line_model.specs.{Fits.exists_in, ParamNames.pair_name}
-use Rattle.line_model.specs.declared.script.What.TheVariants as what
+use Rattle.model_line.specs.{Fits.exists_in, ParamNames.pair_name}
+use Rattle.model_line.specs.declared.script.What.TheVariants as what
 use Rattle.fault_script.specs.Printed.{item_text, place_text}
 use Rattle.fault_script.proofs.Naming.{name_of-got, channel_name-got, ends_of-got}
 use Rattle.fault_script.proofs.print.push_row.Goals as goal

@@ -1,7 +1,7 @@
 use Rattle.std.proofs.Common.{[]}
 use Rattle.std.proofs.lemmas.List.{append-nil}
 use Rattle.std.proofs.lemmas.Option.{slice_get_within}
-use Rattle.line_model.specs.Fits.{Fits}
+use Rattle.model_line.specs.Fits.{Fits}
 use Rattle.certificate.specs.Grammar.{HasOneEach}
 use Rattle.headline.specs.Obligations.{HoldsAsAccepted}
 use Rattle.headline.specs.Printed.{HoldsOf}

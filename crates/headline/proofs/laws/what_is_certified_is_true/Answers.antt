@@ -1,4 +1,4 @@
-use Rattle.line_model.specs.Fits.{Fits}
+use Rattle.model_line.specs.Fits.{Fits}
 use Rattle.certificate.specs.Text.{certificate_text}
 use Rattle.cert_checker.specs.ZipLaws.{zip_each}
 use Rattle.own_certificate.specs.Certified.{IsCertified}

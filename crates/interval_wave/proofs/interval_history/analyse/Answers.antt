@@ -2,8 +2,9 @@ use Rattle.std.proofs.Common.{◌≡◌, ℕ, List, length, sym, ◌∙◌, ap, 
 use Rattle.std.specs.Prelude.{slice_get}
 use Rattle.tick_signal.specs.{declared.tern.Tern.Tern, Terns.tern_rails}
 use Rattle.channel.specs.SentKeys.{SentKeys}
-use Rattle.line_model.specs.Histories.{PairHistory, IsPairHistory}
-use Rattle.line_model.specs.{Parameters.terminal_count, Choice.Box, Choice.declared_box}
+use Rattle.model_logic.specs.Histories.{PairHistory, IsPairHistory}
+use Rattle.model_logic.specs.Choice.{Box, declared_box}
+use Rattle.model_line.specs.Parameters.{terminal_count}
 use Rattle.simulator.specs.{Ticks.AreSent, Tracks.tracks_history}
 use Rattle.interval_wave.specs.PairWavesOf.{PairWavesOf, AreWavesOf, track_pairs, pair_history}
 use Rattle.interval_wave.specs.Spans.{declared_spans}

@@ -1,6 +1,6 @@
 use Rattle.std.proofs.Common.{◌≡◌, ◌≤◌, ℕ, sym, ◌∙◌, ap, arith}
 use Rattle.history.specs.{Elements.some_below, Rails.Rails}
-use Rattle.line_model.specs.Rule.{rule_by}
+use Rattle.model_logic.specs.Rule.{rule_by}
 use Rattle.interval_wave.specs.PairWavesOf.{pair_at, pair_history}
 use Rattle.interval_wave.specs.Rules.{rule_named, counted_ticks, rule_by_rails}
 use Rattle.interval_wave.proofs.rule.judge.Goals as goal

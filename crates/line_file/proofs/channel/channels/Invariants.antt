@@ -1,6 +1,6 @@
 use Rattle.std.proofs.Common.{◌≡◌, drop, length, codes}
 use Rattle.toml.specs.View.{items_view}
-use Rattle.line_model.specs.Channels.{AreChannelsBelow}
+use Rattle.model_line.specs.Channels.{AreChannelsBelow}
 use Rattle.line_file.specs.{Lines.values_of, Lines.items_at}
 use Rattle.line_file.specs.ChannelTables.{channel_at, channels_at}
 use Rattle.line_file.proofs.channel.channels.Given as goal

@@ -1,7 +1,7 @@
 use Rattle.std.proofs.Common.{Bor, List, ℕ, ◌||◌, ◌∙◌, ap, refl, sym}
 use Rattle.std.specs.List.{list_any}
 use Rattle.std.specs.Str.{bytes_eq}
-use Rattle.line_model.specs.Settings.{time_key}
+use Rattle.model_line.specs.Settings.{time_key}
 use Rattle.line_file.proofs.Documents.{any_of_both}
 use Rattle.line_file.proofs.keys.is_among.Goals as goal
 

@@ -1,6 +1,6 @@
 use Rattle.std.proofs.Common.{◌≡◌, ◌++◌, map}
 use Rattle.toml.specs.View.{table_view, members_view}
-use Rattle.line_model.specs.Settings.{time_key}
+use Rattle.model_line.specs.Settings.{time_key}
 use Rattle.line_file.specs.Keys.{first_unknown}
 use Rattle.line_file.proofs.keys.unknown_key.Given as goal
 

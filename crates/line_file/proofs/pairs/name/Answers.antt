@@ -1,6 +1,6 @@
 use Rattle.std.proofs.Common.{List, ℕ, [], sym}
 use Rattle.std.proofs.lemmas.List.{get_or-map}
-use Rattle.line_model.specs.declared.line.Terminal.{Terminal}
+use Rattle.model_line.specs.declared.line.Terminal.{Terminal}
 use Rattle.line_file.proofs.pairs.name.Goals as goal
 
 pub returns : goal.returns

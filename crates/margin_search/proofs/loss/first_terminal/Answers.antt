@@ -1,5 +1,5 @@
 use Rattle.std.proofs.Common.{arith}
-use Rattle.line_model.specs.Choice.{declared_box}
+use Rattle.model_logic.specs.Choice.{declared_box}
 use Rattle.interval_wave.specs.PairWavesOf.{pair_history}
 use Rattle.margin_search.proofs.LossLaws.{one_terminal_more}
 use Rattle.margin_search.proofs.loss.first_terminal.Goals as goal

@@ -1,6 +1,7 @@
 use Rattle.std.proofs.Common.{ℕ, Option, subst}
 use Rattle.std.proofs.lemmas.Result.{IfOk-weaker}
-use Rattle.line_model.specs.{Choice.declared_box, WithBounds.IsWithBounds}
+use Rattle.model_logic.specs.Choice.{declared_box}
+use Rattle.model_line.specs.WithBounds.{IsWithBounds}
 use Rattle.margin_search.specs.{declared.upper_end.Lost.Lost, Raised.raised, Lost.IsLoss}
 use Rattle.margin_search.proofs.LossLaws.{loss_moved}
 use Rattle.margin_search.proofs.loss.lost_at.Goals as goal

@@ -1,5 +1,5 @@
 use Rattle.std.proofs.Common.{refl}
-use Rattle.line_model.specs.Choice.{declared_box}
+use Rattle.model_logic.specs.Choice.{declared_box}
 use Rattle.own_certificate.proofs.laws.answers_are_certified.Goals as goal
 
 pub returns : goal.returns

@@ -1,6 +1,6 @@
 use Rattle.std.proofs.Common.{sym}
 use Rattle.std.proofs.lemmas.Result.{err_from_is_err_and}
-use Rattle.line_model.specs.NumbersByName.{param_named}
+use Rattle.model_names.specs.NumbersByName.{param_named}
 use Rattle.commands.specs.{Margin.margin_answer, Sinks.sink_view}
 use Rattle.pilot_core.specs.CallAnswers.{done_with}
 use Rattle.pilot_core.proofs.Reading.{no_memory, parameter_stops, works_of_parameter}

@@ -1,6 +1,6 @@
 use Rattle.std.proofs.lemmas.Result.{err_from_is_err_and}
 use Rattle.engine.specs.Calls.{Calls}
-use Rattle.line_model.specs.declared.line.Line.{Line}
+use Rattle.model_line.specs.declared.line.Line.{Line}
 use Rattle.line_file.specs.LineFiles.{line_of}
 use Rattle.commands.specs.Sinks.{sink_view}
 use Rattle.pilot_core.specs.CallAnswers.{done_with}

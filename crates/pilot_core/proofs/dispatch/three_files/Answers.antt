@@ -1,6 +1,6 @@
 use Rattle.std.proofs.Common.{List}
 use Rattle.std.proofs.lemmas.Result.{err_from_is_err_and}
-use Rattle.line_model.specs.{declared.line.Line.Line, declared.script.Script.Script}
+use Rattle.model_line.specs.{declared.line.Line.Line, declared.script.Script.Script}
 use Rattle.record_match.specs.Waves.{records_said}
 use Rattle.commands.specs.{Check.check_answer, Recheck.recheck_answer, Sinks.sink_view}
 use Rattle.pilot_core.specs.{Call.answer_by, Call.asks_by, Reading.third_file}

@@ -1,8 +1,8 @@
 use Rattle.std.proofs.lemmas.Result.{err_from_is_err_and}
 use Rattle.std.proofs.Common.{List}
 use Rattle.std.specs.Prelude.{⊤}
-use Rattle.line_model.specs.{declared.line.Line.Line, declared.script.Script.Script}
-use Rattle.line_model.specs.NumbersByName.{param_named}
+use Rattle.model_line.specs.{declared.line.Line.Line, declared.script.Script.Script}
+use Rattle.model_names.specs.NumbersByName.{param_named}
 use Rattle.commands.specs.{Certify.certify_answer, Report.report_answer, Sinks.sink_view}
 use Rattle.commands.specs.Split.{split_answer}
 use Rattle.pilot_core.specs.Words as words

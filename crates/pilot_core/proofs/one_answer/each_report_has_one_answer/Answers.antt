@@ -1,5 +1,6 @@
 use Rattle.std.proofs.Common.{refl, sym, ◌∙◌}
-use Rattle.line_model.specs.{Choice.declared_box, declared.script.Script.Script}
+use Rattle.model_logic.specs.Choice.{declared_box}
+use Rattle.model_line.specs.declared.script.Script.{Script}
 use Rattle.timing_report.specs.ReportText.{report_text_of}
 use Rattle.commands.specs.declared.done.Done.TheVariants as done
 use Rattle.pilot_core.proofs.OneAnswer.{report_text_once}

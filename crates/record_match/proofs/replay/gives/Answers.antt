@@ -1,5 +1,5 @@
 use Rattle.std.proofs.Common.{◌∙◌, ℕ, List, sym, subst, arith}
-use Rattle.line_model.specs.{Choice.Choice, Histories.IsSameHistory}
+use Rattle.model_logic.specs.{Choice.Choice, Histories.IsSameHistory}
 use Rattle.timing_box.specs.{declared.step.Step.Step, Timing.TimingValues, Choice.timing_choice}
 use Rattle.simulator.specs.{LaneBox.lane_box, Ticks.AreSent}
 use Rattle.simulator.specs.{PlayedTracks.played, Played.ends_of_tick, Runs.AreDelayed, Runs.IsPoint}

@@ -1,5 +1,5 @@
 use Rattle.std.proofs.Common.{ℕ, suc, ◌≤◌, ◌<◌}
-use Rattle.line_model.specs.PairMean.{PairWorld, PairSignals}
+use Rattle.model_logic.specs.PairMean.{PairWorld, PairSignals}
 use Rattle.simulator.specs.{Inputs.AreDelaysOf, Quiet.ArrivalKeeps, Ticks.KeysSent}
 use Rattle.simulator.proofs.arrivals.arrivals_stay.Given as goal
 

@@ -1,6 +1,6 @@
 use Rattle.std.proofs.Common.{◌≡◌, ℕ, ◌<◌, length, Some}
 use Rattle.std.specs.Prelude.{slice_get}
-use Rattle.line_model.specs.{declared.formula.Time.Time, PairMean.PairWorld}
+use Rattle.model_logic.specs.{declared.time.Time.Time, PairMean.PairWorld}
 use Rattle.gate_net.specs.declared.gate.Gate.{Gate}
 use Rattle.simulator.specs.LaneBox.{time_ends}
 use Rattle.simulator.specs.{GatePairs.GateSignals, CellStands.HasCell, Ticks.AllStand}

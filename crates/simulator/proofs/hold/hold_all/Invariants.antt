@@ -1,5 +1,5 @@
 use Rattle.std.proofs.Common.{ℕ, suc, ◌<◌, ◌+◌, length}
-use Rattle.line_model.specs.PairMean.{PairWorld}
+use Rattle.model_logic.specs.PairMean.{PairWorld}
 use Rattle.simulator.specs.Ticks.{HaveCells, AllStand, CellsBetween, ValuesAgree}
 use Rattle.simulator.specs.{GatePairs.GateSignals, Quiet.Keeps}
 use Rattle.simulator.proofs.hold.hold_all.Given as goal

@@ -1,6 +1,7 @@
 use Rattle.std.proofs.Common.{◌≡◌, ℕ, ◌<◌, length, Some}
 use Rattle.std.specs.Prelude.{slice_get}
-use Rattle.line_model.specs.{Channels.from_of, Parameters.delay_param, Parameters.param_count}
+use Rattle.model_line.specs.Parameters.{delay_param, param_count}
+use Rattle.model_line.specs.Channels.{from_of}
 use Rattle.simulator.specs.declared.inputs.Delay.{Delay}
 use Rattle.simulator.proofs.inputs.fresh_delays.Given as goal
 

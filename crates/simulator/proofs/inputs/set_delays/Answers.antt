@@ -1,7 +1,7 @@
 use Rattle.std.proofs.Common.{◌≡◌, ℕ, ◌<◌, ◌≤◌, ◌+◌, Some, sym, subst, arith, ⊎_elim}
 use Rattle.std.proofs.lemmas.Option.{slice_get_read}
 use Rattle.std.specs.Prelude.{slice_get}
-use Rattle.line_model.specs.Parameters.{channel_count}
+use Rattle.model_line.specs.Parameters.{channel_count}
 use Rattle.simulator.specs.Inputs.{DelayHolds}
 use Rattle.simulator.proofs.{GivenLaws.span_set, Lists.at_set, Loops.first_all}
 use Rattle.simulator.proofs.inputs.set_delays.Goals as goal

@@ -1,4 +1,4 @@
-use Rattle.line_model.specs.Choice.{Choice, DelaysFromOne}
+use Rattle.model_logic.specs.Choice.{Choice, DelaysFromOne}
 use Rattle.timing_box.specs.Choice.{timing_choice}
 use Rattle.simulator.proofs.PlayLaws.{timing_point, timing_delayed}
 use Rattle.simulator.proofs.laws.a_timing_is_one_choice.Goals as goal

@@ -1,6 +1,7 @@
 use Rattle.std.proofs.Common.{ℕ, List, ◌++◌, length, sym, ◌∙◌, ap, arith, subst}
 use Rattle.std.specs.Prelude.{IsTrue}
-use Rattle.line_model.specs.{Choice.Choice, Histories.History, Histories.IsSameHistory}
+use Rattle.model_logic.specs.Histories.{History, IsSameHistory}
+use Rattle.model_logic.specs.Choice.{Choice}
 use Rattle.timing_box.specs.declared.step.Step.{Step}
 use Rattle.timing_box.specs.{Timing.TimingValues, Timing.ascend, Choice.timing_choice}
 use Rattle.simulator.specs.Played.{ends_of_tick}

@@ -2,7 +2,7 @@ use Rattle.std.proofs.Common.{◌<◌, ◌≤◌, ◌+◌, ◌++◌, ℕ, List, 
 use Rattle.std.specs.Prelude.{slice_get}
 use Rattle.tick_signal.specs.declared.level.Level.{Level}
 use Rattle.channel.specs.SentKeys.{SentKeys}
-use Rattle.line_model.specs.Parameters.{terminal_count}
+use Rattle.model_line.specs.Parameters.{terminal_count}
 use Rattle.simulator.specs.PlayRows.{tick_rows}
 use Rattle.simulator.specs.{RowLaws.texts_more, PlayedTracks.played}
 use Rattle.simulator.proofs.QuietRows.{no_rows, no_more_texts}

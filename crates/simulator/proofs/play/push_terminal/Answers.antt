@@ -1,7 +1,8 @@
 use Rattle.std.proofs.Common.{[], ◌≡◌, ℕ, List, Some, refl, sym, ◌∙◌, ap}
 use Rattle.std.proofs.lemmas.Option.{slice_get_read, slice_get-map, get_or_from_slice_get}
 use Rattle.std.specs.Prelude.{slice_get, option_map, codes}
-use Rattle.line_model.specs.{declared.line.Terminal.Terminal, NamesByNumber.terminal_name}
+use Rattle.model_line.specs.declared.line.Terminal.{Terminal}
+use Rattle.model_names.specs.NamesByNumber.{terminal_name}
 use Rattle.simulator.specs.{PlayRows.signal_row, RowLaws.two_texts_more, PlayedTracks.is_on}
 use Rattle.simulator.proofs.play.push_terminal.Goals as goal
 

@@ -1,7 +1,8 @@
 use Rattle.std.proofs.Common.{◌≡◌, ◌++◌, ℕ, Bool, Some, refl, sym, ◌∙◌, ap, arith}
 use Rattle.std.proofs.lemmas.Option.{slice_get_read}
 use Rattle.std.specs.Prelude.{slice_get, codes}
-use Rattle.line_model.specs.{Parameters.terminal_count, NamesByNumber.terminal_name}
+use Rattle.model_line.specs.Parameters.{terminal_count}
+use Rattle.model_names.specs.NamesByNumber.{terminal_name}
 use Rattle.simulator.specs.PlayedTracks.{is_on, is_shown, shown_is, played}
 use Rattle.simulator.specs.{PlayRows.signal_row, PlayRows.terminal_rows, RowLaws.texts_more}
 use Rattle.simulator.proofs.TrackRows.{all_ticks}

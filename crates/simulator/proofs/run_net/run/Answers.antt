@@ -1,5 +1,5 @@
 use Rattle.std.proofs.Common.{◌≡◌, ◌*◌, length, refl, sym, ◌∙◌, ap, subst}
-use Rattle.line_model.specs.Choice.{Box}
+use Rattle.model_logic.specs.Choice.{Box}
 use Rattle.simulator.specs.{LaneBox.lane_box, GatePairs.line_pairs, Ticks.ValuesTold}
 use Rattle.simulator.specs.{WavesOf.WavesOf, WavesOf.AreWaves, Runs.AreWavesOf}
 use Rattle.simulator.proofs.RunLaws.{made_waves, run_pairs, own_history, run_history, run_covers}

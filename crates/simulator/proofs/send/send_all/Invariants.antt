@@ -1,6 +1,6 @@
 use Rattle.std.proofs.Common.{◌≡◌, ℕ, ◌<◌, ◌≤◌, ◌+◌, length, Some}
 use Rattle.std.specs.Prelude.{slice_get}
-use Rattle.line_model.specs.PairMean.{PairSignals}
+use Rattle.model_logic.specs.PairMean.{PairSignals}
 use Rattle.simulator.specs.Ticks.{PartDone, HasKeys, HasSent, KeysSent}
 use Rattle.gate_net.specs.NetOf.{id_at}
 use Rattle.simulator.proofs.send.send_all.Given as goal

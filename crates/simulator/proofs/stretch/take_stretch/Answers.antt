@@ -1,8 +1,9 @@
 use Rattle.std.proofs.Common.{◌≡◌, ℕ, suc, ◌+◌, ◌-◌, ◌<◌, ◌≤◌, Some, length, sym, ◌∙◌, ap, arith}
 use Rattle.std.proofs.Common.{subst}
 use Rattle.std.specs.Prelude.{slice_get}
-use Rattle.line_model.specs.PairMean.{PairWorld, PairSignals}
-use Rattle.line_model.specs.{Parameters.terminal_count, Logic.key_tree, Solution.the_keys}
+use Rattle.model_logic.specs.PairMean.{PairWorld, PairSignals}
+use Rattle.model_logic.specs.{Logic.key_tree, Solution.the_keys}
+use Rattle.model_line.specs.Parameters.{terminal_count}
 use Rattle.gate_net.specs.NetOf.{id_at}
 use Rattle.simulator.specs.GatePairs.{GateSignals, line_pairs}
 use Rattle.simulator.specs.Inputs.{AreDelaysOf, CanReceive, IsWorldAt}

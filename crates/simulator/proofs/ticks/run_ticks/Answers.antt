@@ -1,8 +1,10 @@
 use Rattle.std.proofs.Common.{◌≡◌, ℕ, suc, ◌<◌, ◌≤◌, ◌+◌, ◌*◌, ◌++◌, refl, sym, ◌∙◌, ap, arith}
 use Rattle.std.proofs.Common.{length, length-append, subst}
 use Rattle.std.specs.Prelude.{vec_capacity}
-use Rattle.line_model.specs.{Parameters.terminal_count, PairMean.PairWorld, PairMean.PairSignals}
-use Rattle.line_model.specs.{Choice.Box, Choice.pair_world_of, Logic.key_tree, Solution.the_keys}
+use Rattle.model_line.specs.Parameters.{terminal_count}
+use Rattle.model_logic.specs.PairMean.{PairWorld, PairSignals}
+use Rattle.model_logic.specs.Choice.{Box, pair_world_of}
+use Rattle.model_logic.specs.{Logic.key_tree, Solution.the_keys}
 use Rattle.gate_net.specs.NetOf.{key_of, AreGatesOf}
 use Rattle.simulator.specs.{GatePairs.GateSignals, GatePairs.line_pairs, LaneBox.lane_box}
 use Rattle.simulator.specs.{LaneBox.lane_world, Ticks.IsReady, Ticks.AreTold, Ticks.AreSent}

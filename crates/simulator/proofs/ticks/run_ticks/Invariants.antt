@@ -1,6 +1,7 @@
 use Rattle.std.proofs.Common.{◌≡◌, ℕ, ◌<◌, ◌≤◌, ◌*◌, length}
 use Rattle.std.specs.Prelude.{vec_capacity}
-use Rattle.line_model.specs.{Parameters.terminal_count, Logic.key_tree, Solution.the_keys}
+use Rattle.model_line.specs.Parameters.{terminal_count}
+use Rattle.model_logic.specs.{Logic.key_tree, Solution.the_keys}
 use Rattle.simulator.specs.Inputs.{AreDelays, DelaysHold}
 use Rattle.simulator.specs.{Shown.AreShown, LaneBox.lane_box, LaneBox.lane_world}
 use Rattle.simulator.specs.{GatePairs.line_pairs, Ticks.HaveCells, Ticks.AreSent, Ticks.LaneStands}

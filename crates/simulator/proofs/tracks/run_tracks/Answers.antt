@@ -1,6 +1,6 @@
 use Rattle.std.proofs.Common.{ℕ, ◌<◌, length, refl, sym, ◌∙◌, ap, subst, arith}
-use Rattle.line_model.specs.PairMean.{PairWorld, PairSignals}
-use Rattle.line_model.specs.{Logic.key_tree, Solution.the_keys, Choice.pair_world_of}
+use Rattle.model_logic.specs.PairMean.{PairWorld, PairSignals}
+use Rattle.model_logic.specs.{Logic.key_tree, Solution.the_keys, Choice.pair_world_of}
 use Rattle.simulator.specs.Tracks.{tracks_history, trips_of, LineTracked}
 use Rattle.simulator.specs.{GatePairs.GateSignals, GatePairs.line_pairs, LaneBox.lane_box}
 use Rattle.simulator.specs.{LaneBox.lane_world, Ticks.AreSent, Inputs.DelaysHold, Shown.AreShown}

@@ -1,5 +1,5 @@
 use Rattle.std.proofs.Common.{◌-◌, ◌≤◌}
-use Rattle.line_model.specs.declared.script.Script.{Script}
+use Rattle.model_line.specs.declared.script.Script.{Script}
 use Rattle.simulator.specs.Tracks.{CanTake, IsKeptOf}
 use Rattle.simulator.proofs.tracks.take_all.Given as goal
 

@@ -1,6 +1,6 @@
 use Rattle.std.proofs.Common.{◌≡◌, ℕ, ◌<◌, ◌≤◌, length}
 use Rattle.std.specs.Prelude.{vec_capacity, slice_get, Some}
-use Rattle.line_model.specs.PairMean.{PairWorld, PairSignals}
+use Rattle.model_logic.specs.PairMean.{PairWorld, PairSignals}
 use Rattle.gate_net.specs.declared.gate.Gate.{Gate}
 use Rattle.simulator.specs.Ticks.{HaveCells, CellsWalked, ValuesAgree, IsReady}
 use Rattle.simulator.specs.{GatePairs.GateSignals, Inputs.IsWorldAt, Quiet.TimerKeeps}

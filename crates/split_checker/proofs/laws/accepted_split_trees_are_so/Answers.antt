@@ -1,6 +1,6 @@
 use Rattle.std.proofs.Common.{◌≡◌, List, Some, subst, arith}
 use Rattle.std.specs.Prelude.{slice_get}
-use Rattle.line_model.specs.Fits.{Fits}
+use Rattle.model_line.specs.Fits.{Fits}
 use Rattle.split_text.specs.Grammar.{HasOneEach, SplitResult}
 use Rattle.split_checker.proofs.ResultLaws.{supported_told}
 use Rattle.split_checker.proofs.Told.{all_at}

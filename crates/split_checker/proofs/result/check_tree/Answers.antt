@@ -1,7 +1,7 @@
 use Rattle.std.proofs.Common.{[], sym, ◌∙◌}
 use Rattle.std.proofs.lemmas.List.{append-nil}
 use Rattle.std.proofs.lemmas.Result.{err_from_is_err_and}
-use Rattle.line_model.specs.Choice.{declared_box}
+use Rattle.model_logic.specs.Choice.{declared_box}
 use Rattle.box_split.specs.Trees.{preorder}
 use Rattle.split_checker.proofs.{ResultLaws.tree_few, ResultLaws.whole_fault, WalkLaws.same_line}
 use Rattle.split_checker.proofs.result.check_tree.Goals as goal

@@ -1,6 +1,6 @@
 use Rattle.std.proofs.Common.{◌≡◌, ◌<◌, ◌+◌, ◌++◌, ℕ, List, length, drop, sym, subst, arith}
 use Rattle.std.proofs.lemmas.Result.{err_from_is_err_and, MatchResult-weaker}
-use Rattle.line_model.specs.Choice.{declared_box}
+use Rattle.model_logic.specs.Choice.{declared_box}
 use Rattle.box_split.specs.declared.node.Node.{Node}
 use Rattle.box_split.specs.declared.node.Node.TheVariants as node
 use Rattle.box_split.specs.Trees.{SplitTree, Split, preorder}

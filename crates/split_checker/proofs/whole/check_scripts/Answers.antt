@@ -1,7 +1,7 @@
 use Rattle.std.proofs.Common.{◌<◌, ◌≤◌, ℕ, List, length, map, sym, arith, subst}
 use Rattle.std.proofs.Common.{Vec}
 use Rattle.std.specs.declared.alloc.Global.{Global}
-use Rattle.line_model.specs.{declared.script.Script.Script, Fits.Fits}
+use Rattle.model_line.specs.{declared.script.Script.Script, Fits.Fits}
 use Rattle.split_text.specs.declared.claim.SplitClaim.{SplitClaim}
 use Rattle.split_text.specs.{Grammar.HasOneEach, Reading.result_in, Reading.results_in}
 use Rattle.split_checker.specs.Results.{AreSupported, AreTold, IsFirstFault}

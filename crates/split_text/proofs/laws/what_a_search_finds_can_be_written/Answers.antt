@@ -1,4 +1,4 @@
-use Rattle.line_model.specs.Choice.{declared_box}
+use Rattle.model_logic.specs.Choice.{declared_box}
 use Rattle.split_text.proofs.FoundLaws.{found_written}
 use Rattle.split_text.proofs.laws.what_a_search_finds_can_be_written.Goals as goal
 

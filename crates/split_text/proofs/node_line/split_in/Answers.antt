@@ -1,5 +1,6 @@
 use Rattle.std.proofs.Common.{◌≡◌, ◌≢◌, ◌∙◌, ℕ, List, true, false, below_more, arith, subst, sym}
-use Rattle.line_model.specs.{Choice.declared_box, ParamNamesApart.name_of_param}
+use Rattle.model_logic.specs.Choice.{declared_box}
+use Rattle.model_names.specs.ParamNamesApart.{name_of_param}
 use Rattle.box_split.specs.Leaves.{CanSplit}
 use Rattle.split_text.specs.Grammar.{split_line}
 use Rattle.split_text.proofs.NodeLaws.{one_mid}

@@ -1,6 +1,6 @@
 use Rattle.std.proofs.Common.{◌≡◌, ◌++◌, ◌<◌, ℕ, List, [], length, map, take, get_or, sym, ◌∙◌, ap}
 use Rattle.std.proofs.Common.{arith}
-use Rattle.line_model.specs.Parameters.{terminal_count}
+use Rattle.model_line.specs.Parameters.{terminal_count}
 use Rattle.certificate.specs.{Grammar.script_text, Grammar.terminal_names, Text.fed}
 use Rattle.box_split.specs.declared.node.Outcome.{Outcome}
 use Rattle.split_text.specs.{Grammar.tree_text, Text.result_text, Text.trees_text, Piece.written_as}

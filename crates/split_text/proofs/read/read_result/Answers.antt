@@ -1,6 +1,6 @@
 use Rattle.std.proofs.Common.{◌≡◌, List, [], ◌∷◌, ◌++◌, map, sym, ◌∙◌, ap}
 use Rattle.std.proofs.lemmas.Result.{err_from_is_err_and}
-use Rattle.line_model.specs.Choice.{Box, declared_box}
+use Rattle.model_logic.specs.Choice.{Box, declared_box}
 use Rattle.box_split.specs.{declared.node.Node.Node, Trees.preorder}
 use Rattle.text_lines.specs.LineLaws.{goes_one, refused}
 use Rattle.text_lines.specs.{Reading.said_as, ReadLaws.later_fault}

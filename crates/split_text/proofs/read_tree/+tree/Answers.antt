@@ -1,6 +1,6 @@
 use Rattle.std.proofs.Common.{◌-◌, ℕ, List, [], ◌∷◌, ◌++◌, map, arith}
 use Rattle.std.proofs.lemmas.Result.{err_from_is_err_and, MatchResult-weaker}
-use Rattle.line_model.specs.Choice.{Box, declared_box}
+use Rattle.model_logic.specs.Choice.{Box, declared_box}
 use Rattle.box_split.specs.{Trees.preorder, Leaves.lower_half, Leaves.upper_half}
 use Rattle.text_lines.specs.ReadLaws.{later_fault}
 use Rattle.split_text.specs.Grammar.{Place, node_over, says_node, below, grammar_of}

@@ -1,5 +1,6 @@
 use Rattle.std.proofs.Common.{◌<◌, ℕ, get_or}
-use Rattle.line_model.specs.{Choice.IsIn, Parameters.declared_ends}
+use Rattle.model_logic.specs.Choice.{IsIn}
+use Rattle.model_line.specs.Parameters.{declared_ends}
 use Rattle.timing_box.proofs.intervals.are_values_inside.Given as goal
 
 abbrev pub invariant-loop-i : goal.invariant-loop-i

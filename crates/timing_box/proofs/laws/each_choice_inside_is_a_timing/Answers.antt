@@ -1,4 +1,4 @@
-use Rattle.line_model.specs.Choice.{Choice, DelaysFromOne}
+use Rattle.model_logic.specs.Choice.{Choice, DelaysFromOne}
 use Rattle.timing_box.specs.Choice.{timing_choice, IsSameChoice}
 use Rattle.timing_box.proofs.ChoiceInside.{choice_inside}
 use Rattle.timing_box.proofs.ChoiceSteps.{timing_of, timing_ascends, timing_inside, timing_same}

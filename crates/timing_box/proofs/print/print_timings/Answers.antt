@@ -2,7 +2,7 @@ use Rattle.std.proofs.Common.{◌≡◌, ◌<◌, ℕ, List, length, map, get_or
 use Rattle.std.proofs.lemmas.List.{get_or-map, length-map}
 use Rattle.std.proofs.lemmas.List.Elements.{All-get_or}
 use Rattle.std.specs.List.{All}
-use Rattle.line_model.specs.declared.line.Line.{Line}
+use Rattle.model_line.specs.declared.line.Line.{Line}
 use Rattle.timing_box.specs.declared.timing.NamedTiming.{NamedTiming}
 use Rattle.timing_box.specs.{SoFar.values_of, Printed.MayStand}
 use Rattle.timing_box.proofs.print.print_timings.Goals as goal

@@ -1,6 +1,6 @@
 use Rattle.std.proofs.Common.{◌<◌, length, List, get_or, ap, arith}
 use Rattle.std.proofs.lemmas.List.{get_or-map, length-map}
-use Rattle.line_model.specs.{declared.line.Param.Param, Intervals.leasts}
+use Rattle.model_line.specs.{declared.line.Param.Param, Intervals.leasts}
 use Rattle.timing_box.proofs.reading.least_values.Goals as goal
 
 pub new-requires : goal.new-requires

@@ -1,6 +1,6 @@
 use Rattle.std.proofs.Common.{[], ◌∷◌, map, ◌∙◌, ap, ℕ}
 use Rattle.std.proofs.lemmas.List.{map-append}
-use Rattle.line_model.specs.Rule.{rule_of, rule_by}
+use Rattle.model_logic.specs.Rule.{rule_of, rule_by}
 use Rattle.interval_wave.specs.{PairWavesOf.pair_history, Rules.rule_named}
 use Rattle.timing_diagram.proofs.Lists.{tick_more}
 use Rattle.timing_diagram.proofs.diagram.rules.Goals as goal

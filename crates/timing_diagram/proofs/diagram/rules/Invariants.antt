@@ -1,6 +1,6 @@
 use Rattle.std.proofs.Common.{◌≡◌, map}
 use Rattle.history.specs.Recorded.{first_ticks}
-use Rattle.line_model.specs.Rule.{rule_of}
+use Rattle.model_logic.specs.Rule.{rule_of}
 use Rattle.interval_wave.specs.{PairWavesOf.pair_history, Rules.rule_named}
 use Rattle.timing_diagram.proofs.diagram.rules.Given as goal
 

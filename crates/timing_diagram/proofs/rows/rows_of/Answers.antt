@@ -4,7 +4,7 @@ use Rattle.std.proofs.lemmas.List.Elements.{All-push}
 use Rattle.std.specs.List.{All}
 use Rattle.timing_diagram.specs.declared.trace.Trace.TheVariants.{Seen}
 use Rattle.timing_diagram.specs.{declared.trace.Trace.Trace, Diagrams.IsRow, Diagrams.trace_of}
-use Rattle.line_model.specs.declared.script.Element.TheVariants.{Z1}
+use Rattle.model_line.specs.declared.script.Element.TheVariants.{Z1}
 use Rattle.timing_diagram.proofs.rows.rows_of.Goals as goal
 
 pub loop-trace-preserved : goal.loop-trace-preserved

@@ -1,6 +1,6 @@
 use Rattle.std.proofs.Common.{◌≡◌, ℕ, subst, sym, ◌∙◌, ap, arith}
 use Rattle.std.specs.List.{All}
-use Rattle.line_model.specs.Parameters.{terminal_count}
+use Rattle.model_line.specs.Parameters.{terminal_count}
 use Rattle.timing_diagram.specs.Traces.{IsTraceOf, each_of, traces_at}
 use Rattle.timing_diagram.proofs.TraceLaws.{traces_are_of_line}
 use Rattle.timing_diagram.proofs.trace.traces.Goals as goal

@@ -1,8 +1,9 @@
 use Rattle.std.proofs.Common.{◌++◌, ℕ, List, take, map, sym, ◌∙◌, ap}
 use Rattle.std.proofs.lemmas.List.{take_all}
 use Rattle.std.specs.List.{concat}
-use Rattle.line_model.specs.declared.script.Script.{Script}
-use Rattle.line_model.specs.{Choice.declared_box, Histories.PairHistory, Histories.IsPairHistory}
+use Rattle.model_line.specs.declared.script.Script.{Script}
+use Rattle.model_logic.specs.Histories.{PairHistory, IsPairHistory}
+use Rattle.model_logic.specs.Choice.{declared_box}
 use Rattle.simulator.specs.RowLaws.{one_piece_more}
 use Rattle.timing_report.specs.ReportText.{report_header, script_rows, report_text_of, AreHistories}
 use Rattle.timing_report.proofs.Texts.{grown}

@@ -1,5 +1,6 @@
 use Rattle.std.proofs.Common.{◌≡◌, take}
-use Rattle.line_model.specs.{declared.script.Script.Script, Histories.PairHistory}
+use Rattle.model_line.specs.declared.script.Script.{Script}
+use Rattle.model_logic.specs.Histories.{PairHistory}
 use Rattle.timing_report.specs.ReportText.{AreHistories, report_text_of}
 use Rattle.timing_report.proofs.report.report_text.Given as goal
 

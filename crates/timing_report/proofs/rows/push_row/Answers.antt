@@ -1,7 +1,7 @@
 use Rattle.std.proofs.Common.{◌++◌, ℕ, List, refl, ◌∙◌, ap}
 use Rattle.std.specs.Prelude.{codes}
 use Rattle.history.specs.Rails.{Rails}
-use Rattle.line_model.specs.Rule.{rule_by}
+use Rattle.model_logic.specs.Rule.{rule_by}
 use Rattle.interval_wave.specs.{PairWavesOf.pair_at, Rules.rule_named}
 use Rattle.wave_runs.specs.FirstTick.{first_on}
 use Rattle.timing_report.specs.ReportText.{rule_word}

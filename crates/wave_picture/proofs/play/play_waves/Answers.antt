@@ -1,6 +1,7 @@
 use Rattle.std.proofs.Common.{◌≡◌, ℕ, List, length, sym, ◌∙◌, ap, arith, subst}
 use Rattle.std.specs.Prelude.{IsTrue}
-use Rattle.line_model.specs.{declared.line.Line.Line, Choice.Choice}
+use Rattle.model_line.specs.declared.line.Line.{Line}
+use Rattle.model_logic.specs.Choice.{Choice}
 use Rattle.timing_box.specs.declared.step.Step.{Step}
 use Rattle.timing_box.specs.{Timing.TimingValues, Timing.ascend, Choice.timing_choice}
 use Rattle.simulator.specs.LaneBox.{lane_box}

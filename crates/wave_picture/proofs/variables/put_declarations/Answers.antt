@@ -1,6 +1,6 @@
 use Rattle.std.proofs.Common.{◌≡◌, ◌++◌, ℕ, List, refl, subst}
 use Rattle.std.specs.Prelude.{OnOk, None, codes}
-use Rattle.line_model.specs.Parameters.{terminal_count}
+use Rattle.model_line.specs.Parameters.{terminal_count}
 use Rattle.simulator.specs.PlayRows.{each_below}
 use Rattle.wave_picture.specs.Variables.{variables_in, scope_text, terminal_scope, declarations}
 use Rattle.wave_picture.proofs.TextLaws.{piece_more}

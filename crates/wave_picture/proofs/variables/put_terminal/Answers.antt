@@ -1,6 +1,6 @@
 use Rattle.std.proofs.Common.{◌≡◌, ◌++◌, ℕ, List, refl, ◌∙◌, ap, subst, append_assoc}
 use Rattle.std.specs.Prelude.{OnOk, Some, codes}
-use Rattle.line_model.specs.ParamNames.{name_at}
+use Rattle.model_line.specs.ParamNames.{name_at}
 use Rattle.gate_net.specs.NetOf.{key_of, trip_of}
 use Rattle.wave_picture.specs.Variables.{variable_text, variables_in, scope_text, terminal_scope}
 use Rattle.wave_picture.proofs.TextLaws.{piece_more}

@@ -1,5 +1,5 @@
 use Rattle.std.proofs.Common.{◌∙◌}
-use Rattle.line_model.specs.Choice.{Choice}
+use Rattle.model_logic.specs.Choice.{Choice}
 use Rattle.timing_box.specs.Choice.{timing_choice}
 use Rattle.simulator.specs.Played.{is_on}
 use Rattle.wave_picture.specs.GateValues.{gate_levels}

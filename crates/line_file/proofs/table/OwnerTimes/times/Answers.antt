@@ -2,7 +2,7 @@ use Rattle.std.proofs.Common.{sym, ◌∙◌}
 use Rattle.std.proofs.lemmas.List.{drop_all}
 use Rattle.toml.specs.View.{table_view}
 use Rattle.toml.proofs.Views.{view-Table}
-use Rattle.line_model.specs.declared.line.Setting.TheVariants.{Z1Pickup}
+use Rattle.model_line.specs.declared.line.Setting.TheVariants.{Z1Pickup}
 use Rattle.line_file.specs.Canonical.{times_data}
 use Rattle.line_file.proofs.Puts.{settings_more}
 use Rattle.line_file.proofs.table.OwnerTimes.times.Goals as goal

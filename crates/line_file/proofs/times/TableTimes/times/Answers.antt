@@ -2,7 +2,7 @@ use Rattle.std.proofs.Common.{sym, ◌∙◌}
 use Rattle.std.proofs.lemmas.Result.{err_from_is_err_and}
 use Rattle.std.proofs.lemmas.List.{drop_all}
 use Rattle.toml.specs.View.{table_view}
-use Rattle.line_model.specs.declared.line.Setting.TheVariants.{Z1Pickup}
+use Rattle.model_line.specs.declared.line.Setting.TheVariants.{Z1Pickup}
 use Rattle.line_file.specs.Times.{times_at}
 use Rattle.line_file.proofs.{Readings.fails_is, TimesSteps.times_more}
 use Rattle.line_file.proofs.times.TableTimes.times.Goals as goal

@@ -3,7 +3,7 @@ use Rattle.std.proofs.lemmas.List.{length-map}
 use Rattle.std.proofs.lemmas.List.Folds.{flat_map-map}
 use Rattle.std.proofs.lemmas.Result.{MatchResult-weaker}
 use Rattle.std.specs.List.{flat_map}
-use Rattle.line_model.specs.declared.line.Terminal.{Terminal}
+use Rattle.model_line.specs.declared.line.Terminal.{Terminal}
 use Rattle.text_lines.specs.{ReadLaws.taken_then, Grammar.Reads, Grammar.IsFault}
 use Rattle.certificate.specs.Grammar.{script_text, terminal_names}
 use Rattle.split_text.specs.Grammar.{Place, Said, HasOneEach, grammar_of, tree_places, tree_said}

@@ -1,5 +1,5 @@
 use Rattle.std.proofs.Common.{[], ◌∷◌}
-use Rattle.line_model.specs.Choice.{declared_box}
+use Rattle.model_logic.specs.Choice.{declared_box}
 use Rattle.text_lines.specs.ReadLaws.{taken_then}
 use Rattle.split_text.specs.Grammar.{grammar_of, result_over, result_said, IsSplitResult, tree_text}
 use Rattle.split_text.specs.Reading.{result_in}
