@@ -23,7 +23,7 @@ use Rattle.commands.specs.{Margin.margin_answer, declared.done.Done.Done}
 use Rattle.commands.specs.declared.done.Done.TheVariants as done
 
 -- each number passes, or there is a first that does not
-first_of : (P F : ℕ → Type 0) (n : ℕ) → ((i : ℕ) → i < n → P i ⊎ F i)
+pub first_of : (P F : ℕ → Type 0) (n : ℕ) → ((i : ℕ) → i < n → P i ⊎ F i)
     → ((i : ℕ) → i < n → P i)
     ⊎ ((i : ℕ) × (i < n) × F i × ((j : ℕ) → j < i → P j))
 first_of P F zero told = inl (λ i lt. absurd (omega (arith, lt)))
@@ -38,12 +38,12 @@ first_of P F (suc n) told = elim (first_of P F n (λ i lt. told i (omega (arith,
   ]
 ]
 
-rule_told : (rule : Rule) → (rule ≡ Held) ⊎ (¬ (rule ≡ Held))
+pub rule_told : (rule : Rule) → (rule ≡ Held) ⊎ (¬ (rule ≡ Held))
 rule_told Held = inl refl
 rule_told Broken = inr (λ e. cc)
 rule_told Unknown = inr (λ e. cc)
 
-at_place : {X : Type 0} (xs : List X) (i : ℕ) → i < length xs
+pub at_place : {X : Type 0} (xs : List X) (i : ℕ) → i < length xs
     → (x : X) × (slice_get xs i ≡ Some x)
 at_place [] i lt = absurd (omega (arith, lt))
 at_place (x ∷ xs) zero lt = (x, refl)

@@ -1,11 +1,10 @@
 -- What is put on out, and a certificate that is accepted, is true of every choice of delays.
-use Rattle.std.proofs.Common.{◌≡◌, ◌⊎◌, ℕ, Bool, true, false, cond, List, [], ◌∷◌, ◌++◌, Option, None}
-use Rattle.std.proofs.Common.{Some, Result, Ok, Err, drop, take, length, map, refl, sym, ◌∙◌, ap, subst}
+use Rattle.std.proofs.Common.{◌≡◌, ℕ, Bool, true, false, List, [], ◌∷◌, ◌++◌, Option, None}
+use Rattle.std.proofs.Common.{Some, Result, Ok, Err, length, map, refl, sym, ◌∙◌, ap, subst}
 use Rattle.std.proofs.Common.{zero, suc}
 use Rattle.std.proofs.lemmas.List.{length-map}
 use Rattle.std.proofs.lemmas.List.Elements.{All-head, All-tail}
 use Rattle.std.specs.Prelude.{MatchOption, slice_get}
-use Rattle.model_logic.specs.Choice.{declared_box}
 use Rattle.model_names.specs.NumbersByName.{param_named}
 use Rattle.model_line.specs.{Parameters.terminal_count, declared.line.Line.Line}
 use Rattle.model_line.specs.{declared.script.Script.Script, Fits.Fits}
@@ -28,19 +27,15 @@ use Rattle.pilot_core.proofs.Told.{IsAnswerFront, all_three, all_two, bytes_told
 use Rattle.pilot_core.proofs.Told.{front_of, front_of_nothing, no_line, study_said, three_told}
 use Rattle.pilot_core.proofs.Told.{two_limits, what_was_put}
 use Rattle.pilot_core.proofs.{Matched.match_says, Matched.match_true, Played.play_true}
-use Rattle.pilot_core.specs.Words.{TwoFiles, margin, own_file, report, split}
+use Rattle.pilot_core.specs.Words.{TwoFiles, margin, report, split}
 use Rattle.pilot_core.specs.declared.words.ThreeFiles.{ThreeFiles}
-use Rattle.std.proofs.Common.{inl, inr, ⊎_elim}
-use Rattle.std.proofs.lemmas.List.{append-nil, append_cancel_left, take-append-drop}
+use Rattle.std.proofs.Common.{⊎_elim}
 use Rattle.std.proofs.lemmas.Option.{same_Some}
-use Rattle.std.specs.Prelude.{IsSome, nat_lt, unwrap_or}
-use Rattle.std.specs.Io.KnownBytes.{Appends, Keeps}
+use Rattle.std.specs.Prelude.{nat_lt, unwrap_or}
 use Rattle.std.specs.List.{All, list_any}
-use Rattle.line_file.specs.{LineFiles.line_of, Lines.LineValues, Lines.line_values}
-use Rattle.line_file.specs.declared.fault.LineFault.{LineFault}
+use Rattle.line_file.specs.{LineFiles.line_of, Lines.line_values}
 use Rattle.fault_script.specs.Scripts.{scripts_of}
-use Rattle.fault_script.specs.Values.{ScriptValues, values_of}
-use Rattle.fault_script.specs.declared.fault.ScriptFault.{ScriptFault}
+use Rattle.fault_script.specs.Values.{values_of}
 use Rattle.certificate.specs.{Grammar.Claims, Grammar.Verdict}
 use Rattle.certificate.specs.Grammar.{script_text, verdict_text}
 use Rattle.cert_checker.specs.{declared.counts.Counts.Counts, Check.IsAccepted}
@@ -49,21 +44,19 @@ use Rattle.own_certificate.specs.Certified.{AreCertified}
 use Rattle.commands.specs.Certify.{certify_answer}
 use Rattle.commands.specs.{Answers.status_by, Check.check_answer, Sinks.SinkView, declared.done.Done.Done}
 use Rattle.commands.specs.declared.done.Done.TheVariants as done
-use Rattle.commands.specs.SinkLaws.{keeps_same}
 use Rattle.headline.specs.Obligations.{HoldsAsAccepted, HoldsAsCertified}
 use Rattle.headline.specs.{Printed.HasVerdict, Printed.HoldsOf, WholeLines.whole_lines}
-use Rattle.pilot_core.specs.{Call.answers, CallAnswers.CallAnswers, CallAnswers.done_with}
+use Rattle.pilot_core.specs.{Call.answers, CallAnswers.done_with}
 use Rattle.pilot_core.specs.{CallAnswers.refuses, Commands.answer, Ends.EndsOf, Files.AllTold}
-use Rattle.pilot_core.specs.{Files.in_front, Files.limit_of, Headline.Headline, Truths.IsToldBy}
+use Rattle.pilot_core.specs.{Files.limit_of, Headline.Headline, Truths.IsToldBy}
 use Rattle.pilot_core.specs.CallOver.{HasPut, IsFrontOfText, IsOverThree, IsOverTwo}
-use Rattle.pilot_core.specs.{Reading.of_line, Reading.of_scripts, SaidByFiles.HoldsInFiles}
+use Rattle.pilot_core.specs.{SaidByFiles.HoldsInFiles}
 use Rattle.pilot_core.specs.SaidByFiles.{InFiles}
 use Rattle.pilot_core.specs.{Reading.of_study, Reading.over_files, Status.status_of}
 use Rattle.pilot_core.specs.{Status.status_of_done, declared.refusal.Refusal.Refusal}
 use Rattle.pilot_core.specs.declared.refusal.Refusal.TheVariants as refusal
 use Rattle.pilot_core.specs.Words.{Command, certify, files_of, three_files, two_files}
 use Rattle.pilot_core.specs.Status.{IsDone}
-use Rattle.pilot_core.specs.declared.stop.File.{File}
 use Rattle.pilot_core.specs.declared.stop.File.TheVariants as file
 use Rattle.pilot_core.specs.declared.stop.Status.{Status}
 use Rattle.pilot_core.specs.declared.stop.Status.TheVariants as status

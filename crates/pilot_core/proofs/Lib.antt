@@ -24,3 +24,5 @@ pub mod SamePlays
 mod EachMargin
 mod OneMatch
 mod OneBench
+mod EachText
+mod EachCheck

@@ -1,5 +1,5 @@
 -- What `match` has put is true of every choice of delays.
-use Rattle.std.proofs.Common.{◌≡◌, ℕ, Bool, true, false, List, [], ◌∷◌, ◌++◌, Option, Some, Result, Ok, Err, map, refl}
+use Rattle.std.proofs.Common.{◌≡◌, ℕ, Bool, true, false, List, [], ◌++◌, Option, Some, Result, Ok, Err, refl}
 use Rattle.std.proofs.Common.{sym, ◌∙◌, ap, subst, ⊎_elim}
 use Rattle.std.specs.Prelude.{slice_get}
 use Rattle.std.specs.List.{All}
@@ -7,11 +7,10 @@ use Rattle.model_line.specs.{declared.line.Line.Line, declared.script.Script.Scr
 use Rattle.record_match.specs.{Answer.IsMatchAnswer, Recorded.IsRecordOf}
 use Rattle.record_match.specs.Waves.{SeenValues, records_said}
 use Rattle.record_match.specs.declared.fault.SeenFault.{SeenFault}
-use Rattle.fault_script.specs.Values.{values_of}
 use Rattle.commands.specs.{Answers.status_by, Sinks.SinkView}
 use Rattle.headline.specs.Matched.{HasMatch, Matched, matched_words}
 use Rattle.headline.specs.WholeLines.{whole_lines}
-use Rattle.pilot_core.specs.{Call.answers, CallAnswers.done_with, Commands.answer, Ends.EndsOf}
+use Rattle.pilot_core.specs.{Call.answers, Ends.EndsOf}
 use Rattle.pilot_core.specs.CallOver.{HasPut, IsOverThree}
 use Rattle.pilot_core.specs.HeadlineLaws.{HeadlineLaws}
 use Rattle.pilot_core.specs.MatchTruths.{InRecords, IsMatchToldBy, IsMatchTrue, OfRecords}

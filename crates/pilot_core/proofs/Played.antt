@@ -1,14 +1,14 @@
 -- What `play` has put is the rows of the histories of its timings.
-use Rattle.std.proofs.Common.{◌≡◌, ℕ, List, [], ◌∷◌, ◌++◌, Option, Some, Result, Ok, Err}
+use Rattle.std.proofs.Common.{◌≡◌, ℕ, List, [], ◌∷◌, Option, Some, Result, Ok, Err}
 use Rattle.std.proofs.Common.{get_or, refl, ◌∙◌, subst}
 use Rattle.std.proofs.lemmas.List.Elements.{All-head, All-tail}
 use Rattle.std.specs.List.{All, flat_map}
-use Rattle.model_line.specs.{declared.line.Line.Line, declared.script.Script.Script, Fits.Fits}
+use Rattle.model_line.specs.{declared.line.Line.Line, declared.script.Script.Script}
 use Rattle.model_logic.specs.Histories.{History}
 use Rattle.timing_box.specs.{Inside.IsTimingInside, SoFar.NamedValues, Timings.timings_of}
 use Rattle.timing_box.specs.declared.fault.TimingFault.{TimingFault}
 use Rattle.simulator.specs.PlayRows.{run_rows}
-use Rattle.commands.specs.Play.{IsPlayText, IsRunText, IsTimingText, Pieces, play_header}
+use Rattle.commands.specs.Play.{IsPlayText, IsRunText, IsTimingText, Pieces}
 use Rattle.commands.specs.Sinks.{SinkView}
 use Rattle.pilot_core.specs.{Call.answers, Ends.EndsOf}
 use Rattle.pilot_core.specs.CallOver.{HasPut, IsFrontOfText, IsOverThree}

@@ -1,18 +1,13 @@
 -- What is so of one line and scripts that two files say is so of all that they say.
-use Rattle.std.proofs.Common.{◌≡◌, ◌<◌, ℕ, zero, suc, List, [], ◌∷◌, ◌++◌, Some, Ok, Result, map}
-use Rattle.std.proofs.Common.{length, refl, sym, ◌∙◌, ap, subst}
-use Rattle.std.proofs.Math.Path.{fun_ext}
+use Rattle.std.proofs.Common.{◌≡◌, ◌<◌, ℕ, List, ◌++◌, Ok, Result, map}
+use Rattle.std.proofs.Common.{length, sym, ◌∙◌, ap, subst}
 use Rattle.std.proofs.lemmas.List.{length-map}
-use Rattle.std.proofs.lemmas.Option.{same_Some}
-use Rattle.std.specs.Prelude.{codes, slice_get}
+use Rattle.std.specs.Prelude.{codes}
 use Rattle.std.specs.{List.position_from, Str.bytes_eq}
 use Rattle.model_line.specs.{declared.line.Line.Line, declared.line.Param.Param}
 use Rattle.model_line.specs.{declared.script.Script.Script, Parameters.terminal_count}
 use Rattle.model_line.specs.{SetBounds.SameButParams, Laws.CountsRestOnNoInterval}
-use Rattle.model_logic.specs.Choice.{Choice, IsWithin}
-use Rattle.model_logic.specs.Histories.{History, IsLineHistory, Meets}
-use Rattle.model_logic.specs.IntervalLaws.{HistoriesRestOnNoInterval}
-use Rattle.model_names.specs.{NamesByNumber.terminal_name, NumbersByName.param_named}
+use Rattle.model_logic.specs.{Choice.IsWithin, IntervalLaws.HistoriesRestOnNoInterval}
 use Rattle.line_file.specs.{LineFiles.line_of, Lines.line_values}
 use Rattle.fault_script.specs.{Scripts.scripts_of, Values.AreOfOneFile, Values.ScriptValues}
 use Rattle.fault_script.specs.Values.{values_of}
@@ -23,7 +18,7 @@ use Rattle.margin_search.specs.Raised.{raised}
 use Rattle.headline.specs.Obligations.{AllMet, HoldsAsAccepted, HoldsAsCertified, HoldsSomewhere}
 use Rattle.headline.specs.Obligations.{IsFailedBySome, IsUnknown}
 use Rattle.headline.specs.Printed.{HoldsOf}
-use Rattle.pilot_core.specs.{SaidByFiles.AreSaid, SaidByFiles.InFiles, Truths.IsToldBy}
+use Rattle.pilot_core.specs.{SaidByFiles.InFiles, Truths.IsToldBy}
 use Rattle.pilot_core.specs.Truths.{MarginIsTrue, ReportIsTrue, RowIsTrue, SplitIsTrue}
 use Rattle.pilot_core.specs.declared.stop.Status.{Status}
 use Rattle.pilot_core.specs.declared.stop.Status.TheVariants as status

@@ -1,21 +1,20 @@
 -- Up to which number every rule is held, and what is lost above, rests on the values of a line and of
 -- scripts alone.
-use Rattle.std.proofs.Common.{◌≡◌, ◌<◌, ◌≤◌, ◌+◌, ℕ, List, Option, None, Some, map, refl, sym, ◌∙◌, ap}
+use Rattle.std.proofs.Common.{◌≡◌, ◌<◌, ◌≤◌, ◌+◌, ℕ, List, Option, None, Some, map, sym, ◌∙◌}
 use Rattle.std.proofs.Common.{subst}
-use Rattle.history.specs.Rails.{Ends, Rails}
+use Rattle.history.specs.Rails.{Ends}
 use Rattle.model_line.specs.Parameters.{declared_ends, terminal_count}
+use Rattle.model_line.specs.Laws.{CountsRestOnNoInterval}
 use Rattle.model_line.specs.{declared.line.Line.Line, declared.script.Script.Script}
-use Rattle.model_line.specs.{SetBounds.SameButParams, Laws.CountsRestOnNoInterval}
 use Rattle.model_logic.specs.{Choice.Box, HeldOver.IsHeldOver}
 use Rattle.model_logic.specs.IntervalLaws.{HistoriesRestOnNoInterval}
 use Rattle.line_file.specs.Lines.{line_values}
 use Rattle.fault_script.specs.Values.{values_of}
 use Rattle.margin_search.specs.declared.upper_end.Lost.{Lost}
 use Rattle.margin_search.specs.declared.upper_end.UpperEnd.{UpperEnd}
-use Rattle.margin_search.specs.Lost.{AllHeld, AreHeld, IsFirstLost, IsScriptHeld}
-use Rattle.margin_search.specs.Margin.{HasNoMargin, IsHeldTo, IsLostAbove, IsLostAt, IsLostAtLeast}
-use Rattle.margin_search.specs.{Margin.IsMargin, Margin.IsUpperEnd, Raised.raised}
-use Rattle.std.specs.Prelude.{MatchOption, slice_get}
+use Rattle.margin_search.specs.Lost.{AreHeld, IsFirstLost, IsScriptHeld}
+use Rattle.margin_search.specs.Margin.{IsHeldTo, IsLostAbove, IsLostAt, IsLostAtLeast}
+use Rattle.margin_search.specs.{Margin.IsUpperEnd, Raised.raised}
 use Rattle.pilot_core.proofs.SameFacts.{ends_same, pair_history_over, raised_same, rule_same}
 use Rattle.pilot_core.proofs.SameValues.{same_but_params}
 use Rattle.pilot_core.proofs.Twins.{twin}

@@ -1,6 +1,5 @@
 -- What is said of a record of the field rests on the values of a line and of scripts alone.
-use Rattle.std.proofs.Common.{◌≡◌, ◌<◌, ℕ, List, Some, Ok, map, get_or, refl, sym, ◌∙◌, ap, subst}
-use Rattle.std.specs.Prelude.{slice_get}
+use Rattle.std.proofs.Common.{◌≡◌, ◌<◌, ℕ, List, map, sym, ◌∙◌, ap, subst}
 use Rattle.history.specs.Rails.{Covers, Rails}
 use Rattle.model_line.specs.Seen.{is_lost, is_seen}
 use Rattle.model_line.specs.{declared.line.Line.Line, declared.script.Script.Script}
@@ -15,12 +14,11 @@ use Rattle.model_logic.specs.PairMean.{PairSignals, PairWorld, pair_mean}
 use Rattle.model_logic.specs.Tree.{Tree}
 use Rattle.line_file.specs.Lines.{line_values}
 use Rattle.fault_script.specs.Values.{ScriptValues, values_of}
-use Rattle.timing_box.specs.Candidates.{candidate, candidate_count}
+use Rattle.timing_box.specs.Candidates.{candidate}
 use Rattle.timing_box.specs.Timing.{TimingValues}
-use Rattle.cert_checker.specs.{Claims.declared_world, Claims.pairs_of, Verdicts.derived_key}
-use Rattle.cert_checker.specs.Verdicts.{derived_trip}
+use Rattle.cert_checker.specs.{Claims.declared_world, Claims.pairs_of}
 use Rattle.record_match.specs.{Recorded.recorded, Waves.SeenValues}
-use Rattle.headline.specs.Matched.{AllGiven, HoldsOfRecord, HoldsOfRecordAt, HoldsOfSomeRecord}
+use Rattle.headline.specs.Matched.{HoldsOfRecord, HoldsOfRecordAt}
 use Rattle.headline.specs.Matched.{IsGivenBy, IsGivenByNone, IsGivenBySome, IsOpenRecord, Matched}
 use Rattle.headline.specs.Matched.{explained, impossible, unsettled}
 use Rattle.pilot_core.specs.MatchTruths.{IsMatchToldBy, OfRecords}
@@ -30,7 +28,7 @@ use Rattle.pilot_core.proofs.SameFacts.{box_same, candidate_same, count_same, pa
 use Rattle.pilot_core.proofs.SameRecords.{records_same}
 use Rattle.pilot_core.proofs.SameValues.{history_back, history_on, inside_back, inside_on}
 use Rattle.pilot_core.proofs.SameValues.{same_but_params, same_steady}
-use Rattle.pilot_core.proofs.Twins.{Twin, twin}
+use Rattle.pilot_core.proofs.Twins.{twin}
 
 -- ---- histories that are the same
 

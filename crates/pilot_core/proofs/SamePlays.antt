@@ -4,7 +4,7 @@ use Rattle.std.proofs.Common.{◌≡◌, ◌<◌, ◌++◌, ℕ, Bool, List, [],
 use Rattle.std.proofs.Common.{length, map, get_or, refl, sym, ◌∙◌, ap, subst}
 use Rattle.std.proofs.Math.Path.{fun_ext}
 use Rattle.std.specs.Prelude.{◌&&◌, ◌+◌, IsTrue, codes, not, nat_le, nat_lt, if◌then◌else◌}
-use Rattle.std.specs.List.{All, after_first, before_first, position_from}
+use Rattle.std.specs.List.{after_first, before_first, position_from}
 use Rattle.std.specs.{Option.ok_or, Str.bytes_eq}
 use Rattle.std.proofs.lemmas.Map.Entries.{option_filter}
 use Rattle.csv_records.specs.Gives.{◌>>=◌, passes_or}
@@ -28,7 +28,7 @@ use Rattle.timing_box.specs.declared.fault.TimingFault.TheVariants as fault
 use Rattle.timing_box.specs.declared.named.Named.{Named}
 use Rattle.timing_box.specs.declared.named.Named.TheVariants as named
 use Rattle.timing_box.specs.declared.step.Step.{Step}
-use Rattle.timing_box.specs.Checks.{Opening, after_latest, check_timing, is_at, is_earlier, is_given}
+use Rattle.timing_box.specs.Checks.{Opening, check_timing, is_at, is_earlier, is_given}
 use Rattle.timing_box.specs.Checks.{named_in, number_or_step, number_within, step_at, step_named}
 use Rattle.timing_box.specs.Checks.{value_for}
 use Rattle.timing_box.specs.{Choice.timing_choice, Inside.IsStepInside, Inside.IsTimingInside}

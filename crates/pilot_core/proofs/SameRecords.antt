@@ -1,5 +1,5 @@
 -- What the bytes of a record file say rests on the values of the line and of the scripts alone.
-use Rattle.std.proofs.Common.{◌≡◌, ◌+◌, ℕ, Bool, cond, List, [], ◌∷◌, Option, Some, None, Result, Ok}
+use Rattle.std.proofs.Common.{◌≡◌, ◌+◌, ℕ, cond, List, [], ◌∷◌, Option, Some, Result, Ok}
 use Rattle.std.proofs.Common.{true, false, length, map, refl, sym, ◌∙◌, ap}
 use Rattle.std.proofs.Math.Path.{fun_ext}
 use Rattle.std.specs.Prelude.{◌==◌, nat_lt, if◌then◌else◌}
@@ -12,13 +12,12 @@ use Rattle.csv_records.specs.{RecordFile.RecordFile, RecordFile.said_in, Records
 use Rattle.relay_base.specs.Number.{number_of}
 use Rattle.model_line.specs.{declared.line.Line.Line, declared.script.Script.Script}
 use Rattle.model_line.specs.{declared.line.Terminal.Terminal, SetBounds.SameButParams}
-use Rattle.model_names.specs.NumbersByName.{script_named, terminal_named}
+use Rattle.model_names.specs.NumbersByName.{script_named}
 use Rattle.fault_script.specs.Values.{values_of}
-use Rattle.record_match.specs.declared.change.Place.{Place}
 use Rattle.record_match.specs.declared.fault.SeenFault.{SeenFault}
 use Rattle.record_match.specs.declared.fault.SeenFault.TheVariants as fault
 use Rattle.record_match.specs.Checks.{change_of, comes_later, is_head, level_before, level_of}
-use Rattle.record_match.specs.Checks.{name_for, other_level, place_at, place_of, signal_of}
+use Rattle.record_match.specs.Checks.{name_for, other_level, place_of, signal_of}
 use Rattle.record_match.specs.{Heads.HeadValues, Heads.with_change, Heads.with_head}
 use Rattle.record_match.specs.{Records.after_name, Records.after_record, Records.after_row}
 use Rattle.record_match.specs.{Records.heads_in, Records.heads_of, Records.seen_file}

@@ -1,5 +1,5 @@
 -- What the bytes of a scripts file say rests on the values of the line alone.
-use Rattle.std.proofs.Common.{◌≡◌, ℕ, Bool, List, Option, Some, None, Result, Ok, refl, ◌∙◌, ap}
+use Rattle.std.proofs.Common.{◌≡◌, ℕ, List, Option, Result, Ok, refl, ◌∙◌, ap}
 use Rattle.std.proofs.Math.Path.{fun_ext}
 use Rattle.std.specs.Prelude.{length, nat_lt, option_map}
 use Rattle.std.specs.{List.position_from, Option.ok_or, Str.bytes_eq}

@@ -7,7 +7,7 @@ use Rattle.model_line.specs.{declared.line.Line.Line, declared.script.Script.Scr
 use Rattle.model_line.specs.{declared.line.Param.Param, declared.line.Terminal.Terminal}
 use Rattle.model_line.specs.{declared.script.Kind.Kind, ParamNames.name_at}
 use Rattle.model_line.specs.{Parameters.declared_ends, SetBounds.SameButParams}
-use Rattle.model_names.specs.NamesByNumber.{parameter_name, script_name, terminal_name}
+use Rattle.model_names.specs.NamesByNumber.{parameter_name, terminal_name}
 use Rattle.model_names.specs.ParamNamesApart.{name_of_param}
 use Rattle.fault_script.specs.Values.{ScriptValues, values_of}
 use Rattle.certificate.specs.Grammar.{end_text, script_text, terminal_names}

@@ -2,7 +2,7 @@
 use Rattle.pilot_core.specs.declared.refusal.Refusal.TheVariants as refusal
 use Rattle.pilot_core.specs.declared.stop.File.TheVariants as file
 use Rattle.pilot_core.specs.declared.stop.Stop.TheVariants as stop
-use Rattle.std.proofs.Common.{◌≡◌, ◌≢◌, ◌⊎◌, ℕ, Bool, true, false, cond, List, [], ◌∷◌, ◌++◌, Option, None, Some, Result, Ok, Err, drop, take, length, map, refl, sym, ◌∙◌, ap, subst, inl, inr, ⊎_elim}
+use Rattle.std.proofs.Common.{◌≡◌, ◌⊎◌, ℕ, Bool, true, false, cond, List, [], ◌∷◌, ◌++◌, Option, None, Some, Result, Ok, Err, drop, take, length, map, refl, sym, ◌∙◌, ap, subst, inl, inr, ⊎_elim}
 use Rattle.pilot_core.specs.{Reading.third_file, Call.answers, CallAnswers.CallAnswers, CallAnswers.done_with, CallAnswers.refuses, Commands.answer, Ends.EndsOf, Files.AllTold, Files.in_front, Files.limit_of, Reading.of_line, Reading.of_scripts, Reading.of_study, Reading.over_files, declared.refusal.Refusal.Refusal}
 use Rattle.pilot_core.specs.Words.{own_file, Command, TwoFiles, files_of, three_files, two_files}
 use Rattle.pilot_core.specs.declared.words.ThreeFiles.{ThreeFiles}

@@ -1,5 +1,5 @@
 -- What a call answers once its command wrote its text.
-use Rattle.std.proofs.Common.{◌≡◌, List, ℕ, [], IfOk, Result, Ok, Err, refl, inr}
+use Rattle.std.proofs.Common.{◌≡◌, [], IfOk, Result, Ok, Err, refl, inr}
 use Rattle.commands.specs.Answers.{Answers, Says, WritesAnswer}
 use Rattle.commands.specs.{Sinks.SinkView, Sinks.Writes, declared.done.Done.Done}
 use Rattle.commands.specs.declared.done.Done.TheVariants as done

@@ -61,10 +61,10 @@ pub record ReportIsTrue (line : Line) (scripts : List Script) (text : List ℕ) 
   pub rows : (i k : ℕ) (script : Script) → slice_get scripts i ≡ Some script
       → k < terminal_count line → RowIsTrue line script k (row i k)
 
--- the text is the line of this margin: its number is the greatest up to which every rule is held, and
--- the obligation that it names is the first that is lost one above, or at the declared least where
--- there is no such number; and every choice with that number as the parameter's upper end meets every
--- obligation
+-- the text is the line of this margin: its number is the greatest, up to 4000, to which every rule is
+-- held, and the obligation that it names is the first that is lost one above, or at the declared least
+-- where there is no such number; and every choice with that number as the parameter's upper end meets
+-- every obligation
 pub record MarginIsTrue (line : Line) (scripts : List Script) (name text : List ℕ) : Type 0 where
   pub param : ℕ
   pub param_is : param_named line name ≡ Some param

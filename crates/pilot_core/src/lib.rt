@@ -27,7 +27,7 @@ pub use messages::put_message;
 pub use one_answer::{
     each_bench_has_one_answer, each_check_has_one_answer, each_margin_has_one_answer,
     each_match_has_one_answer, each_recheck_has_one_answer, each_report_has_one_answer,
-    each_split_has_one_answer,
+    each_split_has_one_answer, each_text_is_a_certificate_or_leaves_the_grammar,
 };
 pub use refusal::Refusal;
 pub use stop::{File, Status, Stop};

@@ -1,8 +1,9 @@
 //! That a command has one answer.
-ghost use Rattle.std.specs.Prelude.{◌≡◌, ◌≤◌, ◌<◌, ℕ, List};
+ghost use Rattle.std.specs.Prelude.{◌≡◌, ◌⊎◌, ◌≤◌, ◌<◌, ℕ, List};
 ghost use Rattle.std.specs.List.{All};
 ghost use Rattle.model_line.specs.{declared.line.Line.Line, declared.script.Script.Script};
 ghost use Rattle.model_line.specs.{Fits.Fits, Parameters.param_count};
+ghost use Rattle.certificate.specs.Grammar.{Claims, IsCertificate, LeavesGrammar};
 ghost use Rattle.commands.specs.Bench.{bench_answer};
 ghost use Rattle.commands.specs.{Check.check_answer, Margin.margin_answer, Recheck.recheck_answer};
 ghost use Rattle.commands.specs.{Match.match_answer, Report.report_answer, Split.split_answer};
@@ -10,7 +11,7 @@ ghost use Rattle.commands.specs.declared.done.Done.{Done};
 ghost use Rattle.record_match.specs.Waves.{SeenValues};
 
 use cert_checker::{a_certificate_has_one_first_fault, a_fault_refuses_the_certificate};
-use certificate::a_text_has_one_meaning;
+use certificate::{a_text_has_one_meaning, certificates_can_be_written};
 use margin_search::a_parameter_has_one_margin;
 use model_line::laws::{
     counts_do_not_rest_on_the_intervals, deadlines_are_below_the_horizon,
@@ -24,13 +25,20 @@ use own_splits::{each_search_has_an_outcome, each_search_has_one_outcome};
 use record_match::a_record_is_settled_once;
 use split_checker::{a_fault_refuses_the_split_text, a_split_text_has_one_first_fault};
 use split_text::a_split_text_has_one_meaning;
+use timing_box::timings_inside_are_choices_inside;
 
-/// Of a certificate `check` answers at most one thing.
+/// Of a certificate `check` answers at most one thing, and of scripts that fit exactly one.
 pub fn each_check_has_one_answer()
-    ensures { (line : Line) (scripts : List Script) (cert : List ℕ) (s t : Done)
+    ensures exists { (line : Line) (scripts : List Script) (cert : List ℕ) →
+        All (Fits line) scripts →
+        (s : Done) × (text : List ℕ) × check_answer line scripts cert s text }
+    ensures only { (line : Line) (scripts : List Script) (cert : List ℕ) (s t : Done)
         (a b : List ℕ) → check_answer line scripts cert s a →
         check_answer line scripts cert t b → (s ≡ t) × (a ≡ b) }
 {
+    line_laws();
+    timings_inside_are_choices_inside();
+    certificates_can_be_written();
     a_text_has_one_meaning();
     a_fault_refuses_the_certificate();
     a_certificate_has_one_first_fault();
@@ -107,3 +115,10 @@ pub fn each_bench_has_one_answer()
     counts_do_not_rest_on_the_intervals();
     histories_do_not_rest_on_the_intervals();
 }
+
+/// Each text is a certificate of the scripts, or a line of it is the first that leaves the grammar.
+pub fn each_text_is_a_certificate_or_leaves_the_grammar()
+    ensures { (line : Line) (scripts : List Script) (bytes : List ℕ) →
+        ((claims : List Claims) × IsCertificate line scripts claims bytes)
+        ⊎ ((n : ℕ) × LeavesGrammar line scripts bytes n) }
+{}

@@ -11,7 +11,7 @@ use Rattle.pilot_core.specs.{CallAnswers.CallAnswers, CommandView.two_files_view
 use Rattle.pilot_core.specs.{Call.answer_by, Commands.asks, Reading.no_other_file}
 use Rattle.pilot_core.proofs.Reading.{asks_of_parameter, no_memory, study_read, study_stops}
 use Rattle.pilot_core.proofs.Reading.{works_of_study}
-use Rattle.pilot_core.proofs.Results.{if_ok, on_done, on_ok}
+use Rattle.pilot_core.proofs.Results.{if_ok, on_done}
 use Rattle.pilot_core.proofs.Written.{works_of_said, works_of_written}
 use Rattle.pilot_core.proofs.dispatch.two_files.Goals as goal
 

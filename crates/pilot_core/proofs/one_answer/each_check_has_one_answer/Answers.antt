@@ -3,15 +3,21 @@ use Rattle.cert_checker.specs.Check.{IsAccepted, IsCheckFault}
 use Rattle.cert_checker.specs.{Counts.all_verdicts, Verdicts.AreAccepted}
 use Rattle.cert_checker.specs.declared.fault.CheckFault.TheVariants as fault
 use Rattle.commands.specs.Check.{rejected_pieces}
+use Rattle.pilot_core.proofs.EachCheck.{each_check}
 use Rattle.pilot_core.proofs.OneAnswer.{checked_once, good_once}
 use Rattle.pilot_core.proofs.one_answer.each_check_has_one_answer.Goals as goal
 
 pub returns : goal.returns
-returns c = λ line scripts cert.
-    checked_once (IsAccepted line scripts cert) (IsCheckFault line scripts cert) fault.Memory
-    (rejected_pieces line scripts)
-    (good_once (λ claims. IsCertificate line scripts claims cert) (AreAccepted line) all_verdicts
-    scripts (λ p q. c.a_text_has_one_meaning.ensures line scripts p q cert))
-    (λ counts why known first.
-    c.a_fault_refuses_the_certificate.ensures line scripts cert counts why known first)
-    (λ f g. c.a_certificate_has_one_first_fault.ensures line scripts cert f g)
+returns c = record {
+  exists = λ line scripts cert fit.
+      each_check c.line_laws.ensures c.timings_inside_are_choices_inside.ensures
+      c.certificates_can_be_written.ensures line scripts fit cert;
+  only = λ line scripts cert.
+      checked_once (IsAccepted line scripts cert) (IsCheckFault line scripts cert) fault.Memory
+      (rejected_pieces line scripts)
+      (good_once (λ claims. IsCertificate line scripts claims cert) (AreAccepted line) all_verdicts
+      scripts (λ p q. c.a_text_has_one_meaning.ensures line scripts p q cert))
+      (λ counts why known first.
+      c.a_fault_refuses_the_certificate.ensures line scripts cert counts why known first)
+      (λ f g. c.a_certificate_has_one_first_fault.ensures line scripts cert f g);
+}
