@@ -5,8 +5,8 @@ use Rattle.std.specs.Prelude.{◌==◌, IsTrue, unwrap_or}
 use Rattle.model_line.specs.Parameters.{param_count, channel_count, delay_param, is_delay}
 use Rattle.model_line.specs.Parameters.{declared_ends}
 use Rattle.model_line.specs.{declared.line.Line.Line, NumberLaws.delay_number}
-use Rattle.history.specs.BelowLaws.{some_below-some}
-use Rattle.history.specs.BelowLaws.{some_below-where}
+use Rattle.model_history.specs.BelowLaws.{some_below-some}
+use Rattle.model_history.specs.BelowLaws.{some_below-where}
 
 -- the number of a channel's delay is that of a parameter
 pub delay_within : (line : Line) (c : ℕ) → c < channel_count line

@@ -1,6 +1,6 @@
 -- A line's parameters by number: where a setting stands, what is declared for it.
 use Rattle.std.specs.Prelude.{◌<◌, ◌==◌, ℕ, Bool, Option, length, map, get_or, unwrap_or}
-use Rattle.history.specs.{Elements.some_below, Rails.Ends}
+use Rattle.model_history.specs.{Elements.some_below, Rails.Ends}
 use Rattle.model_line.specs.Settings.{line_settings, setting_number}
 use Rattle.model_line.specs.{declared.line.Line.Line, declared.line.Owner.Owner}
 use Rattle.model_line.specs.{declared.line.Setting.Setting, declared.line.Setting.TheVariants.Delay}

@@ -3,7 +3,7 @@ use Rattle.std.proofs.Common.{◌≡◌, ℕ, List, sym, ◌∙◌, ap, subst, l
 use Rattle.std.proofs.Math.Path.{fun_ext}
 use Rattle.std.specs.Prelude.{◌&&◌, ◌==◌, Bool, IsTrue, nat_le, nat_lt, unwrap_or}
 use Rattle.std.specs.List.{list_all}
-use Rattle.history.specs.Elements.{some_below}
+use Rattle.model_history.specs.Elements.{some_below}
 use Rattle.model_line.specs.Parameters.{terminal_count, channel_count, param_count, delay_param}
 use Rattle.model_line.specs.Parameters.{is_delay}
 use Rattle.model_line.specs.Settings.{line_settings, setting_number}

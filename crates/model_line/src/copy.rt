@@ -5,7 +5,7 @@ ghost use Rattle.model_line.specs.Parameters.{param_count, is_delay};
 ghost use Rattle.model_line.specs.{WithBounds.IsWithBounds, SameLine.SameLine};
 
 use crate::line::Line;
-use memory::Memory;
+use base_memory::Memory;
 use std::alloc::Global;
 
 impl Line {

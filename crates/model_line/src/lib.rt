@@ -25,10 +25,10 @@ mod setting_places;
 mod settings;
 mod terminals;
 
+pub use base_memory::Memory;
 pub use bounds::Bounds;
 pub use line::{Channel, Line, Owner, Param, Scheme, Setting, Terminal};
 pub use make::makes_line;
-pub use memory::Memory;
 pub use name::{Name, is_plain};
 pub use param_names::channel_name;
 pub use script::{Element, Kind, Place, Script, SeenSpan, What, loss, lost_in, seen, shown_in};

@@ -9,7 +9,7 @@ use crate::line::{Channel, Line, Scheme, Terminal};
 use crate::param_names::param_names;
 use crate::params::params_of;
 use crate::terminals::are_terminals;
-use memory::Memory;
+use base_memory::Memory;
 use std::alloc::Global;
 
 impl Line {

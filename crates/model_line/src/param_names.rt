@@ -11,7 +11,7 @@ ghost use Rattle.model_line.specs.{Settings.line_settings, Terminals.are_plain_n
 use crate::line::{Channel, Scheme, Setting, Terminal};
 use crate::name::Name;
 use crate::settings::{groups_of_channel, groups_of_terminal};
-use memory::Memory;
+use base_memory::Memory;
 use std::alloc::Global;
 
 /// The name of each parameter.

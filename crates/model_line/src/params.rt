@@ -6,7 +6,7 @@ ghost use Rattle.model_line.specs.Making.{AreParams};
 use crate::bounds::Bounds;
 use crate::line::Param;
 use crate::name::Name;
-use memory::Memory;
+use base_memory::Memory;
 use std::alloc::Global;
 
 /// The parameters of these names, each with the interval at its place.

@@ -1,7 +1,7 @@
 -- A wider box covers a narrower one and each choice in it, and so do claims that are covered.
 use Rattle.std.proofs.Common.{ℕ, ◌<◌, refl, sym, subst, arith}
-use Rattle.history.specs.Laws.{HistoryLaws}
-use Rattle.history.specs.Rails.{Rails, Ends, Covers, RailsCover, IsPartOf}
+use Rattle.model_history.specs.Laws.{HistoryLaws}
+use Rattle.model_history.specs.Rails.{Rails, Ends, Covers, RailsCover, IsPartOf}
 use Rattle.model_logic.specs.declared.time.Time.TheVariants.{Zero, Param}
 use Rattle.model_logic.specs.PairMean.{PairWorld, PairSignals, pair_mean}
 use Rattle.model_logic.specs.Choice.{Choice, Box, IsIn, IsWithin, IsBoxWithin, LeastFromOne}

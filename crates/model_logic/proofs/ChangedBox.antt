@@ -4,7 +4,7 @@ use Rattle.std.proofs.Common.{eq-eqb, cond}
 use Rattle.std.proofs.lemmas.Bool.{cases_eq, ne_eqb}
 use Rattle.std.proofs.lemmas.List.{length-map, get_or-set_same, get_or-set_other}
 use Rattle.std.specs.Prelude.{Bool, IsTrue}
-use Rattle.history.specs.Rails.{Ends}
+use Rattle.model_history.specs.Rails.{Ends}
 use Rattle.model_line.specs.Parameters.{param_count, channel_count, delay_param, is_delay}
 use Rattle.model_line.specs.Parameters.{declared_ends}
 use Rattle.model_line.specs.Intervals.{leasts, greatests}

@@ -2,7 +2,7 @@
 use Rattle.std.proofs.Common.{◌<◌, ℕ, refl, sym, subst, inl, inr}
 use Rattle.std.proofs.lemmas.Bool.{cases_eq}
 use Rattle.std.specs.Prelude.{IsTrue}
-use Rattle.history.specs.Rails.{Ends}
+use Rattle.model_history.specs.Rails.{Ends}
 use Rattle.model_line.specs.Parameters.{param_count, is_delay}
 use Rattle.model_line.specs.SameCountLaws.{channels_same, params_same}
 use Rattle.model_line.specs.WithBounds.{IsWithBounds}

@@ -2,8 +2,8 @@
 use Rattle.std.proofs.Common.{◌≡◌, ◌∙◌, ℕ, zero, suc, ◌<◌, ◌≤◌, Bool, refl, sym, subst, arith}
 use Rattle.std.proofs.Common.{⊎_elim}
 use Rattle.std.proofs.lemmas.Bool.{cases_lt}
-use Rattle.history.specs.Laws.{HistoryLaws}
-use Rattle.history.specs.Rails.{Rails, both, rails_delayed, RailsCover}
+use Rattle.model_history.specs.Laws.{HistoryLaws}
+use Rattle.model_history.specs.Rails.{Rails, both, rails_delayed, RailsCover}
 use Rattle.model_line.specs.declared.line.Line.{Line}
 use Rattle.model_logic.specs.Tree.{Tree, Const, Seen, Loss, Raw, Not, And, Or, Timer, Seal}
 use Rattle.model_logic.specs.PairMean.{PairWorld, PairSignals, pair_mean}

@@ -1,6 +1,6 @@
 -- Over keys that cover a history the pair of each tree covers the tree's value.
 use Rattle.std.proofs.Common.{◌<◌, ℕ, subst}
-use Rattle.history.specs.{Laws.HistoryLaws, Rails.Rails, Rails.Covers, Rails.RailsCover}
+use Rattle.model_history.specs.{Laws.HistoryLaws, Rails.Rails, Rails.Covers, Rails.RailsCover}
 use Rattle.model_logic.specs.Choice.{Choice, Box, IsWithin, LeastFromOne, point_box, world_of}
 use Rattle.model_logic.specs.Choice.{pair_world_of}
 use Rattle.model_logic.specs.Mean.{Signals, mean}

@@ -1,6 +1,6 @@
 -- Rules that are held over a box.
 use Rattle.std.proofs.Common.{◌≡◌, ◌<◌, ℕ, ◌∙◌, ap, arith}
-use Rattle.history.specs.Laws.{HistoryLaws}
+use Rattle.model_history.specs.Laws.{HistoryLaws}
 use Rattle.model_line.specs.{declared.line.Line.Line, declared.script.Script.Script}
 use Rattle.model_line.specs.{Parameters.terminal_count, SetBounds.SameButParams}
 use Rattle.model_logic.specs.Choice.{Choice, Box, IsWithin, IsBoxWithin, LeastFromOne, declared_box}

@@ -1,6 +1,6 @@
 -- One history for each choice, one interval history for each box, and covering between them.
 use Rattle.std.proofs.Common.{◌≡◌, ℕ, ◌<◌, Bool, refl, sym, ◌∙◌, ap, arith}
-use Rattle.history.specs.{Laws.HistoryLaws, Rails.both, Rails.must_of}
+use Rattle.model_history.specs.{Laws.HistoryLaws, Rails.both, Rails.must_of}
 use Rattle.model_line.specs.{declared.line.Line.Line, declared.script.Script.Script}
 use Rattle.model_line.specs.Parameters.{terminal_count}
 use Rattle.model_logic.specs.Mean.{World, Signals, mean}

@@ -1,7 +1,7 @@
 -- A rule that is held over pairs is held over all that they cover.
 use Rattle.std.proofs.Common.{◌≡◌, ◌<◌, ◌≤◌, ℕ, Bool, true, false, refl, sym, ◌∙◌, arith}
 use Rattle.std.specs.Prelude.{IsTrue, IsFalse}
-use Rattle.history.specs.{Laws.HistoryLaws, Rails.Rails, Rails.RailsCover}
+use Rattle.model_history.specs.{Laws.HistoryLaws, Rails.Rails, Rails.RailsCover}
 use Rattle.model_line.specs.declared.script.Kind.TheVariants.{Internal, External}
 use Rattle.model_line.specs.{declared.line.Line.Line, declared.script.Kind.Kind}
 use Rattle.model_line.specs.{declared.script.Script.Script, Parameters.terminal_count}

@@ -4,8 +4,8 @@ use Rattle.std.proofs.Common.{◌≡◌, ℕ, zero, suc, ◌<◌, ◌≤◌, Boo
 use Rattle.std.proofs.Common.{⊎_elim, eq-eqb}
 use Rattle.std.proofs.lemmas.Bool.{cases_lt, ne_eqb}
 use Rattle.std.specs.Prelude.{cond}
-use Rattle.history.specs.Laws.{HistoryLaws}
-use Rattle.history.specs.Rails.{Rails, Ends, rails_not, rails_and, rails_or, rails_delayed}
+use Rattle.model_history.specs.Laws.{HistoryLaws}
+use Rattle.model_history.specs.Rails.{Rails, Ends, rails_not, rails_and, rails_or, rails_delayed}
 use Rattle.model_logic.specs.Tree.{Tree, Const, Seen, Loss, Raw, Not, And, Or, Timer, Seal}
 use Rattle.model_logic.specs.PairMean.{PairWorld, PairSignals, pair_mean}
 use Rattle.model_logic.specs.Solution.{IsDelayed, Solves, SameBefore, keys_before, the_keys}

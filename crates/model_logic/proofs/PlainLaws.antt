@@ -2,9 +2,9 @@
 use Rattle.std.proofs.Common.{◌≡◌, ℕ, zero, suc, ◌<◌, ◌≤◌, Bool, refl, sym, ◌∙◌, ap, subst, arith}
 use Rattle.std.proofs.Common.{⊎_elim}
 use Rattle.std.proofs.lemmas.Bool.{cases_lt}
-use Rattle.history.specs.Laws.{HistoryLaws}
-use Rattle.history.specs.Rails.{Ends, both, single, must_of, rails_not, rails_and, rails_or}
-use Rattle.history.specs.Rails.{rails_timed, rails_delayed}
+use Rattle.model_history.specs.Laws.{HistoryLaws}
+use Rattle.model_history.specs.Rails.{Ends, both, single, must_of, rails_not, rails_and, rails_or}
+use Rattle.model_history.specs.Rails.{rails_timed, rails_delayed}
 use Rattle.model_logic.specs.Tree.{Tree, Const, Seen, Loss, Raw, Not, And, Or, Timer, Seal}
 use Rattle.model_logic.specs.PairMean.{PairWorld, PairSignals, pair_mean, singles}
 use Rattle.model_logic.specs.Solution.{IsDelayed, Solves, SolvesPlain, SameBefore, the_keys}

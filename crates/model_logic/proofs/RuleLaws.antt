@@ -3,14 +3,14 @@ use Rattle.std.proofs.Common.{◌≡◌, ◌||◌, ℕ, zero, suc, ◌<◌, ◌�
 use Rattle.std.proofs.Common.{◌∙◌, ap, arith}
 use Rattle.std.proofs.lemmas.Bool.Decides.{Decides-like}
 use Rattle.std.specs.Prelude.{IsTrue, IsFalse, Decides, cond}
-use Rattle.history.specs.{Laws.HistoryLaws, Elements.some_below, Rails.Rails, Rails.Covers}
+use Rattle.model_history.specs.{Laws.HistoryLaws, Elements.some_below, Rails.Rails, Rails.Covers}
 use Rattle.model_line.specs.declared.script.Kind.TheVariants.{Internal, External}
 use Rattle.model_line.specs.{declared.line.Line.Line, declared.script.Script.Script}
 use Rattle.model_line.specs.{declared.script.Kind.Kind, Parameters.terminal_count}
 use Rattle.model_logic.specs.Histories.{History, MeetsBy, Meets, PairHistory, CoversHistory}
 use Rattle.model_logic.specs.Rule.{Rule, Held, Broken, Unknown, IsHeld, IsBroken, is_held}
 use Rattle.model_logic.specs.Rule.{is_broken, rule_by, rule_of}
-use Rattle.history.specs.BelowLaws.{some_below-some}
+use Rattle.model_history.specs.BelowLaws.{some_below-some}
 
 -- ---- what is tested is what is said
 

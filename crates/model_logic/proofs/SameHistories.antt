@@ -1,6 +1,6 @@
 -- Histories rest on no declared interval, and interval histories on the intervals of their box.
 use Rattle.std.proofs.Common.{◌≡◌, ◌<◌, ℕ, List, refl, sym, ◌∙◌, ap, subst}
-use Rattle.history.specs.{Laws.HistoryLaws, Rails.Ends}
+use Rattle.model_history.specs.{Laws.HistoryLaws, Rails.Ends}
 use Rattle.model_line.specs.Seen.{is_seen, is_lost}
 use Rattle.model_line.specs.{declared.line.Line.Line, SetBounds.SameButParams}
 use Rattle.model_line.specs.{declared.line.Channel.Channel, declared.script.Script.Script}

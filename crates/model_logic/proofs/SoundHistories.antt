@@ -2,7 +2,7 @@
 -- history of that choice. So there a rule is broken wherever what it says of the pairs is.
 use Rattle.std.proofs.Common.{◌≡◌, ◌<◌, ◌≤◌, ℕ, Bool, true, false, sym, ◌∙◌, arith}
 use Rattle.std.specs.Prelude.{◌↔◌, IsTrue, IsFalse}
-use Rattle.history.specs.{Laws.HistoryLaws, Rails.Rails, Rails.Covers, Rails.IsSound}
+use Rattle.model_history.specs.{Laws.HistoryLaws, Rails.Rails, Rails.Covers, Rails.IsSound}
 use Rattle.model_line.specs.declared.script.Kind.TheVariants.{Internal, External}
 use Rattle.model_line.specs.{declared.line.Line.Line, declared.script.Script.Script}
 use Rattle.model_line.specs.{declared.script.Kind.Kind, Parameters.terminal_count}

@@ -1,7 +1,7 @@
 -- The worlds of a line at a choice and over a box: their delays are at least 1 where those are.
 use Rattle.std.proofs.Common.{◌≡◌, ℕ, ◌<◌, ◌≤◌, List, refl}
 use Rattle.std.specs.Prelude.{get_or}
-use Rattle.history.specs.{Rails.single}
+use Rattle.model_history.specs.{Rails.single}
 use Rattle.model_line.specs.Parameters.{channel_count, delay_param}
 use Rattle.model_line.specs.{declared.script.Script.Script, declared.line.Line.Line}
 use Rattle.model_logic.specs.declared.time.Time.TheVariants.{Zero, Param}

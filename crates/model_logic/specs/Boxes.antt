@@ -1,6 +1,6 @@
 -- Boxes with another interval for one parameter.
 use Rattle.std.specs.Prelude.{◌≡◌, ◌<◌, ◌==◌, ℕ, if◌then◌else◌}
-use Rattle.history.specs.Rails.{Ends}
+use Rattle.model_history.specs.Rails.{Ends}
 use Rattle.model_line.specs.Parameters.{param_count, channel_count, delay_param, declared_ends}
 use Rattle.model_line.specs.declared.line.Line.{Line}
 use Rattle.model_logic.specs.Choice.{Box}

@@ -1,6 +1,6 @@
 -- Choices of every number that a line leaves open, boxes of such choices, and the worlds they make.
 use Rattle.std.specs.Prelude.{◌≤◌, ◌<◌, ℕ, List, get_or}
-use Rattle.history.specs.Rails.{Ends, single, IsPartOf}
+use Rattle.model_history.specs.Rails.{Ends, single, IsPartOf}
 use Rattle.model_line.specs.Parameters.{channel_count, param_count, delay_param, declared_ends}
 use Rattle.model_line.specs.Seen.{is_seen, is_lost}
 use Rattle.model_line.specs.Channels.{from_of}

@@ -1,6 +1,6 @@
 -- One world contains another, one list of keys covers another.
 use Rattle.std.specs.Prelude.{◌≡◌, ◌<◌, ℕ}
-use Rattle.history.specs.Rails.{RailsCover, IsPartOf}
+use Rattle.model_history.specs.Rails.{RailsCover, IsPartOf}
 use Rattle.model_line.specs.Parameters.{terminal_count, channel_count}
 use Rattle.model_line.specs.{declared.line.Line.Line, declared.script.Place.Place}
 use Rattle.model_logic.specs.PairMean.{PairWorld, PairSignals, pair_mean}

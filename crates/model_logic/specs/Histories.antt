@@ -1,6 +1,6 @@
 -- The history of a line at a choice, its interval history over a box, and the obligations.
 use Rattle.std.specs.Prelude.{◌≡◌, ◌≤◌, ◌<◌, ℕ, Bool, IsTrue, IsFalse}
-use Rattle.history.specs.Rails.{both, Covers, RailsCover, IsSound}
+use Rattle.model_history.specs.Rails.{both, Covers, RailsCover, IsSound}
 use Rattle.model_line.specs.declared.script.Kind.TheVariants.{Internal, External}
 use Rattle.model_line.specs.{declared.line.Line.Line, declared.script.Kind.Kind}
 use Rattle.model_line.specs.{declared.script.Script.Script, Parameters.terminal_count}

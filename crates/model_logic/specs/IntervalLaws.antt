@@ -1,7 +1,7 @@
 -- What lines that agree in all but their intervals have in common, and what boxes keep, as laws
 -- that proofs above cite, each under the name of the function that ensures it.
 use Rattle.std.specs.Prelude.{◌≡◌, ◌<◌, ◌↔◌, ℕ, IsTrue}
-use Rattle.history.specs.Rails.{Ends}
+use Rattle.model_history.specs.Rails.{Ends}
 use Rattle.model_logic.specs.Boxes.{IsSameBox, box_with, declared_with}
 use Rattle.model_logic.specs.Choice.{Choice, Box, IsIn, IsInside, IsWithin, IsBoxWithin}
 use Rattle.model_logic.specs.Choice.{LeastFromOne, declared_box}

@@ -1,7 +1,7 @@
 -- The laws of lines and histories, each under the name of the function that ensures it, so that the
 -- proofs above can take them as arguments.
 use Rattle.std.specs.Prelude.{◌≡◌, ◌<◌, ◌↔◌, ℕ, Decides}
-use Rattle.history.specs.Rails.{Rails, Covers}
+use Rattle.model_history.specs.Rails.{Rails, Covers}
 use Rattle.model_line.specs.Laws.{ParametersAreNumbered, SettingsAreCounted, DelaysAreParameters}
 use Rattle.model_line.specs.Laws.{DeadlinesAreBelowTheHorizon}
 use Rattle.model_line.specs.{Parameters.terminal_count, Intervals.leasts}

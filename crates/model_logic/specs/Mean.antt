@@ -1,6 +1,6 @@
 -- The value of a tree at a tick.
 use Rattle.std.specs.Prelude.{◌&&◌, ◌||◌, ℕ, Bool, not}
-use Rattle.history.specs.Elements.{timed, sealed, delayed}
+use Rattle.model_history.specs.Elements.{timed, sealed, delayed}
 use Rattle.model_logic.specs.Tree.{Tree, Const, Seen, Loss, Raw, Not, And, Or, Timer, Seal}
 use Rattle.model_logic.specs.declared.time.Time.{Time}
 use Rattle.model_line.specs.declared.script.Place.{Place}

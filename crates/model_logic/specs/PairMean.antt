@@ -1,7 +1,7 @@
 -- The pair of a tree at a tick, by the interval rules.
 use Rattle.std.specs.Prelude.{ℕ, Bool}
-use Rattle.history.specs.Rails.{Rails, Ends, both, single, rails_not, rails_and, rails_or}
-use Rattle.history.specs.Rails.{rails_timed, rails_sealed, rails_delayed}
+use Rattle.model_history.specs.Rails.{Rails, Ends, both, single, rails_not, rails_and, rails_or}
+use Rattle.model_history.specs.Rails.{rails_timed, rails_sealed, rails_delayed}
 use Rattle.model_logic.specs.Tree.{Tree, Const, Seen, Loss, Raw, Not, And, Or, Timer, Seal}
 use Rattle.model_logic.specs.{declared.time.Time.Time, Mean.World}
 use Rattle.model_line.specs.declared.script.Place.{Place}

@@ -1,6 +1,6 @@
 -- The rule of an obligation: held, broken or unknown, by the pairs of the terminal's trip.
 use Rattle.std.specs.Prelude.{◌≤◌, ◌<◌, ℕ, suc, not, Bool, IsTrue, IsFalse, if◌then◌else◌}
-use Rattle.history.specs.{Rails.Rails, Elements.some_below}
+use Rattle.model_history.specs.{Rails.Rails, Elements.some_below}
 use Rattle.model_line.specs.declared.script.Kind.TheVariants.{Internal, External}
 use Rattle.model_line.specs.declared.script.Script.{Script}
 use Rattle.model_line.specs.{declared.line.Line.Line, declared.script.Kind.Kind}

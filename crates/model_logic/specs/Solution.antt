@@ -1,6 +1,6 @@
 -- The keys that solve a line's equations, tick by tick, in any world of pairs.
 use Rattle.std.specs.Prelude.{◌≡◌, ◌≤◌, ◌<◌, ◌==◌, ℕ, zero, suc, false, if◌then◌else◌}
-use Rattle.history.specs.Rails.{both}
+use Rattle.model_history.specs.Rails.{both}
 use Rattle.model_line.specs.Parameters.{terminal_count, channel_count}
 use Rattle.model_line.specs.declared.line.Line.{Line}
 use Rattle.model_logic.specs.PairMean.{PairWorld, PairSignals, pair_mean}

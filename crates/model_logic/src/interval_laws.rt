@@ -14,7 +14,7 @@ ghost use Rattle.model_logic.specs.IntervalLaws.{AChangedIntervalChangesTheBox, 
 ghost use Rattle.model_logic.specs.Rule.{Held, rule_of};
 ghost use Rattle.model_logic.specs.HeldOver.{IsHeldOver};
 
-use history::laws::history_laws;
+use model_history::laws::history_laws;
 
 /// What each terminal keys and trips on does not rest on the intervals of the parameters.
 pub fn trees_do_not_rest_on_the_intervals()

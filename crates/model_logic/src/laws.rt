@@ -10,7 +10,7 @@ ghost use Rattle.model_logic.specs.Laws.{ASoundRuleIsBrokenWhereItIsBroken};
 ghost use Rattle.model_logic.specs.Laws.{TheRuleSpeaksForWhatIsCovered};
 ghost use Rattle.model_logic.specs.Laws.{TheRuleSpeaksForEveryChoice, LineLaws};
 
-use history::laws::history_laws;
+use model_history::laws::history_laws;
 use model_line::laws::{
     deadlines_are_below_the_horizon, delays_are_parameters, parameters_are_numbered,
     settings_are_counted,

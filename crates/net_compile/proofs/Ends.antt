@@ -5,10 +5,10 @@ use Rattle.std.specs.Prelude.{Result, Ok, Err, IfOk}
 use Rattle.model_line.specs.{declared.line.Line.Line, Parameters.terminal_count}
 use Rattle.model_logic.specs.Logic.{key_tree, trip_tree}
 use Rattle.model_logic.specs.Tree.{Tree}
-use Rattle.gate_net.specs.Named.{NamedFrom}
-use Rattle.gate_net.specs.{declared.gate.Gate.Gate, declared.gate.GateId.GateId, Formulas.Stands}
-use Rattle.gate_net.specs.NetOf.{NetOf, AreGatesOf, IsNet, IsNetOf, id_at}
-use Rattle.gate_net.specs.Growing.{Grows, Extends}
+use Rattle.net_gates.specs.Named.{NamedFrom}
+use Rattle.net_gates.specs.{declared.gate.Gate.Gate, declared.gate.GateId.GateId, Formulas.Stands}
+use Rattle.net_gates.specs.NetOf.{NetOf, AreGatesOf, IsNet, IsNetOf, id_at}
+use Rattle.net_gates.specs.Growing.{Grows, Extends}
 use Rattle.net_compile.specs.{declared.terminal_gates.Ends.Ends, Compiled.AreEnds}
 
 -- one gate for each terminal below j, which stands for the terminal's tree

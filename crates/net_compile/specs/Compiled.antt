@@ -2,7 +2,7 @@
 use Rattle.std.specs.Prelude.{ℕ, List}
 use Rattle.model_line.specs.declared.line.Line.{Line}
 use Rattle.model_logic.specs.Logic.{key_tree, trip_tree}
-use Rattle.gate_net.specs.{declared.gate.Gate.Gate, Formulas.Stands}
+use Rattle.net_gates.specs.{declared.gate.Gate.Gate, Formulas.Stands}
 use Rattle.net_compile.specs.declared.terminal_gates.Ends.{Ends}
 
 -- the gates stand for what terminal k sends and for its trip

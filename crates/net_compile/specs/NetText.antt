@@ -7,10 +7,10 @@ use Rattle.model_line.specs.ParamNames.{name_at, channel_name}
 use Rattle.model_line.specs.Parameters.{terminal_count}
 use Rattle.model_line.specs.{declared.line.Line.Line, declared.script.Place.Place}
 use Rattle.model_names.specs.NamesByNumber.{element_text, parameter_name}
-use Rattle.gate_net.specs.declared.gate.Gate.TheVariants.{Const, Seen, Loss, Raw, Not, And, Or}
-use Rattle.gate_net.specs.declared.gate.Gate.TheVariants.{Timer, Seal}
-use Rattle.gate_net.specs.declared.gate.GateId.{GateId}
-use Rattle.gate_net.specs.{declared.gate.Gate.Gate, NetOf.NetOf, NetOf.key_of, NetOf.trip_of}
+use Rattle.net_gates.specs.declared.gate.Gate.TheVariants.{Const, Seen, Loss, Raw, Not, And, Or}
+use Rattle.net_gates.specs.declared.gate.Gate.TheVariants.{Timer, Seal}
+use Rattle.net_gates.specs.declared.gate.GateId.{GateId}
+use Rattle.net_gates.specs.{declared.gate.Gate.Gate, NetOf.NetOf, NetOf.key_of, NetOf.trip_of}
 
 -- a truth value, and an element, as they are written
 abbrev pub truth_text : Bool → List ℕ

@@ -3,12 +3,12 @@
 ghost use Rattle.std.specs.Prelude.{◌<◌, IfOk};
 ghost use Rattle.model_line.specs.Parameters.{terminal_count};
 ghost use Rattle.model_logic.specs.Logic.{pilot_by, key_tree, set_tree, trip_tree};
-ghost use Rattle.gate_net.specs.{Formulas.Stands, Growing.HasRoom, Growing.Extends};
+ghost use Rattle.net_gates.specs.{Formulas.Stands, Growing.HasRoom, Growing.Extends};
 ghost use Rattle.net_schemes.specs.{LocalGates.AreLocal, Outputs.CanMake, Outputs.MakesOutputs};
 ghost use Rattle.net_compile.specs.Compiled.{AreEnds};
 
-use gate_net::{GateId, NetBuilder};
 use model_line::{Line, Memory, Scheme};
+use net_gates::{GateId, NetBuilder};
 use net_schemes::{Local, Out, dcb, dcub, dtt, local_elements, pott, putt};
 
 /// The gates of what a terminal sends and of its trip.

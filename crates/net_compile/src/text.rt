@@ -4,16 +4,16 @@ ghost use Rattle.std.specs.Prelude.{◌≡◌, ◌<◌, ◌++◌, codes, decimal
 ghost use Rattle.model_line.specs.Parameters.{terminal_count, channel_count};
 ghost use Rattle.model_line.specs.ParamNames.{name_at};
 ghost use Rattle.model_logic.specs.Names.{HasTime};
-ghost use Rattle.gate_net.specs.{NetOf.IsNetOf, Named.GateNames};
+ghost use Rattle.net_gates.specs.{NetOf.IsNetOf, Named.GateNames};
 ghost use Rattle.net_compile.specs.NetText.{truth_text, place_text, channel_text, time_text};
 ghost use Rattle.net_compile.specs.NetText.{pair_text, gate_text, gate_line, end_line};
 ghost use Rattle.net_compile.specs.NetText.{terminal_lines, lines_below, net_text_of};
 
-use gate_net::{Gate, GateId, Net};
 use itoa::Buffer;
 use model_line::{Line, Memory, Place, channel_name};
 use model_logic::Time;
 use model_names::element_word;
+use net_gates::{Gate, GateId, Net};
 use std::alloc::Global;
 
 /// The text of a net: the number of its gates, a line for each gate, and for each terminal the

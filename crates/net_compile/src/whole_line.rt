@@ -1,11 +1,11 @@
 //! The net of a whole line.
 
 ghost use Rattle.std.specs.Prelude.{IfOk};
-ghost use Rattle.gate_net.specs.NetOf.{IsNetOf};
+ghost use Rattle.net_gates.specs.NetOf.{IsNetOf};
 
 use crate::terminal_gates::terminal_gates;
-use gate_net::{Net, NetBuilder};
 use model_line::{Line, Memory};
+use net_gates::{Net, NetBuilder};
 use std::alloc::Global;
 
 /// The net of a line. Whatever the scheme, it has at most 512 gates.

@@ -4,8 +4,8 @@ use Rattle.model_logic.specs.Permissive.{echo_wanted, echo, weak_infeed_trip, pe
 use Rattle.model_logic.specs.Permissive.{permissive_pilot}
 use Rattle.model_logic.specs.Tree.{Tree}
 use Rattle.model_line.specs.{declared.line.Line.Line, Parameters.terminal_count}
-use Rattle.gate_net.specs.{declared.gate.Gate.Gate, declared.gate.GateId.GateId, Formulas.Stands}
-use Rattle.gate_net.specs.Growing.{HasRoom}
+use Rattle.net_gates.specs.{declared.gate.Gate.Gate, declared.gate.GateId.GateId, Formulas.Stands}
+use Rattle.net_gates.specs.Growing.{HasRoom}
 use Rattle.net_schemes.specs.{declared.elements.Local.Local, LocalGates.AreLocal}
 use Rattle.net_schemes.specs.declared.outputs.Out.{Out}
 use Rattle.net_schemes.specs.declared.weak_end.EchoGates.{EchoGates}

@@ -4,8 +4,8 @@ use Rattle.std.specs.Option.{ForSome}
 use Rattle.std.proofs.Common.{refl, ap}
 use Rattle.model_line.specs.declared.line.Line.{Line}
 use Rattle.model_logic.specs.{Tree.Tree, Received.over_others}
-use Rattle.gate_net.specs.{declared.gate.Gate.Gate, declared.gate.GateId.GateId}
-use Rattle.gate_net.specs.{Formulas.formula_of, Growing.Grows, Growing.Extends}
+use Rattle.net_gates.specs.{declared.gate.Gate.Gate, declared.gate.GateId.GateId}
+use Rattle.net_gates.specs.{Formulas.formula_of, Growing.Grows, Growing.Extends}
 
 -- the terminals below j other than k have been joined, with at most n gates for each
 pub record Gathers (line : Line) (op : Tree → Tree → Tree) (tree : ℕ → Tree) (k n : ℕ)

@@ -3,7 +3,7 @@ use Rattle.std.specs.Prelude.{ℕ, List}
 use Rattle.model_line.specs.declared.line.Line.{Line}
 use Rattle.model_logic.specs.Elements.{zone1, zone2, reverse, undervoltage, current}
 use Rattle.model_logic.specs.Permissive.{reversal_guard}
-use Rattle.gate_net.specs.{declared.gate.Gate.Gate, Formulas.Stands}
+use Rattle.net_gates.specs.{declared.gate.Gate.Gate, Formulas.Stands}
 use Rattle.net_schemes.specs.declared.elements.Local.{Local}
 
 -- each of the gates stands for terminal k's tree of its name

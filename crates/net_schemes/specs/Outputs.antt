@@ -3,8 +3,8 @@ use Rattle.std.specs.Prelude.{◌≡◌, ◌<◌, ℕ, List, Result, IfOk}
 use Rattle.model_line.specs.{declared.line.Line.Line, declared.line.Scheme.Scheme}
 use Rattle.model_line.specs.Parameters.{terminal_count}
 use Rattle.model_logic.specs.Logic.{key_by, pilot_by}
-use Rattle.gate_net.specs.{declared.gate.Gate.Gate, Formulas.Stands}
-use Rattle.gate_net.specs.Growing.{HasRoom, Extends}
+use Rattle.net_gates.specs.{declared.gate.Gate.Gate, Formulas.Stands}
+use Rattle.net_gates.specs.Growing.{HasRoom, Extends}
 use Rattle.net_schemes.specs.{declared.elements.Local.Local, LocalGates.AreLocal}
 use Rattle.net_schemes.specs.declared.outputs.Out.{Out}
 

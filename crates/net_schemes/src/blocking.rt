@@ -4,7 +4,7 @@
 ghost use Rattle.std.specs.Prelude.{◌<◌, IfOk};
 ghost use Rattle.model_line.specs.Parameters.{terminal_count};
 ghost use Rattle.model_logic.specs.Logic.{blocking_key, blocking_pilot};
-ghost use Rattle.gate_net.specs.{Formulas.Stands, Growing.HasRoom, Growing.Extends};
+ghost use Rattle.net_gates.specs.{Formulas.Stands, Growing.HasRoom, Growing.Extends};
 ghost use Rattle.net_schemes.specs.{LocalGates.AreLocal, Outputs.CanMake, Outputs.MakesOutputs};
 
 use crate::elements::Local;
@@ -12,9 +12,9 @@ use crate::from_others::any_received;
 use crate::joining::and_not;
 use crate::outputs::Out;
 use crate::times::terminal_time;
-use gate_net::{GateId, NetBuilder};
 use model_line::{Line, Memory, Scheme, Setting};
 use model_logic::Time;
+use net_gates::{GateId, NetBuilder};
 
 /// What a terminal of a DCB line sends and trips on.
 pub fn dcb(net: &mut NetBuilder, line: &Line, terminal: u32, local: &Local) -> Result<Out, Memory>

@@ -5,13 +5,13 @@ ghost use Rattle.model_line.specs.Parameters.{terminal_count};
 ghost use Rattle.model_logic.specs.Elements.{seen_timed as seen_timed_tree};
 ghost use Rattle.model_logic.specs.Elements.{reverse as reverse_tree};
 ghost use Rattle.model_logic.specs.Permissive.{reversal_guard as reversal_guard_tree};
-ghost use Rattle.gate_net.specs.{Formulas.Stands, Growing.HasRoom, Growing.Extends};
+ghost use Rattle.net_gates.specs.{Formulas.Stands, Growing.HasRoom, Growing.Extends};
 ghost use Rattle.net_schemes.specs.LocalGates.{AreLocal};
 
 use crate::times::{terminal_time, time_of};
-use gate_net::{GateId, NetBuilder};
 use model_line::{Element, Line, Memory, Owner, Place, Setting};
 use model_logic::{is_terminal_guarded, pickup_and_dropout};
+use net_gates::{GateId, NetBuilder};
 
 /// The gates of what a terminal sees for itself.
 #[derive(Clone, Copy)]

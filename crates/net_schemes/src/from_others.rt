@@ -6,13 +6,13 @@ ghost use Rattle.model_logic.specs.Received.{received as received_tree};
 ghost use Rattle.model_logic.specs.Received.{all_others, join_of};
 ghost use Rattle.model_logic.specs.Received.{any_received as any_received_tree};
 ghost use Rattle.model_logic.specs.Received.{all_received as all_received_tree};
-ghost use Rattle.gate_net.specs.{Formulas.Stands, Growing.HasRoom, Growing.Extends};
+ghost use Rattle.net_gates.specs.{Formulas.Stands, Growing.HasRoom, Growing.Extends};
 
 use crate::joining::{join_before, or_never};
 use crate::times::channel_to;
-use gate_net::{GateId, NetBuilder};
 use model_line::{Line, Memory};
 use model_logic::Join;
+use net_gates::{GateId, NetBuilder};
 
 /// What a terminal receives from another: what arrives over the channel, unless that is lost.
 #[tactic(auto, unfolding(model_logic::specs::Received::received))]

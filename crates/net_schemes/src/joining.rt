@@ -4,12 +4,12 @@ ghost use Rattle.std.specs.Prelude.{◌<◌, length, IfOk, option_map, unwrap_or
 ghost use Rattle.std.specs.Option.{ForSome};
 ghost use Rattle.model_logic.specs.Tree.{Not, And, Const};
 ghost use Rattle.model_logic.specs.Received.{joined, join_of};
-ghost use Rattle.gate_net.specs.Formulas.{formula_of, Stands};
-ghost use Rattle.gate_net.specs.Growing.{HasRoom, Extends};
+ghost use Rattle.net_gates.specs.Formulas.{formula_of, Stands};
+ghost use Rattle.net_gates.specs.Growing.{HasRoom, Extends};
 
-use gate_net::{GateId, NetBuilder};
 use model_line::{Line, Memory};
 use model_logic::Join;
+use net_gates::{GateId, NetBuilder};
 
 /// The gate before joined with the next one; the next one, where there is none before.
 pub fn join_before(

@@ -1,6 +1,6 @@
 //! What a scheme makes for a terminal.
 
-use gate_net::GateId;
+use net_gates::GateId;
 
 /// The gates of what a terminal sends and of what its pilot scheme trips on.
 #[derive(Clone, Copy)]

@@ -4,16 +4,16 @@ ghost use Rattle.std.specs.Prelude.{IfOk};
 ghost use Rattle.model_logic.specs.Permissive.{echo as echo_tree};
 ghost use Rattle.model_logic.specs.Permissive.{weak_infeed_trip as weak_infeed_trip_tree};
 ghost use Rattle.model_logic.specs.Permissive.{permissive_key, permissive_pilot};
-ghost use Rattle.gate_net.specs.Formulas.{formula_of, Stands};
-ghost use Rattle.gate_net.specs.Growing.{Extends};
+ghost use Rattle.net_gates.specs.Formulas.{formula_of, Stands};
+ghost use Rattle.net_gates.specs.Growing.{Extends};
 ghost use Rattle.net_schemes.specs.Echoes.{ArePermissive, CanMakeOver};
 
 use crate::elements::Local;
 use crate::joining::and_not;
 use crate::outputs::Out;
 use crate::weak_end::echo;
-use gate_net::{GateId, NetBuilder};
 use model_line::{Line, Memory};
+use net_gates::{GateId, NetBuilder};
 
 /// What a terminal of an overreaching scheme sends and trips on, over the gate of its permission.
 /// It adds at most 24 gates.

@@ -8,8 +8,8 @@ use crate::elements::Local;
 use crate::from_others::{all_received, any_received};
 use crate::outputs::Out;
 use crate::over_permission::permissive;
-use gate_net::NetBuilder;
 use model_line::{Line, Memory, Scheme};
+use net_gates::NetBuilder;
 
 /// What a terminal of a POTT line sends and trips on.
 pub fn pott(net: &mut NetBuilder, line: &Line, terminal: u32, local: &Local) -> Result<Out, Memory>

@@ -7,9 +7,9 @@ use crate::elements::Local;
 use crate::from_others::any_received;
 use crate::outputs::Out;
 use crate::times::terminal_time;
-use gate_net::NetBuilder;
 use model_line::{Line, Memory, Scheme, Setting};
 use model_logic::Time;
+use net_gates::NetBuilder;
 
 /// What a terminal of a DTT line sends and trips on.
 #[tactic(auto, unfolding(model_logic::specs::Logic::transfer_pilot))]

@@ -5,7 +5,7 @@
 ghost use Rattle.std.specs.Prelude.{◌<◌, IfOk};
 ghost use Rattle.model_line.specs.Parameters.{terminal_count};
 ghost use Rattle.model_logic.specs.Unblocking.{all_open as all_open_tree};
-ghost use Rattle.gate_net.specs.{Formulas.Stands, Growing.HasRoom, Growing.Extends};
+ghost use Rattle.net_gates.specs.{Formulas.Stands, Growing.HasRoom, Growing.Extends};
 ghost use Rattle.net_schemes.specs.Outputs.{CanMake, MakesOutputs};
 
 use crate::elements::Local;
@@ -13,9 +13,9 @@ use crate::joining::{join_before, or_never};
 use crate::outputs::Out;
 use crate::over_permission::permissive;
 use crate::window::open_from;
-use gate_net::{GateId, NetBuilder};
 use model_line::{Line, Memory, Scheme};
 use model_logic::Join;
+use net_gates::{GateId, NetBuilder};
 
 /// What a terminal of a DCUB line sends and trips on.
 pub fn dcub(net: &mut NetBuilder, line: &Line, terminal: u32, local: &Local) -> Result<Out, Memory>

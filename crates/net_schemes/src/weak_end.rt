@@ -2,19 +2,20 @@
 
 ghost use Rattle.std.specs.Prelude.{◌<◌, length, IfOk};
 ghost use Rattle.model_line.specs.Parameters.{terminal_count};
-ghost use Rattle.model_logic.specs.Permissive.{quiet as quiet_tree, echo_wanted as echo_wanted_tree};
+ghost use Rattle.model_logic.specs.Permissive.{quiet as quiet_tree};
+ghost use Rattle.model_logic.specs.Permissive.{echo_wanted as echo_wanted_tree};
 ghost use Rattle.model_logic.specs.Permissive.{echo as echo_tree};
 ghost use Rattle.model_logic.specs.Permissive.{weak_infeed_trip as weak_infeed_trip_tree};
-ghost use Rattle.gate_net.specs.Formulas.{formula_of, Stands};
-ghost use Rattle.gate_net.specs.Growing.{HasRoom, Extends};
+ghost use Rattle.net_gates.specs.Formulas.{formula_of, Stands};
+ghost use Rattle.net_gates.specs.Growing.{HasRoom, Extends};
 ghost use Rattle.net_schemes.specs.LocalGates.{AreLocal};
 ghost use Rattle.net_schemes.specs.Echoes.{AreEchoes, CanMakeOver};
 
 use crate::elements::Local;
 use crate::times::terminal_time;
-use gate_net::{GateId, NetBuilder};
 use model_line::{Line, Memory, Setting};
 use model_logic::{Time, is_terminal_weak};
+use net_gates::{GateId, NetBuilder};
 
 /// The gates of a weak terminal. At a terminal that is not weak none of them is ever on.
 #[derive(Clone, Copy)]

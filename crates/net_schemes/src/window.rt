@@ -5,14 +5,14 @@ ghost use Rattle.model_logic.specs.Unblocking.{guard_seen as guard_seen_tree, la
 ghost use Rattle.model_logic.specs.Unblocking.{unblocked as unblocked_tree};
 ghost use Rattle.model_logic.specs.Unblocking.{locked_out as locked_out_tree};
 ghost use Rattle.model_logic.specs.Unblocking.{open_from as open_from_tree};
-ghost use Rattle.gate_net.specs.{Formulas.Stands, Growing.HasRoom, Growing.Extends};
+ghost use Rattle.net_gates.specs.{Formulas.Stands, Growing.HasRoom, Growing.Extends};
 
 use crate::from_others::received;
 use crate::joining::and_not;
 use crate::times::{channel_time, channel_to};
-use gate_net::{GateId, NetBuilder};
 use model_line::{Line, Memory, Setting};
 use model_logic::Time;
+use net_gates::{GateId, NetBuilder};
 
 /// Whether a terminal takes another as permitting: it receives its signal or the window of the
 /// channel is open, and the channel is not locked out.

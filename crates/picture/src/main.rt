@@ -5,8 +5,8 @@
 mod words;
 
 use crate::words::{ask_of, command};
-use picture_core::picture;
-use relay_base::{FileStore, StdSink};
+use base_store::{FileStore, StdSink};
+use call_picture::picture;
 use std::env;
 use std::process::ExitCode;
 

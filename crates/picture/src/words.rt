@@ -1,7 +1,7 @@
 //! The words of the program.
 
+use call_picture::{Ask, Picture};
 use clap::{Arg, ArgMatches, Command};
-use picture_core::{Ask, Picture};
 use std::alloc::{AllocError, Global};
 
 /// The command line: `run`, `bands` and `vcd`, with files and names.

@@ -5,9 +5,9 @@ ghost use Rattle.std.specs.Prelude.{◌≡◌};
 ghost use Rattle.std.specs.Process.{exit_status};
 ghost use Rattle.pilot.specs.Exit.{exit_number};
 
-use engine::NetEngine;
-use pilot_core::{Status, pilot};
-use relay_base::{FileStore, StdSink};
+use base_store::{FileStore, StdSink};
+use call_engine::NetEngine;
+use call_pilot::{Status, pilot};
 use std::io::ErrorKind;
 use std::process::ExitCode;
 use std::rt::Env;

@@ -2,9 +2,9 @@
 
 use crate::change::{Change, changed};
 use crate::fault::Fault;
-use engine::NetEngine;
-use pilot_core::pilot;
-use relay_base::{FetchFault, MemorySink, MemoryStore, Sink, Store, fetch, put_all};
+use base_store::{FetchFault, MemorySink, MemoryStore, Sink, Store, fetch, put_all};
+use call_engine::NetEngine;
+use call_pilot::pilot;
 use std::alloc::{AllocError, Global};
 
 // The longest file that is read.

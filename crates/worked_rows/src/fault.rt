@@ -1,7 +1,7 @@
 //! What ends the rows before their last one.
 
-use memory::Memory;
-use relay_base::{FetchFault, PutFailed};
+use base_memory::Memory;
+use base_store::{FetchFault, PutFailed};
 use std::alloc::AllocError;
 use thiserror::Error;
 

@@ -20,7 +20,7 @@ mod fault;
 use crate::call::{make_call, read_words};
 use crate::change::read_change;
 use crate::fault::Fault;
-use relay_base::{FileStore, Sink, StdSink, Store, fetch, put_all};
+use base_store::{FileStore, Sink, StdSink, Store, fetch, put_all};
 use std::alloc::{AllocError, Global};
 use std::process::ExitCode;
 

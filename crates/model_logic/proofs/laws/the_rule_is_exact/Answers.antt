@@ -1,4 +1,5 @@
-use Rattle.model_logic.proofs.RuleLaws.{rule_held, held_rule, rule_broken, broken_rule, rule_unknown}
+use Rattle.model_logic.proofs.RuleLaws.{rule_held, held_rule, rule_broken, broken_rule}
+use Rattle.model_logic.proofs.RuleLaws.{rule_unknown}
 use Rattle.model_logic.proofs.RuleLaws.{unknown_rule}
 use Rattle.model_logic.proofs.laws.the_rule_is_exact.Goals as goal
 

@@ -1,6 +1,6 @@
 use Rattle.std.proofs.Common.{◌≡◌, ◌+◌, ◌++◌, ◌∷◌, [], suc, sym, subst, arith}
 use Rattle.model_line.specs.Parameters.{terminal_count}
-use Rattle.gate_net.specs.NetOf.{NetOf, IsNet, IsNetOf}
+use Rattle.net_gates.specs.NetOf.{NetOf, IsNet, IsNetOf}
 use Rattle.net_compile.proofs.Ends.{HaveEnds, have_more, net_of_line, both_ok}
 use Rattle.net_compile.proofs.whole_line.compile.Goals as goal
 

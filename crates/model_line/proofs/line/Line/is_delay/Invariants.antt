@@ -1,5 +1,5 @@
 use Rattle.std.proofs.Common.{◌≡◌, ◌==◌, false}
-use Rattle.history.specs.Elements.{some_below}
+use Rattle.model_history.specs.Elements.{some_below}
 use Rattle.model_line.specs.Parameters.{delay_param}
 use Rattle.model_line.proofs.line.Line.is_delay.Given as goal
 

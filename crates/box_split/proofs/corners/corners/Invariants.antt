@@ -1,5 +1,0 @@
-use Rattle.box_split.specs.Quiet.{AreCorners}
-use Rattle.box_split.proofs.corners.corners.Given as goal
-
-abbrev pub invariant-loop-but : goal.invariant-loop-but
-invariant-loop-but l = AreCorners l.line l.wide l.but l.corners.items

@@ -1,5 +1,0 @@
-use Rattle.box_split.proofs.SoundLaws.{sound_splits}
-use Rattle.box_split.proofs.laws.a_sound_tree_splits_its_box.Goals as goal
-
-pub returns : goal.returns
-returns c line script k box tree sound = sound_splits line script k tree box sound

@@ -1,0 +1,12 @@
+use Rattle.std.proofs.Common.{Ok, take}
+use Rattle.call_engine.specs.Calls.{AskedVerdicts, NoneFell}
+use Rattle.call_commands.specs.{PartWrites.WritesParts, Sinks.sink_view}
+use Rattle.call_commands.proofs.certify.write_parts.Given as goal
+
+abbrev pub invariant-loop-script : goal.invariant-loop-script
+invariant-loop-script g l =
+    AskedVerdicts l.line l.script-index (g.G.Engine.calls l.fn.engine) (g.G.Engine.calls l.engine)
+    × WritesParts l.line (take l.script-index l.scripts)
+    (sink_view g.O.Sink.written g.O.Sink.faults l.fn.out)
+    (sink_view g.O.Sink.written g.O.Sink.faults l.out) (Ok l.found)
+    × NoneFell (g.G.Engine.calls l.fn.engine) (g.G.Engine.calls l.engine)

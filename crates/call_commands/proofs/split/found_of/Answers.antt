@@ -1,0 +1,18 @@
+use Rattle.std.proofs.Common.{map, ◌∙◌}
+use Rattle.cert_check.specs.Counts.{is_no, is_undecided}
+use Rattle.cert_split_text.specs.Piece.{written_as}
+use Rattle.cert_split_check.specs.Counts.{verdict_of}
+use Rattle.call_commands.proofs.Verdicts.{any_map}
+use Rattle.call_commands.proofs.split.found_of.Goals as goal
+
+pub returns : goal.returns
+returns c =
+    let outcomes = c.args.outcomes.now in
+    record {
+      no = c.some_no.ensures
+          ∙ any_map (λ outcome. is_no (verdict_of outcome)) written_as outcomes
+          ∙ any_map is_no verdict_of (map written_as outcomes);
+      undecided = c.some_undecided.ensures
+          ∙ any_map (λ outcome. is_undecided (verdict_of outcome)) written_as outcomes
+          ∙ any_map is_undecided verdict_of (map written_as outcomes);
+    }

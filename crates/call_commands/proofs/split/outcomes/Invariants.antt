@@ -1,0 +1,10 @@
+use Rattle.std.specs.List.{All}
+use Rattle.judge_verdict.specs.OneEach.{OneEach}
+use Rattle.judge_split.specs.Found.{IsFound}
+use Rattle.cert_split_text.specs.Piece.{IsPrintable}
+use Rattle.call_commands.proofs.split.outcomes.Given as goal
+
+abbrev pub invariant-loop-k : goal.invariant-loop-k
+invariant-loop-k l =
+    OneEach (λ k outcome. IsFound l.line l.script k l.depth outcome) l.k l.all.items
+    × All (IsPrintable l.line) l.all.items

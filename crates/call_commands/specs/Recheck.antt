@@ -1,0 +1,24 @@
+-- The command `recheck`: whether split trees are accepted, with their counts, or their first fault.
+use Rattle.std.specs.Prelude.{◌∷◌, ℕ, List, [], codes, decimal}
+use Rattle.model_line.specs.{declared.line.Line.Line, declared.script.Script.Script}
+use Rattle.cert_split_check.specs.Check.{IsAccepted, IsSplitFault}
+use Rattle.cert_split_check.specs.declared.fault.SplitFault.{SplitFault}
+use Rattle.cert_split_check.specs.declared.fault.SplitFault.TheVariants as fault
+use Rattle.call_commands.specs.Checked.{line_pieces, outside_pieces, passes_pieces, place}
+use Rattle.call_commands.specs.{Checked.IsCheckedText, Answers.Answers}
+
+-- `rejected` and the fault; want of memory is none
+abbrev pub rejected_pieces : Line → List Script → SplitFault → List (List ℕ)
+rejected_pieces line scripts (fault.Line n) = line_pieces n
+rejected_pieces line scripts (fault.NotHeld i k n) =
+    codes "rejected NotHeld" ∷ place line scripts i k ∷ codes " " ∷ decimal n ∷ codes "\n" ∷ []
+rejected_pieces line scripts (fault.Outside i k p value) =
+    outside_pieces line scripts i k p value
+rejected_pieces line scripts (fault.Passes i k t) = passes_pieces line scripts i k t
+rejected_pieces line scripts fault.Memory = []
+
+-- the trees are accepted, or have such a first fault
+abbrev pub recheck_answer : Line → List Script → List ℕ → Answers
+recheck_answer line scripts trees =
+    IsCheckedText (IsAccepted line scripts trees) (IsSplitFault line scripts trees) fault.Memory
+    (rejected_pieces line scripts)

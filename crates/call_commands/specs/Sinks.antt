@@ -1,0 +1,38 @@
+-- What a sink took of a text.
+use Rattle.std.specs.Prelude.{◌≡◌, MatchResult, ℕ, List, Option, Result, Ok, Err}
+use Rattle.std.specs.Io.KnownBytes.{Appends}
+use Rattle.base_store.specs.{Counts.Rose, Sink.GrewByProper, Sink.GrewByPart}
+use Rattle.call_commands.specs.declared.put.WriteStop.{WriteStop}
+use Rattle.call_commands.specs.declared.put.WriteStop.TheVariants as stop
+
+-- what is seen of a sink: the bytes that it took, where it tells them, and its count of faults
+pub record SinkView : Type 0 where
+  pub written : Option (List ℕ)
+  pub faults : ℕ
+
+-- what is seen of a sink with these two meanings
+abbrev pub sink_view : {K : Type 0} → (K → Option (List ℕ)) → (K → ℕ) → K → SinkView
+sink_view written faults k = record { written = written k; faults = faults k }
+
+-- the sink took the whole text
+pub record GrewByAll (old new : SinkView) (text : List ℕ) : Type 0 where
+  pub taken : Appends old.written new.written text
+  pub same : new.faults ≡ old.faults
+
+-- a put of a text: all of it, or a proper front and a counted fault
+abbrev pub Puts : {X Y : Type 0} → SinkView → SinkView → List ℕ → Result X Y → Type 0
+Puts old new text (Ok x) = GrewByAll old new text
+Puts old new text (Err e) =
+    Rose old.faults new.faults × GrewByProper old.written new.written text
+
+-- a writer of a text stopped, with a front of the text written
+pub record WriteStops (old new : SinkView) (text : List ℕ) (why : WriteStop) : Type 0 where
+  pub sink : why ≡ stop.Sink
+      → Rose old.faults new.faults × GrewByProper old.written new.written text
+  pub memory : why ≡ stop.Memory
+      → (new.faults ≡ old.faults) × GrewByPart old.written new.written text
+
+-- a writer of a text writes all of it, or stops with a front of it written
+abbrev pub Writes : {X : Type 0} → SinkView → SinkView → List ℕ → Result X WriteStop → Type 0
+Writes old new text result =
+    MatchResult result (λ _. GrewByAll old new text) (WriteStops old new text)

@@ -1,0 +1,74 @@
+//! Why there is no picture.
+
+ghost use Rattle.std.specs.Prelude.{◌≡◌, ◌≤◌};
+ghost use Rattle.call_commands.specs.Sinks.{Puts, sink_view};
+ghost use Rattle.call_picture.specs.Halts.{halt_line};
+
+use base_store::{PutFailed, Sink};
+use call_commands::put_pieces;
+use call_pilot::{Stop, put_message};
+use file_timing::TimingFault;
+use model_line::Memory;
+
+/// Why there is no picture: what stops `pilot` too, or a name that its file has not.
+#[derive(Clone, Copy, Debug, PartialEq, Eq)]
+pub enum Halt {
+    Stopped(Stop),
+    UnknownScript,
+    UnknownTiming,
+}
+
+impl Halt {
+    ghost use Rattle.call_picture.specs.Halts.{halt_status};
+
+    /// The exit status: that of `pilot`, 4 to 8; 9 where a name is unknown.
+    pub fn status(&self) -> u8
+        ensures is { result ≡ halt_status self.now }
+        ensures stops { 4 ≤ result }
+    {
+        match self {
+            Halt::Stopped(Stop::Usage) => 4,
+            Halt::Stopped(Stop::Refused(_)) => 5,
+            Halt::Stopped(Stop::Store(_)) => 6,
+            Halt::Stopped(Stop::Sink) => 7,
+            Halt::Stopped(Stop::Memory) => 8,
+            Halt::UnknownScript | Halt::UnknownTiming => 9,
+        }
+    }
+}
+
+/// Pushes the line that says it: that of `pilot`, or `unknown script`, `unknown timing`.
+pub fn put_halt<K: Sink>(sink: &mut K, halt: &Halt) -> Result<(), PutFailed>
+    ensures { Puts (sink_view K.written K.faults sink.old) (sink_view K.written K.faults sink.new)
+        (halt_line halt.now) result }
+{
+    match halt {
+        Halt::Stopped(stop) => put_message(sink, stop),
+        Halt::UnknownScript => put_pieces(sink, &[b"unknown script\n"]),
+        Halt::UnknownTiming => put_pieces(sink, &[b"unknown timing\n"]),
+    }
+}
+
+impl From<Stop> for Halt {
+    fn from(stop: Stop) -> Self {
+        Halt::Stopped(stop)
+    }
+}
+
+impl From<Memory> for Halt {
+    fn from(_: Memory) -> Self {
+        Halt::Stopped(Stop::Memory)
+    }
+}
+
+impl From<PutFailed> for Halt {
+    fn from(_: PutFailed) -> Self {
+        Halt::Stopped(Stop::Sink)
+    }
+}
+
+impl From<TimingFault> for Halt {
+    fn from(fault: TimingFault) -> Self {
+        Halt::Stopped(Stop::from(fault))
+    }
+}

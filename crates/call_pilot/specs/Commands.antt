@@ -1,0 +1,32 @@
+-- The commands: what each answers, and what it asks of the engine.
+use Rattle.call_commands.specs.Bench.{bench_answer, bench_asks}
+use Rattle.call_commands.specs.{Answers.Answers, Asked.Asks, Asked.asks_nothing}
+use Rattle.call_commands.specs.{Certify.certify_answer}
+use Rattle.call_commands.specs.{Certify.certify_asks, Check.check_answer, Check.check_asks}
+use Rattle.call_commands.specs.{Line.line_answer, Margin.margin_answer, Match.match_answer}
+use Rattle.call_commands.specs.{Migrate.migrate_answer, Net.net_answer, Play.play_answer}
+use Rattle.call_commands.specs.{Play.play_asks}
+use Rattle.call_commands.specs.{Recheck.recheck_answer, Report.report_answer, Split.split_answer}
+use Rattle.call_pilot.specs.Work as work
+use Rattle.call_pilot.specs.Work.{Work}
+
+abbrev pub answer : Work → Answers
+answer (work.net line) = net_answer line
+answer (work.line line) = line_answer line
+answer (work.migrate line) = migrate_answer line
+answer (work.certify line scripts) = certify_answer line scripts
+answer (work.report line scripts) = report_answer line scripts
+answer (work.play line scripts timings) = play_answer line scripts timings
+answer (work.check line scripts cert) = check_answer line scripts cert
+answer (work.matching line scripts records) = match_answer line scripts records
+answer (work.recheck line scripts trees) = recheck_answer line scripts trees
+answer (work.margin line scripts param) = margin_answer line scripts param
+answer (work.split line scripts n) = split_answer line scripts n
+answer (work.bench n) = bench_answer n
+
+abbrev pub asks : Work → Asks
+asks (work.certify line scripts) = certify_asks line scripts
+asks (work.play line scripts timings) = play_asks line scripts timings
+asks (work.check line scripts cert) = check_asks line
+asks (work.bench n) = bench_asks n
+asks w = asks_nothing

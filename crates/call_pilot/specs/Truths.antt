@@ -1,0 +1,84 @@
+-- What is so of every choice of delays where a command has answered a text.
+use Rattle.std.specs.Prelude.{◌≡◌, ◌<◌, ◌++◌, ℕ, List, Option, Some, IsFalse, IsTrue, MatchOption}
+use Rattle.std.specs.Prelude.{codes, length, slice_get}
+use Rattle.model_line.specs.{declared.line.Line.Line, declared.script.Script.Script}
+use Rattle.model_line.specs.Parameters.{terminal_count}
+use Rattle.model_logic.specs.Choice.{Choice, IsInside, IsWithin}
+use Rattle.model_logic.specs.Histories.{History, IsLineHistory, Meets}
+use Rattle.model_logic.specs.Rule.{Broken, Held, Rule}
+use Rattle.model_names.specs.NumbersByName.{param_named}
+use Rattle.run_rows.specs.PlayRows.{each_below}
+use Rattle.judge_report.specs.ReportText.{fields_text, report_header, rule_word}
+use Rattle.judge_margin.specs.declared.upper_end.UpperEnd.{UpperEnd}
+use Rattle.judge_margin.specs.{Margin.IsUpperEnd, MarginText.margin_line, Raised.raised}
+use Rattle.cert_check.specs.Scripts.{EachBelow}
+use Rattle.cert_split_text.specs.{Grammar.SplitResult, Text.split_text}
+use Rattle.cert_split_check.specs.Results.{AreTold}
+use Rattle.cert_headline.specs.Obligations.{AllMet, HoldsSomewhere, IsFailedBySome, IsMetByAll}
+use Rattle.cert_headline.specs.Obligations.{IsUnknown}
+use Rattle.call_pilot.specs.declared.stop.Status.{Status}
+use Rattle.call_pilot.specs.declared.stop.Status.TheVariants as status
+
+-- what the status of `certify` says. 0: every obligation is met, whatever the choice. 1: some choice
+-- fails one. 2: one is unknown.
+abbrev pub IsToldBy : Status → Line → List Script → Type 0
+IsToldBy status.Good line scripts = AllMet line scripts
+IsToldBy status.SomeNo line scripts = HoldsSomewhere line scripts IsFailedBySome
+IsToldBy status.SomeUndecided line scripts = HoldsSomewhere line scripts IsUnknown
+IsToldBy s line scripts = Unit {0}
+
+-- no history of any choice inside the declared intervals meets the obligation
+abbrev pub IsFailedByAll : Line → Script → ℕ → Type 0
+IsFailedByAll line script k =
+    (choice : Choice) (h : History) → IsInside line choice → IsLineHistory line script choice h
+    → ¬ (Meets line script k h)
+
+-- t is before this tick, or there is no such tick
+abbrev pub IsBefore : ℕ → Option ℕ → Type 0
+IsBefore t first = MatchOption first (Unit {0}) (λ m. t < m)
+
+-- the row is that of a script and a terminal, with these three fields of it and what they say
+pub record RowIsTrue (line : Line) (script : Script) (k : ℕ) (row : List ℕ) : Type 0 where
+  pub first_may : Option ℕ
+  pub first_must : Option ℕ
+  pub rule : Rule
+  pub row_is : row ≡ fields_text line script k first_may first_must ++ rule_word rule ++ codes "\n"
+  -- no choice inside trips the terminal before the first tick at which it may
+  pub may : (t : ℕ) → t < line.horizon → IsBefore t first_may → (choice : Choice) (h : History)
+      → IsInside line choice → IsLineHistory line script choice h → IsFalse (h.trip k t)
+  -- every choice inside trips it at the tick at which it must
+  pub must : (t : ℕ) → first_must ≡ Some t → (choice : Choice) (h : History)
+      → IsInside line choice → IsLineHistory line script choice h → IsTrue (h.trip k t)
+  -- `held`: every choice inside meets the obligation; `broken`: every choice inside fails it
+  pub held : rule ≡ Held → IsMetByAll line script k
+  pub broken : rule ≡ Broken → IsFailedByAll line script k
+
+-- the text is the header, and then for each script in order a true row for each terminal in order
+pub record ReportIsTrue (line : Line) (scripts : List Script) (text : List ℕ) : Type 0 where
+  pub row : ℕ → ℕ → List ℕ
+  pub text_is : text
+      ≡ report_header ++ each_below (length scripts) (λ i. each_below (terminal_count line) (row i))
+  pub rows : (i k : ℕ) (script : Script) → slice_get scripts i ≡ Some script
+      → k < terminal_count line → RowIsTrue line script k (row i k)
+
+-- the text is the line of this margin: its number is the greatest, up to 4000, to which every rule is
+-- held, and the obligation that it names is the first that is lost one above, or at the declared least
+-- where there is no such number; and every choice with that number as the parameter's upper end meets
+-- every obligation
+pub record MarginIsTrue (line : Line) (scripts : List Script) (name text : List ℕ) : Type 0 where
+  pub param : ℕ
+  pub param_is : param_named line name ≡ Some param
+  pub end : UpperEnd
+  pub text_is : text ≡ margin_line line scripts param end
+  pub end_is : IsUpperEnd line scripts param end
+  pub met : (v i k : ℕ) (script : Script) → end.greatest ≡ Some v
+      → slice_get scripts i ≡ Some script → k < terminal_count line → (choice : Choice) (h : History)
+      → IsWithin line choice (raised line param v) → IsLineHistory line script choice h
+      → Meets line script k h
+
+-- the text is that of these split trees, and what they say is so: every choice inside meets the
+-- obligation of a tree whose leaves are all `yes`; the numbers of a `no` are inside and fail it
+pub record SplitIsTrue (line : Line) (scripts : List Script) (text : List ℕ) : Type 0 where
+  pub parts : List (List SplitResult)
+  pub text_is : text ≡ split_text line scripts parts
+  pub told : EachBelow (AreTold line) scripts parts (length scripts)

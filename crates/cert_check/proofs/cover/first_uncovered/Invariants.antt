@@ -1,0 +1,9 @@
+use Rattle.std.proofs.Common.{ℕ, ◌<◌}
+use Rattle.model_line.specs.declared.script.Script.{Script}
+use Rattle.cert_check.specs.{Claims.AreGateWaves, Claims.pairs_of, Verdicts.IsKeyCovered}
+use Rattle.cert_check.proofs.cover.first_uncovered.Given as goal
+
+abbrev pub invariant-loop-k : goal.invariant-loop-k
+invariant-loop-k l =
+    (script : Script) → AreGateWaves l.line script l.net.gates (pairs_of l.keys) l.waves
+    → (k : ℕ) → k < l.k → IsKeyCovered l.line script (pairs_of l.keys) k

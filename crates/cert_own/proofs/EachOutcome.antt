@@ -1,0 +1,115 @@
+-- What is searched of scripts that fit is there, to each depth of at most eight.
+use Rattle.std.proofs.Common.{◌≡◌, ◌+◌, ◌<◌, ◌≤◌, ℕ, zero, suc, List, [], ◌∷◌, Some, length}
+use Rattle.std.proofs.Common.{map, refl, ap, subst, arith}
+use Rattle.std.proofs.lemmas.List.{length-append}
+use Rattle.std.proofs.lemmas.Option.{same_Some}
+use Rattle.std.specs.Prelude.{slice_get}
+use Rattle.std.specs.List.{All}
+use Rattle.model_line.specs.{declared.line.Line.Line, declared.script.Script.Script, Fits.Fits}
+use Rattle.model_line.specs.Parameters.{terminal_count}
+use Rattle.judge_verdict.specs.OneEach.{OneEach}
+use Rattle.cert_check.specs.ZipLaws.{zip_exists}
+use Rattle.judge_split.specs.declared.node.Outcome.{Outcome}
+use Rattle.judge_split.specs.declared.node.Outcome.TheVariants as outcome
+use Rattle.judge_split.specs.Trees.{SplitTree, Yes, Undecided, Split, preorder, height}
+use Rattle.judge_split.specs.{Search.Found, Search.Tree, Search.Fails, Search.IsSearch}
+use Rattle.judge_split.specs.Found.{IsFound}
+use Rattle.cert_split_text.specs.{Grammar.SplitResult, Piece.written_as}
+use Rattle.cert_own.specs.{Known.BoxesKnown, Searched.AreSearched, Searched.AllSearched}
+use Rattle.cert_own.proofs.EachSearch.{each_search}
+
+-- a list with an element for each number
+one_each : {X : Type 0} (P : ℕ → X → Type 0) (n : ℕ)
+    → ((k : ℕ) → k < n → (x : X) × P k x) → (xs : List X) × OneEach P n xs
+one_each P zero there = ([], record { count = refl; each = λ k x at. absurd (cc) })
+one_each {X} P (suc n) there =
+    let (x, is) = there 0 (omega arith) in
+    let (xs, are) = one_each (λ k. P (suc k)) n (λ k lt. there (suc k) (omega (arith, lt))) in (
+      x ∷ xs,
+      record {
+        count = ap suc are.count;
+        each = each_cons x xs is are.each;
+      },
+    ) where
+      each_cons : (x : X) (xs : List X) → P 0 x
+          → ((k : ℕ) (y : X) → slice_get xs k ≡ Some y → P (suc k) y) → (k : ℕ) (y : X)
+          → slice_get (x ∷ xs) k ≡ Some y → P k y
+      each_cons x xs is each zero y at = subst (P 0) (same_Some x y at) is
+      each_cons x xs is each (suc k) y at = each k y at
+
+-- ---- how many nodes a tree has
+
+room : ℕ → ℕ
+room zero = 2
+room (suc n) = room n + room n
+
+few_nodes : (n : ℕ) (tree : SplitTree) → height tree ≤ n → length (preorder tree) < room n
+unfolding room
+few_nodes zero Yes low = omega arith
+few_nodes zero Undecided low = omega arith
+few_nodes zero (Split param mid first second) low = absurd (omega (arith, low))
+few_nodes (suc n) Yes low = omega (arith, few_nodes n Yes (omega arith))
+few_nodes (suc n) Undecided low = omega (arith, few_nodes n Undecided (omega arith))
+few_nodes (suc n) (Split param mid first second) low =
+    omega (
+      arith,
+      few_nodes n first (omega (arith, low)),
+      few_nodes n second (omega (arith, low)),
+      length-append (preorder first) (preorder second),
+    )
+
+room_grows : (n m : ℕ) → n ≤ m → room n ≤ room m
+unfolding room
+room_grows zero zero le = omega arith
+room_grows zero (suc m) le = omega (arith, room_grows zero m (omega arith))
+room_grows (suc n) zero le = absurd (omega (arith, le))
+room_grows (suc n) (suc m) le = omega (arith, room_grows n m (omega (arith, le)))
+
+room_of_eight : room 8 ≡ 512
+unfolding room
+room_of_eight = refl
+
+-- ---- outcomes
+
+module _ (known : BoxesKnown)
+    (deep : (line : Line) (script : Script) (k n : ℕ) (tree : SplitTree)
+    → IsSearch script k n line (Tree tree) → height tree ≤ n)
+    (line : Line) (n : ℕ) (small : n ≤ 8) where
+  outcome_of : (script : Script) (k : ℕ) (found : Found) → IsSearch script k n line found
+      → (out : Outcome) × IsFound line script k n out
+  outcome_of script k (Fails timing) is = (outcome.Fails timing, is)
+  outcome_of script k (Tree tree) is = (
+    outcome.Tree (record {
+      ptr = line.params.ptr;
+      len = length (preorder tree);
+      cap = length (preorder tree);
+      alloc = line.params.alloc;
+      items = preorder tree;
+      ok = (refl, omega arith);
+      small = omega (
+        arith,
+        few_nodes n tree (deep line script k n tree is),
+        room_grows n 8 small,
+        room_of_eight,
+      );
+    }),
+    record { tree = tree; are = refl; found = is },
+  )
+
+  pub each_outcome : (script : Script) (k : ℕ) → script.deadline < line.horizon
+      → k < terminal_count line → (out : Outcome) × IsFound line script k n out
+  each_outcome script k early there =
+      let (found, is) = each_search known script k n line early there in
+      outcome_of script k found is
+
+  each_result : (script : Script) → Fits line script
+      → (results : List SplitResult) × AreSearched line n script results
+  each_result script fits =
+      let early = known.lines.deadlines line script fits in
+      let (searches, found) = one_each (λ k out. IsFound line script k n out) (terminal_count line)
+      (λ k there. each_outcome script k early there) in
+      (map written_as searches, record { searches = searches; found = found; written = refl })
+
+  pub each_part : (scripts : List Script) → All (Fits line) scripts
+      → (parts : List (List SplitResult)) × AllSearched line n scripts parts
+  each_part scripts fit = zip_exists (Fits line) (AreSearched line n) each_result scripts fit

@@ -1,0 +1,15 @@
+pub mod Lists
+pub mod Obligations
+pub mod KeyLists
+pub mod VerdictLists
+pub mod Accepted
+pub mod Certificates
+pub mod Supported
+pub mod Splits
+pub mod SameLines
+pub mod OneSearch
+pub mod OneOutcome
+mod MadeLines
+mod EachVerdict
+mod EachSearch
+mod EachOutcome

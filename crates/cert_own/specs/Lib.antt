@@ -1,0 +1,4 @@
+pub mod Known
+pub mod Written
+pub mod Certified
+pub mod Searched

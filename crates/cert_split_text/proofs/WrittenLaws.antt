@@ -1,0 +1,271 @@
+-- The text of results is a text of split trees that says them.
+use Rattle.std.proofs.Common.{◌≡◌, ◌≤◌, ◌<◌, ◌-◌, ◌+◌, ◌^◌, ◌==◌, ℕ, Bool, true, false, cond, List}
+use Rattle.std.proofs.Common.{[], ◌∷◌, ◌++◌, length, map, refl, sym, ◌∙◌, ap, subst, arith}
+use Rattle.std.proofs.Common.{append_assoc}
+use Rattle.std.proofs.Math.Nat.{le-max_left, le-max_right}
+use Rattle.std.proofs.lemmas.List.{map-append}
+use Rattle.std.proofs.lemmas.List.Concat.{flat_map-append}
+use Rattle.std.proofs.lemmas.List.Elements.{All-head, All-tail}
+use Rattle.std.specs.Prelude.{codes}
+use Rattle.std.specs.List.{All, flat_map}
+use Rattle.model_history.specs.Rails.{Ends}
+use Rattle.model_line.specs.{declared.line.Line.Line, declared.script.Script.Script}
+use Rattle.model_line.specs.{Parameters.param_count, Fits.Fits}
+use Rattle.model_logic.specs.Choice.{Box, declared_box}
+use Rattle.cert_text.specs.Grammar.{script_text, end_text, terminal_names, numbers_text, no_words}
+use Rattle.cert_text.specs.Text.{fed}
+use Rattle.judge_split.specs.declared.node.Node.{Node}
+use Rattle.judge_split.specs.declared.node.Node.TheVariants as node
+use Rattle.judge_split.specs.Trees.{SplitTree, Yes, Undecided, Split, preorder, height}
+use Rattle.judge_split.specs.Leaves.{Splits, lower_half, upper_half}
+use Rattle.base_lines.specs.{Lines.Lines, Lines.is_one_line, NamedLaws.whole_append}
+use Rattle.cert_split_text.specs.Grammar.{SplitResult, tree, fails, IsSplitResult, HasOneEach}
+use Rattle.cert_split_text.specs.Grammar.{deepest}
+use Rattle.cert_split_text.specs.Grammar.{Place, fixed, result_over, node_over, Stands, opens, Said}
+use Rattle.cert_split_text.specs.Grammar.{says_nothing, says_fails, says_node, node_text}
+use Rattle.cert_split_text.specs.Grammar.{head_text, tree_text, tree_places, part_places}
+use Rattle.cert_split_text.specs.Grammar.{result_said}
+use Rattle.cert_split_text.specs.Grammar.{tree_said, part_said, IsSplitText}
+use Rattle.cert_split_text.specs.{Known.Known, Text.nodes_text, Text.result_text, Text.trees_text}
+use Rattle.cert_split_text.specs.{Text.part_text, Text.parts_text, Text.split_text}
+use Rattle.cert_split_text.proofs.NameLaws.{IsLineUpTo, name_stands, terminals_stand}
+use Rattle.cert_text.specs.{NameLaws.names_count, NumberLaws.numbers_whole}
+use Rattle.cert_split_text.proofs.WholeLaws.{split_whole}
+
+-- lines of these places, and what is left
+abbrev Stood : Line → List Place → List Said → List ℕ → List Place → List ℕ → Type 0
+Stood line places said text left rest = Lines (Stands line) opens places said text left rest
+
+-- one line in front of others
+stand_one : (line : Line) (place : Place) (places : List Place) (m : Said) (more : List Said)
+    (bytes text : List ℕ) (left : List Place) (rest : List ℕ) → is_one_line bytes ≡ true
+    → Stands line place m bytes → Stood line (opens place m ++ places) more text left rest
+    → Stood line (place ∷ places) (m ∷ more) (fed bytes ++ text) left rest
+stand_one line place places m more bytes text left rest whole stands next = (
+  bytes,
+  (
+    text,
+    (record { whole = whole; is = append_assoc bytes (10 ∷ []) text }, (stands, next)),
+  ),
+)
+
+-- ---- a tree
+
+-- no interval goes past 4,000 ticks
+abbrev pub IsLow : Line → Box → Type 0
+IsLow line box = (i : ℕ) → i < param_count line → (box.ends i).greatest ≤ 4000
+
+pub low_declared : Known → (line : Line) → IsLow line (declared_box line)
+unfolding declared_box
+low_declared known line = known.intervals.within line
+
+one_of_two : (b : Bool) (x y : Ends) → x.greatest ≤ 4000 → y.greatest ≤ 4000
+    → (cond b x y).greatest ≤ 4000
+one_of_two true x y a b = a
+one_of_two false x y a b = b
+
+pub low_lower : (line : Line) (box : Box) (param mid : ℕ) → mid ≤ 4000 → IsLow line box
+    → IsLow line (lower_half box param mid)
+low_lower line box param mid small low = λ i lt.
+    one_of_two (i == param) (record { least = (box.ends param).least; greatest = mid })
+    (box.ends i) small (low i lt)
+
+pub low_upper : (line : Line) (box : Box) (param mid : ℕ) → param < param_count line → IsLow line box
+    → IsLow line (upper_half box param mid)
+low_upper line box param mid here low = λ i lt.
+    one_of_two (i == param)
+    (record { least = mid + 1; greatest = (box.ends param).greatest })
+    (box.ends i) (low param here) (low i lt)
+
+-- the text of a split and of the two trees below it, in front of another
+split_lines : (line : Line) (root : Node) (pre post : List Node) (text : List ℕ)
+    → nodes_text line (root ∷ (pre ++ post)) ++ text
+    ≡ fed (node_text line root) ++ (nodes_text line pre ++ (nodes_text line post ++ text))
+split_lines line root pre post text =
+    let first : List ℕ = fed (node_text line root) in
+    append_assoc first (nodes_text line (pre ++ post)) text
+    ∙ ap (λ (l : List ℕ). first ++ l)
+    (ap (λ (l : List ℕ). l ++ text)
+    (flat_map-append (λ n. fed (node_text line n)) pre post)
+    ∙ append_assoc (nodes_text line pre) (nodes_text line post) text)
+
+split_said : (pre post : List Node) (more : List Said)
+    → map says_node (pre ++ post) ++ more ≡ map says_node pre ++ (map says_node post ++ more)
+split_said pre post more =
+    ap (λ (l : List Said). l ++ more) (map-append (λ n. says_node n) pre post)
+    ∙ append_assoc (map says_node pre) (map says_node post) more
+
+tree_stands : (line : Line) (n : ℕ) (box : Box) (t : SplitTree) (later : List Place)
+    (more : List Said) (text : List ℕ) (left : List Place) (rest : List ℕ) → IsLow line box
+    → Splits line box t → height t ≤ n → Stood line later more text left rest
+    → Stood line (node_over n box ∷ later) (map says_node (preorder t) ++ more)
+    (nodes_text line (preorder t) ++ text) left rest
+tree_stands line n box Yes later more text left rest low splits high next =
+    stand_one line (node_over n box) later (says_node node.Yes) more (codes "yes") text left rest
+    refl (tt, refl) next
+tree_stands line n box Undecided later more text left rest low splits high next =
+    stand_one line (node_over n box) later (says_node node.Undecided) more (codes "undecided") text
+    left rest refl (tt, refl) next
+tree_stands line n box (Split param mid first second) later more text left rest low splits high
+    next =
+    let root : Node = node.Split param mid in
+    let pre : List Node = preorder first in
+    let post : List Node = preorder second in
+    let lower : Box = lower_half box param mid in
+    let upper : Box = upper_half box param mid in
+    let top = low param splits.0.exists in
+    let small : mid ≤ 4000 = omega (arith, top, splits.0.below) in
+    let little : mid < 2 ^ 32 = omega (arith, small) in
+    let some : 0 < n = omega (arith, high) in
+    let first_high : height first ≤ n - 1 =
+    omega (arith, high, le-max_left (height first) (height second)) in
+    let second_high : height second ≤ n - 1 =
+    omega (arith, high, le-max_right (height first) (height second)) in
+    let then = tree_stands line (n - 1) upper second later more text left rest
+    (low_upper line box param mid splits.0.exists low) splits.1.1 second_high next in
+    let both = tree_stands line (n - 1) lower first (node_over (n - 1) upper ∷ later)
+    (map says_node post ++ more) (nodes_text line post ++ text) left rest
+    (low_lower line box param mid small low) splits.1.0 first_high then in
+    let all = stand_one line (node_over n box) later (says_node root)
+    (map says_node pre ++ (map says_node post ++ more)) (node_text line root)
+    (nodes_text line pre ++ (nodes_text line post ++ text)) left rest
+    (split_whole line param mid little)
+    (record { left = some; number = little; can = splits.0 }, refl) both in
+    let P : List Said → Type 0 = λ l. Stood line (node_over n box ∷ later) (says_node root ∷ l)
+    (fed (node_text line root) ++ (nodes_text line pre ++ (nodes_text line post ++ text))) left rest
+    in
+    let Q : List ℕ → Type 0 = λ t. Stood line (node_over n box ∷ later)
+    (says_node root ∷ (map says_node (pre ++ post) ++ more)) t left rest in
+    subst Q (sym (split_lines line root pre post text)) (subst P (sym (split_said pre post more)) all)
+
+-- the same, where the tree is a result
+root_stands : (line : Line) (box : Box) (t : SplitTree) (later : List Place)
+    (more : List Said) (text : List ℕ) (left : List Place) (rest : List ℕ) → IsLow line box
+    → Splits line box t → height t ≤ deepest → Stood line later more text left rest
+    → Stood line (result_over box ∷ later) (map says_node (preorder t) ++ more)
+    (nodes_text line (preorder t) ++ text) left rest
+root_stands line box Yes later more text left rest low splits high next =
+    tree_stands line deepest box Yes later more text left rest low splits high next
+root_stands line box Undecided later more text left rest low splits high next =
+    tree_stands line deepest box Undecided later more text left rest low splits high next
+root_stands line box (Split param mid first second) later more text left rest low splits high next =
+    tree_stands line deepest box (Split param mid first second) later more text left rest low splits
+    high next
+
+-- ---- results
+
+module _ (known : Known) (line : Line) where
+  result_stands : (r : SplitResult) (later : List Place) (more : List Said) (text : List ℕ)
+      (left : List Place) (rest : List ℕ) → IsSplitResult line r
+      → Stood line later more text left rest
+      → Stood line (result_over (declared_box line) ∷ later) (result_said r ++ more)
+      (result_text line r ++ text) left rest
+  result_stands (tree nodes) later more text left rest is next =
+      let P : List Node → Type 0 = λ l. Stood line (result_over (declared_box line) ∷ later)
+      (map says_node l ++ more) (nodes_text line l ++ text) left rest in
+      subst P (sym is.are) (root_stands line (declared_box line) is.tree later more text left rest
+      (low_declared known line) is.splits is.low next)
+  result_stands (fails numbers) later more text left rest is next =
+      stand_one line (result_over (declared_box line)) later (says_fails numbers) more
+      (no_words numbers) text left rest
+      (whole_append (codes "no") (numbers_text numbers) refl (numbers_whole numbers is.small))
+      (is, refl) next
+
+  trees_stand : (names : List (List ℕ)) (results : List SplitResult) (later : List Place)
+      (more : List Said) (text : List ℕ) (left : List Place) (rest : List ℕ)
+      → length results ≡ length names → All (IsLineUpTo 16) names → All (IsSplitResult line) results
+      → Stood line later more text left rest
+      → Stood line (flat_map (tree_places line) names ++ later) (flat_map tree_said results ++ more)
+      (trees_text line names results ++ text) left rest
+  trees_stand [] [] later more text left rest long plain each next = next
+  trees_stand [] (r ∷ results) later more text left rest long plain each next =
+      absurd (omega arith)
+  trees_stand (name ∷ names) [] later more text left rest long plain each next =
+      absurd (omega arith)
+  trees_stand (name ∷ names) (r ∷ results) later more text left rest long plain each next =
+      let places : List Place = flat_map (tree_places line) names ++ later in
+      let said : List Said = flat_map tree_said results in
+      let trees : List ℕ = trees_text line names results in
+      let then = trees_stand names results later more text left rest (omega arith)
+      (All-tail (IsLineUpTo 16) name names plain) (All-tail (IsSplitResult line) r results each) next in
+      let own = result_stands r places (said ++ more) (trees ++ text) left rest
+      (All-head (IsSplitResult line) r results each) then in
+      let all = stand_one line (fixed (tree_text name)) (result_over (declared_box line) ∷ places)
+      says_nothing (result_said r ++ (said ++ more)) (tree_text name)
+      (result_text line r ++ (trees ++ text)) left rest
+      (whole_append (codes "tree ") name refl (All-head (IsLineUpTo 16) name names plain).whole) (refl, refl) own in
+      let P : List Said → Type 0 = λ l. Stood line
+      (fixed (tree_text name) ∷ (result_over (declared_box line) ∷ places)) (says_nothing ∷ l)
+      (fed (tree_text name) ++ (result_text line r ++ (trees ++ text))) left rest in
+      let Q : List ℕ → Type 0 = λ t. Stood line
+      (fixed (tree_text name) ∷ (result_over (declared_box line) ∷ places))
+      (says_nothing ∷ ((result_said r ++ said) ++ more)) t left rest in
+      subst Q (sym (append_assoc (fed (tree_text name)) (result_text line r ++ trees) text
+      ∙ ap (λ (l : List ℕ). fed (tree_text name) ++ l)
+      (append_assoc (result_text line r) trees text)))
+      (subst P (sym (append_assoc (result_said r) said more)) all)
+
+  -- ---- scripts
+
+  part_stands : (script : Script) (results : List SplitResult) (later : List Place)
+      (more : List Said) (text : List ℕ) (left : List Place) (rest : List ℕ) → Fits line script
+      → HasOneEach line results → Stood line later more text left rest
+      → Stood line (part_places line script ++ later) (part_said results ++ more)
+      (part_text line script results ++ text) left rest
+  part_stands script results later more text left rest fits each next =
+      let names : List (List ℕ) = terminal_names line in
+      let trees : List ℕ = trees_text line names results in
+      let places : List Place = part_places line script ++ later in
+      let all = stand_one line (fixed (script_text script.name))
+      (flat_map (tree_places line) names ++ later) says_nothing
+      (flat_map tree_said results ++ more) (script_text script.name) (trees ++ text) left rest
+      (whole_append (codes "script ") script.name refl (name_stands script.name fits.plain_name).whole)
+      (refl, refl) (trees_stand names results later more text left rest
+      (each.many ∙ sym (names_count line)) (terminals_stand line) each.each next) in
+      let Q : List ℕ → Type 0 = λ t. Stood line places (part_said results ++ more) t left rest in
+      subst Q (sym (append_assoc (fed (script_text script.name)) trees text)) all
+
+  parts_stand : (scripts : List Script) (parts : List (List SplitResult)) (later : List Place)
+      (more : List Said) (text : List ℕ) (left : List Place) (rest : List ℕ)
+      → length parts ≡ length scripts → All (Fits line) scripts → All (HasOneEach line) parts
+      → Stood line later more text left rest
+      → Stood line (flat_map (part_places line) scripts ++ later) (flat_map part_said parts ++ more)
+      (parts_text line scripts parts ++ text) left rest
+  parts_stand [] [] later more text left rest long fits each next = next
+  parts_stand [] (r ∷ parts) later more text left rest long fits each next = absurd (omega arith)
+  parts_stand (s ∷ scripts) [] later more text left rest long fits each next =
+      absurd (omega arith)
+  parts_stand (s ∷ scripts) (r ∷ parts) later more text left rest long fits each next =
+      let places : List Place = flat_map (part_places line) scripts in
+      let said : List Said = flat_map part_said parts in
+      let others : List ℕ = parts_text line scripts parts in
+      let all = part_stands s r (places ++ later) (said ++ more) (others ++ text) left rest
+      (All-head (Fits line) s scripts fits) (All-head (HasOneEach line) r parts each)
+      (parts_stand scripts parts later more text left rest (omega arith)
+      (All-tail (Fits line) s scripts fits) (All-tail (HasOneEach line) r parts each) next) in
+      let P : List Place → Type 0 = λ p. Stood line p (part_said r ++ (said ++ more))
+      (part_text line s r ++ (others ++ text)) left rest in
+      let Q : List Said → Type 0 = λ l. Stood line ((part_places line s ++ places) ++ later) l
+      (part_text line s r ++ (others ++ text)) left rest in
+      let R : List ℕ → Type 0 = λ t. Stood line ((part_places line s ++ places) ++ later)
+      ((part_said r ++ said) ++ more) t left rest in
+      subst R (sym (append_assoc (part_text line s r) others text))
+      (subst Q (sym (append_assoc (part_said r) said more))
+      (subst P (sym (append_assoc (part_places line s) places later)) all))
+
+  pub text_is_split_text : (scripts : List Script) (parts : List (List SplitResult))
+      → length parts ≡ length scripts → All (Fits line) scripts → All (HasOneEach line) parts
+      → IsSplitText line scripts parts (split_text line scripts parts)
+  text_is_split_text scripts parts long fits each =
+      let last : Stood line (fixed end_text ∷ []) (says_nothing ∷ []) (fed end_text) [] [] =
+      stand_one line (fixed end_text) [] says_nothing [] end_text [] [] [] refl (refl, refl) (refl, refl) in
+      record {
+        many = long;
+        each = each;
+        lines = stand_one line (fixed head_text)
+            (flat_map (part_places line) scripts ++ fixed end_text ∷ []) says_nothing
+            (flat_map part_said parts ++ says_nothing ∷ []) head_text
+            (parts_text line scripts parts ++ fed end_text) [] [] refl (refl, refl)
+            (parts_stand scripts parts (fixed end_text ∷ []) (says_nothing ∷ []) (fed end_text) [] []
+            long fits each last);
+      }

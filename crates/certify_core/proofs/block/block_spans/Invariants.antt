@@ -1,6 +1,0 @@
-use Rattle.certify_core.specs.{OneEach.OneEach, Candidates.IsBlockSpan}
-use Rattle.certify_core.proofs.block.block_spans.Given as goal
-
-abbrev pub invariant-loop-param : goal.invariant-loop-param
-invariant-loop-param l =
-    OneEach (λ param span. IsBlockSpan l.line l.first param span) l.param l.spans.items

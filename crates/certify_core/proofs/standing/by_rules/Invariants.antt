@@ -1,7 +1,0 @@
-use Rattle.interval_wave.specs.PairWavesOf.{pair_history}
-use Rattle.certify_core.specs.{OneEach.OneEach, Standings.IsStanding}
-use Rattle.certify_core.proofs.standing.by_rules.Given as goal
-
-abbrev pub invariant-loop-k : goal.invariant-loop-k
-invariant-loop-k l =
-    OneEach (λ k s. IsStanding l.line l.script k (pair_history l.waves) 0 s) l.k l.standings.items

@@ -1,7 +1,0 @@
--- The command `migrate`.
-use Rattle.model_line.specs.declared.line.Line.{Line}
-use Rattle.commands.specs.{Answers.Answers, Answers.prints, Line.IsLineText}
-
--- with times in microseconds
-abbrev pub migrate_answer : Line → Answers
-migrate_answer line = prints (IsLineText 2 line)

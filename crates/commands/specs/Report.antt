@@ -1,8 +1,0 @@
--- The command `report`.
-use Rattle.std.specs.Prelude.{List}
-use Rattle.model_line.specs.{declared.line.Line.Line, declared.script.Script.Script}
-use Rattle.timing_report.specs.ReportText.{IsReportText}
-use Rattle.commands.specs.Answers.{Answers, prints}
-
-abbrev pub report_answer : Line → List Script → Answers
-report_answer line scripts = prints (IsReportText line scripts)

@@ -1,0 +1,15 @@
+use Rattle.std.proofs.Common.{◌≡◌, ℕ, subst, sym, ◌∙◌, ap, arith}
+use Rattle.std.specs.List.{All}
+use Rattle.model_line.specs.Parameters.{terminal_count}
+use Rattle.draw_diagram.specs.Traces.{IsTraceOf, each_of, traces_at}
+use Rattle.draw_diagram.proofs.TraceLaws.{traces_are_of_line}
+use Rattle.draw_diagram.proofs.trace.traces.Goals as goal
+
+pub returns-clause-of_line : goal.returns-clause-of_line
+returns-clause-of_line c =
+    let line = c.args.line.now in
+    let count : c.loop-k.k ≡ terminal_count line =
+    omega (arith, c.len-k-end.ensures, c.loop-k-test.false, c.loop-k.auto.k-end) in
+    subst (All (IsTraceOf line))
+    (sym (c.loop-k.invariant ∙ ap (λ (n : ℕ). each_of n (traces_at line)) count))
+    (traces_are_of_line line)

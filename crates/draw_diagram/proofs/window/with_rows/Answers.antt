@@ -1,0 +1,24 @@
+use Rattle.std.proofs.Common.{take, subst, sym, arith}
+use Rattle.std.proofs.lemmas.List.Elements.{All-more, All-weaker}
+use Rattle.draw_diagram.specs.Windows.{ChangesBelow, IsShown}
+use Rattle.draw_diagram.proofs.WindowLaws.{row_still_shown}
+use Rattle.draw_diagram.proofs.window.with_rows.Goals as goal
+
+pub loop-row-preserved : goal.loop-row-preserved
+loop-row-preserved c =
+    let wide = c.with_row-wide.result in
+    let before = c.loop-row.wide in
+    let xs = c.args.rows.now in
+    let i = c.loop-row.row-index in
+    record {
+      shown =
+          All-more (IsShown wide) xs i c.row-item.result (omega arith)
+          (All-weaker (IsShown before) (IsShown wide)
+          (row_still_shown before wide c.with_row-wide.ensures.wider) (take i xs)
+          c.loop-row.invariant.shown)
+          (subst (IsShown wide) c.row-item.is c.with_row-wide.ensures.shown);
+      below = λ h low all. c.with_row-wide.ensures.below h
+          (c.loop-row.invariant.below h low all)
+          (subst (ChangesBelow h) (sym c.row-item.is) (all i c.row-item.result (omega arith)));
+      wider = (omega arith, omega arith);
+    }

@@ -1,0 +1,153 @@
+//! The time axis.
+
+ghost use Rattle.std.specs.Prelude.{◌≡◌, ◌≤◌, ◌<◌, ◌+◌, ◌++◌, OnOk};
+ghost use Rattle.draw_layout.specs.Axis.{axis, units, round_tick, tick_drawn, cut};
+ghost use Rattle.draw_layout.specs.Axis.{left_cut, right_cut};
+ghost use Rattle.draw_layout.specs.Scale.{step_of, more};
+ghost use Rattle.draw_shapes.specs.Seen.{figures_seen};
+ghost use Rattle.draw_diagram.specs.Traces.{each_of};
+
+use crate::scale::{LEFT, RIGHT, label_step, x_of};
+use crate::words::Words;
+use draw_diagram::Window;
+use draw_shapes::{Class, Figure, put_line, put_text};
+use model_line::{Line, Memory};
+use std::alloc::Global;
+
+/// How much lies below the rows for the axis.
+pub const AXIS_HEIGHT: u32 = 420;
+
+/// Appends lines at round ticks from the top to the bottom of the rows, and below them the ticks
+/// and the milliseconds; two strokes where the axis is cut.
+pub fn put_axis(
+    alloc: Global,
+    figures: &mut Vec<Figure>,
+    of: &Line,
+    window: Window,
+    top: u32,
+    bottom: u32,
+) -> Result<(), Memory>
+    ensures { OnOk result (figures_seen figures.new.items
+        ≡ figures_seen figures.old.items ++ axis of.now window top bottom) }
+{
+    put_units(alloc, figures, bottom)?;
+    put_ticks(alloc, figures, of, window, top, bottom)?;
+    if window.first > 0 {
+        put_cut(figures, LEFT, bottom)?;
+    }
+    if window.last < of.horizon - 1 {
+        put_cut(figures, RIGHT, bottom)?;
+    }
+    Ok(())
+}
+
+// What the two rows of numbers are, at the left of the longest number that may stand at the axis's
+// left end.
+fn put_units(alloc: Global, figures: &mut Vec<Figure>, bottom: u32) -> Result<(), Memory>
+    ensures { OnOk result (figures_seen figures.new.items
+        ≡ figures_seen figures.old.items ++ units bottom) }
+{
+    let x = LEFT - 520;
+    let tick = Words::new(alloc).word(b"tick")?;
+    let ms = Words::new(alloc).word(b"ms")?;
+    put_text(
+        figures,
+        Class::End,
+        (x, bottom.saturating_add(170)),
+        tick.bytes,
+    )?;
+    put_text(
+        figures,
+        Class::QuietEnd,
+        (x, bottom.saturating_add(330)),
+        ms.bytes,
+    )?;
+    Ok(())
+}
+
+// The ticks that are shown and round.
+fn put_ticks(
+    alloc: Global,
+    figures: &mut Vec<Figure>,
+    of: &Line,
+    window: Window,
+    top: u32,
+    bottom: u32,
+) -> Result<(), Memory>
+    ensures { OnOk result (figures_seen figures.new.items
+        ≡ figures_seen figures.old.items
+        ++ each_of (more window.last 1) (round_tick of.now window top bottom)) }
+{
+    let step = label_step(window, of.tick_us);
+    for t in 0..window.last.saturating_add(1) {
+        put_if_round(alloc, figures, of, window, step, t, top, bottom)?;
+    }
+    Ok(())
+}
+
+// The tick, if it is shown and round.
+fn put_if_round(
+    alloc: Global,
+    figures: &mut Vec<Figure>,
+    of: &Line,
+    window: Window,
+    step: u32,
+    t: u32,
+    top: u32,
+    bottom: u32,
+) -> Result<(), Memory>
+    requires step { step ≡ step_of window of.now.tick_us }
+    requires some { 1 ≤ step }
+    ensures { OnOk result (figures_seen figures.new.items
+        ≡ figures_seen figures.old.items ++ round_tick of.now window top bottom t) }
+{
+    if window.first <= t && t % step == 0 {
+        put_tick(alloc, figures, of, window, t, top, bottom)?;
+    }
+    Ok(())
+}
+
+// A line at a tick, and its two numbers.
+fn put_tick(
+    alloc: Global,
+    figures: &mut Vec<Figure>,
+    of: &Line,
+    window: Window,
+    t: u32,
+    top: u32,
+    bottom: u32,
+) -> Result<(), Memory>
+    ensures { OnOk result (figures_seen figures.new.items
+        ≡ figures_seen figures.old.items ++ tick_drawn of.now window top bottom t) }
+{
+    let x = x_of(window, t);
+    let tick = Words::new(alloc).number(t as u64)?;
+    let ms = Words::new(alloc).milliseconds((t as u64).saturating_mul(of.tick_us as u64))?;
+    put_line(figures, Class::Grid, (x, top), (x, bottom))?;
+    put_text(
+        figures,
+        Class::Middle,
+        (x, bottom.saturating_add(170)),
+        tick.bytes,
+    )?;
+    put_text(
+        figures,
+        Class::QuietMiddle,
+        (x, bottom.saturating_add(330)),
+        ms.bytes,
+    )?;
+    Ok(())
+}
+
+// Two slanted strokes through the foot of the axis.
+fn put_cut(figures: &mut Vec<Figure>, x: u32, bottom: u32) -> Result<(), Memory>
+    requires high { x ≤ 7500 }
+    requires low { 2000 ≤ x }
+    ensures { OnOk result (figures_seen figures.new.items
+        ≡ figures_seen figures.old.items ++ cut x bottom) }
+{
+    let (upper, lower) = (bottom.saturating_sub(50), bottom.saturating_add(50));
+    put_line(figures, Class::Margin, (x - 50, lower), (x - 10, upper))?;
+    put_line(figures, Class::Margin, (x + 10, lower), (x + 50, upper))?;
+    Ok(())
+}

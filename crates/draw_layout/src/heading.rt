@@ -1,0 +1,50 @@
+//! The heading of a drawing.
+
+ghost use Rattle.std.specs.Prelude.{◌≡◌, IfOk};
+ghost use Rattle.draw_layout.specs.Drawings.{heading, kind_said, scheme_said};
+ghost use Rattle.draw_layout.specs.Words.{said};
+
+use crate::subject::Subject;
+use crate::words::Words;
+use model_line::{Kind, Line, Memory, Scheme, Script};
+use std::alloc::Global;
+
+/// `POTT, internal fault F1: every choice of delays`.
+pub fn heading_words(
+    alloc: Global,
+    line: &Line,
+    script: &Script,
+    subject: Subject,
+) -> Result<Words, Memory>
+    ensures { IfOk result (λ words. said words ≡ heading line.now script.now subject) }
+{
+    let words = Words::new(alloc)
+        .word(scheme_name(line.scheme))?
+        .word(kind_name(script.kind))?
+        .word(script.name.bytes())?;
+    match subject {
+        Subject::Play(timing) => words.word(b": timing ")?.word(timing.bytes()),
+        Subject::EveryChoice => words.word(b": every choice of delays"),
+    }
+}
+
+fn scheme_name(scheme: Scheme) -> &'static [u8]
+    ensures { result.now ≡ scheme_said scheme }
+{
+    match scheme {
+        Scheme::Pott => b"POTT",
+        Scheme::Putt => b"PUTT",
+        Scheme::Dcb => b"DCB",
+        Scheme::Dcub => b"DCUB",
+        Scheme::Dtt => b"DTT",
+    }
+}
+
+fn kind_name(kind: Kind) -> &'static [u8]
+    ensures { result.now ≡ kind_said kind }
+{
+    match kind {
+        Kind::Internal => b", internal fault ",
+        Kind::External => b", external fault ",
+    }
+}

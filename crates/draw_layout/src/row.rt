@@ -1,0 +1,245 @@
+//! A row of a diagram.
+
+ghost use Rattle.std.specs.Prelude.{◌≡◌, ◌≤◌, ◌++◌, ◌∷◌, [], IfOk, OnOk};
+ghost use Rattle.draw_layout.specs.{Scale.place_of, Words.said};
+ghost use Rattle.draw_layout.specs.Rows.{is_drawn, is_ever_shown, is_shown, is_off, bar_height};
+ghost use Rattle.draw_layout.specs.Rows.{bar_class, row_name};
+ghost use Rattle.draw_layout.specs.Rows.{others_said, terminal_of, value_word, stretch_said};
+ghost use Rattle.draw_layout.specs.Rows.{stretches_said};
+ghost use Rattle.draw_layout.specs.Rows.{row_title, bar_if_any, bars, row_figures, row_shape};
+ghost use Rattle.draw_shapes.specs.Seen.{figures_seen, shape_seen};
+ghost use Rattle.model_line.specs.Channels.{from_of};
+ghost use Rattle.model_names.specs.NamesByNumber.{terminal_name};
+
+use crate::scale::{LEFT, RIGHT, x_of};
+use crate::words::Words;
+use draw_diagram::{Row, Stretch, Trace, Window};
+use draw_shapes::{Class, Figure, Shape, put_line, put_rectangle, put_text};
+use model_line::{Line, Memory};
+use model_names::{element_word, name_of_terminal};
+use run_signal::Tern;
+use std::alloc::Global;
+
+/// Whether a row is drawn: keys and trips always, and what the script shows at some tick.
+pub fn is_drawn(row: &Row) -> bool
+    ensures { result ≡ is_drawn row.now }
+{
+    match row.trace {
+        Trace::Key(_) | Trace::Trip(_) => true,
+        Trace::Seen(_) | Trace::Lost(_) => is_ever_shown(row.stretches.as_slice()),
+    }
+}
+
+fn is_ever_shown(stretches: &[Stretch]) -> bool
+    ensures { result ≡ is_ever_shown stretches.now }
+{
+    stretches.iter().any(|s| is_shown(s))
+}
+
+fn is_shown(stretch: &Stretch) -> bool
+    ensures { result ≡ is_shown stretch.now }
+{
+    !is_off(stretch.value)
+}
+
+fn is_off(value: Tern) -> bool
+    ensures { result ≡ is_off value }
+{
+    match value {
+        Tern::Zero => true,
+        Tern::One | Tern::Unknown => false,
+    }
+}
+
+// How high the bars of a row are.
+fn bar_height(trace: Trace) -> u32
+    ensures { result ≡ bar_height trace }
+{
+    match trace {
+        Trace::Key(_) | Trace::Trip(_) => 160,
+        Trace::Seen(_) | Trace::Lost(_) => 90,
+    }
+}
+
+// The name of a row within its terminal.
+fn row_name(alloc: Global, of: &Line, trace: Trace) -> Result<Words, Memory>
+    ensures { IfOk result (λ words. said words ≡ row_name of.now trace) }
+{
+    let words = Words::new(alloc);
+    match trace {
+        Trace::Seen(place) => words.word(b"sees ")?.word(element_word(place.element)),
+        Trace::Lost(channel) => words.word(b"lost from ")?.word(sender_name(of, channel)),
+        Trace::Key(_) => words.word(b"key"),
+        Trace::Trip(_) => words.word(b"trip"),
+    }
+}
+
+fn sender_name<'a>(of: &'a Line, channel: u32) -> &'a [u8]
+    ensures { result.now ≡ terminal_name of.now (from_of of.now.channels.items channel) }
+{
+    let sender = match of.channels.as_slice().get(channel as usize) {
+        Some(channel) => channel.from,
+        None => 0,
+    };
+    name_of_terminal(of, sender)
+}
+
+// The terminal of a row.
+fn terminal_of(of: &Line, trace: Trace) -> u32
+    ensures { result ≡ terminal_of of.now trace }
+{
+    match trace {
+        Trace::Seen(place) => place.terminal,
+        Trace::Key(terminal) | Trace::Trip(terminal) => terminal,
+        Trace::Lost(channel) => match of.channels.as_slice().get(channel as usize) {
+            Some(channel) => channel.to,
+            None => 0,
+        },
+    }
+}
+
+/// A row: its name, its base line and a bar for each stretch that is not off, whose lower edge is
+/// at `base`. Its title says all stretches.
+#[tactic(auto, unfolding(crate::specs::Rows::row_shape))]
+pub fn drawn_row(
+    alloc: Global,
+    of: &Line,
+    window: Window,
+    row: &Row,
+    base: u32,
+) -> Result<Shape, Memory>
+    ensures { IfOk result (λ shape. shape_seen shape ≡ row_shape of.now window base row.now) }
+{
+    let title = row_title(alloc, of, row)?;
+    let figures = row_figures(alloc, of, window, row, base)?;
+    Ok(Shape::Titled(title.bytes, figures))
+}
+
+fn row_figures(
+    alloc: Global,
+    of: &Line,
+    window: Window,
+    row: &Row,
+    base: u32,
+) -> Result<Vec<Figure>, Memory>
+    ensures { IfOk result (λ figures.
+        figures_seen figures.items ≡ row_figures of.now window base row.now) }
+{
+    let name = row_name(alloc, of, row.trace)?;
+    let mut figures = Vec::new(alloc);
+    let at = (LEFT - 100, base.saturating_sub(10));
+    put_text(&mut figures, Class::End, at, name.bytes)?;
+    put_line(&mut figures, Class::Base, (LEFT, base), (RIGHT, base))?;
+    put_bars(
+        &mut figures,
+        window,
+        row.trace,
+        row.stretches.as_slice(),
+        base,
+    )?;
+    Ok(figures)
+}
+
+// Appends a bar for each stretch that is not off.
+fn put_bars(
+    figures: &mut Vec<Figure>,
+    window: Window,
+    trace: Trace,
+    stretches: &[Stretch],
+    base: u32,
+) -> Result<(), Memory>
+    ensures { OnOk result (figures_seen figures.new.items
+        ≡ figures_seen figures.old.items ++ bars window trace base stretches.now) }
+{
+    for stretch in stretches {
+        put_bar(figures, window, trace, stretch, base)?;
+    }
+    Ok(())
+}
+
+// Appends the bar of a stretch, if it is not off.
+fn put_bar(
+    figures: &mut Vec<Figure>,
+    window: Window,
+    trace: Trace,
+    stretch: &Stretch,
+    base: u32,
+) -> Result<(), Memory>
+    ensures { OnOk result (figures_seen figures.new.items
+        ≡ figures_seen figures.old.items ++ bar_if_any window trace base stretch.now) }
+{
+    if is_off(stretch.value) {
+        return Ok(());
+    }
+    let height = bar_height(trace);
+    let from = x_of(window, stretch.from);
+    let to = x_of(window, stretch.to);
+    let class = bar_class(trace, stretch.value);
+    let corner = (from, base.saturating_sub(height));
+    put_rectangle(figures, class, corner, (to.saturating_sub(from), height))?;
+    Ok(())
+}
+
+fn bar_class(trace: Trace, value: Tern) -> Class
+    ensures { result ≡ bar_class trace value }
+{
+    match (trace, value) {
+        (Trace::Key(_), Tern::Unknown) => Class::KeyOpen,
+        (Trace::Key(_), _) => Class::KeyOn,
+        (Trace::Trip(_), Tern::Unknown) => Class::TripOpen,
+        (Trace::Trip(_), _) => Class::TripOn,
+        _ => Class::Seen,
+    }
+}
+
+// What a row says in words: `A trip: off 0 to 14, open 15 to 18, on 19 to 119`.
+fn row_title(alloc: Global, of: &Line, row: &Row) -> Result<Words, Memory>
+    ensures { IfOk result (λ title. said title ≡ row_title of.now row.now) }
+{
+    let name = row_name(alloc, of, row.trace)?;
+    let title = Words::new(alloc)
+        .word(name_of_terminal(of, terminal_of(of, row.trace)))?
+        .word(b" ")?
+        .word(name.bytes.as_slice())?;
+    stretches_said(title, row.stretches.as_slice())
+}
+
+// And all stretches, the first behind a colon, each other behind a comma.
+fn stretches_said(words: Words, stretches: &[Stretch]) -> Result<Words, Memory>
+    ensures { IfOk result (λ all. said all ≡ said words ++ stretches_said stretches.now) }
+{
+    match stretches {
+        [] => Ok(words),
+        [first, rest @ ..] => others_said(stretch_said(words.word(b": ")?, first)?, rest),
+    }
+}
+
+fn others_said(words: Words, stretches: &[Stretch]) -> Result<Words, Memory>
+    ensures { IfOk result (λ all. said all ≡ said words ++ others_said stretches.now) }
+{
+    let mut all = words;
+    for stretch in stretches {
+        all = stretch_said(all.word(b", ")?, stretch)?;
+    }
+    Ok(all)
+}
+
+fn stretch_said(words: Words, stretch: &Stretch) -> Result<Words, Memory>
+    ensures { IfOk result (λ all. said all ≡ said words ++ stretch_said stretch.now) }
+{
+    words
+        .word(value_name(stretch.value))?
+        .number(stretch.from as u64)?
+        .word(b" to ")?
+        .number(stretch.to.saturating_sub(1) as u64)
+}
+
+fn value_name(value: Tern) -> &'static [u8]
+    ensures { result.now ≡ value_word value }
+{
+    match value {
+        Tern::Zero => b"off ",
+        Tern::One => b"on ",
+        Tern::Unknown => b"open ",
+    }
+}

@@ -1,7 +1,0 @@
-use Rattle.std.proofs.Common.{◌≡◌, take}
-use Rattle.drawing.specs.{Seen.figures_seen, Svg.figures_text}
-use Rattle.drawing.proofs.document.figures.Given as goal
-
-abbrev pub invariant-loop-one : goal.invariant-loop-one
-invariant-loop-one l =
-    l.drawn.text.items ≡ figures_text (figures_seen (take l.one-index l.figures))

@@ -1,0 +1,124 @@
+//! Why a line file is refused.
+
+ghost use Rattle.std.specs.Prelude.{◌≡◌};
+ghost use Rattle.file_line.specs.declared.fault.LineFault.TheVariants.{Memory};
+ghost use Rattle.file_line.specs.Faults.{fault_name, fault_number};
+
+use crate::path::Path;
+use model_line::Name;
+use std::alloc::{AllocError, AllocFailed};
+use std::error::Error;
+use std::fmt;
+
+/// The first fault of a line file, with its place, or want of memory.
+#[derive(Clone, Copy, PartialEq, Eq, Debug, Drop)]
+pub enum LineFault {
+    /// The bytes are no TOML document.
+    NotToml,
+    /// A key that does not belong there.
+    Unknown(Path),
+    /// A required key is absent.
+    Missing(Path),
+    /// A value of another type.
+    WrongKind(Path),
+    /// A value outside its limits.
+    Range(Path),
+    /// A name that is not plain, or that is no other terminal's.
+    BadName(Path),
+    /// A name, or a pair of terminals, that stands before.
+    Twice(Path),
+    /// No channel leads from the first terminal to the second.
+    Channels(Name, Name),
+    /// Memory ran out.
+    Memory,
+}
+
+impl LineFault {
+    /// The fault's printed name.
+    pub fn name(&self) -> &'static str
+        ensures { result.now ≡ fault_name self.now }
+    {
+        match self {
+            LineFault::NotToml => "NotToml",
+            LineFault::Unknown(_) => "Unknown",
+            LineFault::Missing(_) => "Missing",
+            LineFault::WrongKind(_) => "Kind",
+            LineFault::Range(_) => "Range",
+            LineFault::BadName(_) => "BadName",
+            LineFault::Twice(_) => "Twice",
+            LineFault::Channels(_, _) => "Channels",
+            LineFault::Memory => "Memory",
+        }
+    }
+
+    /// The fault's number, from 1 on in the order above.
+    pub fn number(&self) -> u8
+        ensures { result ≡ fault_number self.now }
+    {
+        match self {
+            LineFault::NotToml => 1,
+            LineFault::Unknown(_) => 2,
+            LineFault::Missing(_) => 3,
+            LineFault::WrongKind(_) => 4,
+            LineFault::Range(_) => 5,
+            LineFault::BadName(_) => 6,
+            LineFault::Twice(_) => 7,
+            LineFault::Channels(_, _) => 8,
+            LineFault::Memory => 9,
+        }
+    }
+}
+
+impl fmt::Display for LineFault {
+    fn fmt<W: fmt::Write>(&self, f: &mut fmt::Formatter<W>) -> fmt::Result {
+        f.write_str(self.name())?;
+        match self {
+            LineFault::NotToml | LineFault::Memory => Ok(()),
+            LineFault::Unknown(path)
+            | LineFault::Missing(path)
+            | LineFault::WrongKind(path)
+            | LineFault::Range(path)
+            | LineFault::BadName(path)
+            | LineFault::Twice(path) => write!(f, " {path}"),
+            LineFault::Channels(from, to) => {
+                f.write_str(" ")?;
+                write_bytes(f, from.bytes())?;
+                f.write_str(">")?;
+                write_bytes(f, to.bytes())
+            }
+        }
+    }
+}
+
+fn write_bytes<W: fmt::Write>(f: &mut fmt::Formatter<W>, bytes: &[u8]) -> fmt::Result {
+    for byte in bytes {
+        f.write_char(char::from(*byte))?;
+    }
+    Ok(())
+}
+
+impl Error for LineFault {}
+
+impl From<AllocError> for LineFault {
+    ghost from_gives = { λ _ e. e ≡ Memory };
+
+    fn from(_: AllocError) -> Self {
+        LineFault::Memory
+    }
+}
+
+impl<T: Drop> From<AllocFailed<T>> for LineFault {
+    ghost from_gives = { λ _ e. e ≡ Memory };
+
+    fn from(_: AllocFailed<T>) -> Self {
+        LineFault::Memory
+    }
+}
+
+impl From<model_line::Memory> for LineFault {
+    ghost from_gives = { λ _ e. e ≡ Memory };
+
+    fn from(_: model_line::Memory) -> Self {
+        LineFault::Memory
+    }
+}

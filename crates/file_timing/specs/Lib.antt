@@ -1,0 +1,9 @@
+pub mod Gives
+pub mod Row
+pub mod SoFar
+pub mod Checks
+pub mod Opened
+pub mod Timings
+pub mod Faults
+pub mod Printed
+pub mod SoFarInside

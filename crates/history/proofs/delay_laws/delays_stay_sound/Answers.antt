@@ -1,5 +1,0 @@
-use Rattle.history.proofs.DelayLaws.{delayed_sound}
-use Rattle.history.proofs.delay_laws.delays_stay_sound.Goals as goal
-
-pub returns : goal.returns
-returns c = λ u c t ordered sound. delayed_sound u (c t) t ordered sound

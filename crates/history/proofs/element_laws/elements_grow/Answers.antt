@@ -1,5 +1,0 @@
-use Rattle.history.proofs.ElementLaws.{timed-below, sealed-below}
-use Rattle.history.proofs.element_laws.elements_grow.Goals as goal
-
-pub returns : goal.returns
-returns c = record { timed = timed-below; sealed = sealed-below }

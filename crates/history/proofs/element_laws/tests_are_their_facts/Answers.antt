@@ -1,9 +1,0 @@
-use Rattle.std.specs.Prelude.{IsTrue}
-use Rattle.history.proofs.ElementLaws.{Decides-true, Decides-every, Decides-some}
-use Rattle.history.proofs.element_laws.tests_are_their_facts.Goals as goal
-
-pub returns : goal.returns
-returns c = record {
-  every = λ q n. Decides-every q (λ k. IsTrue (q k)) n (λ k. Decides-true (q k));
-  some = λ q n. Decides-some q (λ k. IsTrue (q k)) n (λ k. Decides-true (q k));
-}

@@ -1,5 +1,0 @@
-use Rattle.history.proofs.RailsBridge.{rails_timed-same, rails_sealed-same}
-use Rattle.history.proofs.rails_laws.rails_read_the_past.Goals as goal
-
-pub returns : goal.returns
-returns c = record { timed = rails_timed-same; sealed = rails_sealed-same }

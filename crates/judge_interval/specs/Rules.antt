@@ -1,0 +1,48 @@
+-- The rule that is answered, and the deadlines that it asks for.
+use Rattle.std.specs.Prelude.{◌≡◌, ◌<◌, ℕ, suc, Bool, not, if◌then◌else◌}
+use Rattle.std.proofs.Common.{◌∙◌, ap}
+use Rattle.model_history.specs.{Elements.some_below, Rails.Rails}
+use Rattle.model_line.specs.declared.script.Kind.TheVariants.{Internal, External}
+use Rattle.model_line.specs.declared.script.Kind.{Kind}
+use Rattle.model_logic.specs.Rule as of_line
+use Rattle.model_logic.specs.Rule.{rule_by}
+use Rattle.judge_interval.specs.declared.rule.Rule.{Rule}
+use Rattle.judge_interval.specs.declared.rule.Rule.TheVariants.{Held, Broken, Unknown}
+
+-- the rule of the model that an answer is
+abbrev pub rule_named : Rule → of_line.Rule
+rule_named Held = of_line.Held
+rule_named Broken = of_line.Broken
+rule_named Unknown = of_line.Unknown
+
+-- an internal deadline is below the horizon
+abbrev pub IsDeadlineWithin : Kind → ℕ → ℕ → Type 0
+IsDeadlineWithin Internal deadline horizon = deadline < horizon
+IsDeadlineWithin External deadline horizon = Unit {0}
+
+-- how many ticks an obligation looks at: those up to the deadline, or all
+abbrev pub counted_ticks : Kind → ℕ → ℕ → ℕ
+counted_ticks Internal deadline horizon = suc deadline
+counted_ticks External deadline horizon = horizon
+
+-- the rule, by whether the must rail and the may rail of the trip are true at some of these ticks
+abbrev pub rule_from : Kind → Bool → Bool → of_line.Rule
+rule_from Internal must may =
+    if must then of_line.Held else (if not may then of_line.Broken else of_line.Unknown)
+rule_from External must may =
+    if not may then of_line.Held else (if must then of_line.Broken else of_line.Unknown)
+
+-- by the two rails it is the rule of the model
+pub rule_by_rails : (kind : Kind) (deadline horizon : ℕ) (trip : ℕ → Rails) (must may : Bool)
+    → must ≡ some_below (λ t. (trip t).must) (counted_ticks kind deadline horizon)
+    → may ≡ some_below (λ t. (trip t).may) (counted_ticks kind deadline horizon)
+    → rule_from kind must may ≡ rule_by kind deadline horizon trip
+unfolding rule_by
+rule_by_rails Internal deadline horizon trip must may is_must is_may =
+    ap (λ (b : Bool). rule_from Internal b may) is_must
+    ∙ ap (rule_from Internal
+    (some_below (λ t. (trip t).must) (counted_ticks Internal deadline horizon))) is_may
+rule_by_rails External deadline horizon trip must may is_must is_may =
+    ap (λ (b : Bool). rule_from External b may) is_must
+    ∙ ap (rule_from External
+    (some_below (λ t. (trip t).must) (counted_ticks External deadline horizon))) is_may

@@ -1,0 +1,80 @@
+-- The rows speak of the line's terminals and ticks alone.
+use Rattle.std.proofs.Common.{◌≡◌, ◌<◌, ◌≤◌, ◌++◌, ◌||◌, ℕ, zero, suc, Bool, List, Option, refl}
+use Rattle.std.proofs.Common.{sym, ◌∙◌, ap, arith}
+use Rattle.std.specs.Prelude.{codes}
+use Rattle.model_history.specs.{Elements.some_below, Rails.Rails, Rails.must_of, Rails.may_of}
+use Rattle.model_line.specs.declared.script.Kind.TheVariants.{Internal, External}
+use Rattle.model_line.specs.{declared.line.Line.Line, declared.script.Kind.Kind}
+use Rattle.model_line.specs.{declared.script.Script.Script, Parameters.terminal_count}
+use Rattle.model_logic.specs.Histories.{PairHistory, IsSamePairHistory}
+use Rattle.model_logic.specs.Rule.{Rule, rule_by}
+use Rattle.run_rows.specs.PlayRows.{each_below}
+use Rattle.judge_interval.specs.Rules.{counted_ticks, rule_by_rails}
+use Rattle.judge_report.specs.ReportText.{fields_text, rule_word, row_text, script_rows}
+use Rattle.run_waves.specs.FirstTick.{first_on-same}
+
+some_below-same : (u v : ℕ → Bool) (n : ℕ) → ((t : ℕ) → t < n → u t ≡ v t)
+    → some_below u n ≡ some_below v n
+some_below-same u v zero same = refl
+some_below-same u v (suc n) same =
+    ap (λ (b : Bool). b || some_below u n) (same n (omega arith))
+    ∙ ap (λ (b : Bool). v n || b) (some_below-same u v n (λ t lt. same t (omega arith)))
+
+few_ticks : (kind : Kind) (deadline horizon : ℕ) → deadline < horizon
+    → counted_ticks kind deadline horizon ≤ horizon
+few_ticks Internal deadline horizon early = omega arith
+few_ticks External deadline horizon early = omega arith
+
+module _ (horizon : ℕ) (v w : ℕ → Rails) (same : (t : ℕ) → t < horizon → v t ≡ w t) where
+  rule_by-same : (kind : Kind) (deadline : ℕ) → deadline < horizon
+      → rule_by kind deadline horizon v ≡ rule_by kind deadline horizon w
+  rule_by-same kind deadline early =
+      let n : ℕ = counted_ticks kind deadline horizon in
+      let few : n ≤ horizon = few_ticks kind deadline horizon early in
+      let must : Bool = some_below (λ t. (v t).must) n in
+      let may : Bool = some_below (λ t. (v t).may) n in
+      sym (rule_by_rails kind deadline horizon v must may refl refl)
+      ∙ rule_by_rails kind deadline horizon w must may
+      (some_below-same (λ t. (v t).must) (λ t. (w t).must) n
+      (λ t lt. ap must_of (same t (omega arith))))
+      (some_below-same (λ t. (v t).may) (λ t. (w t).may) n
+      (λ t lt. ap may_of (same t (omega arith))))
+
+-- the row of a terminal whose trip first may come, first must come, and has the rule
+abbrev pub row_with : Line → Script → ℕ → Option ℕ → Option ℕ → Rule → List ℕ
+row_with line script k may must rule =
+    fields_text line script k may must ++ rule_word rule ++ codes "\n"
+
+pub row_with-same : (line : Line) (script : Script) (k : ℕ) (may may' must must' : Option ℕ)
+    (rule rule' : Rule) → may ≡ may' → must ≡ must' → rule ≡ rule'
+    → row_with line script k may must rule ≡ row_with line script k may' must' rule'
+row_with-same line script k may may' must must' rule rule' a b r =
+    ap (λ (o : Option ℕ). row_with line script k o must rule) a
+    ∙ ap (λ (o : Option ℕ). row_with line script k may' o rule) b
+    ∙ ap (row_with line script k may' must') r
+
+row_text-same : (line : Line) (script : Script) → script.deadline < line.horizon
+    → (k : ℕ) (v w : ℕ → Rails) → ((t : ℕ) → t < line.horizon → v t ≡ w t)
+    → row_text line script k v ≡ row_text line script k w
+row_text-same line script early k v w same =
+    row_with-same line script k _ _ _ _ _ _
+    (first_on-same (λ t. (v t).may) (λ t. (w t).may) line.horizon (λ t lt. ap may_of (same t lt)))
+    (first_on-same (λ t. (v t).must) (λ t. (w t).must) line.horizon
+    (λ t lt. ap must_of (same t lt)))
+    (rule_by-same line.horizon v w same script.kind script.deadline early)
+
+each_below-same : (n : ℕ) (f g : ℕ → List ℕ) → ((k : ℕ) → k < n → f k ≡ g k)
+    → each_below n f ≡ each_below n g
+each_below-same zero f g same = refl
+each_below-same (suc n) f g same =
+    ap (λ (l : List ℕ). l ++ f n) (each_below-same n f g (λ k lt. same k (omega arith)))
+    ∙ ap (λ (l : List ℕ). each_below n g ++ l) (same n (omega arith))
+
+pub script_rows-same : (line : Line) (script : Script) → script.deadline < line.horizon
+    → (v w : PairHistory) → IsSamePairHistory line v w
+    → script_rows line script v ≡ script_rows line script w
+script_rows-same line script early v w same =
+    each_below-same (terminal_count line) (λ k. row_text line script k (v.trip k))
+    (λ k. row_text line script k (w.trip k))
+    (λ k kn. row_text-same line script early k (v.trip k) (w.trip k)
+    (λ t lt. same.trips k t kn lt))

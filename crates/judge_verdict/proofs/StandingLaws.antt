@@ -1,0 +1,73 @@
+-- How obligations stand after more candidates.
+use Rattle.std.proofs.Common.{◌≡◌, ◌≢◌, ℕ, ◌+◌, ◌-◌, ◌<◌, ◌≤◌, refl, subst, arith, ⊎_elim}
+use Rattle.std.proofs.lemmas.Bool.{cases_lt}
+use Rattle.model_line.specs.{declared.line.Line.Line, declared.script.Script.Script}
+use Rattle.model_logic.specs.Histories.{PairHistory}
+use Rattle.model_timing.specs.Candidates.{candidate, candidate_count}
+use Rattle.judge_verdict.specs.declared.standing.Standing.TheVariants.{Held, Failing, Open}
+use Rattle.judge_verdict.specs.Candidates.{candidate_in, TellFailing, IsLowest, IsNone64}
+use Rattle.judge_verdict.specs.Standings.{StandsFailing, StandsOpen, IsStanding}
+use Rattle.judge_verdict.specs.{declared.standing.Standing.Standing, Verdicts.PassesAt}
+use Rattle.judge_verdict.proofs.BlockLaws.{candidate_exists, candidate_at, candidate_before}
+
+module _ (line : Line) (script : Script) (k : ℕ) (w : PairHistory) where
+  -- after all candidates
+  pub stands_at_end : (n : ℕ) (s : Standing) → candidate_count line ≤ n
+      → IsStanding line script k w n s → IsStanding line script k w (candidate_count line) s
+  stands_at_end n Held all is = is
+  stands_at_end n (Failing number) all is = is
+  stands_at_end n Open all is = record {
+    not_held = is.not_held;
+    passes = λ i low there. is.passes i (omega arith) there;
+  }
+
+  -- what is not open stays as it is
+  pub stands_on : (n m : ℕ) (s : Standing) → s ≢ Open → IsStanding line script k w n s
+      → IsStanding line script k w m s
+  stands_on n m Held settled is = is
+  stands_on n m (Failing number) settled is = is
+  stands_on n m Open settled is = absurd (settled refl)
+
+  module _ (first bits : ℕ) (tell : TellFailing line script first k bits)
+      (open_yet : StandsOpen line script k w first) where
+    -- a candidate in a lane whose bit is off passes
+    passes_in : (lane i : ℕ) → lane < 64 → first + lane ≡ i → i < candidate_count line
+        → ((l : ℕ) → l ≡ lane → PassesAt line script k (candidate line (candidate_in line first l)))
+        → PassesAt line script k (candidate line i)
+    passes_in lane i inside is there passes =
+        subst (λ (n : ℕ). PassesAt line script k (candidate line n))
+        (candidate_at line first lane i is there) (passes lane refl)
+
+    pub stands_failing : (lane : ℕ) → IsLowest bits lane
+        → StandsFailing line script k w (candidate_in line first lane)
+    stands_failing lane lowest = record {
+      not_held = open_yet.not_held;
+      first = record {
+        below = candidate_exists line first lane;
+        fails = tell.fails lane lowest.inside lowest.on;
+        earlier = λ i before.
+            let there = candidate_exists line first lane in
+            ⊎_elim (λ low. open_yet.passes i low (omega arith))
+            (λ late.
+            let ahead = candidate_before line first lane i before late in
+            let inside = lowest.inside in
+            let lower : i - first < lane = omega arith in
+            let small : i - first < 64 = omega arith in
+            passes_in (i - first) i small (omega arith) (omega arith)
+            (λ l same.
+            tell.passes l (omega arith) (lowest.lower l (omega arith))))
+            (cases_lt i first);
+      };
+    }
+
+    pub stands_open : IsNone64 bits → StandsOpen line script k w (first + 64)
+    stands_open none = record {
+      not_held = open_yet.not_held;
+      passes = λ i low there.
+          ⊎_elim (λ before. open_yet.passes i before there)
+          (λ late.
+          let small : i - first < 64 = omega arith in
+          passes_in (i - first) i small (omega arith) there
+          (λ l same. tell.passes l (omega arith) (none l (omega arith))))
+          (cases_lt i first);
+    }

@@ -1,6 +1,0 @@
-use Rattle.line_file.proofs.LeastKeys.{least_unknown}
-use Rattle.line_file.proofs.laws.the_first_unknown_key_is_the_least.Goals as goal
-
-pub returns : goal.returns
-returns c = λ known key found.
-    least_unknown known c.args.table.now.entries key c.iter-entries.ensures.ordered found

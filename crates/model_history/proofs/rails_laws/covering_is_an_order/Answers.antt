@@ -1,0 +1,11 @@
+use Rattle.model_history.proofs.WiderLaws.{covers_itself, covers_on, covers_value_on, covers_both}
+use Rattle.model_history.proofs.WiderLaws.{both_covered}
+use Rattle.model_history.proofs.rails_laws.covering_is_an_order.Goals as goal
+
+pub returns : goal.returns
+returns c = record {
+  itself = covers_itself;
+  on = covers_on;
+  value = covers_value_on;
+  exact = λ x v. (both_covered x v, covers_both x v);
+}

@@ -1,0 +1,141 @@
+//! Permission schemes, as formulas: current reversal guard, echo, weak infeed, key and trip.
+
+ghost use Rattle.std.specs.Prelude.{◌≡◌, ◌<◌, IfOk};
+ghost use Rattle.model_plain.specs.Formulas.{tree_of};
+ghost use Rattle.model_line.specs.Parameters.{terminal_count};
+ghost use Rattle.model_logic.specs.Permissive.{permission as permission_tree};
+ghost use Rattle.model_logic.specs.Permissive.{terminal_setting as terminal_setting_time};
+ghost use Rattle.model_logic.specs.Permissive.{reversal_guard as reversal_guard_tree};
+ghost use Rattle.model_logic.specs.Permissive.{quiet as quiet_tree};
+ghost use Rattle.model_logic.specs.Permissive.{echo_wanted as echo_wanted_tree};
+ghost use Rattle.model_logic.specs.Permissive.{echo as echo_tree};
+ghost use Rattle.model_logic.specs.Permissive.{weak_infeed_trip as weak_infeed_trip_tree};
+ghost use Rattle.model_logic.specs.Permissive.{permissive_key as permissive_key_tree};
+ghost use Rattle.model_logic.specs.Permissive.{permissive_pilot as permissive_pilot_tree};
+
+use crate::build::{and, not, or, timer};
+use crate::formula::Formula;
+use crate::received::all_received;
+use crate::seen_elements::{seen_timed, time_of};
+use crate::unblocking::all_open;
+use base_memory::Memory;
+use model_line::{Element, Line, Owner, Scheme, Setting};
+use model_logic::{Time, is_terminal_guarded, is_terminal_weak};
+use std::alloc::Global;
+
+#[tactic(auto, unfolding(model_logic::specs::Permissive::permission))]
+fn permission(alloc: Global, line: &Line, k: u32) -> Result<Formula, Memory>
+    requires { k < terminal_count line.now }
+    ensures { IfOk result (λ f. tree_of f ≡ permission_tree line.now k) }
+{
+    match line.scheme {
+        Scheme::Pott => all_received(alloc, line, k),
+        Scheme::Dcub => all_open(alloc, line, k),
+        Scheme::Putt | Scheme::Dcb | Scheme::Dtt => Ok(Formula::Const(false)),
+    }
+}
+
+#[tactic(auto, unfolding(model_logic::specs::Permissive::terminal_setting))]
+pub fn terminal_setting(line: &Line, k: u32, setting: Setting) -> Time
+    requires { k < terminal_count line.now }
+    ensures { result ≡ terminal_setting_time line.now k setting }
+{
+    time_of(line, Owner::Terminal(k), setting)
+}
+
+#[tactic(auto, unfolding(model_logic::specs::Permissive::reversal_guard))]
+fn reversal_guard(alloc: Global, line: &Line, k: u32) -> Result<Formula, Memory>
+    requires { k < terminal_count line.now }
+    ensures { IfOk result (λ f. tree_of f ≡ reversal_guard_tree line.now k) }
+{
+    if is_terminal_guarded(line, k) {
+        let pickup = terminal_setting(line, k, Setting::ReversalPickup);
+        let dropout = terminal_setting(line, k, Setting::ReversalDropout);
+        let reverse = seen_timed(alloc, line, k, Element::Rv)?;
+        timer(alloc, reverse, pickup, dropout)
+    } else {
+        Ok(Formula::Const(false))
+    }
+}
+
+#[tactic(auto, unfolding(model_logic::specs::Permissive::quiet))]
+fn quiet(alloc: Global, line: &Line, k: u32) -> Result<Formula, Memory>
+    requires { k < terminal_count line.now }
+    ensures { IfOk result (λ f. tree_of f ≡ quiet_tree line.now k) }
+{
+    let zone2 = seen_timed(alloc, line, k, Element::Z2)?;
+    let fault = or(alloc, zone2, seen_timed(alloc, line, k, Element::Rv)?)?;
+    let block = terminal_setting(line, k, Setting::EchoBlock);
+    not(alloc, timer(alloc, fault, Time::Zero, block)?)
+}
+
+#[tactic(auto, unfolding(model_logic::specs::Permissive::echo_wanted))]
+fn echo_wanted(alloc: Global, line: &Line, k: u32) -> Result<Formula, Memory>
+    requires { k < terminal_count line.now }
+    ensures { IfOk result (λ f. tree_of f
+        ≡ echo_wanted_tree line.now k (permission_tree line.now k)) }
+{
+    if is_terminal_weak(line, k) {
+        let permitted = and(alloc, permission(alloc, line, k)?, quiet(alloc, line, k)?)?;
+        let pickup = terminal_setting(line, k, Setting::EchoPickup);
+        timer(alloc, permitted, pickup, Time::Zero)
+    } else {
+        Ok(Formula::Const(false))
+    }
+}
+
+#[tactic(auto, unfolding(model_logic::specs::Permissive::echo))]
+fn echo(alloc: Global, line: &Line, k: u32) -> Result<Formula, Memory>
+    requires { k < terminal_count line.now }
+    ensures { IfOk result (λ f. tree_of f ≡ echo_tree line.now k (permission_tree line.now k)) }
+{
+    if is_terminal_weak(line, k) {
+        let pulse = terminal_setting(line, k, Setting::EchoPulse);
+        let over = timer(alloc, echo_wanted(alloc, line, k)?, pulse, Time::Zero)?;
+        let within = not(alloc, over)?;
+        and(alloc, echo_wanted(alloc, line, k)?, within)
+    } else {
+        Ok(Formula::Const(false))
+    }
+}
+
+#[tactic(auto, unfolding(model_logic::specs::Permissive::weak_infeed_trip))]
+fn weak_infeed_trip(alloc: Global, line: &Line, k: u32) -> Result<Formula, Memory>
+    requires { k < terminal_count line.now }
+    ensures { IfOk result (λ f. tree_of f
+        ≡ weak_infeed_trip_tree line.now k (permission_tree line.now k)) }
+{
+    if is_terminal_weak(line, k) {
+        and(
+            alloc,
+            echo_wanted(alloc, line, k)?,
+            seen_timed(alloc, line, k, Element::Uv)?,
+        )
+    } else {
+        Ok(Formula::Const(false))
+    }
+}
+
+#[tactic(auto, unfolding(model_logic::specs::Permissive::permissive_key))]
+pub fn permissive_key(alloc: Global, line: &Line, k: u32) -> Result<Formula, Memory>
+    requires { k < terminal_count line.now }
+    ensures { IfOk result (λ f. tree_of f
+        ≡ permissive_key_tree line.now k (permission_tree line.now k)) }
+{
+    let steady = not(alloc, reversal_guard(alloc, line, k)?)?;
+    let ahead = and(alloc, seen_timed(alloc, line, k, Element::Z2)?, steady)?;
+    or(alloc, ahead, echo(alloc, line, k)?)
+}
+
+#[tactic(auto, unfolding(model_logic::specs::Permissive::permissive_pilot))]
+pub fn permissive_pilot(alloc: Global, line: &Line, k: u32) -> Result<Formula, Memory>
+    requires { k < terminal_count line.now }
+    ensures { IfOk result (λ f. tree_of f
+        ≡ permissive_pilot_tree line.now k (permission_tree line.now k)) }
+{
+    let zone2 = seen_timed(alloc, line, k, Element::Z2)?;
+    let permitted = and(alloc, zone2, permission(alloc, line, k)?)?;
+    let steady = not(alloc, reversal_guard(alloc, line, k)?)?;
+    let ahead = and(alloc, permitted, steady)?;
+    or(alloc, ahead, weak_infeed_trip(alloc, line, k)?)
+}

@@ -1,0 +1,53 @@
+//! What a terminal receives from the others, as formulas.
+
+ghost use Rattle.std.specs.Prelude.{◌≡◌, ◌<◌, IfOk};
+ghost use Rattle.model_line.specs.Parameters.{terminal_count};
+ghost use Rattle.model_plain.specs.Formulas.{tree_of};
+ghost use Rattle.model_logic.specs.Received.{channel_to as channel_number_to};
+ghost use Rattle.model_logic.specs.Received.{received as received_tree};
+ghost use Rattle.model_logic.specs.Received.{any_received as any_received_tree};
+ghost use Rattle.model_logic.specs.Received.{all_received as all_received_tree};
+
+use crate::build::{and, not};
+use crate::formula::Formula;
+use crate::others::all_others;
+use base_memory::Memory;
+use model_line::Line;
+use model_logic::Join;
+use std::alloc::Global;
+
+// The number of the channel to terminal `k` from terminal `j`; 0 if there is none.
+#[tactic(auto, unfolding(model_logic::specs::Received::channel_to))]
+pub fn channel_to(line: &Line, k: u32, j: u32) -> u32
+    ensures { result ≡ channel_number_to line.now k j }
+{
+    line.channel_of(j, k).unwrap_or(0)
+}
+
+#[tactic(auto, unfolding(model_logic::specs::Received::received))]
+pub fn received(alloc: Global, line: &Line, k: u32, j: u32) -> Result<Formula, Memory>
+    ensures { IfOk result (λ f. tree_of f ≡ received_tree line.now k j) }
+{
+    let channel = channel_to(line, k, j);
+    and(
+        alloc,
+        Formula::Raw(channel),
+        not(alloc, Formula::Loss(channel))?,
+    )
+}
+
+#[tactic(auto, unfolding(model_logic::specs::Received::any_received))]
+pub fn any_received(alloc: Global, line: &Line, k: u32) -> Result<Formula, Memory>
+    requires { k < terminal_count line.now }
+    ensures { IfOk result (λ f. tree_of f ≡ any_received_tree line.now k) }
+{
+    all_others(alloc, line, k, Join::Or, |j| received(alloc, line, k, j))
+}
+
+#[tactic(auto, unfolding(model_logic::specs::Received::all_received))]
+pub fn all_received(alloc: Global, line: &Line, k: u32) -> Result<Formula, Memory>
+    requires { k < terminal_count line.now }
+    ensures { IfOk result (λ f. tree_of f ≡ all_received_tree line.now k) }
+{
+    all_others(alloc, line, k, Join::And, |j| received(alloc, line, k, j))
+}

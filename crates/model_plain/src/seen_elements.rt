@@ -1,0 +1,44 @@
+//! What a terminal sees for itself, as formulas.
+
+ghost use Rattle.std.specs.Prelude.{◌≡◌, ◌<◌, IfOk};
+ghost use Rattle.model_plain.specs.Formulas.{tree_of};
+ghost use Rattle.model_line.specs.Parameters.{IsOwner, terminal_count};
+ghost use Rattle.model_logic.specs.Elements.{setting_of};
+ghost use Rattle.model_logic.specs.Elements.{seen_timed as seen_timed_tree};
+
+use crate::build::timer;
+use crate::formula::Formula;
+use base_memory::Memory;
+use model_line::{Element, Line, Owner, Place, Setting};
+use model_logic::{Time, pickup_and_dropout};
+use std::alloc::Global;
+
+// The parameter that an owner's setting is.
+#[tactic(auto, unfolding(model_logic::specs::Elements::setting_of))]
+pub fn time_of(line: &Line, owner: Owner, setting: Setting) -> Time
+    requires { IsOwner line.now owner }
+    ensures { result ≡ setting_of line.now owner setting }
+{
+    Time::Param(line.param_of(owner, setting).unwrap_or(0))
+}
+
+// What the terminal's relay sees of an element.
+#[tactic(auto, unfolding(model_logic::specs::Elements::seen_timed))]
+pub fn seen_timed(alloc: Global, line: &Line, k: u32, element: Element) -> Result<Formula, Memory>
+    requires { k < terminal_count line.now }
+    ensures { IfOk result (λ f. tree_of f ≡ seen_timed_tree line.now k element) }
+{
+    let seen = Formula::Seen(Place {
+        element,
+        terminal: k,
+    });
+    match pickup_and_dropout(element) {
+        Some((pickup, dropout)) => {
+            let owner = Owner::Terminal(k);
+            let pickup = time_of(line, owner, pickup);
+            let dropout = time_of(line, owner, dropout);
+            timer(alloc, seen, pickup, dropout)
+        }
+        None => Ok(seen),
+    }
+}

@@ -1,0 +1,36 @@
+//! Schemes that trip on any received signal, as formulas: underreach permission and transfer trip.
+
+ghost use Rattle.std.specs.Prelude.{◌≡◌, ◌<◌, IfOk};
+ghost use Rattle.model_line.specs.Parameters.{terminal_count};
+ghost use Rattle.model_plain.specs.Formulas.{tree_of};
+ghost use Rattle.model_logic.specs.Logic.{underreach_pilot as underreach_pilot_tree};
+ghost use Rattle.model_logic.specs.Logic.{transfer_pilot as transfer_pilot_tree};
+
+use crate::build::{and, timer};
+use crate::formula::Formula;
+use crate::permissive::terminal_setting;
+use crate::received::any_received;
+use crate::seen_elements::seen_timed;
+use base_memory::Memory;
+use model_line::{Element, Line, Setting};
+use model_logic::Time;
+use std::alloc::Global;
+
+#[tactic(auto, unfolding(model_logic::specs::Logic::underreach_pilot))]
+pub fn underreach_pilot(alloc: Global, line: &Line, k: u32) -> Result<Formula, Memory>
+    requires { k < terminal_count line.now }
+    ensures { IfOk result (λ f. tree_of f ≡ underreach_pilot_tree line.now k) }
+{
+    let ahead = seen_timed(alloc, line, k, Element::Z2)?;
+    and(alloc, ahead, any_received(alloc, line, k)?)
+}
+
+#[tactic(auto, unfolding(model_logic::specs::Logic::transfer_pilot))]
+pub fn transfer_pilot(alloc: Global, line: &Line, k: u32) -> Result<Formula, Memory>
+    requires { k < terminal_count line.now }
+    ensures { IfOk result (λ f. tree_of f ≡ transfer_pilot_tree line.now k) }
+{
+    let sent = any_received(alloc, line, k)?;
+    let security = terminal_setting(line, k, Setting::TransferSecurity);
+    timer(alloc, sent, security, Time::Zero)
+}

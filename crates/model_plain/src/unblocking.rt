@@ -1,0 +1,102 @@
+//! Channels that open for a while when they are lost, as formulas.
+
+ghost use Rattle.std.specs.Prelude.{◌≡◌, ◌≢◌, ◌<◌, IfOk};
+ghost use Rattle.model_logic.specs.Unblocking.{channel_setting as channel_setting_time};
+ghost use Rattle.model_logic.specs.Unblocking.{guard_seen as guard_seen_tree, late as late_tree};
+ghost use Rattle.model_logic.specs.Unblocking.{unblocked as unblocked_tree};
+ghost use Rattle.model_logic.specs.Unblocking.{locked_out as locked_out_tree};
+ghost use Rattle.model_logic.specs.Unblocking.{open_from as open_from_tree};
+ghost use Rattle.model_logic.specs.Unblocking.{all_open as all_open_tree};
+ghost use Rattle.model_plain.specs.Formulas.{tree_of};
+ghost use Rattle.model_line.specs.Parameters.{terminal_count};
+
+use crate::build::{and, not, or, seal, timer};
+use crate::formula::Formula;
+use crate::others::all_others;
+use crate::received::{channel_to, received};
+use crate::seen_elements::time_of;
+use base_memory::Memory;
+use model_line::{Line, Owner, Setting};
+use model_logic::{Join, Time};
+use std::alloc::Global;
+
+// A setting of the channel to terminal `k` from terminal `j`.
+#[tactic(auto, unfolding(model_logic::specs::Unblocking::channel_setting))]
+fn channel_setting(line: &Line, k: u32, j: u32, setting: Setting) -> Time
+    requires inside { k < terminal_count line.now }
+    requires other { j < terminal_count line.now }
+    requires apart { j ≢ k }
+    ensures { result ≡ channel_setting_time line.now k j setting }
+{
+    time_of(line, Owner::Channel(channel_to(line, k, j)), setting)
+}
+
+#[tactic(auto, unfolding(model_logic::specs::Unblocking::guard_seen))]
+fn guard_seen(alloc: Global, line: &Line, k: u32, j: u32) -> Result<Formula, Memory>
+    ensures { IfOk result (λ f. tree_of f ≡ guard_seen_tree line.now k j) }
+{
+    let channel = channel_to(line, k, j);
+    let silent = not(alloc, Formula::Raw(channel))?;
+    and(alloc, silent, not(alloc, Formula::Loss(channel))?)
+}
+
+#[tactic(auto, unfolding(model_logic::specs::Unblocking::late))]
+fn late(alloc: Global, line: &Line, k: u32, j: u32) -> Result<Formula, Memory>
+    requires inside { k < terminal_count line.now }
+    requires other { j < terminal_count line.now }
+    requires apart { j ≢ k }
+    ensures { IfOk result (λ f. tree_of f ≡ late_tree line.now k j) }
+{
+    let lost = Formula::Loss(channel_to(line, k, j));
+    let window = channel_setting(line, k, j, Setting::UnblockWindow);
+    timer(alloc, lost, window, Time::Zero)
+}
+
+#[tactic(auto, unfolding(model_logic::specs::Unblocking::unblocked))]
+fn unblocked(alloc: Global, line: &Line, k: u32, j: u32) -> Result<Formula, Memory>
+    requires inside { k < terminal_count line.now }
+    requires other { j < terminal_count line.now }
+    requires apart { j ≢ k }
+    ensures { IfOk result (λ f. tree_of f ≡ unblocked_tree line.now k j) }
+{
+    let lost = Formula::Loss(channel_to(line, k, j));
+    let pickup = channel_setting(line, k, j, Setting::UnblockPickup);
+    let opened = timer(alloc, lost, pickup, Time::Zero)?;
+    let closed = late(alloc, line, k, j)?;
+    and(alloc, opened, not(alloc, closed)?)
+}
+
+#[tactic(auto, unfolding(model_logic::specs::Unblocking::locked_out))]
+fn locked_out(alloc: Global, line: &Line, k: u32, j: u32) -> Result<Formula, Memory>
+    requires inside { k < terminal_count line.now }
+    requires other { j < terminal_count line.now }
+    requires apart { j ≢ k }
+    ensures { IfOk result (λ f. tree_of f ≡ locked_out_tree line.now k j) }
+{
+    let guard = guard_seen(alloc, line, k, j)?;
+    let restore = channel_setting(line, k, j, Setting::UnblockRestore);
+    let restored = timer(alloc, guard, restore, Time::Zero)?;
+    let closed = late(alloc, line, k, j)?;
+    seal(alloc, closed, not(alloc, restored)?)
+}
+
+#[tactic(auto, unfolding(model_logic::specs::Unblocking::open_from))]
+fn open_from(alloc: Global, line: &Line, k: u32, j: u32) -> Result<Formula, Memory>
+    requires inside { k < terminal_count line.now }
+    requires other { j < terminal_count line.now }
+    requires apart { j ≢ k }
+    ensures { IfOk result (λ f. tree_of f ≡ open_from_tree line.now k j) }
+{
+    let sent = received(alloc, line, k, j)?;
+    let open = or(alloc, sent, unblocked(alloc, line, k, j)?)?;
+    let locked = locked_out(alloc, line, k, j)?;
+    and(alloc, open, not(alloc, locked)?)
+}
+
+#[tactic(auto, unfolding(model_logic::specs::Unblocking::all_open))]
+pub fn all_open(alloc: Global, line: &Line, k: u32) -> Result<Formula, Memory>
+    requires { k < terminal_count line.now }
+    ensures { IfOk result (λ f. tree_of f ≡ all_open_tree line.now k) }
+{
+    all_others(alloc, line, k, Join::And, |j| open_from(alloc, line, k, j))
+}

@@ -1,0 +1,359 @@
+-- The values of a track and their changes.
+use Rattle.std.proofs.Common.{◌≡◌, ◌⊎◌, ℕ, zero, suc, ◌+◌, ◌-◌, ◌<◌, ◌≤◌, List, [], ◌∷◌, ◌++◌}
+use Rattle.std.proofs.Common.{length, Some, refl, sym, ◌∙◌, ap, arith, inl, inr, ⊎_elim, subst}
+use Rattle.std.proofs.Common.{length-append, replicate, append_assoc, leb, leb-true, get_or}
+use Rattle.std.proofs.lemmas.List.{append-nil, replicate_more, length-replicate}
+use Rattle.std.proofs.lemmas.List.Sorted.{IsPartitionedBy-leb}
+use Rattle.std.proofs.lemmas.Bool.{cases_lt, leb-false}
+use Rattle.std.proofs.lemmas.Option.{slice_get-map, get_or_from_slice_get, slice_get-get_or}
+use Rattle.std.proofs.lemmas.Option.{slice_get_within}
+use Rattle.std.specs.List.Sorted.{IsPartitionedBy, IsPartitionPoint}
+use Rattle.std.specs.Prelude.{slice_get, option_map, true, false, Bool, not, IsTrue, IsFalse}
+use Rattle.model_history.specs.Rails.{Rails, rails_at, both}
+use Rattle.run_signal.specs.Lanes.{in_lane}
+use Rattle.run_channel.specs.Tracks.{IsOneOf, AreAscending, ChangeAt, IsTrack, IsLast, IsNextAfter}
+use Rattle.run_channel.specs.Tracks.{StaysUntil}
+
+pub denied : (b : Bool) → IsFalse (not b) → IsTrue b
+denied true h = refl
+denied false h = absurd (cc)
+
+-- an element of a list with one more
+pub get_pushed : {X : Type 0} (xs : List X) (x y : X) (i : ℕ) → slice_get xs i ≡ Some y
+    → slice_get (xs ++ x ∷ []) i ≡ Some y
+get_pushed [] x y i e = absurd (cc)
+get_pushed (z ∷ xs) x y zero e = e
+get_pushed (z ∷ xs) x y (suc i) e = get_pushed xs x y i e
+
+pub get_last : {X : Type 0} (xs : List X) (x : X) → slice_get (xs ++ x ∷ []) (length xs) ≡ Some x
+get_last [] x = refl
+get_last (z ∷ xs) x = get_last xs x
+
+-- an element of a list with one more is one of the list, or the one more
+pub at_push : {X : Type 0} (xs : List X) (x y : X) (i : ℕ) → slice_get (xs ++ x ∷ []) i ≡ Some y
+    → (slice_get xs i ≡ Some y) ⊎ ((i ≡ length xs) × (y ≡ x))
+at_push [] x y zero e = let same : x ≡ y = cc in inr (refl, sym same)
+at_push [] x y (suc i) e = absurd (cc)
+at_push (z ∷ xs) x y zero e = inl e
+at_push (z ∷ xs) x y (suc i) e =
+    ⊎_elim inl
+    (λ p. let n : suc i ≡ length (z ∷ xs) = omega (arith, p.0) in inr (n, p.1))
+    (at_push xs x y i e)
+
+-- a number that is no less than those before it
+ascending_more : (numbers : List ℕ) (n : ℕ) → AreAscending numbers
+    → ((i c : ℕ) → slice_get numbers i ≡ Some c → c ≤ n) → AreAscending (numbers ++ n ∷ [])
+ascending_more numbers n up below i j a b order at_i at_j =
+    ⊎_elim
+    (λ h. ⊎_elim (λ k. up i j a b order h k)
+    (λ p. let e : b ≡ n = p.1 in let le : a ≤ n = below i a h in omega arith)
+    (at_push numbers n b j at_j))
+    (λ p. ⊎_elim
+    (λ k. let far : i ≡ length numbers = p.0 in
+    let inside : j < length numbers = slice_get_within numbers j b k in absurd (omega arith))
+    (λ q. let e : a ≡ n = p.1 in let f : b ≡ n = q.1 in omega arith)
+    (at_push numbers n b j at_j))
+    (at_push numbers n a i at_i)
+
+module _ {V : Type 0} (lanes : ℕ) (rails : V → ℕ → Rails) where
+  pub rails_read : (values : List V) (n : ℕ) (x : V) (lane : ℕ) → slice_get values n ≡ Some x
+      → rails_at (in_lane rails lane values) n ≡ rails x lane
+  rails_read values n x lane at =
+      get_or_from_slice_get _ n (rails x lane) (both false)
+      (slice_get-map (λ (v : V). rails v lane) values n
+      ∙ ap (option_map (λ (v : V). rails v lane)) at)
+
+  -- its rails at a tick of a longer list
+  rails_pushed : (values : List V) (value : V) (lane r : ℕ) → r < length values
+      → rails_at (in_lane rails lane (values ++ value ∷ [])) r
+      ≡ rails_at (in_lane rails lane values) r
+  rails_pushed values value lane r lt =
+      let x : V = get_or values r value in
+      let at : slice_get values r ≡ Some x = slice_get-get_or values r value lt in
+      rails_read (values ++ value ∷ []) r x lane (get_pushed values value x r at)
+      ∙ sym (rails_read values r x lane at)
+
+  rails_of_last : (values : List V) (value : V) (lane r : ℕ) → r ≡ length values
+      → rails_at (in_lane rails lane (values ++ value ∷ [])) r ≡ rails value lane
+  rails_of_last values value lane r is =
+      rails_read (values ++ value ∷ []) r value lane
+      (subst (λ (k : ℕ). slice_get (values ++ value ∷ []) k ≡ Some value) (sym is)
+      (get_last values value))
+
+  one_more_of : (changes : List ℕ) (c r : ℕ) → IsOneOf changes r → IsOneOf (changes ++ c ∷ []) r
+  one_more_of changes c r (i, at) = (i, get_pushed changes c r i at)
+
+  -- a tick within the values before
+  told_before : (values : List V) (value : V) (changes : List ℕ) (r : ℕ)
+      → suc r < length values → ChangeAt lanes rails changes values
+      → IsOneOf changes (suc r)
+      ⊎ ((lane : ℕ) → lane < lanes
+      → rails_at (in_lane rails lane (values ++ value ∷ [])) (suc r)
+      ≡ rails_at (in_lane rails lane (values ++ value ∷ [])) r)
+  told_before values value changes r lt told =
+      ⊎_elim (λ one. inl one)
+      (λ same. inr (λ lane inside.
+      rails_pushed values value lane (suc r) lt ∙ same lane inside
+      ∙ sym (rails_pushed values value lane r (omega arith))))
+      (told r lt)
+
+  told_same : (values : List V) (value : V) (changes : List ℕ)
+      → ChangeAt lanes rails changes values → IsLast lanes rails values value
+      → ChangeAt lanes rails changes (values ++ value ∷ [])
+  told_same values value changes told last r lt =
+      let n : length values ≡ suc last.n = last.count in
+      let long : length (values ++ value ∷ []) ≡ length values + 1 =
+      length-append values (value ∷ []) in
+      ⊎_elim
+      (λ low. told_before values value changes r low told)
+      (λ high. let e : r ≡ last.n = omega (arith, n, long, lt, high) in
+      inr (λ lane inside.
+      rails_of_last values value lane (suc r) (omega (arith, n, e))
+      ∙ sym (last.same lane inside)
+      ∙ ap (rails_at (in_lane rails lane values)) (sym e)
+      ∙ sym (rails_pushed values value lane r (omega (arith, n, e)))))
+      (cases_lt (suc r) (length values))
+
+  told_change : (values : List V) (value : V) (changes : List ℕ) (t : ℕ) → t ≡ length values
+      → ChangeAt lanes rails changes values
+      → ChangeAt lanes rails (changes ++ t ∷ []) (values ++ value ∷ [])
+  told_change values value changes t is told r lt =
+      let long : length (values ++ value ∷ []) ≡ length values + 1 =
+      length-append values (value ∷ []) in
+      ⊎_elim
+      (λ low. ⊎_elim (λ one. inl (one_more_of changes t (suc r) one)) (λ same. inr same)
+      (told_before values value changes r low told))
+      (λ high. let e : t ≡ suc r = omega (arith, is, long, lt, high) in
+      inl (
+        length changes,
+        subst (λ (k : ℕ). slice_get (changes ++ t ∷ []) (length changes) ≡ Some k) e
+            (get_last changes t),
+      ))
+      (cases_lt (suc r) (length values))
+
+  pub track_same : (values : List V) (value : V) (room more : ℕ) (changes : List ℕ)
+      (croom horizon : ℕ) → IsTrack lanes rails values room changes croom horizon
+      → IsLast lanes rails values value → length values < horizon → room ≤ more
+      → IsTrack lanes rails (values ++ value ∷ []) more changes croom horizon
+  track_same values value room more changes croom horizon track last fits wider =
+      let long : length (values ++ value ∷ []) ≡ length values + 1 =
+      length-append values (value ∷ []) in
+      let few : length changes ≤ length values = track.few in
+      let r : horizon ≤ room = track.has_room in
+      record {
+        has_room = omega (arith, r, wider);
+        has_changes_room = track.has_changes_room;
+        short = track.short;
+        fits = omega (arith, long, fits);
+        few = omega (arith, long, few);
+        inside = λ i c at. let lt : c < length values = track.inside i c at in omega (arith, long, lt);
+        ascending = track.ascending;
+        told = told_same values value changes track.told last;
+      }
+
+  pub track_change : (values : List V) (value : V) (room more : ℕ) (changes : List ℕ)
+      (croom cmore horizon t : ℕ) → t ≡ length values
+      → IsTrack lanes rails values room changes croom horizon
+      → length values < horizon → room ≤ more → croom ≤ cmore
+      → IsTrack lanes rails (values ++ value ∷ []) more (changes ++ t ∷ []) cmore horizon
+  track_change values value room more changes croom cmore horizon t is track fits wider cwider =
+      let long : length (values ++ value ∷ []) ≡ length values + 1 =
+      length-append values (value ∷ []) in
+      let clong : length (changes ++ t ∷ []) ≡ length changes + 1 =
+      length-append changes (t ∷ []) in
+      let few : length changes ≤ length values = track.few in
+      let r : horizon ≤ room = track.has_room in
+      let cr : horizon ≤ croom = track.has_changes_room in
+      record {
+        has_room = omega (arith, r, wider);
+        has_changes_room = omega (arith, cr, cwider);
+        short = track.short;
+        fits = omega (arith, long, fits);
+        few = omega (arith, long, clong, few);
+        inside = λ i c at.
+            ⊎_elim
+            (λ h. let lt : c < length values = track.inside i c h in omega (arith, long, lt))
+            (λ p. let e : c ≡ t = p.1 in omega (arith, long, e, is))
+            (at_push changes t c i at);
+        ascending = ascending_more changes t track.ascending
+            (λ i c at. let lt : c < length values = track.inside i c at in omega (arith, lt, is));
+        told = told_change values value changes t is track.told;
+      }
+
+  track_roomy : (values : List V) (room : ℕ) (changes : List ℕ) (croom cmore horizon : ℕ)
+      → croom ≤ cmore → IsTrack lanes rails values room changes croom horizon
+      → IsTrack lanes rails values room changes cmore horizon
+  track_roomy values room changes croom cmore horizon wider track =
+      let cr : horizon ≤ croom = track.has_changes_room in
+      record {
+        has_room = track.has_room;
+        has_changes_room = omega (arith, cr, wider);
+        short = track.short;
+        fits = track.fits;
+        few = track.few;
+        inside = track.inside;
+        ascending = track.ascending;
+        told = track.told;
+      }
+
+  pub track_none : (room croom horizon : ℕ) → horizon ≤ room → horizon ≤ croom → horizon ≤ 4000
+      → IsTrack lanes rails [] room [] croom horizon
+  track_none room croom horizon r cr short = record {
+    has_room = r;
+    has_changes_room = cr;
+    short = short;
+    fits = omega arith;
+    few = omega arith;
+    inside = λ i c at. absurd (cc);
+    ascending = λ i j a b order at_i at_j. absurd (cc);
+    told = λ r lt. absurd (omega arith);
+  }
+
+  last_pushed : (values : List V) (value : V) → IsLast lanes rails (values ++ value ∷ []) value
+  last_pushed values value = record {
+    n = length values;
+    count = length-append values (value ∷ []) ∙ (let e : length values + 1 ≡ suc (length values) =
+        omega arith in e);
+    same = λ lane inside. rails_of_last values value lane (length values) refl;
+  }
+
+  -- the last value again, so many times
+  filled : (values : List V) (value : V) (room : ℕ) (changes : List ℕ) (croom horizon n : ℕ)
+      → IsTrack lanes rails values room changes croom horizon → IsLast lanes rails values value
+      → length values + n ≤ horizon
+      → IsTrack lanes rails (values ++ replicate n value) room changes croom horizon
+      × IsLast lanes rails (values ++ replicate n value) value
+  filled values value room changes croom horizon zero track last fits = (
+    subst (λ (l : List V). IsTrack lanes rails l room changes croom horizon)
+        (sym (append-nil values)) track,
+    subst (λ (l : List V). IsLast lanes rails l value) (sym (append-nil values)) last,
+  )
+  filled values value room changes croom horizon (suc n) track last fits =
+      let before = filled values value room changes croom horizon n track last (omega arith) in
+      let so_far : List V = values ++ replicate n value in
+      let one : n + 1 ≡ suc n = omega arith in
+      let same : so_far ++ value ∷ [] ≡ values ++ replicate (suc n) value =
+      append_assoc values (replicate n value) (value ∷ [])
+      ∙ ap (λ (l : List V). values ++ l)
+      (replicate_more n value ∙ ap (λ (k : ℕ). replicate k value) one) in
+      let long : length so_far ≡ length values + n =
+      length-append values (replicate n value)
+      ∙ ap (λ (k : ℕ). length values + k) (length-replicate n value) in
+      let itself : room ≤ room = omega arith in (
+        subst (λ (l : List V). IsTrack lanes rails l room changes croom horizon) same
+            (track_same so_far value room room changes croom horizon before.0 before.1
+            (omega (arith, long, fits)) itself),
+        subst (λ (l : List V). IsLast lanes rails l value) same (last_pushed so_far value),
+      )
+
+  module _ (values : List V) (changes : List ℕ) (t end : ℕ)
+      (told : ChangeAt lanes rails changes values)
+      (next : IsNextAfter changes t (length values) end) (lane : ℕ) (inside : lane < lanes) where
+    same_on : (k : ℕ) → t + k < end
+        → rails_at (in_lane rails lane values) (t + k) ≡ rails_at (in_lane rails lane values) t
+    same_on zero lt = let e : t + 0 ≡ t = omega arith in
+        ap (rails_at (in_lane rails lane values)) e
+    same_on (suc k) lt =
+        let e : t + suc k ≡ suc (t + k) = omega arith in
+        let most : end ≤ length values = next.limited in
+        ap (rails_at (in_lane rails lane values)) e
+        ∙ ⊎_elim
+        (λ (i, at). let far : end ≤ suc (t + k) = next.least i (suc (t + k)) at (omega arith) in
+        absurd (omega arith))
+        (λ same. same lane inside)
+        (told (t + k) (omega arith))
+        ∙ same_on k (omega arith)
+
+    pub stays : StaysUntil (rails_at (in_lane rails lane values)) t (length values) end
+    stays = record {
+      later = next.later;
+      limited = next.limited;
+      same = λ r low high.
+          let e : r ≡ t + (r - t) = omega arith in
+          ap (rails_at (in_lane rails lane values)) e ∙ same_on (r - t) (omega arith);
+    }
+
+  -- so many more of one value, where its change is noted
+  pub track_filled : (values new : List V) (value : V) (room more : ℕ) (changes noted : List ℕ)
+      (croom cmore horizon n : ℕ) → IsTrack lanes rails values room changes croom horizon
+      → length values + suc n ≤ horizon → new ≡ values ++ replicate (suc n) value → room ≤ more
+      → croom ≤ cmore
+      → ((noted ≡ changes) × IsLast lanes rails values value)
+      ⊎ (noted ≡ changes ++ length values ∷ [])
+      → IsTrack lanes rails new more noted cmore horizon
+  track_filled values new value room more changes noted croom cmore horizon n track fits is wider
+      cwider which =
+      let below : length values < horizon = omega (arith, fits) in
+      let first : IsTrack lanes rails (values ++ value ∷ []) more noted cmore horizon =
+      ⊎_elim
+      (λ same.
+      subst (λ (l : List ℕ). IsTrack lanes rails (values ++ value ∷ []) more l cmore horizon)
+      (sym same.0)
+      (track_roomy (values ++ value ∷ []) more changes croom cmore horizon cwider
+      (track_same values value room more changes croom horizon track same.1 below wider)))
+      (λ changed.
+      subst (λ (l : List ℕ). IsTrack lanes rails (values ++ value ∷ []) more l cmore horizon)
+      (sym changed)
+      (track_change values value room more changes croom cmore horizon (length values) refl track
+      below wider cwider))
+      which in
+      let long : length (values ++ value ∷ []) ≡ length values + 1 =
+      length-append values (value ∷ []) in
+      let one : 1 + n ≡ suc n = omega arith in
+      let same : (values ++ value ∷ []) ++ replicate n value
+      ≡ values ++ replicate (suc n) value =
+      append_assoc values (value ∷ []) (replicate n value) in
+      subst (λ (l : List V). IsTrack lanes rails l more noted cmore horizon) (same ∙ sym is)
+      (filled (values ++ value ∷ []) value more noted cmore horizon n first
+      (last_pushed values value) (omega (arith, long, fits))).0
+
+-- ---- the first change after a tick
+
+pub parted : (changes : List ℕ) (t : ℕ) → AreAscending changes
+    → IsPartitionedBy (λ (c : ℕ). leb c t) changes
+parted changes t up =
+    IsPartitionedBy-leb (λ (c : ℕ). c) changes t
+    (λ i j d order inside. up i j (get_or changes i d) (get_or changes j d) order
+    (slice_get-get_or changes i d (omega arith)) (slice_get-get_or changes j d inside))
+
+-- all that are not after tick t stand before place i
+abbrev PartsAt : List ℕ → ℕ → ℕ → Type 0
+PartsAt changes t i =
+    IsPartitionPoint (λ (c : ℕ). leb c t ≡ true) (λ (c : ℕ). leb c t ≡ false) changes i
+
+module _ (changes : List ℕ) (t bound i : ℕ) (up : AreAscending changes)
+    (inside : (j c : ℕ) → slice_get changes j ≡ Some c → c < bound) (early : t < bound)
+    (point : PartsAt changes t i) where
+  -- a change after t stands at place i or after it
+  from_place : (j c : ℕ) → slice_get changes j ≡ Some c → t < c → i ≤ j
+  from_place j c at later =
+      ⊎_elim
+      (λ before.
+      let there : j < length changes = slice_get_within changes j c at in
+      let is : get_or changes j 0 ≡ c = get_or_from_slice_get changes j c 0 at in
+      let le : get_or changes j 0 ≤ t = leb-true _ _ (point.0 j 0 (omega arith) before) in
+      absurd (omega arith))
+      (λ le. le)
+      (cases_lt j i)
+
+  pub next_found : i < length changes → IsNextAfter changes t bound (get_or changes i 0)
+  next_found there =
+      let at : slice_get changes i ≡ Some (get_or changes i 0) =
+      slice_get-get_or changes i 0 there in
+      let below : get_or changes i 0 < bound = inside i (get_or changes i 0) at in
+      record {
+        later = leb-false _ _ (point.1 i 0 (omega arith) there);
+        limited = omega arith;
+        least = λ j c here later.
+            up i j (get_or changes i 0) c (from_place j c here later) at here;
+      }
+
+  pub none_found : length changes ≤ i → IsNextAfter changes t bound bound
+  none_found past = record {
+    later = early;
+    limited = omega arith;
+    least = λ j c here later.
+        let there : j < length changes = slice_get_within changes j c here in
+        let from : i ≤ j = from_place j c here later in
+        absurd (omega arith);
+  }

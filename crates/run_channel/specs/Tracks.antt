@@ -1,0 +1,53 @@
+-- The values of a key or a trip, with the ticks at which they change.
+use Rattle.std.specs.Prelude.{◌≡◌, ◌<◌, ◌≤◌, ◌⊎◌, ℕ, suc, List, Some, length, slice_get}
+use Rattle.model_history.specs.Rails.{Rails, rails_at}
+use Rattle.run_signal.specs.Lanes.{in_lane}
+
+-- the number is one of these
+abbrev pub IsOneOf : List ℕ → ℕ → Type 0
+IsOneOf changes r = (i : ℕ) × (slice_get changes i ≡ Some r)
+
+-- no later number is less
+abbrev pub AreAscending : List ℕ → Type 0
+AreAscending numbers =
+    (i j a b : ℕ) → i ≤ j → slice_get numbers i ≡ Some a → slice_get numbers j ≡ Some b → a ≤ b
+
+-- at each tick the values are those of the tick before in each lane, or the tick is one of these
+abbrev pub ChangeAt : {V : Type 0} → ℕ → (V → ℕ → Rails) → List ℕ → List V → Type 0
+ChangeAt lanes rails changes values =
+    (r : ℕ) → suc r < length values
+    → IsOneOf changes (suc r)
+    ⊎ ((lane : ℕ) → lane < lanes
+    → rails_at (in_lane rails lane values) (suc r) ≡ rails_at (in_lane rails lane values) r)
+
+-- a track: its changes are told in order, and both lists have room up to the horizon
+pub record IsTrack {V : Type 0} (lanes : ℕ) (rails : V → ℕ → Rails)
+    (values : List V) (room : ℕ) (changes : List ℕ) (changes_room : ℕ) (horizon : ℕ) : Type 0 where
+  pub has_room : horizon ≤ room
+  pub has_changes_room : horizon ≤ changes_room
+  pub short : horizon ≤ 4000
+  pub fits : length values ≤ horizon
+  pub few : length changes ≤ length values
+  pub inside : (i c : ℕ) → slice_get changes i ≡ Some c → c < length values
+  pub ascending : AreAscending changes
+  pub told : ChangeAt lanes rails changes values
+
+-- the last of the values is this one in each lane
+pub record IsLast {V : Type 0} (lanes : ℕ) (rails : V → ℕ → Rails) (values : List V) (value : V)
+    : Type 0 where
+  pub n : ℕ
+  pub count : length values ≡ suc n
+  pub same : (lane : ℕ) → lane < lanes
+      → rails_at (in_lane rails lane values) n ≡ rails value lane
+
+-- `end` is after t, at most the bound, and no number after t is below it
+pub record IsNextAfter (changes : List ℕ) (t bound end : ℕ) : Type 0 where
+  pub later : t < end
+  pub limited : end ≤ bound
+  pub least : (i c : ℕ) → slice_get changes i ≡ Some c → t < c → end ≤ c
+
+-- from tick t until `end`, which is at most the bound, the history has one value
+pub record StaysUntil (u : ℕ → Rails) (t bound end : ℕ) : Type 0 where
+  pub later : t < end
+  pub limited : end ≤ bound
+  pub same : (r : ℕ) → t ≤ r → r < end → u r ≡ u t

@@ -1,0 +1,54 @@
+//! What is received of a key that may be unknown.
+#![tactic(auto)]
+
+ghost use Rattle.std.specs.Prelude.{◌≤◌, ◌↔◌, IsTrue, length};
+ghost use Rattle.model_history.specs.Comes.{AllCome, SomeComes};
+ghost use Rattle.run_signal.specs.Spans.{ends_of};
+ghost use Rattle.run_channel.specs.Sent.{sent_must, sent_may};
+
+use crate::Carried;
+use model_history::delay_laws::{delays_are_their_facts, delays_stay_sound};
+use run_signal::{Signal, Tern, Within};
+
+impl Carried for Tern {
+    fn arrive(sent: &[Tern], delay: &Within) -> Tern {
+        delays_are_their_facts();
+        delays_stay_sound();
+        let least = delay.least() as usize;
+        let greatest = delay.greatest() as usize;
+        Tern::from_rails(
+            must_come(sent, least, greatest),
+            may_come(sent, least, greatest),
+        )
+    }
+}
+
+// Whether the key must have been on at every delay.
+fn must_come(sent: &[Tern], least: usize, greatest: usize) -> bool
+    requires later { 1 ≤ least }
+    requires limited { greatest ≤ 4000 }
+    ensures { IsTrue result
+        ↔ AllCome (sent_must sent.now) (ends_of least greatest) (length sent.now) }
+{
+    for c in least..greatest + 1 {
+        if c > sent.len() || !sent[sent.len() - c].must(0) {
+            return false;
+        }
+    }
+    true
+}
+
+// Whether the key may have been on at some delay.
+fn may_come(sent: &[Tern], least: usize, greatest: usize) -> bool
+    requires later { 1 ≤ least }
+    requires limited { greatest ≤ 4000 }
+    ensures { IsTrue result
+        ↔ SomeComes (sent_may sent.now) (ends_of least greatest) (length sent.now) }
+{
+    for c in least..greatest + 1 {
+        if c <= sent.len() && sent[sent.len() - c].may(0) {
+            return true;
+        }
+    }
+    false
+}

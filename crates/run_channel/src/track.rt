@@ -1,0 +1,170 @@
+//! The values of a signal, tick by tick, and the ticks at which they change.
+#![tactic(auto)]
+
+ghost use Rattle.std.specs.Prelude.{◌≡◌, ℕ, ◌<◌, ◌≤◌, ◌+◌, [], ◌∷◌, ◌++◌, length, IfOk, Some};
+ghost use Rattle.std.specs.Prelude.{slice_get, replicate, vec_capacity, IsTrue, IsFalse, ◌⊎◌};
+ghost use Rattle.model_history.specs.Rails.{rails_at, rails_delayed};
+ghost use Rattle.run_signal.specs.Lanes.{in_lane};
+ghost use Rattle.run_channel.specs.SentKeys.{SentKeys};
+ghost use Rattle.run_channel.specs.Tracks.{IsLast, IsNextAfter, StaysUntil, AreAscending};
+
+use crate::Carried;
+use crate::same::is_same;
+use base_memory::Memory;
+use run_signal::Signal;
+use std::alloc::Global;
+use std::marker::Model;
+
+/// The values of a key or a trip from tick 0 on, with room up to a horizon. Contracts see both.
+#[derive(Drop)]
+pub struct Track<V: Signal> {
+    values: Vec<V>,
+    // The ticks at which the value may differ from the one before, in order.
+    changes: Vec<u32>,
+    horizon: u32,
+}
+
+impl<V: Signal> Model for Track<V> {
+    ghost use Rattle.std.specs.Prelude.{vec_capacity};
+    ghost use Rattle.run_channel.specs.{SentKeys.SentKeys, Tracks.IsTrack};
+
+    ghost Value = { SentKeys V };
+
+    ghost view = { λ a. record { keys = a.values.items; horizon = a.horizon } };
+
+    ghost invariant = { λ a. IsTrack V.LANES V.rails a.values.items (vec_capacity a.values)
+        a.changes.items (vec_capacity a.changes) a.horizon };
+}
+
+impl<V: Signal> Track<V> {
+    /// A track with no values. All its memory is taken here.
+    pub fn new(alloc: Global, horizon: u32) -> Result<Self, Memory>
+        requires { horizon ≤ 4000 }
+        ensures { IfOk result (λ track. track ≡ record { keys = []; horizon = horizon }) }
+    {
+        let values = Vec::with_capacity(alloc, horizon as usize)?;
+        let changes = Vec::with_capacity(alloc, horizon as usize)?;
+        Ok(Track {
+            values,
+            changes,
+            horizon,
+        })
+    }
+
+    /// How many ticks there are.
+    pub fn len(&self) -> u32
+        ensures length { result ≡ length self.now.keys }
+        ensures limited { length self.now.keys ≤ 4000 }
+    {
+        self.values.len() as u32
+    }
+
+    /// The value at a tick.
+    pub fn at(&self, t: u32) -> V
+        requires { t < length self.now.keys }
+        ensures { slice_get self.now.keys t ≡ Some result }
+    {
+        self.values[t as usize]
+    }
+
+    /// Appends so many ticks with this value.
+    pub fn push(&mut self, value: V, count: u32)
+        requires some { 1 ≤ count }
+        requires room { length self.old.keys + count ≤ self.old.horizon }
+        ensures keys { self.new.keys ≡ self.old.keys ++ replicate count value }
+        ensures horizon { self.new.horizon ≡ self.old.horizon }
+    {
+        note_change(&self.values, &mut self.changes, value);
+        fill_within(&mut self.values, value, count);
+    }
+
+    /// Until when the values are those of this tick: the next change, or where the track ends. It
+    /// takes one look where the next tick brings another value, and else as many as the number of
+    /// changes has binary digits.
+    pub fn stays_until(&self, t: u32) -> u32
+        requires { t < length self.now.keys }
+        ensures later { t < result }
+        ensures limited { result ≤ length self.now.keys }
+        ensures stays { (lane : ℕ) → lane < V.LANES →
+            StaysUntil (rails_at (in_lane V.rails lane self.now.keys)) t
+            (length self.now.keys) result }
+    {
+        if changes_next(&self.values, t) {
+            return t + 1;
+        }
+        next_after(&self.changes, t, self.values.len() as u32)
+    }
+}
+
+impl<V: Carried> Track<V> {
+    /// What is received at the next tick of a key, through a delay within the span.
+    pub fn received(&self, delay: &V::Span) -> V
+        requires later { (lane : ℕ) → lane < V.LANES → 1 ≤ (V.ends delay.now lane).least }
+        requires room { length self.now.keys < 4000 }
+        ensures { (lane : ℕ) → lane < V.LANES →
+            V.rails result lane
+            ≡ rails_delayed (rails_at (in_lane V.rails lane self.now.keys))
+            (V.ends delay.now lane) (length self.now.keys) }
+    {
+        V::arrive(&self.values, delay)
+    }
+}
+
+// Notes the tick after these values if the value may differ from the last of them.
+fn note_change<V: Signal>(values: &[V], changes: &mut Vec<u32>, value: V)
+    requires short { length values.now < 4000 }
+    requires room { length changes.old.items < vec_capacity changes.old }
+    ensures noted { ((changes.new.items ≡ changes.old.items)
+        × IsLast V.LANES V.rails values.now value)
+        ⊎ (changes.new.items ≡ changes.old.items ++ length values.now ∷ []) }
+    ensures room { vec_capacity changes.old ≤ vec_capacity changes.new }
+{
+    if changes_to(values, value) {
+        changes.push_reserved(values.len() as u32);
+    }
+}
+
+// Whether the value may differ from the last of these.
+fn changes_to<V: Signal>(values: &[V], value: V) -> bool
+    ensures { IsFalse result → IsLast V.LANES V.rails values.now value }
+{
+    let count = values.len();
+    if count == 0 {
+        return true;
+    }
+    !is_same(values[count - 1], value)
+}
+
+// Whether there is a next tick, and its value may differ from that of this one.
+fn changes_next<V: Signal>(values: &[V], t: u32) -> bool
+    requires { t < length values.now }
+    ensures { IsTrue result → t + 1 < length values.now }
+{
+    let next = t as usize + 1;
+    next < values.len() && !is_same(values[next], values[t as usize])
+}
+
+// Appends a value so many times to a list with room for them.
+fn fill_within<V: Copy>(list: &mut Vec<V>, value: V, count: u32)
+    requires { length list.old.items + count ≤ vec_capacity list.old }
+    ensures items { list.new.items ≡ list.old.items ++ replicate count value }
+    ensures room { vec_capacity list.old ≤ vec_capacity list.new }
+{
+    if count == 1 {
+        list.push_reserved(value);
+        return;
+    }
+    let len = list.len() + count as usize;
+    list.resize(len, value).unwrap();
+}
+
+// The first of the changes after t, or the bound where there is none.
+fn next_after(changes: &[u32], t: u32, bound: u32) -> u32
+    requires later { t < bound }
+    requires ascending { AreAscending changes.now }
+    requires inside { (i c : ℕ) → slice_get changes.now i ≡ Some c → c < bound }
+    ensures { IsNextAfter changes.now t bound result }
+{
+    let i = changes.partition_point(|change| *change <= t);
+    if i < changes.len() { changes[i] } else { bound }
+}

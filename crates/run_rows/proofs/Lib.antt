@@ -1,0 +1,2 @@
+pub mod QuietRows
+pub mod TrackRows

@@ -1,0 +1,2 @@
+pub mod PlayRows
+pub mod RowLaws

@@ -1,0 +1,77 @@
+//! A truth value that is known.
+#![tactic(auto)]
+
+use crate::Signal;
+use crate::span::Tick;
+
+/// A truth value that is known: one lane, both rails the same, each time one number of ticks.
+#[derive(Clone, Copy, Debug, PartialEq, Eq)]
+pub enum Level {
+    Off,
+    On,
+}
+
+impl Signal for Level {
+    ghost use Rattle.model_history.specs.Rails.{single};
+    ghost use Rattle.run_signal.specs.Levels.{level_rails, level_sound};
+
+    type Span = Tick;
+
+    const LANES: u32 = 1;
+
+    ghost LANES = { 1 };
+
+    ghost rails = { λ x _. level_rails x };
+
+    ghost ends = { λ span _. single span };
+
+    fn known(value: bool) -> Self {
+        if value { Level::On } else { Level::Off }
+    }
+
+    fn not(self) -> Self {
+        match self {
+            Level::Off => Level::On,
+            Level::On => Level::Off,
+        }
+    }
+
+    fn and(self, other: Self) -> Self {
+        match self {
+            Level::Off => Level::Off,
+            Level::On => other,
+        }
+    }
+
+    fn or(self, other: Self) -> Self {
+        match self {
+            Level::Off => other,
+            Level::On => Level::On,
+        }
+    }
+
+    fn must(self, _lane: u32) -> bool {
+        match self {
+            Level::Off => false,
+            Level::On => true,
+        }
+    }
+
+    fn may(self, lane: u32) -> bool {
+        self.must(lane)
+    }
+
+    fn sure(value: u32) -> Tick {
+        Tick::new(value)
+    }
+
+    fn least(span: &Tick, _lane: u32) -> u32 {
+        span.value()
+    }
+
+    fn greatest(span: &Tick, _lane: u32) -> u32 {
+        span.value()
+    }
+
+    ghost must_implies_may = { λ x lane inside. level_sound x };
+}

@@ -1,0 +1,85 @@
+//! Signals: what is known of a truth value at a tick, in each of several lanes. A value has two
+//! rails in each lane: whether it must be on, and whether it may be.
+//!
+//! `Level` is a truth value that is known, `Tern` one that may be unknown, and `Lanes64` 64 that
+//! are known. What takes any `Signal` runs once for one timing, for a whole box of timings, or for
+//! 64 timings at a time. No call takes memory.
+#![tactic(auto)]
+
+ghost use Rattle.std.specs.Prelude.{◌≡◌, ℕ, ◌<◌, ◌≤◌};
+ghost use Rattle.model_history.specs.Rails.{Rails, Ends, IsSound, single, both, rails_not};
+ghost use Rattle.model_history.specs.Rails.{rails_and};
+ghost use Rattle.model_history.specs.Rails.{rails_or};
+ghost use Rattle.run_signal.specs.Spans.{InOrderInEachLane};
+
+mod lanes;
+mod level;
+mod span;
+mod tern;
+
+pub use lanes::{Lanes64, Ticks64};
+pub use level::Level;
+pub use span::{Tick, Within};
+pub use tern::{Tern, covers};
+
+/// What is known of a truth value at a tick, in each lane below `LANES`.
+pub trait Signal: Copy {
+    /// A span of ticks in each lane: the least and the greatest of what a time may be.
+    type Span: Copy;
+
+    const LANES: u32;
+
+    ghost LANES: { ℕ };
+
+    /// The two rails of a value in a lane.
+    ghost rails: { Self → ℕ → Rails };
+
+    /// The two ends of a span in a lane.
+    ghost ends: { Self.Span → ℕ → Ends };
+
+    /// The value that is known to be this in each lane.
+    fn known(value: bool) -> Self
+        ensures { (lane : ℕ) → lane < LANES → rails result lane ≡ both value };
+
+    fn not(self) -> Self
+        ensures { (lane : ℕ) → lane < LANES → rails result lane ≡ rails_not (rails self lane) };
+
+    fn and(self, other: Self) -> Self
+        ensures { (lane : ℕ) → lane < LANES →
+            rails result lane ≡ rails_and (rails self lane) (rails other lane) };
+
+    fn or(self, other: Self) -> Self
+        ensures { (lane : ℕ) → lane < LANES →
+            rails result lane ≡ rails_or (rails self lane) (rails other lane) };
+
+    /// Whether the value must be on in the lane.
+    fn must(self, lane: u32) -> bool
+        requires { lane < LANES }
+        ensures { result ≡ (rails self lane).must };
+
+    /// Whether the value may be on in the lane.
+    fn may(self, lane: u32) -> bool
+        requires { lane < LANES }
+        ensures { result ≡ (rails self lane).may };
+
+    /// The span of this one number of ticks in each lane.
+    fn sure(value: u32) -> Self::Span
+        requires { value ≤ 4000 }
+        ensures exact { (lane : ℕ) → lane < LANES → ends result lane ≡ single value }
+        ensures in_order { InOrderInEachLane LANES (ends result) };
+
+    /// The least number of ticks of the span in the lane.
+    fn least(span: &Self::Span, lane: u32) -> u32
+        requires { lane < LANES }
+        ensures least { result ≡ (ends span.now lane).least }
+        ensures in_order { InOrderInEachLane LANES (ends span.now) };
+
+    /// The greatest number of ticks of the span in the lane.
+    fn greatest(span: &Self::Span, lane: u32) -> u32
+        requires { lane < LANES }
+        ensures greatest { result ≡ (ends span.now lane).greatest }
+        ensures in_order { InOrderInEachLane LANES (ends span.now) };
+
+    /// What must be may be.
+    ghost must_implies_may: { (x : Self) (lane : ℕ) → lane < LANES → IsSound (rails x lane) };
+}

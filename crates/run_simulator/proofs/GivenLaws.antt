@@ -1,0 +1,130 @@
+-- What a net is given from outside, from a tick on.
+use Rattle.std.proofs.Common.{◌≡◌, ℕ, ◌+◌, ◌<◌, ◌≤◌, List, length, Some, sym, ◌∙◌, ap}
+use Rattle.std.proofs.Common.{arith, subst, ⊎_elim, length-set}
+use Rattle.std.proofs.lemmas.Option.{slice_get-map, slice_get_within, get_or_from_slice_get}
+use Rattle.std.specs.Prelude.{slice_get, slice_set, option_map}
+use Rattle.model_history.specs.Rails.{Ends}
+use Rattle.model_line.specs.Parameters.{terminal_count, channel_count, param_count, delay_param}
+use Rattle.model_line.specs.Channels.{from_of}
+use Rattle.model_line.specs.{declared.script.SeenSpan.SeenSpan, declared.line.Line.Line}
+use Rattle.model_line.specs.{declared.line.Channel.Channel, declared.script.Script.Script}
+use Rattle.model_logic.specs.Choice.{pair_world_of}
+use Rattle.model_timing.specs.declared.step.Step.{Step}
+use Rattle.run_simulator.specs.Inputs.{AreDelays, DelaysHold, IsWorldAt, CanReceive}
+use Rattle.run_simulator.specs.Shown.{ShowTheSame, ShownSpans, AreShown, not_over}
+use Rattle.run_simulator.specs.{declared.inputs.Delay.Delay, LaneBox.ends_at, LaneBox.lane_box}
+use Rattle.run_simulator.specs.{LaneBox.lane_world, ListLaws.exists_at, Quiet.Keeps}
+use Rattle.run_simulator.specs.Runs.{AreDelayed}
+use Rattle.run_simulator.proofs.Lists.{at_set}
+
+-- who sends over a channel
+pub sender : (line : Line) (c : ℕ) (h : Channel) → slice_get line.channels.items c ≡ Some h
+    → from_of line.channels.items c ≡ h.from
+sender line c h is =
+    get_or_from_slice_get _ c h.from 0
+    (slice_get-map (λ (k : Channel). k.from) line.channels.items c
+    ∙ ap (option_map (λ (k : Channel). k.from)) is)
+
+-- one delay with another span
+pub span_set : {S : Type 0} (line : Line) (delays : List (Delay S)) (c : ℕ) (old new : Delay S)
+    → slice_get delays c ≡ Some old → new.from ≡ old.from → new.param ≡ old.param
+    → AreDelays line delays → AreDelays line (slice_set delays c new)
+span_set {S} line delays c old new at from param are =
+    let each : (P : ℕ → Delay S → Type 0) → P c new
+    → ((i : ℕ) (d : Delay S) → slice_get delays i ≡ Some d → P i d)
+    → (i : ℕ) (d : Delay S) → slice_get (slice_set delays c new) i ≡ Some d → P i d =
+    λ P now before i d there.
+    ⊎_elim (λ p. subst (λ (k : ℕ). P k d) (sym p.0) (subst (P c) p.1 now))
+    (λ p. before i d p.1) (at_set delays c new i d there) in
+    record {
+      count = length-set delays c new ∙ are.count;
+      from = each (λ i d. d.from ≡ from_of line.channels.items i) (from ∙ are.from c old at)
+          are.from;
+      param = each (λ i d. d.param ≡ delay_param line i) (param ∙ are.param c old at) are.param;
+      there = each (λ i d. d.param < param_count line)
+          (subst (λ (k : ℕ). k < param_count line) (sym param) (are.there c old at)) are.there;
+    }
+
+module _ (all : List SeenSpan) (shown : ShownSpans) where
+  -- nothing before it is looked up
+  pub shown_none : ((r : ℕ) → ShowTheSame r (not_over shown) all) → AreShown all shown 0 0
+  shown_none same = record {
+    left = λ r low. same r;
+    shown = λ r low high. absurd (omega arith);
+    keeps = record {
+      seen = λ p r low high. absurd (omega arith);
+      lost = λ c r low high. absurd (omega arith);
+    };
+  }
+
+  pub shown_later : (t s until : ℕ) → t ≤ s → AreShown all shown t until → AreShown all shown s until
+  shown_later t s until le are = record {
+    left = λ r low. are.left r (omega arith);
+    shown = λ r low high. are.shown r (omega arith) high;
+    keeps = record {
+      seen = λ p r low high. are.keeps.seen p r (omega arith) (omega arith)
+          ∙ sym (are.keeps.seen p s (omega arith) (omega arith));
+      lost = λ c r low high. are.keeps.lost c r (omega arith) (omega arith)
+          ∙ sym (are.keeps.lost c s (omega arith) (omega arith));
+    };
+  }
+
+module _ {S : Type 0} (ends : S → ℕ → Ends) (spans : List S) (steps : List (Step S))
+    (delays : List (Delay S)) where
+  pub held_none : DelaysHold ends spans steps delays 0 0
+  held_none c d at lane r low high = absurd (omega arith)
+
+  pub held_later : (t s until : ℕ) → t ≤ s → DelaysHold ends spans steps delays t until
+      → DelaysHold ends spans steps delays s until
+  held_later t s until le held c d at lane r low high = held c d at lane r (omega arith) high
+
+module _ {S : Type 0} (ends : S → ℕ → Ends) (line : Line) (spans : List S) (steps : List (Step S))
+  where
+    module _ (lane : ℕ) (delays : List (Delay S)) (t until : ℕ) (are : AreDelays line delays)
+        (held : DelaysHold ends spans steps delays t until) where
+      -- the span of a channel's delay
+      span_at : (c r : ℕ) (d : Delay S) → slice_get delays c ≡ Some d → t ≤ r → r < until
+          → ends d.span lane ≡ ends_at ends lane spans steps (delay_param line c) r
+      span_at c r d at low high =
+          held c d at lane r low high
+          ∙ ap (λ (p : ℕ). ends_at ends lane spans steps p r) (are.param c d at)
+
+      pub world_at : (script : Script) (shown : ShownSpans)
+          → AreShown script.spans.items shown t until → t < until
+          → IsWorldAt ends lane shown.present delays (lane_world ends line script spans steps lane) t
+      unfolding pair_world_of lane_box
+      world_at script shown given early =
+          let now = given.shown t (omega arith) early in
+          record {
+            seen = now.seen;
+            lost = now.lost;
+            channels = record {
+              from = are.from;
+              delay = λ c d at. span_at c t d at (omega arith) early;
+            };
+          }
+
+      pub delay_keeps : (n : ℕ) → 1 ≤ n → t + n ≤ until → (c : ℕ) → c < channel_count line
+          → Keeps (λ r. ends_at ends lane spans steps (delay_param line c) r) t n
+      delay_keeps n some over c lt r low high =
+          let there : c < length delays = subst (λ (m : ℕ). c < m) (sym are.count) lt in
+          let (d, at) = exists_at delays c there in
+          sym (span_at c r d at low (omega arith)) ∙ span_at c t d at (omega arith) (omega arith)
+
+    pub can_receive : (lanes : ℕ) (delays : List (Delay S)) (t until : ℕ) → AreDelays line delays
+        → DelaysHold ends spans steps delays t until → t < until → t < line.horizon
+        → AreDelayed lanes ends line spans steps → CanReceive lanes ends line delays
+    unfolding lane_box
+    can_receive lanes delays t until are held early inside delayed =
+        let channel : (c : ℕ) (d : Delay S) → slice_get delays c ≡ Some d → c < channel_count line =
+        λ c d at. subst (λ (m : ℕ). c < m) are.count (slice_get_within delays c d at) in
+        record {
+          count = are.count;
+          from = λ c d at.
+              subst (λ (k : ℕ). k < terminal_count line) (sym (are.from c d at))
+              (line.pairs_once.from c (channel c d at));
+          later = λ c d at lane below.
+              subst (λ (e : Ends). 1 ≤ e.least)
+              (sym (span_at lane delays t until are held c t d at (omega arith) early))
+              (delayed lane below c t (channel c d at) inside);
+        }

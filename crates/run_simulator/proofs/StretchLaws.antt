@@ -1,0 +1,94 @@
+-- A stretch of ticks of a line's net.
+use Rattle.std.proofs.Common.{◌≡◌, ℕ, ◌+◌, ◌-◌, ◌<◌, ◌≤◌, List, length, Some, sym, ◌∙◌, ap, arith}
+use Rattle.std.proofs.Common.{subst}
+use Rattle.std.specs.Prelude.{slice_get}
+use Rattle.model_history.specs.Rails.{Rails, Ends}
+use Rattle.run_timers.specs.Stretches.{ElementsInAStretch}
+use Rattle.model_line.specs.{declared.line.Line.Line, declared.script.Script.Script}
+use Rattle.model_line.specs.{Channels.from_of, Parameters.channel_count}
+use Rattle.model_logic.specs.Choice.{Box, LeastFromOne, pair_world_of}
+use Rattle.model_logic.specs.PairMean.{PairWorld, PairSignals}
+use Rattle.model_logic.specs.{Logic.key_tree, Solution.the_keys, Laws.LineLaws}
+use Rattle.net_gates.specs.declared.gate.Gate.{Gate}
+use Rattle.net_gates.specs.NetOf.{NetOf, IsNetOf, AreGatesOf, key_of, id_at}
+use Rattle.net_gates.specs.{declared.gate.GateId.GateId, NetLaws.GatesStandForTheirTrees}
+use Rattle.model_timing.specs.declared.step.Step.{Step}
+use Rattle.run_simulator.specs.declared.inputs.Delay.{Delay}
+use Rattle.run_simulator.specs.Quiet.{Keeps, ArrivalKeeps, TimerKeeps, AreGatePairs}
+use Rattle.run_simulator.specs.{GatePairs.GateSignals, GatePairs.line_pairs, LaneBox.lane_box}
+use Rattle.run_simulator.specs.{LaneBox.lane_world, Inputs.AreDelays, Inputs.DelaysHold}
+use Rattle.run_simulator.specs.{Ticks.ValuesAgree, Shown.ShownSpans, Shown.AreShown}
+use Rattle.run_simulator.proofs.{GatePairLaws.gate_pairs-kind, GivenLaws.delay_keeps}
+use Rattle.run_simulator.proofs.{InputLaws.script_fewer, QuietLaws.gates_keep, RunLaws.key_pair}
+
+pub keeps_one : {A : Type 0} (u : ℕ → A) (t : ℕ) → Keeps u t 1
+keeps_one u t r low high = let e : r ≡ t = omega arith in ap u e
+
+-- what a column has of some gates is what they have through the stretch
+pub held_values : {V : Type 0} (rails : V → ℕ → Rails) (lane : ℕ) (u : GateSignals) (t n len : ℕ)
+    (column : List V) (ids : List GateId) → AreGatesOf ids len → ValuesAgree rails lane u t column
+    → ((i : ℕ) → i < len → Keeps (u i) t n)
+    → (k : ℕ) (x : V) → k < length ids → slice_get column (id_at ids k) ≡ Some x
+    → (r : ℕ) → t ≤ r → r < t + n → u (id_at ids k) r ≡ rails x lane
+held_values rails lane u t n len column ids are agree keeps k x lt at r low high =
+    keeps (id_at ids k) (are k lt) r low high ∙ sym (agree (id_at ids k) x at)
+
+module _ {S : Type 0} (laws : LineLaws) (trees : GatesStandForTheirTrees)
+    (stretch : ElementsInAStretch) (ends : S → ℕ → Ends) (line : Line) (script : Script)
+    (spans : List S) (steps : List (Step S)) (lane : ℕ) (net : NetOf) (of_line : IsNetOf line net)
+    (d : LeastFromOne line (lane_box ends line spans steps lane)) where
+  abbrev box : Box
+  box = lane_box ends line spans steps lane
+
+  abbrev world : PairWorld
+  world = lane_world ends line script spans steps lane
+
+  abbrev keys : PairSignals
+  keys = the_keys world (key_tree line)
+
+  abbrev pairs : GateSignals
+  pairs = line_pairs line script box net
+
+  -- the key's gate of the terminal that sends over a channel
+  are_pairs : AreGatePairs world keys pairs (channel_count line) line.horizon net.gates
+  unfolding pair_world_of
+  are_pairs = record {
+    told = λ t i g at. gate_pairs-kind trees.kinds world keys net.gates i g t of_line.laws.gates at;
+    key_gate = λ c. key_of net (from_of line.channels.items c);
+    there = λ c lt. of_line.laws.keys (from_of line.channels.items c)
+        (subst (λ (n : ℕ). from_of line.channels.items c < n) (sym of_line.terminals)
+        (line.pairs_once.from c lt));
+    keys_are = λ c t lt early.
+        sym (key_pair laws trees line script box d net of_line (from_of line.channels.items c) t
+        (line.pairs_once.from c lt) early);
+  }
+
+  pub key_is : (k t : ℕ) → k < length net.keys → t < line.horizon
+      → keys k t ≡ pairs (key_of net k) t
+  key_is k t kn lt =
+      sym (key_pair laws trees line script box d net of_line k t
+      (subst (λ (n : ℕ). k < n) of_line.terminals kn) lt)
+
+  -- every gate keeps its value through the stretch
+  pub stretch_keeps : (shown : ShownSpans) (delays : List (Delay S)) (t until n : ℕ)
+      → AreDelays line delays → AreShown script.spans.items shown t until
+      → DelaysHold ends spans steps delays t until
+      → 1 ≤ n → t + n ≤ until → t + n ≤ line.horizon
+      → ((c : ℕ) → c < length delays
+      → ArrivalKeeps (keys (world.from c)) (world.delay c t) t n)
+      → ((i : ℕ) (g : Gate) → slice_get net.gates i ≡ Some g → TimerKeeps world pairs t n g)
+      → (i : ℕ) → i < length net.gates → Keeps (pairs i) t n
+  unfolding pair_world_of lane_box
+  stretch_keeps shown delays t until n are given held some over fits arrivals timers i inside =
+      let keeps = script_fewer script.spans.items t n (until - t) (omega arith) given.keeps in
+      gates_keep stretch line world keys pairs t n net.gates of_line.laws.gates of_line.named
+      are_pairs
+      (record {
+        seen = keeps.seen;
+        lost = keeps.lost;
+        delays = λ c lt. delay_keeps ends line spans steps lane delays t until are held n some over
+            c lt;
+        arrivals = λ c lt. arrivals c (subst (λ (m : ℕ). c < m) (sym are.count) lt);
+        timers = timers;
+      })
+      fits i inside

@@ -1,0 +1,75 @@
+use Rattle.std.proofs.Common.{ℕ, ◌<◌, length, refl, sym, ◌∙◌, ap, subst, arith}
+use Rattle.model_logic.specs.PairMean.{PairWorld, PairSignals}
+use Rattle.model_logic.specs.{Logic.key_tree, Solution.the_keys, Choice.pair_world_of}
+use Rattle.run_simulator.specs.Tracks.{tracks_history, trips_of, LineTracked}
+use Rattle.run_simulator.specs.{GatePairs.GateSignals, GatePairs.line_pairs, LaneBox.lane_box}
+use Rattle.run_simulator.specs.{LaneBox.lane_world, Ticks.AreSent, Inputs.DelaysHold}
+use Rattle.run_simulator.specs.Shown.{AreShown}
+use Rattle.run_simulator.proofs.PointLaws.{exact_at}
+use Rattle.run_simulator.proofs.{SendLaws.fresh_sent, SendLaws.none_sent, TrackLaws.kept_pair}
+use Rattle.run_simulator.proofs.{TrackLaws.kept_history, GivenLaws.held_none, GivenLaws.shown_none}
+use Rattle.run_simulator.proofs.tracks.run_tracks.Goals as goal
+
+pub take_all-requires-clause-kept : goal.take_all-requires-clause-kept
+take_all-requires-clause-kept g c =
+    let h = c.args.line.now.horizon in
+    let keys = c.in_ok-keys.keys.items in
+    let trips = c.in_ok-trips.trips.items in
+    let delays = c.in_ok-inputs.inputs.delays.items in
+    record {
+      room = omega (arith, c.in_ok-column.ensures.exact, c.len.ensures.len);
+      delays = c.in_ok-inputs.ensures.delays;
+      held = subst (DelaysHold g.V.Signal.ends c.args.spans.now c.args.steps.now delays 0)
+          (sym c.in_ok-inputs.ensures.over)
+          (held_none g.V.Signal.ends c.args.spans.now c.args.steps.now delays);
+      cells = c.in_ok-cells.ensures.shape;
+      keys = subst (λ (m : ℕ). AreSent m h 0 keys) (ap length c.key_gates.ensures)
+          (fresh_sent (length c.key_gates.result.now) h keys c.in_ok-keys.ensures);
+      trips = subst (λ (m : ℕ). AreSent m h 0 trips) (ap length c.trip_gates.ensures)
+          (fresh_sent (length c.trip_gates.result.now) h trips c.in_ok-trips.ensures);
+    }
+
+pub returns-clause-history : goal.returns-clause-history
+unfolding pair_world_of lane_box
+returns-clause-history g c = λ lane inside.
+    let line = c.args.line.now in
+    let script = c.args.script.now in
+    let spans = c.args.spans.now in
+    let steps = c.args.steps.now in
+    let net = c.args.net.now in
+    let of_line = c.requires.of_line in
+    let h = line.horizon in
+    let ends = g.V.Signal.ends in
+    let rails = g.V.Signal.rails in
+    let w : ℕ → PairWorld = λ l. lane_world ends line script spans steps l in
+    let key : ℕ → PairSignals = λ l. the_keys (w l) (key_tree line) in
+    let u : ℕ → GateSignals = λ l. line_pairs line script (lane_box ends line spans steps l) net in
+    let kept = c.take_all.new.kept in
+    let stands : LineTracked g.V.Timed.stands_for ends rails line script spans steps net lane h
+    kept =
+    (c.take_all.ensures.stands script (record {
+      shown = subst (AreShown script.spans.items c.in_ok-inputs.inputs.shown 0)
+          (sym c.in_ok-inputs.ensures.over)
+          (shown_none script.spans.items c.in_ok-inputs.inputs.shown c.in_ok-inputs.ensures.shown);
+      tracked = λ l il. record {
+        keys_kept = none_sent rails l (length c.key_gates.result.now) h (key l)
+            c.in_ok-keys.keys.items c.in_ok-keys.ensures;
+        trips_kept = none_sent rails l (length c.trip_gates.result.now) h (trips_of net (u l))
+            c.in_ok-trips.trips.items c.in_ok-trips.ensures;
+        stand = c.in_ok-cells.ensures.stands l (w l) (u l) il (λ x. refl);
+      };
+    })).tracked lane inside in
+    kept_history c.line_laws.ensures c.gates_stand_for_their_trees.ensures line script (lane_box ends line spans steps lane) (c.requires.delayed lane inside)
+    net of_line
+    (tracks_history rails lane kept.keys.items kept.trips.items)
+    (λ k t kn lt. kept_pair c.history_laws.ensures rails lane (key lane) (length net.keys) h h k t
+    kept.keys.items c.take_all.ensures.kept.keys stands.keys_kept
+    (subst (λ (n : ℕ). k < n) (sym of_line.terminals) kn) lt)
+    (λ k t kn lt. kept_pair c.history_laws.ensures rails lane (trips_of net (u lane)) (length net.trips) h h k t
+    kept.trips.items c.take_all.ensures.kept.trips stands.trips_kept
+    (subst (λ (n : ℕ). k < n) (sym (of_line.laws.same ∙ of_line.terminals)) kn) lt)
+
+pub returns-clause-exact : goal.returns-clause-exact
+returns-clause-exact g c = λ lane choice inside point.
+    exact_at c.line_laws.ensures c.args.line.now c.args.script.now _ (c.requires.delayed lane inside) choice point _
+    (returns-clause-history g c lane inside).is

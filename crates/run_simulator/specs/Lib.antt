@@ -1,0 +1,15 @@
+pub mod Steps
+pub mod LaneBox
+pub mod GatePairs
+pub mod CellStands
+pub mod Ticks
+pub mod WavesOf
+pub mod Runs
+pub mod Played
+pub mod ListLaws
+pub mod LaneLaws
+pub mod Quiet
+pub mod Shown
+pub mod Inputs
+pub mod Tracks
+pub mod PlayedTracks

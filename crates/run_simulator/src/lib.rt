@@ -1,0 +1,32 @@
+//! Runs of a line's net over a script, each gate in the order of the net: tick by tick with every
+//! gate kept (`run`), or from one tick at which some gate may change to the next with keys and trips
+//! kept (`run_tracks`).
+//!
+//! One walk serves every signal. At `Level` it is the history of one timing, at `Tern` the interval
+//! history over a box of timings, at `Lanes64` the histories of 64 timings at once.
+#![tactic(auto)]
+
+mod answer;
+mod arrivals;
+mod cell;
+mod fresh;
+mod hold;
+mod inputs;
+mod kept;
+pub mod laws;
+mod lesser;
+mod run_net;
+mod send;
+mod shown;
+mod spans;
+mod steps;
+mod stretch;
+mod ticks;
+mod tracks;
+mod walk;
+mod waves;
+mod within;
+
+pub use run_net::run;
+pub use tracks::{Tracks, run_tracks};
+pub use waves::Waves;

@@ -1,5 +1,0 @@
-use Rattle.timing_box.proofs.LatestStep.{number_at-latest, number_at-own}
-use Rattle.timing_box.proofs.laws.the_latest_step_counts.Goals as goal
-
-pub returns : goal.returns
-returns c = record { latest = number_at-latest; own = number_at-own }

@@ -1,9 +1,0 @@
-use Rattle.std.proofs.Common.{◌≡◌, ◌++◌}
-use Rattle.simulator.specs.PlayRows.{each_below}
-use Rattle.wave_picture.specs.Variables.{variable_in}
-use Rattle.wave_picture.proofs.variables.put_variables.Given as goal
-
-abbrev pub invariant-loop-i : goal.invariant-loop-i
-invariant-loop-i l =
-    l.text.items
-    ≡ l.initial.text.items ++ each_below l.i (variable_in l.line l.net.gates l.scope)

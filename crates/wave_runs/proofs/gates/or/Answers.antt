@@ -1,6 +1,0 @@
-use Rattle.std.proofs.Common.{rules}
-use Rattle.history.specs.Rails.{rails_or}
-use Rattle.wave_runs.proofs.gates.or.Goals as goal
-
-pub returns : goal.returns
-returns c = c.combined.ensures rails_or (λ x y z told. search rules)
