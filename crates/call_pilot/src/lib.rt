@@ -33,6 +33,3 @@ pub use refusal::Refusal;
 pub use stop::{File, Status, Stop};
 pub use study::read_study;
 pub use top::pilot;
-
-#[cfg(test)]
-mod tests;

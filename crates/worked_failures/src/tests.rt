@@ -1,9 +1,9 @@
 //! Calls over a store and sinks in memory, where one of them fails or memory does. Calls over files
 //! alone are the rows of the program `worked_rows`.
 
-use super::*;
 use base_store::{Memory, MemorySink, MemoryStore};
 use call_engine::NetEngine;
+use call_pilot::{Status, pilot};
 use std::alloc::Global;
 use std::process::Abort;
 use std::test::Fail;
