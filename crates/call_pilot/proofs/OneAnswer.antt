@@ -193,7 +193,7 @@ module _ (line : Line) (script : Script) (early : script.deadline < line.horizon
       ∙ ap (made (first_on (λ t. (w.trip k t).may) line.horizon)
       (first_on (λ t. (w.trip k t).must) line.horizon)) rule
 
-  script_same : script_rows line script v ≡ script_rows line script w
+  pub script_same : script_rows line script v ≡ script_rows line script w
   script_same =
       below_same (terminal_count line) (λ k. row_text line script k (v.trip k))
       (λ k. row_text line script k (w.trip k)) row_same

@@ -1,7 +1,7 @@
 -- A bench has one answer: its line and scripts are fixed by their values, and so are the verdicts.
 use Rattle.std.proofs.Common.{◌≡◌, ◌+◌, ◌%◌, ◌==◌, ◌<◌, ◌≤◌, ◌++◌, ℕ, suc, Bool, true, false, cond}
 use Rattle.std.proofs.Common.{List, []}
-use Rattle.std.proofs.Common.{◌∷◌, Some, length, map, refl, sym, ◌∙◌, ap, subst, arith}
+use Rattle.std.proofs.Common.{◌∷◌, Some, length, map, refl, sym, ◌∙◌, ap, arith}
 use Rattle.std.specs.Prelude.{slice_get}
 use Rattle.std.specs.List.{count_by}
 use Rattle.call_bench.specs.BenchLine.{IsBenchLine}
@@ -11,9 +11,8 @@ use Rattle.call_bench.specs.{Answer.IsBenchText, BenchText.bench_text}
 use Rattle.cert_text.specs.Grammar.{Claims, Verdict as Written}
 use Rattle.cert_check.specs.Counts.{all_verdicts, is_no, is_undecided, is_yes}
 use Rattle.judge_verdict.specs.declared.verdict.Verdict.{Verdict}
-use Rattle.judge_verdict.specs.declared.verdict.Verdict.TheVariants.{Yes, No, Undecided}
 use Rattle.judge_verdict.specs.{VerdictLaws.verdict_once}
-use Rattle.judge_verdict.specs.Verdicts.{FailsAt, IsRuleHeld, IsVerdict, PassesAt}
+use Rattle.judge_verdict.specs.Verdicts.{IsRuleHeld, IsVerdict}
 use Rattle.file_script.specs.Values.{ScriptValues, values_of}
 use Rattle.file_line.specs.Lines.{LineValues, intervals_of, line_values}
 use Rattle.model_line.specs.Intervals.{greatests, leasts}
@@ -23,21 +22,16 @@ use Rattle.model_line.specs.{declared.bounds.Bounds.Bounds, declared.line.Channe
 use Rattle.model_line.specs.{declared.line.Param.Param, declared.line.Scheme.Scheme}
 use Rattle.model_line.specs.{declared.line.Terminal.Terminal, declared.script.Kind.Kind}
 use Rattle.model_line.specs.{declared.script.SeenSpan.SeenSpan, Laws.CountsRestOnNoInterval}
-use Rattle.model_logic.specs.Histories.{IsLineHistory, IsPairHistory, PairHistory}
+use Rattle.model_logic.specs.Histories.{IsPairHistory, PairHistory}
 use Rattle.model_logic.specs.IntervalLaws.{HistoriesRestOnNoInterval, TheRuleOverABox}
-use Rattle.model_logic.specs.Choice.{Choice, declared_box}
+use Rattle.model_logic.specs.Choice.{declared_box}
 use Rattle.model_logic.specs.Laws.{LineLaws}
 use Rattle.cert_own.specs.Certified.{AreCertified, IsCertified}
 use Rattle.cert_own.specs.Written.{written_as}
-use Rattle.model_timing.specs.Candidates.{candidate}
-use Rattle.model_timing.specs.Choice.{timing_choice}
-use Rattle.model_timing.specs.Timing.{TimingValues}
 use Rattle.call_commands.specs.Bench.{bench_answer}
 use Rattle.call_commands.specs.declared.done.Done.{Done}
 use Rattle.call_pilot.proofs.Printed.{same_counts}
-use Rattle.call_pilot.proofs.SameValues.{history_on, meets_back}
-use Rattle.call_pilot.proofs.SameFacts.{candidate_same, choice_same, count_same, pair_history_on}
-use Rattle.call_pilot.proofs.SameFacts.{passes_on, rule_same}
+use Rattle.call_pilot.proofs.{SameFacts.pair_history_on, SameVerdicts.verdict_on}
 
 -- ---- the line and the scripts
 
@@ -134,49 +128,6 @@ module _ (lines : LineLaws) (rules : TheRuleOverABox) (counts : CountsRestOnNoIn
     (same : line_values b ≡ line_values a) where
   module _ (s r : Script) (values : values_of r ≡ values_of s)
       (early : r.deadline < b.horizon) where
-    fails_on : (k : ℕ) (timing : TimingValues) → FailsAt a s k timing → FailsAt b r k timing
-    fails_on k timing f = record {
-      h = f.h;
-      is = subst (λ (c : Choice). IsLineHistory b r c f.h)
-          (sym (choice_same counts histories a b same timing))
-          (history_on counts histories a b same s r values (timing_choice a timing) f.h f.is);
-      fails = λ met. f.fails (meets_back counts histories a b same s r values k f.h met);
-    }
-
-    fails_at : (k i : ℕ) → FailsAt a s k (candidate a i) → FailsAt b r k (candidate b i)
-    fails_at k i f =
-        subst (FailsAt b r k) (sym (candidate_same counts histories a b same i))
-        (fails_on k (candidate a i) f)
-
-    passes_at : (k i : ℕ) → PassesAt a s k (candidate a i) → PassesAt b r k (candidate b i)
-    passes_at k i p =
-        subst (PassesAt b r k) (sym (candidate_same counts histories a b same i))
-        (passes_on counts histories a b same s r values k (candidate a i) p)
-
-    held_back : (k : ℕ) (w : PairHistory) → IsRuleHeld b r k w → IsRuleHeld a s k w
-    held_back k w held = sym (rule_same counts histories a b same s r values (w.trip k)) ∙ held
-
-    verdict_on : (k : ℕ) (w : PairHistory) (v : Verdict) → IsVerdict a s k w v
-        → IsVerdict b r k w v
-    verdict_on k w Yes held = rule_same counts histories a b same s r values (w.trip k) ∙ held
-    verdict_on k w (No timing) is = record {
-      not_held = λ held. is.not_held (held_back k w held);
-      number = is.number;
-      first = record {
-        below = subst (λ (n : ℕ). is.number < n) (sym (count_same counts histories a b same))
-            is.first.below;
-        fails = fails_at k is.number is.first.fails;
-        earlier = λ i lt. passes_at k i (is.first.earlier i lt);
-      };
-      is = is.is ∙ sym (candidate_same counts histories a b same is.number);
-    }
-    verdict_on k w Undecided is = record {
-      not_held = λ held. is.not_held (held_back k w held);
-      passes = λ i lt.
-          passes_at k i
-          (is.passes i (subst (λ (n : ℕ). i < n) (count_same counts histories a b same) lt));
-    }
-
     held_of : (k : ℕ) → k < terminal_count b → (v w : PairHistory)
         → IsPairHistory b r (declared_box b) v → IsPairHistory b r (declared_box b) w
         → IsRuleHeld b r k v → IsRuleHeld b r k w
@@ -197,7 +148,7 @@ module _ (lines : LineLaws) (rules : TheRuleOverABox) (counts : CountsRestOnNoIn
         verdict_once b r k p.history q.history
         (held_of k there p.history q.history on q.is_history)
         (held_of k there q.history p.history q.is_history on) x y
-        (verdict_on k p.history x is_x) is_y)
+        (verdict_on counts histories a b same s r values k p.history x is_x) is_y)
         p.verdicts q.verdicts (p.are_verdicts.count ∙ sym terminals) q.are_verdicts.count
         p.are_verdicts.each q.are_verdicts.each in
         p.written ∙ ap (λ (vs : List Verdict). map written_as vs) lists ∙ sym q.written

@@ -22,7 +22,7 @@ use Rattle.call_pilot.proofs.Twins.{twin}
 -- over one box
 module _ (counts : CountsRestOnNoInterval) (histories : HistoriesRestOnNoInterval) (a b : Line)
     (lines : line_values b ≡ line_values a) where
-  held_over : (s r : Script) → values_of r ≡ values_of s → (k : ℕ) (box : Box)
+  pub held_over : (s r : Script) → values_of r ≡ values_of s → (k : ℕ) (box : Box)
       → IsHeldOver a s k box → IsHeldOver b r k box
   held_over s r values k box is = record {
     held = λ w history.

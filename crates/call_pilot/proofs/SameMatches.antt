@@ -33,7 +33,7 @@ use Rattle.call_pilot.proofs.Twins.{twin}
 
 -- ---- histories that are the same
 
-same_history : (counts : CountsRestOnNoInterval) (a b : Line) → line_values b ≡ line_values a
+pub same_history : (counts : CountsRestOnNoInterval) (a b : Line) → line_values b ≡ line_values a
     → (g h : History) → IsSameHistory a g h → IsSameHistory b g h
 same_history counts a b lines g h is =
     let others = same_but_params a b lines in
@@ -94,7 +94,7 @@ module _ (counts : CountsRestOnNoInterval) (histories : HistoriesRestOnNoInterva
         ∙ ap (λ (box : Box). made box b.channels.items) (box_same counts histories a b lines)
         ∙ ap (made (declared_box a)) others.channels
 
-    mean_same : (claims : PairSignals) (x y : Tree) (t : ℕ) → y ≡ x
+    pub mean_same : (claims : PairSignals) (x y : Tree) (t : ℕ) → y ≡ x
         → pair_mean (declared_world b r) claims y t ≡ pair_mean (declared_world a s) claims x t
     mean_same claims x y t same =
         ap (λ (tree : Tree). pair_mean (declared_world b r) claims tree t) same

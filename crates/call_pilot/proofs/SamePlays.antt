@@ -51,7 +51,7 @@ module _ (counts : CountsRestOnNoInterval) (histories : HistoriesRestOnNoInterva
 
   -- ---- the bytes of a file of timings
 
-  param_named_same : (name : List ℕ) → param_named b name ≡ param_named a name
+  pub param_named_same : (name : List ℕ) → param_named b name ≡ param_named a name
   param_named_same name =
       ap (λ (ps : List Param). position_from (λ (p : Param). bytes_eq p.name name) 0 ps)
       (same_params a b lines)

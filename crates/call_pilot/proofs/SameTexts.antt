@@ -91,7 +91,7 @@ module _ (a b : Line) (rest : SameButParams a b) (params : b.params.items ≡ a.
 
   -- ---- split trees
 
-  node_same : (n : Node) → node_text b n ≡ node_text a n
+  pub node_same : (n : Node) → node_text b n ≡ node_text a n
   node_same node.Yes = refl
   node_same node.Undecided = refl
   node_same (node.Split param mid) =

@@ -7,6 +7,7 @@ pub mod CommandView
 pub mod Commands
 pub mod Ends
 pub mod Files
+pub mod Fixed
 pub mod Headline
 pub mod HeadlineLaws
 pub mod RecordLaws

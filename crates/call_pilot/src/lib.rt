@@ -5,6 +5,7 @@
 mod bench_size;
 mod dispatch;
 mod files;
+mod fixed_answer;
 mod laws;
 mod messages;
 mod one_answer;
@@ -19,6 +20,7 @@ mod words;
 
 pub use call_commands::Study;
 pub use files::fetch_file;
+pub use fixed_answer::words_and_files_fix_the_answer;
 pub use laws::{
     what_certify_prints_is_accepted, what_is_answered_is_true, what_is_met_rests_on_the_values,
     what_split_writes_is_accepted,
