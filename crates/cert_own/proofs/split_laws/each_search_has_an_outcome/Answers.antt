@@ -1,7 +1,7 @@
 use Rattle.cert_own.specs.Known.{BoxesKnown}
 use Rattle.cert_own.proofs.{EachSearch.each_search, EachOutcome.each_outcome}
 use Rattle.cert_own.proofs.{EachOutcome.each_part}
-use Rattle.cert_own.proofs.laws.each_search_has_an_outcome.Goals as goal
+use Rattle.cert_own.proofs.split_laws.each_search_has_an_outcome.Goals as goal
 
 pub returns : goal.returns
 returns c =

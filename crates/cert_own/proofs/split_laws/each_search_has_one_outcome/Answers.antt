@@ -1,7 +1,7 @@
 use Rattle.cert_own.specs.Known.{LinesKnown}
 use Rattle.cert_own.proofs.{OneSearch.search_once, OneOutcome.outcome_once}
 use Rattle.cert_own.proofs.{OneOutcome.parts_once}
-use Rattle.cert_own.proofs.laws.each_search_has_one_outcome.Goals as goal
+use Rattle.cert_own.proofs.split_laws.each_search_has_one_outcome.Goals as goal
 
 pub returns : goal.returns
 returns c =

@@ -1,7 +1,7 @@
 use Rattle.std.proofs.lemmas.Slice.Zip.{AllZip-long}
 use Rattle.cert_check.specs.ZipLaws.{zip_push}
 use Rattle.cert_own.specs.Searched.{AreSearched}
-use Rattle.cert_own.proofs.laws.what_is_searched_grows_by_parts.Goals as goal
+use Rattle.cert_own.proofs.split_laws.what_is_searched_grows_by_parts.Goals as goal
 
 pub returns-clause-results : goal.returns-clause-results
 returns-clause-results c = λ line n scripts parts script results are is.

@@ -3,7 +3,7 @@ use Rattle.cert_split_text.specs.Grammar.{SplitResult}
 use Rattle.cert_split_check.specs.Counts.{CountResults}
 use Rattle.cert_own.proofs.Supported.{Known, one_each, supported}
 use Rattle.cert_own.proofs.Splits.{is_split_text, text_accepted, no_fault}
-use Rattle.cert_own.proofs.laws.what_is_searched_is_accepted.Goals as goal
+use Rattle.cert_own.proofs.split_laws.what_is_searched_is_accepted.Goals as goal
 
 known : (c : goal.After-a_fault_refuses_the_split_text) → Known
 known c = record {
