@@ -1,0 +1,4 @@
+pub mod Digits
+pub mod Rounded
+pub mod Swept
+pub mod Behind
