@@ -2,3 +2,5 @@ pub mod Digits
 pub mod Rounded
 pub mod Swept
 pub mod Behind
+pub mod Ordered
+pub mod EqualEnds

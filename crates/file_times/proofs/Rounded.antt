@@ -25,7 +25,8 @@ down-up a tick down up some ticked below above =
     let b : down * tick * a.under ≤ a.over * 1 = below.0 in
     let t : a.over * 1 ≤ up * tick * a.under = above.0 in
     le_of_mul-le-mul_right {m = down} {n = up} {k = tick}
-    (le_of_mul-le-mul_right {m = down * tick} {n = up * tick} {k = a.under} (omega arith) some) ticked
+    (le_of_mul-le-mul_right {m = down * tick} {n = up * tick} {k = a.under} (omega arith)
+    some) ticked
 
 pub at_most-trans : (a b c : Fraction) → 0 < b.under → IsAtMost a b → IsAtMost b c → IsAtMost a c
 at_most-trans a b c some ab bc =
@@ -33,4 +34,5 @@ at_most-trans a b c some ab bc =
     mul-le-mul_right {m = a.over * b.under} {n = b.over * a.under} c.under ab in
     let second : b.over * c.under * a.under ≤ c.over * b.under * a.under =
     mul-le-mul_right {m = b.over * c.under} {n = c.over * b.under} a.under bc in
-    le_of_mul-le-mul_right {m = a.over * c.under} {n = c.over * a.under} {k = b.under} (omega arith) some
+    le_of_mul-le-mul_right {m = a.over * c.under} {n = c.over * a.under} {k = b.under} (omega
+    arith) some

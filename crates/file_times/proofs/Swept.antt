@@ -28,10 +28,12 @@ counted s way last first step is i =
     let all : (way + s.first.over * s.last.under) * s.step.under
     ≡ s.last.over * s.first.under * s.step.under = ap (λ n. n * s.step.under) is in (
       λ below.
-          let up : i * parts ≤ quotient * parts = mul-le-mul_right {m = i} {n = quotient} parts (omega arith) in
+          let up : i * parts ≤ quotient * parts =
+          mul-le-mul_right {m = i} {n = quotient} parts (omega arith) in
           let most : quotient * parts ≤ way * s.step.under =
           div-mul-le_self (way * s.step.under) parts in
-          let h : i * (s.last.under * s.first.under * s.step.over) ≤ way * s.step.under = omega arith in
+          let h : i * (s.last.under * s.first.under * s.step.over) ≤ way * s.step.under =
+          omega arith in
           omega arith,
       λ most.
           let h : (s.first.over * (1 * s.step.under) + i * s.step.over * s.first.under)

@@ -9,7 +9,7 @@ use Rattle.file_times.specs.declared.time.{Sweep.Sweep, Time.Time}
 use Rattle.file_times.specs.declared.time.Time.TheVariants as time
 use Rattle.file_times.specs.declared.word.Sign.{Sign}
 use Rattle.file_times.specs.declared.word.Sign.TheVariants as sign
-use Rattle.file_times.specs.Fractions.{times, plus, less, is_at_most, IsWithin}
+use Rattle.file_times.specs.Fractions.{times, plus, less, is_at_most, IsAtMost, IsWithin}
 use Rattle.file_times.specs.Numbers.{number_in}
 use Rattle.file_times.specs.Units.{whole, unit_in}
 use Rattle.file_times.specs.Words.{place_of, word_of, sign_at}
@@ -141,7 +141,7 @@ time_of hertz text = do
   number ← first_number text (sign_at text 0)
   behind_number hertz text number (sign_at text 1)
 
--- ---- how large its fractions are
+-- ---- what holds of each time that is read
 
 -- an end of an interval
 abbrev pub IsEnd : Fraction → Type 0
@@ -156,6 +156,8 @@ abbrev pub IsSwept : Sweep → Type 0
 IsSwept sweep =
     IsMeasured sweep.first × IsMeasured sweep.last × IsMeasured sweep.step × (0 < sweep.step.over)
 
+-- its fractions are not too large to work with, and its ends are in order
 abbrev pub IsReadable : Time → Type 0
-IsReadable (time.Interval ends) = IsEnd ends.least × IsEnd ends.greatest
-IsReadable (time.Sweep sweep) = IsSwept sweep
+IsReadable (time.Interval ends) =
+    IsEnd ends.least × IsEnd ends.greatest × IsAtMost ends.least ends.greatest
+IsReadable (time.Sweep sweep) = IsSwept sweep × IsAtMost sweep.first sweep.last

@@ -1,7 +1,7 @@
 //! Fractions, exact.
 
-ghost use Rattle.std.specs.Prelude.{◌≡◌, ◌≤◌, ◌<◌, ◌*◌, ◌+◌, ◌^◌};
-ghost use Rattle.file_times.specs.Fractions.{times, plus, less, is_at_most};
+ghost use Rattle.std.specs.Prelude.{◌≡◌, ◌<◌, ◌*◌, ◌+◌, ◌^◌, ◌↔◌, IsTrue};
+ghost use Rattle.file_times.specs.Fractions.{times, plus, less, is_at_most, IsAtMost};
 
 /// So many of `over`, parted by `under`. It is a number where `under` is not 0.
 #[derive(Clone, Copy, PartialEq, Eq, Debug, Drop)]
@@ -54,7 +54,8 @@ impl Fraction {
     pub fn is_at_most(self, other: Fraction) -> bool
         requires over { self.over * other.under < 2 ^ 128 }
         requires other { other.over * self.under < 2 ^ 128 }
-        ensures { result ≡ is_at_most self other }
+        ensures is { result ≡ is_at_most self other }
+        ensures tells { IsTrue result ↔ IsAtMost self other }
     {
         self.over * other.under <= other.over * self.under
     }

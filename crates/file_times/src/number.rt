@@ -3,7 +3,8 @@
 ghost use Rattle.std.specs.Prelude.{◌≡◌, ◌≤◌, ◌<◌, ◌+◌, ◌*◌, ◌^◌, IsTrue, IfOk, length};
 ghost use Rattle.std.specs.List.{list_all};
 ghost use Rattle.base_store.specs.Number.{is_digit, decimal_value};
-ghost use Rattle.file_times.specs.Numbers.{whole_part, decimals, is_whole, is_number, is_parted_well};
+ghost use Rattle.file_times.specs.Numbers.{whole_part, decimals, is_whole};
+ghost use Rattle.file_times.specs.Numbers.{is_number, is_parted_well};
 ghost use Rattle.file_times.specs.Numbers.{number_in};
 ghost use Rattle.file_times.specs.Fractions.{IsWithin};
 

@@ -1,11 +1,13 @@
 //! What the text of a time says.
 
 ghost use Rattle.std.specs.Prelude.{◌≡◌, ◌≤◌, ◌<◌, ◌+◌, ◌*◌, ◌^◌, IfOk};
-ghost use Rattle.file_times.specs.Fractions.{times, plus, less, IsWithin};
+ghost use Rattle.file_times.specs.Fractions.{times, plus, less, IsAtMost, IsWithin};
 ghost use Rattle.file_times.specs.Units.{whole};
 ghost use Rattle.file_times.specs.Words.{sign_at};
-ghost use Rattle.file_times.specs.Times.{number_at, unit_at, measured_at, value_at, closed_at, closed};
-ghost use Rattle.file_times.specs.Times.{interval, percent, tolerated, behind_share, behind_tolerance};
+ghost use Rattle.file_times.specs.Times.{number_at, unit_at, measured_at, value_at};
+ghost use Rattle.file_times.specs.Times.{closed_at, closed};
+ghost use Rattle.file_times.specs.Times.{interval, percent, tolerated};
+ghost use Rattle.file_times.specs.Times.{behind_share, behind_tolerance};
 ghost use Rattle.file_times.specs.Times.{stepped, behind_ends, ends_at, behind_value};
 ghost use Rattle.file_times.specs.Times.{behind_number};
 ghost use Rattle.file_times.specs.Times.{first_number, time_of, IsEnd, IsMeasured, IsReadable};
@@ -80,7 +82,7 @@ impl<'a> Reading<'a> {
         self.measured(number, k + 1)
     }
 
-    // The time, if the text ends at a word.
+    // The time, if the sign at a word is the end of the text.
     fn closed_at(&self, k: usize, sign: Sign, time: Time) -> Result<Time, TimeFault>
         requires { IsReadable time }
         ensures is { result ≡ closed_at self.now.text.now k sign time }
@@ -92,6 +94,7 @@ impl<'a> Reading<'a> {
         }
     }
 
+    // The time, if the text ends at a word.
     fn closed(&self, k: usize, time: Time) -> Result<Time, TimeFault>
         requires { IsReadable time }
         ensures is { result ≡ closed self.now.text.now k time }
@@ -170,6 +173,7 @@ impl<'a> Reading<'a> {
     fn behind_ends(&self, first: Fraction, last: Fraction, k: usize) -> Result<Time, TimeFault>
         requires first { IsMeasured first }
         requires last { IsMeasured last }
+        requires ordered { IsAtMost first last }
         requires early { k < 20 }
         ensures is { result ≡ behind_ends self.now.hertz self.now.text.now first last k
             (sign_at self.now.text.now k) }
@@ -195,6 +199,7 @@ impl<'a> Reading<'a> {
         requires first { IsMeasured first }
         requires last { IsMeasured last }
         requires step { IsMeasured step }
+        requires ordered { IsAtMost first last }
         requires early { k < 30 }
         ensures is { result ≡ stepped self.now.text.now first last k step }
         ensures readable { IfOk result IsReadable }
@@ -263,9 +268,11 @@ fn percent(number: Fraction) -> Fraction
     })
 }
 
+// From the least to the greatest.
 fn interval(least: Fraction, greatest: Fraction) -> Time
     requires least { IsMeasured least }
     requires greatest { IsMeasured greatest }
+    requires ordered { IsAtMost least greatest }
     ensures is { result ≡ interval least greatest }
     ensures readable { IsReadable result }
 {
@@ -286,6 +293,7 @@ fn tolerated(value: Fraction, share: Fraction, margin: Fraction) -> Time
     })
 }
 
+// The least that the tolerance allows.
 fn least(value: Fraction, share: Fraction, margin: Fraction) -> Fraction
     requires value { IsMeasured value }
     requires share { IsWithin (10 ^ 9) (10 ^ 10) share }
@@ -298,6 +306,7 @@ fn least(value: Fraction, share: Fraction, margin: Fraction) -> Fraction
     rest.less(margin)
 }
 
+// The greatest that the tolerance allows.
 fn greatest(value: Fraction, share: Fraction, margin: Fraction) -> Fraction
     requires value { IsMeasured value }
     requires share { IsWithin (10 ^ 9) (10 ^ 10) share }
@@ -310,6 +319,7 @@ fn greatest(value: Fraction, share: Fraction, margin: Fraction) -> Fraction
     more.plus(margin)
 }
 
+// So many times the value.
 fn scaled(value: Fraction, by: Fraction) -> Fraction
     requires value { IsMeasured value }
     requires by { IsWithin (2 * 10 ^ 10) (10 ^ 10) by }

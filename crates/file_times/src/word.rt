@@ -3,7 +3,8 @@
 ghost use Rattle.std.specs.Prelude.{◌≡◌, ◌≤◌, length};
 ghost use Rattle.std.specs.Str.{bytes_eq};
 ghost use Rattle.std.specs.List.{position_or_len};
-ghost use Rattle.file_times.specs.Words.{is_no_space, next_start, next_end, place_of, word_of, sign_in};
+ghost use Rattle.file_times.specs.Words.{is_no_space, next_start, next_end, place_of};
+ghost use Rattle.file_times.specs.Words.{word_of, sign_in};
 
 use base_lines::find_byte;
 
