@@ -46,11 +46,7 @@ value_at hertz text k = do
 -- the time, if the text ends at word k
 abbrev pub closed_at : List ℕ → ℕ → Sign → Time → Result Time TimeFault
 closed_at text k sign.End read = Ok read
-closed_at text k sign.To read = Err (fault.Surplus (place_of text k))
-closed_at text k sign.PlusMinus read = Err (fault.Surplus (place_of text k))
-closed_at text k sign.By read = Err (fault.Surplus (place_of text k))
-closed_at text k sign.Percent read = Err (fault.Surplus (place_of text k))
-closed_at text k sign.Other read = Err (fault.Surplus (place_of text k))
+closed_at text k found read = Err (fault.Surplus (place_of text k))
 
 abbrev pub closed : List ℕ → ℕ → Time → Result Time TimeFault
 closed text k read = closed_at text k (sign_at text k) read

@@ -23,11 +23,7 @@ cycle_in place (Some hertz) =
 -- a word that is no unit: none stands there, or one that is not known
 abbrev pub no_unit : ℕ → Sign → TimeFault
 no_unit place sign.Other = fault.UnknownUnit place
-no_unit place sign.End = fault.NoUnit place
-no_unit place sign.To = fault.NoUnit place
-no_unit place sign.PlusMinus = fault.NoUnit place
-no_unit place sign.By = fault.NoUnit place
-no_unit place sign.Percent = fault.NoUnit place
+no_unit place found = fault.NoUnit place
 
 -- one of the unit that a word at this place is
 abbrev pub unit_in : ℕ → Option ℕ → List ℕ → Result Fraction TimeFault
