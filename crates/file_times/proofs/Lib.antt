@@ -5,3 +5,4 @@ pub mod Behind
 pub mod Ordered
 pub mod EqualEnds
 pub mod WholeTicks
+pub mod ReadBack
