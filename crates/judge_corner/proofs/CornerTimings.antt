@@ -47,7 +47,8 @@ module _ (line : Line) (rail : Rail) where
     pub delay_is : (r : Rail) (s p least greatest d : ℕ) → r ≡ key_rail line.scheme rail → s ≡ sends
         → p ≡ delay_param line c → least ≡ (declared_ends line p).least
         → greatest ≡ (declared_ends line p).greatest
-        → d ≡ worst_delay r (w.key s) (ends_of least greatest) t → d ≡ (corner line rail w).delay c t
+        → d ≡ worst_delay r (w.key s) (ends_of least greatest) t
+        → d ≡ (corner line rail w).delay c t
     unfolding worst_choice declared_box
     delay_is r s p least greatest d r_is s_is p_is least_is greatest_is is =
         let on : Rail = key_rail line.scheme rail in
@@ -71,26 +72,27 @@ module _ (line : Line) (rail : Rail) where
   -- ---- the timing
 
   module _ (w : PairHistory) (steps : List (Step ℕ))
-      (are : AreStepsUpTo line (corner line rail w).delay numbers (channel_count line) 1 steps) where
-    abbrev timing : TimingValues
-    timing = record { values = numbers; steps = steps }
+      (are : AreStepsUpTo line (corner line rail w).delay numbers (channel_count line) 1 steps)
+    where
+      abbrev timing : TimingValues
+      timing = record { values = numbers; steps = steps }
 
-    pub timing_inside : DeclaredIntervalsAreInOrder → IsTimingInside line timing
-    timing_inside in_order = record {
-      count = count;
-      values = λ i below.
-          subst (λ (n : ℕ). IsIn n (declared_ends line i)) (sym (number i below))
-          (end_inside ((scheme_sides line rail).end_of i) (declared_ends line i)
-          (in_order.ordered line i below));
-      steps = are.inside;
-    }
+      pub timing_inside : DeclaredIntervalsAreInOrder → IsTimingInside line timing
+      timing_inside in_order = record {
+        count = count;
+        values = λ i below.
+            subst (λ (n : ℕ). IsIn n (declared_ends line i)) (sym (number i below))
+            (end_inside ((scheme_sides line rail).end_of i) (declared_ends line i)
+            (in_order.ordered line i below));
+        steps = are.inside;
+      }
 
-    pub timing_is_worst : IsSameChoice line (timing_choice line timing) (corner line rail w)
-    unfolding timing_choice worst_choice declared_box
-    timing_is_worst = record {
-      numbers = λ i below. number i below;
-      delays = λ c t below late early. are.done c t below late early;
-    }
+      pub timing_is_worst : IsSameChoice line (timing_choice line timing) (corner line rail w)
+      unfolding timing_choice worst_choice declared_box
+      timing_is_worst = record {
+        numbers = λ i below. number i below;
+        delays = λ c t below late early. are.done c t below late early;
+      }
 
   -- the timing that is made of these numbers and steps
   module _ (w : PairHistory) (xs : List ℕ) (made : xs ≡ numbers) (lent : List ℕ) (same : lent ≡ xs)

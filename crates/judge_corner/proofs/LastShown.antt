@@ -79,5 +79,6 @@ module _ (rail : Rail) (u : ℕ → Rails) (ends : Ends) (t : ℕ) where
       → ends.least ≡ worst_delay rail u ends t
   least_is_worst delay low high left =
       let same : delay ≡ ends.least = omega arith in
-      sym (left ∙ ap (λ (n : ℕ). last_below (passes (shown rail u t) ends.least) ends.least (suc n)) same
+      sym (left
+      ∙ ap (λ (n : ℕ). last_below (passes (shown rail u t) ends.least) ends.least (suc n)) same
       ∙ least_left (shown rail u t) ends.least)

@@ -63,7 +63,8 @@ module _ (laws : LineLaws) (choices : TimingsInsideAreChoicesInside) (same : Sam
         slice_get_within (held_by line script w) k b at in
         let below : k < terminal_count line = omega (arith, there, count) in (
           below,
-          sym (get_or-map-range_with_len held_at 0 (terminal_count line) k k false below (omega arith))
+          sym (get_or-map-range_with_len held_at 0 (terminal_count line) k k false below
+              (omega arith))
               ∙ get_or_from_slice_get (held_by line script w) k b false at,
         )
 

@@ -44,7 +44,8 @@ fn sender_of(line: &Line, channel: u32) -> u32
     line.channels[channel as usize].from
 }
 
-// The last delay of the interval that shows what the rail looks for at the tick; the least where none does.
+// The last delay of the interval that shows what the rail looks for at the tick; the least where
+// none does.
 fn worst_delay(waves: &PairWaves, sender: u32, rail: Rail, least: u32, greatest: u32, t: u32) -> u32
     requires sender { sender < waves.now.terminals }
     requires tick { t < waves.now.horizon }

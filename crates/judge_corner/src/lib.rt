@@ -1,5 +1,5 @@
-//! The worst corner as a timing: where a line's scheme reads every number at one end alone, one timing
-//! for each script that decides every obligation of it, its delays moving.
+//! The worst corner as a timing: where a line's scheme reads every number at one end alone, one
+//! timing for each script, its delays moving, decides every obligation of it.
 #![tactic(auto)]
 
 mod decided;

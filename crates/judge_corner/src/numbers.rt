@@ -1,9 +1,8 @@
 //! Each parameter at its end.
 
-ghost use Rattle.std.specs.Prelude.{◌≡◌, ◌<◌, map, IfOk, slice_get, Some};
+ghost use Rattle.std.specs.Prelude.{◌≡◌, ◌<◌, map, IfOk};
 ghost use Rattle.std.specs.List.{range_with_len};
 ghost use Rattle.model_line.specs.Parameters.{param_count};
-ghost use Rattle.model_polarity.specs.Schemes.{setting_at};
 ghost use Rattle.judge_corner.specs.Named.{rail_named};
 ghost use Rattle.judge_corner.specs.Corner.{settings_in_order, worst_number as worst_number_of};
 
@@ -18,7 +17,8 @@ use std::alloc::Global;
 /// The number of each parameter at the end at which it is asked for.
 pub fn worst_numbers(alloc: Global, line: &Line, rail: Rail) -> Result<Vec<Tick>, Memory>
     ensures { IfOk result (λ numbers. numbers.items
-        ≡ map (worst_number_of line.now (rail_named rail)) (range_with_len 0 (param_count line.now))) }
+        ≡ map (worst_number_of line.now (rail_named rail))
+        (range_with_len 0 (param_count line.now))) }
 {
     parameters_are_numbered();
     let settings = settings_of(alloc, line)?;

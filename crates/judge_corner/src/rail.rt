@@ -25,8 +25,8 @@ pub enum End {
     Greatest,
 }
 
-/// The rail of the trip that decides an obligation: what must trip on an internal fault, what may on
-/// an external one.
+/// The rail of the trip that decides an obligation: what must trip on an internal fault, and what
+/// may on an external one.
 pub fn deciding(kind: Kind) -> Rail
     ensures { rail_named result ≡ deciding_rail kind }
 {

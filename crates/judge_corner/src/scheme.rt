@@ -9,7 +9,8 @@ use crate::rail::{End, Rail};
 use model_line::{Line, Scheme, Setting};
 use model_logic::is_terminal_weak;
 
-/// Whether the line's scheme makes every trip one-railed: PUTT, DTT, DCB, and POTT without weak ends.
+/// Whether the line's scheme makes every trip one-railed: PUTT, DTT, DCB, and POTT without weak
+/// ends.
 pub fn is_one_railed(line: &Line) -> bool
     ensures { IsTrue result ↔ IsOneRailedBy line.now.scheme line.now }
 {

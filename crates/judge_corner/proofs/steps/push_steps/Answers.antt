@@ -49,7 +49,8 @@ loop-t-preserved c =
       value = c.delay_at-delay.ensures.within;
     } in
     record {
-      steps = subst (λ (s : List (Step ℕ)). AreStepsUpTo line delay numbers c.args.channel (t + 1) s)
+      steps = subst
+          (λ (s : List (Step ℕ)). AreStepsUpTo line delay numbers c.args.channel (t + 1) s)
           (sym new)
           (next_tick line delay numbers c.settings_are_counted.ensures c.args.channel steps
           c.requires.channel t last n c.loop-t.invariant.steps c.loop-t.invariant.last
