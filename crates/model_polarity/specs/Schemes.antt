@@ -1,5 +1,5 @@
 -- The schemes whose trips are one-railed, and the sides of their lines.
-use Rattle.std.specs.Prelude.{◌<◌, ℕ, Bool, true, IsFalse, map, get_or}
+use Rattle.std.specs.Prelude.{◌<◌, ◌↔◌, ℕ, Bool, true, IsFalse, map, get_or}
 use Rattle.model_line.specs.declared.line.Scheme.TheVariants.{Pott, Putt, Dcb, Dcub, Dtt}
 use Rattle.model_line.specs.declared.line.Setting.TheVariants.{Z1Pickup, Z1Dropout, Z2Pickup}
 use Rattle.model_line.specs.declared.line.Setting.TheVariants.{Z2Dropout, RvPickup, RvDropout}
@@ -9,12 +9,12 @@ use Rattle.model_line.specs.declared.line.Setting.TheVariants.{TransferSecurity,
 use Rattle.model_line.specs.{declared.line.Line.Line, declared.line.Scheme.Scheme}
 use Rattle.model_line.specs.{declared.line.Setting.Setting, declared.script.Script.Script}
 use Rattle.model_line.specs.{Settings.line_settings, Parameters.terminal_count, Channels.from_of}
-use Rattle.model_logic.specs.Choice.{Choice, IsInside}
-use Rattle.model_logic.specs.Histories.{History, IsLineHistory, Meets}
-use Rattle.model_logic.specs.{Elements.is_weak, Logic.trip_tree}
+use Rattle.model_logic.specs.Choice.{Choice, IsInside, declared_box}
+use Rattle.model_logic.specs.Histories.{History, IsLineHistory, Meets, PairHistory, IsPairHistory}
+use Rattle.model_logic.specs.{Elements.is_weak, Logic.trip_tree, Rule.IsHeld}
 use Rattle.model_polarity.specs.Sides.{Rail, turned, End, Least, pickup_end, dropout_end, Sides}
 use Rattle.model_polarity.specs.Sides.{IsReadOn, IsOneRailed}
-use Rattle.model_polarity.specs.Laws.{EveryChoiceMeets}
+use Rattle.model_polarity.specs.{Laws.EveryChoiceMeets, Worst.worst_choice, Worst.deciding}
 
 -- no terminal is a weak infeed
 abbrev pub HasNoWeakEnd : Line → Type 0
@@ -90,3 +90,17 @@ pub record WorstTiming (line : Line) (script : Script) : Type 0 where
 abbrev pub OneTimingDecidesTheScript : Type 0
 OneTimingDecidesTheScript = (line : Line) (script : Script) → script.deadline < line.horizon
     → IsOneRailedBy line.scheme line → WorstTiming line script
+
+-- the worst choice over the declared intervals lies inside them, whatever the sides; of such a line,
+-- over the interval history of a script, its history meets each obligation exactly where the rule is
+-- held
+pub record TheWorstChoiceDecides : Type 0 where
+  pub inside : (line : Line) (sides : Sides) (w : PairHistory)
+      → IsInside line (worst_choice line sides (declared_box line) w.key)
+  pub meets : (line : Line) (script : Script) (w : PairHistory) (h : History) (k : ℕ)
+      → script.deadline < line.horizon → IsOneRailedBy line.scheme line
+      → IsPairHistory line script (declared_box line) w
+      → IsLineHistory line script
+      (worst_choice line (scheme_sides line (deciding script.kind)) (declared_box line) w.key) h
+      → k < terminal_count line
+      → Meets line script k h ↔ IsHeld script.kind script.deadline line.horizon (w.trip k)

@@ -6,6 +6,7 @@ ghost use Rattle.model_polarity.specs.Demands.{TheWalkTellsTheSides};
 ghost use Rattle.model_polarity.specs.Leads.{AWorseChoiceMeetsLess};
 ghost use Rattle.model_polarity.specs.Limits.{RailsAreNotReached};
 ghost use Rattle.model_polarity.specs.Schemes.{SchemesAreOneRailed, OneTimingDecidesTheScript};
+ghost use Rattle.model_polarity.specs.Schemes.{TheWorstChoiceDecides};
 
 use model_history::laws::history_laws;
 use model_line::laws::declared_intervals_are_in_order;
@@ -54,6 +55,16 @@ pub fn schemes_are_one_railed()
     ensures { SchemesAreOneRailed }
 {
     line_laws();
+}
+
+/// The worst choice over the declared intervals lies inside them, and of such a line its history
+/// meets each obligation of a script exactly where the rule is held.
+pub fn the_worst_choice_decides()
+    ensures { TheWorstChoiceDecides }
+{
+    history_laws();
+    line_laws();
+    declared_intervals_are_in_order();
 }
 
 /// Such a line has for each script one timing that meets an obligation only where every timing does.

@@ -1,0 +1,4 @@
+pub mod Named
+pub mod Corner
+pub mod Steps
+pub mod Decided
