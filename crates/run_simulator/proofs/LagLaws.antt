@@ -1,22 +1,21 @@
 -- Gates that are not evaluated at a tick, since nothing that they rest on has changed.
-use Rattle.std.proofs.Common.{◌≡◌, ℕ, zero, suc, ◌+◌, ◌-◌, ◌<◌, ◌≤◌, List, length, Some, refl, sym}
-use Rattle.std.proofs.Common.{◌∙◌, ◌⊎◌, ap, subst, arith, ⊎_elim, inl, inr, Bool, false}
+use Rattle.std.proofs.Common.{◌≡◌, ℕ, zero, suc, ◌+◌, ◌-◌, ◌<◌, ◌≤◌, List, length, refl, sym}
+use Rattle.std.proofs.Common.{◌∙◌, ap, subst, arith, ⊎_elim, inl, inr, Bool, false}
 use Rattle.std.proofs.lemmas.Bool.{cases_lt}
-use Rattle.std.specs.Prelude.{slice_get}
-use Rattle.model_history.specs.Rails.{Rails, Ends, both, rails_not, rails_and, rails_or, rails_delayed}
+use Rattle.model_history.specs.Rails.{Rails, Ends, both, rails_not, rails_and, rails_or}
 use Rattle.model_history.specs.Rails.{rails_timed, rails_sealed, rails_at}
 use Rattle.model_history.specs.{Recorded.first_ticks, FirstTicks.length-first_ticks}
 use Rattle.model_history.specs.Laws.{RecordedTicksSuffice}
-use Rattle.run_timers.specs.{Stretches.ElementsInAStretch, Seals.SealStandsFor, Seals.last_seal}
+use Rattle.run_timers.specs.{Stretches.ElementsInAStretch, Seals.last_seal}
 use Rattle.model_logic.specs.{PairMean.PairWorld, PairMean.PairSignals}
 use Rattle.net_gates.specs.declared.gate.Gate.TheVariants.{Const, Seen, Loss, Raw, Not, And, Or}
 use Rattle.net_gates.specs.declared.gate.Gate.TheVariants.{Timer, Seal}
-use Rattle.net_gates.specs.{declared.gate.Gate.Gate, declared.gate.GateId.GateId}
+use Rattle.net_gates.specs.{declared.gate.Gate.Gate}
 use Rattle.run_simulator.specs.declared.cell.Cell.TheVariants as cell
 use Rattle.run_simulator.specs.{declared.cell.Cell.Cell, declared.since.Since.Since}
 use Rattle.run_simulator.specs.{GatePairs.GateSignals, GatePairs.kind_pair, Quiet.Keeps, Quiet.TimerKeeps}
 use Rattle.run_simulator.specs.CellStands.{SealStands, CellStands, TimerStands}
-use Rattle.run_simulator.specs.Lags.{TimerLags, Lags, IsInputAt, IsNoTimer, IsSame, GateRests, GivenRests}
+use Rattle.run_simulator.specs.Lags.{Lags, IsInputAt, IsNoTimer, IsSame, GateRests}
 use Rattle.run_simulator.specs.Readers.{HasArgument, IsGiven, IsRaw}
 use Rattle.net_gates.specs.Laws.{HasArguments}
 
@@ -76,14 +75,17 @@ rests_more u t n turned (Loss c) one rests = rests
 rests_more u t n turned (Raw c) one rests = absurd rests
 rests_more u t n turned (Not x) one rests = same_more u t n x.0 one rests
 rests_more u t n turned (And x y) one rests = (
-  same_more u t n x.0 (λ e. one (inl e)) rests.0, same_more u t n y.0 (λ e. one (inr e)) rests.1,
+  same_more u t n x.0 (λ e. one (inl e)) rests.0,
+  same_more u t n y.0 (λ e. one (inr e)) rests.1,
 )
 rests_more u t n turned (Or x y) one rests = (
-  same_more u t n x.0 (λ e. one (inl e)) rests.0, same_more u t n y.0 (λ e. one (inr e)) rests.1,
+  same_more u t n x.0 (λ e. one (inl e)) rests.0,
+  same_more u t n y.0 (λ e. one (inr e)) rests.1,
 )
 rests_more u t n turned (Timer x p d) one rests = same_more u t n x.0 one rests
 rests_more u t n turned (Seal x y) one rests = (
-  same_more u t n x.0 (λ e. one (inl e)) rests.0, same_more u t n y.0 (λ e. one (inr e)) rests.1,
+  same_more u t n x.0 (λ e. one (inl e)) rests.0,
+  same_more u t n y.0 (λ e. one (inr e)) rests.1,
 )
 
 same_none : (u : GateSignals) (t a : ℕ) → IsSame u t 0 a

@@ -1,6 +1,6 @@
 -- Due ticks of which some are set to 0.
-use Rattle.std.proofs.Common.{◌≡◌, ◌≢◌, ◌⊎◌, ◌<◌, ◌+◌, ℕ, zero, suc, List, [], ◌∷◌, ◌++◌, Some, refl, sym}
-use Rattle.std.proofs.Common.{⊎_elim, inl, inr, length, subst, ap, arith, ◌∙◌, length-set}
+use Rattle.std.proofs.Common.{◌≡◌, ◌<◌, ◌+◌, ℕ, zero, suc, List, [], ◌∷◌, ◌++◌, Some, refl, sym}
+use Rattle.std.proofs.Common.{⊎_elim, inl, length, subst, ap, arith, ◌∙◌, length-set}
 use Rattle.std.proofs.lemmas.Bool.{cases_lt}
 use Rattle.std.proofs.lemmas.Option.{slice_get-get_or}
 use Rattle.std.specs.Prelude.{slice_get, slice_set, get_or}

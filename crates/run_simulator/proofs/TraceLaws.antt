@@ -1,6 +1,6 @@
 -- One tick of a net, gate by gate, of which only some are evaluated.
-use Rattle.std.proofs.Common.{◌≡◌, ◌≢◌, ℕ, zero, suc, ◌+◌, ◌-◌, ◌<◌, ◌≤◌, List, [], ◌∷◌, ◌++◌, length, Some}
-use Rattle.std.proofs.Common.{refl, sym, ◌∙◌, ◌⊎◌, ap, subst, arith, ⊎_elim, Bool, false, true}
+use Rattle.std.proofs.Common.{◌≡◌, ◌≢◌, ℕ, zero, suc, ◌+◌, ◌-◌, ◌<◌, ◌≤◌, List, [], ◌∷◌, length, Some}
+use Rattle.std.proofs.Common.{refl, sym, ◌∙◌, ap, subst, arith, ⊎_elim, Bool, false, true}
 use Rattle.std.proofs.lemmas.Bool.{cases_lt}
 use Rattle.std.specs.Prelude.{slice_get, slice_set, take, IsTrue}
 use Rattle.model_history.specs.Rails.{Rails, Ends}
@@ -10,12 +10,12 @@ use Rattle.model_logic.specs.PairMean.{PairWorld, PairSignals}
 use Rattle.net_gates.specs.declared.gate.Gate.{Gate}
 use Rattle.run_simulator.specs.{declared.cell.Cell.Cell, declared.since.Since.Since}
 use Rattle.run_simulator.specs.{declared.inputs.Delay.Delay, Inputs.IsWorldAt, Ticks.ValuesAgree}
-use Rattle.run_simulator.specs.{GatePairs.GateSignals, GatePairs.kind_pair, Ticks.KeysSent, Ticks.AreTold}
+use Rattle.run_simulator.specs.{GatePairs.GateSignals, GatePairs.kind_pair, Ticks.AreTold}
 use Rattle.run_simulator.specs.{ListLaws.exists_at, Quiet.TimerKeeps}
-use Rattle.run_simulator.specs.Lags.{Lags, AllLag, GateRests, GivenRests, GateWaits}
+use Rattle.run_simulator.specs.Lags.{Lags, GateRests, GivenRests, GateWaits}
 use Rattle.run_simulator.specs.Lags.{IsSteady, IsGivenAt, IsTraced, AreFreshDues}
-use Rattle.run_simulator.specs.Readers.{ReadersHold, HasArgument, AreLowered, AreAwake}
-use Rattle.run_simulator.specs.Readers.{IsGiven, IsRaw, IsTold}
+use Rattle.run_simulator.specs.Readers.{ReadersHold, AreLowered, AreAwake}
+use Rattle.run_simulator.specs.Readers.{IsTold}
 use Rattle.run_simulator.specs.declared.readers.Readers.{Readers}
 use Rattle.model_history.specs.Laws.{RecordedTicksSuffice}
 use Rattle.run_timers.specs.Stretches.{ElementsInAStretch}

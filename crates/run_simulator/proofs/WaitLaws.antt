@@ -1,6 +1,6 @@
 -- Gates that wait through a stretch of ticks.
 use Rattle.std.proofs.Common.{◌≡◌, ℕ, zero, suc, ◌+◌, ◌-◌, ◌<◌, ◌≤◌, List, length, Some, refl, sym}
-use Rattle.std.proofs.Common.{◌∙◌, ap, subst, arith, ⊎_elim, Bool, false, replicate}
+use Rattle.std.proofs.Common.{◌∙◌, subst, arith, ⊎_elim, Bool, false, replicate}
 use Rattle.std.proofs.lemmas.Bool.{cases_lt}
 use Rattle.std.proofs.lemmas.Option.{slice_get_within}
 use Rattle.std.specs.Prelude.{slice_get}
@@ -19,7 +19,7 @@ use Rattle.run_simulator.specs.{declared.cell.Cell.Cell, declared.since.Since.Si
 use Rattle.run_simulator.specs.{GatePairs.GateSignals, Quiet.Keeps, Quiet.TimerKeeps, Quiet.ScriptKeeps}
 use Rattle.run_simulator.specs.{LaneBox.lane_box, LaneBox.lane_world, Ticks.ValuesAgree, Ticks.AllStand}
 use Rattle.run_simulator.specs.{CellStands.CellStands, CellStands.TimerStands, Tracks.HasRested}
-use Rattle.run_simulator.specs.Lags.{Lags, AllLag, AllWait, GateWaits, GivenRests}
+use Rattle.run_simulator.specs.Lags.{Lags, AllLag, AllWait, GivenRests}
 use Rattle.run_simulator.proofs.LagLaws.{ArgsSame, rest_lags, rest_timer}
 use Rattle.run_simulator.proofs.WalkLaws.{more_arguments}
 

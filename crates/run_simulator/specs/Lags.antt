@@ -1,16 +1,16 @@
 -- What a run that evaluates only the gates behind a change holds before and after a tick.
-use Rattle.std.specs.Prelude.{◌≡◌, ◌<◌, ◌≤◌, ◌-◌, ℕ, suc, Bool, false, List, Some, length, slice_get}
+use Rattle.std.specs.Prelude.{◌≡◌, ◌<◌, ◌≤◌, ◌-◌, ℕ, suc, Bool, false, List, Some, slice_get}
 use Rattle.model_history.specs.{Rails.Rails, Rails.Ends, Recorded.first_ticks}
 use Rattle.run_channel.specs.SentKeys.{SentKeys}
 use Rattle.model_line.specs.declared.script.Place.{Place}
 use Rattle.model_logic.specs.PairMean.{PairWorld, PairSignals}
-use Rattle.net_gates.specs.{declared.gate.Gate.Gate, declared.gate.GateId.GateId}
+use Rattle.net_gates.specs.{declared.gate.Gate.Gate}
 use Rattle.net_gates.specs.declared.gate.Gate.TheVariants as gate
 use Rattle.run_simulator.specs.{declared.cell.Cell.Cell, declared.since.Since.Since}
 use Rattle.run_simulator.specs.CellStands.{TimerStands, SealStands}
-use Rattle.run_simulator.specs.Ticks.{AreTold, KeysSent, ValuesAgree}
-use Rattle.run_simulator.specs.{GatePairs.GateSignals, Quiet.Keeps, Quiet.TimerKeeps}
-use Rattle.run_simulator.specs.{GatePairs.kind_pair, Inputs.IsWorldAt, declared.inputs.Delay.Delay}
+use Rattle.run_simulator.specs.Ticks.{AreTold, KeysSent}
+use Rattle.run_simulator.specs.{GatePairs.GateSignals, Quiet.TimerKeeps}
+use Rattle.run_simulator.specs.{Inputs.IsWorldAt, declared.inputs.Delay.Delay}
 use Rattle.model_line.specs.declared.script.SeenSpan.{SeenSpan}
 
 -- a timer's cell stands for its input's first ticks; what it has not taken yet up to tick t, and

@@ -14,10 +14,10 @@ use crate::answer::{answer, gate_stays};
 use crate::cell::Cell;
 use crate::inputs::Delay;
 use crate::since::{Since, catch_up};
-use run_channel::{Carried, Track};
-use net_gates::Gate;
 use model_history::recorded_laws::recorded_ticks_suffice;
 use model_line::{Line, SeenSpan};
+use net_gates::Gate;
+use run_channel::{Carried, Track};
 use run_signal::Signal;
 use run_timers::{SealCell, Timed, elements_stay_in_a_stretch};
 

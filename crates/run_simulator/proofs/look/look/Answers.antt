@@ -1,6 +1,5 @@
-use Rattle.std.proofs.Common.{◌≡◌, ℕ, suc, ◌+◌, ◌-◌, sym, subst, arith, refl}
-use Rattle.run_simulator.specs.{Lags.Lags, Lags.IsNoTimer, Quiet.TimerKeeps, CellStands.CellStands}
-use Rattle.run_simulator.specs.declared.since.Since.{Since}
+use Rattle.std.proofs.Common.{◌≡◌, ℕ, suc, ◌+◌, ◌-◌, subst, arith, refl}
+use Rattle.run_simulator.specs.{Lags.IsNoTimer, Quiet.TimerKeeps}
 use Rattle.run_simulator.proofs.LagLaws.{lags_now, no_timer_stands, no_timer_lags, no_timer_keeps}
 use Rattle.run_simulator.proofs.look.look.Goals as goal
 

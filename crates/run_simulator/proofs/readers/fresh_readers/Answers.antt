@@ -1,5 +1,4 @@
-use Rattle.std.proofs.Common.{◌≡◌, ◌<◌, ◌≤◌, ◌∙◌, ℕ, length, Some, refl, sym, subst, arith}
-use Rattle.std.proofs.lemmas.Option.{slice_get_within}
+use Rattle.std.proofs.Common.{ℕ, subst, arith}
 use Rattle.run_simulator.specs.Readers.{ListGates}
 use Rattle.run_simulator.proofs.ReaderLaws.{listed_more}
 use Rattle.run_simulator.proofs.readers.fresh_readers.Goals as goal

@@ -1,4 +1,3 @@
-use Rattle.std.proofs.Common.{◌≡◌, ℕ, length, refl}
 use Rattle.run_simulator.proofs.ReaderLaws.{lists_same, listed_constant}
 use Rattle.run_simulator.proofs.readers.list_constant.Goals as goal
 

@@ -1,4 +1,4 @@
-use Rattle.std.proofs.Common.{◌≡◌, ℕ, length, refl}
+use Rattle.std.proofs.Common.{length, refl}
 use Rattle.run_simulator.proofs.ReaderLaws.{below_push, stands_push, stands_here, listed_given}
 use Rattle.run_simulator.proofs.readers.list_given.Goals as goal
 

@@ -1,4 +1,3 @@
-use Rattle.std.proofs.Common.{◌≡◌, ℕ, length, refl}
 use Rattle.run_simulator.proofs.ReaderLaws.{listed_one}
 use Rattle.run_simulator.proofs.readers.list_reader.Goals as goal
 

@@ -1,4 +1,4 @@
-use Rattle.std.proofs.Common.{◌≡◌, ℕ, ◌∙◌, length, refl}
+use Rattle.std.proofs.Common.{◌∙◌}
 use Rattle.run_simulator.proofs.ReaderLaws.{listed_two, grow_on}
 use Rattle.run_simulator.proofs.readers.list_readers.Goals as goal
 

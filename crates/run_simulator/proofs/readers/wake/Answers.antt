@@ -1,4 +1,4 @@
-use Rattle.std.proofs.Common.{◌≡◌, ◌<◌, ℕ, Some, length, inr, refl, arith}
+use Rattle.std.proofs.Common.{◌≡◌, ℕ, Some, length, inr, refl, arith}
 use Rattle.std.specs.Prelude.{slice_get}
 use Rattle.run_simulator.proofs.Loops.{first_read, first_all}
 use Rattle.run_simulator.proofs.ReaderLaws.{below_read, count_one, lowered_one, zero_kept, zero_now}

@@ -1,4 +1,4 @@
-use Rattle.std.proofs.Common.{◌≡◌, sym, subst}
+use Rattle.std.proofs.Common.{sym, subst}
 use Rattle.run_simulator.specs.{CellStands.CellStands, Lags.Lags, Lags.TimerLags}
 use Rattle.run_simulator.proofs.since.catch_up.Goals as goal
 

@@ -1,4 +1,4 @@
-use Rattle.std.proofs.Common.{◌≡◌, ℕ, ◌+◌, ◌-◌, ◌<◌, ◌≤◌, List, ◌∙◌, ap, arith, subst}
+use Rattle.std.proofs.Common.{◌≡◌, ◌+◌, ◌-◌, List, ◌∙◌, ap, arith, subst}
 use Rattle.model_history.specs.{Rails.Rails, Recorded.first_ticks}
 use Rattle.run_simulator.specs.CellStands.{TimerStands}
 use Rattle.run_simulator.proofs.since.feed.Goals as goal

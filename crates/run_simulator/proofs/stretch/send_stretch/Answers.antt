@@ -1,6 +1,6 @@
-use Rattle.std.proofs.Common.{◌≡◌, ℕ, suc, ◌+◌, ◌<◌, ◌≤◌, Some, length, sym, ◌∙◌, arith, subst}
+use Rattle.std.proofs.Common.{◌≡◌, suc, ◌+◌, ◌<◌, ◌≤◌, Some, length, ◌∙◌, arith, subst}
 use Rattle.std.specs.Prelude.{slice_get}
-use Rattle.net_gates.specs.NetOf.{AreGatesOf, id_at}
+use Rattle.net_gates.specs.NetOf.{id_at}
 use Rattle.run_simulator.specs.Tracks.{trips_of}
 use Rattle.run_simulator.proofs.StretchLaws.{held_values}
 use Rattle.run_simulator.proofs.stretch.send_stretch.Goals as goal

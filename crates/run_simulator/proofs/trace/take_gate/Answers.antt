@@ -1,12 +1,10 @@
-use Rattle.std.proofs.Common.{◌≡◌, ℕ, suc, ◌+◌, ◌-◌, ◌<◌, ◌≤◌, List, length, Some, refl, sym, ◌∙◌, ap}
+use Rattle.std.proofs.Common.{◌≡◌, ℕ, ◌+◌, ◌-◌, ◌<◌, length, Some, refl, sym, ◌∙◌}
 use Rattle.std.proofs.Common.{subst, arith, inl, inr, ⊎_elim, length-set}
-use Rattle.std.proofs.lemmas.Option.{slice_get_read, slice_get_within}
+use Rattle.std.proofs.lemmas.Option.{slice_get_read}
 use Rattle.std.specs.Prelude.{slice_get, slice_set, take}
-use Rattle.model_logic.specs.PairMean.{PairWorld, PairSignals}
 use Rattle.net_gates.specs.declared.gate.Gate.{Gate}
-use Rattle.net_gates.specs.Laws.{HasArguments}
-use Rattle.run_simulator.specs.{GatePairs.GateSignals, Quiet.TimerKeeps, Ticks.ValuesAgree}
-use Rattle.run_simulator.specs.{Lags.IsGivenAt, Lags.IsTraced, Lags.Lags, ListLaws.exists_at}
+use Rattle.run_simulator.specs.{Quiet.TimerKeeps, Ticks.ValuesAgree}
+use Rattle.run_simulator.specs.{ListLaws.exists_at}
 use Rattle.run_simulator.proofs.WalkLaws.{have_more}
 use Rattle.run_simulator.proofs.{Lists.one_value, LagLaws.at_least_one}
 use Rattle.run_simulator.proofs.TraceLaws.{set_here, set_other, fresh_more, fresh_on, fresh_lowered}

@@ -1,4 +1,4 @@
-use Rattle.std.proofs.Common.{◌≡◌, ℕ, ◌∙◌, length}
+use Rattle.std.proofs.Common.{◌∙◌}
 use Rattle.run_simulator.proofs.TraceLaws.{fresh_lowered, traced_none, given_at}
 use Rattle.run_simulator.proofs.trace.trace.Goals as goal
 
@@ -40,13 +40,13 @@ pub returns-clause-timers : goal.returns-clause-timers
 returns-clause-timers g c = λ w keys u all.
     c.trace_all.ensures.timers w keys u c.args.turned
     (λ lane inside. let p = all lane inside in (
-    (given_at g.V.Timed.stands_for g.V.Signal.ends g.V.Signal.rails lane (w lane) (keys lane) (u lane) c.args.t
-    c.args.turned c.args.net.now.gates c.args.present.now c.args.delays.now c.args.sent.now
-    c.args.cells.now.items c.args.sinces.now.items c.args.dues.now.items c.args.column.now.items
-    p.0 p.1),
-    (traced_none g.V.Timed.stands_for g.V.Signal.ends g.V.Signal.rails lane (w lane) (keys lane) (u lane) c.args.t
-    c.args.turned c.args.net.now.gates c.args.readers.now c.args.sent.now c.args.cells.now.items
-    c.args.sinces.now.items c.args.dues.now.items c.wake_sources.new.dues.items
-    c.args.column.now.items c.requires.readers c.requires.dues c.wake_sources.ensures.lowered
-    c.wake_sources.ensures.raws c.wake_sources.ensures.given p.1)
+      (given_at g.V.Timed.stands_for g.V.Signal.ends g.V.Signal.rails lane (w lane) (keys lane) (u lane) c.args.t
+          c.args.turned c.args.net.now.gates c.args.present.now c.args.delays.now c.args.sent.now
+          c.args.cells.now.items c.args.sinces.now.items c.args.dues.now.items c.args.column.now.items
+          p.0 p.1),
+      (traced_none g.V.Timed.stands_for g.V.Signal.ends g.V.Signal.rails lane (w lane) (keys lane) (u lane) c.args.t
+          c.args.turned c.args.net.now.gates c.args.readers.now c.args.sent.now c.args.cells.now.items
+          c.args.sinces.now.items c.args.dues.now.items c.wake_sources.new.dues.items
+          c.args.column.now.items c.requires.readers c.requires.dues c.wake_sources.ensures.lowered
+          c.wake_sources.ensures.raws c.wake_sources.ensures.given p.1),
     ))

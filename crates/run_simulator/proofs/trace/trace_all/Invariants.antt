@@ -1,4 +1,4 @@
-use Rattle.std.proofs.Common.{◌≡◌, ℕ, ◌<◌, ◌≤◌, ◌-◌, length, Bool}
+use Rattle.std.proofs.Common.{◌≡◌, ℕ, ◌<◌, ◌-◌, length, Bool}
 use Rattle.std.specs.Prelude.{slice_get, Some}
 use Rattle.model_logic.specs.PairMean.{PairWorld, PairSignals}
 use Rattle.net_gates.specs.declared.gate.Gate.{Gate}
