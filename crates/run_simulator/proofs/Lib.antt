@@ -1,3 +1,7 @@
+pub mod LagLaws
+pub mod ReaderLaws
+pub mod TraceLaws
+pub mod WaitLaws
 pub mod Lists
 pub mod Loops
 pub mod GatePairLaws

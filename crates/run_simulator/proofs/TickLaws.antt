@@ -1,7 +1,7 @@
 -- One tick of one gate.
-use Rattle.std.proofs.Common.{◌≡◌, ℕ, suc, ◌+◌, ◌<◌, List, [], ◌∷◌, ◌++◌, length, replicate, sym}
+use Rattle.std.proofs.Common.{◌≡◌, ℕ, suc, ◌+◌, ◌<◌, List, [], ◌∷◌, ◌++◌, length, sym}
 use Rattle.std.proofs.Common.{◌∙◌, ap, subst, arith}
-use Rattle.run_timers.specs.{Ahead.next_rails, Stretches.StaysAt, Stretches.ElementsInAStretch}
+use Rattle.run_timers.specs.{Ahead.next_rails, Stretches.ElementsInAStretch}
 use Rattle.run_simulator.specs.Quiet.{Keeps}
 use Rattle.run_simulator.specs.CellStands.{TimerStands, SealStands, CellStands}
 use Rattle.run_simulator.specs.{declared.cell.Cell.Cell, GatePairs.GateSignals, GatePairs.kind_pair}
@@ -30,11 +30,6 @@ pub timer_keeps : (stretch : ElementsInAStretch) (u : ℕ → Rails) (p d : Ends
 timer_keeps stretch u p d t n x is steady j lt keeps =
     stretch.timed u p d x t (suc j) (t + j) (λ k low high. keeps k low high ∙ sym is)
     (λ i below. steady i (omega arith)) (omega arith) (omega arith)
-
--- the input of the ticks after t in a stretch
-held_input : (u : ℕ → Rails) (x : Rails) (t n : ℕ) → x ≡ u t → Keeps u t (suc n)
-    → StaysAt u x (suc t) n
-held_input u x t n is keeps k low high = keeps k (omega arith) (omega arith) ∙ sym is
 
 -- ---- gates that keep nothing
 
@@ -121,44 +116,3 @@ module _ {C S V : Type 0} (stands_for : C → S → S → ℕ → List Rails →
         (rails_at l) (length (first_ticks (u a.0) t))) (ticks_more (u b.0) t hold holds)
         ∙ recorded.sealed (u a.0) (u b.0) t
         ∙ ap (λ (g : Gate). kind_pair w keys u g t) (sym is)
-
-  -- ---- a stretch of ticks after t
-
-  module _ (a : GateId) (p d : Time) (is : gate ≡ Timer a p d) (input : Rails) (n : ℕ)
-      (agrees : input ≡ u a.0 t) (keeps : Keeps (u a.0) t (suc n))
-      (before : StandsAt (suc t) gate old) where
-    abbrev HeldTimer : List Rails → Cell C V S → Type 0
-    HeldTimer inputs cell = TimerStands stands_for ends lane (w.time p) (w.time d) inputs cell
-
-    pub timer_held : ElementsInAStretch → ((p' d' : Ends) (inputs : List Rails)
-        → TimerStands stands_for ends lane p' d' inputs old
-        → TimerStands stands_for ends lane p' d' (inputs ++ replicate n input) new)
-        → StandsAt (suc t + n) gate new
-    timer_held stretch after =
-        let h : HeldTimer (first_ticks (u a.0) (suc t + n)) new =
-        subst (λ (l : List Rails). HeldTimer l new)
-        (stretch.recorded (u a.0) input (suc t) n (held_input (u a.0) input t n agrees keeps))
-        (after (w.time p) (w.time d) (first_ticks (u a.0) (suc t))
-        (subst (λ (g : Gate). StandsAt (suc t) g old) is before)) in
-        subst (λ (g : Gate). StandsAt (suc t + n) g new) (sym is) h
-
-  module _ (a b : GateId) (is : gate ≡ Seal a b) (set hold : Rails) (n : ℕ)
-      (sets : set ≡ u a.0 t) (holds : hold ≡ u b.0 t) (keeps : Keeps (u a.0) t (suc n))
-      (keeps' : Keeps (u b.0) t (suc n)) (before : StandsAt (suc t) gate old) where
-    abbrev HeldSeal : List Rails → List Rails → Cell C V S → Type 0
-    HeldSeal x y cell = SealStands {C = C} rails lane x y cell
-
-    pub seal_held : ElementsInAStretch → ((x y : List Rails) → HeldSeal x y old
-        → HeldSeal (x ++ replicate n set) (y ++ replicate n hold) new)
-        → StandsAt (suc t + n) gate new
-    seal_held stretch after =
-        let h : HeldSeal (first_ticks (u a.0) (suc t + n))
-        (first_ticks (u b.0) (suc t) ++ replicate n hold) new =
-        subst (λ (l : List Rails). HeldSeal l (first_ticks (u b.0) (suc t) ++ replicate n hold) new)
-        (stretch.recorded (u a.0) set (suc t) n (held_input (u a.0) set t n sets keeps))
-        (after (first_ticks (u a.0) (suc t)) (first_ticks (u b.0) (suc t))
-        (subst (λ (g : Gate). StandsAt (suc t) g old) is before)) in
-        let k : HeldSeal (first_ticks (u a.0) (suc t + n)) (first_ticks (u b.0) (suc t + n)) new =
-        subst (λ (l : List Rails). HeldSeal (first_ticks (u a.0) (suc t + n)) l new)
-        (stretch.recorded (u b.0) hold (suc t) n (held_input (u b.0) hold t n holds keeps')) h in
-        subst (λ (g : Gate). StandsAt (suc t + n) g new) (sym is) k

@@ -11,7 +11,7 @@ use Rattle.run_simulator.specs.GatePairs.{GateSignals, kind_pair}
 use Rattle.run_simulator.specs.{declared.cell.Cell.Cell, CellStands.HasCell, CellStands.CellStands}
 use Rattle.run_simulator.specs.{Ticks.ValuesAgree, Ticks.HaveCells, Ticks.AreTold}
 use Rattle.run_simulator.specs.Ticks.{CellsWalked}
-use Rattle.run_simulator.specs.{Ticks.AllStand, Ticks.CellsBetween, ListLaws.at_push}
+use Rattle.run_simulator.specs.{Ticks.AllStand, ListLaws.at_push}
 use Rattle.run_simulator.proofs.Lists.{at_set, one_value}
 
 -- one more element beside a list of gates, with what each is to have
@@ -107,38 +107,3 @@ more_arguments m n (And a b) le has = let x = has.0 in let y = has.1 in (omega a
 more_arguments m n (Or a b) le has = let x = has.0 in let y = has.1 in (omega arith, omega arith)
 more_arguments m n (Timer a p d) le has = omega arith
 more_arguments m n (Seal a b) le has = let x = has.0 in let y = has.1 in (omega arith, omega arith)
-
-module _ {C S V : Type 0} (stands_for : C → S → S → ℕ → List Rails → Type 0) (ends : S → ℕ → Ends)
-    (rails : V → ℕ → Rails) (lane : ℕ) (w : PairWorld) (u : GateSignals) (from to : ℕ)
-    (gates : List Gate) where
-  abbrev StandsBy : ℕ → Gate → Cell C V S → Type 0
-  StandsBy r g cell = CellStands stands_for ends rails lane w u r g cell
-
-  abbrev Between : ℕ → List (Cell C V S) → Type 0
-  Between n cells = CellsBetween stands_for ends rails lane w u from to n gates cells
-
-  pub between_none : (cells : List (Cell C V S))
-      → AllStand stands_for ends rails lane w u from gates cells → Between 0 cells
-  between_none cells all = record {
-    done = λ i g cell lt. absurd (omega arith);
-    left = λ i g cell le ga ca. all i g cell ga ca;
-  }
-
-  pub between_more : (i n : ℕ) (gate : Gate) (old new : Cell C V S) (cells : List (Cell C V S))
-      → n ≡ i + 1 → slice_get gates i ≡ Some gate → slice_get cells i ≡ Some old
-      → Between i cells → (StandsBy from gate old → StandsBy to gate new)
-      → Between n (slice_set cells i new)
-  between_more i n gate old new cells next gat cat between stands =
-      let now : StandsBy from gate old = between.left i gate old (omega arith) gat cat in
-      record {
-        done = λ j g cell lt ga ca.
-            ⊎_elim
-            (λ p. subst (StandsBy to g) p.1
-            (subst (λ (k : Gate). StandsBy to k new)
-            (one_value gates i j gate g (sym p.0) gat ga) (stands now)))
-            (λ p. let ne : j ≢ i = p.0 in between.done j g cell (omega arith) ga p.1)
-            (at_set cells i new j cell ca);
-        left = λ j g cell le ga ca.
-            ⊎_elim (λ p. let e : j ≡ i = p.0 in absurd (omega arith))
-            (λ p. between.left j g cell (omega arith) ga p.1) (at_set cells i new j cell ca);
-      }

@@ -11,5 +11,7 @@ pub mod LaneLaws
 pub mod Quiet
 pub mod Shown
 pub mod Inputs
+pub mod Lags
+pub mod Readers
 pub mod Tracks
 pub mod PlayedTracks

@@ -32,15 +32,6 @@ pub record CellsWalked {C S V : Type 0} (stands_for : C → S → S → ℕ → 
   pub left : (i : ℕ) (g : Gate) (cell : Cell C V S) → n ≤ i → slice_get gates i ≡ Some g
       → slice_get cells i ≡ Some cell → CellStands stands_for ends rails lane w u t g cell
 
--- the first n cells stand for the ticks before `to`, the others for those before `from`
-pub record CellsBetween {C S V : Type 0} (stands_for : C → S → S → ℕ → List Rails → Type 0)
-    (ends : S → ℕ → Ends) (rails : V → ℕ → Rails) (lane : ℕ) (w : PairWorld) (u : GateSignals)
-    (from to n : ℕ) (gates : List Gate) (cells : List (Cell C V S)) : Type 0 where
-  pub done : (i : ℕ) (g : Gate) (cell : Cell C V S) → i < n → slice_get gates i ≡ Some g
-      → slice_get cells i ≡ Some cell → CellStands stands_for ends rails lane w u to g cell
-  pub left : (i : ℕ) (g : Gate) (cell : Cell C V S) → n ≤ i → slice_get gates i ≡ Some g
-      → slice_get cells i ≡ Some cell → CellStands stands_for ends rails lane w u from g cell
-
 -- ---- values
 
 -- the pairs u of the gates at t are their kinds over u itself

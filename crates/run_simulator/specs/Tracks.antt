@@ -1,6 +1,5 @@
 -- What a run by stretches holds before a tick, and what it gives.
-use Rattle.std.specs.Prelude.{◌<◌, ◌≤◌, ℕ, List, Option, Some, None, slice_get, false, length}
-use Rattle.std.specs.Prelude.{vec_capacity}
+use Rattle.std.specs.Prelude.{◌≡◌, ◌<◌, ◌≤◌, ◌-◌, ℕ, List, Option, Some, None, slice_get, false, length}
 use Rattle.model_history.specs.Rails.{Rails, Ends, rails_at, both}
 use Rattle.run_signal.specs.Lanes.{in_lane}
 use Rattle.run_channel.specs.SentKeys.{SentKeys}
@@ -11,19 +10,24 @@ use Rattle.net_gates.specs.{declared.gate.Gate.Gate, NetOf.NetOf, NetOf.trip_of}
 use Rattle.model_timing.specs.declared.step.Step.{Step}
 use Rattle.run_simulator.specs.GatePairs.{GateSignals, line_pairs}
 use Rattle.run_simulator.specs.LaneBox.{lane_box, lane_world}
-use Rattle.run_simulator.specs.Ticks.{KeysSent, AllStand, HaveCells, AreSent}
+use Rattle.run_simulator.specs.Ticks.{KeysSent, HaveCells, AreSent}
+use Rattle.run_simulator.specs.{Lags.AllWait, Lags.AreFreshDues, declared.since.Since.Since}
+use Rattle.run_simulator.specs.Quiet.{ScriptKeeps}
+use Rattle.model_line.specs.declared.script.SeenSpan.{SeenSpan}
+use Rattle.run_simulator.specs.Readers.{ReadersHold}
 use Rattle.run_simulator.specs.{declared.cell.Cell.Cell, declared.kept.Kept.Kept, Shown.AreShown}
 use Rattle.run_simulator.specs.Inputs.{AreDelays, DelaysHold}
 
--- in a lane, before tick t: the keys and the trips of the ticks before were kept, and the cells
--- stand for them
+-- in a lane, before tick t: the keys and the trips of the ticks before were kept, and each gate
+-- waits for a change
 pub record LaneTracked {C S V : Type 0} (stands_for : C → S → S → ℕ → List Rails → Type 0)
     (ends : S → ℕ → Ends) (rails : V → ℕ → Rails) (lane : ℕ) (w : PairWorld)
     (key trip : PairSignals) (u : GateSignals) (t : ℕ) (gates : List Gate)
-    (keys trips : List (SentKeys V)) (cells : List (Cell C V S)) : Type 0 where
+    (keys trips : List (SentKeys V)) (cells : List (Cell C V S)) (sinces : List (Since V))
+    (dues : List ℕ) (column : List V) : Type 0 where
   pub keys_kept : KeysSent rails lane key t keys
   pub trips_kept : KeysSent rails lane trip t trips
-  pub stand : AllStand stands_for ends rails lane w u t gates cells
+  pub wait : AllWait stands_for ends rails lane w key u t gates cells sinces dues column
 
 -- the pairs of the trips' gates
 abbrev pub trips_of : NetOf → GateSignals → PairSignals
@@ -37,12 +41,21 @@ LineTracked stands_for ends rails line script spans steps net lane t kept =
     let w = lane_world ends line script spans steps lane in
     let u = line_pairs line script (lane_box ends line spans steps lane) net in
     LaneTracked stands_for ends rails lane w (the_keys w (key_tree line)) (trips_of net u) u t
-    net.gates kept.keys.items kept.trips.items kept.cells.items
+    net.gates kept.keys.items kept.trips.items kept.cells.items kept.sinces.items kept.dues.items
+    kept.column.items
+
+-- from the tick before t until a tick the spans show and lose the same
+abbrev pub HasRested : List SeenSpan → ℕ → ℕ → Type 0
+HasRested spans t until = 1 ≤ t → ScriptKeeps spans (t - 1) (until - (t - 1))
 
 -- what is kept can take tick t
 pub record CanTake {C S V : Type 0} (ends : S → ℕ → Ends) (line : Line) (net : NetOf)
     (spans : List S) (steps : List (Step S)) (t : ℕ) (kept : Kept C V S S) : Type 0 where
-  pub room : length net.gates ≤ vec_capacity kept.column
+  pub readers : ReadersHold net.gates kept.readers
+  pub column : length kept.column.items ≡ length net.gates
+  pub sinces : length kept.sinces.items ≡ length net.gates
+  pub dues : length kept.dues.items ≡ length net.gates
+  pub fresh : AreFreshDues t 0 kept.dues.items
   pub delays : AreDelays line kept.inputs.delays.items
   pub held : DelaysHold ends spans steps kept.inputs.delays.items t kept.inputs.until
   pub cells : HaveCells net.gates kept.cells.items
@@ -55,6 +68,7 @@ pub record IsKeptOf {C S V : Type 0} (lanes : ℕ) (stands_for : C → S → S �
     (ends : S → ℕ → Ends) (rails : V → ℕ → Rails) (line : Line) (script : Script) (spans : List S)
     (steps : List (Step S)) (net : NetOf) (t : ℕ) (kept : Kept C V S S) : Type 0 where
   pub shown : AreShown script.spans.items kept.inputs.shown t kept.inputs.until
+  pub rests : HasRested script.spans.items t kept.inputs.until
   pub tracked : (lane : ℕ) → lane < lanes
       → LineTracked stands_for ends rails line script spans steps net lane t kept
 

@@ -87,25 +87,3 @@ pub fn hold_timer<V: Timed>(cell: &mut Cell<V::Cells, SealCell<V>, V::Span>, inp
         _ => unreachable!(),
     }
 }
-
-/// A seal takes so many ticks with this set and this hold.
-pub fn hold_seal<V: Timed>(
-    cell: &mut Cell<V::Cells, SealCell<V>, V::Span>,
-    set: V,
-    hold: V,
-    count: u32,
-)
-    requires seal { HasSeal cell.old }
-    requires some { 1 ≤ count }
-    requires limited { count ≤ 4000 }
-    ensures shape { HasSeal cell.new }
-    ensures stands { (lane : ℕ) (sets holds : List Rails) → lane < V.LANES →
-        SealStands V.rails lane sets holds cell.old →
-        SealStands V.rails lane (sets ++ replicate count (V.rails set lane))
-        (holds ++ replicate count (V.rails hold lane)) cell.new }
-{
-    match cell {
-        Cell::Seal(seal) => seal.skip(set, hold, count),
-        _ => unreachable!(),
-    }
-}

@@ -1,6 +1,6 @@
 //! Cells and tracks before the first tick.
 
-ghost use Rattle.std.specs.Prelude.{◌≡◌, ℕ, [], ◌<◌, ◌≤◌, length, IfOk};
+ghost use Rattle.std.specs.Prelude.{◌≡◌, ℕ, [], ◌<◌, ◌≤◌, length, replicate, IfOk};
 ghost use Rattle.model_logic.specs.{declared.time.Time.Time, PairMean.PairWorld};
 ghost use Rattle.model_line.specs.Parameters.{param_count};
 ghost use Rattle.net_gates.specs.Named.{GateNames, NamedFrom};
@@ -60,6 +60,15 @@ pub fn fresh_cells<V: Timed>(
         cells.push(fresh_cell::<V>(net.gate(GateId(i)), line, spans))?;
     }
     Ok(cells)
+}
+
+/// A list of so many of one value.
+pub fn fresh_list<T: Copy>(alloc: Global, count: u32, value: T) -> Result<Vec<T>, Memory>
+    ensures { IfOk result (λ list. list.items ≡ replicate count value) }
+{
+    let mut list = Vec::with_capacity(alloc, count as usize)?;
+    list.resize(count as usize, value).unwrap();
+    Ok(list)
 }
 
 // A track with no values and room up to the horizon.

@@ -1,21 +1,20 @@
 //! One stretch of ticks through which no gate changes.
 
-ghost use Rattle.std.specs.Prelude.{◌≡◌, ℕ, suc, ◌<◌, ◌≤◌, ◌+◌, length};
-ghost use Rattle.model_logic.specs.PairMean.{PairWorld, PairSignals};
+ghost use Rattle.std.specs.Prelude.{◌≡◌, ℕ, suc, ◌<◌, ◌≤◌, ◌+◌, ◌-◌, length, slice_get, Some, false};
+ghost use Rattle.model_logic.specs.PairMean.{PairSignals};
 ghost use Rattle.model_line.specs.declared.script.Script.{Script};
 ghost use Rattle.net_gates.specs.NetOf.{IsNet, key_of};
-ghost use Rattle.run_simulator.specs.Ticks.{HaveCells, ValuesAgree, AreSent};
-ghost use Rattle.run_simulator.specs.Tracks.{CanTake, IsKeptOf, LaneTracked, trips_of};
+ghost use Rattle.run_simulator.specs.Ticks.{ValuesAgree, AreSent, KeysSent};
+ghost use Rattle.run_simulator.specs.Tracks.{CanTake, IsKeptOf, trips_of};
 ghost use Rattle.run_simulator.specs.{GatePairs.GateSignals, Quiet.Keeps, Runs.CanRun};
 
 use crate::arrivals::arrivals_stay;
-use crate::cell::Cell;
-use crate::hold::hold_all;
 use crate::inputs::turn;
 use crate::kept::Kept;
 use crate::lesser::lesser;
 use crate::send::send_all;
-use crate::walk::walk;
+use crate::trace::trace;
+use model_history::recorded_laws::recorded_ticks_suffice;
 use model_line::Line;
 use model_logic::laws::line_laws;
 use model_timing::Step;
@@ -23,7 +22,7 @@ use net_gates::Net;
 use net_gates::laws::gates_stand_for_their_trees;
 use run_channel::{Carried, Track};
 use run_signal::Signal;
-use run_timers::{SealCell, Timed, elements_stay_in_a_stretch};
+use run_timers::{Timed, elements_stay_in_a_stretch};
 
 /// Takes the ticks from this one on until some gate may change, or this tick alone if it is not to
 /// look ahead, and answers how many.
@@ -51,19 +50,25 @@ pub fn take_stretch<V: Timed + Carried>(
     line_laws();
     gates_stand_for_their_trees();
     elements_stay_in_a_stretch();
+    recorded_ticks_suffice();
+    let turned = has_ended(kept.inputs.until, t);
     turn::<V>(line, spans, steps, &mut kept.inputs, t);
-    let limit = stretch_limit(ahead, kept.inputs.until, line.horizon, t);
-    let timers = walk::<V>(
+    trace::<V>(
         net,
+        &kept.readers,
         &mut kept.cells,
+        &mut kept.sinces,
+        &mut kept.dues,
         &mut kept.column,
+        turned,
         line,
         kept.inputs.shown.present(),
         kept.inputs.delays.as_slice(),
         kept.keys.as_slice(),
         t,
-        limit,
     );
+    let limit = stretch_limit(ahead, kept.inputs.until, line.horizon, t);
+    let timers = least_due(kept.dues.as_slice(), t, limit);
     send_all(
         net.key_gates(),
         kept.column.as_slice(),
@@ -81,9 +86,8 @@ pub fn take_stretch<V: Timed + Carried>(
         1,
     );
     let stays = arrivals_stay::<V>(line, &kept.inputs.delays, kept.keys.as_slice(), t, timers);
-    hold_stretch::<V>(
+    send_stretch::<V>(
         net,
-        &mut kept.cells,
         kept.column.as_slice(),
         &mut kept.keys,
         &mut kept.trips,
@@ -92,6 +96,27 @@ pub fn take_stretch<V: Timed + Carried>(
         stays - 1,
     );
     stays
+}
+
+// Whether what is given is over.
+fn has_ended(until: u32, t: u32) -> bool
+    ensures { result ≡ false → t < until }
+{
+    until <= t
+}
+
+// For how many ticks, up to a limit, no gate is due; if one is at the next tick, 1.
+fn least_due(dues: &[u32], t: u32, limit: u32) -> u32
+    requires { 1 ≤ limit }
+    ensures some { 1 ≤ result }
+    ensures limited { result ≤ limit }
+    ensures later { 1 < result → (i due : ℕ) → slice_get dues.now i ≡ Some due → result ≤ due - t }
+{
+    let mut stays = limit;
+    for due in dues {
+        stays = lesser(stays, due.saturating_sub(t));
+    }
+    stays.max(1)
 }
 
 // For how many ticks a stretch may last: until what is given is over, and up to the horizon.
@@ -109,10 +134,9 @@ fn stretch_limit(ahead: bool, until: u32, horizon: u32, t: u32) -> u32
     }
 }
 
-// Takes so many ticks more after tick t, through which no gate changes.
-fn hold_stretch<V: Timed>(
+// Sends the values of tick t for so many ticks more, through which no gate changes.
+fn send_stretch<V: Timed>(
     net: &Net,
-    cells: &mut Vec<Cell<V::Cells, SealCell<V>, V::Span>>,
     column: &[V],
     keys: &mut Vec<Track<V>>,
     trips: &mut Vec<Track<V>>,
@@ -124,26 +148,26 @@ fn hold_stretch<V: Timed>(
     requires column { length column.now ≡ length net.now.gates }
     requires room { t + 1 + count ≤ horizon }
     requires short { horizon ≤ 4000 }
-    requires cells { HaveCells net.now.gates cells.old.items }
     requires keys { AreSent (length net.now.keys) horizon (t + 1) keys.old.items }
     requires trips { AreSent (length net.now.trips) horizon (t + 1) trips.old.items }
-    ensures cells { HaveCells net.now.gates cells.new.items }
     ensures keys { AreSent (length net.now.keys) horizon (t + 1 + count) keys.new.items }
     ensures trips { AreSent (length net.now.trips) horizon (t + 1 + count) trips.new.items }
-    ensures stands { (lane : ℕ) (w : PairWorld) (key : PairSignals) (u : GateSignals) →
+    ensures keys_kept { (lane : ℕ) (key : PairSignals) (u : GateSignals) →
         lane < V.LANES → ValuesAgree V.rails lane u t column.now →
         ((i : ℕ) → i < length net.now.gates → Keeps (u i) t (suc count)) →
         ((k r : ℕ) → k < length net.now.keys → r < horizon →
         key k r ≡ u (key_of net.now k) r) →
-        LaneTracked V.stands_for V.ends V.rails lane w key (trips_of net.now u) u (t + 1)
-        net.now.gates keys.old.items trips.old.items cells.old.items →
-        LaneTracked V.stands_for V.ends V.rails lane w key (trips_of net.now u) u (t + 1 + count)
-        net.now.gates keys.new.items trips.new.items cells.new.items }
+        KeysSent V.rails lane key (t + 1) keys.old.items →
+        KeysSent V.rails lane key (t + 1 + count) keys.new.items }
+    ensures trips_kept { (lane : ℕ) (u : GateSignals) →
+        lane < V.LANES → ValuesAgree V.rails lane u t column.now →
+        ((i : ℕ) → i < length net.now.gates → Keeps (u i) t (suc count)) →
+        KeysSent V.rails lane (trips_of net.now u) (t + 1) trips.old.items →
+        KeysSent V.rails lane (trips_of net.now u) (t + 1 + count) trips.new.items }
 {
     if count == 0 {
         return;
     }
-    hold_all::<V>(net, cells, column, count);
     send_all(net.key_gates(), column, keys, horizon, t + 1, count);
     send_all(net.trip_gates(), column, trips, horizon, t + 1, count);
 }

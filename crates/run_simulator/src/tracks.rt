@@ -9,9 +9,11 @@ ghost use Rattle.run_simulator.specs.Runs.{CanRun, AreDelayed, IsTheHistory, IsP
 ghost use Rattle.run_simulator.specs.Tracks.{CanTake, IsKeptOf, tracks_history};
 ghost use Rattle.run_simulator.specs.{LaneBox.lane_box, Ticks.AreSent};
 
-use crate::fresh::{fresh_cells, fresh_tracks};
+use crate::fresh::{fresh_cells, fresh_list, fresh_tracks};
 use crate::inputs::fresh_inputs;
 use crate::kept::Kept;
+use crate::readers::fresh_readers;
+use crate::since::Since;
 use crate::stretch::take_stretch;
 use model_history::laws::history_laws;
 use model_line::{Line, Memory, Script};
@@ -66,13 +68,24 @@ pub fn run_tracks<V: Timed + Carried>(
     gates_stand_for_their_trees();
     history_laws();
     let cells = fresh_cells::<V>(alloc, net, line, spans)?;
-    let column: Vec<V> = Vec::with_capacity(alloc, net.len() as usize)?;
+    let since = Since {
+        fed: 0,
+        input: V::known(false),
+    };
+    let count = net.len();
+    let sinces = fresh_list(alloc, count, since)?;
+    let dues = fresh_list(alloc, count, 0u32)?;
+    let column = fresh_list(alloc, count, V::known(false))?;
+    let readers = fresh_readers(alloc, net)?;
     let inputs = fresh_inputs::<V>(alloc, line, script, spans)?;
     let keys = fresh_tracks::<V>(alloc, net.key_gates().len() as u32, line.horizon)?;
     let trips = fresh_tracks::<V>(alloc, net.trip_gates().len() as u32, line.horizon)?;
     let mut kept = Kept {
         cells,
+        sinces,
+        dues,
         column,
+        readers,
         inputs,
         keys,
         trips,
@@ -116,7 +129,7 @@ fn look_again(next_look: u32, ahead: bool, stays: u32, t: u32) -> u32
     requires { t ≤ 4000 }
 {
     if ahead && stays == 1 {
-        t + 2
+        t + 4
     } else {
         next_look
     }

@@ -1,4 +1,8 @@
-use Rattle.std.proofs.Common.{ℕ, ◌<◌, length, refl, sym, ◌∙◌, ap, subst, arith}
+use Rattle.std.proofs.Common.{◌≡◌, ℕ, ◌<◌, length, refl, sym, ◌∙◌, ap, subst, Some}
+use Rattle.std.proofs.lemmas.List.{length-replicate}
+use Rattle.std.specs.Prelude.{slice_get}
+use Rattle.run_simulator.specs.declared.since.Since.{Since}
+use Rattle.run_simulator.proofs.WaitLaws.{at_replicate, wait_fresh, rested_none}
 use Rattle.model_logic.specs.PairMean.{PairWorld, PairSignals}
 use Rattle.model_logic.specs.{Logic.key_tree, Solution.the_keys, Choice.pair_world_of}
 use Rattle.run_simulator.specs.Tracks.{tracks_history, trips_of, LineTracked}
@@ -17,7 +21,13 @@ take_all-requires-clause-kept g c =
     let trips = c.in_ok-trips.trips.items in
     let delays = c.in_ok-inputs.inputs.delays.items in
     record {
-      room = omega (arith, c.in_ok-column.ensures.exact, c.len.ensures.len);
+      readers = c.in_ok-readers.ensures;
+      column = ap length c.in_ok-column.ensures ∙ length-replicate _ _ ∙ c.len-count.ensures.len;
+      sinces = ap length c.in_ok-sinces.ensures ∙ length-replicate _ _ ∙ c.len-count.ensures.len;
+      dues = ap length c.in_ok-dues.ensures ∙ length-replicate _ _ ∙ c.len-count.ensures.len;
+      fresh = λ _ i due low at.
+          at_replicate c.len-count.result 0 i due
+          (subst (λ l. slice_get l i ≡ Some due) c.in_ok-dues.ensures at);
       delays = c.in_ok-inputs.ensures.delays;
       held = subst (DelaysHold g.V.Signal.ends c.args.spans.now c.args.steps.now delays 0)
           (sym c.in_ok-inputs.ensures.over)
@@ -51,12 +61,19 @@ returns-clause-history g c = λ lane inside.
       shown = subst (AreShown script.spans.items c.in_ok-inputs.inputs.shown 0)
           (sym c.in_ok-inputs.ensures.over)
           (shown_none script.spans.items c.in_ok-inputs.inputs.shown c.in_ok-inputs.ensures.shown);
+      rests = rested_none script.spans.items c.in_ok-inputs.inputs.until;
       tracked = λ l il. record {
         keys_kept = none_sent rails l (length c.key_gates.result.now) h (key l)
             c.in_ok-keys.keys.items c.in_ok-keys.ensures;
         trips_kept = none_sent rails l (length c.trip_gates.result.now) h (trips_of net (u l))
             c.in_ok-trips.trips.items c.in_ok-trips.ensures;
-        stand = c.in_ok-cells.ensures.stands l (w l) (u l) il (λ x. refl);
+        wait = wait_fresh g.V.Timed.stands_for ends rails l (w l) (key l) (u l) net.gates c.in_ok-cells.cells.items
+            c.in_ok-sinces.sinces.items c.in_ok-dues.dues.items c.in_ok-column.column.items
+            (λ i s at. ap (λ (x : Since _). x.fed) (at_replicate c.len-count.result _ i s
+            (subst (λ x. slice_get x i ≡ Some s) c.in_ok-sinces.ensures at)))
+            (λ i due at. at_replicate c.len-count.result 0 i due
+            (subst (λ x. slice_get x i ≡ Some due) c.in_ok-dues.ensures at))
+            (c.in_ok-cells.ensures.stands l (w l) (u l) il (λ x. refl));
       };
     })).tracked lane inside in
     kept_history c.line_laws.ensures c.gates_stand_for_their_trees.ensures line script (lane_box ends line spans steps lane) (c.requires.delayed lane inside)

@@ -1,0 +1,5 @@
+use Rattle.run_simulator.specs.Readers.{ReadersSoFar}
+use Rattle.run_simulator.proofs.readers.fresh_readers.Given as goal
+
+abbrev pub invariant-loop-i : goal.invariant-loop-i
+invariant-loop-i l = ReadersSoFar l.net.gates l.i l.readers
