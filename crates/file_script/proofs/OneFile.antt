@@ -1,5 +1,5 @@
 -- The scripts that a file says are of one file.
-use Rattle.std.proofs.Common.{◌≡◌, ℕ, ◌+◌, ◌≤◌, ◌<◌, Bool, List, [], ◌∷◌, Ok, subst, arith}
+use Rattle.std.proofs.Common.{◌≡◌, ℕ, ◌+◌, ◌≤◌, List, [], ◌∷◌, Ok, subst, arith}
 use Rattle.model_line.specs.declared.line.Line.{Line}
 use Rattle.base_records.specs.{Fields.are_fields, Records.records_of, RecordFile.after_header}
 use Rattle.base_records.specs.CheckLaws.{choice_passed, passed, same_ok}
