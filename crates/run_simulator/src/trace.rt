@@ -197,6 +197,64 @@ fn take_gate<V: Timed + Carried>(
     if is_at_rest(dues, i, t) {
         return;
     }
+    evaluate::<V>(
+        net, readers, cells, sinces, dues, column, line, present, delays, sent, i, t,
+    );
+}
+
+// Evaluates a gate, and makes those due that read it, if it changes.
+fn evaluate<V: Timed + Carried>(
+    net: &Net,
+    readers: &Readers,
+    cells: &mut Vec<Cell<V::Cells, SealCell<V>, V::Span>>,
+    sinces: &mut Vec<Since<V>>,
+    dues: &mut Vec<u32>,
+    column: &mut Vec<V>,
+    line: &Line,
+    present: &[SeenSpan],
+    delays: &[Delay<V::Span>],
+    sent: &[Track<V>],
+    i: u32,
+    t: u32,
+)
+    requires inside { i < length net.now.gates }
+    requires laws { IsNet net.now }
+    requires readers { ReadersHold net.now.gates readers.now }
+    requires names { NamedFrom line.now 0 net.now.gates }
+    requires cells { HaveCells net.now.gates cells.old.items }
+    requires sinces { length sinces.old.items ≡ length net.now.gates }
+    requires dues { length dues.old.items ≡ length net.now.gates }
+    requires column { length column.old.items ≡ length net.now.gates }
+    requires fresh { AreFreshDues t i dues.old.items }
+    requires early { t < 4000 }
+    requires tick { t < line.now.horizon }
+    requires delays { CanReceive V.LANES V.ends line.now delays.now }
+    requires sent { AreSent (terminal_count line.now) line.now.horizon t sent.now }
+    ensures cells { HaveCells net.now.gates cells.new.items }
+    ensures sinces { length sinces.new.items ≡ length net.now.gates }
+    ensures dues { length dues.new.items ≡ length net.now.gates }
+    ensures column { length column.new.items ≡ length net.now.gates }
+    ensures fresh { AreFreshDues t (i + 1) dues.new.items }
+    ensures others { (k due : ℕ) → k < i → slice_get dues.new.items k ≡ Some due →
+        (due ≡ 0) ⊎ (slice_get dues.old.items k ≡ Some due) }
+    ensures takes { (lane : ℕ) (w : PairWorld) (keys : PairSignals) (u : GateSignals)
+        (turned : Bool) → lane < V.LANES →
+        IsGivenAt V.ends V.rails lane w keys u t turned present.now delays.now sent.now
+        net.now.gates →
+        IsTraced V.stands_for V.ends V.rails lane w keys u t i turned net.now.gates
+        cells.old.items sinces.old.items dues.old.items column.old.items →
+        IsTraced V.stands_for V.ends V.rails lane w keys u t (i + 1) turned net.now.gates
+        cells.new.items sinces.new.items dues.new.items column.new.items }
+    ensures timer { (w : ℕ → PairWorld) (keys : ℕ → PairSignals) (u : ℕ → GateSignals)
+        (turned : Bool) →
+        ((lane : ℕ) → lane < V.LANES →
+        IsGivenAt V.ends V.rails lane (w lane) (keys lane) (u lane) t turned present.now
+        delays.now sent.now net.now.gates
+        × IsTraced V.stands_for V.ends V.rails lane (w lane) (keys lane) (u lane) t i turned
+        net.now.gates cells.old.items sinces.old.items dues.old.items column.old.items) →
+        (lane : ℕ) (g : Gate) (due : ℕ) → lane < V.LANES → slice_get net.now.gates i ≡ Some g →
+        slice_get dues.new.items i ≡ Some due → TimerKeeps (w lane) (u lane) t (due - t) g }
+{
     let k = i as usize;
     let last = column[k];
     let value = look::<V>(
