@@ -1,6 +1,6 @@
 -- An id among borrowed ids, and among what they are.
 use Rattle.std.proofs.Common.{◌≡◌, ◌∙◌, ℕ, Bool, List, [], ◌∷◌, Some, refl, sym, ap}
-use Rattle.std.proofs.Common.{not, cond, drop, take, length, ◌-◌, None, position, map, if◌then◌else◌}
+use Rattle.std.proofs.Common.{not, cond, drop, take, length, ◌-◌, None, position, if◌then◌else◌}
 use Rattle.std.proofs.lemmas.List.{drop-map, length-map, take_rest}
 use Rattle.std.specs.Borrow.{Bor}
 use Rattle.std.specs.List.{list_any, position_or_len}
@@ -8,7 +8,6 @@ use Rattle.std.specs.Prelude.{◌||◌, ◌+◌}
 use Rattle.std.specs.Str.{bytes_eq}
 use Rattle.file_comtrade.specs.Named.{alone_at, has_id, is_it, named_in}
 use Rattle.file_comtrade.specs.Views.{texts}
-use Rattle.file_comtrade.specs.declared.channel.Named.{Named}
 use Rattle.file_comtrade.specs.declared.channel.Named.TheVariants.{Nothing, One, More}
 
 first_place : (id : List ℕ) (ids : List (Bor (List ℕ)))
@@ -38,8 +37,8 @@ pub named_alone : (ids : List (Bor (List ℕ))) (id : List ℕ) (i : ℕ) (again
 named_alone ids id i again first behind =
     let rest = take_rest ids (i + 1) in
     let there = behind ∙ ap (λ (others : List (Bor (List ℕ))). list_any (is_it id) others) rest
-        ∙ sym (named_any id (drop (i + 1) ids))
-        ∙ ap (λ (others : List (List ℕ)). list_any (has_id id) others)
-        (sym (drop-map (λ (o : Bor (List ℕ)). o.now) (i + 1) ids)) in
+    ∙ sym (named_any id (drop (i + 1) ids))
+    ∙ ap (λ (others : List (List ℕ)). list_any (has_id id) others)
+    (sym (drop-map (λ (o : Bor (List ℕ)). o.now) (i + 1) ids)) in
     ap (λ (b : Bool). if b then More else One i) there
     ∙ ap (alone_at (texts ids) id) (first ∙ sym (named_position id ids))

@@ -1,5 +1,5 @@
 -- What single lines of a configuration say, by their fields.
-use Rattle.std.specs.Prelude.{◌&&◌, ◌||◌, ◌==◌, ◌+◌, ◌-◌, ℕ, nat_le, nat_lt}
+use Rattle.std.specs.Prelude.{◌&&◌, ◌||◌, ◌==◌, ◌+◌, ◌-◌, ℕ, nat_lt}
 use Rattle.std.specs.Prelude.{List, [], ◌∷◌, length, take, map, get_or, codes}
 use Rattle.std.specs.Prelude.{Option, Some, None, if◌then◌else◌}
 use Rattle.std.specs.Char.{to_ascii_lowercase}

@@ -1,5 +1,5 @@
 -- One sample of the data, as it is written: binary, or in a line of ASCII.
-use Rattle.std.specs.Prelude.{◌==◌, ◌+◌, ◌-◌, ◌*◌, ◌/◌, ◌%◌, ℕ, Bool, true, false}
+use Rattle.std.specs.Prelude.{◌==◌, ◌+◌, ◌*◌, ◌/◌, ◌%◌, ℕ, Bool, true, false}
 use Rattle.std.specs.Prelude.{nat_le, List, [], ◌∷◌, ◌++◌, length, take, drop, map, get_or}
 use Rattle.std.specs.Prelude.{codes, Option, Some, None, option_map, Result, Ok}
 use Rattle.std.specs.Prelude.{if◌then◌else◌}

@@ -1,7 +1,6 @@
 //! One sample of binary data.
 
 ghost use Rattle.std.specs.Prelude.{◌≡◌, ◌<◌, ◌≤◌, ◌+◌, ◌*◌, ◌^◌, Ok, [], List, ℕ, IfOk, MatchOption, map, length, option_map, Some, None};
-
 ghost use Rattle.file_comtrade.specs.RawSample.{chunk_at, long_at, word_at, level_bit, stamp_in};
 ghost use Rattle.file_comtrade.specs.RawSample.{raw_in_bytes};
 ghost use Rattle.file_comtrade.specs.{Views.raw_of};
@@ -59,7 +58,11 @@ fn level_bit(shape: Shape, row: &[u8], channel: u32) -> bool
 fn stamp_in(stamp: u32) -> Option<u64>
     ensures { result ≡ stamp_in stamp }
 {
-    if stamp == u32::MAX { None } else { Some(u64::from(stamp)) }
+    if stamp == u32::MAX {
+        None
+    } else {
+        Some(u64::from(stamp))
+    }
 }
 
 #[tactic(auto, unfolding(crate::specs::RawSample::raw_in_bytes))]

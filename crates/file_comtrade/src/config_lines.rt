@@ -107,13 +107,7 @@ pub fn id_in<'a>(line: &[&'a [u8]]) -> Option<&'a [u8]>
     match line {
         [_, id, _] => Some(*id),
         [_, id, _, _, _] => Some(*id),
-        [_, id, _, _, _, last] => {
-            if is_nothing(last) {
-                Some(*id)
-            } else {
-                None
-            }
-        }
+        [_, id, _, _, _, last] => { if is_nothing(last) { Some(*id) } else { None } }
         _ => None,
     }
 }

@@ -1,7 +1,6 @@
 //! Reading a configuration.
 
 ghost use Rattle.std.specs.Prelude.{◌≡◌, ◌<◌, ◌≤◌, ◌+◌, ◌-◌, ◌^◌, ℕ, IfOk, Ok, [], ◌==◌, length, if◌then◌else◌};
-
 ghost use Rattle.file_comtrade.specs.Config.{body_of, config_in, config_of, tail_at, values_of};
 ghost use Rattle.file_comtrade.specs.Views.{texts, counts_of_channels, tail_of};
 ghost use Rattle.file_comtrade.specs.Gives.{Gives};
@@ -91,12 +90,7 @@ struct Tail {
 }
 
 #[tactic(auto, unfolding(crate::specs::Config::tail_at))]
-fn tail_at(
-    alloc: Global,
-    manner: Manner,
-    lines: &[&[u8]],
-    at: usize,
-) -> Result<Tail, ConfigFault>
+fn tail_at(alloc: Global, manner: Manner, lines: &[&[u8]], at: usize) -> Result<Tail, ConfigFault>
     requires { at < 2 ^ 34 - 2 }
     ensures said { Gives tail_of result (tail_at manner (texts lines.now) at) }
     ensures early { IfOk result (λ t. t.ending.first < 2 ^ 80) }

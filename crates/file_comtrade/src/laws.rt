@@ -9,5 +9,4 @@ pub fn one_sample_holds(times: &[u64], instant: u128, i: usize, j: usize)
     requires here { Holds times.now instant i }
     requires there { Holds times.now instant j }
     ensures { i ≡ j }
-{
-}
+{}
