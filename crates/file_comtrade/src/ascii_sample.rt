@@ -1,6 +1,6 @@
 //! One sample of ASCII data.
 
-ghost use Rattle.std.specs.Prelude.{◌≡◌, ◌<◌, ◌≤◌, ◌+◌, ◌*◌, ◌^◌, Ok, [], List, ℕ, IfOk, MatchOption, map, length, option_map, Some, None};
+ghost use Rattle.std.specs.Prelude.{◌≡◌, ◌<◌, [], length};
 ghost use Rattle.file_comtrade.specs.RawSample.{level_named, level_field, level_after, stamp_of, raw_in_line};
 ghost use Rattle.file_comtrade.specs.{Steps.steps, Views.texts, Views.raw_of, DataGives.Gives};
 

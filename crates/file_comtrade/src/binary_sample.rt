@@ -1,6 +1,6 @@
 //! One sample of binary data.
 
-ghost use Rattle.std.specs.Prelude.{◌≡◌, ◌<◌, ◌≤◌, ◌+◌, ◌*◌, ◌^◌, Ok, [], List, ℕ, IfOk, MatchOption, map, length, option_map, Some, None};
+ghost use Rattle.std.specs.Prelude.{◌≡◌, ◌<◌, ◌^◌, IfOk, map, option_map};
 ghost use Rattle.file_comtrade.specs.RawSample.{chunk_at, long_at, word_at, level_bit, stamp_in};
 ghost use Rattle.file_comtrade.specs.RawSample.{raw_in_bytes};
 ghost use Rattle.file_comtrade.specs.{Views.raw_of};

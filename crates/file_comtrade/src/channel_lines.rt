@@ -1,6 +1,6 @@
 //! The lines of the channels.
 
-ghost use Rattle.std.specs.Prelude.{◌≡◌, ◌<◌, ◌≤◌, ◌+◌, ◌-◌, ◌^◌, ℕ, IfOk, Ok, [], ◌==◌, length, if◌then◌else◌};
+ghost use Rattle.std.specs.Prelude.{◌≡◌, ◌<◌, ◌+◌, ◌^◌, IfOk, [], length};
 ghost use Rattle.file_comtrade.specs.Config.{analog_after, digital_after};
 ghost use Rattle.file_comtrade.specs.{Steps.steps, Views.texts, Gives.Gives};
 

@@ -1,7 +1,6 @@
 //! What single lines of a configuration say.
 
-ghost use Rattle.std.specs.Prelude.{◌≡◌, ◌<◌, ◌==◌, ◌+◌, ℕ, ◌^◌, List, IfOk, MatchOption, IfSome, map, length, option_map};
-ghost use Rattle.std.specs.Str.{bytes_eq};
+ghost use Rattle.std.specs.Prelude.{◌≡◌, ◌<◌, ◌^◌, IfOk, IfSome, option_map};
 ghost use Rattle.file_comtrade.specs.Config.{line_at};
 ghost use Rattle.file_comtrade.specs.ConfigLines.{revision_named, revision_in, counted, counts_in};
 ghost use Rattle.file_comtrade.specs.ConfigLines.{id_in, rate_in, moment_in, form_named, form_in};

@@ -1,6 +1,6 @@
 //! Reading a configuration.
 
-ghost use Rattle.std.specs.Prelude.{◌≡◌, ◌<◌, ◌≤◌, ◌+◌, ◌-◌, ◌^◌, ℕ, IfOk, Ok, [], ◌==◌, length, if◌then◌else◌};
+ghost use Rattle.std.specs.Prelude.{◌<◌, ◌-◌, ◌^◌, IfOk, length};
 ghost use Rattle.file_comtrade.specs.Config.{body_of, config_in, config_of, tail_at, values_of};
 ghost use Rattle.file_comtrade.specs.Views.{texts, counts_of_channels, tail_of};
 ghost use Rattle.file_comtrade.specs.Gives.{Gives};

@@ -1,8 +1,7 @@
 //! Reading the data.
 
-ghost use Rattle.std.specs.Prelude.{◌≡◌, ◌==◌, ◌<◌, ◌≤◌, ◌+◌, ◌-◌, ◌*◌, ◌^◌, Ok, [], List, ℕ, IfOk, map, length, option_map};
-ghost use Rattle.std.specs.Prelude.{Option, None, Some, IsTrue};
-ghost use Rattle.std.specs.List.{list_all, before_first};
+ghost use Rattle.std.specs.Prelude.{◌≡◌, ◌<◌, ◌-◌, ◌^◌, [], IfOk, map, length};
+ghost use Rattle.std.specs.List.{list_all};
 ghost use Rattle.std.specs.Bool.{OnTrue};
 ghost use Rattle.file_comtrade.specs.Config.{values_of};
 ghost use Rattle.file_comtrade.specs.Data.{samples_of, samples_in, sample_after, follows, not_before};

@@ -1,6 +1,6 @@
 //! The lines behind the rates.
 
-ghost use Rattle.std.specs.Prelude.{◌≡◌, ◌<◌, ◌≤◌, ◌+◌, ◌-◌, ◌^◌, ℕ, IfOk, Ok, [], ◌==◌, length, if◌then◌else◌};
+ghost use Rattle.std.specs.Prelude.{◌<◌, ◌^◌, IfOk};
 ghost use Rattle.file_comtrade.specs.Config.{factor_later, factor_at, end_at};
 ghost use Rattle.file_comtrade.specs.{Views.texts, Views.end_of, Gives.Gives};
 

@@ -1,6 +1,6 @@
 //! The levels of a channel at ticks.
 
-ghost use Rattle.std.specs.Prelude.{◌≡◌, ◌<◌, ℕ, IfOk, map, length, slice_get};
+ghost use Rattle.std.specs.Prelude.{◌≡◌, IfOk, map, slice_get};
 ghost use Rattle.file_comtrade.specs.{Levels.levels_at, Levels.level_in, SampleViews.sample_values};
 
 use crate::data_reader::Sample;

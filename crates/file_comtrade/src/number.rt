@@ -1,6 +1,6 @@
 //! Numbers written in decimal digits.
 
-ghost use Rattle.std.specs.Prelude.{◌≡◌, ◌≤◌, ◌<◌, ◌^◌, IsTrue, length, replicate, MatchOption, IfSome, Some, None};
+ghost use Rattle.std.specs.Prelude.{◌≡◌, ◌≤◌, replicate, MatchOption, IfSome};
 ghost use Rattle.std.specs.List.{list_all};
 ghost use Rattle.file_comtrade.specs.Number.{is_digit, digits_onto, whole_of, natural_of, scaled_of, decimals_of};
 ghost use Rattle.file_comtrade.specs.Number.{plain_of, exponent_cut, places_moved, fewer, more};

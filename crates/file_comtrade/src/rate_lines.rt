@@ -1,6 +1,6 @@
 //! The lines of the rates.
 
-ghost use Rattle.std.specs.Prelude.{◌≡◌, ◌<◌, ◌≤◌, ◌+◌, ◌-◌, ◌^◌, ℕ, IfOk, Ok, [], ◌==◌, length, if◌then◌else◌};
+ghost use Rattle.std.specs.Prelude.{◌≡◌, ◌<◌, ◌^◌, IfOk, []};
 ghost use Rattle.file_comtrade.specs.Config.{rate_after, sampling_at, last_of, can_stand, rate_lines};
 ghost use Rattle.file_comtrade.specs.Config.{sampling_values};
 ghost use Rattle.file_comtrade.specs.{Steps.steps, Views.texts, Gives.Gives};

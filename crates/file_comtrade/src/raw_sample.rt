@@ -1,6 +1,5 @@
 //! One sample of the data, as it is written.
 
-ghost use Rattle.std.specs.Prelude.{◌≡◌, ◌<◌, ◌≤◌, ◌+◌, ◌*◌, ◌^◌, Ok, [], List, ℕ, IfOk, MatchOption, map, length, option_map, Some, None};
 ghost use Rattle.file_comtrade.specs.Data.{raw_at};
 ghost use Rattle.file_comtrade.specs.{Views.texts, Views.raw_of, DataGives.Gives};
 

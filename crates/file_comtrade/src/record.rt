@@ -1,6 +1,6 @@
 //! The levels of one digital channel at ticks, from the bytes of a record's two files.
 
-ghost use Rattle.std.specs.Prelude.{◌≡◌, ◌<◌, ◌≤◌, ◌^◌, [], ◌∷◌, MatchResult, length, map};
+ghost use Rattle.std.specs.Prelude.{◌≡◌, ◌<◌, ◌^◌, MatchResult, length};
 ghost use Rattle.file_comtrade.specs.Config.{values_of};
 ghost use Rattle.file_comtrade.specs.{Named.named_in, Views.texts};
 ghost use Rattle.file_comtrade.specs.Record.{AreLevels, IsRefused, IsChannel, files_of};

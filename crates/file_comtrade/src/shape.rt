@@ -1,6 +1,6 @@
 //! How samples are written.
 
-ghost use Rattle.std.specs.Prelude.{◌≡◌, ◌<◌, ◌≤◌, ◌+◌, ◌*◌, ◌^◌, Ok, [], List, ℕ, IfOk, MatchOption, map, length, option_map, Some, None};
+ghost use Rattle.std.specs.Prelude.{◌≡◌, ◌<◌, ◌^◌};
 ghost use Rattle.file_comtrade.specs.RawSample.{analog_bytes, sample_bytes};
 
 use crate::config::Form;

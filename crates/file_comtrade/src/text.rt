@@ -1,7 +1,7 @@
 //! Lines and fields.
 
-ghost use Rattle.std.specs.Prelude.{◌≡◌, ◌==◌, ◌<◌, IfOk, MatchOption, map, length};
-ghost use Rattle.std.specs.List.{position_or_len, before_first, after_first};
+ghost use Rattle.std.specs.Prelude.{◌≡◌, ◌==◌, IfOk, MatchOption, map};
+ghost use Rattle.std.specs.List.{position_or_len, before_first};
 ghost use Rattle.file_comtrade.specs.Text.{trimmed, lines_of, fields_of, cut_at};
 
 use std::alloc::{AllocError, Global};

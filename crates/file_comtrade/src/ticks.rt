@@ -1,6 +1,6 @@
 //! The sample that holds at each tick.
 
-ghost use Rattle.std.specs.Prelude.{◌≡◌, ◌<◌, ◌≤◌, ◌+◌, ◌-◌, ◌*◌, ◌^◌, ℕ, IfOk, MatchResult, IsTrue, ◌↔◌};
+ghost use Rattle.std.specs.Prelude.{◌≡◌, ◌<◌, ◌≤◌, ◌^◌, IfOk, MatchResult, IsTrue, ◌↔◌};
 ghost use Rattle.std.specs.Prelude.{length, map, slice_index};
 ghost use Rattle.file_comtrade.specs.Ticks.{Holds, IsCovered, AreAtTicks, IsFirstTick, IsLastTick};
 ghost use Rattle.file_comtrade.specs.Ticks.{IsTickFault};

@@ -1,6 +1,6 @@
 //! The times of samples.
 
-ghost use Rattle.std.specs.Prelude.{◌≡◌, ◌≤◌, ◌<◌, ◌^◌};
+ghost use Rattle.std.specs.Prelude.{◌≡◌, ◌<◌};
 ghost use Rattle.file_comtrade.specs.Config.{values_of};
 ghost use Rattle.file_comtrade.specs.Times.{periods_after, rated, stamped, time_of, below_2_64};
 ghost use Rattle.file_comtrade.specs.Times.{has_time, is_stamped, per_nanosecond};
