@@ -1,0 +1,119 @@
+//! One sample of ASCII data.
+
+ghost use Rattle.std.specs.Prelude.{◌≡◌, ◌<◌, [], length};
+ghost use Rattle.file_comtrade.specs.RawSample.{level_named, level_field, level_after, stamp_of, raw_in_line};
+ghost use Rattle.file_comtrade.specs.{Steps.steps, Views.texts, Views.raw_of, DataGives.Gives};
+
+use crate::fault::DataFault;
+use crate::number::{natural, whole};
+use crate::raw_sample::RawSample;
+use crate::shape::Shape;
+use crate::text::fields;
+use base_records::is;
+use std::alloc::Global;
+
+fn level_named(text: &[u8]) -> Option<bool>
+    ensures { result ≡ level_named text.now }
+{
+    if is(text, b"0") {
+        Some(false)
+    } else if is(text, b"1") {
+        Some(true)
+    } else {
+        None
+    }
+}
+
+// The level of a channel, in the fields of a line.
+fn level_field(shape: Shape, fields: &[&[u8]], channel: u32) -> Option<bool>
+    ensures { result ≡ level_field shape (texts fields.now) channel }
+{
+    let at = 2 + shape.analog as usize + channel as usize;
+    match fields.get(at) {
+        Some(field) => level_named(field),
+        None => None,
+    }
+}
+
+#[tactic(auto, unfolding(crate::specs::RawSample::level_after))]
+fn level_after(
+    shape: Shape,
+    chosen: &[u32],
+    fields: &[&[u8]],
+    k: u32,
+    levels: Vec<bool>,
+    j: usize,
+) -> Result<Vec<bool>, DataFault>
+    requires { j < length chosen.now }
+    ensures { Gives (λ v. v.items) result
+        (level_after shape chosen.now (texts fields.now) k levels.items j) }
+{
+    let mut levels = levels;
+    let channel = chosen[j];
+    let Some(level) = level_field(shape, fields, channel) else {
+        return Err(DataFault::Level {
+            sample: k as usize + 1,
+            channel: channel as usize + 1,
+        });
+    };
+    levels.push(level)?;
+    Ok(levels)
+}
+
+fn levels_in_fields(
+    alloc: Global,
+    shape: Shape,
+    chosen: &[u32],
+    fields: &[&[u8]],
+    k: u32,
+) -> Result<Vec<bool>, DataFault>
+    ensures { Gives (λ v. v.items) result
+        (steps (level_after shape chosen.now (texts fields.now) k) [] (length chosen.now)) }
+{
+    let mut levels = Vec::new(alloc);
+    for j in 0..chosen.len() {
+        levels = level_after(shape, chosen, fields, k, levels, j)?;
+    }
+    Ok(levels)
+}
+
+// A stamp may be left out.
+fn stamp_of(text: &[u8]) -> Option<Option<u64>>
+    ensures { result ≡ stamp_of text.now }
+{
+    match text {
+        [] => Some(None),
+        _ => {
+            let stamp = whole(text)?;
+            Some(Some(stamp))
+        }
+    }
+}
+
+#[tactic(auto, unfolding(crate::specs::RawSample::raw_in_line))]
+pub fn raw_in_line(
+    alloc: Global,
+    shape: Shape,
+    chosen: &[u32],
+    k: u32,
+    line: &[u8],
+) -> Result<RawSample, DataFault>
+    ensures { Gives raw_of result (raw_in_line shape chosen.now k line.now) }
+{
+    let fields = fields(alloc, line)?;
+    if fields.len() != 2 + shape.analog as usize + shape.digital as usize {
+        return Err(DataFault::Fields(k as usize + 1));
+    }
+    let Some(number) = natural(fields[0]) else {
+        return Err(DataFault::Number(k as usize + 1));
+    };
+    let Some(stamp) = stamp_of(fields[1]) else {
+        return Err(DataFault::Stamp(k as usize + 1));
+    };
+    let levels = levels_in_fields(alloc, shape, chosen, fields.as_slice(), k)?;
+    Ok(RawSample {
+        number,
+        stamp,
+        levels,
+    })
+}
