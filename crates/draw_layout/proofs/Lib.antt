@@ -1,1 +1,5 @@
+pub mod Anys
+pub mod Apart
+pub mod Bars
 pub mod Lists
+pub mod Shown

@@ -7,3 +7,6 @@ pub mod Trips
 pub mod Axis
 pub mod Legend
 pub mod Drawings
+pub mod Covered
+pub mod Placed
+pub mod LayoutLaws

@@ -5,6 +5,7 @@
 
 mod axis;
 mod heading;
+mod laws;
 mod legend;
 mod mark;
 mod row;
@@ -15,5 +16,6 @@ mod trip;
 mod whole;
 mod words;
 
+pub use laws::{bars_show_the_history, places_follow_the_ticks, rows_lie_apart};
 pub use subject::Subject;
 pub use whole::draw;

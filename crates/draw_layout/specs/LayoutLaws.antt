@@ -1,0 +1,40 @@
+-- The laws of a drawing: what a reader may rest on.
+use Rattle.std.specs.Prelude.{◌≡◌, ◌<◌, ◌≤◌, ◌+◌, ◌*◌, ◌^◌, ℕ, List, length}
+use Rattle.std.specs.List.{All, AllPairs, flat_map}
+use Rattle.model_line.specs.{declared.line.Line.Line, declared.script.Script.Script}
+use Rattle.model_logic.specs.Histories.{PairHistory}
+use Rattle.draw_diagram.specs.{declared.diagram.Diagram.Diagram, Diagrams.IsDiagramOf}
+use Rattle.draw_diagram.specs.{Traces.trace_pair, Windows.Holds}
+use Rattle.draw_diagram.specs.declared.{rows.Row.Row, window.Window.Window}
+use Rattle.draw_layout.specs.{Covered.ShowsTick, Drawings.row_drawn, Drawings.rows_drawn}
+use Rattle.draw_layout.specs.{Placed.IsBelow, Placed.placed, Scale.place_of}
+
+-- a later tick stands no further left
+abbrev pub PlacesKeepTheOrder : Type 0
+PlacesKeepTheOrder =
+    (window : Window) (s t : ℕ) → s ≤ t → place_of window s ≤ place_of window t
+
+-- no two ticks that are shown, nor their ends, stand at one place, where at most 5500 are shown
+abbrev pub ShownTicksStandApart : Type 0
+ShownTicksStandApart = (window : Window) (s t : ℕ) → window.last < window.first + 5500
+    → window.first ≤ s → s < t → t ≤ window.last + 1 → place_of window s < place_of window t
+
+-- in the diagram of a history, whatever the base of a row, its bars show at each tick that is shown
+-- what the row's pair is there
+abbrev pub BarsShowTheHistory : Type 0
+BarsShowTheHistory = (line : Line) (script : Script) (w : PairHistory) (diagram : Diagram)
+    → IsDiagramOf line script w diagram
+    → All (λ (row : Row). (base t : ℕ) → Holds diagram.window t
+    → ShowsTick diagram.window base row t (trace_pair script w row.trace t)) diagram.rows.items
+
+-- the rows of a drawing stand on these bases,
+abbrev pub RowsStandOnBases : Type 0
+RowsStandOnBases = (line : Line) (diagram : Diagram) (y : ℕ) (rows : List Row)
+    → rows_drawn line diagram y rows
+    ≡ flat_map (λ (on : ℕ × Row). row_drawn line diagram on.0 on.1) (placed y rows)
+
+-- and lie apart: the bars of each below the bases of all before it, as far as 32 bits hold their
+-- places
+abbrev pub RowsLieApart : Type 0
+RowsLieApart = (y : ℕ) (rows : List Row) → y + 700 * length rows < 2 ^ 32
+    → AllPairs IsBelow (placed y rows)

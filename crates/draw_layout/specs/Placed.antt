@@ -1,0 +1,14 @@
+-- Where the rows of a drawing stand.
+use Rattle.std.specs.Prelude.{◌<◌, ◌-◌, ℕ, List, [], ◌∷◌, IsTrue}
+use Rattle.draw_diagram.specs.declared.rows.Row.{Row}
+use Rattle.draw_layout.specs.Drawings.{base_below, end_below}
+use Rattle.draw_layout.specs.Rows.{bar_height, is_drawn}
+
+-- the rows from y on, one below the other, each with its base
+abbrev pub placed : ℕ → List Row → List (ℕ × Row)
+placed y [] = []
+placed y (shown ∷ rest) = (base_below y shown, shown) ∷ placed (end_below y shown) rest
+
+-- the bars of a row, if it is drawn, lie below the base of another
+abbrev pub IsBelow : (ℕ × Row) → (ℕ × Row) → Type 0
+IsBelow upper lower = IsTrue (is_drawn lower.1) → upper.0 < lower.0 - bar_height lower.1.trace
