@@ -7,8 +7,34 @@ use Rattle.model_timing.specs.NamedValues.{NamedValues, values_of}
 use Rattle.file_timing.specs.Timings.{timings_of}
 use Rattle.call_study.specs.Chosen.{chosen_script, chosen_timing}
 use Rattle.call_study.proofs.Chosen.{chosen-map}
-use Rattle.call_study.proofs.Reading.{none_placed, one_placed, placed_at, study_read, timings_read}
+use Rattle.std.proofs.lemmas.Result.{err_from_is_err_and}
+use Rattle.call_study.specs.{Answers.answer_by, Reading.play_of}
+use Rattle.call_study.proofs.Reading.{none_placed, one_placed, placed_at, study_halts, study_read}
+use Rattle.call_study.proofs.Reading.{study_refused, timings_halt, timings_read}
 use Rattle.call_study.proofs.read.play.Goals as goal
+
+pub returns-in_err-study : goal.returns-in_err-study
+returns-in_err-study c =
+    let p = err_from_is_err_and c.from_residual.result c.from_residual.ensures.1 in
+    let line = c.args.line.now in
+    let scripts = c.args.scripts.now in
+    rw (p.1, p.2) (study_halts line scripts
+    (answer_by (play_of c.args.form line scripts c.args.timings.now
+    (option_copied c.args.script) (option_copied c.args.timing)))
+    c.in_err-study.field-0.0 c.in_err-study.ensures
+    (λ why first. study_refused line scripts why _ _ first (refl, refl)))
+
+pub returns-in_err-timings : goal.returns-in_err-timings
+returns-in_err-timings c =
+    let p = err_from_is_err_and c.from_residual-in_err-timings.result
+    c.from_residual-in_err-timings.ensures.1 in
+    let study = c.in_ok-study.study in
+    rw (p.1, p.2) (timings_halt (timings_of study.line c.args.timings.now)
+    (answer_by (play_of c.args.form c.args.line.now c.args.scripts.now c.args.timings.now
+    (option_copied c.args.script) (option_copied c.args.timing)))
+    c.in_err-timings.field-0.0 c.in_err-timings.ensures.said
+    (λ is. study_read c.args.line.now c.args.scripts.now study _ _ c.in_ok-study.ensures.0
+    c.in_ok-study.ensures.1 (rw is (refl, refl))))
 
 pub returns-in_default : goal.returns-in_default
 returns-in_default c =
