@@ -1,0 +1,115 @@
+-- What a call gives once its files are fetched.
+use Rattle.std.proofs.Common.{◌≡◌, ℕ, ◌<◌, ◌≤◌, false, true, List, [], ◌∷◌, Option, None, Some, IsSome, IfSome}
+use Rattle.std.proofs.Common.{Vec, Result, Ok, Err, length, nat_lt, unwrap_or, refl, sym, ◌∙◌}
+use Rattle.std.proofs.Common.{inl, inr, subst, arith}
+use Rattle.std.specs.declared.alloc.Global.{Global}
+use Rattle.base_store.specs.Store.{SameCounts}
+use Rattle.call_pilot.specs.Files.{AllTold, Fetches, NamedFile, StoreCause, contents, in_front}
+use Rattle.call_pilot.specs.Files.{limit_of}
+use Rattle.call_pilot.specs.declared.refusal.Refusal.TheVariants as refusal
+use Rattle.call_pilot.specs.declared.stop.File.{File}
+use Rattle.call_pilot.specs.declared.stop.Stop.{Stop}
+use Rattle.call_pilot.specs.declared.stop.Stop.TheVariants as stop
+use Rattle.call_study.specs.{Answers.Answers, Ends.Fetched, Ends.Gives, Ends.over_told}
+use Rattle.call_study.specs.{Reading.refused_by, declared.halt.Halt.Halt}
+use Rattle.call_study.specs.declared.halt.Halt.TheVariants as halt
+use Rattle.call_study.proofs.Reading.{gives_wider}
+
+opened : (o : Option (List ℕ)) (v : List ℕ) → IsSome o → IfSome o (λ b. b ≡ v) → unwrap_or o [] ≡ v
+opened None v some is = cc
+opened (Some b) v some is = is
+
+short_of : (o : Option (List ℕ)) (v : List ℕ) (limit : ℕ)
+    → length v ≤ limit → IfSome o (λ b. b ≡ v) → IfSome o (λ b. length b ≤ limit)
+short_of None v limit le is = tt
+short_of (Some b) v limit le is = rw is le
+
+not_above : (limit n : ℕ) → n ≤ limit → nat_lt limit n ≡ false
+not_above limit n le = grind arith
+
+longer : (o : Option (List ℕ)) (limit : ℕ) → IsSome o → IfSome o (λ b. limit < length b)
+    → nat_lt limit (length (unwrap_or o [])) ≡ true
+longer None limit some long = cc
+longer (Some b) limit some long = grind arith
+
+-- a cause from an earlier count
+cause_from : (files : List ℕ → Option (List ℕ)) (c1 c2 c3 : List ℕ → ℕ) (asked : List NamedFile)
+    (file : File)
+    → SameCounts c1 c2 → StoreCause files c2 c3 asked file → StoreCause files c1 c3 asked file
+cause_from files c1 c2 c3 [] file same cause = cause
+cause_from files c1 c2 c3 (a ∷ rest) file same cause = elim cause [
+  | inl here ↦ inl (here.0, rw (same a.name) at here.1)
+  | inr later ↦ inr (later.0, cause_from files c1 c2 c3 rest file same later.1)
+]
+
+module _ (files : List ℕ → Option (List ℕ)) where
+  -- with no more files to fetch
+  pub fetched_all : (next : Result (List (List ℕ)) File → Answers) (c : List ℕ → ℕ)
+      (r : Result (Vec ℕ Global) Halt) → Gives (next (Ok [])) r → Fetched next files [] c c r
+  fetched_all next c r g = by_result r
+      (gives_wider (next (Ok [])) (over_told next files []) r (λ end text a _. a) g)
+    where
+      by_result : (r : Result (Vec ℕ Global) Halt) → Gives (over_told next files []) r
+          → Fetched next files [] c c r
+      by_result (Ok v) given = ((λ name. refl), given)
+      by_result (Err (halt.Stopped stop.Usage)) given = absurd given
+      by_result (Err (halt.Stopped (stop.Refused why))) given = ((λ name. refl), given)
+      by_result (Err (halt.Stopped (stop.Store file))) given = absurd given
+      by_result (Err (halt.Stopped stop.Sink)) given = absurd given
+      by_result (Err (halt.Stopped stop.Memory)) given = ((λ name. refl), given)
+      by_result (Err halt.UnknownScript) given = ((λ name. refl), given)
+      by_result (Err halt.UnknownTiming) given = ((λ name. refl), given)
+
+  -- the next file is too long, cannot be read, or finds no memory
+  pub fetch_stops : (next : Result (List (List ℕ)) File → Answers) (a : NamedFile)
+      (rest : List NamedFile) (c1 c2 : List ℕ → ℕ) (why : Stop)
+      → ((file : File) → next (Err file) (Err (refused_by (refusal.TooLong file))) [])
+      → Fetches files c1 c2 a (Err why)
+      → Fetched next files (a ∷ rest) c1 c2 (Err (halt.Stopped why))
+  fetch_stops next a rest c1 c2 stop.Usage long f = absurd f
+  fetch_stops next a rest c1 c2 (stop.Refused why) long f = (
+    f.0,
+    λ told. rw (longer (files a.name) (limit_of a.file) told.0 f.2, f.1) (long a.file),
+  )
+  fetch_stops next a rest c1 c2 (stop.Store file) long f = inl (sym f.0, f.1)
+  fetch_stops next a rest c1 c2 stop.Sink long f = absurd f
+  fetch_stops next a rest c1 c2 stop.Memory long f = (f, tt)
+
+  module _ (next : Result (List (List ℕ)) File → Answers) (a : NamedFile) (rest : List NamedFile)
+      (v : List ℕ) (short : length v ≤ limit_of a.file) (is : IfSome (files a.name) (λ b. b ≡ v))
+      (c1 c2 c3 : List ℕ → ℕ) (same : SameCounts c1 c2) where
+    abbrev later : Result (List (List ℕ)) File → Answers
+    later bytes = next (in_front v bytes)
+
+    -- the bytes that were fetched are the first contents
+    told_contents : AllTold files (a ∷ rest)
+        → contents files (a ∷ rest) ≡ in_front v (contents files rest)
+    told_contents told =
+        let e = opened (files a.name) v told.0 is in
+        let t = not_above (limit_of a.file) (length v) short in
+        rw (e, t) refl
+
+    go_on : (r : Result (Vec ℕ Global) Halt) → Gives (over_told later files rest) r
+        → Gives (over_told next files (a ∷ rest)) r
+    go_on r g = gives_wider (over_told later files rest) (over_told next files (a ∷ rest)) r
+        (λ end text p told. subst (λ (x : Result (List (List ℕ)) File). next x end text)
+        (sym (told_contents told)) (p told.1)) g
+
+    same_both : SameCounts c2 c3 → SameCounts c1 c3
+    same_both more = λ name. more name ∙ same name
+
+    -- once the first file is fetched
+    pub fetched_next : (r : Result (Vec ℕ Global) Halt) → Fetched later files rest c2 c3 r
+        → Fetched next files (a ∷ rest) c1 c3 r
+    fetched_next (Ok w) f = (same_both f.0, go_on (Ok w) f.1)
+    fetched_next (Err (halt.Stopped stop.Usage)) f = absurd f.1
+    fetched_next (Err (halt.Stopped (stop.Refused why))) f =
+        (same_both f.0, go_on (Err (halt.Stopped (stop.Refused why))) f.1)
+    fetched_next (Err (halt.Stopped (stop.Store file))) f = inr (
+      short_of (files a.name) v (limit_of a.file) short is,
+      cause_from files c1 c2 c3 rest file same f,
+    )
+    fetched_next (Err (halt.Stopped stop.Sink)) f = absurd f.1
+    fetched_next (Err (halt.Stopped stop.Memory)) f = (same_both f.0, tt)
+    fetched_next (Err halt.UnknownScript) f = (same_both f.0, go_on (Err halt.UnknownScript) f.1)
+    fetched_next (Err halt.UnknownTiming) f = (same_both f.0, go_on (Err halt.UnknownTiming) f.1)

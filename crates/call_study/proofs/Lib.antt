@@ -1,0 +1,4 @@
+pub mod Chosen
+pub mod Closing
+pub mod Reading
+pub mod Fetching

@@ -1,0 +1,101 @@
+use Rattle.std.proofs.Common.{◌∙◌, map, refl, sym}
+use Rattle.std.specs.Option.{option_copied}
+use Rattle.std.proofs.lemmas.List.Elements.{All-map}
+use Rattle.std.proofs.lemmas.Option.{slice_get-map, slice_get_read}
+use Rattle.model_timing.specs.Inside.{IsTimingInside}
+use Rattle.model_timing.specs.NamedValues.{NamedValues, values_of}
+use Rattle.file_timing.specs.Timings.{timings_of}
+use Rattle.call_study.specs.Chosen.{chosen_script, chosen_timing}
+use Rattle.call_study.proofs.Chosen.{chosen-map}
+use Rattle.std.proofs.lemmas.Result.{err_from_is_err_and}
+use Rattle.call_study.specs.{Answers.answer_by, Reading.play_of}
+use Rattle.call_study.proofs.Reading.{none_placed, one_placed, placed_at, study_halts, study_read}
+use Rattle.call_study.proofs.Reading.{study_refused, timings_halt, timings_read}
+use Rattle.call_study.proofs.read.play.Goals as goal
+
+pub returns-in_err-study : goal.returns-in_err-study
+returns-in_err-study c =
+    let p = err_from_is_err_and c.from_residual.result c.from_residual.ensures.1 in
+    let line = c.args.line.now in
+    let scripts = c.args.scripts.now in
+    rw (p.1, p.2) (study_halts line scripts
+    (answer_by (play_of c.args.form line scripts c.args.timings.now
+    (option_copied c.args.script) (option_copied c.args.timing)))
+    c.in_err-study.field-0.0 c.in_err-study.ensures
+    (λ why first. study_refused line scripts why _ _ first (refl, refl)))
+
+pub returns-in_err-timings : goal.returns-in_err-timings
+returns-in_err-timings c =
+    let p = err_from_is_err_and c.from_residual-in_err-timings.result
+    c.from_residual-in_err-timings.ensures.1 in
+    let study = c.in_ok-study.study in
+    rw (p.1, p.2) (timings_halt (timings_of study.line c.args.timings.now)
+    (answer_by (play_of c.args.form c.args.line.now c.args.scripts.now c.args.timings.now
+    (option_copied c.args.script) (option_copied c.args.timing)))
+    c.in_err-timings.field-0.0 c.in_err-timings.ensures.said
+    (λ is. study_read c.args.line.now c.args.scripts.now study _ _ c.in_ok-study.ensures.0
+    c.in_ok-study.ensures.1 (rw is (refl, refl))))
+
+pub returns-in_default : goal.returns-in_default
+returns-in_default c =
+    let study = c.in_ok-study.study in
+    let timings = c.in_ok-timings.timings.items in
+    study_read c.args.line.now c.args.scripts.now study _ _ c.in_ok-study.ensures.0
+    c.in_ok-study.ensures.1
+    (timings_read study.line (timings_of study.line c.args.timings.now) (map values_of timings) _ _
+    c.in_ok-timings.ensures.said
+    (All-map (λ (timing : NamedValues). IsTimingInside study.line timing.timing) values_of timings
+    c.in_ok-timings.ensures.inside)
+    (none_placed study.scripts.items
+    (chosen_script study.scripts.items (option_copied c.args.script)) _ _ _
+    (rw c.as_slice.ensures.value at c.in_default.ensures.is) (refl, refl)))
+
+pub returns-in_default-choose_timing : goal.returns-in_default-choose_timing
+returns-in_default-choose_timing c =
+    let study = c.in_ok-study.study in
+    let timings = c.in_ok-timings.timings.items in
+    let script = rw c.as_slice.ensures.value at c.in-Some.ensures in
+    let there = placed_at study.scripts.items c.in-Some.i script.exists in
+    study_read c.args.line.now c.args.scripts.now study _ _ c.in_ok-study.ensures.0
+    c.in_ok-study.ensures.1
+    (timings_read study.line (timings_of study.line c.args.timings.now) (map values_of timings) _ _
+    c.in_ok-timings.ensures.said
+    (All-map (λ (timing : NamedValues). IsTimingInside study.line timing.timing) values_of timings
+    c.in_ok-timings.ensures.inside)
+    (one_placed study.scripts.items
+    (chosen_script study.scripts.items (option_copied c.args.script)) _ _ _
+    c.in-Some.i there.0 script.is there.1
+    (none_placed (map values_of timings)
+    (chosen_timing (map values_of timings) (option_copied c.args.timing)) _ _ _
+    (rw c.as_slice-2.ensures.value at c.in_default-choose_timing.ensures.is
+    ∙ sym (chosen-map values_of (λ timing. timing.name) timings (option_copied c.args.timing)))
+    (refl, refl))))
+
+pub returns : goal.returns
+returns c =
+    let study = c.in_ok-study.study in
+    let timings = c.in_ok-timings.timings.items in
+    let script = rw c.as_slice.ensures.value at c.in-Some.ensures in
+    let timing = rw c.as_slice-2.ensures.value at c.in-Some-choose_timing.ensures in
+    study_read c.args.line.now c.args.scripts.now study _ _ c.in_ok-study.ensures.0
+    c.in_ok-study.ensures.1
+    (timings_read study.line (timings_of study.line c.args.timings.now) (map values_of timings) _ _
+    c.in_ok-timings.ensures.said
+    (All-map (λ (timing : NamedValues). IsTimingInside study.line timing.timing) values_of timings
+    c.in_ok-timings.ensures.inside)
+    (one_placed study.scripts.items
+    (chosen_script study.scripts.items (option_copied c.args.script)) _ _ _
+    c.in-Some.i c.index.result.now script.is
+    (slice_get_read study.scripts.items _ c.in-Some.i c.index.result.now refl script.exists
+    c.index.ensures)
+    (one_placed (map values_of timings)
+    (chosen_timing (map values_of timings) (option_copied c.args.timing)) _ _ _
+    c.in-Some-choose_timing.j (values_of c.index-2.result.now)
+    (timing.is
+    ∙ sym (chosen-map values_of (λ timing. timing.name) timings (option_copied c.args.timing)))
+    (rw (
+      slice_get-map values_of timings c.in-Some-choose_timing.j,
+      slice_get_read timings _ c.in-Some-choose_timing.j c.index-2.result.now refl timing.exists
+          c.index-2.ensures,
+    ) refl)
+    (refl, c.in_ok-text.ensures))))

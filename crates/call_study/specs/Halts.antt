@@ -1,0 +1,57 @@
+-- How a call ends: the exit status, and the line that says it.
+use Rattle.std.specs.Prelude.{◌∷◌, ℕ, List, [], Result, Ok, Err, codes}
+use Rattle.std.specs.List.{concat}
+use Rattle.call_pilot.specs.Messages.{pieces_of}
+use Rattle.call_pilot.specs.declared.stop.Stop.TheVariants as stop
+use Rattle.call_study.specs.declared.halt.Halt.{Halt}
+use Rattle.call_study.specs.declared.halt.Halt.TheVariants as halt
+
+-- that of `pilot`, and 9 where a name is unknown
+abbrev pub halt_status : Halt → ℕ
+halt_status (halt.Stopped stop.Usage) = 4
+halt_status (halt.Stopped (stop.Refused why)) = 5
+halt_status (halt.Stopped (stop.Store file)) = 6
+halt_status (halt.Stopped stop.Sink) = 7
+halt_status (halt.Stopped stop.Memory) = 8
+halt_status halt.UnknownScript = 9
+halt_status halt.UnknownTiming = 9
+
+-- the pieces of its line
+abbrev pub halt_pieces : Halt → List (List ℕ)
+halt_pieces (halt.Stopped why) = pieces_of why
+halt_pieces halt.UnknownScript = codes "unknown script\n" ∷ []
+halt_pieces halt.UnknownTiming = codes "unknown timing\n" ∷ []
+
+abbrev pub halt_line : Halt → List ℕ
+halt_line why = concat (halt_pieces why)
+
+-- the picture is drawn, or why there is none
+abbrev pub End : Type 0
+End = Result (Unit {0}) Halt
+
+-- the exit status
+abbrev pub status_of : End → ℕ
+status_of (Ok _) = 0
+status_of (Err why) = halt_status why
+
+-- the line on err: none where the picture is drawn
+abbrev pub line_of : End → List ℕ
+line_of (Ok _) = []
+line_of (Err why) = halt_line why
+
+-- the words and files alone decide: the picture is drawn, a file is refused, or a name is unknown
+abbrev pub IsAnswer : End → Type 0
+IsAnswer (Err (halt.Stopped (stop.Store file))) = ⊥
+IsAnswer (Err (halt.Stopped stop.Sink)) = ⊥
+IsAnswer (Err (halt.Stopped stop.Memory)) = ⊥
+IsAnswer end = Unit {0}
+
+-- nothing is put on out: there is no picture, for another cause than that out takes no more
+abbrev pub IsEarly : End → Type 0
+IsEarly (Ok _) = ⊥
+IsEarly (Err (halt.Stopped stop.Sink)) = ⊥
+IsEarly (Err why) = Unit {0}
+
+abbrev pub IsDrawn : End → Type 0
+IsDrawn (Ok _) = Unit {0}
+IsDrawn (Err why) = ⊥

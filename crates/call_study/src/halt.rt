@@ -1,0 +1,95 @@
+//! Why there is no picture.
+
+ghost use Rattle.std.specs.Prelude.{◌≡◌};
+ghost use Rattle.call_commands.specs.Sinks.{Puts, sink_view};
+ghost use Rattle.call_pilot.specs.declared.stop.Stop.TheVariants.{Memory, Sink};
+ghost use Rattle.call_study.specs.Halts.{halt_line, status_of as end_status};
+ghost use Rattle.call_study.specs.declared.halt.Halt.TheVariants.{Stopped};
+
+use base_store::{PutFailed, Sink};
+use call_commands::put_pieces;
+use call_pilot::{Stop, put_message};
+use file_timing::TimingFault;
+use model_line::Memory;
+
+/// Why there is no picture: what stops `pilot` too, or a name that its file has not.
+#[derive(Clone, Copy, Debug, PartialEq, Eq)]
+pub enum Halt {
+    Stopped(Stop),
+    UnknownScript,
+    UnknownTiming,
+}
+
+impl Halt {
+    ghost use Rattle.call_study.specs.Halts.{halt_status};
+
+    /// The exit status: that of `pilot`, 4 to 8; 9 where a name is unknown.
+    pub fn status(&self) -> u8
+        ensures is { result ≡ halt_status self.now }
+    {
+        match self {
+            Halt::Stopped(Stop::Usage) => 4,
+            Halt::Stopped(Stop::Refused(_)) => 5,
+            Halt::Stopped(Stop::Store(_)) => 6,
+            Halt::Stopped(Stop::Sink) => 7,
+            Halt::Stopped(Stop::Memory) => 8,
+            Halt::UnknownScript | Halt::UnknownTiming => 9,
+        }
+    }
+}
+
+/// The exit status of a call that ended so: 0 where the picture is drawn.
+pub fn status_of(end: Result<(), Halt>) -> u8
+    ensures { result ≡ end_status end }
+{
+    match end {
+        Ok(()) => 0,
+        Err(halt) => halt.status(),
+    }
+}
+
+/// Pushes the line that says it: that of `pilot`, or `unknown script`, `unknown timing`.
+pub fn put_halt<K: Sink>(sink: &mut K, halt: &Halt) -> Result<(), PutFailed>
+    ensures { Puts (sink_view K.written K.faults sink.old) (sink_view K.written K.faults sink.new)
+        (halt_line halt.now) result }
+{
+    match halt {
+        Halt::Stopped(stop) => put_message(sink, stop),
+        Halt::UnknownScript => put_pieces(sink, &[b"unknown script\n"]),
+        Halt::UnknownTiming => put_pieces(sink, &[b"unknown timing\n"]),
+    }
+}
+
+impl From<Stop> for Halt {
+    ghost from_gives = { λ stop halt. halt ≡ Stopped stop };
+
+    fn from(stop: Stop) -> Self {
+        Halt::Stopped(stop)
+    }
+}
+
+impl From<Memory> for Halt {
+    ghost from_gives = { λ _ halt. halt ≡ Stopped Memory };
+
+    fn from(_: Memory) -> Self {
+        Halt::Stopped(Stop::Memory)
+    }
+}
+
+impl From<PutFailed> for Halt {
+    ghost from_gives = { λ _ halt. halt ≡ Stopped Sink };
+
+    fn from(_: PutFailed) -> Self {
+        Halt::Stopped(Stop::Sink)
+    }
+}
+
+impl From<TimingFault> for Halt {
+    ghost use Rattle.call_pilot.specs.Stops.{timing_stop};
+
+    ghost from_gives = { λ fault halt. halt ≡ Stopped (timing_stop fault) };
+
+    fn from(fault: TimingFault) -> Self {
+        Halt::Stopped(Stop::from(fault))
+    }
+}

@@ -1,0 +1,78 @@
+//! The texts of pictures.
+
+ghost use Rattle.std.specs.Prelude.{IfOk};
+ghost use Rattle.net_gates.specs.NetOf.{IsNetOf};
+ghost use Rattle.model_line.specs.Fits.{Fits};
+ghost use Rattle.call_study.specs.Pictures.{IsBandsText, IsDumpText, IsRunText};
+ghost use Rattle.base_markup.specs.Content.{IsContent};
+ghost use Rattle.model_timing.specs.{Inside.IsTimingInside, NamedValues.values_of};
+
+use draw_diagram::{history_diagram, play_diagram};
+use draw_dump::{play_waves, vcd_text};
+use draw_layout::{Subject, draw};
+use draw_shapes::svg;
+use judge_interval::analyse;
+use model_line::laws::deadlines_are_below_the_horizon;
+use model_line::{Line, Memory, Script};
+use model_logic::laws::{each_choice_has_one_history, each_line_has_a_choice_inside};
+use model_timing::{NamedTiming, timings_inside_are_choices_inside};
+use net_gates::Net;
+use std::alloc::Global;
+
+/// The timing diagram of every choice of delays: well-formed SVG.
+pub fn bands_text(alloc: Global, line: &Line, net: &Net, script: &Script) -> Result<Vec<u8>, Memory>
+    requires of_line { IsNetOf line.now net.now }
+    requires fits { Fits line.now script.now }
+    ensures well_formed { IfOk result (λ text. ∥ IsContent text.items ∥₁) }
+    ensures drawn { IfOk result (λ text. IsBandsText line.now script.now text.items) }
+{
+    deadlines_are_below_the_horizon();
+    let waves = analyse(alloc, net, line, script)?;
+    let diagram = history_diagram(alloc, line, script, &waves)?;
+    let drawn = draw(alloc, line, script, Subject::EveryChoice, &diagram)?;
+    let markup = svg(alloc, &drawn)?;
+    Ok(markup.text)
+}
+
+/// The timing diagram of a play: well-formed SVG.
+pub fn run_text(
+    alloc: Global,
+    line: &Line,
+    net: &Net,
+    script: &Script,
+    timing: &NamedTiming,
+) -> Result<Vec<u8>, Memory>
+    requires of_line { IsNetOf line.now net.now }
+    requires fits { Fits line.now script.now }
+    requires inside { IsTimingInside line.now timing.now.timing }
+    ensures well_formed { IfOk result (λ text. ∥ IsContent text.items ∥₁) }
+    ensures drawn { IfOk result (λ text.
+        IsRunText line.now script.now (values_of timing.now) text.items) }
+{
+    deadlines_are_below_the_horizon();
+    let waves = play_waves(alloc, line, net, script, timing)?;
+    let diagram = play_diagram(alloc, line, script, &waves)?;
+    let drawn = draw(alloc, line, script, Subject::Play(timing.name), &diagram)?;
+    let markup = svg(alloc, &drawn)?;
+    Ok(markup.text)
+}
+
+/// The value change dump of every gate in a play.
+pub fn dump_text(
+    alloc: Global,
+    line: &Line,
+    net: &Net,
+    script: &Script,
+    timing: &NamedTiming,
+) -> Result<Vec<u8>, Memory>
+    requires of_line { IsNetOf line.now net.now }
+    requires inside { IsTimingInside line.now timing.now.timing }
+    ensures { IfOk result (λ text.
+        IsDumpText line.now script.now (values_of timing.now) text.items) }
+{
+    timings_inside_are_choices_inside();
+    each_line_has_a_choice_inside();
+    each_choice_has_one_history();
+    let text = vcd_text(alloc, line, net, script, timing)?;
+    Ok(text)
+}
