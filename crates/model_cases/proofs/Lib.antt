@@ -1,0 +1,6 @@
+pub mod TreesCompared
+pub mod UnderPast
+pub mod WantedNamed
+pub mod UnderCovers
+pub mod UnderHistories
+pub mod SoundCases
