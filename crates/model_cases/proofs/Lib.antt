@@ -4,3 +4,5 @@ pub mod WantedNamed
 pub mod UnderCovers
 pub mod UnderHistories
 pub mod SoundCases
+pub mod AssumedTicks
+pub mod UnderSound

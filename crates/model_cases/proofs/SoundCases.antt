@@ -1,6 +1,6 @@
 -- No history agrees with what is excluded, each follows one child, and sound trees meet.
-use Rattle.std.proofs.Common.{◌≡◌, ◌<◌, ◌≤◌, ◌+◌, ◌&&◌, ℕ, Bool, true, false, sym, ◌∙◌, subst, arith}
-use Rattle.std.proofs.Common.{⊎_elim, inl, inr, List, ◌∷◌}
+use Rattle.std.proofs.Common.{◌≡◌, ◌<◌, ◌≤◌, ◌+◌, ℕ, Bool, true, false, subst, arith}
+use Rattle.std.proofs.Common.{⊎_elim, inl, inr, List}
 use Rattle.std.proofs.lemmas.Bool.{and_parts, both_ways, cases_Bool, cases_lt}
 use Rattle.std.proofs.lemmas.List.Elements.{All-cons, All-head, All-contains}
 use Rattle.std.specs.Prelude.{◌⊎◌, IsTrue}

@@ -1,5 +1,5 @@
 -- The test of trees is equality.
-use Rattle.std.proofs.Common.{◌≡◌, ◌&&◌, ◌==◌, ℕ, Bool, true, false, refl, ◌∙◌, ap, rules}
+use Rattle.std.proofs.Common.{◌≡◌, ◌&&◌, Bool, true, false, refl, ◌∙◌, ap, rules}
 use Rattle.std.proofs.Common.{eq-eqb, eqb-true}
 use Rattle.std.proofs.lemmas.Bool.{and_parts, and_from}
 use Rattle.model_line.specs.{declared.script.Place.Place, Seen.same_place}

@@ -10,8 +10,8 @@ use Rattle.model_line.specs.Parameters.{terminal_count}
 use Rattle.model_logic.specs.Tree.{Tree, Const, Seen, Loss, Raw, Not, And, Or, Timer, Seal}
 use Rattle.model_logic.specs.declared.time.Time.{Time}
 use Rattle.model_logic.specs.declared.time.Time.TheVariants.{Zero, Param}
-use Rattle.model_logic.specs.Mean.{World, Signals, mean}
-use Rattle.model_logic.specs.PairMean.{PairWorld, PairSignals}
+use Rattle.model_logic.specs.Mean.{Signals, mean}
+use Rattle.model_logic.specs.PairMean.{PairSignals}
 use Rattle.model_logic.specs.Choice.{Choice, Box, IsIn, IsWithin, LeastFromOne, time_by, ends_by}
 use Rattle.model_logic.specs.Choice.{world_of, pair_world_of}
 use Rattle.model_logic.specs.Histories.{History, IsLineHistory, PairHistory, CoversHistory}

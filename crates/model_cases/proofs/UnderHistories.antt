@@ -1,13 +1,13 @@
 -- One interval history for each box and what is assumed; what is shown over one is so over each.
-use Rattle.std.proofs.Common.{◌≡◌, ◌<◌, ◌≤◌, ℕ, Bool, true, false, refl, sym, ◌∙◌, ap, subst, arith}
-use Rattle.std.proofs.Common.{⊎_elim, inl, inr, List, [], ◌∷◌}
-use Rattle.std.specs.Prelude.{◌↔◌, ◌⊎◌, Option, None}
+use Rattle.std.proofs.Common.{◌≡◌, ◌<◌, ◌≤◌, ℕ, Bool, refl, sym, ◌∙◌, ap, subst, arith}
+use Rattle.std.proofs.Common.{⊎_elim, inl, inr, List, []}
+use Rattle.std.specs.Prelude.{◌↔◌, ◌⊎◌, Option}
 use Rattle.model_history.specs.{Laws.HistoryLaws, Rails.Rails}
 use Rattle.model_line.specs.declared.script.Kind.TheVariants.{Internal, External}
 use Rattle.model_line.specs.{declared.line.Line.Line, declared.script.Script.Script}
 use Rattle.model_line.specs.{declared.script.Kind.Kind, Parameters.terminal_count}
-use Rattle.model_logic.specs.Tree.{Tree, Const, Seen, Loss, Raw, Not, And, Or, Timer, Seal}
-use Rattle.model_logic.specs.PairMean.{PairWorld, PairSignals, pair_mean}
+use Rattle.model_logic.specs.Tree.{Tree, Timer}
+use Rattle.model_logic.specs.PairMean.{PairWorld, PairSignals}
 use Rattle.model_logic.specs.Choice.{Box, LeastFromOne, pair_world_of}
 use Rattle.model_logic.specs.Histories.{PairHistory, IsPairHistory, IsSamePairHistory}
 use Rattle.model_logic.specs.Logic.{key_tree, trip_tree}
@@ -17,6 +17,7 @@ use Rattle.model_logic.specs.Rule.{Held, IsHeld, rule_of}
 use Rattle.model_cases.specs.Assumed.{Assumption, wanted, assumed_level}
 use Rattle.model_cases.specs.Under.{pair_under, own_pair, IsPairHistoryUnder, Excludes}
 use Rattle.model_cases.specs.Under.{SomeIsExcluded}
+use Rattle.model_logic.specs.{HeldOver.IsHeldOver}
 use Rattle.model_cases.specs.CaseTrees.{IsShownUnder}
 use Rattle.model_cases.proofs.UnderPast.{pair_under-past, pair_under-nothing, solution_once}
 use Rattle.model_cases.proofs.UnderPast.{keys_under, keys_under-solve}
@@ -138,5 +139,23 @@ under_nothing laws line script box w = (
     trips = λ k t kn lt.
         is.trips k t kn lt
         ∙ sym (pair_under-nothing laws (pair_world_of line script box) w.key (trip_tree line k) t);
+  },
+)
+
+-- nothing is excluded where nothing is assumed, so what is shown is what is held
+none_excluded : (line : Line) (script : Script) (box : Box) (w : PairHistory)
+    → SomeIsExcluded line script box [] w → ⊥
+none_excluded line script box w x = let below : x.is.0 < 0 = x.is.1 in omega arith
+
+pub shown_nothing : HistoryLaws → (line : Line) (script : Script) (k : ℕ) (box : Box)
+    → IsShownUnder line script k box [] ↔ IsHeldOver line script k box
+shown_nothing laws line script k box = (
+  λ is. record {
+    held = λ w is_w.
+        ⊎_elim (λ held. held) (λ x. absurd (none_excluded line script box w x))
+        (is.shown w ((under_nothing laws line script box w).1 is_w));
+  },
+  λ is. record {
+    shown = λ w is_w. inl (is.held w ((under_nothing laws line script box w).0 is_w));
   },
 )

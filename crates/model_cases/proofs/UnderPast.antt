@@ -4,8 +4,8 @@ use Rattle.std.proofs.Common.{◌≡◌, ◌<◌, ◌≤◌, ◌==◌, ℕ, zero
 use Rattle.std.proofs.Common.{arith, ⊎_elim, eq-eqb}
 use Rattle.std.proofs.lemmas.Bool.{cases_lt, ne_eqb}
 use Rattle.std.specs.Prelude.{cond, Option, None, false}
-use Rattle.model_history.specs.{Laws.HistoryLaws, Rails.Rails, Rails.Ends, Rails.both}
-use Rattle.model_history.specs.Rails.{rails_not, rails_and, rails_or, rails_timed, rails_delayed}
+use Rattle.model_history.specs.{Laws.HistoryLaws, Rails.both}
+use Rattle.model_history.specs.Rails.{rails_not, rails_and, rails_or}
 use Rattle.model_line.specs.declared.line.Line.{Line}
 use Rattle.model_logic.specs.Tree.{Tree, Const, Seen, Loss, Raw, Not, And, Or, Timer, Seal}
 use Rattle.model_logic.specs.PairMean.{PairWorld, PairSignals, pair_mean}

@@ -1,15 +1,18 @@
 -- The laws of cases, each under the name of the function that ensures it.
-use Rattle.std.specs.Prelude.{◌≡◌, ◌<◌, ◌↔◌, ◌⊎◌, ℕ, true, false, IsTrue, List, []}
-use Rattle.model_history.specs.Rails.{Covers}
+use Rattle.std.specs.Prelude.{◌≡◌, ◌<◌, ◌↔◌, ◌⊎◌, ℕ, Bool, true, false, IsTrue, List, []}
+use Rattle.std.specs.Prelude.{None}
+use Rattle.model_history.specs.Rails.{Covers, both}
 use Rattle.model_line.specs.{declared.line.Line.Line, declared.script.Script.Script}
 use Rattle.model_line.specs.Parameters.{terminal_count}
 use Rattle.model_logic.specs.Choice.{Choice, Box, IsWithin, LeastFromOne, world_of, pair_world_of}
 use Rattle.model_logic.specs.Histories.{History, IsLineHistory, Meets, PairHistory, IsPairHistory}
-use Rattle.model_logic.specs.Histories.{IsSamePairHistory, CoversHistory}
+use Rattle.model_logic.specs.Histories.{IsSamePairHistory, CoversHistory, IsSoundHistory}
 use Rattle.model_logic.specs.{Mean.mean, Names.Names, Rule.Held, Rule.rule_of, Tree.Tree}
+use Rattle.model_logic.specs.{PairMean.PairWorld, PairMean.PairSignals, Elements.is_weak}
+use Rattle.model_logic.specs.{HeldOver.IsHeldOver}
 use Rattle.model_cases.specs.SameTree.{same_tree}
-use Rattle.model_cases.specs.Assumed.{Assumption, Agrees, AgreesWithAll, assumed_level}
-use Rattle.model_cases.specs.Under.{own_pair, IsPairHistoryUnder, IsExcluded, SomeIsExcluded}
+use Rattle.model_cases.specs.Assumed.{Assumption, Agrees, AgreesWithAll, assumed_level, wanted}
+use Rattle.model_cases.specs.Under.{pair_under, own_pair, IsPairHistoryUnder, IsExcluded, SomeIsExcluded}
 use Rattle.model_cases.specs.CaseTrees.{CaseTree, are_yes, lower_half, upper_half, CanSplit}
 use Rattle.model_cases.specs.CaseTrees.{with_case, IsShownUnder, AreSound}
 
@@ -17,8 +20,20 @@ use Rattle.model_cases.specs.CaseTrees.{with_case, IsShownUnder, AreSound}
 abbrev pub SameTreesAreEqual : Type 0
 SameTreesAreEqual = (x y : Tree) → IsTrue (same_tree x y) ↔ (x ≡ y)
 
+-- at an assumed tick what a weak terminal's echo starts from has the latest level that is assumed on
+-- both rails; a tree of which nothing is assumed at a tick has its own pair there
+pub record AssumedTicksHaveTheirLevel : Type 0 where
+  pub assumed : (line : Line) (w : PairWorld) (keys : PairSignals) (before : List Assumption)
+      (k t : ℕ) (level : Bool) → IsTrue (is_weak line k)
+      → pair_under (assumed_level line (with_case before k t level)) w keys (wanted line k) t
+      ≡ both level
+  pub own : (line : Line) (w : PairWorld) (keys : PairSignals) (assumed : List Assumption) (x : Tree)
+      (t : ℕ) → assumed_level line assumed x t ≡ None
+      → pair_under (assumed_level line assumed) w keys x t
+      ≡ own_pair (assumed_level line assumed) w keys x t
+
 -- for each box and what is assumed the line has exactly one interval history; where nothing is
--- assumed it is that of the box
+-- assumed it is that of the box, and what is shown over it is what is held
 pub record EachBoxHasOneHistoryUnder : Type 0 where
   pub exists : (line : Line) (script : Script) (box : Box) (assumed : List Assumption)
       → LeastFromOne line box → (w : PairHistory) × IsPairHistoryUnder line script box assumed w
@@ -27,6 +42,16 @@ pub record EachBoxHasOneHistoryUnder : Type 0 where
       → IsPairHistoryUnder line script box assumed w → IsSamePairHistory line v w
   pub nothing : (line : Line) (script : Script) (box : Box) (w : PairHistory)
       → IsPairHistoryUnder line script box [] w ↔ IsPairHistory line script box w
+  pub held : (line : Line) (script : Script) (k : ℕ) (box : Box)
+      → IsShownUnder line script k box [] ↔ IsHeldOver line script k box
+
+-- what must be may be in the interval history over each box that a choice lies in, whatever is
+-- assumed
+abbrev pub HistoriesUnderAreSound : Type 0
+HistoriesUnderAreSound =
+    (line : Line) (script : Script) (box : Box) (assumed : List Assumption) (choice : Choice)
+    (w : PairHistory) → LeastFromOne line box → IsWithin line choice box
+    → IsPairHistoryUnder line script box assumed w → IsSoundHistory line w
 
 -- the interval history over a box under assumptions covers the history of each choice within that
 -- agrees with them, and the pair that a tree has there by its own rule covers the tree's value

@@ -10,7 +10,6 @@ use Rattle.model_logic.specs.PairMean.{PairWorld, PairSignals}
 use Rattle.model_logic.specs.Choice.{Box, pair_world_of}
 use Rattle.model_logic.specs.Histories.{PairHistory}
 use Rattle.model_logic.specs.Logic.{key_tree, trip_tree}
-use Rattle.model_logic.specs.Rule.{Held, rule_of}
 use Rattle.model_cases.specs.Assumed.{Assumption, wanted, assumed_level}
 
 -- the level that is assumed, if one is, else the pair

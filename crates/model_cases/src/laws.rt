@@ -1,6 +1,7 @@
 //! The laws of cases.
 
 ghost use Rattle.model_cases.specs.Laws.{SameTreesAreEqual, EachBoxHasOneHistoryUnder};
+ghost use Rattle.model_cases.specs.Laws.{AssumedTicksHaveTheirLevel, HistoriesUnderAreSound};
 ghost use Rattle.model_cases.specs.Laws.{HistoriesThatAgreeAreCovered};
 ghost use Rattle.model_cases.specs.Laws.{NoHistoryAgreesWithWhatIsExcluded};
 ghost use Rattle.model_cases.specs.Laws.{WhatIsShownOfOneIsShown, EachFollowsOneChild};
@@ -15,10 +16,24 @@ pub fn same_trees_are_equal()
     ensures { SameTreesAreEqual }
 {}
 
+/// At an assumed tick what a weak terminal's echo starts from has the level that is assumed; a tree of
+/// which nothing is assumed has its own pair.
+pub fn assumed_ticks_have_their_level()
+    ensures { AssumedTicksHaveTheirLevel }
+{}
+
 /// For each box and what is assumed the line has exactly one interval history; where nothing is
 /// assumed it is that of the box.
 pub fn each_box_has_one_history_under()
     ensures { EachBoxHasOneHistoryUnder }
+{
+    history_laws();
+    line_laws();
+}
+
+/// What must be may be in the interval history under assumptions.
+pub fn histories_under_are_sound()
+    ensures { HistoriesUnderAreSound }
 {
     history_laws();
     line_laws();

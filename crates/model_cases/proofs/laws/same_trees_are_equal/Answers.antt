@@ -1,4 +1,4 @@
-use Rattle.std.proofs.Common.{◌≡◌, true, ap, sym, ◌∙◌, subst}
+use Rattle.std.proofs.Common.{◌≡◌, true, subst}
 use Rattle.model_logic.specs.Tree.{Tree}
 use Rattle.model_cases.specs.SameTree.{same_tree}
 use Rattle.model_cases.proofs.TreesCompared.{tree-same, tree-itself}
