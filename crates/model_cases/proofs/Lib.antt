@@ -6,3 +6,5 @@ pub mod UnderHistories
 pub mod SoundCases
 pub mod AssumedTicks
 pub mod UnderSound
+pub mod WantedSame
+pub mod UnderSame

@@ -24,7 +24,7 @@ not_weak : (weak guard : Bool) → not (weak || guard) ≡ true → weak ≡ fal
 not_weak true guard h = absurd (cc)
 not_weak false guard h = refl
 
-none_weak : (ts : List Terminal) (k : ℕ) → list_all has_no_flag ts ≡ true
+pub none_weak : (ts : List Terminal) (k : ℕ) → list_all has_no_flag ts ≡ true
     → get_or (map (λ t. t.weak) ts) k false ≡ false
 none_weak [] zero h = refl
 none_weak [] (suc k) h = refl

@@ -9,7 +9,8 @@ use Rattle.model_logic.specs.Histories.{History, IsLineHistory, Meets, PairHisto
 use Rattle.model_logic.specs.Histories.{IsSamePairHistory, CoversHistory, IsSoundHistory}
 use Rattle.model_logic.specs.{Mean.mean, Names.Names, Rule.Held, Rule.rule_of, Tree.Tree}
 use Rattle.model_logic.specs.{PairMean.PairWorld, PairMean.PairSignals, Elements.is_weak}
-use Rattle.model_logic.specs.{HeldOver.IsHeldOver}
+use Rattle.model_line.specs.SetBounds.{SameButParams}
+use Rattle.model_logic.specs.{HeldOver.IsHeldOver, Boxes.IsSameBox}
 use Rattle.model_cases.specs.SameTree.{same_tree}
 use Rattle.model_cases.specs.Assumed.{Assumption, Agrees, AgreesWithAll, assumed_level, wanted}
 use Rattle.model_cases.specs.Under.{pair_under, own_pair, IsPairHistoryUnder, IsExcluded, SomeIsExcluded}
@@ -93,6 +94,22 @@ WhatIsShownOfOneIsShown =
     → IsPairHistoryUnder line script box assumed w
     → (rule_of line script (w.trip k) ≡ Held) ⊎ SomeIsExcluded line script box assumed w
     → IsShownUnder line script k box assumed
+
+-- boxes that are the same in each interval of the line's, and lines that differ in their intervals
+-- alone, have the same interval histories under assumptions, and the same is shown over them
+pub record WhatIsShownRestsOnTheBox : Type 0 where
+  pub boxes : (line : Line) (script : Script) (a b : Box) (assumed : List Assumption)
+      (w : PairHistory) → IsSameBox line a b → IsPairHistoryUnder line script a assumed w
+      → IsPairHistoryUnder line script b assumed w
+  pub lines : (line other : Line) (script : Script) (box : Box) (assumed : List Assumption)
+      (w : PairHistory) → SameButParams line other → IsPairHistoryUnder line script box assumed w
+      → IsPairHistoryUnder other script box assumed w
+  pub shown : (line : Line) (script : Script) (k : ℕ) (a b : Box) (assumed : List Assumption)
+      → IsSameBox line b a → IsShownUnder line script k a assumed
+      → IsShownUnder line script k b assumed
+  pub of_lines : (line other : Line) (script : Script) (k : ℕ) (box : Box)
+      (assumed : List Assumption) → SameButParams line other
+      → IsShownUnder line script k box assumed → IsShownUnder other script k box assumed
 
 -- the first holds, and the second does not
 abbrev pub OnlyFirst : Type 0 → Type 0 → Type 0

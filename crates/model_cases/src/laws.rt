@@ -5,10 +5,10 @@ ghost use Rattle.model_cases.specs.Laws.{AssumedTicksHaveTheirLevel, HistoriesUn
 ghost use Rattle.model_cases.specs.Laws.{HistoriesThatAgreeAreCovered};
 ghost use Rattle.model_cases.specs.Laws.{NoHistoryAgreesWithWhatIsExcluded};
 ghost use Rattle.model_cases.specs.Laws.{WhatIsShownOfOneIsShown, EachFollowsOneChild};
-ghost use Rattle.model_cases.specs.Laws.{SoundTreesMeet};
+ghost use Rattle.model_cases.specs.Laws.{WhatIsShownRestsOnTheBox, SoundTreesMeet};
 
 use model_history::laws::history_laws;
-use model_logic::interval_laws::a_box_with_another_interval;
+use model_logic::interval_laws::{a_box_with_another_interval, trees_do_not_rest_on_the_intervals};
 use model_logic::laws::line_laws;
 
 /// The test of trees is equality.
@@ -62,6 +62,16 @@ pub fn what_is_shown_of_one_is_shown()
 {
     history_laws();
     line_laws();
+}
+
+/// Boxes that are the same, and lines that differ in their intervals alone, have the same interval
+/// histories under assumptions, and the same is shown over them.
+pub fn what_is_shown_rests_on_the_box()
+    ensures { WhatIsShownRestsOnTheBox }
+{
+    history_laws();
+    line_laws();
+    trees_do_not_rest_on_the_intervals();
 }
 
 /// Each choice in a box lies in exactly one half, and each history agrees with exactly one of two
