@@ -31,13 +31,13 @@ module _ (laws : HistoryLaws) (names : TreesNameTheLine) (line : Line) (script :
       → a.terminal < terminal_count line → a.tick < line.horizon
       → IsExcluded line script box assumed w a → Agrees line script choice h a → ⊥
   another_excluded a agree terminal tick excluded agrees =
-      let cover : Covers (own_pair (assumed_level line assumed) (pair_world_of line script box) w.key
-      (wanted line a.terminal) a.tick)
+      let cover : Covers (own_pair (assumed_level line assumed) (pair_world_of line script box)
+      w.key (wanted line a.terminal) a.tick)
       (mean (world_of line script choice) h.key (wanted line a.terminal) a.tick) =
       tree_covered laws names line script box assumed w choice h d is_w within is_h agree
       (wanted line a.terminal) a.tick tick (wanted_named line a.terminal names terminal) in
-      covers_not_excludes (own_pair (assumed_level line assumed) (pair_world_of line script box) w.key
-      (wanted line a.terminal) a.tick) a.level
+      covers_not_excludes (own_pair (assumed_level line assumed) (pair_world_of line script box)
+      w.key (wanted line a.terminal) a.tick) a.level
       (subst (Covers (own_pair (assumed_level line assumed) (pair_world_of line script box) w.key
       (wanted line a.terminal) a.tick)) agrees cover) excluded
 
@@ -99,11 +99,13 @@ module _ (line : Line) (script : Script) (choice : Choice) (h : History) (assume
       → AgreesWithAll line script choice h (with_case assumed terminal tick level)
   with_value level e = All-cons (Agrees line script choice h) (is level) assumed e agree
 
-  value_of : (level : Bool) → AgreesWithAll line script choice h (with_case assumed terminal tick level)
+  value_of : (level : Bool)
+      → AgreesWithAll line script choice h (with_case assumed terminal tick level)
       → value ≡ level
   value_of level all = All-head (Agrees line script choice h) (is level) assumed all
 
-  pub one_case : OnlyFirst (AgreesWithAll line script choice h (with_case assumed terminal tick false))
+  pub one_case :
+      OnlyFirst (AgreesWithAll line script choice h (with_case assumed terminal tick false))
       (AgreesWithAll line script choice h (with_case assumed terminal tick true))
       ⊎ OnlyFirst (AgreesWithAll line script choice h (with_case assumed terminal tick true))
       (AgreesWithAll line script choice h (with_case assumed terminal tick false))
@@ -115,11 +117,12 @@ module _ (line : Line) (script : Script) (choice : Choice) (h : History) (assume
 
 -- ---- sound trees
 
-module _ (laws : HistoryLaws) (line_laws : LineLaws) (another : ABoxWithAnotherInterval) (line : Line)
-    (script : Script) (k : ℕ) (early : script.deadline < line.horizon) (kn : k < terminal_count line)
-    (choice : Choice) (h : History) (is_h : IsLineHistory line script choice h) where
-  pub sound_meets : (tree : CaseTree) (box : Box) (assumed : List Assumption) → LeastFromOne line box
-      → AreSound line script k box assumed tree → IsTrue (are_yes tree)
+module _ (laws : HistoryLaws) (line_laws : LineLaws) (another : ABoxWithAnotherInterval)
+    (line : Line) (script : Script) (k : ℕ) (early : script.deadline < line.horizon)
+    (kn : k < terminal_count line) (choice : Choice) (h : History)
+    (is_h : IsLineHistory line script choice h) where
+  pub sound_meets : (tree : CaseTree) (box : Box) (assumed : List Assumption)
+      → LeastFromOne line box → AreSound line script k box assumed tree → IsTrue (are_yes tree)
       → IsWithin line choice box → AgreesWithAll line script choice h assumed
       → Meets line script k h
   sound_meets Yes box assumed d sound all within agree =
@@ -128,16 +131,16 @@ module _ (laws : HistoryLaws) (line_laws : LineLaws) (another : ABoxWithAnotherI
       (λ held. line_laws.covered_rule.held line script w h k early
       (history_covered laws line_laws.trees line script box assumed w choice h d is_w within is_h
       agree) kn held)
-      (λ excluded. absurd (some_excluded laws line_laws.trees line script box assumed w choice h d is_w
-      within is_h excluded agree))
+      (λ excluded. absurd (some_excluded laws line_laws.trees line script box assumed w choice h d
+      is_w within is_h excluded agree))
       (sound.shown w is_w)
   sound_meets Undecided box assumed d sound all within agree = absurd (cc)
   sound_meets (Split param mid first second) box assumed d sound all within agree =
       let each = and_parts (are_yes first) (are_yes second) all in
       ⊎_elim
       (λ low. sound_meets first (lower_half box param mid) assumed d sound.1.0 each.0 low.0 agree)
-      (λ high. sound_meets second (upper_half box param mid) assumed d sound.1.1 each.1 high.0 agree)
-      (one_half another line choice box param mid sound.0 within)
+      (λ high. sound_meets second (upper_half box param mid) assumed d sound.1.1 each.1 high.0
+      agree) (one_half another line choice box param mid sound.0 within)
   sound_meets (Case terminal tick off on) box assumed d sound all within agree =
       let each = and_parts (are_yes off) (are_yes on) all in
       ⊎_elim

@@ -93,8 +93,8 @@ module _ (laws : HistoryLaws) (line : Line) (script : Script) (box : Box) (choic
       let in_e = time_within line choice box within e has_e in
       laws.cover_values.timed (pair_under level (pair_world_of line script box) keys x)
       (mean (world_of line script choice) plain x) (ends_by box.ends p) (ends_by box.ends e)
-      (time_by choice.number p) (time_by choice.number e) t cover in_p.least in_p.greatest in_e.least
-      in_e.greatest
+      (time_by choice.number p) (time_by choice.number e) t cover in_p.least in_p.greatest
+      in_e.least in_e.greatest
 
   pub under_covers : (x : Tree) (t : ℕ) → t < line.horizon → Names line x → CoverBefore t
       → Covers (pair_under level (pair_world_of line script box) keys x t)
@@ -108,8 +108,8 @@ module _ (laws : HistoryLaws) (line : Line) (script : Script) (box : Box) (choic
       let lies = within.delays c t h early in
       let one : 1 ≤ (box.delay c t).least = d c t h early in
       let least : (box.delay c t).least ≤ choice.delay c t = lies.least in
-      laws.delays_cover.values (keys from) (plain from) (box.delay c) (choice.delay c) t (omega arith)
-      (λ r lt. cover from r (line.pairs_once.from c h) lt) lies.least lies.greatest
+      laws.delays_cover.values (keys from) (plain from) (box.delay c) (choice.delay c) t
+      (omega arith) (λ r lt. cover from r (line.pairs_once.from c h) lt) lies.least lies.greatest
   under_covers (Not x) t early h cover =
       laws.cover_values.not _ _ (under_covers x t early h cover)
   under_covers (And x y) t early h cover =

@@ -61,8 +61,8 @@ module _ (laws : HistoryLaws) (names : TreesNameTheLine) (line : Line) (script :
       (is_w : IsPairHistoryUnder line script box assumed w) where
     same_keys : SameBefore line v.key w.key line.horizon
     same_keys =
-        solution_once laws level line over (over_box_delayed line script box d) (key_tree line) v.key
-        w.key (names.keys line) is_v.keys is_w.keys line.horizon (omega arith)
+        solution_once laws level line over (over_box_delayed line script box d) (key_tree line)
+        v.key w.key (names.keys line) is_v.keys is_w.keys line.horizon (omega arith)
 
     same_pair : (x : Tree) (t : ℕ) → t < line.horizon → Names line x
         → pair_under level over v.key x t ≡ pair_under level over w.key x t

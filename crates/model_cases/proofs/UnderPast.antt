@@ -1,5 +1,5 @@
--- Under assumptions too, a pair at a tick rests on the keys of earlier ticks only, so the equations of
--- a line have exactly one solution.
+-- Under assumptions too, a pair at a tick rests on the keys of earlier ticks only, so the equations
+-- of a line have exactly one solution.
 use Rattle.std.proofs.Common.{◌≡◌, ◌<◌, ◌≤◌, ◌==◌, ℕ, zero, suc, Bool, refl, sym, ◌∙◌, ap, subst}
 use Rattle.std.proofs.Common.{arith, ⊎_elim, eq-eqb}
 use Rattle.std.proofs.lemmas.Bool.{cases_lt, ne_eqb}
@@ -48,7 +48,8 @@ module _ (laws : HistoryLaws) (level : Tree → ℕ → Option Bool) where
         ∙ ap (rails_or (pair_under level w v x t)) (pair_under-past u v y t early h.1 same)
     pair_under-past u v (Timer x p e) t early h same =
         ap (assumed_or (level (Timer x p e) t))
-        (laws.rails_past.timed (pair_under level w u x) (pair_under level w v x) (w.time p) (w.time e) t
+        (laws.rails_past.timed (pair_under level w u x) (pair_under level w v x) (w.time p)
+        (w.time e) t
         (λ r le. pair_under-past u v x r (omega arith) h.0 (same_earlier line u v r t le same)))
     pair_under-past u v (Seal x y) t early h same =
         laws.rails_past.sealed (pair_under level w u x) (pair_under level w u y)

@@ -97,14 +97,16 @@ module _ (laws : HistoryLaws) (names : TreesNameTheLine) (line : Line) (script :
   under_same_box w is = record {
     keys = λ k t kn lt.
         is.keys k t kn lt
-        ∙ pair_same laws line (assumed_level line assumed) (assumed_level line assumed) (λ x r. refl)
-        (pair_world_of line script a) (pair_world_of line script b) (same_world line script a b same)
-        w.key (key_tree line k) t lt (names.keys line k kn);
+        ∙ pair_same laws line (assumed_level line assumed) (assumed_level line assumed)
+        (λ x r. refl)
+        (pair_world_of line script a) (pair_world_of line script b)
+        (same_world line script a b same) w.key (key_tree line k) t lt (names.keys line k kn);
     trips = λ k t kn lt.
         is.trips k t kn lt
-        ∙ pair_same laws line (assumed_level line assumed) (assumed_level line assumed) (λ x r. refl)
-        (pair_world_of line script a) (pair_world_of line script b) (same_world line script a b same)
-        w.key (trip_tree line k) t lt (names.trips line k kn);
+        ∙ pair_same laws line (assumed_level line assumed) (assumed_level line assumed)
+        (λ x r. refl)
+        (pair_world_of line script a) (pair_world_of line script b)
+        (same_world line script a b same) w.key (trip_tree line k) t lt (names.trips line k kn);
   }
 
   pub excluded_same_box : (w : PairHistory) → SomeIsExcluded line script a assumed w
@@ -116,8 +118,8 @@ module _ (laws : HistoryLaws) (names : TreesNameTheLine) (line : Line) (script :
     tick = x.tick;
     excluded = subst (λ (r : Rails). Excludes r x.one.level)
         (own_same laws line (assumed_level line assumed) (assumed_level line assumed) (λ y r. refl)
-        (pair_world_of line script a) (pair_world_of line script b) (same_world line script a b same)
-        w.key (wanted line x.one.terminal) x.one.tick x.tick
+        (pair_world_of line script a) (pair_world_of line script b)
+        (same_world line script a b same) w.key (wanted line x.one.terminal) x.one.tick x.tick
         (wanted_named line x.one.terminal names x.terminal)) x.excluded;
   }
 
@@ -173,9 +175,10 @@ module _ (laws : HistoryLaws) (names : TreesNameTheLine) (trees : TreesRestOnNoI
       ≡ pair_under (assumed_level other assumed) (pair_world_of other script box) keys y t
   tree_same keys x y t e early named =
       pair_same laws line (assumed_level line assumed) (assumed_level other assumed) told
-      (pair_world_of line script box) (pair_world_of other script box) line_world keys x t early named
-      ∙ ap (λ (z : Tree). pair_under (assumed_level other assumed) (pair_world_of other script box) keys
-      z t) (sym e)
+      (pair_world_of line script box) (pair_world_of other script box) line_world keys x t early
+      named
+      ∙ ap (λ (z : Tree). pair_under (assumed_level other assumed) (pair_world_of other script box)
+      keys z t) (sym e)
 
   pub under_same_line : (w : PairHistory) → IsPairHistoryUnder line script box assumed w
       → IsPairHistoryUnder other script box assumed w
@@ -184,14 +187,14 @@ module _ (laws : HistoryLaws) (names : TreesNameTheLine) (trees : TreesRestOnNoI
         let has : k < terminal_count line = subst (λ (n : ℕ). k < n) counts kn in
         let early : t < line.horizon = subst (λ (n : ℕ). t < n) same.horizon lt in
         is.keys k t has early
-        ∙ tree_same w.key (key_tree line k) (key_tree other k) t (trees.keys line other k same) early
-        (names.keys line k has);
+        ∙ tree_same w.key (key_tree line k) (key_tree other k) t (trees.keys line other k same)
+        early (names.keys line k has);
     trips = λ k t kn lt.
         let has : k < terminal_count line = subst (λ (n : ℕ). k < n) counts kn in
         let early : t < line.horizon = subst (λ (n : ℕ). t < n) same.horizon lt in
         is.trips k t has early
-        ∙ tree_same w.key (trip_tree line k) (trip_tree other k) t (trees.trips line other k same) early
-        (names.trips line k has);
+        ∙ tree_same w.key (trip_tree line k) (trip_tree other k) t (trees.trips line other k same)
+        early (names.trips line k has);
   }
 
   pub excluded_same_line : (w : PairHistory) → SomeIsExcluded line script box assumed w
@@ -219,6 +222,6 @@ shown_same_line laws names trees line other script k box assumed same shown = re
       (λ held. inl (ap (λ (n : ℕ). rule_by script.kind script.deadline n (w.trip k)) same.horizon
       ∙ held))
       (λ x. inr (excluded_same_line laws names trees line other same script box assumed w x))
-      (shown.shown w (under_same_line laws names trees other line (exchanged line other same) script box
-      assumed w is_w));
+      (shown.shown w (under_same_line laws names trees other line (exchanged line other same) script
+      box assumed w is_w));
 }

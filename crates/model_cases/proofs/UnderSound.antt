@@ -48,7 +48,8 @@ before-sound u t r sound = sound_cond (nat_lt r t) (u r) (λ on. sound (ltb-true
 module _ (laws : HistoryLaws) (line : Line) (script : Script) (box : Box) (choice : Choice)
     (d : LeastFromOne line box) (within : IsWithin line choice box)
     (level : Tree → ℕ → Option Bool) (keys : PairSignals) where
-  time_in_order : (x : Time) → HasTime line x → (ends_by box.ends x).least ≤ (ends_by box.ends x).greatest
+  time_in_order : (x : Time) → HasTime line x
+      → (ends_by box.ends x).least ≤ (ends_by box.ends x).greatest
   time_in_order Zero has = omega arith
   time_in_order (Param i) has = in_order (choice.number i) (box.ends i) (within.numbers i has)
 

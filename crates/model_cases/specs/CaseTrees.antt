@@ -1,5 +1,6 @@
 -- Trees of splits and cases, and what a sound one is.
-use Rattle.std.specs.Prelude.{◌≡◌, ◌≤◌, ◌<◌, ◌+◌, ◌&&◌, ◌⊎◌, ℕ, Bool, true, false, IsTrue, List, ◌∷◌}
+use Rattle.std.specs.Prelude.{◌≡◌, ◌≤◌, ◌<◌, ◌+◌, ◌&&◌, ◌⊎◌, ◌∷◌, ℕ, Bool, true, false, IsTrue}
+use Rattle.std.specs.Prelude.{List}
 use Rattle.model_line.specs.{declared.line.Line.Line, declared.script.Script.Script}
 use Rattle.model_line.specs.Parameters.{terminal_count, param_count, is_delay}
 use Rattle.model_logic.specs.{Choice.Box, Boxes.box_with, Elements.is_weak}
@@ -58,8 +59,8 @@ pub record IsShownUnder (line : Line) (script : Script) (k : ℕ) (box : Box)
   pub shown : (w : PairHistory) → IsPairHistoryUnder line script box assumed w
       → (rule_of line script (w.trip k) ≡ Held) ⊎ SomeIsExcluded line script box assumed w
 
--- each split and each pair of cases can be made, and each yes leaf is shown over its part of the box
--- under what is assumed there
+-- each split and each pair of cases can be made, and each yes leaf is shown over its part of the
+-- box under what is assumed there
 abbrev pub AreSound : Line → Script → ℕ → Box → List Assumption → CaseTree → Type 0
 AreSound line script k box assumed Yes = IsShownUnder line script k box assumed
 AreSound line script k box assumed Undecided = Unit {0}

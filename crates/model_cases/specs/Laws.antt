@@ -13,7 +13,8 @@ use Rattle.model_line.specs.SetBounds.{SameButParams}
 use Rattle.model_logic.specs.{HeldOver.IsHeldOver, Boxes.IsSameBox}
 use Rattle.model_cases.specs.SameTree.{same_tree}
 use Rattle.model_cases.specs.Assumed.{Assumption, Agrees, AgreesWithAll, assumed_level, wanted}
-use Rattle.model_cases.specs.Under.{pair_under, own_pair, IsPairHistoryUnder, IsExcluded, SomeIsExcluded}
+use Rattle.model_cases.specs.Under.{pair_under, own_pair, IsPairHistoryUnder, IsExcluded}
+use Rattle.model_cases.specs.Under.{SomeIsExcluded}
 use Rattle.model_cases.specs.CaseTrees.{CaseTree, are_yes, lower_half, upper_half, CanSplit}
 use Rattle.model_cases.specs.CaseTrees.{with_case, IsShownUnder, AreSound}
 
@@ -21,15 +22,15 @@ use Rattle.model_cases.specs.CaseTrees.{with_case, IsShownUnder, AreSound}
 abbrev pub SameTreesAreEqual : Type 0
 SameTreesAreEqual = (x y : Tree) → IsTrue (same_tree x y) ↔ (x ≡ y)
 
--- at an assumed tick what a weak terminal's echo starts from has the latest level that is assumed on
--- both rails; a tree of which nothing is assumed at a tick has its own pair there
+-- at an assumed tick what a weak terminal's echo starts from has the latest level that is assumed,
+-- on both rails; a tree of which nothing is assumed at a tick has its own pair there
 pub record AssumedTicksHaveTheirLevel : Type 0 where
   pub assumed : (line : Line) (w : PairWorld) (keys : PairSignals) (before : List Assumption)
       (k t : ℕ) (level : Bool) → IsTrue (is_weak line k)
       → pair_under (assumed_level line (with_case before k t level)) w keys (wanted line k) t
       ≡ both level
-  pub own : (line : Line) (w : PairWorld) (keys : PairSignals) (assumed : List Assumption) (x : Tree)
-      (t : ℕ) → assumed_level line assumed x t ≡ None
+  pub own : (line : Line) (w : PairWorld) (keys : PairSignals) (assumed : List Assumption)
+      (x : Tree) (t : ℕ) → assumed_level line assumed x t ≡ None
       → pair_under (assumed_level line assumed) w keys x t
       ≡ own_pair (assumed_level line assumed) w keys x t
 
@@ -90,8 +91,8 @@ pub record NoHistoryAgreesWithWhatIsExcluded : Type 0 where
 abbrev pub WhatIsShownOfOneIsShown : Type 0
 WhatIsShownOfOneIsShown =
     (line : Line) (script : Script) (k : ℕ) (box : Box) (assumed : List Assumption)
-    (w : PairHistory) → script.deadline < line.horizon → LeastFromOne line box → k < terminal_count line
-    → IsPairHistoryUnder line script box assumed w
+    (w : PairHistory) → script.deadline < line.horizon → LeastFromOne line box
+    → k < terminal_count line → IsPairHistoryUnder line script box assumed w
     → (rule_of line script (w.trip k) ≡ Held) ⊎ SomeIsExcluded line script box assumed w
     → IsShownUnder line script k box assumed
 
@@ -136,8 +137,9 @@ pub record EachFollowsOneChild : Type 0 where
 -- agrees with what is assumed meets the obligation; so where nothing is assumed, all do
 abbrev pub SoundTreesMeet : Type 0
 SoundTreesMeet =
-    (line : Line) (script : Script) (k : ℕ) (box : Box) (assumed : List Assumption) (tree : CaseTree)
-    → script.deadline < line.horizon → LeastFromOne line box → k < terminal_count line
-    → AreSound line script k box assumed tree → IsTrue (are_yes tree) → (choice : Choice)
+    (line : Line) (script : Script) (k : ℕ) (box : Box) (assumed : List Assumption)
+    (tree : CaseTree) → script.deadline < line.horizon → LeastFromOne line box
+    → k < terminal_count line → AreSound line script k box assumed tree
+    → IsTrue (are_yes tree) → (choice : Choice)
     (h : History) → IsWithin line choice box → IsLineHistory line script choice h
     → AgreesWithAll line script choice h assumed → Meets line script k h

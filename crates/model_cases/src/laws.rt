@@ -16,8 +16,8 @@ pub fn same_trees_are_equal()
     ensures { SameTreesAreEqual }
 {}
 
-/// At an assumed tick what a weak terminal's echo starts from has the level that is assumed; a tree of
-/// which nothing is assumed has its own pair.
+/// At an assumed tick what a weak terminal's echo starts from has the level that is assumed; a tree
+/// of which nothing is assumed has its own pair.
 pub fn assumed_ticks_have_their_level()
     ensures { AssumedTicksHaveTheirLevel }
 {}

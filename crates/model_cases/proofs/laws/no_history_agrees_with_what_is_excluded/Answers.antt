@@ -4,7 +4,7 @@ use Rattle.model_cases.proofs.laws.no_history_agrees_with_what_is_excluded.Goals
 pub returns : goal.returns
 returns c = record {
   another = λ line script box others w choice h a d is_w within is_h agree.
-      another_excluded c.history_laws.ensures c.line_laws.ensures.trees line script box others w choice
-      h d is_w within is_h a agree;
+      another_excluded c.history_laws.ensures c.line_laws.ensures.trees line script box others w
+      choice h d is_w within is_h a agree;
   itself = some_excluded c.history_laws.ensures c.line_laws.ensures.trees;
 }
