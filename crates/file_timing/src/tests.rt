@@ -3,6 +3,7 @@
 use super::*;
 use model_line::{Bounds, Line, Name, is_plain};
 use model_sample::two_terminals;
+use model_timing::{NamedTiming, Step, Timing, inside};
 use run_signal::Tick;
 use std::alloc::Global;
 use std::process::Abort;
