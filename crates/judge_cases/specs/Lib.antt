@@ -1,0 +1,5 @@
+pub mod Views
+pub mod Nodes
+pub mod Rows
+pub mod Spans
+pub mod Analyses
