@@ -1,0 +1,4 @@
+mod OneGate
+mod WeakKey
+mod ListLaws
+mod RowLaws

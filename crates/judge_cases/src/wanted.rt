@@ -2,6 +2,7 @@
 
 ghost use Rattle.std.specs.Prelude.{◌≡◌, ◌<◌, length, IsTrue};
 ghost use Rattle.model_logic.specs.Elements.{is_weak};
+ghost use Rattle.model_logic.specs.Tree.{Tree, And, Or};
 ghost use Rattle.model_cases.specs.Assumed.{wanted};
 ghost use Rattle.net_gates.specs.{NetOf.IsNetOf, Formulas.formula_of};
 
@@ -22,7 +23,12 @@ pub fn wanted_gate(net: &Net, line: &Line, terminal: u32) -> GateId
 
 // The second argument of a gate that is an or; of another the gate.
 fn second_of_or(net: &Net, gate: GateId) -> GateId
+    requires { gate.0 < length net.now.gates }
+    ensures exists { result.0 < length net.now.gates }
+    ensures second { (x y : Tree) → formula_of net.now.gates gate.0 ≡ Or x y →
+        formula_of net.now.gates result.0 ≡ y }
 {
+    let _laws = net.len();
     match *net.gate(gate) {
         Gate::Or(_, second) => second,
         _ => gate,
@@ -31,7 +37,12 @@ fn second_of_or(net: &Net, gate: GateId) -> GateId
 
 // The first argument of a gate that is an and; of another the gate.
 fn first_of_and(net: &Net, gate: GateId) -> GateId
+    requires { gate.0 < length net.now.gates }
+    ensures exists { result.0 < length net.now.gates }
+    ensures first { (x y : Tree) → formula_of net.now.gates gate.0 ≡ And x y →
+        formula_of net.now.gates result.0 ≡ x }
 {
+    let _laws = net.len();
     match *net.gate(gate) {
         Gate::And(first, _) => first,
         _ => gate,

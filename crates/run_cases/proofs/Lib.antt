@@ -5,4 +5,4 @@ mod WalkLaws
 mod ValueLaws
 mod MaskLaws
 mod UnderLaws
-mod RunLaws
+mod GivenLaws

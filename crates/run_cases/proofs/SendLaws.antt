@@ -6,9 +6,9 @@ use Rattle.std.proofs.lemmas.List.{map-append, length-replicate, replicate_more}
 use Rattle.std.specs.Prelude.{slice_get, option_map, map, get_or}
 use Rattle.run_timers.specs.Stretches.{ElementsInAStretch}
 use Rattle.net_gates.specs.declared.gate.GateId.{GateId}
-use Rattle.run_cases.specs.Ticks.{HasKeys, ValuesAgree, AreFresh, AreSent, KeysSent, HasSent}
+use Rattle.run_simulator.specs.Ticks.{HasKeys, ValuesAgree, AreFresh, AreSent, KeysSent, HasSent}
 use Rattle.net_gates.specs.NetOf.{id_at}
-use Rattle.run_cases.specs.{GatePairs.GateSignals, ListLaws.at_push}
+use Rattle.run_simulator.specs.{GatePairs.GateSignals, ListLaws.at_push}
 use Rattle.model_history.specs.Rails.{Rails, Ends, rails_at, rails_delayed}
 use Rattle.model_history.specs.{Recorded.first_ticks, Laws.HistoryLaws}
 use Rattle.run_signal.specs.Lanes.{in_lane}

@@ -1,10 +1,9 @@
 -- One tick of one gate.
-use Rattle.std.proofs.Common.{◌≡◌, ℕ, suc, ◌+◌, ◌<◌, List, [], ◌∷◌, ◌++◌, length, sym}
-use Rattle.std.proofs.Common.{◌∙◌, ap, subst, arith}
-use Rattle.run_timers.specs.{Ahead.next_rails, Stretches.ElementsInAStretch}
-use Rattle.run_cases.specs.Quiet.{Keeps}
+use Rattle.std.proofs.Common.{◌≡◌, ℕ, suc, List, [], ◌∷◌, ◌++◌, length, sym}
+use Rattle.std.proofs.Common.{◌∙◌, ap, subst}
 use Rattle.run_cases.specs.CellStands.{TimerStands, SealStands, CellStands}
-use Rattle.run_cases.specs.{declared.cell.Cell.Cell, GatePairs.GateSignals, GatePairs.kind_pair}
+use Rattle.run_cases.specs.{declared.cell.Cell.Cell}
+use Rattle.run_simulator.specs.{GatePairs.GateSignals, GatePairs.kind_pair}
 use Rattle.model_history.specs.Rails.{Rails, Ends, rails_at, rails_delayed, rails_timed}
 use Rattle.model_history.specs.Rails.{rails_sealed}
 use Rattle.model_history.specs.Rails.{both}
@@ -19,17 +18,6 @@ use Rattle.net_gates.specs.{declared.gate.GateId.GateId, declared.gate.Gate.Gate
 ticks_more : (u : ℕ → Rails) (t : ℕ) (y : Rails) → y ≡ u t
     → first_ticks u t ++ y ∷ [] ≡ first_ticks u (suc t)
 ticks_more u t y e = ap (λ (x : Rails). first_ticks u t ++ x ∷ []) e
-
--- while a timer's answers are steady, and its input stays as it is, each is that at the first tick
-pub timer_keeps : (stretch : ElementsInAStretch) (u : ℕ → Rails) (p d : Ends) (t n : ℕ) (x : Rails)
-    → x ≡ u t
-    → ((j : ℕ) → j < n
-    → next_rails p d (first_ticks u t) x j ≡ next_rails p d (first_ticks u t) x 0)
-    → (j : ℕ) → j < n → Keeps u t (suc j)
-    → rails_timed u p d (t + j) ≡ rails_timed u p d t
-timer_keeps stretch u p d t n x is steady j lt keeps =
-    stretch.timed u p d x t (suc j) (t + j) (λ k low high. keeps k low high ∙ sym is)
-    (λ i below. steady i (omega arith)) (omega arith) (omega arith)
 
 -- ---- gates that keep nothing
 

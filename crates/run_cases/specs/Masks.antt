@@ -1,9 +1,8 @@
 -- Levels that are put in place of a gate's own value.
-use Rattle.std.specs.Prelude.{◌≡◌, ◌<◌, ◌+◌, ◌*◌, ℕ, Bool, true, false, List, Option, None, Some}
+use Rattle.std.specs.Prelude.{◌≡◌, ◌<◌, ◌+◌, ◌*◌, ℕ, Bool, true, false, Option, None, Some}
 use Rattle.std.specs.Prelude.{length, slice_get}
 use Rattle.model_history.specs.Rails.{Rails, both, rails_not, rails_and, rails_or}
 use Rattle.model_logic.specs.Tree.{Tree, Const, Seen, Loss, Raw, Not, And, Or, Timer, Seal}
-use Rattle.net_gates.specs.{declared.gate.Gate.Gate, Formulas.formula_of}
 use Rattle.run_cases.specs.declared.mask.Mask.{Mask}
 use Rattle.run_cases.specs.declared.mask.Masks.{Masks}
 

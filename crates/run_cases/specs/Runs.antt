@@ -2,8 +2,8 @@
 use Rattle.std.specs.Prelude.{◌≡◌, ◌<◌, ℕ, Bool, List, Option, length}
 use Rattle.model_history.specs.Rails.{Rails, Ends}
 use Rattle.model_line.specs.Parameters.{param_count, terminal_count}
-use Rattle.model_line.specs.{declared.script.Script.Script, declared.line.Line.Line}
-use Rattle.model_logic.specs.Choice.{Box, LeastFromOne, pair_world_of}
+use Rattle.model_line.specs.{declared.line.Line.Line}
+use Rattle.model_logic.specs.Choice.{LeastFromOne}
 use Rattle.model_logic.specs.{Logic.key_tree, PairMean.PairSignals, PairMean.PairWorld, Tree.Tree}
 use Rattle.model_cases.specs.Under.{pair_under, own_pair}
 use Rattle.net_gates.specs.{NetOf.NetOf, NetOf.IsNetOf, Formulas.formula_of}

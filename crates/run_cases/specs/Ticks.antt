@@ -69,4 +69,4 @@ pub record LaneStands {C S V : Type 0} (stands_for : C → S → S → ℕ → L
   pub keys_sent : KeysSent rails lane keys t sent
   pub cells_stand : AllStand stands_for ends rails lane w u t gates cells
   pub told : ValuesTold rails lane u (length gates) values
-  pub owns : ValuesTold rails lane v (length gates) owns
+  pub own_told : ValuesTold rails lane v (length gates) owns

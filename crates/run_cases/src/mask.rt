@@ -1,6 +1,6 @@
 //! Levels that are put in place of gates' own values.
 
-ghost use Rattle.std.specs.Prelude.{◌≡◌, ◌<◌, ℕ};
+ghost use Rattle.std.specs.Prelude.{◌≡◌, ◌<◌, ◌≤◌, ℕ, Some, length, slice_get};
 ghost use Rattle.model_logic.specs.Tree.{Tree};
 ghost use Rattle.run_cases.specs.Masks.{put_rails, HaveRows, IsMask, Levels, PutLevels};
 
@@ -45,6 +45,17 @@ pub fn mask_at<V: Signal>(masks: &Masks<V>, gates: u32, horizon: u32, gate: u32,
             off: V::known(false),
             on: V::known(false),
         },
-        Some(row) => masks.masks[t as usize * masks.count as usize + row as usize],
+        Some(row) => read(
+            &masks.masks,
+            t as usize * masks.count as usize + row as usize,
+        ),
     }
+}
+
+// The value at a place of a list.
+fn read<V: Copy>(list: &[Mask<V>], place: usize) -> Mask<V>
+    requires { place < length list.now }
+    ensures { slice_get list.now place ≡ Some result }
+{
+    list[place]
 }

@@ -3,6 +3,7 @@
 ghost use Rattle.std.specs.Prelude.{◌≡◌, ◌≤◌, length, vec_capacity};
 ghost use Rattle.run_cases.specs.Given.{spans_at};
 
+use crate::within::extend_within;
 use model_line::SeenSpan;
 
 /// Those of the spans that hold a tick, in a list with room for all.
@@ -12,9 +13,6 @@ pub fn show_at(spans: &[SeenSpan], present: &mut Vec<SeenSpan>, t: u32)
     ensures shown { present.new.items ≡ spans_at t spans.now }
 {
     present.clear();
-    for span in spans {
-        if span.from <= t && t < span.to {
-            present.push_reserved(*span);
-        }
-    }
+    extend_within(present, spans);
+    present.retain(|span| span.from <= t && t < span.to);
 }

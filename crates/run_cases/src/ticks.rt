@@ -1,6 +1,6 @@
 //! All ticks of a run.
 
-ghost use Rattle.std.specs.Prelude.{◌≡◌, ◌×◌, ℕ, ◌<◌, ◌*◌, length, IfOk};
+ghost use Rattle.std.specs.Prelude.{◌≡◌, ℕ, ◌<◌, ◌*◌, length, IfOk};
 ghost use Rattle.model_logic.specs.PairMean.{PairWorld, PairSignals};
 ghost use Rattle.model_logic.specs.Choice.{pair_world_of};
 ghost use Rattle.run_simulator.specs.Ticks.{ValuesTold};
@@ -16,6 +16,7 @@ use crate::walk::walk;
 use crate::within::extend_within;
 use model_line::{Line, Memory, Script};
 use net_gates::Net;
+use net_gates::laws::gates_stand_for_their_trees;
 use run_channel::Carried;
 use run_timers::Timed;
 use std::alloc::Global;
@@ -51,6 +52,7 @@ pub fn run_ticks<V: Timed + Carried>(
         × ValuesTold V.rails lane (own_pairs (level lane) w keys net.now.gates)
         (length net.now.gates) told.owns.items) }
 {
+    gates_stand_for_their_trees();
     let width = net.len() as usize;
     let mut cells = fresh_cells::<V>(alloc, net, line, spans)?;
     let delays = fresh_delays::<V>(alloc, line, spans)?;

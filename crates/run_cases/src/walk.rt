@@ -1,6 +1,6 @@
 //! One tick of all gates of a net.
 
-ghost use Rattle.std.specs.Prelude.{◌≡◌, ◌×◌, ℕ, suc, ◌<◌, ◌≤◌, length, vec_capacity};
+ghost use Rattle.std.specs.Prelude.{◌≡◌, ℕ, suc, ◌<◌, ◌≤◌, length, vec_capacity};
 ghost use Rattle.model_line.specs.Parameters.{terminal_count};
 ghost use Rattle.model_logic.specs.PairMean.{PairWorld, PairSignals};
 ghost use Rattle.net_gates.specs.{Named.NamedFrom, Formulas.formula_of};
@@ -65,8 +65,9 @@ pub fn walk<V: Timed + Carried>(
     column.clear();
     owns.clear();
     for i in 0..net.len() {
+        let gate = net.gate(GateId(i));
         let own = answer::<V>(
-            net.gate(GateId(i)),
+            gate,
             &mut cells[i as usize],
             column.as_slice(),
             line,
@@ -76,7 +77,8 @@ pub fn walk<V: Timed + Carried>(
             t,
         );
         let mask = mask_at::<V>(masks, net.len(), line.horizon, i, t);
+        let value = put::<V>(own, &mask);
         owns.push_reserved(own);
-        column.push_reserved(put::<V>(own, &mask));
+        column.push_reserved(value);
     }
 }

@@ -2,8 +2,9 @@ use Rattle.std.proofs.Common.{◌≡◌, ℕ, ◌<◌, length, Some}
 use Rattle.std.specs.Prelude.{slice_get}
 use Rattle.model_logic.specs.{declared.time.Time.Time, PairMean.PairWorld}
 use Rattle.net_gates.specs.declared.gate.Gate.{Gate}
-use Rattle.run_cases.specs.LaneBox.{time_ends}
-use Rattle.run_cases.specs.{GatePairs.GateSignals, CellStands.HasCell, Ticks.AllStand}
+use Rattle.run_simulator.specs.LaneBox.{time_ends}
+use Rattle.run_simulator.specs.{GatePairs.GateSignals}
+use Rattle.run_cases.specs.{CellStands.HasCell, Ticks.AllStand}
 use Rattle.run_cases.proofs.fresh.fresh_cells.Given as goal
 
 abbrev pub invariant-loop-i : goal.invariant-loop-i

@@ -1,5 +1,5 @@
 use Rattle.std.proofs.Common.{◌+◌, sym, subst}
-use Rattle.run_cases.specs.Ticks.{AreFresh}
+use Rattle.run_simulator.specs.Ticks.{AreFresh}
 use Rattle.run_cases.proofs.SendLaws.{fresh_more}
 use Rattle.run_cases.proofs.fresh.fresh_tracks.Goals as goal
 

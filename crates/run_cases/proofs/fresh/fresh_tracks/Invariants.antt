@@ -1,4 +1,4 @@
-use Rattle.run_cases.specs.Ticks.{AreFresh}
+use Rattle.run_simulator.specs.Ticks.{AreFresh}
 use Rattle.run_cases.proofs.fresh.fresh_tracks.Given as goal
 
 abbrev pub invariant-loop : goal.invariant-loop

@@ -1,7 +1,7 @@
 use Rattle.std.proofs.Common.{◌≡◌, ℕ, ◌<◌, ◌≤◌, ◌+◌, length, Some}
 use Rattle.std.specs.Prelude.{slice_get}
 use Rattle.model_logic.specs.PairMean.{PairSignals}
-use Rattle.run_cases.specs.Ticks.{PartDone, HasKeys, HasSent, KeysSent}
+use Rattle.run_simulator.specs.Ticks.{PartDone, HasKeys, HasSent, KeysSent}
 use Rattle.net_gates.specs.NetOf.{id_at}
 use Rattle.run_cases.proofs.send.send_all.Given as goal
 

@@ -1,29 +1,30 @@
 use Rattle.std.proofs.Common.{◌≡◌, ℕ, ◌<◌, ◌≤◌, ◌*◌, length}
 use Rattle.std.specs.Prelude.{vec_capacity}
 use Rattle.model_line.specs.Parameters.{terminal_count}
-use Rattle.model_logic.specs.{Logic.key_tree, Solution.the_keys}
-use Rattle.run_cases.specs.Inputs.{AreDelays, DelaysHold}
-use Rattle.run_cases.specs.{Shown.AreShown, LaneBox.lane_box, LaneBox.lane_world}
-use Rattle.run_cases.specs.{GatePairs.line_pairs, Ticks.HaveCells, Ticks.AreSent}
-use Rattle.run_cases.specs.Ticks.{LaneStands}
+use Rattle.model_logic.specs.{Choice.pair_world_of, PairMean.PairSignals}
+use Rattle.run_simulator.specs.Ticks.{AreSent}
+use Rattle.run_cases.specs.{Given.span_box, Masks.Levels, Runs.PutUnder, Runs.AreKeysUnder}
+use Rattle.run_cases.specs.Ticks.{HaveCells, LaneStands, under_pairs, own_pairs}
 use Rattle.run_cases.proofs.ticks.run_ticks.Given as goal
 
 abbrev pub invariant-loop-t : goal.invariant-loop-t
 invariant-loop-t g l =
     let gates = l.net.gates in
-    let box = lane_box g.V.Signal.ends l.line l.spans l.steps in
-    let w = lane_world g.V.Signal.ends l.line l.script l.spans l.steps in
+    let w = λ (lane : ℕ). pair_world_of l.line l.script (span_box g.V.Signal.ends l.line l.spans lane) in
     record {
       count : length l.values.items ≡ l.t * length gates;
+      own_count : length l.owns.items ≡ l.t * length gates;
       column_room : length gates ≤ vec_capacity l.column;
+      own_column_room : length gates ≤ vec_capacity l.own_column;
+      present_room : length l.script.spans.items ≤ vec_capacity l.present;
       values_room : l.line.horizon * length gates ≤ vec_capacity l.values;
-      delays : AreDelays l.line l.inputs.delays.items;
-      held : DelaysHold g.V.Signal.ends l.spans l.steps l.inputs.delays.items l.t l.inputs.until;
-      shown : AreShown l.script.spans.items l.inputs.shown l.t l.inputs.until;
+      owns_room : l.line.horizon * length gates ≤ vec_capacity l.owns;
       cells : HaveCells gates l.cells.items;
       sent : AreSent (terminal_count l.line) l.line.horizon l.t l.sent.items;
-      lanes : (lane : ℕ) → lane < g.V.Signal.LANES →
-          LaneStands g.V.Timed.stands_for g.V.Signal.ends g.V.Signal.rails lane (w lane)
-          (the_keys (w lane) (key_tree l.line)) (line_pairs l.line l.script (box lane) l.net)
-          l.t gates l.sent.items l.cells.items l.values.items;
+      lanes : (lane : ℕ) (level : Levels) (keys : PairSignals) → lane < g.V.Signal.LANES
+          → PutUnder g.V.Signal.rails g.V.Signal.LANES level l.line l.net l.masks
+          → AreKeysUnder l.line (level lane) (w lane) keys
+          → LaneStands g.V.Timed.stands_for g.V.Signal.ends g.V.Signal.rails lane (w lane) keys
+          (under_pairs (level lane) (w lane) keys gates) (own_pairs (level lane) (w lane) keys gates)
+          l.t gates l.sent.items l.cells.items l.values.items l.owns.items;
     }
