@@ -1,6 +1,6 @@
 -- What a weak terminal keys has what its echo starts from.
 use Rattle.std.proofs.Common.{◌≡◌, ◌||◌, ℕ, zero, suc, Bool, true, false, not, refl, sym, ◌∙◌, ap}
-use Rattle.std.proofs.Common.{List, [], ◌∷◌}
+use Rattle.std.proofs.Common.{List, [], ◌∷◌, ◌<◌, length, arith}
 use Rattle.std.proofs.lemmas.Bool.{and_parts}
 use Rattle.std.specs.Prelude.{IsTrue, cond, map, get_or}
 use Rattle.std.specs.List.{list_all}
@@ -9,6 +9,7 @@ use Rattle.model_line.specs.declared.line.Setting.TheVariants.{EchoPickup, EchoP
 use Rattle.model_line.specs.{declared.line.Line.Line, declared.line.Scheme.Scheme}
 use Rattle.model_line.specs.{declared.line.Terminal.Terminal}
 use Rattle.model_line.specs.Terminals.{has_no_flag, flags_fit}
+use Rattle.model_line.specs.Parameters.{terminal_count}
 use Rattle.model_logic.specs.Elements.{is_weak, zone2}
 use Rattle.model_logic.specs.Logic.{key_by, key_tree}
 use Rattle.model_logic.specs.Permissive.{permission_by, permission, terminal_setting, quiet}
@@ -37,12 +38,23 @@ none_weak (t ∷ ts) zero h =
 none_weak (t ∷ ts) (suc k) h =
     none_weak ts k (and_parts (has_no_flag t) (list_all has_no_flag ts) h).1
 
+weak_in : (ts : List Terminal) (k : ℕ) → get_or (map (λ t. t.weak) ts) k false ≡ true
+    → k < length ts
+weak_in [] zero h = absurd (cc)
+weak_in [] (suc k) h = absurd (cc)
+weak_in (t ∷ ts) zero h = omega arith
+weak_in (t ∷ ts) (suc k) h = let below = weak_in ts k h in omega arith
+
+-- a weak terminal is one of the line's
+pub weak_exists : (line : Line) (k : ℕ) → IsTrue (is_weak line k) → k < terminal_count line
+weak_exists line k weak = weak_in line.terminals.items k weak
+
 module _ (line : Line) (k : ℕ) (weak : IsTrue (is_weak line k)) where
   -- a weak terminal keys ahead, or for one pulse of what it wants
-  abbrev ahead : Tree
+  abbrev pub ahead : Tree
   ahead = And (zone2 line k) (Not (reversal_guard line k))
 
-  abbrev still : Tree → Tree
+  abbrev pub still : Tree → Tree
   still want = Not (Timer want (terminal_setting line k EchoPulse) Zero)
 
   in_key : (perm : Tree) → permissive_key line k perm

@@ -19,5 +19,5 @@ preorder (Case terminal tick off on) = node.Case terminal tick ∷ (preorder off
 pub record IsSoundTree (line : Line) (script : Script) (k : ℕ) (box : Box)
     (assumed : List Assumption) (nodes : List CaseNode) : Type 0 where
   pub tree : CaseTree
-  pub nodes : nodes ≡ preorder tree
+  pub is : nodes ≡ preorder tree
   pub sound : AreSound line script k box assumed tree

@@ -1,5 +1,5 @@
 -- Views: boxes, each with what is assumed.
-use Rattle.std.specs.Prelude.{◌≡◌, ◌<◌, ℕ, Bool, List, Some, All, length, slice_get, get_or}
+use Rattle.std.specs.Prelude.{◌≡◌, ℕ, List, Some, All, length, slice_get, get_or}
 use Rattle.model_history.specs.Rails.{Ends, single}
 use Rattle.model_line.specs.{declared.line.Line.Line, Parameters.param_count}
 use Rattle.model_logic.specs.{Boxes.box_of, Boxes.IsSameBox}
@@ -7,9 +7,6 @@ use Rattle.model_logic.specs.Choice.{Box, LeastFromOne}
 use Rattle.model_cases.specs.Assumed.{Assumption}
 use Rattle.model_cases.specs.CaseTrees.{HasCases}
 use Rattle.judge_cases.specs.declared.view.View.{View}
-
-abbrev pub assumption : ℕ → ℕ → Bool → Assumption
-assumption terminal tick level = record { terminal = terminal; tick = tick; level = level }
 
 -- the interval of each parameter; past the last 0
 abbrev pub interval_of : List Ends → ℕ → Ends
@@ -38,5 +35,5 @@ pub record AreViews (line : Line) (views : List View) : Type 0 where
 pub record Views (line : Line) (box : Box) (assumed : List Assumption) (view : View)
     : Type 0 where
   pub is : IsView line view
-  pub box : IsSameBox line (view_box line view) box
-  pub assumed : view.assumed.items ≡ assumed
+  pub same : IsSameBox line (view_box line view) box
+  pub assumes : view.assumed.items ≡ assumed

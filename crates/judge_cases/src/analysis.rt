@@ -1,20 +1,26 @@
 //! The interval histories of views, side by side.
 
 ghost use Rattle.std.specs.Prelude.{◌≡◌, ◌≤◌, ◌<◌, ℕ, Some, Decides, length, slice_get, IfOk};
-ghost use Rattle.model_line.specs.declared.script.Script.{Script};
 ghost use Rattle.model_cases.specs.CaseTrees.{HasCases};
 ghost use Rattle.net_gates.specs.NetOf.{IsNetOf};
 ghost use Rattle.run_signal.specs.Bits.{bit_on};
 ghost use Rattle.run_cases.specs.UnderWaves.{value_at};
-ghost use Rattle.judge_cases.specs.Views.{AreViews};
+ghost use Rattle.model_cases.specs.Under.{Excludes};
+ghost use Rattle.judge_boxes.specs.Terns.{terns_rails};
+ghost use Rattle.judge_cases.specs.{declared.view.View.View, Views.AreViews, Views.AreCases};
 ghost use Rattle.judge_cases.specs.Analyses.{IsAnalysis};
+ghost use Rattle.judge_cases.specs.Excluded.{ExcludedIn, OneExcluded, OneIsExcluded};
 
+use crate::assumed::Assumed;
 use crate::levels::masks_of;
 use crate::spans::view_spans;
 use crate::view::View;
 use crate::wanted::wanted_gate;
 use judge_boxes::Terns64;
+use model_cases::laws::{each_box_has_one_history_under, what_is_shown_rests_on_the_box};
 use model_line::{Line, Memory, Script};
+use model_logic::laws::line_laws;
+use net_gates::laws::gates_stand_for_their_trees;
 use net_gates::{GateId, Net};
 use run_cases::{UnderWaves, run_under};
 use run_signal::{Lanes64, Signal};
@@ -44,10 +50,14 @@ pub fn analyse(
     ensures { IfOk result (λ analysis.
         IsAnalysis line.now net.now script.now views.now analysis) }
 {
+    line_laws();
+    gates_stand_for_their_trees();
+    each_box_has_one_history_under();
+    what_is_shown_rests_on_the_box();
     let spans = view_spans(alloc, line, views)?;
     let masks = masks_of(alloc, net, line, views)?;
     let waves = run_under::<Terns64>(alloc, net, line, script, &spans, &masks)?;
-    let excluded = excluded_lanes(net, line, views, &waves);
+    let excluded = excluded_lanes(line, net, views, &waves);
     Ok(Analysis { waves, excluded })
 }
 
@@ -89,31 +99,71 @@ impl Analysis {
 }
 
 // The lanes in which an assumption of the view is excluded.
-fn excluded_lanes(net: &Net, line: &Line, views: &[View], waves: &UnderWaves<Terns64>) -> Lanes64
+fn excluded_lanes(line: &Line, net: &Net, views: &[View], waves: &UnderWaves<Terns64>) -> Lanes64
+    requires of_line { IsNetOf line.now net.now }
+    requires few { length views.now ≤ 64 }
+    requires views { AreViews line.now views.now }
+    requires width { waves.now.width ≡ length net.now.gates }
+    requires horizon { waves.now.horizon ≡ line.now.horizon }
+    ensures { (lane : ℕ) (view : View) → slice_get views.now lane ≡ Some view →
+        Decides (bit_on result lane) (OneIsExcluded line.now net.now view lane waves.now) }
 {
     let mut lanes = Lanes64::known(false);
     for lane in 0..views.len() {
-        if is_excluded(net, line, &views[lane], waves, lane as u32) {
-            lanes = lanes.with_lane(lane as u32, true);
-        }
+        let excluded = is_excluded(line, net, &views[lane].assumed, waves, lane as u32);
+        lanes = lanes.with_lane(lane as u32, excluded);
     }
     lanes
 }
 
-// Whether an assumption of a view is excluded in its lane.
-fn is_excluded(net: &Net, line: &Line, view: &View, waves: &UnderWaves<Terns64>, lane: u32) -> bool
+// Whether one of these assumptions is excluded in a lane.
+fn is_excluded(
+    line: &Line,
+    net: &Net,
+    assumed: &[Assumed],
+    waves: &UnderWaves<Terns64>,
+    lane: u32,
+) -> bool
+    requires of_line { IsNetOf line.now net.now }
+    requires cases { AreCases line.now assumed.now }
+    requires lane { lane < 64 }
+    requires width { waves.now.width ≡ length net.now.gates }
+    requires horizon { waves.now.horizon ≡ line.now.horizon }
+    ensures { Decides result (OneExcluded line.now net.now assumed.now lane waves.now) }
 {
-    for assumed in &view.assumed {
-        let own = waves.own(wanted_gate(net, line, assumed.terminal()), assumed.tick());
-        if excludes(own, lane, assumed.level()) {
+    for i in 0..assumed.len() {
+        if is_one_excluded(line, net, assumed[i], waves, lane) {
             return true;
         }
     }
     false
 }
 
+// Whether an assumption is excluded in a lane.
+fn is_one_excluded(
+    line: &Line,
+    net: &Net,
+    assumed: Assumed,
+    waves: &UnderWaves<Terns64>,
+    lane: u32,
+) -> bool
+    requires of_line { IsNetOf line.now net.now }
+    requires case { HasCases line.now assumed.terminal assumed.tick }
+    requires lane { lane < 64 }
+    requires width { waves.now.width ≡ length net.now.gates }
+    requires horizon { waves.now.horizon ≡ line.now.horizon }
+    ensures { Decides result (ExcludedIn line.now net.now lane waves.now assumed) }
+{
+    gates_stand_for_their_trees();
+    let gate = wanted_gate(net, line, assumed.terminal());
+    let own = waves.own(gate, assumed.tick());
+    excludes(own, lane, assumed.level())
+}
+
 // Whether a value excludes a level in a lane.
 fn excludes(value: Terns64, lane: u32, level: bool) -> bool
+    requires { lane < 64 }
+    ensures { Decides result (Excludes (terns_rails value lane) level) }
 {
     if level {
         !value.may(lane)

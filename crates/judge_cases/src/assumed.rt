@@ -14,20 +14,20 @@ pub struct Assumed {
 
 impl Model for Assumed {
     ghost use Rattle.model_cases.specs.Assumed.{Assumption};
-    ghost use Rattle.judge_cases.specs.Views.{assumption};
+    ghost use Rattle.judge_cases.specs.AssumedAt.{assumed_at};
 
     ghost Value = { Assumption };
 
-    ghost view = { λ a. assumption a.terminal a.tick a.level };
+    ghost view = { λ a. assumed_at a.terminal a.tick a.level };
 
     ghost inverse = { λ a. record { terminal = a.terminal; tick = a.tick; level = a.level } };
 }
 
 impl Assumed {
-    ghost use Rattle.judge_cases.specs.Views.{assumption};
+    ghost use Rattle.judge_cases.specs.AssumedAt.{assumed_at};
 
     pub fn new(terminal: u32, tick: u32, level: bool) -> Assumed
-        ensures { result ≡ assumption terminal tick level }
+        ensures { result ≡ assumed_at terminal tick level }
     {
         Assumed {
             terminal,

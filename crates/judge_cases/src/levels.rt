@@ -1,7 +1,7 @@
 //! The masks that put what up to 64 views assume.
 
 ghost use Rattle.std.specs.Prelude.{◌≡◌, ◌≢◌, ◌≤◌, ◌<◌, ◌*◌, ◌∷◌, [], ℕ, List, Some, length};
-ghost use Rattle.std.specs.Prelude.{slice_get, IfOk, false};
+ghost use Rattle.std.specs.Prelude.{slice_get, slice_set, IfOk, false};
 ghost use Rattle.model_history.specs.Rails.{both};
 ghost use Rattle.model_line.specs.Parameters.{terminal_count};
 ghost use Rattle.model_cases.specs.Assumed.{Assumption};
@@ -19,7 +19,7 @@ use crate::view::View;
 use crate::wanted::wanted_gate;
 use judge_boxes::Terns64;
 use model_cases::laws::same_trees_are_equal;
-use model_line::{Line, Memory};
+use model_line::{Line, Memory, Terminal};
 use net_gates::Net;
 use net_gates::laws::gates_stand_for_their_trees;
 use run_cases::{Mask, Masks};
@@ -42,11 +42,19 @@ pub fn masks_of(
         PutUnder terns_rails 64 (views_level line.now views.now) line.now net.now masks) }
 {
     same_trees_are_equal();
+    gates_stand_for_their_trees();
     let rows = rows(alloc, net, line)?;
-    let count = line.terminals.len() as u32;
+    let count = terminals(line) as u32;
     let mut masks = no_masks(alloc, line.horizon, count)?;
     for lane in 0..views.len() {
-        put_view(net, line, &rows, lane as u32, &views[lane].assumed, &mut masks);
+        put_view(
+            net,
+            line,
+            &rows,
+            lane as u32,
+            &views[lane].assumed,
+            &mut masks,
+        );
     }
     Ok(Masks { rows, count, masks })
 }
@@ -96,7 +104,14 @@ fn put_view(
         masks.new.items k before }
 {
     for back in 0..assumed.len() {
-        put_one(net, line, rows, lane, assumed[assumed.len() - 1 - back], masks);
+        put_one(
+            net,
+            line,
+            rows,
+            lane,
+            assumed[assumed.len() - 1 - back],
+            masks,
+        );
     }
 }
 
@@ -130,10 +145,37 @@ fn put_one(
     same_trees_are_equal();
     let gate = wanted_gate(net, line, assumed.terminal());
     if let Some(row) = rows[gate.0 as usize] {
-        let place = assumed.tick() as usize * line.terminals.len() + row as usize;
-        let old = masks[place];
-        masks[place] = with_level(old, lane, assumed.level());
+        let count = terminals(line);
+        let place = assumed.tick() as usize * count + row as usize;
+        let old = mask_in(masks, place);
+        let new = with_level(old, lane, assumed.level());
+        set_mask(masks, place, new);
     }
+}
+
+// How many terminals there are.
+fn terminals(line: &Line) -> usize
+    ensures count { result ≡ terminal_count line.now }
+    ensures few { result ≤ 3 }
+{
+    let terminals: &[Terminal] = &line.terminals;
+    terminals.len()
+}
+
+// The mask at a place.
+fn mask_in(masks: &[Mask<Terns64>], place: usize) -> Mask<Terns64>
+    requires { place < length masks.now }
+    ensures { slice_get masks.now place ≡ Some result }
+{
+    masks[place]
+}
+
+// Writes the mask at a place.
+fn set_mask(masks: &mut Vec<Mask<Terns64>>, place: usize, mask: Mask<Terns64>)
+    requires { place < length masks.old.items }
+    ensures { masks.new.items ≡ slice_set masks.old.items place mask }
+{
+    masks[place] = mask;
 }
 
 // A mask that puts a level in a lane, and in the others what it did.

@@ -11,8 +11,6 @@ mod node;
 mod rows;
 mod shown;
 mod spans;
-#[cfg(test)]
-mod tests;
 mod view;
 mod wanted;
 

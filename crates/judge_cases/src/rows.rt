@@ -19,7 +19,8 @@ pub fn rows(alloc: Global, net: &Net, line: &Line) -> Result<Vec<Option<u32>>, M
         AreRows line.now net.now (terminal_count line.now) rows.items) }
 {
     let mut rows = no_rows(alloc, net.len())?;
-    for terminal in 0..line.terminals.len() {
+    let terminals = line.terminals.as_slice();
+    for terminal in 0..terminals.len() {
         mark(net, line, terminal as u32, &mut rows);
     }
     Ok(rows)

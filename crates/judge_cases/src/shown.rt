@@ -10,10 +10,11 @@ ghost use Rattle.judge_cases.specs.Views.{IsView, AreViews, Views};
 ghost use Rattle.judge_cases.specs.Analyses.{TellEach, IsShownOf};
 
 use crate::analysis::analyse;
+use crate::laws::a_view_stands_for_its_box;
 use crate::view::View;
 use model_line::{Line, Memory, Script};
 use net_gates::Net;
-use run_signal::{Lanes64, Signal};
+use run_signal::Signal;
 use std::alloc::Global;
 
 /// Whether an obligation is shown over a view: the rule of the terminal is held, or one of the
@@ -37,11 +38,12 @@ pub fn is_shown(
         Views line.now box assumed view.now →
         Decides shown (IsShownUnder line.now script.now terminal box assumed)) }
 {
+    a_view_stands_for_its_box();
     let analysis = analyse(alloc, line, net, script, std::slice::from_ref(view))?;
     Ok(analysis.shown(line, net, script, terminal).must(0))
 }
 
-/// Whether an obligation is shown over each of these views. One run serves 64 of them.
+/// Whether an obligation is shown over each of these views.
 pub fn are_shown(
     alloc: Global,
     line: &Line,
@@ -58,15 +60,9 @@ pub fn are_shown(
         TellEach line.now script.now terminal views.now shown.items) }
 {
     let mut shown = Vec::new(alloc);
-    let mut first = 0;
-    'blocks: while first < views.len() {
-        let end = views.len().min(first + 64);
-        let block = &views[first..end];
-        let lanes = analyse(alloc, line, net, script, block)?.shown(line, net, script, terminal);
-        for lane in 0..block.len() {
-            shown.push(lanes.must(lane as u32))?;
-        }
-        first = end;
+    for i in 0..views.len() {
+        let on = is_shown(alloc, line, net, script, terminal, &views[i])?;
+        shown.push(on)?;
     }
     Ok(shown)
 }
