@@ -4,12 +4,11 @@ use Rattle.std.proofs.Common.{refl, sym, ◌∙◌, ap, subst, arith, ⊎_elim}
 use Rattle.std.proofs.Math.Path.{fun_ext}
 use Rattle.std.proofs.lemmas.Bool.{cases_lt}
 use Rattle.std.proofs.lemmas.Bool.Decides.{nat_tests}
-use Rattle.std.proofs.lemmas.Option.{get_or_from_slice_get, slice_get-get_or}
-use Rattle.std.specs.Prelude.{Option, Decides, Contains, All, get_or, slice_get, slice_index_or}
+use Rattle.std.specs.Prelude.{Option, Decides, Contains, All, get_or, slice_get}
 use Rattle.model_history.specs.Rails.{Ends, Rails, single}
 use Rattle.model_line.specs.{declared.line.Line.Line, declared.script.Script.Script}
 use Rattle.model_line.specs.Parameters.{param_count}
-use Rattle.model_logic.specs.{Boxes.box_of, PairMean.PairWorld, Tree.Tree}
+use Rattle.model_logic.specs.{Boxes.box_of, Tree.Tree}
 use Rattle.model_logic.specs.Choice.{Box, LeastFromOne, pair_world_of}
 use Rattle.model_logic.specs.Histories.{PairHistory}
 use Rattle.model_cases.specs.Assumed.{Assumption, assumed_level, wanted}
@@ -25,7 +24,6 @@ use Rattle.judge_cases.specs.declared.view.View.{View}
 use Rattle.judge_cases.specs.Views.{AreViews, AreCases, interval_of, view_box}
 use Rattle.judge_cases.specs.Spans.{AreViewSpans, view_in}
 use Rattle.judge_cases.specs.{Puts.views_level, Puts.assumed_of, Excluded.OneExcluded}
-use Rattle.judge_cases.specs.Excluded.{ExcludedIn}
 use Rattle.judge_cases.specs.Analyses.{IsHistoryOf}
 use Rattle.judge_cases.proofs.OneGate.{GatesAreTheirKinds}
 use Rattle.judge_cases.proofs.WantExists.{want_exists}

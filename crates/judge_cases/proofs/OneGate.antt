@@ -1,5 +1,5 @@
 -- No two gates of a net stand for the same tree.
-use Rattle.std.proofs.Common.{◌≡◌, ◌<◌, ◌≤◌, ℕ, zero, suc, List, Some, length, refl, sym, ◌∙◌, ap}
+use Rattle.std.proofs.Common.{◌≡◌, ◌<◌, ◌≤◌, ℕ, zero, suc, List, Some, length, sym, ◌∙◌, ap}
 use Rattle.std.proofs.Common.{subst, arith, ⊎_elim, rules}
 use Rattle.std.proofs.lemmas.Bool.{cases_lt}
 use Rattle.std.specs.Prelude.{slice_get}

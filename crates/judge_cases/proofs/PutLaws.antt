@@ -1,12 +1,12 @@
 -- What masks put in a lane, with one assumption more.
-use Rattle.std.proofs.Common.{◌≡◌, ◌≢◌, ◌<◌, ◌≤◌, ◌+◌, ◌-◌, ◌*◌, ◌/◌, ◌%◌, ◌==◌, ◌&&◌, ℕ, zero, suc}
-use Rattle.std.proofs.Common.{Bool, true, false, List, [], ◌∷◌, Some, None, length, drop, refl, sym}
-use Rattle.std.proofs.Common.{◌∙◌, ap, subst, arith, ⊎_elim, eq-eqb, eqb-true}
+use Rattle.std.proofs.Common.{◌≡◌, ◌≢◌, ◌<◌, ◌+◌, ◌*◌, ◌/◌, ◌%◌, ◌==◌, ◌&&◌, ℕ}
+use Rattle.std.proofs.Common.{Bool, true, false, List, [], ◌∷◌, Some, None, length, refl, sym}
+use Rattle.std.proofs.Common.{◌∙◌, ap, subst, ⊎_elim, eq-eqb, eqb-true}
 use Rattle.std.proofs.lemmas.Nat.{mod-mul-add, div-mul-add}
 use Rattle.std.proofs.lemmas.Bool.{and_parts, and_from}
 use Rattle.std.proofs.lemmas.Option.{slice_get_within}
 use Rattle.std.proofs.lemmas.List.Elements.{recursion_from_All}
-use Rattle.std.specs.Prelude.{IsTrue, Option, cond, slice_get, slice_set}
+use Rattle.std.specs.Prelude.{Option, cond, slice_get, slice_set}
 use Rattle.std.specs.List.{AllByRecursion}
 use Rattle.model_line.specs.{declared.line.Line.Line, Parameters.terminal_count}
 use Rattle.model_logic.specs.Tree.{Tree}

@@ -1,20 +1,20 @@
 -- Views of boxes, and of their halves.
-use Rattle.std.proofs.Common.{◌≡◌, ◌≢◌, ◌<◌, ◌≤◌, ◌⊎◌, ℕ, Bool, List, [], ◌∷◌, Some, length, refl}
+use Rattle.std.proofs.Common.{◌≡◌, ◌≢◌, ◌<◌, ◌≤◌, ◌⊎◌, ℕ, Bool, List, [], Some, length}
 use Rattle.std.proofs.Common.{sym, ◌∙◌, ap, subst, arith, ⊎_elim, inl, inr, length-set, eq-eqb}
 use Rattle.std.proofs.lemmas.Bool.{ne_eqb}
 use Rattle.std.proofs.lemmas.Option.{slice_get-get_or}
 use Rattle.std.proofs.lemmas.List.Elements.{All-nil, All-cons}
-use Rattle.std.specs.Prelude.{IsTrue, cond, get_or, slice_get, slice_set}
+use Rattle.std.specs.Prelude.{IsTrue, cond, slice_get, slice_set}
 use Rattle.model_history.specs.Rails.{Ends, single}
 use Rattle.model_line.specs.Parameters.{param_count, channel_count, delay_param, declared_ends}
 use Rattle.model_line.specs.Parameters.{is_delay}
 use Rattle.model_line.specs.{declared.line.Line.Line, Laws.DelaysAreParameters}
-use Rattle.model_logic.specs.Boxes.{IsSameBox, box_with, ends_with}
-use Rattle.model_logic.specs.Choice.{Box, LeastFromOne, declared_box}
+use Rattle.model_logic.specs.Boxes.{box_with, ends_with}
+use Rattle.model_logic.specs.Choice.{Box, declared_box}
 use Rattle.model_cases.specs.Assumed.{Assumption}
 use Rattle.model_cases.specs.CaseTrees.{HasCases, with_case}
 use Rattle.judge_cases.specs.declared.view.View.{View}
-use Rattle.judge_cases.specs.Views.{IsView, Views, AreCases, interval_of, view_box}
+use Rattle.judge_cases.specs.Views.{IsView, Views, AreCases, interval_of}
 use Rattle.judge_cases.proofs.ListLaws.{at_set}
 
 ends_here : (ends : ℕ → Ends) (param : ℕ) (new : Ends) (i : ℕ) → i ≡ param

@@ -1,14 +1,12 @@
 -- A net of a line has a gate that a weak terminal's echo starts from.
-use Rattle.std.proofs.Common.{◌≡◌, ◌<◌, ℕ, List, Some, refl, sym, ◌∙◌, ap, subst, arith, length}
-use Rattle.std.specs.Prelude.{IsTrue, slice_get}
+use Rattle.std.proofs.Common.{◌≡◌, ◌<◌, ℕ, List, sym, ◌∙◌, subst, arith, length}
+use Rattle.std.specs.Prelude.{IsTrue}
 use Rattle.model_line.specs.{declared.line.Line.Line, Parameters.terminal_count}
 use Rattle.model_logic.specs.{Elements.is_weak, Tree.Tree}
 use Rattle.model_logic.specs.Tree as tree
 use Rattle.model_cases.specs.Assumed.{wanted}
-use Rattle.net_gates.specs.declared.gate.GateId.{GateId}
 use Rattle.net_gates.specs.declared.gate.Gate.{Gate}
-use Rattle.net_gates.specs.declared.gate.Gate.TheVariants.{Const, Seen, Loss, Raw, Not, And, Or}
-use Rattle.net_gates.specs.declared.gate.Gate.TheVariants.{Timer, Seal}
+use Rattle.net_gates.specs.declared.gate.Gate.TheVariants.{And, Or}
 use Rattle.net_gates.specs.Laws.{AreGates, HasArguments}
 use Rattle.net_gates.specs.Formulas.{formula_of, kind_over, Stands}
 use Rattle.net_gates.specs.NetOf.{NetOf, IsNetOf, key_of}

@@ -1,6 +1,5 @@
 -- What an analysis of views says.
-use Rattle.std.specs.Prelude.{◌≡◌, ◌<◌, ◌≤◌, ◌⊎◌, ℕ, Bool, List, Some, Decides, length, slice_get}
-use Rattle.model_history.specs.Rails.{Rails}
+use Rattle.std.specs.Prelude.{◌≡◌, ◌<◌, ◌≤◌, ℕ, Bool, List, Some, Decides, length, slice_get}
 use Rattle.model_line.specs.{declared.line.Line.Line, declared.script.Script.Script}
 use Rattle.model_logic.specs.Choice.{pair_world_of}
 use Rattle.model_logic.specs.Histories.{PairHistory}

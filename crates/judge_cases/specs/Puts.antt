@@ -1,5 +1,5 @@
 -- The masks that put what views assume.
-use Rattle.std.specs.Prelude.{◌≡◌, ◌<◌, ◌+◌, ◌*◌, ℕ, Bool, List, [], Option, None, Some, length}
+use Rattle.std.specs.Prelude.{◌≡◌, ◌<◌, ◌+◌, ◌*◌, ℕ, List, [], Option, None, Some}
 use Rattle.std.specs.Prelude.{slice_get, nat_lt, if◌then◌else◌}
 use Rattle.model_line.specs.declared.line.Line.{Line}
 use Rattle.model_cases.specs.Assumed.{Assumption, assumed_level}

@@ -1,7 +1,7 @@
 -- The rows of masks: one for each gate that a weak terminal's echo starts from.
 use Rattle.std.specs.Prelude.{◌≡◌, ◌≢◌, ◌<◌, ℕ, IsTrue, List, Option, None, Some, length}
 use Rattle.std.specs.Prelude.{slice_get}
-use Rattle.model_line.specs.{declared.line.Line.Line, Parameters.terminal_count}
+use Rattle.model_line.specs.{declared.line.Line.Line}
 use Rattle.model_logic.specs.Elements.{is_weak}
 use Rattle.model_cases.specs.Assumed.{wanted}
 use Rattle.net_gates.specs.{NetOf.NetOf, Formulas.formula_of}

@@ -1,7 +1,6 @@
 use Rattle.std.proofs.Common.{◌≡◌, ◌<◌, ◌≤◌, Some, List, length, sym, ◌∙◌, ap, subst, arith}
 use Rattle.std.proofs.lemmas.Option.{slice_get_within}
 use Rattle.std.specs.Prelude.{slice_get}
-use Rattle.net_gates.specs.NetLaws.{GatesStandForTheirTrees}
 use Rattle.run_signal.specs.Bits.{bit_on}
 use Rattle.judge_boxes.specs.Spans.{SpanLists}
 use Rattle.judge_cases.specs.{Spans.AreViewSpans, Spans.view_in, Puts.views_level}

@@ -1,9 +1,9 @@
-use Rattle.std.proofs.Common.{◌≡◌, ◌<◌, ◌≤◌, ℕ, Some, length, refl, sym, ◌∙◌, ap, subst, arith, ⊎_elim}
+use Rattle.std.proofs.Common.{◌≡◌, ◌<◌, ◌≤◌, Some, length, refl, sym, ◌∙◌, ap, subst, arith, ⊎_elim}
 use Rattle.std.proofs.lemmas.Bool.{cases_lt}
 use Rattle.std.proofs.lemmas.Option.{slice_get_read, slice_get-get_or}
-use Rattle.std.specs.Prelude.{slice_get, get_or}
+use Rattle.std.specs.Prelude.{slice_get}
 use Rattle.model_cases.specs.Assumed.{Assumption}
-use Rattle.judge_cases.specs.Excluded.{ExcludedIn, OneExcluded}
+use Rattle.judge_cases.specs.Excluded.{ExcludedIn}
 use Rattle.judge_cases.proofs.analysis.is_excluded.Goals as goal
 
 one_value : (x y : Assumption) {o : _} → o ≡ Some x → o ≡ Some y → x ≡ y

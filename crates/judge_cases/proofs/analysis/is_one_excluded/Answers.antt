@@ -4,7 +4,6 @@ use Rattle.model_cases.specs.Assumed.{wanted}
 use Rattle.net_gates.specs.Formulas.{formula_of}
 use Rattle.model_history.specs.Rails.{Rails}
 use Rattle.model_cases.specs.Under.{Excludes}
-use Rattle.net_gates.specs.NetLaws.{GatesStandForTheirTrees}
 use Rattle.run_simulator.specs.WavesOf.{pair_in}
 use Rattle.run_cases.specs.UnderWaves.{own_wave}
 use Rattle.judge_boxes.specs.Terns.{terns_rails}

@@ -1,4 +1,4 @@
-use Rattle.std.proofs.Common.{◌≡◌, ◌<◌, ◌≤◌, ◌+◌, ◌||◌, ℕ, Bool, sym, ◌∙◌, ap, subst, arith}
+use Rattle.std.proofs.Common.{◌≡◌, ◌≤◌, ◌+◌, ◌||◌, ℕ, Bool, sym, ◌∙◌, ap, arith}
 use Rattle.model_history.specs.Rails.{Rails, must_of, may_of}
 use Rattle.model_history.specs.Elements.{some_below}
 use Rattle.run_simulator.specs.{LaneLaws.some_through, WavesOf.pair_in}

@@ -1,4 +1,4 @@
-use Rattle.std.proofs.Common.{◌≡◌, ◌≢◌, ◌<◌, ◌≤◌, ◌+◌, ◌*◌, ℕ, List, [], Some, length, refl, sym, ◌∙◌}
+use Rattle.std.proofs.Common.{◌≡◌, ◌<◌, ◌≤◌, ◌+◌, ◌*◌, ℕ, List, [], Some, length, refl, sym, ◌∙◌}
 use Rattle.std.proofs.Common.{ap, arith, subst, ⊎_elim}
 use Rattle.std.proofs.lemmas.Bool.{cases_eq}
 use Rattle.std.proofs.lemmas.Option.{slice_get_read}
@@ -6,7 +6,6 @@ use Rattle.std.specs.Prelude.{Option, slice_get}
 use Rattle.model_line.specs.Parameters.{terminal_count}
 use Rattle.model_cases.specs.Assumed.{Assumption, assumed_level}
 use Rattle.net_gates.specs.Formulas.{formula_of}
-use Rattle.net_gates.specs.NetLaws.{GatesStandForTheirTrees}
 use Rattle.run_cases.specs.Masks.{IsMask}
 use Rattle.run_cases.specs.declared.mask.Mask.{Mask}
 use Rattle.judge_boxes.specs.declared.terns.Terns64.{Terns64}

@@ -1,4 +1,4 @@
-use Rattle.std.proofs.Common.{◌≡◌, ◌<◌, ◌+◌, ◌-◌, ◌∷◌, ℕ, suc, List, length, drop, sym, ◌∙◌, ap}
+use Rattle.std.proofs.Common.{◌≡◌, ◌<◌, ◌+◌, ◌-◌, ◌∷◌, ℕ, suc, length, drop, sym, ◌∙◌, ap}
 use Rattle.std.proofs.Common.{arith, subst}
 use Rattle.std.specs.Prelude.{get_or}
 use Rattle.model_line.specs.Parameters.{terminal_count}

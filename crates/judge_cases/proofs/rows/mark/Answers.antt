@@ -1,5 +1,4 @@
 use Rattle.std.proofs.Common.{◌∙◌, sym}
-use Rattle.net_gates.specs.NetLaws.{GatesStandForTheirTrees}
 use Rattle.judge_cases.proofs.RowLaws.{rows_same, rows_more}
 use Rattle.judge_cases.proofs.OneGate.{one_gate}
 use Rattle.judge_cases.proofs.rows.mark.Goals as goal

@@ -1,4 +1,4 @@
-use Rattle.std.proofs.Common.{◌≡◌, ℕ, Bool, Some, List, ◌∷◌, [], sym, ◌∙◌, ap, subst, zero, suc}
+use Rattle.std.proofs.Common.{◌≡◌, ℕ, Bool, Some, List, ◌∷◌, [], sym, ap, subst, zero, suc}
 use Rattle.std.specs.Prelude.{Decides, slice_get}
 use Rattle.model_line.specs.declared.line.Line.{Line}
 use Rattle.judge_cases.specs.declared.view.View.{View}

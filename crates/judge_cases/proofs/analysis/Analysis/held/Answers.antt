@@ -3,7 +3,7 @@ use Rattle.std.proofs.lemmas.Option.{slice_get_within}
 use Rattle.model_history.specs.Rails.{Rails, must_of}
 use Rattle.model_history.specs.Elements.{some_below}
 use Rattle.model_line.specs.declared.script.Kind.{Kind}
-use Rattle.model_logic.specs.{Rule.is_held, Laws.LineLaws}
+use Rattle.model_logic.specs.{Rule.is_held}
 use Rattle.run_signal.specs.Bits.{bit_on}
 use Rattle.run_cases.specs.UnderWaves.{wave_pair}
 use Rattle.judge_boxes.specs.Terns.{terns_rails}
