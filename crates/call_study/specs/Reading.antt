@@ -1,5 +1,5 @@
--- What the files of a request say: the picture that is asked for, or why there is none, by the
--- first file that is too long or that a reader refuses, and then by a name that its file has not.
+-- What the files of a request say: what is wanted over them, or why it can't be done, by the first
+-- file that is too long or that a reader refuses, and then by a name that its file has not.
 use Rattle.std.specs.Prelude.{◌≡◌, ◌∷◌, ℕ, List, [], Option, None, Some, Result, Ok, Err, slice_get}
 use Rattle.model_line.specs.{declared.line.Line.Line, declared.script.Script.Script}
 use Rattle.model_timing.specs.NamedValues.{NamedValues}
@@ -14,13 +14,13 @@ use Rattle.call_study.specs.Request as request
 use Rattle.call_study.specs.{Chosen.chosen_script, Chosen.chosen_timing, Request.Asked}
 
 -- a picture, over what its files say
-pub data Drawn : Type 0 where
-  bands : Line → Script → Drawn
-  play : Form → Line → Script → NamedValues → Drawn
+pub data Wanted : Type 0 where
+  bands : Line → Script → Wanted
+  play : Form → Line → Script → NamedValues → Wanted
 
--- what holds of the picture, or of why there is none
+-- what holds of what is wanted, or of why it can't be done
 abbrev pub Reading : Type 1
-Reading = (Halt → Type 0) → (Drawn → Type 0) → Type 0
+Reading = (Halt → Type 0) → (Wanted → Type 0) → Type 0
 
 -- a file is refused
 abbrev pub refused_by : Refusal → Halt
