@@ -7,7 +7,7 @@ ghost use Rattle.model_line.specs.Fits.{Fits};
 ghost use Rattle.model_timing.specs.{Inside.IsTimingInside, NamedValues.values_of};
 ghost use Rattle.call_study.specs.{Answers.answer_by, Answers.answer_of, Ends.Gives};
 ghost use Rattle.call_commands.specs.declared.done.Done.TheVariants.{Good};
-ghost use Rattle.call_study.specs.Reading.{bands_of, play as a_play, play_of};
+ghost use Rattle.call_study.specs.Reading.{bands_of, play as a_play, play_of, settle_of};
 
 use crate::ask::Form;
 use crate::choose::{choose_script, choose_timing};
@@ -15,6 +15,7 @@ use crate::halt::Halt;
 use crate::pictures::{bands_text, dump_text, run_text};
 use call_commands::Said;
 use call_pilot::read_study;
+use call_settle::settle_table;
 use file_timing::read_timings;
 use model_line::{Line, Memory, Script};
 use model_timing::NamedTiming;
@@ -37,6 +38,20 @@ pub fn bands(
     };
     let text = bands_text(alloc, &study.line, &study.net, &study.scripts[i])?;
     Ok(Said::good(text))
+}
+
+/// Each obligation settled, with at most so many analyses for each.
+pub fn settle(
+    alloc: Global,
+    line: &[u8],
+    scripts: &[u8],
+    analyses: u32,
+) -> Result<Said, Halt>
+    ensures { Gives (answer_by (settle_of line.now scripts.now)) result }
+{
+    let study = read_study(alloc, line, scripts)?;
+    let said = settle_table(alloc, &study, analyses)?;
+    Ok(said)
 }
 
 /// A play in that form.

@@ -7,11 +7,11 @@ ghost use Rattle.call_study.specs.Answers.{answer_over};
 ghost use Rattle.call_study.specs.{Clauses.Clauses, Ends.EndsOf, Ends.Fetched};
 ghost use Rattle.call_study.specs.{Halts.IsDone, Halts.IsEarly};
 ghost use Rattle.call_study.specs.Request.{bands as asked_bands, files_of, files_over};
-ghost use Rattle.call_study.specs.Request.{play as asked_play, request_of};
+ghost use Rattle.call_study.specs.Request.{play as asked_play, request_of, settle as asked_settle};
 
-use crate::ask::{Ask, Form, Picture};
+use crate::ask::{Ask, Form, Work};
 use crate::halt::{Halt, put_halt};
-use crate::read::{bands, play};
+use crate::read::{bands, play, settle};
 use base_store::{Sink, Store, put_all};
 use call_commands::{Done, Said};
 use call_pilot::{File, fetch_file};
@@ -77,9 +77,9 @@ fn said_of<S: Store>(alloc: Global, ask: &Ask<'_>, store: &mut S) -> Result<Said
         (S.held store.old) (files_of (request_of ask.now)) (S.faults store.old)
         (S.faults store.new) result }
 {
-    match ask.picture {
-        Picture::Bands => bands_over(alloc, ask.line, ask.scripts, ask.script, store),
-        Picture::Play {
+    match ask.work {
+        Work::Bands => bands_over(alloc, ask.line, ask.scripts, ask.script, store),
+        Work::Play {
             form,
             timings,
             timing,
@@ -91,6 +91,14 @@ fn said_of<S: Store>(alloc: Global, ask: &Ask<'_>, store: &mut S) -> Result<Said
             timings,
             ask.script,
             timing,
+            store,
+        ),
+        Work::Settle { analyses } => settle_over(
+            alloc,
+            ask.line,
+            ask.scripts,
+            ask.script,
+            analyses,
             store,
         ),
     }
@@ -110,6 +118,23 @@ fn bands_over<S: Store>(
     let line = fetch_file(alloc, store, File::Line, line)?;
     let scripts = fetch_file(alloc, store, File::Scripts, scripts)?;
     bands(alloc, line.as_slice(), scripts.as_slice(), script)
+}
+
+fn settle_over<S: Store>(
+    alloc: Global,
+    line: &str,
+    scripts: &str,
+    script: Option<&str>,
+    analyses: u32,
+    store: &mut S,
+) -> Result<Said, Halt>
+    ensures { Fetched (answer_over (option_copied script.entry) asked_settle) (S.held store.old)
+        (files_over line.now scripts.now asked_settle) (S.faults store.old)
+        (S.faults store.new) result }
+{
+    let line = fetch_file(alloc, store, File::Line, line)?;
+    let scripts = fetch_file(alloc, store, File::Scripts, scripts)?;
+    settle(alloc, line.as_slice(), scripts.as_slice(), analyses)
 }
 
 fn play_over<S: Store>(
