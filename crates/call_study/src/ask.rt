@@ -22,7 +22,9 @@ pub enum Work<'a> {
         timing: Option<&'a str>,
     },
     /// An answer to each obligation, with at most so many analyses of boxes for each.
-    Settle { analyses: u32 },
+    Settle {
+        analyses: u32,
+    },
 }
 
 /// How a play is shown: as a timing diagram, or as a value change dump.

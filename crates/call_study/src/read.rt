@@ -23,12 +23,7 @@ use net_gates::Net;
 use std::alloc::Global;
 
 /// The diagram of every choice of delays.
-pub fn bands(
-    alloc: Global,
-    line: &[u8],
-    scripts: &[u8],
-    script: Option<&str>,
-) -> Result<Said, Halt>
+pub fn bands(alloc: Global, line: &[u8], scripts: &[u8], script: Option<&str>) -> Result<Said, Halt>
     ensures { Gives (answer_by (bands_of line.now scripts.now (option_copied script.entry)))
         result }
 {
@@ -41,12 +36,7 @@ pub fn bands(
 }
 
 /// Each obligation settled, with at most so many analyses for each.
-pub fn settle(
-    alloc: Global,
-    line: &[u8],
-    scripts: &[u8],
-    analyses: u32,
-) -> Result<Said, Halt>
+pub fn settle(alloc: Global, line: &[u8], scripts: &[u8], analyses: u32) -> Result<Said, Halt>
     ensures { Gives (answer_by (settle_of line.now scripts.now)) result }
 {
     let study = read_study(alloc, line, scripts)?;
