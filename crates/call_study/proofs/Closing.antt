@@ -5,7 +5,7 @@ use Rattle.std.specs.Io.KnownBytes.{Appends}
 use Rattle.base_store.specs.{Counts.Rose, Sink.GrewByPart, SinkLaws.part_of_proper}
 use Rattle.call_commands.specs.{Sinks.GrewByAll, Sinks.Puts, Sinks.SinkView}
 use Rattle.call_commands.specs.SinkLaws.{appends_none}
-use Rattle.call_pilot.specs.Files.{AllTold, NamedFile, NoneRose, StoreCause}
+use Rattle.call_pilot.specs.Files.{NamedFile, NoneRose, StoreCause}
 use Rattle.call_pilot.specs.declared.stop.File.{File}
 use Rattle.call_pilot.specs.declared.stop.Stop.TheVariants as stop
 use Rattle.call_study.specs.{Answers.answer_over, Clauses.Call, Clauses.Clauses, Clauses.IsTold}
@@ -73,7 +73,7 @@ module _ {K : Type 0} (view : K → SinkView) (old new : K) (files : List ℕ �
     same_out is = rw is (appends_none (view old).written)
 
     answered : (end : End) → EndsSo end → IsAnswer end → IsTold seen → OutIsAnswer seen end
-    answered (Ok tt) e is told = record {
+    answered (Ok d) e is told = record {
       text = e.1.text;
       is = e.1.is told;
       out = e.1.grew.taken;
@@ -109,7 +109,7 @@ module _ {K : Type 0} (view : K → SinkView) (old new : K) (files : List ℕ �
         → Rose (view old).faults (view new).faults × (IsTold seen → OutIsFront seen)
     sink_failed end e is = let f = rw is at e in (
       f.1.grew.0,
-      λ told. record { text = f.1.text; is = f.1.is told; out = f.1.grew.1 },
+      λ told. record { text = f.1.text; is = (f.1.is.0, f.1.is.1 told); out = f.1.grew.1 },
     )
 
     same_faults : {X : Type 0} → new ≡ old → (view old).faults < (view new).faults → X

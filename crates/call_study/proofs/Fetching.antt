@@ -1,8 +1,8 @@
 -- What a call gives once its files are fetched.
 use Rattle.std.proofs.Common.{◌≡◌, ℕ, ◌<◌, ◌≤◌, false, true, List, [], ◌∷◌, Option, None, Some, IsSome, IfSome}
-use Rattle.std.proofs.Common.{Vec, Result, Ok, Err, length, nat_lt, unwrap_or, refl, sym, ◌∙◌}
+use Rattle.std.proofs.Common.{Result, Ok, Err, length, nat_lt, unwrap_or, refl, sym, ◌∙◌}
 use Rattle.std.proofs.Common.{inl, inr, subst, arith}
-use Rattle.std.specs.declared.alloc.Global.{Global}
+use Rattle.call_commands.specs.declared.said.Said.{Said}
 use Rattle.base_store.specs.Store.{SameCounts}
 use Rattle.call_pilot.specs.Files.{AllTold, Fetches, NamedFile, StoreCause, contents, in_front}
 use Rattle.call_pilot.specs.Files.{limit_of}
@@ -45,11 +45,11 @@ cause_from files c1 c2 c3 (a ∷ rest) file same cause = elim cause [
 module _ (files : List ℕ → Option (List ℕ)) where
   -- with no more files to fetch
   pub fetched_all : (next : Result (List (List ℕ)) File → Answers) (c : List ℕ → ℕ)
-      (r : Result (Vec ℕ Global) Halt) → Gives (next (Ok [])) r → Fetched next files [] c c r
+      (r : Result Said Halt) → Gives (next (Ok [])) r → Fetched next files [] c c r
   fetched_all next c r g = by_result r
       (gives_wider (next (Ok [])) (over_told next files []) r (λ end text a _. a) g)
     where
-      by_result : (r : Result (Vec ℕ Global) Halt) → Gives (over_told next files []) r
+      by_result : (r : Result Said Halt) → Gives (over_told next files []) r
           → Fetched next files [] c c r
       by_result (Ok v) given = ((λ name. refl), given)
       by_result (Err (halt.Stopped stop.Usage)) given = absurd given
@@ -89,7 +89,7 @@ module _ (files : List ℕ → Option (List ℕ)) where
         let t = not_above (limit_of a.file) (length v) short in
         rw (e, t) refl
 
-    go_on : (r : Result (Vec ℕ Global) Halt) → Gives (over_told later files rest) r
+    go_on : (r : Result Said Halt) → Gives (over_told later files rest) r
         → Gives (over_told next files (a ∷ rest)) r
     go_on r g = gives_wider (over_told later files rest) (over_told next files (a ∷ rest)) r
         (λ end text p told. subst (λ (x : Result (List (List ℕ)) File). next x end text)
@@ -99,7 +99,7 @@ module _ (files : List ℕ → Option (List ℕ)) where
     same_both more = λ name. more name ∙ same name
 
     -- once the first file is fetched
-    pub fetched_next : (r : Result (Vec ℕ Global) Halt) → Fetched later files rest c2 c3 r
+    pub fetched_next : (r : Result Said Halt) → Fetched later files rest c2 c3 r
         → Fetched next files (a ∷ rest) c1 c3 r
     fetched_next (Ok w) f = (same_both f.0, go_on (Ok w) f.1)
     fetched_next (Err (halt.Stopped stop.Usage)) f = absurd f.1

@@ -1,7 +1,6 @@
 -- What holds of what was read, and of what is chosen of it.
 use Rattle.std.proofs.Common.{◌≡◌, ◌∷◌, ◌<◌, ℕ, suc, zero, List, [], length, Option, None, Some}
-use Rattle.std.proofs.Common.{Result, Ok, Err, Vec, refl, subst, sym, slice_get, arith}
-use Rattle.std.specs.declared.alloc.Global.{Global}
+use Rattle.std.proofs.Common.{Result, Ok, Err, refl, subst, sym, slice_get, arith}
 use Rattle.std.specs.List.{All}
 use Rattle.model_line.specs.{declared.line.Line.Line, declared.script.Script.Script}
 use Rattle.file_line.specs.{LineFiles.line_of, Lines.LineValues}
@@ -12,7 +11,8 @@ use Rattle.file_timing.specs.Gives as timing_reading
 use Rattle.file_timing.specs.declared.fault.TimingFault.{TimingFault}
 use Rattle.file_timing.specs.declared.fault.TimingFault.TheVariants as timing_fault
 use Rattle.model_timing.specs.{Inside.IsTimingInside, NamedValues.NamedValues}
-use Rattle.call_commands.specs.{Study.IsStudy, declared.study.Study.Study}
+use Rattle.call_commands.specs.{Study.IsStudy, declared.said.Said.Said}
+use Rattle.call_commands.specs.{declared.study.Study.Study}
 use Rattle.call_pilot.specs.Reading.{of_line, of_scripts, of_study, of_timings}
 use Rattle.call_pilot.specs.{Stops.timing_stop, Study.IsSaid, Study.ReadsStudy}
 use Rattle.call_pilot.specs.declared.refusal.Refusal.{Refusal}
@@ -60,7 +60,7 @@ placed_at (x ∷ rest) (suc i) less = placed_at rest i (omega arith)
 -- ---- refusals
 
 -- what may be answered may be answered by more
-pub gives_wider : (allowed more : Answers) (r : Result (Vec ℕ Global) Halt)
+pub gives_wider : (allowed more : Answers) (r : Result Said Halt)
     → ((end : End) (text : List ℕ) → allowed end text → more end text)
     → Gives allowed r → Gives more r
 gives_wider allowed more (Ok v) wider given = wider _ _ given

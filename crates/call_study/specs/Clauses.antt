@@ -1,5 +1,5 @@
 -- The clauses of the top call.
-use Rattle.std.specs.Prelude.{◌≡◌, ◌⊎◌, ◌<◌, ℕ, List, Option, Ok, Err}
+use Rattle.std.specs.Prelude.{◌≡◌, ◌⊎◌, ◌<◌, ℕ, List, Option, Err}
 use Rattle.std.specs.Io.KnownBytes.{Appends}
 use Rattle.base_store.specs.{Counts.Rose, Sink.GrewByPart, Sink.GrewByProper}
 use Rattle.call_commands.specs.Sinks.{GrewByAll, SinkView}
@@ -7,7 +7,8 @@ use Rattle.call_pilot.specs.Files.{AllTold, NoneRose, StoreCause}
 use Rattle.call_pilot.specs.declared.stop.File.{File}
 use Rattle.call_pilot.specs.declared.stop.Stop.TheVariants as stop
 use Rattle.call_study.specs.declared.halt.Halt.TheVariants as halt
-use Rattle.call_study.specs.{Answers.answers, Halts.End, Halts.IsAnswer, Halts.line_of}
+use Rattle.call_study.specs.{Answers.answers, Ends.WithSomeStatus, Halts.End, Halts.IsAnswer}
+use Rattle.call_study.specs.Halts.{line_of}
 use Rattle.call_study.specs.Request.{Request, files_of}
 
 -- what a clause sees of a call: what is asked for, the bytes that the store tells under each name,
@@ -41,22 +42,22 @@ pub record OutIsAnswer (call : Call) (end : End) : Type 0 where
   pub is : MayAnswer call end text
   pub out : Appends call.out_old.written call.out_new.written text
 
--- out grew by a proper front of the text of a picture that may be answered
+-- out grew by a proper front of a text that may be answered
 pub record OutIsFront (call : Call) : Type 0 where
   pub text : List ℕ
-  pub is : MayAnswer call (Ok tt) text
+  pub is : WithSomeStatus (MayAnswer call) text
   pub out : GrewByProper call.out_old.written call.out_new.written text
 
 -- what is promised of a call that ends so
 pub record Clauses (call : Call) (end : End) : Type 0 where
-  -- Drawn, a file refused, or a name unknown: the files say so, and out grew by exactly the text.
+  -- Done, a file refused, or a name unknown: the files say so, and out grew by exactly the text.
   pub answered : IsAnswer end → IsTold call → OutIsAnswer call end
   -- A store fault comes only where the count of that file rose, and always where a count of the
   -- store is greater than before.
   pub store_failed : (file : File) → end ≡ Err (halt.Stopped (stop.Store file)) → IsCause call file
   pub store_told : (name : List ℕ) → call.faults_old name < call.faults_new name
       → (file : File) × (end ≡ Err (halt.Stopped (stop.Store file)))
-  -- A sink fault comes only where the count of out rose, with a proper front of the picture on out,
+  -- A sink fault comes only where the count of out rose, with a proper front of the answer on out,
   -- and always where the count is greater than before.
   pub sink_failed : end ≡ Err (halt.Stopped stop.Sink)
       → Rose call.out_old.faults call.out_new.faults × (IsTold call → OutIsFront call)

@@ -1,7 +1,7 @@
 -- How each layer of the call ends, by cases on its result.
-use Rattle.std.specs.Prelude.{◌≡◌, ℕ, Vec, List, [], Option, Result, Ok, Err, ⊤}
-use Rattle.std.specs.declared.alloc.Global.{Global}
+use Rattle.std.specs.Prelude.{◌≡◌, ℕ, List, [], Option, Result, Ok, Err, ⊤}
 use Rattle.base_store.specs.{Counts.Rose, Sink.GrewByProper, Store.SameCounts}
+use Rattle.call_commands.specs.{declared.done.Done.Done, declared.said.Said.Said}
 use Rattle.call_commands.specs.Sinks.{GrewByAll, SinkView}
 use Rattle.call_pilot.specs.Files.{AllTold, NamedFile, StoreCause, contents}
 use Rattle.call_pilot.specs.declared.stop.{File.File}
@@ -9,9 +9,9 @@ use Rattle.call_pilot.specs.declared.stop.Stop.TheVariants as stop
 use Rattle.call_study.specs.{Answers.Answers, Halts.End, declared.halt.Halt.Halt}
 use Rattle.call_study.specs.declared.halt.Halt.TheVariants as halt
 
--- a text, or why there is none, is such an answer
-abbrev pub Gives : Answers → Result (Vec ℕ Global) Halt → Type 0
-Gives allowed (Ok v) = allowed (Ok tt) v.items
+-- a status with a text, or why there is none, is such an answer
+abbrev pub Gives : Answers → Result Said Halt → Type 0
+Gives allowed (Ok said) = allowed (Ok said.status) said.text.items
 Gives allowed (Err (halt.Stopped stop.Usage)) = ⊥
 Gives allowed (Err (halt.Stopped (stop.Refused why))) =
     allowed (Err (halt.Stopped (stop.Refused why))) []
@@ -29,17 +29,21 @@ over_told next files asked end text = AllTold files asked → next (contents fil
 
 -- the same, once these files are fetched
 abbrev pub Fetched : (Result (List (List ℕ)) File → Answers) → (List ℕ → Option (List ℕ))
-    → List NamedFile → (List ℕ → ℕ) → (List ℕ → ℕ) → Result (Vec ℕ Global) Halt → Type 0
+    → List NamedFile → (List ℕ → ℕ) → (List ℕ → ℕ) → Result Said Halt → Type 0
 Fetched next files asked counts_old counts_new (Err (halt.Stopped (stop.Store file))) =
     StoreCause files counts_old counts_new asked file
 Fetched next files asked counts_old counts_new result =
     SameCounts counts_old counts_new × Gives (over_told next files asked) result
 
--- the text of a picture is put on out, whole, or a proper front of it, and out's count rose
-pub record Put (allowed : Answers) (old new : SinkView)
+-- a text that may be answered with some status
+abbrev pub WithSomeStatus : Answers → List ℕ → Type 0
+WithSomeStatus allowed text = (done : Done) × allowed (Ok done) text
+
+-- such a text is put on out, whole, or a proper front of it, and out's count rose
+pub record Put (IsText : List ℕ → Type 0) (old new : SinkView)
     (Grew : SinkView → SinkView → List ℕ → Type 0) : Type 0 where
   pub text : List ℕ
-  pub is : allowed (Ok tt) text
+  pub is : IsText text
   pub grew : Grew old new text
 
 abbrev pub GrewInPart : SinkView → SinkView → List ℕ → Type 0
@@ -50,8 +54,9 @@ GrewInPart old new text =
 abbrev pub EndsOf : {K : Type 0} → (K → SinkView) → (Result (List (List ℕ)) File → Answers)
     → (List ℕ → Option (List ℕ)) → List NamedFile → (List ℕ → ℕ) → (List ℕ → ℕ) → K → K → End
     → Type 0
-EndsOf view next files asked c1 c2 old new (Ok _) =
-    SameCounts c1 c2 × Put (over_told next files asked) (view old) (view new) GrewByAll
+EndsOf view next files asked c1 c2 old new (Ok done) =
+    SameCounts c1 c2
+    × Put (over_told next files asked (Ok done)) (view old) (view new) GrewByAll
 EndsOf view next files asked c1 c2 old new (Err (halt.Stopped stop.Usage)) = ⊥
 EndsOf view next files asked c1 c2 old new (Err (halt.Stopped (stop.Refused why))) =
     SameCounts c1 c2 × (new ≡ old)
@@ -59,7 +64,8 @@ EndsOf view next files asked c1 c2 old new (Err (halt.Stopped (stop.Refused why)
 EndsOf view next files asked c1 c2 old new (Err (halt.Stopped (stop.Store file))) =
     StoreCause files c1 c2 asked file × (new ≡ old)
 EndsOf view next files asked c1 c2 old new (Err (halt.Stopped stop.Sink)) =
-    SameCounts c1 c2 × Put (over_told next files asked) (view old) (view new) GrewInPart
+    SameCounts c1 c2
+    × Put (WithSomeStatus (over_told next files asked)) (view old) (view new) GrewInPart
 EndsOf view next files asked c1 c2 old new (Err (halt.Stopped stop.Memory)) =
     SameCounts c1 c2 × (new ≡ old)
 EndsOf view next files asked c1 c2 old new (Err halt.UnknownScript) =

@@ -1,6 +1,8 @@
 -- How a call ends: the exit status, and the line that says it.
 use Rattle.std.specs.Prelude.{◌∷◌, ℕ, List, [], Result, Ok, Err, codes}
 use Rattle.std.specs.List.{concat}
+use Rattle.call_commands.specs.declared.done.Done.{Done}
+use Rattle.call_commands.specs.declared.done.Done.TheVariants as done
 use Rattle.call_pilot.specs.Messages.{pieces_of}
 use Rattle.call_pilot.specs.declared.stop.Stop.TheVariants as stop
 use Rattle.call_study.specs.declared.halt.Halt.{Halt}
@@ -25,33 +27,39 @@ halt_pieces halt.UnknownTiming = codes "unknown timing\n" ∷ []
 abbrev pub halt_line : Halt → List ℕ
 halt_line why = concat (halt_pieces why)
 
--- the picture is drawn, or why there is none
+-- what is asked for is done, or why not
 abbrev pub End : Type 0
-End = Result (Unit {0}) Halt
+End = Result Done Halt
+
+abbrev pub done_status : Done → ℕ
+done_status done.Good = 0
+done_status done.SomeNo = 1
+done_status done.SomeUndecided = 2
+done_status done.Rejected = 3
 
 -- the exit status
 abbrev pub status_of : End → ℕ
-status_of (Ok _) = 0
+status_of (Ok d) = done_status d
 status_of (Err why) = halt_status why
 
--- the line on err: none where the picture is drawn
+-- the line on err: none where it is done
 abbrev pub line_of : End → List ℕ
 line_of (Ok _) = []
 line_of (Err why) = halt_line why
 
--- the words and files alone decide: the picture is drawn, a file is refused, or a name is unknown
+-- the words and files alone decide: it is done, a file is refused, or a name is unknown
 abbrev pub IsAnswer : End → Type 0
 IsAnswer (Err (halt.Stopped (stop.Store file))) = ⊥
 IsAnswer (Err (halt.Stopped stop.Sink)) = ⊥
 IsAnswer (Err (halt.Stopped stop.Memory)) = ⊥
 IsAnswer end = Unit {0}
 
--- nothing is put on out: there is no picture, for another cause than that out takes no more
+-- nothing is put on out: it is not done, for another cause than that out takes no more
 abbrev pub IsEarly : End → Type 0
 IsEarly (Ok _) = ⊥
 IsEarly (Err (halt.Stopped stop.Sink)) = ⊥
 IsEarly (Err why) = Unit {0}
 
-abbrev pub IsDrawn : End → Type 0
-IsDrawn (Ok _) = Unit {0}
-IsDrawn (Err why) = ⊥
+abbrev pub IsDone : End → Type 0
+IsDone (Ok _) = Unit {0}
+IsDone (Err why) = ⊥

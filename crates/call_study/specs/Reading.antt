@@ -1,5 +1,5 @@
--- What the files of a request say: the picture that is asked for, or why there is none, by the
--- first file that is too long or that a reader refuses, and then by a name that its file has not.
+-- What the files of a request say: what is wanted over them, or why it can't be done, by the first
+-- file that is too long or that a reader refuses, and then by a name that its file has not.
 use Rattle.std.specs.Prelude.{◌≡◌, ◌∷◌, ℕ, List, [], Option, None, Some, Result, Ok, Err, slice_get}
 use Rattle.model_line.specs.{declared.line.Line.Line, declared.script.Script.Script}
 use Rattle.model_timing.specs.NamedValues.{NamedValues}
@@ -13,14 +13,15 @@ use Rattle.call_study.specs.declared.halt.Halt.TheVariants as halt
 use Rattle.call_study.specs.Request as request
 use Rattle.call_study.specs.{Chosen.chosen_script, Chosen.chosen_timing, Request.Asked}
 
--- a picture, over what its files say
-pub data Drawn : Type 0 where
-  bands : Line → Script → Drawn
-  play : Form → Line → Script → NamedValues → Drawn
+-- a picture, or an answer to each obligation, over what the files say
+pub data Wanted : Type 0 where
+  bands : Line → Script → Wanted
+  play : Form → Line → Script → NamedValues → Wanted
+  settle : Line → List Script → Wanted
 
--- what holds of the picture, or of why there is none
+-- what holds of what is wanted, or of why it can't be done
 abbrev pub Reading : Type 1
-Reading = (Halt → Type 0) → (Drawn → Type 0) → Type 0
+Reading = (Halt → Type 0) → (Wanted → Type 0) → Type 0
 
 -- a file is refused
 abbrev pub refused_by : Refusal → Halt
@@ -57,12 +58,20 @@ play_of form line_bytes scripts_bytes timings_bytes script timing halted holds =
     (λ timings. of_script scripts script halted
     (λ chosen. of_timing timings timing halted (λ played. holds (play form line chosen played)))))
 
+-- each obligation settled
+abbrev pub settle_of : List ℕ → List ℕ → Reading
+settle_of line_bytes scripts_bytes halted holds =
+    of_study line_bytes scripts_bytes (λ why. halted (refused_by why))
+    (λ line scripts. holds (settle line scripts))
+
 -- over the bytes of the files in word order
 abbrev pub over_bytes : Option (List ℕ) → Asked → List (List ℕ) → Reading
 over_bytes script request.bands (line_bytes ∷ scripts_bytes ∷ []) =
     bands_of line_bytes scripts_bytes script
 over_bytes script (request.play form _ timing) (line_bytes ∷ scripts_bytes ∷ timings_bytes ∷ []) =
     play_of form line_bytes scripts_bytes timings_bytes script timing
+over_bytes script request.settle (line_bytes ∷ scripts_bytes ∷ []) =
+    settle_of line_bytes scripts_bytes
 over_bytes script asked bytes = λ halted holds. ⊥
 
 -- once the files are there, or one is too long

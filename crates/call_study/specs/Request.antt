@@ -3,15 +3,17 @@ use Rattle.std.specs.Prelude.{ℕ, List, [], ◌∷◌, Option}
 use Rattle.std.specs.Option.{option_copied}
 use Rattle.call_pilot.specs.{Files.NamedFile, Words.named}
 use Rattle.call_pilot.specs.declared.stop.File.TheVariants as file
-use Rattle.call_study.specs.declared.ask.{Ask.Ask, Form.Form, Picture.Picture}
-use Rattle.call_study.specs.declared.ask.Picture.TheVariants as picture
+use Rattle.call_study.specs.declared.ask.{Ask.Ask, Form.Form, Work.Work}
+use Rattle.call_study.specs.declared.ask.Work.TheVariants as work
 
--- which picture: of every choice of delays, or of a play of a timing of a third file
+-- a picture of every choice of delays, or of a play of a timing of a third file; or an answer to
+-- each obligation
 pub data Asked : Type 0 where
   bands : Asked
   play : Form → List ℕ → Option (List ℕ) → Asked
+  settle : Asked
 
--- of a script of two files
+-- over two files; a picture is that of one script
 pub record Request : Type 0 where
   pub line : List ℕ
   pub scripts : List ℕ
@@ -21,6 +23,7 @@ pub record Request : Type 0 where
 abbrev pub third_of : Asked → List NamedFile
 third_of bands = []
 third_of (play form timings timing) = named file.Timings timings ∷ []
+third_of settle = []
 
 -- the files of a request in the order of its words
 abbrev pub files_over : List ℕ → List ℕ → Asked → List NamedFile
@@ -31,14 +34,15 @@ abbrev pub files_of : Request → List NamedFile
 files_of request = files_over request.line request.scripts request.asked
 
 -- the request that the code's value stands for
-abbrev pub asked_of : Picture → Asked
-asked_of picture.Bands = bands
-asked_of (picture.Play form timings timing) = play form timings.now (option_copied timing)
+abbrev pub asked_of : Work → Asked
+asked_of work.Bands = bands
+asked_of (work.Play form timings timing) = play form timings.now (option_copied timing)
+asked_of (work.Settle analyses) = settle
 
 abbrev pub request_of : Ask → Request
 request_of ask = record {
   line = ask.line.now;
   scripts = ask.scripts.now;
   script = option_copied ask.script;
-  asked = asked_of ask.picture;
+  asked = asked_of ask.work;
 }

@@ -1,23 +1,29 @@
 //! What a study is asked for.
 
-/// A picture of a script of two files, of the first where none is named.
+/// Work over two files, a line's and its scripts'; a picture is that of one script, of the first
+/// where none is named.
 #[derive(Clone, Copy)]
 pub struct Ask<'a> {
     pub line: &'a str,
     pub scripts: &'a str,
     pub script: Option<&'a str>,
-    pub picture: Picture<'a>,
+    pub work: Work<'a>,
 }
 
-/// Which picture: of every choice of delays, or of a play, which is that of a timing of a third
-/// file, of the first where none is named.
+/// Which work.
 #[derive(Clone, Copy)]
-pub enum Picture<'a> {
+pub enum Work<'a> {
+    /// A picture of every choice of delays.
     Bands,
+    /// A picture of a play, that of a timing of a third file, of the first where none is named.
     Play {
         form: Form,
         timings: &'a str,
         timing: Option<&'a str>,
+    },
+    /// An answer to each obligation, with at most so many analyses of boxes for each.
+    Settle {
+        analyses: u32,
     },
 }
 

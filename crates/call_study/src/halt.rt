@@ -1,4 +1,4 @@
-//! Why there is no picture.
+//! Why what is asked for is not done.
 
 ghost use Rattle.std.specs.Prelude.{◌≡◌};
 ghost use Rattle.call_commands.specs.Sinks.{Puts, sink_view};
@@ -7,12 +7,12 @@ ghost use Rattle.call_study.specs.Halts.{halt_line, status_of as end_status};
 ghost use Rattle.call_study.specs.declared.halt.Halt.TheVariants.{Stopped};
 
 use base_store::{PutFailed, Sink};
-use call_commands::put_pieces;
+use call_commands::{Done, put_pieces};
 use call_pilot::{Stop, put_message};
 use file_timing::TimingFault;
 use model_line::Memory;
 
-/// Why there is no picture: what stops `pilot` too, or a name that its file has not.
+/// Why it is not done: what stops `pilot` too, or a name that its file has not.
 #[derive(Clone, Copy, Debug, PartialEq, Eq)]
 pub enum Halt {
     Stopped(Stop),
@@ -38,12 +38,15 @@ impl Halt {
     }
 }
 
-/// The exit status of a call that ended so: 0 where the picture is drawn.
-pub fn status_of(end: Result<(), Halt>) -> u8
+/// The exit status of a call that ended so: 0 to 3 where it is done.
+pub fn status_of(end: Result<Done, Halt>) -> u8
     ensures { result ≡ end_status end }
 {
     match end {
-        Ok(()) => 0,
+        Ok(Done::Good) => 0,
+        Ok(Done::SomeNo) => 1,
+        Ok(Done::SomeUndecided) => 2,
+        Ok(Done::Rejected) => 3,
         Err(halt) => halt.status(),
     }
 }

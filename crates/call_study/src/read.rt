@@ -5,14 +5,17 @@ ghost use Rattle.std.specs.Option.{option_copied};
 ghost use Rattle.net_gates.specs.NetOf.{IsNetOf};
 ghost use Rattle.model_line.specs.Fits.{Fits};
 ghost use Rattle.model_timing.specs.{Inside.IsTimingInside, NamedValues.values_of};
-ghost use Rattle.call_study.specs.{Answers.IsTextOf, Answers.answer_by, Ends.Gives};
-ghost use Rattle.call_study.specs.Reading.{bands_of, play as a_play, play_of};
+ghost use Rattle.call_study.specs.{Answers.answer_by, Answers.answer_of, Ends.Gives};
+ghost use Rattle.call_commands.specs.declared.done.Done.TheVariants.{Good};
+ghost use Rattle.call_study.specs.Reading.{bands_of, play as a_play, play_of, settle_of};
 
 use crate::ask::Form;
 use crate::choose::{choose_script, choose_timing};
 use crate::halt::Halt;
 use crate::pictures::{bands_text, dump_text, run_text};
+use call_commands::Said;
 use call_pilot::read_study;
+use call_settle::settle_table;
 use file_timing::read_timings;
 use model_line::{Line, Memory, Script};
 use model_timing::NamedTiming;
@@ -20,12 +23,7 @@ use net_gates::Net;
 use std::alloc::Global;
 
 /// The diagram of every choice of delays.
-pub fn bands(
-    alloc: Global,
-    line: &[u8],
-    scripts: &[u8],
-    script: Option<&str>,
-) -> Result<Vec<u8>, Halt>
+pub fn bands(alloc: Global, line: &[u8], scripts: &[u8], script: Option<&str>) -> Result<Said, Halt>
     ensures { Gives (answer_by (bands_of line.now scripts.now (option_copied script.entry)))
         result }
 {
@@ -34,7 +32,16 @@ pub fn bands(
         return Err(Halt::UnknownScript);
     };
     let text = bands_text(alloc, &study.line, &study.net, &study.scripts[i])?;
-    Ok(text)
+    Ok(Said::good(text))
+}
+
+/// Each obligation settled, with at most so many analyses for each.
+pub fn settle(alloc: Global, line: &[u8], scripts: &[u8], analyses: u32) -> Result<Said, Halt>
+    ensures { Gives (answer_by (settle_of line.now scripts.now)) result }
+{
+    let study = read_study(alloc, line, scripts)?;
+    let said = settle_table(alloc, &study, analyses)?;
+    Ok(said)
 }
 
 /// A play in that form.
@@ -46,7 +53,7 @@ pub fn play(
     timings: &[u8],
     script: Option<&str>,
     timing: Option<&str>,
-) -> Result<Vec<u8>, Halt>
+) -> Result<Said, Halt>
     requires { length timings.now ≤ 4194304 }
     ensures { Gives (answer_by (play_of form line.now scripts.now timings.now
         (option_copied script.entry) (option_copied timing.entry))) result }
@@ -67,7 +74,7 @@ pub fn play(
         &study.scripts[i],
         &timings[j],
     )?;
-    Ok(text)
+    Ok(Said::good(text))
 }
 
 fn play_text(
@@ -82,7 +89,7 @@ fn play_text(
     requires fits { Fits line.now script.now }
     requires inside { IsTimingInside line.now timing.now.timing }
     ensures { IfOk result (λ text.
-        IsTextOf (a_play form line.now script.now (values_of timing.now)) text.items) }
+        answer_of (a_play form line.now script.now (values_of timing.now)) Good text.items) }
 {
     match form {
         Form::Diagram => run_text(alloc, line, net, script, timing),

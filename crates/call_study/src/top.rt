@@ -5,18 +5,19 @@ ghost use Rattle.std.specs.Option.{option_copied};
 ghost use Rattle.call_commands.specs.Sinks.{sink_view};
 ghost use Rattle.call_study.specs.Answers.{answer_over};
 ghost use Rattle.call_study.specs.{Clauses.Clauses, Ends.EndsOf, Ends.Fetched};
-ghost use Rattle.call_study.specs.{Halts.IsDrawn, Halts.IsEarly};
+ghost use Rattle.call_study.specs.{Halts.IsDone, Halts.IsEarly};
 ghost use Rattle.call_study.specs.Request.{bands as asked_bands, files_of, files_over};
-ghost use Rattle.call_study.specs.Request.{play as asked_play, request_of};
+ghost use Rattle.call_study.specs.Request.{play as asked_play, request_of, settle as asked_settle};
 
-use crate::ask::{Ask, Form, Picture};
+use crate::ask::{Ask, Form, Work};
 use crate::halt::{Halt, put_halt};
-use crate::read::{bands, play};
+use crate::read::{bands, play, settle};
 use base_store::{Sink, Store, put_all};
+use call_commands::{Done, Said};
 use call_pilot::{File, fetch_file};
 use std::alloc::Global;
 
-/// Draws what is asked for over the store, with its text on `out` and, where there is none, one
+/// Does what is asked for over the store, with its text on `out` and, where there is none, one
 /// line on `err`.
 ///
 /// The files are fetched in the order of the words, and then the line, the scripts and the timings
@@ -27,7 +28,7 @@ pub fn study<S: Store, O: Sink, E: Sink>(
     store: &mut S,
     out: &mut O,
     err: &mut E,
-) -> Result<(), Halt>
+) -> Result<Done, Halt>
     ensures clauses { Clauses (record {
       request = request_of ask.now;
       files = S.held store.old;
@@ -39,13 +40,13 @@ pub fn study<S: Store, O: Sink, E: Sink>(
       err_new = sink_view E.written E.faults err.new;
     }) result }
 
-    // Out is as it was where there is no picture for another cause than out itself, also where a
-    // sink tells nothing; err is where the picture is drawn.
+    // Out is as it was where it is not done for another cause than out itself, also where a sink
+    // tells nothing; err is where it is done.
     ensures unwritten { IsEarly result → out.new ≡ out.old }
-    ensures quiet { IsDrawn result → err.new ≡ err.old }
+    ensures quiet { IsDone result → err.new ≡ err.old }
 {
     match answer(alloc, ask, store, out) {
-        Ok(()) => Ok(()),
+        Ok(done) => Ok(done),
         Err(halt) => {
             let _ = put_halt(err, &halt);
             Err(halt)
@@ -59,26 +60,26 @@ fn answer<S: Store, O: Sink>(
     ask: &Ask<'_>,
     store: &mut S,
     out: &mut O,
-) -> Result<(), Halt>
+) -> Result<Done, Halt>
     ensures { EndsOf (sink_view O.written O.faults)
         (answer_over (request_of ask.now).script (request_of ask.now).asked)
         (S.held store.old) (files_of (request_of ask.now)) (S.faults store.old)
         (S.faults store.new) out.old out.new result }
 {
-    let text = text_of(alloc, ask, store)?;
-    put_all(out, text.as_slice())?;
-    Ok(())
+    let said = said_of(alloc, ask, store)?;
+    put_all(out, said.text.as_slice())?;
+    Ok(said.status)
 }
 
-// The text of the picture.
-fn text_of<S: Store>(alloc: Global, ask: &Ask<'_>, store: &mut S) -> Result<Vec<u8>, Halt>
+// The status and the text.
+fn said_of<S: Store>(alloc: Global, ask: &Ask<'_>, store: &mut S) -> Result<Said, Halt>
     ensures { Fetched (answer_over (request_of ask.now).script (request_of ask.now).asked)
         (S.held store.old) (files_of (request_of ask.now)) (S.faults store.old)
         (S.faults store.new) result }
 {
-    match ask.picture {
-        Picture::Bands => bands_over(alloc, ask.line, ask.scripts, ask.script, store),
-        Picture::Play {
+    match ask.work {
+        Work::Bands => bands_over(alloc, ask.line, ask.scripts, ask.script, store),
+        Work::Play {
             form,
             timings,
             timing,
@@ -92,6 +93,14 @@ fn text_of<S: Store>(alloc: Global, ask: &Ask<'_>, store: &mut S) -> Result<Vec<
             timing,
             store,
         ),
+        Work::Settle { analyses } => settle_over(
+            alloc,
+            ask.line,
+            ask.scripts,
+            ask.script,
+            analyses,
+            store,
+        ),
     }
 }
 
@@ -101,7 +110,7 @@ fn bands_over<S: Store>(
     scripts: &str,
     script: Option<&str>,
     store: &mut S,
-) -> Result<Vec<u8>, Halt>
+) -> Result<Said, Halt>
     ensures { Fetched (answer_over (option_copied script.entry) asked_bands) (S.held store.old)
         (files_over line.now scripts.now asked_bands) (S.faults store.old) (S.faults store.new)
         result }
@@ -109,6 +118,23 @@ fn bands_over<S: Store>(
     let line = fetch_file(alloc, store, File::Line, line)?;
     let scripts = fetch_file(alloc, store, File::Scripts, scripts)?;
     bands(alloc, line.as_slice(), scripts.as_slice(), script)
+}
+
+fn settle_over<S: Store>(
+    alloc: Global,
+    line: &str,
+    scripts: &str,
+    script: Option<&str>,
+    analyses: u32,
+    store: &mut S,
+) -> Result<Said, Halt>
+    ensures { Fetched (answer_over (option_copied script.entry) asked_settle) (S.held store.old)
+        (files_over line.now scripts.now asked_settle) (S.faults store.old)
+        (S.faults store.new) result }
+{
+    let line = fetch_file(alloc, store, File::Line, line)?;
+    let scripts = fetch_file(alloc, store, File::Scripts, scripts)?;
+    settle(alloc, line.as_slice(), scripts.as_slice(), analyses)
 }
 
 fn play_over<S: Store>(
@@ -120,7 +146,7 @@ fn play_over<S: Store>(
     script: Option<&str>,
     timing: Option<&str>,
     store: &mut S,
-) -> Result<Vec<u8>, Halt>
+) -> Result<Said, Halt>
     ensures { Fetched (answer_over (option_copied script.entry)
         (asked_play form timings.now (option_copied timing.entry))) (S.held store.old)
         (files_over line.now scripts.now

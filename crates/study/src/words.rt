@@ -1,6 +1,7 @@
 //! The words of the program.
 
-use call_study::{Ask, Form, Picture};
+use base_store::number;
+use call_study::{Ask, Form, Work};
 use clap::{Arg, ArgMatches, Command};
 use std::alloc::{AllocError, Global};
 
@@ -11,13 +12,17 @@ pub struct Words<'a> {
     pub output: Option<&'a str>,
 }
 
-/// The command line: `bands`, `run` and `vcd`, with files and names.
+// How many analyses an obligation takes at most, where the words don't say it.
+const ANALYSES: u32 = 4000;
+
+/// The command line: `settle`, `bands`, `run` and `vcd`, with files and names.
 pub fn command<'a>(alloc: Global) -> Result<Command<'a>, AllocError> {
     Command::new(alloc, "study")
-        .about("Pictures of a line and its fault scripts.")
+        .about("A line and its fault scripts: answers and pictures.")
         .version("0.10.0")
         .subcommand_required(true)
         .arg_required_else_help(true)
+        .subcommand(settle(alloc)?)?
         .subcommand(bands(alloc)?)?
         .subcommand(play(
             alloc,
@@ -29,6 +34,20 @@ pub fn command<'a>(alloc: Global) -> Result<Command<'a>, AllocError> {
             "vcd",
             "A play as a value change dump (VCD) of every gate, for a waveform viewer",
         )?)
+}
+
+fn settle<'a>(alloc: Global) -> Result<Command<'a>, AllocError> {
+    Command::new(alloc, "settle")
+        .about("An answer to each obligation, also where the interval rules leave it open (CSV)")
+        .arg(file(alloc, "LINE", "The line file"))?
+        .arg(file(alloc, "SCRIPTS", "The file of fault scripts"))?
+        .arg(
+            Arg::new(alloc, "analyses")
+                .long("analyses")
+                .value_name("N")
+                .help("At most so many analyses for each obligation; 4000 without it"),
+        )?
+        .arg(output(alloc))
 }
 
 fn bands<'a>(alloc: Global) -> Result<Command<'a>, AllocError> {
@@ -85,24 +104,42 @@ fn output<'a>(alloc: Global) -> Arg<'a> {
 /// What the words say.
 pub fn words_of<'a>(matches: &ArgMatches<'a>) -> Option<Words<'a>> {
     let (name, own) = matches.subcommand()?;
-    let picture = match name {
+    let work = match name {
+        "settle" => settled(own)?,
         "run" => played(own, Form::Diagram)?,
         "vcd" => played(own, Form::Dump)?,
-        _ => Picture::Bands,
+        _ => Work::Bands,
     };
     Some(Words {
         ask: Ask {
             line: own.get_str("LINE")?,
             scripts: own.get_str("SCRIPTS")?,
-            script: own.get_str("script"),
-            picture,
+            script: script_of(name, own),
+            work,
         },
         output: own.get_str("output"),
     })
 }
 
-fn played<'a>(own: &ArgMatches<'a>, form: Form) -> Option<Picture<'a>> {
-    Some(Picture::Play {
+// `settle` asks for all scripts.
+fn script_of<'a>(name: &str, own: &ArgMatches<'a>) -> Option<&'a str> {
+    if name == "settle" {
+        None
+    } else {
+        own.get_str("script")
+    }
+}
+
+fn settled<'a>(own: &ArgMatches<'a>) -> Option<Work<'a>> {
+    let analyses = match own.get_str("analyses") {
+        Some(digits) => number(digits.as_bytes())?,
+        None => ANALYSES,
+    };
+    Some(Work::Settle { analyses })
+}
+
+fn played<'a>(own: &ArgMatches<'a>, form: Form) -> Option<Work<'a>> {
+    Some(Work::Play {
         form,
         timings: own.get_str("TIMINGS")?,
         timing: own.get_str("timing"),

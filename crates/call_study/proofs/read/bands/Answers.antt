@@ -38,4 +38,4 @@ returns c =
     c.in-Some.i c.index.result.now here.is
     (slice_get_read study.scripts.items _ c.in-Some.i c.index.result.now refl here.exists
     c.index.ensures)
-    (refl, c.in_ok-text.ensures.drawn))
+    (rw c.good.ensures (refl, c.in_ok-text.ensures.drawn)))

@@ -98,4 +98,4 @@ returns c =
       slice_get_read timings _ c.in-Some-choose_timing.j c.index-2.result.now refl timing.exists
           c.index-2.ensures,
     ) refl)
-    (refl, c.in_ok-text.ensures))))
+    (rw c.good.ensures c.in_ok-text.ensures))))

@@ -1,9 +1,9 @@
-use Rattle.std.specs.Prelude.{◌∷◌, List, []}
+use Rattle.std.specs.Prelude.{◌∷◌, []}
 use Rattle.std.specs.Option.{option_copied}
 use Rattle.call_pilot.specs.{Files.NamedFile, Files.in_front, Words.named}
 use Rattle.call_pilot.specs.declared.stop.File.TheVariants as file
 use Rattle.call_study.specs.Answers.{answer_over}
-use Rattle.call_study.specs.Request.{files_over, play as asked_play}
+use Rattle.call_study.specs.Request.{play as asked_play}
 use Rattle.call_study.proofs.Fetching.{fetched_all, fetched_next}
 use Rattle.call_study.proofs.top.play_over.Goals as goal
 

@@ -9,7 +9,7 @@ returns-in-Ok-clause-clauses g c =
     let err = sink_view g.E.Sink.written g.E.Sink.faults c.args.err.now in
     closed (sink_view g.O.Sink.written g.O.Sink.faults) c.args.out.now c.answer.new.out
     (g.S.Store.held c.args.store.now) (g.S.Store.faults c.args.store.now)
-    (g.S.Store.faults c.answer.new.store) (request_of c.args.ask.now) err err (Ok tt)
+    (g.S.Store.faults c.answer.new.store) (request_of c.args.ask.now) err err (Ok c.in-Ok.done)
     c.in-Ok.ensures (inl (grew_none err))
 
 pub returns-in-Err-clause-clauses : goal.returns-in-Err-clause-clauses

@@ -1,0 +1,7 @@
+use Rattle.judge_verdict.specs.OneEach.{OneEach}
+use Rattle.call_settle.specs.Rows.{IsRow}
+use Rattle.call_settle.proofs.rows.settle_all.Given as goal
+
+abbrev pub invariant-loop-i : goal.invariant-loop-i
+invariant-loop-i l =
+    OneEach (IsRow l.study.line l.study.scripts.items) l.i l.rows.items

@@ -1,0 +1,19 @@
+-- What the command `settle` answers.
+use Rattle.std.specs.Prelude.{◌≡◌, ℕ, List}
+use Rattle.std.specs.List.{list_any}
+use Rattle.model_line.specs.{declared.line.Line.Line, declared.script.Script.Script}
+use Rattle.call_commands.specs.{Answers.Answers, Answers.status_by, declared.done.Done.Done}
+use Rattle.call_settle.specs.{Rows.AreRows, Table.is_failing, Table.is_open, Table.table_text}
+use Rattle.call_settle.specs.declared.row.Row.{Row}
+
+-- a table in which each obligation has an answer that is so; which one it is, where more than one
+-- can be found, is left free
+pub record IsSettled (line : Line) (scripts : List Script) (status : Done) (text : List ℕ)
+    : Type 0 where
+  pub rows : List Row
+  pub are : AreRows line scripts rows
+  pub status_is : status ≡ status_by (list_any is_failing rows) (list_any is_open rows)
+  pub text_is : text ≡ table_text line scripts rows
+
+abbrev pub settle_answer : Line → List Script → Answers
+settle_answer line scripts = IsSettled line scripts

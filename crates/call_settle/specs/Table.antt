@@ -1,0 +1,62 @@
+-- The table of settled obligations, as CSV records.
+use Rattle.std.specs.Prelude.{ℕ, Bool, true, false, List, [], ◌∷◌, map, codes, decimal}
+use Rattle.std.specs.List.{flat_map}
+use Rattle.csv.specs.Writing.{row_text, default_writer}
+use Rattle.model_line.specs.{declared.line.Line.Line, declared.script.Script.Script}
+use Rattle.model_names.specs.NamesByNumber.{script_name, terminal_name}
+use Rattle.judge_settle.specs.{declared.answer.Answer.Answer, declared.answer.By.By}
+use Rattle.judge_settle.specs.declared.answer.Answer.TheVariants.{Held, Fails, Open}
+use Rattle.judge_settle.specs.declared.answer.By.TheVariants.{Rules, Candidate, Corner, Parts, Cases}
+use Rattle.call_settle.specs.declared.row.Row.{Row}
+
+abbrev pub answer_word : Answer → List ℕ
+answer_word (Held nodes) = codes "held"
+answer_word (Fails timing) = codes "fails"
+answer_word (Open nodes) = codes "open"
+
+abbrev pub by_word : By → List ℕ
+by_word Rules = codes "rules"
+by_word Candidate = codes "candidate"
+by_word Corner = codes "corner"
+by_word Parts = codes "parts"
+by_word Cases = codes "cases"
+
+-- the name of the timing that fails: that of its terminal
+abbrev pub timing_name : Answer → List ℕ → List ℕ
+timing_name (Held nodes) terminal = []
+timing_name (Fails timing) terminal = terminal
+timing_name (Open nodes) terminal = []
+
+abbrev pub header_record : List (List ℕ)
+header_record =
+    codes "script" ∷ codes "terminal" ∷ codes "answer" ∷ codes "by" ∷ codes "analyses"
+    ∷ codes "timing" ∷ []
+
+-- the fields of an obligation
+abbrev pub row_record : Line → List Script → Row → List (List ℕ)
+row_record line scripts row =
+    script_name scripts row.script ∷ terminal_name line row.terminal
+    ∷ answer_word row.settled.answer ∷ by_word row.settled.by ∷ decimal row.settled.analyses
+    ∷ timing_name row.settled.answer (terminal_name line row.terminal) ∷ []
+
+-- the header, and a record for each row
+abbrev pub table_text : Line → List Script → List Row → List ℕ
+table_text line scripts rows =
+    flat_map (row_text default_writer) (header_record ∷ map (row_record line scripts) rows)
+
+-- the obligation fails; it is open
+abbrev pub fails_so : Answer → Bool
+fails_so (Held nodes) = false
+fails_so (Fails timing) = true
+fails_so (Open nodes) = false
+
+abbrev pub is_left : Answer → Bool
+is_left (Held nodes) = false
+is_left (Fails timing) = false
+is_left (Open nodes) = true
+
+abbrev pub is_failing : Row → Bool
+is_failing row = fails_so row.settled.answer
+
+abbrev pub is_open : Row → Bool
+is_open row = is_left row.settled.answer
