@@ -1,6 +1,7 @@
 -- The line file of a study nests little, and has no date.
 use Rattle.std.proofs.Common.{◌≡◌, ◌+◌, ◌≤◌, ℕ, true, List, [], ◌∷◌, ◌++◌, Option, None, Some}
-use Rattle.std.proofs.Common.{Result, Ok, Less, Equal, Greater, refl, subst, arith, codes, map, Bool}
+use Rattle.std.proofs.Common.{Result, Ok, Less, Equal, Greater, refl, subst, arith, codes, map}
+use Rattle.std.proofs.Common.{Bool}
 use Rattle.std.proofs.lemmas.Bool.{and_parts}
 use Rattle.std.specs.Ordering.{nat_cmp, match_ordering}
 use Rattle.std.specs.Cmp.Lexicographic.{slice_cmp}
@@ -162,7 +163,8 @@ append_flat n [] d all one =
     let deep = one.deep in record { deep = omega arith; dated = rw one.dated }
 append_flat n (x ∷ ds) d all one =
     let deep = all.deep in
-    let (here, rest) = and_parts (has_valid_dates x) (items_have_valid_dates (items_of ds)) all.dated in
+    let (here, rest) = and_parts (has_valid_dates x) (items_have_valid_dates (items_of ds))
+    all.dated in
     let more = append_flat n ds d (record { deep = omega arith; dated = rest }) one in
     let below = more.deep in
     record { deep = omega arith; dated = rw (here, more.dated) }

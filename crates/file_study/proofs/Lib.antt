@@ -6,5 +6,4 @@ pub mod Texts
 pub mod Steps
 pub mod Counts
 pub mod NewNames
-pub mod ChannelPairs
 pub mod LineFaults

@@ -20,6 +20,7 @@ module _ (path name : List ℕ) (fs : List SweptFault) (plain : is_plain_name na
       rw (plain, list_any-map (λ (f : SweptFault). f.name) (λ other. bytes_eq other name) fs, free)
 
 -- the names of faults are those of their values
-pub names_same : (fs : List SweptFault) → map (λ f. f.name) (map fault_values fs) ≡ map (λ f. f.name) fs
+pub names_same : (fs : List SweptFault)
+    → map (λ f. f.name) (map fault_values fs) ≡ map (λ f. f.name) fs
 names_same [] = refl
 names_same (f ∷ fs) = ap (λ names. f.name ∷ names) (names_same fs)

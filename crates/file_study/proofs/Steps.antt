@@ -51,7 +51,8 @@ terminals_more path i vs d done h = rw (items_view-drop vs i d h)
 
 pub tables_more : {X : Type 0} (members : X → Result Members StudyFault) (xs : List X) (i : ℕ)
     (d : X) (done : List Data) → i < length xs
-    → (members (get_or xs i d) >>= λ ms. tables_of members (drop (i + 1) xs) (done ++ table ms ∷ []))
+    → (members (get_or xs i d) >>= λ ms.
+    tables_of members (drop (i + 1) xs) (done ++ table ms ∷ []))
     ≡ tables_of members (drop i xs) done
 unfolding tables_of
 tables_more members xs i d done h = rw (drop_more xs i d h)

@@ -1,6 +1,7 @@
 -- The faults of a study, with their stages and their swept times.
 use Rattle.std.specs.Prelude.{◌+◌, ◌++◌, ◌&&◌, ◌==◌, ℕ, Bool, true, false, List, [], ◌∷◌, Option}
-use Rattle.std.specs.Prelude.{None, Some, Result, Ok, Err, codes, map, if◌then◌else◌, nat_le, nat_lt}
+use Rattle.std.specs.Prelude.{None, Some, Result, Ok, Err, codes, map, if◌then◌else◌, nat_le}
+use Rattle.std.specs.Prelude.{nat_lt}
 use Rattle.std.specs.Str.{bytes_eq}
 use Rattle.std.specs.List.{list_any}
 use Rattle.toml.specs.Data.{Data, Items, no_items, item, Members, get_member}
@@ -13,7 +14,8 @@ use Rattle.file_study.specs.declared.fault.StudyFault.TheVariants as fault
 use Rattle.file_study.specs.declared.units.Units.{Units}
 use Rattle.file_study.specs.declared.stage.{Shown.Shown, Stage.Stage, SweptFault.SweptFault}
 use Rattle.file_study.specs.{Paths.under, Paths.numbered, Keys.text_at, Keys.array_in}
-use Rattle.file_study.specs.{Keys.all_known, Keys.table_in, Keys.counted, Moments.moments_of, Shows.shows_of}
+use Rattle.file_study.specs.{Keys.all_known, Keys.table_in, Keys.counted, Moments.moments_of}
+use Rattle.file_study.specs.{Shows.shows_of}
 
 -- A stage: how long it lasts, in ticks, a number for each value of its sweep; and what it shows.
 pub record StageValues : Type 0 where
@@ -107,7 +109,8 @@ abbrev pub terminal_names : LineValues → List (List ℕ)
 terminal_names line = map (λ t. t.name) line.terminals
 
 -- the stage that a table says
-unfoldable pub stage_in : Kind → Units → LineValues → List ℕ → Members → Result StageValues StudyFault
+unfoldable pub stage_in : Kind → Units → LineValues → List ℕ → Members
+    → Result StageValues StudyFault
 stage_in kind units line path ms = do
   lasts ← moments_at (is_longer kind) units path (codes "lasts") ms
   shows ← shows_of (is_later kind) units line path ms

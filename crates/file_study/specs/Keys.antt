@@ -1,7 +1,8 @@
 -- The keys of a table and the values under them.
 use Rattle.std.specs.Prelude.{◌&&◌, ◌+◌, ℕ, List, Bool, false, Option, None, Some, Result, Ok}
 use Rattle.std.specs.Prelude.{Err, pos, negsuc, if◌then◌else◌, nat_le}
-use Rattle.toml.specs.Data.{Data, string, integer, boolean, array, table, Members, Items, no_items, item}
+use Rattle.toml.specs.Data.{Data, string, integer, boolean, array, table, Members, Items, no_items}
+use Rattle.toml.specs.Data.{item}
 use Rattle.toml.specs.Data.{get_member}
 use Rattle.base_records.specs.Gives.{◌>>=◌}
 use Rattle.file_line.specs.Keys.{first_unknown}

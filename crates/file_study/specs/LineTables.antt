@@ -1,5 +1,6 @@
 -- The line file that a study comes to.
-use Rattle.std.specs.Prelude.{◌==◌, ◌++◌, ◌+◌, ℕ, Bool, false, not, List, [], ◌∷◌, Option, None, Some}
+use Rattle.std.specs.Prelude.{◌==◌, ◌++◌, ◌+◌, ℕ, Bool, false, not, List, [], ◌∷◌, Option, None}
+use Rattle.std.specs.Prelude.{Some}
 use Rattle.std.specs.Prelude.{Result, Ok, Err, map, length, pos, codes, if◌then◌else◌, true}
 use Rattle.toml.specs.Data.{Data, string, integer, boolean, array, table, Members, Items, no_items}
 use Rattle.toml.specs.Data.{item, get_member}
@@ -7,7 +8,8 @@ use Rattle.toml.specs.View.{items_of}
 use Rattle.model_line.specs.{declared.line.Terminal.Terminal, declared.line.Channel.Channel}
 use Rattle.model_line.specs.{PlainNames.is_plain_name, ParamNames.name_at, ParamNames.pair_name}
 use Rattle.base_records.specs.Gives.{◌>>=◌}
-use Rattle.file_line.specs.{Canonical.table_of, Canonical.put_all, Lines.LineValues, LineFiles.line_in}
+use Rattle.file_line.specs.{Canonical.table_of, Canonical.put_all, Lines.LineValues}
+use Rattle.file_line.specs.{LineFiles.line_in}
 use Rattle.file_line.specs.declared.fault.LineFault.{LineFault}
 use Rattle.file_line.specs.declared.fault.LineFault.TheVariants as line_fault
 use Rattle.file_study.specs.declared.fault.StudyFault.{StudyFault}

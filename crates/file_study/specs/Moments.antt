@@ -35,7 +35,8 @@ bounds_of units path text = told path (time_of units.hertz text) >>= bounds_in u
 
 -- both ends are one
 abbrev pub is_instant : Interval → Bool
-is_instant ends = (ends.least.over == ends.greatest.over) && (ends.least.under == ends.greatest.under)
+is_instant ends =
+    (ends.least.over == ends.greatest.over) && (ends.least.under == ends.greatest.under)
 
 -- an instant in ticks, rounded up or down
 abbrev pub instant_at : Bool → ℕ → List ℕ → Interval → Result ℕ StudyFault

@@ -84,7 +84,8 @@ channel_in path None = Err (fault.BadName path)
 channel_in path (Some c) = Ok (record { what = what.Loss c; after = 0 })
 
 -- those of an array, from item i on, behind what is there
-unfoldable pub all_lost : LineValues → List ℕ → ℕ → Items → List Shown → Result (List Shown) StudyFault
+unfoldable pub all_lost : LineValues → List ℕ → ℕ → Items → List Shown
+    → Result (List Shown) StudyFault
 all_lost line path i no_items done = Ok done
 all_lost line path i (item d ds) done = do
   text ← text_in (numbered path i) d

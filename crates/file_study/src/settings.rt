@@ -4,7 +4,8 @@ ghost use Rattle.std.specs.Prelude.{◌≡◌, ◌<◌, IfOk, OnOk, option_map};
 ghost use Rattle.toml.specs.{Data.no_members, View.view, View.table_view};
 ghost use Rattle.file_line.specs.Canonical.{put_member};
 ghost use Rattle.file_study.specs.Reading.{Gives, Becomes};
-ghost use Rattle.file_study.specs.Settings.{time_data, time_in, put_times, setting_in, put_settings};
+ghost use Rattle.file_study.specs.Settings.{time_data, time_in, put_times, setting_in};
+ghost use Rattle.file_study.specs.Settings.{put_settings};
 ghost use Rattle.file_study.specs.Settings.{put_optional, put_section, ends_data};
 
 use crate::fault::StudyFault;

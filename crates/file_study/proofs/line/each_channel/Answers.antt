@@ -15,18 +15,21 @@ returns-in_err-table c =
     let more = tables_more
     (channel_members c.args.units (option_map (λ t. table_view t.now) c.args.defaults)
     (option_map (λ t. table_view t.now) c.args.own) c.args.terminals.now)
-    c.args.channels.now c.loop-channel.channel-index (record { from = 0; to = 0 }) (map view c.loop-channel.tables.items)
+    c.args.channels.now c.loop-channel.channel-index (record { from = 0; to = 0 })
+    (map view c.loop-channel.tables.items)
     c.loop-channel-test.true in
     let here = more in
     rw (told.1, told.2)
-    (fails_ends c.in_err-table.field-0.0 _ _ _ c.in_err-table.ensures (here ∙ c.loop-channel.invariant))
+    (fails_ends c.in_err-table.field-0.0 _ _ _ c.in_err-table.ensures
+    (here ∙ c.loop-channel.invariant))
 
 pub loop-channel-preserved : goal.loop-channel-preserved
 loop-channel-preserved c =
     let more = tables_more
     (channel_members c.args.units (option_map (λ t. table_view t.now) c.args.defaults)
     (option_map (λ t. table_view t.now) c.args.own) c.args.terminals.now)
-    c.args.channels.now c.loop-channel.channel-index (record { from = 0; to = 0 }) (map view c.loop-channel.tables.items)
+    c.args.channels.now c.loop-channel.channel-index (record { from = 0; to = 0 })
+    (map view c.loop-channel.tables.items)
     c.loop-channel-test.true in
     let here = more in
     let next = rw c.in_ok-table.ensures at here in
@@ -40,5 +43,6 @@ loop-channel-preserved c =
 pub returns : goal.returns
 unfolding tables_of
 returns c =
-    let none = drop_all c.loop-channel.channel-index c.args.channels.now c.loop-channel-test.false in
+    let none = drop_all c.loop-channel.channel-index c.args.channels.now
+    c.loop-channel-test.false in
     sym (rw none at c.loop-channel.invariant)

@@ -15,18 +15,21 @@ returns-in_err-table c =
     let more = tables_more
     (terminal_members c.args.units (option_map (λ t. table_view t.now) c.args.defaults)
     (option_map (λ t. table_view t.now) c.args.own))
-    c.args.terminals.now c.loop-terminal.terminal-index c.terminal-item.result (map view c.loop-terminal.tables.items)
+    c.args.terminals.now c.loop-terminal.terminal-index c.terminal-item.result
+    (map view c.loop-terminal.tables.items)
     c.loop-terminal-test.true in
     let here = rw (← c.terminal-item.is) at more in
     rw (told.1, told.2)
-    (fails_ends c.in_err-table.field-0.0 _ _ _ c.in_err-table.ensures (here ∙ c.loop-terminal.invariant))
+    (fails_ends c.in_err-table.field-0.0 _ _ _ c.in_err-table.ensures
+    (here ∙ c.loop-terminal.invariant))
 
 pub loop-terminal-preserved : goal.loop-terminal-preserved
 loop-terminal-preserved c =
     let more = tables_more
     (terminal_members c.args.units (option_map (λ t. table_view t.now) c.args.defaults)
     (option_map (λ t. table_view t.now) c.args.own))
-    c.args.terminals.now c.loop-terminal.terminal-index c.terminal-item.result (map view c.loop-terminal.tables.items)
+    c.args.terminals.now c.loop-terminal.terminal-index c.terminal-item.result
+    (map view c.loop-terminal.tables.items)
     c.loop-terminal-test.true in
     let here = rw (← c.terminal-item.is) at more in
     let next = rw c.in_ok-table.ensures at here in
@@ -40,5 +43,6 @@ loop-terminal-preserved c =
 pub returns : goal.returns
 unfolding tables_of
 returns c =
-    let none = drop_all c.loop-terminal.terminal-index c.args.terminals.now c.loop-terminal-test.false in
+    let none = drop_all c.loop-terminal.terminal-index c.args.terminals.now
+    c.loop-terminal-test.false in
     sym (rw none at c.loop-terminal.invariant)

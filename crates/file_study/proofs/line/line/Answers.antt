@@ -12,7 +12,8 @@ unfolding line_of_study
 returns-in_err-table c =
     let told = err_from_is_err_and c.from_residual.result c.from_residual.ensures.1 in
     rw (told.1, told.2)
-    (fails_ends c.in_err-table.field-0.0 _ (λ ms. as_line (line_in ms)) _ c.in_err-table.ensures refl)
+    (fails_ends c.in_err-table.field-0.0 _ (λ ms. as_line (line_in ms)) _
+    c.in_err-table.ensures refl)
 
 pub text_of_table-requires-clause-shallow : goal.text_of_table-requires-clause-shallow
 text_of_table-requires-clause-shallow c =

@@ -45,8 +45,12 @@ loop-i-preserved c =
     record {
       read = rw c.in_ok-push.ensures.items (next ∙ c.loop-i.invariant.read);
       plain =
-          rw (c.in_ok-push.ensures.items, plain, c.loop-i.invariant.plain, c.in_ok-name.ensures.plain)
-          refl;
+          rw (
+            c.in_ok-push.ensures.items,
+            plain,
+            c.loop-i.invariant.plain,
+            c.in_ok-name.ensures.plain,
+          ) refl;
       count =
           rw c.in_ok-push.ensures.items
           (omega (arith, length-append c.loop-i.terminals.items (new ∷ [])));

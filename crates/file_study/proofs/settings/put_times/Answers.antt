@@ -33,6 +33,6 @@ loop-key-preserved c =
 pub returns : goal.returns
 unfolding put_times
 returns c =
-    let none = rest_all deref_pair c.loop-key.key-iterator c.next.new.self c.next.result c.in-None.is
-    c.next.ensures.steps in
+    let none = rest_all deref_pair c.loop-key.key-iterator c.next.new.self c.next.result
+    c.in-None.is c.next.ensures.steps in
     sym (rw none at c.loop-key.invariant)
