@@ -1,6 +1,6 @@
 -- How many items an array has.
-use Rattle.std.proofs.Common.{◌≡◌, ◌<◌, ◌≤◌, ℕ, true, false, List, [], ◌∷◌, length, Ok, Err, refl}
-use Rattle.std.proofs.Common.{ap, le-leb, arith}
+use Rattle.std.proofs.Common.{◌≡◌, ◌<◌, ◌≤◌, ℕ, false, List, [], ◌∷◌, length, Ok, Err, refl}
+use Rattle.std.proofs.Common.{le-leb, arith}
 use Rattle.std.proofs.lemmas.Bool.Decides.{nat_tests}
 use Rattle.std.specs.Prelude.{nat_le}
 use Rattle.toml.specs.{View.items_view, declared.value.Value.Value}

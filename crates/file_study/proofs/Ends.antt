@@ -1,5 +1,5 @@
 -- Readings that end with a fault, and what readings that end well came by.
-use Rattle.std.proofs.Common.{◌≡◌, Bool, true, false, Result, Ok, Err, subst, refl}
+use Rattle.std.proofs.Common.{◌≡◌, Bool, true, false, Result, Err, subst}
 use Rattle.base_records.specs.Gives.{◌>>=◌, Unless}
 use Rattle.base_records.specs.Gives as records
 use Rattle.base_records.specs.CheckLaws.{fails_first}

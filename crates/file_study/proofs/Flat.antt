@@ -12,7 +12,6 @@ use Rattle.toml.specs.View.{items_of}
 use Rattle.model_line.specs.declared.bounds.Bounds.{Bounds}
 use Rattle.model_line.specs.{declared.line.Terminal.Terminal, declared.line.Channel.Channel}
 use Rattle.model_line.specs.{ParamNames.name_at, ParamNames.pair_name}
-use Rattle.base_records.specs.Gives.{◌>>=◌}
 use Rattle.base_records.specs.CheckLaws.{passed, same_ok}
 use Rattle.file_line.specs.Canonical.{put_member, table_of}
 use Rattle.file_study.specs.declared.fault.StudyFault.{StudyFault}

@@ -1,5 +1,5 @@
 -- A fault of the line file, seen as one of the study.
-use Rattle.std.proofs.Common.{◌≡◌, ℕ, List, Some, Result, Ok, Err, ap}
+use Rattle.std.proofs.Common.{◌≡◌, ℕ, List, Some, Result, ap}
 use Rattle.toml.specs.Data.{Members}
 use Rattle.file_line.specs.{Keys.document_of, LineFiles.line_of, LineFiles.line_in}
 use Rattle.file_line.specs.Lines.{LineValues}

@@ -1,6 +1,5 @@
 -- The line file that a study comes to.
-use Rattle.std.specs.Prelude.{◌==◌, ◌++◌, ◌+◌, ℕ, Bool, false, not, List, [], ◌∷◌, Option, None}
-use Rattle.std.specs.Prelude.{Some}
+use Rattle.std.specs.Prelude.{◌==◌, ◌++◌, ◌+◌, ℕ, Bool, false, List, [], ◌∷◌, Option}
 use Rattle.std.specs.Prelude.{Result, Ok, Err, map, length, pos, codes, if◌then◌else◌, true}
 use Rattle.toml.specs.Data.{Data, string, integer, boolean, array, table, Members, Items, no_items}
 use Rattle.toml.specs.Data.{item, get_member}

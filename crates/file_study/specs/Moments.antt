@@ -1,5 +1,5 @@
 -- Times of a study in ticks: intervals, instants, and the values of a sweep.
-use Rattle.std.specs.Prelude.{◌+◌, ◌&&◌, ◌==◌, ◌++◌, ℕ, zero, suc, Bool, List, [], ◌∷◌, Option}
+use Rattle.std.specs.Prelude.{◌+◌, ◌&&◌, ◌==◌, ◌++◌, ℕ, zero, suc, Bool, List, [], ◌∷◌}
 use Rattle.std.specs.Prelude.{Result, Ok, Err, if◌then◌else◌, nat_le}
 use Rattle.file_times.specs.declared.fraction.Fraction.{Fraction}
 use Rattle.file_times.specs.declared.fault.TimeFault.{TimeFault}

@@ -1,5 +1,5 @@
 -- The settings of a terminal or a channel as tables of a line file, with times in ticks.
-use Rattle.std.specs.Prelude.{ℕ, List, [], Option, None, Some, Result, Ok, Err, pos}
+use Rattle.std.specs.Prelude.{ℕ, List, Option, None, Some, Result, Ok, Err, pos}
 use Rattle.toml.specs.Data.{Data, string, integer, array, table, Members, no_members, member}
 use Rattle.toml.specs.Data.{no_items, item}
 use Rattle.model_line.specs.declared.bounds.Bounds.{Bounds}

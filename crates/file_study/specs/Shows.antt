@@ -5,7 +5,7 @@ use Rattle.std.specs.Str.{bytes_eq}
 use Rattle.std.specs.List.{before_first, after_first, position_from}
 use Rattle.toml.specs.Data.{Items, no_items, item, Members, get_member}
 use Rattle.model_line.specs.declared.script.Element.TheVariants.{Z1, Z2, Rv, Uv, Cur}
-use Rattle.model_line.specs.{declared.script.Element.Element, declared.script.What.What}
+use Rattle.model_line.specs.{declared.script.Element.Element}
 use Rattle.model_line.specs.declared.script.What.TheVariants as what
 use Rattle.model_line.specs.declared.line.Terminal.{Terminal}
 use Rattle.model_names.specs.NumbersByName.{has_name}

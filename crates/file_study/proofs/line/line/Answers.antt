@@ -1,6 +1,6 @@
-use Rattle.std.proofs.Common.{◌≤◌, ap, sym, ◌∙◌, refl, arith}
+use Rattle.std.proofs.Common.{ap, sym, ◌∙◌, refl, arith}
 use Rattle.std.proofs.lemmas.Result.{err_from_is_err_and}
-use Rattle.toml.specs.{Data.members_depth, View.table_view}
+use Rattle.toml.specs.{View.table_view}
 use Rattle.file_line.specs.LineFiles.{line_in}
 use Rattle.file_study.specs.LineTables.{as_line, line_of_study}
 use Rattle.file_study.proofs.{Ends.fails_ends, Flat.line_flat, LineFaults.fails_so}

@@ -1,7 +1,6 @@
 use Rattle.std.proofs.Common.{sym, ◌∙◌}
 use Rattle.std.proofs.lemmas.Result.{err_from_is_err_and}
 use Rattle.std.proofs.lemmas.List.{drop_all}
-use Rattle.file_line.specs.Lines.{line_values}
 use Rattle.file_study.specs.Shows.{all_shown}
 use Rattle.file_study.proofs.{Ends.fails_is, Ends.fails_ends, Steps.shown_more}
 use Rattle.file_study.proofs.shows.push_shown.Goals as goal

@@ -1,7 +1,7 @@
 use Rattle.std.proofs.Common.{◌<◌, ◌-◌, ap, sym, ◌∙◌, arith}
 use Rattle.std.proofs.lemmas.Result.{err_from_is_err_and}
 use Rattle.file_times.specs.Sweeps.{value_of}
-use Rattle.file_study.specs.Moments.{all_limited, values_from}
+use Rattle.file_study.specs.Moments.{all_limited}
 use Rattle.file_study.proofs.Ends.{fails_is}
 use Rattle.file_study.proofs.Quotients.{values_more, values_none, limited_more, limited_ends}
 use Rattle.file_study.proofs.Quotients.{limited_none, test_true, test_false}
