@@ -1,0 +1,16 @@
+use Rattle.std.proofs.Common.{◌≡◌, ◌≤◌, ◌<◌, ℕ, List, length, subst, sym, arith}
+use Rattle.judge_margins.specs.Ends.{AreFound, AreEnds}
+use Rattle.judge_margins.specs.declared.end.End.{End}
+use Rattle.judge_margins.proofs.EndLaws.{limits_found, founds_are_ends}
+use Rattle.judge_margins.proofs.narrow.margins.Goals as goal
+
+pub returns : goal.returns
+returns c =
+    let line = c.args.line.now in
+    let scripts = c.args.scripts.now in
+    let obligations = c.args.obligations.now in
+    let same : c.loop-place.place ≡ length obligations =
+    omega (arith, c.loop-place-test.false, c.loop-place.auto.place-end) in
+    subst (λ (n : ℕ). AreEnds line scripts obligations n c.loop-place.ends.items) same
+    (founds_are_ends c.laws_below.ensures line scripts c.requires.fit obligations c.requires.exist
+    c.loop-place.place c.loop-place.ends.items c.loop-place.invariant)
