@@ -5,3 +5,4 @@ pub mod Kept
 pub mod Ends
 pub mod Brackets
 pub mod Today
+pub mod MarginsText

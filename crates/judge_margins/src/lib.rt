@@ -10,6 +10,7 @@ mod laws;
 mod lists;
 mod narrow;
 mod probe;
+mod text;
 mod today;
 mod widened;
 
@@ -19,4 +20,5 @@ pub use laws::{
     what_is_held_with_an_end_moved_is_met,
 };
 pub use narrow::margins;
+pub use text::margins_text;
 pub use today::{Today, held_today};

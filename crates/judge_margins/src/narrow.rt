@@ -37,8 +37,9 @@ pub fn margins(
     requires exist { AreObligations line.now scripts.now obligations.now }
     requires held { AreKept line.now scripts.now (declared_box line.now) obligations.now
         (length obligations.now) }
-    ensures { IfOk result (λ ends.
+    ensures ends { IfOk result (λ ends.
         AreEnds line.now scripts.now obligations.now (length obligations.now) ends.items) }
+    ensures room { IfOk result (λ ends. HaveRoom line.now ends.items) }
 {
     laws_below();
     let mut ends = limits(alloc, line)?;

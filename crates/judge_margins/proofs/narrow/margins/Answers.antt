@@ -1,11 +1,11 @@
 use Rattle.std.proofs.Common.{◌≡◌, ◌≤◌, ◌<◌, ℕ, List, length, subst, sym, arith}
 use Rattle.judge_margins.specs.Ends.{AreFound, AreEnds}
 use Rattle.judge_margins.specs.declared.end.End.{End}
-use Rattle.judge_margins.proofs.EndLaws.{limits_found, founds_are_ends}
+use Rattle.judge_margins.proofs.EndLaws.{limits_found, founds_are_ends, found_room}
 use Rattle.judge_margins.proofs.narrow.margins.Goals as goal
 
-pub returns : goal.returns
-returns c =
+pub returns-clause-ends : goal.returns-clause-ends
+returns-clause-ends c =
     let line = c.args.line.now in
     let scripts = c.args.scripts.now in
     let obligations = c.args.obligations.now in
@@ -14,3 +14,8 @@ returns c =
     subst (λ (n : ℕ). AreEnds line scripts obligations n c.loop-place.ends.items) same
     (founds_are_ends c.laws_below.ensures line scripts c.requires.fit obligations c.requires.exist
     c.loop-place.place c.loop-place.ends.items c.loop-place.invariant)
+
+pub returns-clause-room : goal.returns-clause-room
+returns-clause-room c =
+    found_room c.args.line.now c.args.scripts.now c.args.obligations.now c.loop-place.place
+    c.loop-place.ends.items c.loop-place.invariant
