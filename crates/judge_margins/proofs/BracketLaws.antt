@@ -1,19 +1,19 @@
 -- The brackets of the search.
-use Rattle.std.proofs.Common.{◌≡◌, ◌≤◌, ◌<◌, ◌+◌, ◌-◌, ◌*◌, ◌/◌, ℕ, Bool, true, false, List, Some}
+use Rattle.std.proofs.Common.{◌≡◌, ◌≤◌, ◌<◌, ◌+◌, ◌-◌, ◌/◌, ℕ, Bool, true, false, List, Some}
 use Rattle.std.proofs.Common.{subst, sym, ◌∙◌, arith, refl, ⊎_elim, length}
 use Rattle.std.proofs.lemmas.Bool.{cases_lt}
 use Rattle.std.proofs.lemmas.Option.{slice_get_within}
 use Rattle.std.specs.Prelude.{Decides, slice_get}
 use Rattle.run_simulator.specs.ListLaws.{exists_at}
-use Rattle.model_line.specs.Parameters.{terminal_count, param_count}
+use Rattle.model_line.specs.Parameters.{terminal_count}
 use Rattle.model_line.specs.{declared.line.Line.Line, declared.script.Script.Script}
 use Rattle.model_logic.specs.{Choice.declared_box, HeldOver.IsHeldOver}
-use Rattle.judge_margins.specs.{Known.Known, declared.end.Side.Side, declared.end.End.End}
+use Rattle.judge_margins.specs.{Known.Known, declared.end.End.End}
 use Rattle.judge_margins.specs.{declared.bracket.Bracket.Bracket, Ends.HaveRoom}
-use Rattle.judge_margins.specs.Brackets.{AreMoves, AreWidened, IsHeldTo, TellMoves, IsBracket, IsNarrow}
+use Rattle.judge_margins.specs.Brackets.{AreMoves, AreWidened, IsHeldTo, TellMoves, IsNarrow}
 use Rattle.judge_margins.specs.Brackets.{AreBrackets, AreSlacks, AreFirst, AreMiddles, AreHalves}
 use Rattle.judge_margins.specs.Brackets.{first_bracket, middle_of, half_of}
-use Rattle.judge_margins.specs.Widened.{room, param_at, side_at}
+use Rattle.judge_margins.specs.Widened.{param_at, side_at}
 use Rattle.judge_boxes.specs.Held.{AreParts, TellHeld}
 use Rattle.judge_margins.proofs.WidenedLaws.{room_small, within_params, to_box, from_box}
 use Rattle.judge_margins.proofs.KeptLaws.{held_unmoved}

@@ -1,18 +1,17 @@
 -- The ends over one obligation more, and over all.
-use Rattle.std.proofs.Common.{◌≡◌, ◌≤◌, ◌<◌, ◌+◌, ◌*◌, ℕ, Bool, true, false, List, Some, None, Option}
-use Rattle.std.proofs.Common.{subst, sym, ◌∙◌, ap, arith, ⊎_elim, length, cond, refl}
+use Rattle.std.proofs.Common.{◌≡◌, ◌≤◌, ◌<◌, ◌+◌, ℕ, Bool, true, false, List, Some, None, Option}
+use Rattle.std.proofs.Common.{subst, sym, ◌∙◌, arith, ⊎_elim, length, cond, refl}
 use Rattle.std.proofs.lemmas.Bool.{cases_lt, ltb-true, ltb-false}
 use Rattle.std.proofs.lemmas.Option.{slice_get_within}
 use Rattle.std.specs.Prelude.{slice_get, nat_lt}
 use Rattle.std.specs.List.{All}
 use Rattle.run_simulator.specs.ListLaws.{exists_at}
-use Rattle.model_line.specs.Parameters.{terminal_count}
 use Rattle.model_line.specs.{declared.line.Line.Line, declared.script.Script.Script, Fits.Fits}
 use Rattle.judge_margin.specs.declared.upper_end.Lost.{Lost}
 use Rattle.judge_margins.specs.{Known.Known, declared.end.Side.Side, declared.end.End.End}
 use Rattle.judge_margins.specs.{declared.bracket.Bracket.Bracket, Widened.room, Widened.widened}
-use Rattle.judge_margins.specs.Brackets.{IsBracket, AreBrackets, AreSettled, settled, IsHeldTo}
-use Rattle.judge_margins.specs.Ends.{AreKeptTo, IsLostBeyond, IsEnd, AreEnds, IsFound, AreFound}
+use Rattle.judge_margins.specs.Brackets.{IsBracket, AreBrackets, AreSettled, IsHeldTo}
+use Rattle.judge_margins.specs.Ends.{AreKeptTo, IsLostBeyond, AreEnds, IsFound, AreFound}
 use Rattle.judge_margins.specs.Ends.{AreLimits, HaveRoom, limit_of}
 use Rattle.judge_margins.specs.Kept.{IsKept, AreKept, AreObligations}
 use Rattle.judge_margins.specs.Widened.{param_at, side_at}

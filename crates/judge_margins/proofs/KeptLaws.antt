@@ -1,5 +1,5 @@
 -- What is held with an end moved outward is held with it moved less.
-use Rattle.std.proofs.Common.{◌≡◌, ◌≤◌, ◌<◌, ◌+◌, ℕ, List, Some, subst, arith}
+use Rattle.std.proofs.Common.{◌≡◌, ◌≤◌, ◌<◌, ℕ, List, Some, subst}
 use Rattle.std.proofs.lemmas.List.Elements.{All-get_or}
 use Rattle.std.proofs.lemmas.Option.{slice_get_within, get_or_from_slice_get}
 use Rattle.std.specs.Prelude.{slice_get}
@@ -9,7 +9,7 @@ use Rattle.model_line.specs.{declared.line.Line.Line, declared.script.Script.Scr
 use Rattle.model_logic.specs.{Choice.declared_box, HeldOver.IsHeldOver}
 use Rattle.judge_margin.specs.declared.upper_end.Lost.{Lost}
 use Rattle.judge_margins.specs.{Known.Known, declared.end.Side.Side}
-use Rattle.judge_margins.specs.Kept.{IsKept, AreKept, AreObligations}
+use Rattle.judge_margins.specs.Kept.{AreKept, AreObligations}
 use Rattle.judge_margins.specs.{Brackets.IsHeldTo, Widened.room, Widened.widened}
 use Rattle.judge_margins.proofs.WidenedLaws.{widened_within, unmoved_within, from_one}
 

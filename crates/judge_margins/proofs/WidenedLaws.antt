@@ -1,11 +1,10 @@
 -- The boxes with one end of one interval moved outward.
-use Rattle.std.proofs.Common.{◌≡◌, ◌≤◌, ◌<◌, ◌+◌, ◌-◌, ◌*◌, ◌/◌, ℕ, Bool, true, false, sym, ◌∙◌, ap}
+use Rattle.std.proofs.Common.{◌≡◌, ◌≤◌, ◌<◌, ◌*◌, ◌/◌, ℕ, Bool, true, sym, ap}
 use Rattle.std.proofs.Common.{subst, arith, inl, inr, eq-eqb, cond}
 use Rattle.std.proofs.lemmas.Bool.{cases_eq, ne_eqb}
-use Rattle.std.specs.Prelude.{IsTrue}
 use Rattle.model_history.specs.Rails.{Ends, IsPartOf}
-use Rattle.model_line.specs.Parameters.{channel_count, param_count, delay_param, declared_ends}
-use Rattle.model_line.specs.Parameters.{is_delay, terminal_count}
+use Rattle.model_line.specs.Parameters.{param_count, delay_param, declared_ends}
+use Rattle.model_line.specs.Parameters.{is_delay}
 use Rattle.model_line.specs.{declared.line.Line.Line, declared.script.Script.Script}
 use Rattle.model_line.specs.SetBounds.{SameButParams}
 use Rattle.model_logic.specs.Choice.{Box, IsBoxWithin, LeastFromOne, declared_box}

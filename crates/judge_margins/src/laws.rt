@@ -1,8 +1,8 @@
 //! The laws of margins.
 
-ghost use Rattle.std.specs.Prelude.{◌≡◌, ◌≤◌, ◌<◌, ℕ, List, Some, length, slice_get};
+ghost use Rattle.std.specs.Prelude.{◌≡◌, ◌≤◌, ◌<◌, ℕ, List, Some, slice_get};
 ghost use Rattle.std.specs.List.{All};
-ghost use Rattle.model_line.specs.{Parameters.terminal_count, Parameters.param_count, Fits.Fits};
+ghost use Rattle.model_line.specs.{Fits.Fits};
 ghost use Rattle.model_line.specs.{declared.line.Line.Line, declared.script.Script.Script};
 ghost use Rattle.model_logic.specs.Choice.{Choice, IsWithin};
 ghost use Rattle.model_logic.specs.Histories.{History, IsLineHistory, Meets};

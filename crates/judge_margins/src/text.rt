@@ -1,6 +1,6 @@
 //! The rows of margins.
 
-ghost use Rattle.std.specs.Prelude.{◌≡◌, ◌≤◌, ◌<◌, ◌*◌, ◌++◌, OnOk, IfOk, length, decimal};
+ghost use Rattle.std.specs.Prelude.{◌≡◌, ◌≤◌, ◌<◌, ◌++◌, OnOk, IfOk, decimal};
 ghost use Rattle.model_line.specs.Parameters.{param_count, declared_ends};
 ghost use Rattle.judge_margins.specs.MarginsText.{margins_rows, end_row, end_moved, side_word};
 ghost use Rattle.judge_margins.specs.MarginsText.{lost_words, end_head, end_numbers};

@@ -1,7 +1,6 @@
 //! A line with one end of one interval moved outward.
 
 ghost use Rattle.std.specs.Prelude.{◌≡◌, ◌≤◌, ◌<◌, IfOk};
-ghost use Rattle.model_history.specs.Rails.{Ends};
 ghost use Rattle.model_line.specs.Parameters.{param_count, declared_ends};
 ghost use Rattle.judge_margins.specs.Widened.{IsWidened, moved, room as room_of};
 ghost use Rattle.judge_margins.specs.Widened.{first_number as first_of};

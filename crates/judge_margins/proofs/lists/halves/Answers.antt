@@ -1,4 +1,4 @@
-use Rattle.std.proofs.Common.{◌≡◌, ℕ, Bool, Some, arith}
+use Rattle.std.proofs.Common.{◌≡◌, Bool, Some, arith}
 use Rattle.std.specs.Prelude.{slice_get}
 use Rattle.judge_margins.specs.declared.bracket.Bracket.{Bracket}
 use Rattle.judge_margins.specs.Brackets.{half_of}

@@ -1,4 +1,4 @@
-use Rattle.std.proofs.Common.{◌≡◌, ℕ, Bool, Some}
+use Rattle.std.proofs.Common.{◌≡◌, Some}
 use Rattle.std.specs.Prelude.{slice_get}
 use Rattle.judge_margins.specs.Each.{OneForEach}
 use Rattle.judge_margins.specs.declared.bracket.Bracket.{Bracket}

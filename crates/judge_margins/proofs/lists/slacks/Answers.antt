@@ -1,5 +1,4 @@
-use Rattle.std.proofs.Common.{◌≡◌, ℕ, Bool, Some, arith}
-use Rattle.std.specs.Prelude.{slice_get}
+use Rattle.std.proofs.Common.{◌≡◌, ℕ, arith}
 use Rattle.judge_margins.specs.declared.end.End.{End}
 use Rattle.judge_margins.proofs.EachLaws.{one_more, all_of}
 use Rattle.judge_margins.proofs.lists.slacks.Goals as goal

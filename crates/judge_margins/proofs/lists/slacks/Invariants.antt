@@ -1,5 +1,4 @@
-use Rattle.std.proofs.Common.{◌≡◌, ℕ, Bool, Some}
-use Rattle.std.specs.Prelude.{slice_get}
+use Rattle.std.proofs.Common.{◌≡◌, ℕ}
 use Rattle.judge_margins.specs.Each.{OneForEach}
 use Rattle.judge_margins.specs.declared.end.End.{End}
 use Rattle.judge_margins.proofs.lists.slacks.Given as goal

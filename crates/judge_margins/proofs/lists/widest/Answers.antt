@@ -1,8 +1,7 @@
-use Rattle.std.proofs.Common.{◌≡◌, ◌≤◌, ◌<◌, ◌+◌, ℕ, Some, arith, subst, ⊎_elim}
+use Rattle.std.proofs.Common.{◌≡◌, ℕ, Some, arith, subst, ⊎_elim}
 use Rattle.std.proofs.lemmas.Bool.{cases_lt}
 use Rattle.std.proofs.lemmas.Option.{slice_get_within}
 use Rattle.std.specs.Prelude.{slice_get}
-use Rattle.judge_margins.specs.declared.bracket.Bracket.{Bracket}
 use Rattle.judge_margins.proofs.lists.widest.Goals as goal
 
 pub loop-place-preserved : goal.loop-place-preserved

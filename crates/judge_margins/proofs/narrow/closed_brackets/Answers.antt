@@ -1,6 +1,6 @@
-use Rattle.std.proofs.Common.{◌/◌, ℕ, List, sym, subst}
+use Rattle.std.proofs.Common.{List, sym, subst}
 use Rattle.judge_margins.specs.declared.bracket.Bracket.{Bracket}
-use Rattle.judge_margins.specs.Brackets.{AreBrackets, AreMiddles, AreMoves}
+use Rattle.judge_margins.specs.Brackets.{AreBrackets, AreMiddles}
 use Rattle.judge_margins.proofs.BracketLaws.{middles_have_room}
 use Rattle.judge_margins.proofs.narrow.closed_brackets.Goals as goal
 

@@ -1,4 +1,4 @@
-use Rattle.std.proofs.Common.{◌≡◌, ◌+◌, ◌∷◌, [], ℕ, length, length-append, arith, sym, ◌∙◌, ap}
+use Rattle.std.proofs.Common.{◌≡◌, ◌+◌, ◌∷◌, [], ℕ, length, length-append, sym, ◌∙◌, ap}
 use Rattle.judge_margins.specs.{declared.end.End.End, Ends.limit_of}
 use Rattle.judge_margins.proofs.EachLaws.{each_more}
 use Rattle.judge_margins.proofs.narrow.limits.Goals as goal

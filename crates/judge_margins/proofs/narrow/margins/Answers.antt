@@ -1,7 +1,6 @@
-use Rattle.std.proofs.Common.{◌≡◌, ◌≤◌, ◌<◌, ℕ, List, length, subst, sym, arith}
-use Rattle.judge_margins.specs.Ends.{AreFound, AreEnds}
-use Rattle.judge_margins.specs.declared.end.End.{End}
-use Rattle.judge_margins.proofs.EndLaws.{limits_found, founds_are_ends, found_room}
+use Rattle.std.proofs.Common.{◌≡◌, ℕ, length, subst, arith}
+use Rattle.judge_margins.specs.Ends.{AreEnds}
+use Rattle.judge_margins.proofs.EndLaws.{founds_are_ends, found_room}
 use Rattle.judge_margins.proofs.narrow.margins.Goals as goal
 
 pub returns-clause-ends : goal.returns-clause-ends

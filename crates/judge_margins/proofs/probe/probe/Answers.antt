@@ -1,4 +1,4 @@
-use Rattle.std.proofs.Common.{Bool, List, sym, subst}
+use Rattle.std.proofs.Common.{List, sym, subst}
 use Rattle.std.proofs.lemmas.Result.{IfOk-weaker}
 use Rattle.model_line.specs.declared.line.Line.{Line}
 use Rattle.judge_boxes.specs.Held.{AreParts, TellHeld}

@@ -1,5 +1,4 @@
-use Rattle.std.proofs.Common.{◌≡◌, ℕ, Bool, Some, arith}
-use Rattle.std.specs.Prelude.{slice_get}
+use Rattle.std.proofs.Common.{ℕ, arith}
 use Rattle.model_line.specs.declared.line.Line.{Line}
 use Rattle.judge_margins.specs.Widened.{IsWidened, param_at, side_at}
 use Rattle.judge_margins.proofs.EachLaws.{one_more, all_of}

@@ -1,5 +1,4 @@
-use Rattle.std.proofs.Common.{◌≡◌, ℕ, Bool, Some}
-use Rattle.std.specs.Prelude.{slice_get}
+use Rattle.std.proofs.Common.{ℕ}
 use Rattle.judge_margins.specs.Each.{OneForEach}
 use Rattle.model_line.specs.declared.line.Line.{Line}
 use Rattle.judge_margins.specs.Widened.{IsWidened, param_at, side_at}

@@ -1,5 +1,4 @@
-use Rattle.std.proofs.Common.{◌≡◌, ◌≤◌, ℕ, subst, arith, length}
-use Rattle.model_logic.specs.Choice.{declared_box}
+use Rattle.std.proofs.Common.{length}
 use Rattle.judge_margins.proofs.TodayLaws.{picked_exist, picked_kept}
 use Rattle.judge_margins.proofs.today.held_today.Goals as goal
 
