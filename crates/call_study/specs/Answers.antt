@@ -3,7 +3,7 @@
 use Rattle.std.specs.Prelude.{◌≡◌, ℕ, List, [], Option, Result, Ok, Err}
 use Rattle.call_commands.specs.Answers as commands
 use Rattle.call_commands.specs.Answers.{prints}
-use Rattle.call_settle.specs.Settled.{settle_answer}
+use Rattle.call_tables.specs.Settled.{settle_answer}
 use Rattle.call_pilot.specs.{Files.contents, declared.stop.File.File}
 use Rattle.call_study.specs.{Halts.End, declared.halt.Halt.Halt}
 use Rattle.call_study.specs.declared.ask.Form.TheVariants as form

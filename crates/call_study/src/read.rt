@@ -15,7 +15,7 @@ use crate::halt::Halt;
 use crate::pictures::{bands_text, dump_text, run_text};
 use call_commands::Said;
 use call_pilot::read_study;
-use call_settle::settle_table;
+use call_tables::settle_table;
 use file_timing::read_timings;
 use model_line::{Line, Memory, Script};
 use model_timing::NamedTiming;

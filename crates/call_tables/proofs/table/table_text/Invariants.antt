@@ -1,6 +1,6 @@
 use Rattle.std.proofs.Common.{◌≡◌, take}
-use Rattle.call_settle.specs.Table.{table_text}
-use Rattle.call_settle.proofs.table.table_text.Given as goal
+use Rattle.call_tables.specs.Table.{table_text}
+use Rattle.call_tables.proofs.table.table_text.Given as goal
 
 abbrev pub invariant-loop-row : goal.invariant-loop-row
 invariant-loop-row l =

@@ -3,8 +3,8 @@
 ghost use Rattle.std.specs.Prelude.{◌≡◌, IfOk};
 ghost use Rattle.std.specs.List.{list_any};
 ghost use Rattle.call_commands.specs.{Answers.Says, Answers.status_by, Study.IsStudy};
-ghost use Rattle.call_settle.specs.Table.{is_failing as row_fails, is_open as row_is_open};
-ghost use Rattle.call_settle.specs.Settled.{settle_answer};
+ghost use Rattle.call_tables.specs.Table.{is_failing as row_fails, is_open as row_is_open};
+ghost use Rattle.call_tables.specs.Settled.{settle_answer};
 
 use crate::row::Row;
 use crate::rows::settle_all;

@@ -3,7 +3,7 @@
 ghost use Rattle.std.specs.Prelude.{◌<◌, ◌*◌, length, IfOk};
 ghost use Rattle.model_line.specs.Parameters.{terminal_count};
 ghost use Rattle.call_commands.specs.Study.{IsStudy};
-ghost use Rattle.call_settle.specs.Rows.{AreRows, IsRow};
+ghost use Rattle.call_tables.specs.Rows.{AreRows, IsRow};
 
 use crate::row::Row;
 use call_commands::Study;

@@ -3,7 +3,7 @@ use Rattle.std.proofs.lemmas.Nat.{div-add-mod'}
 use Rattle.std.proofs.Math.Nat.{div-lt_iff_lt-mul, mod-lt}
 use Rattle.std.proofs.lemmas.Option.{slice_get_read}
 use Rattle.model_line.specs.Parameters.{terminal_count}
-use Rattle.call_settle.proofs.rows.settle_one.Goals as goal
+use Rattle.call_tables.proofs.rows.settle_one.Goals as goal
 
 pub returns : goal.returns
 returns c =

@@ -3,8 +3,8 @@ use Rattle.std.specs.Prelude.{◌≡◌, ℕ, List}
 use Rattle.std.specs.List.{list_any}
 use Rattle.model_line.specs.{declared.line.Line.Line, declared.script.Script.Script}
 use Rattle.call_commands.specs.{Answers.Answers, Answers.status_by, declared.done.Done.Done}
-use Rattle.call_settle.specs.{Rows.AreRows, Table.is_failing, Table.is_open, Table.table_text}
-use Rattle.call_settle.specs.declared.row.Row.{Row}
+use Rattle.call_tables.specs.{Rows.AreRows, Table.is_failing, Table.is_open, Table.table_text}
+use Rattle.call_tables.specs.declared.row.Row.{Row}
 
 -- a table in which each obligation has an answer that is so; which one it is, where more than one
 -- can be found, is left free

@@ -7,7 +7,7 @@ use Rattle.model_names.specs.NamesByNumber.{script_name, terminal_name}
 use Rattle.judge_settle.specs.{declared.answer.Answer.Answer, declared.answer.By.By}
 use Rattle.judge_settle.specs.declared.answer.Answer.TheVariants.{Held, Fails, Open}
 use Rattle.judge_settle.specs.declared.answer.By.TheVariants.{Rules, Candidate, Corner, Parts, Cases}
-use Rattle.call_settle.specs.declared.row.Row.{Row}
+use Rattle.call_tables.specs.declared.row.Row.{Row}
 
 abbrev pub answer_word : Answer → List ℕ
 answer_word (Held nodes) = codes "held"

@@ -1,6 +1,6 @@
-use Rattle.call_settle.specs.Rows.{IsRow}
-use Rattle.call_settle.proofs.Counted.{one_more}
-use Rattle.call_settle.proofs.rows.settle_all.Goals as goal
+use Rattle.call_tables.specs.Rows.{IsRow}
+use Rattle.call_tables.proofs.Counted.{one_more}
+use Rattle.call_tables.proofs.rows.settle_all.Goals as goal
 
 pub loop-i-preserved : goal.loop-i-preserved
 loop-i-preserved c =

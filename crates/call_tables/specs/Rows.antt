@@ -4,7 +4,7 @@ use Rattle.model_line.specs.{declared.line.Line.Line, declared.script.Script.Scr
 use Rattle.model_line.specs.Parameters.{terminal_count}
 use Rattle.judge_verdict.specs.OneEach.{OneEach}
 use Rattle.judge_settle.specs.Answers.{IsAnswer}
-use Rattle.call_settle.specs.declared.row.Row.{Row}
+use Rattle.call_tables.specs.declared.row.Row.{Row}
 
 -- row i in the order of the report, script by script and in each its terminals in line order, with
 -- what is known of that obligation

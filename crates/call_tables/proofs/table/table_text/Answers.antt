@@ -3,8 +3,8 @@ use Rattle.std.proofs.lemmas.List.{append-nil}
 use Rattle.std.proofs.lemmas.Option.{slice_get_within, slice_get_read}
 use Rattle.std.specs.Prelude.{slice_get}
 use Rattle.csv.specs.Writing.{row_text, default_writer}
-use Rattle.call_settle.specs.Table.{header_record}
-use Rattle.call_settle.proofs.table.table_text.Goals as goal
+use Rattle.call_tables.specs.Table.{header_record}
+use Rattle.call_tables.proofs.table.table_text.Goals as goal
 
 pub loop-row-init : goal.loop-row-init
 loop-row-init c =

@@ -1,3 +1,4 @@
 pub mod Rows
 pub mod Table
 pub mod Settled
+pub mod Margins

@@ -1,6 +1,6 @@
 use Rattle.judge_verdict.specs.OneEach.{OneEach}
-use Rattle.call_settle.specs.Rows.{IsRow}
-use Rattle.call_settle.proofs.rows.settle_all.Given as goal
+use Rattle.call_tables.specs.Rows.{IsRow}
+use Rattle.call_tables.proofs.rows.settle_all.Given as goal
 
 abbrev pub invariant-loop-i : goal.invariant-loop-i
 invariant-loop-i l =

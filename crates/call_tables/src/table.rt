@@ -3,9 +3,9 @@
 ghost use Rattle.std.specs.Prelude.{◌≡◌, ◌<◌, ◌++◌, length, IfOk, OnOk};
 ghost use Rattle.csv.specs.Writing.{row_text, default_writer};
 ghost use Rattle.model_line.specs.Parameters.{terminal_count};
-ghost use Rattle.call_settle.specs.Rows.{AreRows};
-ghost use Rattle.call_settle.specs.Table.{answer_word as word_of_answer, by_word as word_of_by};
-ghost use Rattle.call_settle.specs.Table.{row_record, table_text as table_text_of, timing_name};
+ghost use Rattle.call_tables.specs.Rows.{AreRows};
+ghost use Rattle.call_tables.specs.Table.{answer_word as word_of_answer, by_word as word_of_by};
+ghost use Rattle.call_tables.specs.Table.{row_record, table_text as table_text_of, timing_name};
 
 use crate::row::Row;
 use base_records::push_record;

@@ -1,0 +1,27 @@
+-- What the command `margins` answers.
+use Rattle.std.specs.Prelude.{◌≡◌, ℕ, List, [], ◌∷◌, length}
+use Rattle.model_line.specs.{declared.line.Line.Line, declared.script.Script.Script}
+use Rattle.judge_margin.specs.declared.upper_end.Lost.{Lost}
+use Rattle.judge_margins.specs.{Ends.AreEnds, MarginsText.margins_rows, Today.AreToday}
+use Rattle.judge_margins.specs.declared.end.End.{End}
+use Rattle.call_commands.specs.{Answers.Answers, declared.done.Done.Done}
+use Rattle.call_commands.specs.declared.done.Done.TheVariants as done
+
+-- 2 where some obligations are not held today
+abbrev pub status_with : List Lost → Done
+status_with [] = done.Good
+status_with (other ∷ others) = done.SomeUndecided
+
+-- the rows of both ends of each parameter, over the obligations that are held today
+pub record AreMargins (line : Line) (scripts : List Script) (status : Done) (text : List ℕ)
+    : Type 0 where
+  pub held : List Lost
+  pub others : List Lost
+  pub today : AreToday line scripts (length scripts) 0 held others
+  pub ends : List End
+  pub are : AreEnds line scripts held (length held) ends
+  pub status_is : status ≡ status_with others
+  pub text_is : text ≡ margins_rows line scripts ends
+
+abbrev pub margins_answer : Line → List Script → Answers
+margins_answer line scripts = AreMargins line scripts

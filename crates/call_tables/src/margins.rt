@@ -1,0 +1,40 @@
+//! The margins of all times.
+
+ghost use Rattle.std.specs.Prelude.{◌≡◌, IfOk};
+ghost use Rattle.call_commands.specs.{Answers.Says, Study.IsStudy};
+ghost use Rattle.call_tables.specs.Margins.{margins_answer, status_with};
+
+use call_commands::{Done, Said, Study};
+use judge_margin::Lost;
+use judge_margins::{held_today, margins, margins_text};
+use model_line::Memory;
+use std::alloc::Global;
+
+/// How far each end of each interval can be moved outward, all else as declared, so that each
+/// obligation that is held today is held still; and which is lost first one tick further. Status 2
+/// where some obligation is not held today, and so is left out.
+pub fn margins_table(alloc: Global, study: &Study) -> Result<Said, Memory>
+    requires { IsStudy study.now }
+    ensures { IfOk result
+        (Says (margins_answer study.now.line study.now.scripts.items)) }
+{
+    let line = &study.line;
+    let scripts = study.scripts.as_slice();
+    let today = held_today(alloc, line, &study.net, scripts)?;
+    let ends = margins(alloc, line, &study.net, scripts, today.held.as_slice())?;
+    let text = margins_text(alloc, line, scripts, ends.as_slice())?;
+    Ok(Said {
+        status: status_of(today.others.as_slice()),
+        text,
+    })
+}
+
+fn status_of(others: &[Lost]) -> Done
+    ensures { result ≡ status_with others.now }
+{
+    if others.is_empty() {
+        Done::Good
+    } else {
+        Done::SomeUndecided
+    }
+}
