@@ -77,7 +77,19 @@ pub fn cuts_of(
     Ok(cuts)
 }
 
-/// Looks at both sides of each cut of a view, and chooses one, if one helps.
+/// The cuts at a tick beside a case.
+pub fn cuts_beside(alloc: Global, cuts: &[Cut], last: Case) -> Result<Vec<Cut>, Memory> {
+    let mut near = Vec::new(alloc);
+    for cut in cuts {
+        if is_beside(*cut, last) {
+            near.push(*cut)?;
+        }
+    }
+    Ok(near)
+}
+
+/// Looks at both sides of each cut of a view, and chooses one, if one helps: the best case that
+/// settles a side, else the least sum of scores. With `settling` only such a case is chosen.
 pub fn choose(
     alloc: Global,
     scene: &Scene,
@@ -85,17 +97,21 @@ pub fn choose(
     assumed: &[Assumed],
     cuts: &[Cut],
     score: Score,
-    last: Option<Case>,
+    settling: bool,
 ) -> Result<Option<Chosen>, Memory> {
     let mut outlooks = Vec::new(alloc);
     for block in 0..cuts.len() / BLOCK + 1 {
         outlooks.push(look_at_block(alloc, scene, ends, assumed, cuts, block * BLOCK)?)?;
     }
     let trials = trials_of(alloc, scene, cuts, &outlooks)?;
-    let Some(place) = best(&trials, score, last) else {
-        return Ok(None);
-    };
-    chosen_at(alloc, scene, cuts, &outlooks, place)
+    let mut best = best_settling(&trials, score);
+    if best.is_none() && !settling {
+        best = least_sum(&trials, score);
+    }
+    match best {
+        Some(place) => chosen_at(alloc, scene, cuts, &outlooks, place),
+        None => Ok(None),
+    }
 }
 
 // The views of a block of cuts: two lanes for each.
@@ -171,16 +187,6 @@ impl Trial {
         self.meets && self.worse() < score && matches!(self.cut, Cut::Case(_))
     }
 
-    // Whether it is a case at a tick beside another.
-    fn is_beside(self, last: Case) -> bool {
-        match self.cut {
-            Cut::Split { .. } => false,
-            Cut::Case(case) => {
-                case.terminal == last.terminal && case.tick.abs_diff(last.tick) == 1
-            }
-        }
-    }
-
     // Whether it is a case that changes neither side.
     fn is_idle(self, score: Score) -> bool {
         matches!(self.cut, Cut::Case(_)) && self.first == score && self.second == score
@@ -215,22 +221,12 @@ fn lane_of(place: usize) -> u32
     2 * (place % BLOCK) as u32
 }
 
-// The place of the trial to go by: beside the last case, else the best case that settles a side,
-// else the least sum of scores.
-fn best(trials: &[Trial], score: Score, last: Option<Case>) -> Option<usize> {
-    if let Some(case) = last {
-        let beside = trials
-            .iter()
-            .position(|t| t.is_beside(case) && t.settles(score));
-        if beside.is_some() {
-            return beside;
-        }
+// Whether it is a case at a tick beside another.
+fn is_beside(cut: Cut, last: Case) -> bool {
+    match cut {
+        Cut::Split { .. } => false,
+        Cut::Case(case) => case.terminal == last.terminal && case.tick.abs_diff(last.tick) == 1,
     }
-    let settling = best_settling(trials, score);
-    if settling.is_some() {
-        return settling;
-    }
-    least_sum(trials, score)
 }
 
 // The first of those that settle a side whose other side is nearest.

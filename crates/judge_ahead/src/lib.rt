@@ -21,6 +21,6 @@ mod views;
 
 pub use candidates::{CANDIDATES, failing};
 pub use case::{Assumed, Case};
-pub use cuts::{Chosen, Cut, Side, choose, cuts_of, side_of};
+pub use cuts::{Chosen, Cut, Side, choose, cuts_beside, cuts_of, side_of};
 pub use outlook::Score;
 pub use scene::Scene;
