@@ -1,0 +1,47 @@
+-- Answers from what a search finds.
+use Rattle.std.proofs.Common.{◌≡◌, ◌<◌, ℕ, Bool, true, false, List, [], sym, ◌∙◌, refl}
+use Rattle.std.proofs.lemmas.List.Elements.{All-nil}
+use Rattle.std.specs.Prelude.{IsTrue}
+use Rattle.model_line.specs.{declared.line.Line.Line, declared.script.Script.Script}
+use Rattle.model_line.specs.Parameters.{terminal_count}
+use Rattle.model_logic.specs.Choice.{Choice, declared_box, LeastFromOne}
+use Rattle.model_logic.specs.Histories.{History}
+use Rattle.model_cases.specs.Assumed.{Agrees}
+use Rattle.model_cases.specs.CaseTrees.{CaseTree, are_yes, AreSound}
+use Rattle.model_cases.specs.Laws.{SoundTreesMeet}
+use Rattle.model_polarity.specs.{Laws.EveryChoiceMeets, Schemes.IsOneRailedBy}
+use Rattle.judge_settle.specs.declared.grown.Grown.{Grown}
+use Rattle.judge_settle.specs.Trees.{IsGrown}
+use Rattle.judge_settle.specs.Answers.{IsHeldTree, IsOpenTree}
+
+module _ (meet : SoundTreesMeet) (line : Line) (script : Script) (k : ℕ)
+    (early : script.deadline < line.horizon) (later : LeastFromOne line (declared_box line))
+    (there : k < terminal_count line) where
+  pub every_choice : (tree : CaseTree) → AreSound line script k (declared_box line) [] tree
+      → IsTrue (are_yes tree) → EveryChoiceMeets line script k
+  every_choice tree sound all choice h inside is =
+      meet line script k (declared_box line) [] tree early later there sound all choice h inside is
+      (All-nil (Agrees line script choice h))
+
+  pub held_answer : (g : Grown) → g.yes ≡ true
+      → IsGrown line script k (declared_box line) [] g → IsHeldTree line script k g.nodes.items
+  held_answer g all grown =
+      let are : IsTrue (are_yes grown.tree) = sym grown.yes ∙ all in
+      record {
+        tree = grown.tree;
+        are = grown.nodes;
+        sound = grown.sound;
+        yes = are;
+        meets = every_choice grown.tree grown.sound are;
+      }
+
+pub open_answer : (line : Line) (script : Script) (k : ℕ) (g : Grown) → g.yes ≡ false
+    → IsGrown line script k (declared_box line) [] g → ¬ (IsOneRailedBy line.scheme line)
+    → IsOpenTree line script k g.nodes.items
+open_answer line script k g off grown mixed = record {
+  tree = grown.tree;
+  are = grown.nodes;
+  sound = grown.sound;
+  undecided = sym grown.yes ∙ off;
+  mixed = mixed;
+}

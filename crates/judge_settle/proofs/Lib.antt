@@ -1,0 +1,4 @@
+mod ViewLaws
+mod TreeLaws
+mod CornerLaws
+mod AnswerLaws

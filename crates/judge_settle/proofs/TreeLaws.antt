@@ -1,0 +1,129 @@
+-- Trees from their leaves and their sides.
+use Rattle.std.proofs.Common.{◌≡◌, ◌∷◌, ◌++◌, [], ℕ, Bool, true, false, List, refl, ◌∙◌, ap, subst, sym}
+use Rattle.std.specs.Prelude.{◌&&◌, Decides}
+use Rattle.model_line.specs.{declared.line.Line.Line, declared.script.Script.Script}
+use Rattle.model_logic.specs.Choice.{Box}
+use Rattle.model_cases.specs.Assumed.{Assumption}
+use Rattle.model_cases.specs.CaseTrees.{Yes, Undecided, Split, Case, are_yes, IsShownUnder}
+use Rattle.model_cases.specs.CaseTrees.{lower_half, upper_half, with_case}
+use Rattle.judge_ahead.specs.declared.cuts.Cut.{Cut}
+use Rattle.judge_ahead.specs.declared.cuts.Cut.TheVariants as cut
+use Rattle.judge_cases.specs.Nodes.{preorder}
+use Rattle.judge_cases.specs.Views.{Views, IsView, view_box}
+use Rattle.judge_cases.specs.declared.node.CaseNode.{CaseNode}
+use Rattle.judge_cases.specs.declared.node.CaseNode.TheVariants as node
+use Rattle.judge_cases.specs.declared.view.View.{View}
+use Rattle.judge_settle.specs.declared.grown.Grown.{Grown}
+use Rattle.judge_settle.specs.declared.sides.Branch.{Branch}
+use Rattle.judge_settle.specs.Joined.{node_of, leaf_of, joined}
+use Rattle.judge_settle.specs.Sides.{AreSides, AreOrdered}
+use Rattle.judge_settle.specs.Trees.{IsGrownOver}
+use Rattle.judge_settle.proofs.ViewLaws.{own_view}
+
+either_way : (a b : Bool) → (a && b) ≡ (b && a)
+either_way true true = refl
+either_way true false = refl
+either_way false true = refl
+either_way false false = refl
+
+module _ (line : Line) (script : Script) (k : ℕ) (view : View) where
+  pub leaf_undecided : (g : Grown) → g.nodes.items ≡ node.Undecided ∷ [] → g.yes ≡ false
+      → IsGrownOver line script k view g
+  leaf_undecided g is told box assumed v = record {
+    tree = Undecided;
+    nodes = is;
+    yes = told;
+    sound = tt;
+  }
+
+  -- a leaf that is yes where the obligation is shown over the view
+  pub leaf_shown : (g : Grown) (b : Bool) → g.nodes.items ≡ leaf_of b ∷ [] → g.yes ≡ b
+      → ((box : Box) (assumed : List Assumption) → Views line box assumed view
+      → Decides b (IsShownUnder line script k box assumed)) → IsGrownOver line script k view g
+  leaf_shown g true is told shown box assumed v = record {
+    tree = Yes;
+    nodes = is;
+    yes = told;
+    sound = (shown box assumed v).0 refl;
+  }
+  leaf_shown g false is told shown box assumed v = leaf_undecided g is told box assumed v
+
+  -- the trees of both sides behind their cut
+  sides_joined : (cut : Cut) (first second : View) (g a b : Grown)
+      → g.nodes.items ≡ node_of cut ∷ (a.nodes.items ++ b.nodes.items)
+      → g.yes ≡ (a.yes && b.yes) → AreSides line view cut first second
+      → IsGrownOver line script k first a → IsGrownOver line script k second b
+      → IsGrownOver line script k view g
+  sides_joined (cut.Split param mid) first second g a b is told sides below above box assumed v =
+      let one = below (lower_half box param mid) assumed (sides.lower box assumed v) in
+      let other = above (upper_half box param mid) assumed (sides.upper box assumed v) in
+      record {
+        tree = Split param mid one.tree other.tree;
+        nodes = is
+            ∙ ap (λ (xs : List CaseNode). node.Split param mid ∷ (xs ++ b.nodes.items)) one.nodes
+            ∙ ap (λ (ys : List CaseNode). node.Split param mid ∷ (preorder one.tree ++ ys))
+            other.nodes;
+        yes = told ∙ ap (λ (x : Bool). x && b.yes) one.yes
+            ∙ ap (λ (y : Bool). are_yes one.tree && y) other.yes;
+        sound = (sides.can box assumed v, (one.sound, other.sound));
+      }
+  sides_joined (cut.Case case) first second g a b is told sides below above box assumed v =
+      let terminal : ℕ = case.terminal in
+      let tick : ℕ = case.tick in
+      let one = below box (with_case assumed terminal tick false) (sides.off box assumed v) in
+      let other = above box (with_case assumed terminal tick true) (sides.on box assumed v) in
+      record {
+        tree = Case terminal tick one.tree other.tree;
+        nodes = is
+            ∙ ap (λ (xs : List CaseNode). node.Case terminal tick ∷ (xs ++ b.nodes.items)) one.nodes
+            ∙ ap (λ (ys : List CaseNode). node.Case terminal tick ∷ (preorder one.tree ++ ys))
+            other.nodes;
+        yes = told ∙ ap (λ (x : Bool). x && b.yes) one.yes
+            ∙ ap (λ (y : Bool). are_yes one.tree && y) other.yes;
+        sound = (sides.can, (one.sound, other.sound));
+      }
+
+  -- in whichever order the sides were searched
+  pub ordered_joined : (cut : Cut) (first second one other : Branch) (turned : Bool)
+      (g a b : Grown)
+      → g.nodes.items ≡ node_of cut ∷ joined turned a.nodes.items b.nodes.items
+      → g.yes ≡ (a.yes && b.yes) → AreSides line view cut first.view second.view
+      → AreOrdered first second turned one other → IsGrownOver line script k one.view a
+      → IsGrownOver line script k other.view b → IsGrownOver line script k view g
+  ordered_joined cut first second one other true g a b is told sides ordered worse better =
+      let same = ordered.turned_round refl in
+      sides_joined cut first.view second.view g b a is (told ∙ either_way a.yes b.yes) sides
+      (subst (λ (x : Branch). IsGrownOver line script k x.view b) same.1 better)
+      (subst (λ (x : Branch). IsGrownOver line script k x.view a) same.0 worse)
+  ordered_joined cut first second one other false g a b is told sides ordered worse better =
+      let same = ordered.kept refl in
+      sides_joined cut first.view second.view g a b is told sides
+      (subst (λ (x : Branch). IsGrownOver line script k x.view a) same.0 worse)
+      (subst (λ (x : Branch). IsGrownOver line script k x.view b) same.1 better)
+
+-- the sides of a view are views
+pub sides_are_views : (line : Line) (view : View) (cut : Cut) (first second : View)
+    → IsView line view → AreSides line view cut first second
+    → IsView line first × IsView line second
+sides_are_views line view (cut.Split param mid) first second is sides = (
+  (sides.lower (view_box line view) view.assumed.items (own_view line view is)).is,
+  (sides.upper (view_box line view) view.assumed.items (own_view line view is)).is,
+)
+sides_are_views line view (cut.Case case) first second is sides = (
+  (sides.off (view_box line view) view.assumed.items (own_view line view is)).is,
+  (sides.on (view_box line view) view.assumed.items (own_view line view is)).is,
+)
+
+pub ordered_views : (line : Line) (first second one other : Branch) (turned : Bool)
+    → AreOrdered first second turned one other → IsView line first.view → IsView line second.view
+    → IsView line one.view × IsView line other.view
+ordered_views line first second one other true ordered a b =
+    let same = ordered.turned_round refl in (
+      subst (λ (x : Branch). IsView line x.view) (sym same.0) b,
+      subst (λ (x : Branch). IsView line x.view) (sym same.1) a,
+    )
+ordered_views line first second one other false ordered a b =
+    let same = ordered.kept refl in (
+      subst (λ (x : Branch). IsView line x.view) (sym same.0) a,
+      subst (λ (x : Branch). IsView line x.view) (sym same.1) b,
+    )

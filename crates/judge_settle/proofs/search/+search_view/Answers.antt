@@ -1,0 +1,55 @@
+use Rattle.std.proofs.Common.{Option, subst, arith}
+use Rattle.std.specs.Prelude.{IfSome}
+use Rattle.judge_settle.specs.declared.sides.Branches.{Branches}
+use Rattle.judge_settle.specs.declared.search.Found.{Found}
+use Rattle.judge_settle.specs.Sides.{AreBranches}
+use Rattle.judge_settle.specs.Trees.{IsFound, IsGrownOver}
+use Rattle.judge_settle.proofs.TreeLaws.{sides_are_views, ordered_views, ordered_joined}
+use Rattle.judge_settle.proofs.search.+search_view.Goals as goal
+
+pub search_view-requires : goal.search_view-requires
+search_view-requires t c =
+    let line = c.args.scene.now.line.now in
+    let view = c.args.branch.now.view in
+    let are : AreBranches line view c.in-Some-2.chosen.cut c.in-Some-3.branches =
+    subst (λ (o : Option Branches). IfSome o (AreBranches line view c.in-Some-2.chosen.cut))
+    c.in-Some-3.is c.in_ok-branches.ensures in
+    let views = sides_are_views line view c.in-Some-2.chosen.cut are.first.view are.second.view
+    c.requires.view are.sides in
+    let both = ordered_views line are.first are.second c.in-Some-3.branches.worse
+    c.in-Some-3.branches.other c.in-Some-3.branches.turned are.ordered views.0 views.1 in
+    (omega arith, (c.requires.can, both.0))
+
+pub search_view-requires-2 : goal.search_view-requires-2
+search_view-requires-2 t c =
+    let line = c.args.scene.now.line.now in
+    let view = c.args.branch.now.view in
+    let are : AreBranches line view c.in-Some-2.chosen.cut c.in-Some-3.branches =
+    subst (λ (o : Option Branches). IfSome o (AreBranches line view c.in-Some-2.chosen.cut))
+    c.in-Some-3.is c.in_ok-branches.ensures in
+    let views = sides_are_views line view c.in-Some-2.chosen.cut are.first.view are.second.view
+    c.requires.view are.sides in
+    let both = ordered_views line are.first are.second c.in-Some-3.branches.worse
+    c.in-Some-3.branches.other c.in-Some-3.branches.turned are.ordered views.0 views.1 in
+    (omega arith, (c.requires.can, both.1))
+
+pub returns : goal.returns
+returns t c =
+    let line = c.args.scene.now.line.now in
+    let script = c.args.scene.now.script.now in
+    let k = c.args.scene.now.terminal in
+    let view = c.args.branch.now.view in
+    let cut = c.in-Some-2.chosen.cut in
+    let branches = c.in-Some-3.branches in
+    let are : AreBranches line view cut branches =
+    subst (λ (o : Option Branches). IfSome o (AreBranches line view cut)) c.in-Some-3.is
+    c.in_ok-branches.ensures in
+    let worse : IsGrownOver line script k branches.worse.view c.in-Tree.tree =
+    subst (λ (f : Found). IsFound line script k branches.worse.view f) c.in-Tree.is
+    c.in_ok-tree.ensures in
+    let other : IsGrownOver line script k branches.other.view c.in-Tree-2.tree =
+    subst (λ (f : Found). IsFound line script k branches.other.view f) c.in-Tree-2.is
+    c.in_ok-tree-2.ensures in
+    ordered_joined line script k view cut are.first are.second branches.worse branches.other
+    branches.turned c.in_ok-tree-3.tree c.in-Tree.tree c.in-Tree-2.tree c.in_ok-tree-3.ensures.nodes
+    c.in_ok-tree-3.ensures.yes are.sides are.ordered worse other

@@ -1,0 +1,6 @@
+pub mod Joined
+pub mod Trees
+pub mod Sides
+pub mod Scenes
+pub mod Answers
+pub mod Trips

@@ -1,0 +1,134 @@
+//! What is done with one view.
+
+ghost use Rattle.std.specs.Prelude.{IfOk, IfSome};
+ghost use Rattle.judge_cases.specs.Views.{IsView};
+ghost use Rattle.judge_settle.specs.{Trees.IsGrownOver, Trees.IsFailing, Scenes.CanSearch};
+
+use crate::budget::Budget;
+use crate::grown::{Grown, leaf};
+use crate::play::fails;
+use crate::sides::Branch;
+use judge_ahead::{
+    Assumed, CANDIDATES, Case, Chosen, Cut, Scene, Side, choose, cuts_beside, cuts_of, failing,
+    side_of,
+};
+use judge_cases::{View, is_shown};
+use model_line::Memory;
+use model_line::laws::deadlines_are_below_the_horizon;
+use model_timing::Timing;
+use std::alloc::Global;
+
+/// What is seen of a view.
+pub fn side_in(
+    alloc: Global,
+    scene: &Scene,
+    view: &View,
+    budget: &mut Budget,
+) -> Result<Side, Memory> {
+    budget.count(1);
+    let assumed = assumed_in(alloc, view)?;
+    side_of(alloc, scene, &view.ends, &assumed)
+}
+
+/// The leaf of a view: yes if the obligation is shown over it.
+pub fn shown_leaf(alloc: Global, scene: &Scene, view: &View) -> Result<Grown, Memory>
+    requires can { CanSearch scene.now.line.now scene.now.net.now scene.now.script.now
+        scene.now.terminal }
+    requires view { IsView scene.now.line.now view.now }
+    ensures { IfOk result (λ grown. IsGrownOver scene.now.line.now scene.now.script.now
+        scene.now.terminal view.now grown) }
+{
+    deadlines_are_below_the_horizon();
+    let terminal = scene.terminal;
+    let yes = is_shown(alloc, scene.line, scene.net, scene.script, terminal, view)?;
+    leaf(alloc, yes)
+}
+
+/// A timing of the box that fails the obligation, if one of its candidates does.
+pub fn failing_in(
+    alloc: Global,
+    scene: &Scene,
+    view: &View,
+    budget: &mut Budget,
+) -> Result<Option<Timing>, Memory>
+    requires { CanSearch scene.now.line.now scene.now.net.now scene.now.script.now
+        scene.now.terminal }
+    ensures { IfOk result (λ found. IfSome found (λ timing.
+        IsFailing scene.now.line.now scene.now.script.now scene.now.terminal timing)) }
+{
+    budget.count(CANDIDATES);
+    let Some(timing) = failing(alloc, scene, &view.ends)? else {
+        return Ok(None);
+    };
+    let terminal = scene.terminal;
+    if fails(
+        alloc,
+        scene.line,
+        scene.net,
+        scene.script,
+        terminal,
+        &timing,
+    )? {
+        return Ok(Some(timing));
+    }
+    Ok(None)
+}
+
+/// Where to cut a view, if that helps: at a tick beside the last case if that settles a side, else
+/// wherever it helps most.
+pub fn choose_in(
+    alloc: Global,
+    scene: &Scene,
+    branch: &Branch,
+    last: Option<Case>,
+    budget: &mut Budget,
+) -> Result<Option<Chosen>, Memory> {
+    let cuts = cuts_of(alloc, scene, &branch.view.ends, &branch.side.cases)?;
+    if let Some(case) = last {
+        let near = cuts_beside(alloc, &cuts, case)?;
+        if let Some(chosen) = choose_among(alloc, scene, branch, &near, true, budget)? {
+            return Ok(Some(chosen));
+        }
+    }
+    choose_among(alloc, scene, branch, &cuts, false, budget)
+}
+
+// One of these cuts, if it helps.
+fn choose_among(
+    alloc: Global,
+    scene: &Scene,
+    branch: &Branch,
+    cuts: &[Cut],
+    settling: bool,
+    budget: &mut Budget,
+) -> Result<Option<Chosen>, Memory> {
+    if cuts.is_empty() {
+        return Ok(None);
+    }
+    let count = u32::try_from(cuts.len()).unwrap_or(u32::MAX);
+    budget.count(count.saturating_mul(2));
+    let ends = &branch.view.ends;
+    let assumed = assumed_in(alloc, &branch.view)?;
+    let score = branch.side.score;
+    let chosen = choose(alloc, scene, ends, &assumed, cuts, score, settling)?;
+    if let Some(one) = &chosen {
+        budget.cut(matches!(one.cut, Cut::Case(_)));
+    }
+    Ok(chosen)
+}
+
+// What a view assumes.
+fn assumed_in(alloc: Global, view: &View) -> Result<Vec<Assumed>, Memory> {
+    let mut all = Vec::with_capacity(alloc, view.assumed.len())?;
+    for one in &view.assumed {
+        let case = Case {
+            terminal: one.terminal(),
+            tick: one.tick(),
+        };
+        all.push(Assumed {
+            case,
+            level: one.level(),
+        })?;
+    }
+    Ok(all)
+}

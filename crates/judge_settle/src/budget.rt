@@ -1,0 +1,42 @@
+//! What a search may still do.
+
+/// How many analyses of boxes and timings are made at most, and were made; how many splits and
+/// cases may still be made; and whether a split or a case was made.
+#[derive(Clone, Copy)]
+pub struct Budget {
+    pub analyses: u32,
+    pub made: u32,
+    pub cuts: u32,
+    pub parts: bool,
+    pub cases: bool,
+}
+
+impl Budget {
+    /// This many analyses, and as many cuts as a tree of 4,096 nodes has.
+    pub fn new(analyses: u32) -> Budget {
+        Budget {
+            analyses,
+            made: 0,
+            cuts: 2047,
+            parts: false,
+            cases: false,
+        }
+    }
+
+    /// Whether nothing more may be done.
+    pub fn is_spent(&self) -> bool {
+        self.made >= self.analyses || self.cuts == 0
+    }
+
+    /// Counts analyses.
+    pub fn count(&mut self, analyses: u32) {
+        self.made = self.made.saturating_add(analyses);
+    }
+
+    /// Counts a cut.
+    pub fn cut(&mut self, case: bool) {
+        self.cuts = self.cuts.saturating_sub(1);
+        self.parts = self.parts || !case;
+        self.cases = self.cases || case;
+    }
+}

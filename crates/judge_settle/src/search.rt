@@ -1,0 +1,77 @@
+//! The search.
+
+ghost use Rattle.std.specs.Prelude.{IfOk};
+ghost use Rattle.judge_cases.specs.Views.{IsView};
+ghost use Rattle.judge_settle.specs.{Trees.IsFound, Scenes.CanSearch};
+
+use crate::boxes::{choose_in, failing_in, shown_leaf};
+use crate::budget::Budget;
+use crate::grown::{Grown, join, leaf};
+use crate::sides::{Branch, branches_of};
+use judge_ahead::{Case, Cut, Scene};
+use model_line::Memory;
+use model_timing::Timing;
+use std::alloc::Global;
+
+/// A tree, or a timing that fails.
+#[derive(Drop)]
+pub enum Found {
+    Tree(Grown),
+    Fails(Timing),
+}
+
+/// Searches a view: it is cut in two, at most `depth` times above one another, until each part is
+/// shown or the budget is spent. A timing that fails ends the search. `last` is the case that was
+/// told apart last, if that was the last cut: then no timing is tried, since its box is as before.
+pub fn search_view(
+    alloc: Global,
+    scene: &Scene,
+    branch: &Branch,
+    last: Option<Case>,
+    depth: u32,
+    budget: &mut Budget,
+) -> Result<Found, Memory>
+    requires can { CanSearch scene.now.line.now scene.now.net.now scene.now.script.now
+        scene.now.terminal }
+    requires view { IsView scene.now.line.now branch.now.view }
+    ensures { IfOk result (λ found. IsFound scene.now.line.now scene.now.script.now
+        scene.now.terminal branch.now.view found) }
+{
+    if branch.side.met {
+        return Ok(Found::Tree(shown_leaf(alloc, scene, &branch.view)?));
+    }
+    if depth == 0 || budget.is_spent() {
+        return Ok(Found::Tree(leaf(alloc, false)?));
+    }
+    if last.is_none() {
+        if let Some(timing) = failing_in(alloc, scene, &branch.view, budget)? {
+            return Ok(Found::Fails(timing));
+        }
+    }
+    let Some(chosen) = choose_in(alloc, scene, branch, last, budget)? else {
+        return Ok(Found::Tree(leaf(alloc, false)?));
+    };
+    let cut = chosen.cut;
+    let Some(branches) = branches_of(alloc, scene.line, &branch.view, chosen)? else {
+        return Ok(Found::Tree(leaf(alloc, false)?));
+    };
+    let next = case_of(cut);
+    let worse_tree = match search_view(alloc, scene, &branches.worse, next, depth - 1, budget)? {
+        Found::Tree(tree) => tree,
+        Found::Fails(timing) => return Ok(Found::Fails(timing)),
+    };
+    let other_tree = match search_view(alloc, scene, &branches.other, next, depth - 1, budget)? {
+        Found::Tree(tree) => tree,
+        Found::Fails(timing) => return Ok(Found::Fails(timing)),
+    };
+    let tree = join(alloc, cut, branches.turned, &worse_tree, &other_tree)?;
+    Ok(Found::Tree(tree))
+}
+
+// The case that a cut tells apart.
+fn case_of(cut: Cut) -> Option<Case> {
+    match cut {
+        Cut::Split { .. } => None,
+        Cut::Case(case) => Some(case),
+    }
+}

@@ -1,0 +1,172 @@
+//! The answer to an obligation.
+
+ghost use Rattle.std.specs.Prelude.{◌<◌, ℕ, [], IfOk, IfSome};
+ghost use Rattle.model_line.specs.{declared.line.Line.Line, declared.script.Script.Script};
+ghost use Rattle.model_line.specs.{Fits.Fits, Parameters.terminal_count};
+ghost use Rattle.model_logic.specs.Choice.{declared_box};
+ghost use Rattle.model_polarity.specs.Schemes.{IsOneRailedBy};
+ghost use Rattle.net_gates.specs.NetOf.{IsNetOf};
+ghost use Rattle.judge_cases.specs.{declared.view.View.View, Views.Views};
+ghost use Rattle.judge_corner.specs.Decided.{OneTimingDecides};
+ghost use Rattle.judge_settle.specs.{Answers.IsAnswer, Trees.IsFound, Trees.IsFailing};
+
+use crate::answer::{Answer, By, Settled};
+use crate::boxes::side_in;
+use crate::budget::Budget;
+use crate::grown::leaf;
+use crate::play::fails;
+use crate::search::{Found, search_view};
+use crate::sides::Branch;
+use judge_ahead::Scene;
+use judge_cases::declared_view;
+use judge_corner::{Decided, decide};
+use judge_verdict::{Verdict, certify};
+use model_cases::laws::{each_box_has_one_history_under, sound_trees_meet};
+use model_line::laws::deadlines_are_below_the_horizon;
+use model_line::{Line, Memory, Script};
+use model_logic::laws::{each_line_has_a_choice_inside, line_laws};
+use model_polarity::laws::the_worst_choice_decides;
+use model_timing::Timing;
+use net_gates::Net;
+use std::alloc::Global;
+
+/// How many cuts stand above one another at most.
+const DEPTH: u32 = 1024;
+
+/// Settles the obligation of a script at a terminal: by the worst corner where the line's scheme
+/// makes every trip one-railed; else by the interval rules, by candidates, and by a search that
+/// splits the declared box and tells cases of echoes apart, until so many analyses were made.
+pub fn settle(
+    alloc: Global,
+    line: &Line,
+    net: &Net,
+    script: &Script,
+    terminal: u32,
+    analyses: u32,
+) -> Result<Settled, Memory>
+    requires of_line { IsNetOf line.now net.now }
+    requires fits { Fits line.now script.now }
+    requires terminal { terminal < terminal_count line.now }
+    ensures { IfOk result (λ settled.
+        IsAnswer line.now script.now terminal settled.answer) }
+{
+    deadlines_are_below_the_horizon();
+    match decide(alloc, line, net, script)? {
+        Some(decided) => return by_corner(alloc, line, script, terminal, decided),
+        None => {}
+    }
+    if let Some(timing) = refuted(alloc, line, net, script, terminal)? {
+        return Ok(Settled {
+            answer: Answer::Fails(timing),
+            by: By::Candidate,
+            analyses: 1,
+        });
+    }
+    let scene = Scene::new(alloc, line, net, script, terminal)?;
+    let mut budget = Budget::new(analyses);
+    let view = declared_view(alloc, line)?;
+    let side = side_in(alloc, &scene, &view, &mut budget)?;
+    let root = Branch { view, side };
+    let found = search_view(alloc, &scene, &root, None, DEPTH, &mut budget)?;
+    let answer = answer_of(found);
+    let by = by(&answer, &budget);
+    Ok(Settled {
+        answer,
+        by,
+        analyses: budget.made,
+    })
+}
+
+// The answer of the worst corner.
+fn by_corner(
+    alloc: Global,
+    line: &Line,
+    script: &Script,
+    terminal: u32,
+    decided: Decided,
+) -> Result<Settled, Memory>
+    requires fits { Fits line.now script.now }
+    requires terminal { terminal < terminal_count line.now }
+    requires one_railed { IsOneRailedBy line.now.scheme line.now }
+    requires decides { OneTimingDecides line.now script.now decided.timing decided.held.items }
+    ensures { IfOk result (λ settled.
+        IsAnswer line.now script.now terminal settled.answer) }
+{
+    line_laws();
+    the_worst_choice_decides();
+    each_box_has_one_history_under();
+    let Decided { timing, held } = decided;
+    if !held[terminal as usize] {
+        return Ok(Settled {
+            answer: Answer::Fails(timing),
+            by: By::Corner,
+            analyses: 1,
+        });
+    }
+    let tree = leaf(alloc, true)?;
+    Ok(Settled {
+        answer: Answer::Held(tree.nodes),
+        by: By::Rules,
+        analyses: 1,
+    })
+}
+
+// The first of the line's candidates that fails the obligation, if one does.
+fn refuted(
+    alloc: Global,
+    line: &Line,
+    net: &Net,
+    script: &Script,
+    terminal: u32,
+) -> Result<Option<Timing>, Memory>
+    requires of_line { IsNetOf line.now net.now }
+    requires fits { Fits line.now script.now }
+    requires terminal { terminal < terminal_count line.now }
+    ensures { IfOk result (λ found. IfSome found (λ timing.
+        IsFailing line.now script.now terminal timing)) }
+{
+    let said = certify(alloc, line, net, script)?;
+    let mut verdicts = said.verdicts;
+    let Verdict::No(timing) = verdicts.swap_remove(terminal as usize) else {
+        return Ok(None);
+    };
+    if fails(alloc, line, net, script, terminal, &timing)? {
+        return Ok(Some(timing));
+    }
+    Ok(None)
+}
+
+// The answer that a search gives over the declared box.
+fn answer_of(found: Found) -> Answer
+    ensures { (line : Line) (script : Script) (k : ℕ) (view : View) →
+        script.deadline < line.horizon → k < terminal_count line →
+        ¬ (IsOneRailedBy line.scheme line) → Views line (declared_box line) [] view →
+        IsFound line script k view found → IsAnswer line script k result }
+{
+    sound_trees_meet();
+    each_line_has_a_choice_inside();
+    match found {
+        Found::Fails(timing) => Answer::Fails(timing),
+        Found::Tree(tree) => {
+            if tree.yes {
+                Answer::Held(tree.nodes)
+            } else {
+                Answer::Open(tree.nodes)
+            }
+        }
+    }
+}
+
+// By what a search answered.
+fn by(answer: &Answer, budget: &Budget) -> By {
+    if budget.cases {
+        return By::Cases;
+    }
+    if budget.parts {
+        return By::Parts;
+    }
+    match answer {
+        Answer::Held(_) => By::Rules,
+        Answer::Fails(_) | Answer::Open(_) => By::Candidate,
+    }
+}
