@@ -17,3 +17,4 @@ pub use laws::a_role_stands_for_its_tree;
 pub use lookup::{find_gate, role_of_gate};
 pub use role::Role;
 pub use roles::roles_at;
+pub use stands::{receiver, sender};
