@@ -1,19 +1,22 @@
 -- What a picture's text is: the printed form of the drawing of the diagram of a history, or the
 -- dump of every gate in one.
-use Rattle.std.specs.Prelude.{◌≡◌, ℕ, List, [], map}
+use Rattle.std.specs.Prelude.{◌≡◌, ◌<◌, ℕ, Bool, List, [], length, map}
+use Rattle.model_history.specs.Rails.{both}
 use Rattle.model_history.specs.Recorded.{first_ticks}
 use Rattle.model_line.specs.{declared.line.Line.Line, declared.script.Script.Script}
 use Rattle.model_line.specs.Parameters.{terminal_count}
 use Rattle.model_logic.specs.Histories.{PairHistory, History, IsLineHistory, IsSameHistory}
-use Rattle.model_logic.specs.{Choice.declared_box, Rule.rule_of}
+use Rattle.model_logic.specs.Histories.{IsSamePairHistory}
+use Rattle.model_logic.specs.Choice.{declared_box, pair_world_of}
+use Rattle.model_logic.specs.{PairMean.pair_mean, Rule.rule_of}
 use Rattle.judge_interval.specs.Rules.{rule_named}
-use Rattle.run_simulator.specs.Runs.{IsTheHistory}
+use Rattle.run_simulator.specs.{GatePairs.GateSignals, Runs.IsTheHistory}
 use Rattle.model_timing.specs.{Choice.timing_choice}
 use Rattle.model_timing.specs.NamedValues.{NamedValues}
-use Rattle.net_gates.specs.NetOf.{IsNetOf, NetOf}
+use Rattle.net_gates.specs.{Formulas.formula_of, NetOf.IsNetOf, NetOf.NetOf}
 use Rattle.draw_dump.specs.{Dump.dump_text, GateValues.gate_levels}
 use Rattle.draw_diagram.specs.{declared.diagram.Diagram.Diagram, Diagrams.IsDiagramOf}
-use Rattle.draw_diagram.specs.Traces.{known_history}
+use Rattle.draw_diagram.specs.Traces.{known_history, pairs_shown}
 use Rattle.draw_shapes.specs.Svg.{svg_of}
 use Rattle.draw_layout.specs.declared.subject.Subject.{Subject}
 use Rattle.draw_layout.specs.declared.subject.Subject.TheVariants as subject
@@ -23,29 +26,43 @@ use Rattle.draw_layout.specs.Drawings.{drawing_of}
 abbrev pub text_of : Line → Script → Subject → Diagram → List ℕ
 text_of line script what diagram = svg_of (drawing_of line script what diagram)
 
--- the diagram of every choice of delays, with the rule of each terminal
-pub record IsBandsOf (line : Line) (script : Script) (w : PairHistory) (diagram : Diagram)
-    : Type 0 where
-  pub shows : IsDiagramOf line script w diagram
-  pub rules : map rule_named diagram.rules.items
-      ≡ first_ticks (λ k. rule_of line script (w.trip k)) (terminal_count line)
-
--- the text is that of the one interval history over the declared intervals
+-- the text is that of the one interval history over the declared intervals, in which each gate of
+-- the line's net has the pair of the tree that it stands for
 pub record IsBandsText (line : Line) (script : Script) (text : List ℕ) : Type 0 where
+  pub net : NetOf
+  pub of_line : IsNetOf line net
   pub history : PairHistory
   pub one : IsTheHistory line script (declared_box line) history
+  pub gates : GateSignals
+  pub trees : (gate t : ℕ) → gate < length net.gates → t < line.horizon
+      → gates gate t
+      ≡ pair_mean (pair_world_of line script (declared_box line)) history.key
+      (formula_of net.gates gate) t
   pub diagram : Diagram
-  pub of : IsBandsOf line script history diagram
+  pub shows : IsDiagramOf line net.gates script (pairs_shown history gates) diagram
+  -- the rule of each terminal is that of the same history
+  pub judged : PairHistory
+  pub same : IsSamePairHistory line history judged
+  pub rules : map rule_named diagram.rules.items
+      ≡ first_ticks (λ k. rule_of line script (judged.trip k)) (terminal_count line)
   pub printed : text ≡ text_of line script subject.EveryChoice diagram
 
--- the text is that of the one history at the choice of the timing; in a play nothing is open
+-- the text is that of the one history at the choice of the timing, in which each gate of the line's
+-- net has the value of the tree that it stands for; in a play nothing is open
 pub record IsRunText (line : Line) (script : Script) (timing : NamedValues) (text : List ℕ)
     : Type 0 where
+  pub net : NetOf
+  pub of_line : IsNetOf line net
   pub history : History
   pub one : (h : History) → IsLineHistory line script (timing_choice line timing.timing) h
       → IsSameHistory line history h
+  pub gates : ℕ → ℕ → Bool
+  pub trees : (h : History) → IsLineHistory line script (timing_choice line timing.timing) h
+      → (gate t : ℕ) → gate < length net.gates → t < line.horizon
+      → gates gate t ≡ gate_levels line script (timing_choice line timing.timing) h net gate t
   pub diagram : Diagram
-  pub shows : IsDiagramOf line script (known_history history) diagram
+  pub shows : IsDiagramOf line net.gates script
+      (pairs_shown (known_history history) (λ gate t. both (gates gate t))) diagram
   pub no_rules : diagram.rules.items ≡ []
   pub printed : text ≡ text_of line script (subject.Play timing.name) diagram
 

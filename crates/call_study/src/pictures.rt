@@ -7,7 +7,7 @@ ghost use Rattle.call_study.specs.Pictures.{IsBandsText, IsDumpText, IsRunText};
 ghost use Rattle.base_markup.specs.Content.{IsContent};
 ghost use Rattle.model_timing.specs.{Inside.IsTimingInside, NamedValues.values_of};
 
-use draw_diagram::{history_diagram, play_diagram};
+use draw_diagram::{every_choice_waves, history_diagram, play_diagram};
 use draw_dump::{play_waves, vcd_text};
 use draw_layout::{Subject, draw};
 use draw_shapes::svg;
@@ -27,8 +27,9 @@ pub fn bands_text(alloc: Global, line: &Line, net: &Net, script: &Script) -> Res
     ensures drawn { IfOk result (λ text. IsBandsText line.now script.now text.items) }
 {
     deadlines_are_below_the_horizon();
-    let waves = analyse(alloc, net, line, script)?;
-    let diagram = history_diagram(alloc, line, script, &waves)?;
+    let judged = analyse(alloc, net, line, script)?;
+    let waves = every_choice_waves(alloc, line, net, script)?;
+    let diagram = history_diagram(alloc, line, net, script, &judged, &waves)?;
     let drawn = draw(alloc, line, script, Subject::EveryChoice, &diagram)?;
     let markup = svg(alloc, &drawn)?;
     Ok(markup.text)
@@ -51,7 +52,7 @@ pub fn run_text(
 {
     deadlines_are_below_the_horizon();
     let waves = play_waves(alloc, line, net, script, timing)?;
-    let diagram = play_diagram(alloc, line, script, &waves)?;
+    let diagram = play_diagram(alloc, line, net, script, &waves)?;
     let drawn = draw(alloc, line, script, Subject::Play(timing.name), &diagram)?;
     let markup = svg(alloc, &drawn)?;
     Ok(markup.text)

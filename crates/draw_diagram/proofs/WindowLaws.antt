@@ -4,7 +4,7 @@ use Rattle.std.proofs.lemmas.List.Elements.{All-weaker, All-nil, All-cons}
 use Rattle.std.specs.List.{All}
 use Rattle.model_history.specs.Rails.{Rails}
 use Rattle.model_line.specs.declared.script.Script.{Script}
-use Rattle.model_logic.specs.Histories.{PairHistory}
+use Rattle.draw_diagram.specs.Traces.{ShownPairs}
 use Rattle.draw_diagram.specs.declared.rows.Row.{Row}
 use Rattle.draw_diagram.specs.Windows.{BeginsBelow, ChangesBelow}
 use Rattle.draw_diagram.specs.Windows.{IsChangeShown, IsShown, IsWider}
@@ -33,7 +33,7 @@ stretches_below pair from (x ∷ xs) to are =
     let end = rest.0 in
     (omega arith, All-cons (BeginsBelow to) x xs (omega arith) rest.1)
 
-pub row_below : (script : Script) (w : PairHistory) (horizon : ℕ) (row : Row)
+pub row_below : (script : Script) (w : ShownPairs) (horizon : ℕ) (row : Row)
     → IsRow script w horizon row → ChangesBelow horizon row
 row_below script w horizon row is =
     (stretches_below (trace_pair script w row.trace) 0 row.stretches.items horizon is).1

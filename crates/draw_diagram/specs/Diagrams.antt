@@ -1,13 +1,14 @@
 -- The diagram of a script over a history.
-use Rattle.std.specs.Prelude.{◌≡◌, ◌<◌, ◌≤◌, ℕ, map, IfSome}
+use Rattle.std.specs.Prelude.{◌≡◌, ◌<◌, ◌≤◌, ℕ, List, map, IfSome}
 use Rattle.std.specs.List.{All}
 use Rattle.model_history.specs.Recorded.{first_ticks}
 use Rattle.model_line.specs.{declared.line.Line.Line, declared.script.Script.Script}
 use Rattle.model_line.specs.Parameters.{terminal_count}
-use Rattle.model_logic.specs.Histories.{PairHistory}
+use Rattle.net_gates.specs.declared.gate.Gate.{Gate}
 use Rattle.draw_diagram.specs.{declared.diagram.Diagram.Diagram, declared.rows.Row.Row}
 use Rattle.draw_diagram.specs.{declared.trace.Trace.Trace, Stretches.AreStretches}
 use Rattle.draw_diagram.specs.{Times.trip_times_of, Times.is_begun, Traces.traces_of}
+use Rattle.draw_diagram.specs.Traces.{ShownPairs}
 use Rattle.draw_diagram.specs.{Traces.trace_pair, Windows.Holds, Windows.IsShown}
 use Rattle.run_waves.specs.FirstTick.{first_on}
 use Rattle.judge_report.specs.Margin.{deadline_of}
@@ -16,13 +17,13 @@ abbrev pub trace_of : Row → Trace
 trace_of row = row.trace
 
 -- the stretches of the row are those of its pairs, from tick 0 to the horizon
-abbrev pub IsRow : Script → PairHistory → ℕ → Row → Type 0
+abbrev pub IsRow : Script → ShownPairs → ℕ → Row → Type 0
 IsRow script w horizon row =
     AreStretches (trace_pair script w row.trace) 0 row.stretches.items horizon
 
-pub record IsDiagramOf (line : Line) (script : Script) (w : PairHistory) (diagram : Diagram)
-    : Type 0 where
-  pub traces : map trace_of diagram.rows.items ≡ traces_of line
+pub record IsDiagramOf (line : Line) (gates : List Gate) (script : Script) (w : ShownPairs)
+    (diagram : Diagram) : Type 0 where
+  pub traces : map trace_of diagram.rows.items ≡ traces_of line gates
   pub stretches : All (IsRow script w line.horizon) diagram.rows.items
   pub trips : diagram.trips.items
       ≡ first_ticks (λ k. trip_times_of script line.horizon (w.trip k)) (terminal_count line)

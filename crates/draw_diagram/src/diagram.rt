@@ -5,8 +5,12 @@ ghost use Rattle.model_history.specs.Recorded.{first_ticks};
 ghost use Rattle.model_line.specs.Parameters.{terminal_count};
 ghost use Rattle.model_logic.specs.Rule.{rule_of};
 ghost use Rattle.judge_interval.specs.{PairWavesOf.pair_history, Rules.rule_named};
-ghost use Rattle.run_simulator.specs.Played.{played};
+ghost use Rattle.model_history.specs.Rails.{both};
+ghost use Rattle.run_signal.specs.Terns.{tern_rails};
+ghost use Rattle.run_simulator.specs.{Played.is_on, Played.played, WavesOf.wave_pair};
+ghost use Rattle.run_simulator.specs.WavesOf.{waves_history};
 ghost use Rattle.draw_diagram.specs.{Diagrams.IsDiagramOf, Traces.known_history};
+ghost use Rattle.draw_diagram.specs.Traces.{pairs_shown};
 
 use crate::marks::inception;
 use crate::rows::{Row, rows};
@@ -16,7 +20,8 @@ use crate::window::{Window, shown_window};
 use judge_interval::{PairWaves, Rule, judge};
 use judge_report::deadline;
 use model_line::{Line, Memory, Script};
-use run_signal::Level;
+use net_gates::Net;
+use run_signal::{Level, Tern};
 use run_simulator::Waves;
 use std::alloc::Global;
 
@@ -36,55 +41,70 @@ pub struct Diagram {
 pub fn play_diagram(
     alloc: Global,
     line: &Line,
+    net: &Net,
     script: &Script,
     waves: &Waves<Level>,
 ) -> Result<Diagram, Memory>
+    requires gates { waves.now.width ≡ length net.now.gates }
     requires keys { length waves.now.keys ≡ terminal_count line.now }
     requires trips { length waves.now.trips ≡ terminal_count line.now }
     requires horizon { waves.now.horizon ≡ line.now.horizon }
     requires deadline { script.now.deadline < line.now.horizon }
     ensures diagram { IfOk result (λ diagram.
-        IsDiagramOf line.now script.now (known_history (played waves.now)) diagram) }
+        IsDiagramOf line.now net.now.gates script.now
+        (pairs_shown (known_history (played waves.now)) (λ gate t. both (is_on waves.now gate t)))
+        diagram) }
     ensures rules { IfOk result (λ diagram. diagram.rules.items ≡ []) }
 {
-    diagram_of(alloc, line, script, waves, Vec::new(alloc))
+    diagram_of(alloc, line, net, script, waves, Vec::new(alloc))
 }
 
-/// The diagram of every choice of delays at once.
+/// The diagram of every choice of delays at once: the rules are those of the first waves, all rows
+/// those of the second.
 pub fn history_diagram(
     alloc: Global,
     line: &Line,
+    net: &Net,
     script: &Script,
-    waves: &PairWaves,
+    judged: &PairWaves,
+    waves: &Waves<Tern>,
 ) -> Result<Diagram, Memory>
-    requires terminals { waves.now.terminals ≡ terminal_count line.now }
-    requires horizon { waves.now.horizon ≡ line.now.horizon }
+    requires gates { waves.now.width ≡ length net.now.gates }
+    requires keys { length waves.now.keys ≡ terminal_count line.now }
+    requires trips { length waves.now.trips ≡ terminal_count line.now }
+    requires ticks { waves.now.horizon ≡ line.now.horizon }
+    requires terminals { judged.now.terminals ≡ terminal_count line.now }
+    requires horizon { judged.now.horizon ≡ line.now.horizon }
     requires deadline { script.now.deadline < line.now.horizon }
     ensures diagram { IfOk result (λ diagram.
-        IsDiagramOf line.now script.now (pair_history waves.now) diagram) }
+        IsDiagramOf line.now net.now.gates script.now
+        (pairs_shown (waves_history (λ x _. tern_rails x) 0 waves.now)
+        (wave_pair (λ x _. tern_rails x) 0 waves.now)) diagram) }
     ensures rules { IfOk result (λ diagram. map rule_named diagram.rules.items
-        ≡ first_ticks (λ k. rule_of line.now script.now ((pair_history waves.now).trip k))
+        ≡ first_ticks (λ k. rule_of line.now script.now ((pair_history judged.now).trip k))
         (terminal_count line.now)) }
 {
-    let rules = rules(alloc, line, script, waves)?;
-    diagram_of(alloc, line, script, waves, rules)
+    let rules = rules(alloc, line, script, judged)?;
+    diagram_of(alloc, line, net, script, waves, rules)
 }
 
 fn diagram_of<H: Shown>(
     alloc: Global,
     line: &Line,
+    net: &Net,
     script: &Script,
     shown: &H,
     rules: Vec<Rule>,
 ) -> Result<Diagram, Memory>
+    requires gates { H.gates shown.now ≡ length net.now.gates }
     requires terminals { H.terminals shown.now ≡ terminal_count line.now }
     requires ticks { H.ticks shown.now ≡ line.now.horizon }
     requires deadline { script.now.deadline < line.now.horizon }
     ensures diagram { IfOk result (λ diagram.
-        IsDiagramOf line.now script.now (H.pairs shown.now) diagram) }
+        IsDiagramOf line.now net.now.gates script.now (H.pairs shown.now) diagram) }
     ensures rules { IfOk result (λ diagram. diagram.rules.items ≡ rules.items) }
 {
-    let rows = rows(alloc, line, script, shown)?;
+    let rows = rows(alloc, line, net, script, shown)?;
     let trips = trips(alloc, line, script, shown)?;
     let inception = inception(script, line.horizon);
     let deadline = deadline(script.kind, script.deadline);

@@ -1,9 +1,10 @@
-//! Timing diagrams as values: for each terminal what it sees, which channels into it are lost,
-//! what it keys and whether it trips, as stretches of ticks; the first ticks of each trip, the
+//! Timing diagrams as values: for each terminal what it sees, which channels into it are lost, what
+//! it receives and makes of that, what it keys and whether it trips, as stretches of ticks; the first ticks of each trip, the
 //! inception, the deadline and the margin; and the ticks that are worth looking at.
 #![tactic(auto)]
 
 mod diagram;
+mod every_choice;
 mod marks;
 mod rows;
 mod shown;
@@ -13,6 +14,7 @@ mod trace;
 mod window;
 
 pub use diagram::{Diagram, history_diagram, play_diagram};
+pub use every_choice::every_choice_waves;
 pub use rows::Row;
 pub use shown::Shown;
 pub use stretch::Stretch;

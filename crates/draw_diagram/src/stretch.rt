@@ -32,7 +32,7 @@ pub fn stretches<H: Shown>(
 ) -> Result<Vec<Stretch>, Memory>
     requires terminals { H.terminals shown.now ≡ terminal_count line.now }
     requires ticks { H.ticks shown.now ≡ line.now.horizon }
-    requires trace { IsTraceOf line.now trace }
+    requires trace { IsTraceOf line.now (H.gates shown.now) trace }
     ensures { IfOk result (λ all.
         AreStretches (trace_pair script.now (H.pairs shown.now) trace)
         0 all.items line.now.horizon) }
@@ -52,13 +52,14 @@ pub fn stretches<H: Shown>(
 fn value_at<H: Shown>(line: &Line, script: &Script, shown: &H, trace: Trace, t: u32) -> Tern
     requires terminals { H.terminals shown.now ≡ terminal_count line.now }
     requires ticks { H.ticks shown.now ≡ line.now.horizon }
-    requires trace { IsTraceOf line.now trace }
+    requires trace { IsTraceOf line.now (H.gates shown.now) trace }
     requires tick { t < line.now.horizon }
     ensures { tern_rails result ≡ trace_pair script.now (H.pairs shown.now) trace t }
 {
     match trace {
         Trace::Seen(place) => known(seen(script, place, t)),
         Trace::Lost(channel) => known(loss(script, channel, t)),
+        Trace::Logic(_, gate) => shown.gate_at(gate, t),
         Trace::Key(terminal) => shown.key_at(terminal, t),
         Trace::Trip(terminal) => shown.trip_at(terminal, t),
     }
@@ -81,7 +82,7 @@ fn end_of<H: Shown>(
 ) -> u32
     requires terminals { H.terminals shown.now ≡ terminal_count line.now }
     requires ticks { H.ticks shown.now ≡ line.now.horizon }
-    requires trace { IsTraceOf line.now trace }
+    requires trace { IsTraceOf line.now (H.gates shown.now) trace }
     requires from { from < line.now.horizon }
     requires value { tern_rails value
         ≡ trace_pair script.now (H.pairs shown.now) trace from }

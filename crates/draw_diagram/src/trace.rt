@@ -1,43 +1,58 @@
 //! What the rows of a diagram are of.
 
-ghost use Rattle.std.specs.Prelude.{◌≡◌, ◌++◌, ◌<◌, OnOk, IfOk};
-ghost use Rattle.std.specs.List.{All};
+ghost use Rattle.std.specs.Prelude.{◌≡◌, ◌++◌, ◌<◌, OnOk, IfOk, length};
+ghost use Rattle.std.specs.List.{All, flat_map};
+ghost use Rattle.draw_roles.specs.Roles.{IsRoleOf};
+ghost use Rattle.draw_diagram.specs.Traces.{logic_at, logic_of, logic_row};
 ghost use Rattle.model_line.specs.Parameters.{terminal_count, channel_count};
 ghost use Rattle.draw_diagram.specs.Traces.{traces_of, traces_at, seen_at, loss_at, each_of};
 ghost use Rattle.draw_diagram.specs.Traces.{IsTraceOf};
 
+use draw_roles::{Role, find_gate, roles_at};
 use model_line::{Element, Line, Memory, Place};
+use net_gates::Net;
+use run_waves::the_first_tick_is_the_least;
 use std::alloc::Global;
 
-/// What a row is of: what a terminal sees; whether a channel is lost, by its number; what a
-/// terminal keys; whether it trips.
+/// What a row is of: what a terminal sees; whether a channel is lost, by its number; a gate by its
+/// number, with its role; what a terminal keys; whether it trips.
 #[derive(Clone, Copy, PartialEq, Eq, Debug)]
 pub enum Trace {
     Seen(Place),
     Lost(u32),
+    Logic(Role, u32),
     Key(u32),
     Trip(u32),
 }
 
 /// What the rows of a line are of, terminals in line order. Of each terminal: what it sees, the
-/// channels into it in line order, its key, its trip.
-pub fn traces(alloc: Global, line: &Line) -> Result<Vec<Trace>, Memory>
-    ensures traces { IfOk result (λ traces. traces.items ≡ traces_of line.now) }
-    ensures of_line { IfOk result (λ traces. All (IsTraceOf line.now) traces.items) }
+/// channels into it in line order, the gates of the roles that explain, its key, its trip.
+pub fn traces(alloc: Global, line: &Line, net: &Net) -> Result<Vec<Trace>, Memory>
+    ensures traces { IfOk result (λ traces. traces.items ≡ traces_of line.now net.now.gates) }
+    ensures of_line { IfOk result (λ traces.
+        All (IsTraceOf line.now (length net.now.gates)) traces.items) }
 {
+    the_first_tick_is_the_least();
     let mut all = Vec::new(alloc);
     for k in 0..line.terminals.len() {
-        push_terminal(&mut all, line, k as u32)?;
+        push_terminal(alloc, &mut all, line, net, k as u32)?;
     }
     Ok(all)
 }
 
-fn push_terminal(all: &mut Vec<Trace>, line: &Line, k: u32) -> Result<(), Memory>
+fn push_terminal(
+    alloc: Global,
+    all: &mut Vec<Trace>,
+    line: &Line,
+    net: &Net,
+    k: u32,
+) -> Result<(), Memory>
     requires { k < terminal_count line.now }
-    ensures { OnOk result (all.new.items ≡ all.old.items ++ traces_at line.now k) }
+    ensures { OnOk result (all.new.items ≡ all.old.items ++ traces_at line.now net.now.gates k) }
 {
     push_seen(all, k)?;
     push_losses(all, line, k)?;
+    push_logic(alloc, all, line, net, k)?;
     all.push(Trace::Key(k))?;
     all.push(Trace::Trip(k))?;
     Ok(())
@@ -76,6 +91,54 @@ fn push_loss(all: &mut Vec<Trace>, line: &Line, k: u32, c: u32) -> Result<(), Me
 {
     if line.channels[c as usize].to == k {
         all.push(Trace::Lost(c))?;
+    }
+    Ok(())
+}
+
+// Appends the gates of what a terminal receives and makes of it.
+fn push_logic(
+    alloc: Global,
+    all: &mut Vec<Trace>,
+    line: &Line,
+    net: &Net,
+    k: u32,
+) -> Result<(), Memory>
+    requires { k < terminal_count line.now }
+    ensures { OnOk result (all.new.items ≡ all.old.items ++ logic_at line.now net.now.gates k) }
+{
+    let roles = roles_at(alloc, line, k)?;
+    push_roles(all, line, net, roles.as_slice())
+}
+
+fn push_roles(all: &mut Vec<Trace>, line: &Line, net: &Net, roles: &[Role]) -> Result<(), Memory>
+    requires { All (IsRoleOf line.now) roles.now }
+    ensures { OnOk result (all.new.items
+        ≡ all.old.items ++ flat_map (logic_of line.now net.now.gates) roles.now) }
+{
+    for role in roles {
+        push_role(all, line, net, *role)?;
+    }
+    Ok(())
+}
+
+fn push_role(all: &mut Vec<Trace>, line: &Line, net: &Net, role: Role) -> Result<(), Memory>
+    requires { IsRoleOf line.now role }
+    ensures { OnOk result (all.new.items ≡ all.old.items ++ logic_of line.now net.now.gates role) }
+{
+    push_gate(all, role.explains(), role, find_gate(line, net, role))
+}
+
+fn push_gate(
+    all: &mut Vec<Trace>,
+    explains: bool,
+    role: Role,
+    gate: Option<u32>,
+) -> Result<(), Memory>
+    ensures { OnOk result (all.new.items ≡ all.old.items ++ logic_row explains role gate) }
+{
+    match gate {
+        Some(gate) if explains => all.push(Trace::Logic(role, gate))?,
+        _ => {}
     }
     Ok(())
 }

@@ -1,4 +1,3 @@
-pub mod Roles
 pub mod Variables
 pub mod Codes
 pub mod Dump

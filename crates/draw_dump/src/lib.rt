@@ -3,10 +3,11 @@
 
 mod changes;
 mod gates;
+mod identifier;
 mod laws;
+mod names;
 mod play;
 mod put;
-mod roles;
 mod variables;
 mod vcd;
 

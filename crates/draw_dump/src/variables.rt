@@ -1,130 +1,213 @@
 //! The variables of a value change dump.
 
-ghost use Rattle.std.specs.Prelude.{◌≡◌, ◌<◌, ◌++◌, length, OnOk};
+ghost use Rattle.std.specs.Prelude.{◌≡◌, ◌<◌, ◌++◌, length, is_some, IfOk, OnOk};
 ghost use Rattle.model_line.specs.{ParamNames.name_at, Parameters.terminal_count};
 ghost use Rattle.net_gates.specs.NetOf.{IsNetOf};
 ghost use Rattle.run_rows.specs.PlayRows.{each_below};
-ghost use Rattle.draw_dump.specs.Variables.{code_of, kind_text, channel_text, role_text};
-ghost use Rattle.draw_dump.specs.Variables.{step_text, variable_head, variable_text};
-ghost use Rattle.draw_dump.specs.Variables.{is_same_home, variable_in, variables_in};
+ghost use Rattle.draw_roles.specs.{Lookup.role_among, Roles.roles_at as roles_of};
+ghost use Rattle.draw_dump.specs.Variables.{code_of, variable_head, variable_text, scope_text};
+ghost use Rattle.draw_dump.specs.Variables.{step_text, role_text, named_variable, variable_at};
+ghost use Rattle.draw_dump.specs.Variables.{is_named as is_named_gate, step_variable, variable_of};
 ghost use Rattle.draw_dump.specs.Variables.{terminal_scope, declarations};
 
-use crate::put::{put, put_number};
-use crate::roles::{Role, gate_role, home, receiver, sender};
+use crate::identifier::put_identifier;
+use crate::names::{name_of_role, name_of_step, word_and_terminal};
+use crate::put::put;
+use draw_roles::{Role, role_of_gate, roles_at};
 use model_line::{Line, Memory};
-use model_names::element_word;
-use net_gates::{Gate, GateId, Net};
+use net_gates::{GateId, Net};
+use std::alloc::Global;
 
 /// Appends all declarations.
 #[tactic(auto, unfolding(crate::specs::Variables::declarations))]
-pub fn put_declarations(text: &mut Vec<u8>, line: &Line, net: &Net) -> Result<(), Memory>
+pub fn put_declarations(
+    alloc: Global,
+    text: &mut Vec<u8>,
+    line: &Line,
+    net: &Net,
+) -> Result<(), Memory>
     requires { IsNetOf line.now net.now }
     ensures { OnOk result (text.new.items ≡ text.old.items ++ declarations line.now net.now) }
 {
-    put_terminals(text, line, net)?;
-    put(text, b"$scope module gates $end\n")?;
-    put_variables(text, line, net, None)?;
+    put_terminals(alloc, text, line, net)?;
+    put_scope(text, b"gates$")?;
+    put_steps(alloc, text, line, net)?;
     put(text, b"$upscope $end\n")
 }
 
 // Appends the scope of each terminal.
-fn put_terminals(text: &mut Vec<u8>, line: &Line, net: &Net) -> Result<(), Memory>
+fn put_terminals(alloc: Global, text: &mut Vec<u8>, line: &Line, net: &Net) -> Result<(), Memory>
     requires { IsNetOf line.now net.now }
     ensures { OnOk result (text.new.items
         ≡ text.old.items ++ each_below (terminal_count line.now)
         (terminal_scope line.now net.now)) }
 {
     for k in 0..line.terminals.len() as u32 {
-        put_terminal(text, line, net, k)?;
+        put_terminal(alloc, text, line, net, k)?;
     }
     Ok(())
 }
 
 // Appends the scope of a terminal.
 #[tactic(auto, unfolding(crate::specs::Variables::terminal_scope))]
-fn put_terminal(text: &mut Vec<u8>, line: &Line, net: &Net, k: u32) -> Result<(), Memory>
+fn put_terminal(
+    alloc: Global,
+    text: &mut Vec<u8>,
+    line: &Line,
+    net: &Net,
+    k: u32,
+) -> Result<(), Memory>
     requires of_line { IsNetOf line.now net.now }
     requires exists { k < terminal_count line.now }
     ensures { OnOk result (text.new.items ≡ text.old.items ++ terminal_scope line.now net.now k) }
 {
-    put(text, b"$scope module ")?;
-    put_name(text, line, k)?;
-    put(text, b" $end\n")?;
-    put_variables(text, line, net, Some(k))?;
-    put_end(text, b"key_", line, k, net.key_gate(k))?;
-    put_end(text, b"trip_", line, k, net.trip_gate(k))?;
+    put_scope(text, line.terminals[k as usize].name.bytes())?;
+    put_named(alloc, text, line, net, k)?;
+    put_end(alloc, text, b"key_", line, k, net.key_gate(k))?;
+    put_end(alloc, text, b"trip_", line, k, net.trip_gate(k))?;
     put(text, b"$upscope $end\n")
 }
 
+fn put_scope(text: &mut Vec<u8>, name: &[u8]) -> Result<(), Memory>
+    ensures { OnOk result (text.new.items ≡ text.old.items ++ scope_text name.now) }
+{
+    put(text, b"$scope module ")?;
+    put_identifier(text, name)?;
+    put(text, b" $end\n")
+}
+
 // Appends the variable of a terminal's key or trip.
-fn put_end(text: &mut Vec<u8>, word: &[u8], line: &Line, k: u32, id: GateId) -> Result<(), Memory>
+fn put_end(
+    alloc: Global,
+    text: &mut Vec<u8>,
+    word: &[u8],
+    line: &Line,
+    k: u32,
+    id: GateId,
+) -> Result<(), Memory>
     requires { id.0 < 512 }
     ensures { OnOk result (text.new.items
         ≡ text.old.items
         ++ variable_text id.0 (word.now ++ name_at line.now.terminals.items k)) }
 {
-    put_head(text, id.0)?;
-    put_terminal_name(text, word, line, k)?;
-    put(text, b" $end\n")
+    let name = word_and_terminal(alloc, word, line, k)?;
+    put_variable(text, id.0, name.as_slice())
 }
 
-// Appends the variables of the gates of a scope.
-fn put_variables(
+// Appends the gates for which a terminal has a role.
+fn put_named(
+    alloc: Global,
     text: &mut Vec<u8>,
     line: &Line,
     net: &Net,
-    scope: Option<u32>,
+    k: u32,
 ) -> Result<(), Memory>
+    requires { k < terminal_count line.now }
     ensures { OnOk result (text.new.items
-        ≡ text.old.items ++ variables_in line.now net.now.gates scope) }
+        ≡ text.old.items
+        ++ each_below (length net.now.gates) (variable_at line.now net.now.gates k)) }
 {
     for i in 0..net.len() {
-        put_variable(text, line, net, scope, i)?;
+        put_named_gate(alloc, text, line, net, k, i)?;
     }
     Ok(())
 }
 
-// Appends the variable of a gate, if it stands in the scope.
-#[tactic(auto, unfolding(crate::specs::Variables::variable_in))]
-fn put_variable(
+#[tactic(auto, unfolding(crate::specs::Variables::variable_at))]
+fn put_named_gate(
+    alloc: Global,
     text: &mut Vec<u8>,
     line: &Line,
     net: &Net,
-    scope: Option<u32>,
+    k: u32,
     i: u32,
 ) -> Result<(), Memory>
+    requires terminal { k < terminal_count line.now }
     requires exists { i < length net.now.gates }
     requires few { i < 512 }
     ensures { OnOk result (text.new.items
-        ≡ text.old.items ++ variable_in line.now net.now.gates scope i) }
+        ≡ text.old.items ++ variable_at line.now net.now.gates k i) }
 {
-    let gate = *net.gate(GateId(i));
-    let role = gate_role(line, net, gate);
-    if is_same_scope(home(line, role), scope) {
-        put_gate(text, line, i, gate, role)
-    } else {
-        Ok(())
+    let role = role_at(alloc, line, net, k, i)?;
+    put_role(alloc, text, line, i, role)
+}
+
+// The first role of a gate at a terminal.
+fn role_at(alloc: Global, line: &Line, net: &Net, k: u32, i: u32) -> Result<Option<Role>, Memory>
+    requires terminal { k < terminal_count line.now }
+    requires exists { i < length net.now.gates }
+    ensures { IfOk result (λ role.
+        role ≡ role_among line.now net.now.gates i (roles_of line.now k)) }
+{
+    let roles = roles_at(alloc, line, k)?;
+    Ok(role_of_gate(line, net, GateId(i), roles.as_slice()))
+}
+
+// Appends a gate under the name of its role.
+fn put_role(
+    alloc: Global,
+    text: &mut Vec<u8>,
+    line: &Line,
+    i: u32,
+    role: Option<Role>,
+) -> Result<(), Memory>
+    requires { i < 512 }
+    ensures { OnOk result (text.new.items ≡ text.old.items ++ named_variable line.now i role) }
+{
+    match role {
+        None => Ok(()),
+        Some(role) => {
+            let name = name_of_role(alloc, line, role)?;
+            put_variable(text, i, name.as_slice())
+        }
     }
 }
 
-fn is_same_scope(left: Option<u32>, right: Option<u32>) -> bool
-    ensures { result ≡ is_same_home left right }
+// Appends the gates for which no terminal has a role.
+fn put_steps(alloc: Global, text: &mut Vec<u8>, line: &Line, net: &Net) -> Result<(), Memory>
+    ensures { OnOk result (text.new.items
+        ≡ text.old.items ++ each_below (length net.now.gates) (variable_of line.now net.now.gates)) }
 {
-    match (left, right) {
-        (None, None) => true,
-        (Some(left), Some(right)) => left == right,
-        _ => false,
+    for i in 0..net.len() {
+        put_step(alloc, text, line, net, i)?;
     }
+    Ok(())
+}
+
+#[tactic(auto, unfolding(crate::specs::Variables::variable_of))]
+fn put_step(alloc: Global, text: &mut Vec<u8>, line: &Line, net: &Net, i: u32) -> Result<(), Memory>
+    requires exists { i < length net.now.gates }
+    requires few { i < 512 }
+    ensures { OnOk result (text.new.items
+        ≡ text.old.items ++ variable_of line.now net.now.gates i) }
+{
+    let gate = *net.gate(GateId(i));
+    if is_named(alloc, line, net, i)? {
+        return Ok(());
+    }
+    let name = name_of_step(alloc, i, gate)?;
+    put_variable(text, i, name.as_slice())
+}
+
+// Whether some terminal has a role for a gate.
+fn is_named(alloc: Global, line: &Line, net: &Net, i: u32) -> Result<bool, Memory>
+    requires { i < length net.now.gates }
+    ensures { IfOk result (λ named. named ≡ is_named_gate line.now net.now.gates i) }
+{
+    let mut named = false;
+    for k in 0..line.terminals.len() as u32 {
+        named = named || role_at(alloc, line, net, k, i)?.is_some();
+    }
+    Ok(named)
 }
 
 // Appends the variable of a gate.
-fn put_gate(text: &mut Vec<u8>, line: &Line, i: u32, gate: Gate, role: Role) -> Result<(), Memory>
+fn put_variable(text: &mut Vec<u8>, i: u32, name: &[u8]) -> Result<(), Memory>
     requires { i < 512 }
-    ensures { OnOk result (text.new.items
-        ≡ text.old.items ++ variable_text i (role_text line.now i gate role)) }
+    ensures { OnOk result (text.new.items ≡ text.old.items ++ variable_text i name.now) }
 {
     put_head(text, i)?;
-    put_role(text, line, i, gate, role)?;
+    put_identifier(text, name)?;
     put(text, b" $end\n")
 }
 
@@ -146,83 +229,4 @@ pub fn put_code(text: &mut Vec<u8>, i: u32) -> Result<(), Memory>
     ensures { OnOk result (text.new.items ≡ text.old.items ++ code_of i) }
 {
     put(text, &[(33 + i / 94) as u8, (33 + i % 94) as u8])
-}
-
-// Appends the name of a gate.
-fn put_role(text: &mut Vec<u8>, line: &Line, i: u32, gate: Gate, role: Role) -> Result<(), Memory>
-    ensures { OnOk result (text.new.items ≡ text.old.items ++ role_text line.now i gate role) }
-{
-    match role {
-        Role::Seen(place) => put(text, element_word(place.element)),
-        Role::Timed(place) => put_both(text, element_word(place.element), b"_on"),
-        Role::Lost(channel) => put_channel(text, b"loss_", line, channel),
-        Role::Raw(channel) => put_channel(text, b"raw_", line, channel),
-        Role::Received(channel) => put_channel(text, b"rx_", line, channel),
-        Role::Permission(terminal) => put_terminal_name(text, b"perm_", line, terminal),
-        Role::AnyReceived(terminal) => put_terminal_name(text, b"rx_", line, terminal),
-        Role::Step => put_step(text, i, gate),
-    }
-}
-
-fn put_both(text: &mut Vec<u8>, first: &[u8], second: &[u8]) -> Result<(), Memory>
-    ensures { OnOk result (text.new.items ≡ text.old.items ++ (first.now ++ second.now)) }
-{
-    put(text, first)?;
-    put(text, second)
-}
-
-fn put_channel(text: &mut Vec<u8>, word: &[u8], line: &Line, channel: u32) -> Result<(), Memory>
-    ensures { OnOk result (text.new.items
-        ≡ text.old.items ++ (word.now ++ channel_text line.now channel)) }
-{
-    put(text, word)?;
-    put_name(text, line, sender(line, channel))?;
-    put(text, b"_")?;
-    put_name(text, line, receiver(line, channel))
-}
-
-fn put_terminal_name(text: &mut Vec<u8>, word: &[u8], line: &Line, k: u32) -> Result<(), Memory>
-    ensures { OnOk result (text.new.items
-        ≡ text.old.items ++ (word.now ++ name_at line.now.terminals.items k)) }
-{
-    put(text, word)?;
-    put_name(text, line, k)
-}
-
-// Appends the number and kind of a gate.
-fn put_step(text: &mut Vec<u8>, i: u32, gate: Gate) -> Result<(), Memory>
-    ensures { OnOk result (text.new.items
-        ≡ text.old.items ++ step_text i gate) }
-{
-    put(text, b"g")?;
-    put_number(text, i as u64)?;
-    put(text, b"_")?;
-    put(text, kind_word(gate))
-}
-
-// Appends the name of a terminal; nothing where there is no such terminal.
-fn put_name(text: &mut Vec<u8>, line: &Line, k: u32) -> Result<(), Memory>
-    ensures { OnOk result (text.new.items ≡ text.old.items ++ name_at line.now.terminals.items k) }
-{
-    if k < line.terminals.len() as u32 {
-        put(text, line.terminals[k as usize].name.bytes())
-    } else {
-        Ok(())
-    }
-}
-
-fn kind_word(gate: Gate) -> &'static [u8]
-    ensures { result.now ≡ kind_text gate }
-{
-    match gate {
-        Gate::Const(_) => b"const",
-        Gate::Seen(_) => b"seen",
-        Gate::Loss(_) => b"loss",
-        Gate::Raw(_) => b"raw",
-        Gate::Not(_) => b"not",
-        Gate::And(_, _) => b"and",
-        Gate::Or(_, _) => b"or",
-        Gate::Timer(_, _, _) => b"timer",
-        Gate::Seal(_, _) => b"seal",
-    }
 }

@@ -63,7 +63,7 @@ pub fn value_change_dump(
     put(&mut text, b", script ")?;
     put(&mut text, script.bytes())?;
     put(&mut text, b" $end\n$timescale 1 us $end\n")?;
-    put_declarations(&mut text, line, net)?;
+    put_declarations(alloc, &mut text, line, net)?;
     put(&mut text, b"$enddefinitions $end\n")?;
     put_changes(alloc, &mut text, waves, extent)?;
     Ok(text)

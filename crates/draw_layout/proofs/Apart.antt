@@ -7,7 +7,7 @@ use Rattle.std.proofs.lemmas.List.Elements.{All-cons, All-nil}
 use Rattle.std.proofs.lemmas.List.Kept.{AllPairs-cons}
 use Rattle.model_line.specs.declared.line.Line.{Line}
 use Rattle.draw_diagram.specs.declared.{diagram.Diagram.Diagram, rows.Row.Row, trace.Trace.Trace}
-use Rattle.draw_diagram.specs.declared.trace.Trace.TheVariants.{Seen, Lost, Key, Trip}
+use Rattle.draw_diagram.specs.declared.trace.Trace.TheVariants.{Seen, Lost, Logic, Key, Trip}
 use Rattle.draw_layout.specs.Drawings.{base_below, begins_terminal, end_below, height_above}
 use Rattle.draw_layout.specs.Drawings.{height_below, room_above, row_drawn, rows_drawn}
 use Rattle.draw_layout.specs.{Placed.IsBelow, Placed.placed, Rows.bar_height, Rows.is_drawn}
@@ -24,18 +24,21 @@ on_bases line diagram y (r ∷ rest) =
 below_few : (trace : Trace) → height_below trace ≤ 180
 below_few (Seen place) = omega arith
 below_few (Lost c) = omega arith
+below_few (Logic what gate) = omega arith
 below_few (Key k) = omega arith
 below_few (Trip k) = omega arith
 
 room_few : (trace : Trace) → room_above trace ≤ 250
 room_few (Seen place) = omega arith
 room_few (Lost c) = omega arith
+room_few (Logic what gate) = omega arith
 room_few (Key k) = omega arith
 room_few (Trip k) = omega arith
 
 room_for_bars : (trace : Trace) → bar_height trace < room_above trace
 room_for_bars (Seen place) = omega arith
 room_for_bars (Lost c) = omega arith
+room_for_bars (Logic what gate) = omega arith
 room_for_bars (Key k) = omega arith
 room_for_bars (Trip k) = omega arith
 

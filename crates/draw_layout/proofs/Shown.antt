@@ -4,12 +4,12 @@ use Rattle.std.proofs.Common.{subst}
 use Rattle.std.specs.List.{Any}
 use Rattle.model_history.specs.Rails.{Rails, both}
 use Rattle.model_line.specs.declared.script.Script.{Script}
-use Rattle.model_logic.specs.Histories.{PairHistory}
+use Rattle.draw_diagram.specs.Traces.{ShownPairs}
 use Rattle.run_signal.specs.{Terns.tern_rails, declared.tern.Tern.Tern}
 use Rattle.run_signal.specs.declared.tern.Tern.TheVariants as tern
 use Rattle.draw_diagram.specs.{Diagrams.IsRow, Stretches.IsStretch, Traces.trace_pair}
 use Rattle.draw_diagram.specs.declared.{rows.Row.Row, stretch.Stretch.Stretch, trace.Trace.Trace}
-use Rattle.draw_diagram.specs.declared.trace.Trace.TheVariants.{Seen, Lost, Key, Trip}
+use Rattle.draw_diagram.specs.declared.trace.Trace.TheVariants.{Seen, Lost, Logic, Key, Trip}
 use Rattle.draw_diagram.specs.declared.window.Window.{Window}
 use Rattle.draw_layout.specs.Covered.{Covers, CoversInFull, IsFull, ShowsTick}
 use Rattle.draw_layout.specs.{Rows.bar, Rows.bars, Rows.is_off, Scale.place_of}
@@ -54,7 +54,7 @@ module _ (window : Window) (t : ℕ)
     covers_to some c = grind (arith, order s.to t, order s.from s.to, apart, c.1)
 
 -- a full bar stands for a value that is on: what the script shows is known
-full_is_on : (script : Script) (w : PairHistory) (trace : Trace) (window : Window)
+full_is_on : (script : Script) (w : ShownPairs) (trace : Trace) (window : Window)
     (base : ℕ) (s : Stretch) → IsStretch (trace_pair script w trace) s → is_off s.value ≡ false
     → IsFull (bar window trace base s) → (tern_rails s.value).must ≡ true
 full_is_on script w trace window base s is on full =
@@ -67,6 +67,7 @@ full_is_on script w trace window base s is on full =
     by_value trace tern.One on full is = refl
     by_value (Seen p) tern.Unknown on full is = absurd (known_not_open _ is)
     by_value (Lost c) tern.Unknown on full is = absurd (known_not_open _ is)
+    by_value (Logic what gate) tern.Unknown on full is = absurd full
     by_value (Key k) tern.Unknown on full is = absurd full
     by_value (Trip k) tern.Unknown on full is = absurd full
 
@@ -79,6 +80,7 @@ on_is_full trace window base s must = by_value trace s.value must
     by_value trace tern.Zero must = absurd (let bad : false ≡ true = must in cc)
     by_value (Seen p) tern.One must = tt
     by_value (Lost c) tern.One must = tt
+    by_value (Logic what gate) tern.One must = tt
     by_value (Key k) tern.One must = tt
     by_value (Trip k) tern.One must = tt
     by_value trace tern.Unknown must = absurd (let bad : false ≡ true = must in cc)
@@ -86,7 +88,7 @@ on_is_full trace window base s must = by_value trace s.value must
 module _ (window : Window) (t : ℕ)
     (order : (a b : ℕ) → a ≤ b → place_of window a ≤ place_of window b)
     (apart : place_of window t < place_of window (t + 1))
-    (script : Script) (w : PairHistory) (row : Row) (base horizon : ℕ) (below : t < horizon)
+    (script : Script) (w : ShownPairs) (row : Row) (base horizon : ℕ) (below : t < horizon)
     (are : IsRow script w horizon row) where
   abbrev trace : Trace
   trace = row.trace

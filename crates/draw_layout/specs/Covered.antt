@@ -18,6 +18,7 @@ Covers window t (seen.text look x y words) = ⊥
 -- it is full, and not hatched
 abbrev pub IsFull : SeenFigure → Type 0
 IsFull (seen.rectangle class.Seen x y width height) = Unit {0}
+IsFull (seen.rectangle class.LogicOn x y width height) = Unit {0}
 IsFull (seen.rectangle class.KeyOn x y width height) = Unit {0}
 IsFull (seen.rectangle class.TripOn x y width height) = Unit {0}
 IsFull figure = ⊥

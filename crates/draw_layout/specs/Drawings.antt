@@ -9,7 +9,7 @@ use Rattle.model_line.specs.{declared.script.Element.Element, declared.script.Ki
 use Rattle.model_line.specs.declared.line.Scheme.TheVariants as scheme
 use Rattle.model_names.specs.NamesByNumber.{terminal_name}
 use Rattle.draw_diagram.specs.declared.{diagram.Diagram.Diagram, rows.Row.Row, trace.Trace.Trace}
-use Rattle.draw_diagram.specs.declared.trace.Trace.TheVariants.{Seen, Lost, Key, Trip}
+use Rattle.draw_diagram.specs.declared.trace.Trace.TheVariants.{Seen, Lost, Logic, Key, Trip}
 use Rattle.draw_shapes.specs.declared.class.Class.TheVariants as class
 use Rattle.draw_shapes.specs.{Seen.SeenFigure, Seen.SeenShape, Seen.SeenDrawing}
 use Rattle.draw_shapes.specs.Seen as seen
@@ -53,6 +53,7 @@ is_z1 Cur = false
 abbrev pub begins_terminal : Trace → Bool
 begins_terminal (Seen place) = is_z1 place.element
 begins_terminal (Lost c) = false
+begins_terminal (Logic what gate) = false
 begins_terminal (Key k) = false
 begins_terminal (Trip k) = false
 
@@ -60,6 +61,7 @@ begins_terminal (Trip k) = false
 abbrev pub room_above : Trace → ℕ
 room_above (Seen place) = 190
 room_above (Lost c) = 190
+room_above (Logic what gate) = 190
 room_above (Key k) = 250
 room_above (Trip k) = 250
 
@@ -73,6 +75,7 @@ height_above shown =
 abbrev pub height_below : Trace → ℕ
 height_below (Seen place) = 0
 height_below (Lost c) = 0
+height_below (Logic what gate) = 0
 height_below (Key k) = 0
 height_below (Trip k) = 180
 
@@ -94,6 +97,7 @@ abbrev pub beside_trace : Line → Diagram → Row → ℕ → Trace → List Se
 beside_trace of diagram shown base (Seen place) =
     if is_z1 place.element then name_drawn of shown place.terminal base else []
 beside_trace of diagram shown base (Lost c) = []
+beside_trace of diagram shown base (Logic what gate) = []
 beside_trace of diagram shown base (Key k) = []
 beside_trace of diagram shown base (Trip k) = trip_drawn of diagram k base
 
@@ -129,7 +133,7 @@ head_drawn said height =
 -- the shapes of a diagram whose rows end at `bottom`, the later ones over the earlier ones
 abbrev pub shapes_above : Line → Diagram → List ℕ → ℕ → List SeenShape
 shapes_above of diagram said bottom =
-    seen.plain (head_drawn said (more (more bottom 420) 540))
+    seen.plain (head_drawn said (more (more bottom 420) 720))
     ∷ (seen.plain (axis of diagram.window 600 bottom)
     ∷ (rows_drawn of diagram 600 diagram.rows.items
     ++ seen.plain (marks of diagram 600 bottom)
@@ -143,6 +147,6 @@ shapes_of of script what diagram =
 abbrev pub drawing_of : Line → Script → Subject → Diagram → SeenDrawing
 drawing_of of script what diagram = record {
   title = heading of script what;
-  height = more (more (bottom_of 600 diagram.rows.items) 420) 540;
+  height = more (more (bottom_of 600 diagram.rows.items) 420) 720;
   shapes = shapes_of of script what diagram;
 }

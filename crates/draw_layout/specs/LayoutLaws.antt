@@ -2,7 +2,8 @@
 use Rattle.std.specs.Prelude.{◌≡◌, ◌<◌, ◌≤◌, ◌+◌, ◌*◌, ◌^◌, ℕ, List, length}
 use Rattle.std.specs.List.{All, AllPairs, flat_map}
 use Rattle.model_line.specs.{declared.line.Line.Line, declared.script.Script.Script}
-use Rattle.model_logic.specs.Histories.{PairHistory}
+use Rattle.net_gates.specs.declared.gate.Gate.{Gate}
+use Rattle.draw_diagram.specs.Traces.{ShownPairs}
 use Rattle.draw_diagram.specs.{declared.diagram.Diagram.Diagram, Diagrams.IsDiagramOf}
 use Rattle.draw_diagram.specs.{Traces.trace_pair, Windows.Holds}
 use Rattle.draw_diagram.specs.declared.{rows.Row.Row, window.Window.Window}
@@ -19,11 +20,11 @@ abbrev pub ShownTicksStandApart : Type 0
 ShownTicksStandApart = (window : Window) (s t : ℕ) → window.last < window.first + 5500
     → window.first ≤ s → s < t → t ≤ window.last + 1 → place_of window s < place_of window t
 
--- in the diagram of a history, whatever the base of a row, its bars show at each tick that is shown
--- what the row's pair is there
+-- in the diagram of pairs, whatever the base of a row, its bars show at each tick that is shown what
+-- the row's pair is there
 abbrev pub BarsShowTheHistory : Type 0
-BarsShowTheHistory = (line : Line) (script : Script) (w : PairHistory) (diagram : Diagram)
-    → IsDiagramOf line script w diagram
+BarsShowTheHistory = (line : Line) (gates : List Gate) (script : Script) (w : ShownPairs)
+    (diagram : Diagram) → IsDiagramOf line gates script w diagram
     → All (λ (row : Row). (base t : ℕ) → Holds diagram.window t
     → ShowsTick diagram.window base row t (trace_pair script w row.trace t)) diagram.rows.items
 

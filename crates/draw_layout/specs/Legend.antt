@@ -7,6 +7,10 @@ use Rattle.draw_shapes.specs.declared.class.Class.{Class}
 use Rattle.draw_shapes.specs.declared.class.Class.TheVariants as class
 use Rattle.draw_shapes.specs.{Seen.SeenFigure}
 use Rattle.draw_shapes.specs.Seen as seen
+use Rattle.std.specs.List.{list_any}
+use Rattle.draw_diagram.specs.declared.{rows.Row.Row, trace.Trace.Trace}
+use Rattle.draw_diagram.specs.declared.trace.Trace.TheVariants.{Seen, Lost, Logic, Key, Trip}
+use Rattle.draw_layout.specs.Rows.{is_drawn}
 use Rattle.draw_layout.specs.{Scale.more, Trips.no_rules, Words.milliseconds_said}
 
 -- a bar and what it is
@@ -30,6 +34,32 @@ open_entries true y = []
 open_entries false y =
     entry 3900 y class.KeyOpen (codes "key on or off, by the delays")
     ++ entry 6200 y class.TripOpen (codes "trip on or off, by the delays")
+
+-- rows of the logic
+abbrev pub is_logic : Trace → Bool
+is_logic (Seen place) = false
+is_logic (Lost c) = false
+is_logic (Logic what gate) = true
+is_logic (Key k) = false
+is_logic (Trip k) = false
+
+abbrev pub shows_logic : Row → Bool
+shows_logic shown = is_logic shown.trace && is_drawn shown
+
+abbrev pub has_logic : List Row → Bool
+has_logic rows = list_any shows_logic rows
+
+unfoldable pub logic_on : ℕ → List SeenFigure
+logic_on y = entry 140 y class.LogicOn (codes "received, or a step of the scheme")
+
+unfoldable pub logic_open : Bool → ℕ → List SeenFigure
+logic_open true y = []
+logic_open false y = entry 3900 y class.LogicOpen (codes "on or off, by the delays")
+
+-- what they are, where there are any
+abbrev pub logic_entries : Bool → Bool → ℕ → List SeenFigure
+logic_entries false is_play y = []
+logic_entries true is_play y = logic_on y ++ logic_open is_play y
 
 abbrev pub shows_all : ℕ → Window → Bool
 shows_all last window = window.first == 0 && nat_le last window.last
@@ -56,3 +86,4 @@ abbrev pub legend : Line → Diagram → ℕ → List SeenFigure
 legend of diagram top =
     on_entries (more top 180) ++ open_entries (no_rules diagram.rules.items) (more top 180)
     ++ seen.text class.Quiet 140 (more top 400) (legend_said of diagram.window) ∷ []
+    ++ logic_entries (has_logic diagram.rows.items) (no_rules diagram.rules.items) (more top 580)

@@ -8,20 +8,54 @@ use Rattle.model_names.specs.NamesByNumber.{terminal_name, element_text}
 use Rattle.run_signal.specs.declared.tern.Tern.{Tern}
 use Rattle.run_signal.specs.declared.tern.Tern.TheVariants as tern
 use Rattle.draw_diagram.specs.declared.{rows.Row.Row, stretch.Stretch.Stretch, trace.Trace.Trace}
-use Rattle.draw_diagram.specs.declared.trace.Trace.TheVariants.{Seen, Lost, Key, Trip}
+use Rattle.draw_diagram.specs.declared.trace.Trace.TheVariants.{Seen, Lost, Logic, Key, Trip}
 use Rattle.draw_diagram.specs.declared.window.Window.{Window}
 use Rattle.draw_shapes.specs.declared.class.Class.{Class}
 use Rattle.draw_shapes.specs.declared.class.Class.TheVariants as class
 use Rattle.draw_shapes.specs.Seen.{SeenFigure, SeenShape}
 use Rattle.draw_shapes.specs.Seen as seen
+use Rattle.draw_roles.specs.declared.role.Role.{Role}
+use Rattle.draw_roles.specs.declared.role.Role.TheVariants as role
+use Rattle.draw_roles.specs.Roles.{receiver, sender}
 use Rattle.draw_layout.specs.Scale.{place_of}
 
 -- ---- its words
+
+-- the name of a gate's row within its terminal
+abbrev pub role_name : Line → Role → List ℕ
+role_name of (role.Seen place) = codes "sees " ++ element_text place.element
+role_name of (role.Timed place) = codes "timed " ++ element_text place.element
+role_name of (role.Lost c) = codes "lost from " ++ terminal_name of (sender of c)
+role_name of (role.Raw c) = codes "arrives from " ++ terminal_name of (sender of c)
+role_name of (role.Received c) = codes "receives from " ++ terminal_name of (sender of c)
+role_name of (role.Window c) = codes "window from " ++ terminal_name of (sender of c)
+role_name of (role.Lockout c) = codes "lockout from " ++ terminal_name of (sender of c)
+role_name of (role.Guard k) = codes "guard"
+role_name of (role.Coordination k) = codes "coordination"
+role_name of (role.Echo k) = codes "echo"
+role_name of (role.Permission k) = codes "permission"
+role_name of (role.AnyReceived k) = codes "receives"
+
+-- the terminal of a role; a channel is one of the terminal that it leads to
+abbrev pub role_home : Line → Role → ℕ
+role_home of (role.Seen place) = place.terminal
+role_home of (role.Timed place) = place.terminal
+role_home of (role.Lost c) = receiver of c
+role_home of (role.Raw c) = receiver of c
+role_home of (role.Received c) = receiver of c
+role_home of (role.Window c) = receiver of c
+role_home of (role.Lockout c) = receiver of c
+role_home of (role.Guard k) = k
+role_home of (role.Coordination k) = k
+role_home of (role.Echo k) = k
+role_home of (role.Permission k) = k
+role_home of (role.AnyReceived k) = k
 
 -- the name of a row within its terminal
 abbrev pub row_name : Line → Trace → List ℕ
 row_name of (Seen place) = codes "sees " ++ element_text place.element
 row_name of (Lost c) = codes "lost from " ++ terminal_name of (from_of of.channels.items c)
+row_name of (Logic what gate) = role_name of what
 row_name of (Key k) = codes "key"
 row_name of (Trip k) = codes "trip"
 
@@ -29,6 +63,7 @@ row_name of (Trip k) = codes "trip"
 abbrev pub terminal_of : Line → Trace → ℕ
 terminal_of of (Seen place) = place.terminal
 terminal_of of (Lost c) = to_of of.channels.items c
+terminal_of of (Logic what gate) = role_home of what
 terminal_of of (Key k) = k
 terminal_of of (Trip k) = k
 
@@ -66,6 +101,7 @@ is_off tern.Unknown = false
 abbrev pub bar_height : Trace → ℕ
 bar_height (Seen place) = 90
 bar_height (Lost c) = 90
+bar_height (Logic what gate) = 110
 bar_height (Key k) = 160
 bar_height (Trip k) = 160
 
@@ -78,6 +114,7 @@ open_or hatched full tern.Unknown = hatched
 abbrev pub bar_class : Trace → Tern → Class
 bar_class (Seen place) value = class.Seen
 bar_class (Lost c) value = class.Seen
+bar_class (Logic what gate) value = open_or class.LogicOpen class.LogicOn value
 bar_class (Key k) value = open_or class.KeyOpen class.KeyOn value
 bar_class (Trip k) value = open_or class.TripOpen class.TripOn value
 
@@ -103,10 +140,18 @@ is_shown s = not (is_off s.value)
 abbrev pub is_ever_shown : List Stretch → Bool
 is_ever_shown stretches = list_any is_shown stretches
 
--- keys and trips are drawn always, what the script shows if it is on at some tick
+-- it changes at some tick
+abbrev pub changes : List Stretch → Bool
+changes [] = false
+changes (s ∷ []) = false
+changes (s ∷ (next ∷ rest)) = true
+
+-- keys and trips are drawn always, what the script shows if it is on at some tick, a gate of the
+-- logic if it changes
 abbrev pub is_drawn_by : Trace → List Stretch → Bool
 is_drawn_by (Seen place) stretches = is_ever_shown stretches
 is_drawn_by (Lost c) stretches = is_ever_shown stretches
+is_drawn_by (Logic what gate) stretches = changes stretches
 is_drawn_by (Key k) stretches = true
 is_drawn_by (Trip k) stretches = true
 

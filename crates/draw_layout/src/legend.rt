@@ -2,20 +2,22 @@
 
 ghost use Rattle.std.specs.Prelude.{◌≡◌, ◌-◌, ◌++◌, IfOk, OnOk};
 ghost use Rattle.draw_layout.specs.Legend.{entry, on_entries, signal_entries, open_entries};
-ghost use Rattle.draw_layout.specs.Legend.{shown_said};
+ghost use Rattle.draw_layout.specs.Legend.{shown_said, is_logic, shows_logic, has_logic};
+ghost use Rattle.draw_layout.specs.Legend.{logic_entries, logic_on, logic_open};
 ghost use Rattle.draw_layout.specs.Legend.{legend_said, legend, shows_all, all_said, some_said};
 ghost use Rattle.draw_layout.specs.Words.{said};
 ghost use Rattle.draw_shapes.specs.Seen.{figures_seen};
 
+use crate::row::is_drawn;
 use crate::trip::has_no_rules;
 use crate::words::Words;
-use draw_diagram::{Diagram, Window};
+use draw_diagram::{Diagram, Row, Trace, Window};
 use draw_shapes::{Class, Figure, put_rectangle, put_text};
 use model_line::{Line, Memory};
 use std::alloc::Global;
 
 /// How much lies below the axis for the legend.
-pub const LEGEND_HEIGHT: u32 = 540;
+pub const LEGEND_HEIGHT: u32 = 720;
 
 /// Appends the legend from `top` on, and the ticks that are not shown.
 pub fn put_legend(
@@ -38,7 +40,77 @@ pub fn put_legend(
         (140, top.saturating_add(400)),
         said.bytes,
     )?;
-    Ok(())
+    put_logic(
+        alloc,
+        figures,
+        has_logic(diagram.rows.as_slice()),
+        has_no_rules(diagram.rules.as_slice()),
+        top.saturating_add(580),
+    )
+}
+
+fn has_logic(rows: &[Row]) -> bool
+    ensures { result ≡ has_logic rows.now }
+{
+    rows.iter().any(|row| shows_logic(row))
+}
+
+fn shows_logic(row: &Row) -> bool
+    ensures { result ≡ shows_logic row.now }
+{
+    is_logic(row.trace) && is_drawn(row)
+}
+
+fn is_logic(trace: Trace) -> bool
+    ensures { result ≡ is_logic trace }
+{
+    match trace {
+        Trace::Logic(_, _) => true,
+        Trace::Seen(_) | Trace::Lost(_) | Trace::Key(_) | Trace::Trip(_) => false,
+    }
+}
+
+fn put_logic(
+    alloc: Global,
+    figures: &mut Vec<Figure>,
+    is_there: bool,
+    is_play: bool,
+    y: u32,
+) -> Result<(), Memory>
+    ensures { OnOk result (figures_seen figures.new.items
+        ≡ figures_seen figures.old.items ++ logic_entries is_there is_play y) }
+{
+    if !is_there {
+        return Ok(());
+    }
+    put_logic_on(alloc, figures, y)?;
+    put_logic_open(alloc, figures, is_play, y)
+}
+
+#[tactic(auto, unfolding(crate::specs::Legend::logic_on))]
+fn put_logic_on(alloc: Global, figures: &mut Vec<Figure>, y: u32) -> Result<(), Memory>
+    ensures { OnOk result (figures_seen figures.new.items
+        ≡ figures_seen figures.old.items ++ logic_on y) }
+{
+    let said: &[u8] = b"received, or a step of the scheme";
+    put_entry(alloc, figures, 140, y, Class::LogicOn, said)
+}
+
+#[tactic(auto, unfolding(crate::specs::Legend::logic_open))]
+fn put_logic_open(
+    alloc: Global,
+    figures: &mut Vec<Figure>,
+    is_play: bool,
+    y: u32,
+) -> Result<(), Memory>
+    ensures { OnOk result (figures_seen figures.new.items
+        ≡ figures_seen figures.old.items ++ logic_open is_play y) }
+{
+    if is_play {
+        return Ok(());
+    }
+    let said: &[u8] = b"on or off, by the delays";
+    put_entry(alloc, figures, 3900, y, Class::LogicOpen, said)
 }
 
 #[tactic(auto, unfolding(crate::specs::Legend::on_entries))]

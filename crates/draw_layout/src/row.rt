@@ -3,7 +3,7 @@
 ghost use Rattle.std.specs.Prelude.{◌≡◌, ◌≤◌, ◌++◌, ◌∷◌, [], IfOk, OnOk};
 ghost use Rattle.draw_layout.specs.{Scale.place_of, Words.said};
 ghost use Rattle.draw_layout.specs.Rows.{is_drawn, is_ever_shown, is_shown, is_off, bar_height};
-ghost use Rattle.draw_layout.specs.Rows.{bar_class, row_name};
+ghost use Rattle.draw_layout.specs.Rows.{bar_class, row_name, changes, role_name, role_home};
 ghost use Rattle.draw_layout.specs.Rows.{others_said, terminal_of, value_word, stretch_said};
 ghost use Rattle.draw_layout.specs.Rows.{stretches_said};
 ghost use Rattle.draw_layout.specs.Rows.{row_title, bar_if_any, bars, row_figures, row_shape};
@@ -14,6 +14,7 @@ ghost use Rattle.model_names.specs.NamesByNumber.{terminal_name};
 use crate::scale::{LEFT, RIGHT, x_of};
 use crate::words::Words;
 use draw_diagram::{Row, Stretch, Trace, Window};
+use draw_roles::{Role, receiver};
 use draw_shapes::{Class, Figure, Shape, put_line, put_rectangle, put_text};
 use model_line::{Line, Memory};
 use model_names::{element_word, name_of_terminal};
@@ -27,6 +28,16 @@ pub fn is_drawn(row: &Row) -> bool
     match row.trace {
         Trace::Key(_) | Trace::Trip(_) => true,
         Trace::Seen(_) | Trace::Lost(_) => is_ever_shown(row.stretches.as_slice()),
+        Trace::Logic(_, _) => changes(row.stretches.as_slice()),
+    }
+}
+
+fn changes(stretches: &[Stretch]) -> bool
+    ensures { result ≡ changes stretches.now }
+{
+    match stretches {
+        [] | [_] => false,
+        [_, _, ..] => true,
     }
 }
 
@@ -56,6 +67,7 @@ fn bar_height(trace: Trace) -> u32
     ensures { result ≡ bar_height trace }
 {
     match trace {
+        Trace::Logic(_, _) => 110,
         Trace::Key(_) | Trace::Trip(_) => 160,
         Trace::Seen(_) | Trace::Lost(_) => 90,
     }
@@ -69,8 +81,51 @@ fn row_name(alloc: Global, of: &Line, trace: Trace) -> Result<Words, Memory>
     match trace {
         Trace::Seen(place) => words.word(b"sees ")?.word(element_word(place.element)),
         Trace::Lost(channel) => words.word(b"lost from ")?.word(sender_name(of, channel)),
+        Trace::Logic(role, _) => role_name(words, of, role),
         Trace::Key(_) => words.word(b"key"),
         Trace::Trip(_) => words.word(b"trip"),
+    }
+}
+
+// Appends the name of a gate's row within its terminal.
+fn role_name(words: Words, of: &Line, role: Role) -> Result<Words, Memory>
+    ensures { IfOk result (λ all. said all ≡ said words ++ role_name of.now role) }
+{
+    match role {
+        Role::Seen(place) => two_words(words, b"sees ", element_word(place.element)),
+        Role::Timed(place) => two_words(words, b"timed ", element_word(place.element)),
+        Role::Lost(c) => two_words(words, b"lost from ", sender_name(of, c)),
+        Role::Raw(c) => two_words(words, b"arrives from ", sender_name(of, c)),
+        Role::Received(c) => two_words(words, b"receives from ", sender_name(of, c)),
+        Role::Window(c) => two_words(words, b"window from ", sender_name(of, c)),
+        Role::Lockout(c) => two_words(words, b"lockout from ", sender_name(of, c)),
+        Role::Guard(_) => words.word(b"guard"),
+        Role::Coordination(_) => words.word(b"coordination"),
+        Role::Echo(_) => words.word(b"echo"),
+        Role::Permission(_) => words.word(b"permission"),
+        Role::AnyReceived(_) => words.word(b"receives"),
+    }
+}
+
+fn two_words(words: Words, first: &[u8], second: &[u8]) -> Result<Words, Memory>
+    ensures { IfOk result (λ all. said all ≡ said words ++ (first.now ++ second.now)) }
+{
+    words.word(first)?.word(second)
+}
+
+// The terminal of a role.
+fn role_home(of: &Line, role: Role) -> u32
+    ensures { result ≡ role_home of.now role }
+{
+    match role {
+        Role::Seen(place) | Role::Timed(place) => place.terminal,
+        Role::Lost(c) | Role::Raw(c) | Role::Received(c) | Role::Window(c) | Role::Lockout(c) =>
+            receiver(of, c),
+        Role::Guard(k)
+        | Role::Coordination(k)
+        | Role::Echo(k)
+        | Role::Permission(k)
+        | Role::AnyReceived(k) => k,
     }
 }
 
@@ -91,6 +146,7 @@ fn terminal_of(of: &Line, trace: Trace) -> u32
     match trace {
         Trace::Seen(place) => place.terminal,
         Trace::Key(terminal) | Trace::Trip(terminal) => terminal,
+        Trace::Logic(role, _) => role_home(of, role),
         Trace::Lost(channel) => match of.channels.as_slice().get(channel as usize) {
             Some(channel) => channel.to,
             None => 0,
@@ -184,6 +240,8 @@ fn bar_class(trace: Trace, value: Tern) -> Class
     ensures { result ≡ bar_class trace value }
 {
     match (trace, value) {
+        (Trace::Logic(_, _), Tern::Unknown) => Class::LogicOpen,
+        (Trace::Logic(_, _), _) => Class::LogicOn,
         (Trace::Key(_), Tern::Unknown) => Class::KeyOpen,
         (Trace::Key(_), _) => Class::KeyOn,
         (Trace::Trip(_), Tern::Unknown) => Class::TripOpen,

@@ -109,7 +109,7 @@ fn beside(
             }
         }
         Trace::Trip(k) => put_trip(alloc, &mut figures, line, diagram, k, base)?,
-        Trace::Lost(_) | Trace::Key(_) => {}
+        Trace::Lost(_) | Trace::Logic(_, _) | Trace::Key(_) => {}
     }
     Ok(figures)
 }
@@ -151,7 +151,7 @@ fn room_above(trace: Trace) -> u32
     ensures few { result ≤ 250 }
 {
     match trace {
-        Trace::Seen(_) | Trace::Lost(_) => 190,
+        Trace::Seen(_) | Trace::Lost(_) | Trace::Logic(_, _) => 190,
         Trace::Key(_) | Trace::Trip(_) => 250,
     }
 }
@@ -161,7 +161,7 @@ fn height_below(trace: Trace) -> u32
 {
     match trace {
         Trace::Trip(_) => 180,
-        Trace::Seen(_) | Trace::Lost(_) | Trace::Key(_) => 0,
+        Trace::Seen(_) | Trace::Lost(_) | Trace::Logic(_, _) | Trace::Key(_) => 0,
     }
 }
 
@@ -173,6 +173,6 @@ fn begins_terminal(trace: Trace) -> bool
             Element::Z1 => true,
             Element::Z2 | Element::Rv | Element::Uv | Element::Cur => false,
         },
-        Trace::Lost(_) | Trace::Key(_) | Trace::Trip(_) => false,
+        Trace::Lost(_) | Trace::Logic(_, _) | Trace::Key(_) | Trace::Trip(_) => false,
     }
 }

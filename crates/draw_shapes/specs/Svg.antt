@@ -8,8 +8,8 @@ use Rattle.base_markup.specs.{Attributes.tenths_said, Content.leaf_text, Content
 use Rattle.base_markup.specs.Escape.{escaped}
 use Rattle.draw_shapes.specs.declared.class.Class.{Class}
 use Rattle.draw_shapes.specs.declared.class.Class.TheVariants as class
-use Rattle.draw_shapes.specs.declared.style.TheConstants.{STYLE}
-use Rattle.draw_shapes.specs.Classes.{class_name}
+use Rattle.draw_shapes.specs.declared.class.TheConstants.{CLASSES}
+use Rattle.draw_shapes.specs.Classes.{class_name, look_of}
 use Rattle.draw_shapes.specs.Seen.{SeenFigure, rectangle, line, text, SeenShape, plain, titled}
 use Rattle.draw_shapes.specs.Seen.{SeenDrawing}
 
@@ -60,8 +60,20 @@ shapes_text shapes = flat_map shape_text shapes
 
 -- ---- the style
 
+-- words without a look of their own
+abbrev pub plain_rule : List ℕ
+plain_rule = codes "\ntext { font: 12px sans-serif; fill: #1b2733 }\n"
+
+-- the rule of a class: what the sheet says of it
+unfoldable pub rule_text : Class → List ℕ
+rule_text look = codes "." ++ class_name look ++ codes " { " ++ look_of look ++ codes " }\n"
+
+-- a rule for each look, in order
+abbrev pub rules_text : List ℕ
+rules_text = plain_rule ++ flat_map rule_text CLASSES
+
 unfoldable pub sheet_text : List ℕ
-sheet_text = element_text tag.Style [] (escaped STYLE.now) ++ end_of_line
+sheet_text = element_text tag.Style [] (escaped rules_text) ++ end_of_line
 
 -- stripes over a pale ground, under a name that the style sheet cites
 abbrev pub hatching_attributes : List ℕ → List ℕ → List (Key × List ℕ)
@@ -82,7 +94,8 @@ unfoldable pub hatchings_text : List ℕ
 hatchings_text =
     element_text tag.Defs []
     (hatching_text (codes "key-open") (codes "rotate(45)") class.KeyPale class.KeyHatch
-    ++ hatching_text (codes "trip-open") (codes "rotate(135)") class.TripPale class.TripHatch)
+    ++ hatching_text (codes "trip-open") (codes "rotate(135)") class.TripPale class.TripHatch
+    ++ hatching_text (codes "logic-open") (codes "rotate(90)") class.LogicPale class.LogicHatch)
     ++ end_of_line
 
 -- ---- the whole

@@ -1,9 +1,9 @@
 //! The looks of the style sheet.
 
 ghost use Rattle.std.specs.Prelude.{◌≡◌};
-ghost use Rattle.draw_shapes.specs.Classes.{class_name};
+ghost use Rattle.draw_shapes.specs.Classes.{class_name, look_of};
 
-/// A look that the style sheet has. Words begin at their place, or are centred there or end there.
+/// A look of the style sheet. Words begin at their place, or are centred there or end there.
 #[derive(Clone, Copy)]
 pub enum Class {
     Begin,
@@ -25,16 +25,58 @@ pub enum Class {
     Inception,
     Deadline,
     Margin,
+    Step,
     Seen,
+    LogicOn,
+    LogicOpen,
     KeyOn,
     KeyOpen,
     TripOn,
     TripOpen,
+    LogicPale,
+    LogicHatch,
     KeyPale,
     KeyHatch,
     TripPale,
     TripHatch,
 }
+
+/// Every look, in the order of the style sheet.
+pub const CLASSES: [Class; 33] = [
+    Class::Begin,
+    Class::Middle,
+    Class::End,
+    Class::Heading,
+    Class::Terminal,
+    Class::Quiet,
+    Class::QuietMiddle,
+    Class::QuietEnd,
+    Class::Due,
+    Class::DueEnd,
+    Class::Held,
+    Class::Broken,
+    Class::Unknown,
+    Class::Paper,
+    Class::Grid,
+    Class::Base,
+    Class::Inception,
+    Class::Deadline,
+    Class::Margin,
+    Class::Step,
+    Class::Seen,
+    Class::LogicOn,
+    Class::LogicOpen,
+    Class::KeyOn,
+    Class::KeyOpen,
+    Class::TripOn,
+    Class::TripOpen,
+    Class::LogicPale,
+    Class::LogicHatch,
+    Class::KeyPale,
+    Class::KeyHatch,
+    Class::TripPale,
+    Class::TripHatch,
+];
 
 impl Class {
     /// Its name in the style sheet.
@@ -61,15 +103,61 @@ impl Class {
             Class::Inception => b"inception",
             Class::Deadline => b"deadline",
             Class::Margin => b"margin",
+            Class::Step => b"step",
             Class::Seen => b"seen",
+            Class::LogicOn => b"logic",
+            Class::LogicOpen => b"logic-open",
             Class::KeyOn => b"key",
             Class::KeyOpen => b"key-open",
             Class::TripOn => b"trip",
             Class::TripOpen => b"trip-open",
+            Class::LogicPale => b"logic-pale",
+            Class::LogicHatch => b"logic-hatch",
             Class::KeyPale => b"key-pale",
             Class::KeyHatch => b"key-hatch",
             Class::TripPale => b"trip-pale",
             Class::TripHatch => b"trip-hatch",
+        }
+    }
+
+    /// What the style sheet says of it: declarations as CSS has them.
+    pub fn look(self) -> &'static [u8]
+        ensures { result.now ≡ look_of self }
+    {
+        match self {
+            Class::Begin => b"text-anchor: start",
+            Class::Middle => b"text-anchor: middle",
+            Class::End => b"text-anchor: end",
+            Class::Heading => b"font-size: 16px; font-weight: bold",
+            Class::Terminal => b"font-weight: bold",
+            Class::Quiet => b"fill: #5d6873",
+            Class::QuietMiddle => b"fill: #5d6873; text-anchor: middle",
+            Class::QuietEnd => b"fill: #5d6873; text-anchor: end",
+            Class::Due => b"fill: #a93226",
+            Class::DueEnd => b"fill: #a93226; text-anchor: end",
+            Class::Held => b"fill: #1e7b3a; font-weight: bold",
+            Class::Broken => b"fill: #a93226; font-weight: bold",
+            Class::Unknown => b"fill: #8a5a00; font-weight: bold",
+            Class::Paper => b"fill: white",
+            Class::Grid => b"stroke: #e3e7eb",
+            Class::Base => b"stroke: #c3cad1",
+            Class::Inception => b"stroke: #5d6873; stroke-dasharray: 4 3",
+            Class::Deadline => b"stroke: #c0392b; stroke-dasharray: 4 3",
+            Class::Margin => b"stroke: #1b2733",
+            Class::Step => b"fill: #5b3f8c",
+            Class::Seen => b"fill: #9fb4c7",
+            Class::LogicOn => b"fill: #4f7a5c",
+            Class::LogicOpen => b"fill: url(#logic-open)",
+            Class::KeyOn => b"fill: #2b6cb0",
+            Class::KeyOpen => b"fill: url(#key-open)",
+            Class::TripOn => b"fill: #c0392b",
+            Class::TripOpen => b"fill: url(#trip-open)",
+            Class::LogicPale => b"fill: #e9f1ec",
+            Class::LogicHatch => b"fill: #8fb39b",
+            Class::KeyPale => b"fill: #e8f0f8",
+            Class::KeyHatch => b"fill: #6f9bcb",
+            Class::TripPale => b"fill: #fbeae8",
+            Class::TripHatch => b"fill: #d98076",
         }
     }
 }

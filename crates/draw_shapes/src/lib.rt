@@ -5,13 +5,15 @@
 mod class;
 mod document;
 mod figure;
+mod laws;
 mod pen;
 mod shape;
 mod style;
 
-pub use class::Class;
+pub use class::{CLASSES, Class};
 pub use document::svg;
 pub use figure::{Figure, Label, Rectangle, Stroke};
+pub use laws::each_class_is_listed;
 pub use pen::{put_line, put_rectangle, put_text};
 pub use shape::{Drawing, Shape};
 

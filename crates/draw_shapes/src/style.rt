@@ -1,57 +1,61 @@
 //! The look of a drawing.
 
-ghost use Rattle.std.specs.Prelude.{◌≡◌, ◌++◌, IfOk};
+ghost use Rattle.std.specs.Prelude.{◌≡◌, ◌++◌, IfOk, OnOk};
+ghost use Rattle.std.specs.List.{flat_map};
+ghost use Rattle.draw_shapes.specs.Svg.{rule_text, rules_text};
 ghost use Rattle.draw_shapes.specs.Svg.{hatching_text, hatchings_text, sheet_text, stripes_text};
 ghost use Rattle.draw_shapes.specs.{Svg.figure_text, Seen.rectangle};
 
-use crate::class::Class;
+use crate::class::{CLASSES, Class};
 use crate::document::{ended, rectangle};
 use crate::figure::Rectangle;
 use base_markup::{Key, Markup, Tag, words};
 use std::alloc::{AllocError, Global};
-
-// Off is no bar; open is hatched, on is full. Keys and trips are hatched by different angles.
-const STYLE: &[u8] = b"
-text { font: 12px sans-serif; fill: #1b2733 }
-.end { text-anchor: end }
-.middle { text-anchor: middle }
-.heading { font-size: 16px; font-weight: bold }
-.terminal { font-weight: bold }
-.quiet { fill: #5d6873 }
-.quiet-end { fill: #5d6873; text-anchor: end }
-.quiet-middle { fill: #5d6873; text-anchor: middle }
-.due { fill: #a93226 }
-.due-end { fill: #a93226; text-anchor: end }
-.held { fill: #1e7b3a; font-weight: bold }
-.broken { fill: #a93226; font-weight: bold }
-.unknown { fill: #8a5a00; font-weight: bold }
-.paper { fill: white }
-.grid { stroke: #e3e7eb }
-.base { stroke: #c3cad1 }
-.inception { stroke: #5d6873; stroke-dasharray: 4 3 }
-.deadline { stroke: #c0392b; stroke-dasharray: 4 3 }
-.margin { stroke: #1b2733 }
-.seen { fill: #9fb4c7 }
-.key { fill: #2b6cb0 }
-.key-open { fill: url(#key-open) }
-.trip { fill: #c0392b }
-.trip-open { fill: url(#trip-open) }
-.key-pale { fill: #e8f0f8 }
-.key-hatch { fill: #6f9bcb }
-.trip-pale { fill: #fbeae8 }
-.trip-hatch { fill: #d98076 }
-";
 
 /// The style sheet.
 #[tactic(auto, unfolding(crate::specs::Svg::sheet_text))]
 pub fn sheet(alloc: Global) -> Result<Markup, AllocError>
     ensures { IfOk result (λ markup. markup.text.items ≡ sheet_text) }
 {
-    let text = Markup::words(alloc, STYLE)?;
+    let rules = rules(alloc)?;
+    let text = Markup::words(alloc, rules.as_slice())?;
     ended(alloc, Markup::element(alloc, Tag::Style, &[], &text)?)
 }
 
-/// The two hatchings.
+// The rules of the style sheet, one for each look.
+fn rules(alloc: Global) -> Result<Vec<u8>, AllocError>
+    ensures { IfOk result (λ text. text.items ≡ rules_text) }
+{
+    let mut text = Vec::from_slice(
+        alloc,
+        b"\ntext { font: 12px sans-serif; fill: #1b2733 }\n",
+    )?;
+    put_rules(&mut text, &CLASSES)?;
+    Ok(text)
+}
+
+fn put_rules(text: &mut Vec<u8>, classes: &[Class]) -> Result<(), AllocError>
+    ensures { OnOk result (text.new.items ≡ text.old.items ++ flat_map rule_text classes.now) }
+{
+    for class in classes {
+        put_rule(text, *class)?;
+    }
+    Ok(())
+}
+
+// The rule of a look.
+#[tactic(auto, unfolding(crate::specs::Svg::rule_text))]
+fn put_rule(text: &mut Vec<u8>, class: Class) -> Result<(), AllocError>
+    ensures { OnOk result (text.new.items ≡ text.old.items ++ rule_text class) }
+{
+    text.extend_from_slice(b".")?;
+    text.extend_from_slice(class.name())?;
+    text.extend_from_slice(b" { ")?;
+    text.extend_from_slice(class.look())?;
+    text.extend_from_slice(b" }\n")
+}
+
+/// The three hatchings.
 #[tactic(auto, unfolding(crate::specs::Svg::hatchings_text))]
 pub fn hatchings(alloc: Global) -> Result<Markup, AllocError>
     ensures { IfOk result (λ markup. markup.text.items ≡ hatchings_text) }
@@ -70,8 +74,15 @@ pub fn hatchings(alloc: Global) -> Result<Markup, AllocError>
         Class::TripPale,
         Class::TripHatch,
     )?;
-    let both = key.and(&trip)?;
-    ended(alloc, Markup::element(alloc, Tag::Defs, &[], &both)?)
+    let logic = hatching(
+        alloc,
+        b"logic-open",
+        b"rotate(90)",
+        Class::LogicPale,
+        Class::LogicHatch,
+    )?;
+    let all = key.and(&trip)?.and(&logic)?;
+    ended(alloc, Markup::element(alloc, Tag::Defs, &[], &all)?)
 }
 
 // A hatching: stripes over a pale ground.

@@ -3,4 +3,4 @@ use Rattle.draw_diagram.specs.Traces.{traces_at, each_of}
 use Rattle.draw_diagram.proofs.trace.traces.Given as goal
 
 abbrev pub invariant-loop-k : goal.invariant-loop-k
-invariant-loop-k l = l.all.items ≡ each_of l.k (traces_at l.line)
+invariant-loop-k l = l.all.items ≡ each_of l.k (traces_at l.line l.net.gates)

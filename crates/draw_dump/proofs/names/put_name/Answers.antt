@@ -2,7 +2,7 @@ use Rattle.std.proofs.Common.{◌≡◌, ◌<◌, ◌≤◌, ◌++◌, ℕ, List
 use Rattle.std.proofs.lemmas.List.{append-nil}
 use Rattle.std.specs.Prelude.{OnOk}
 use Rattle.draw_dump.proofs.NameLaws.{name_there, name_past}
-use Rattle.draw_dump.proofs.variables.put_name.Goals as goal
+use Rattle.draw_dump.proofs.names.put_name.Goals as goal
 
 pub returns-then-k-len : goal.returns-then-k-len
 returns-then-k-len c =

@@ -1,0 +1,51 @@
+//! The run of every choice of delays at once.
+
+ghost use Rattle.std.specs.Prelude.{◌≡◌, IfOk};
+ghost use Rattle.model_logic.specs.Choice.{declared_box};
+ghost use Rattle.net_gates.specs.NetOf.{IsNetOf};
+ghost use Rattle.run_signal.specs.Terns.{tern_rails};
+ghost use Rattle.run_simulator.specs.Runs.{AreWavesOf, HavePairs, IsTheHistory};
+ghost use Rattle.run_simulator.specs.WavesOf.{waves_history};
+ghost use Rattle.judge_interval.specs.Spans.{declared_spans as spans_of};
+
+use model_line::{Line, Memory, Script};
+use model_logic::laws::each_line_has_a_choice_inside;
+use model_timing::Step;
+use net_gates::Net;
+use run_signal::{Tern, Within};
+use run_simulator::{Waves, run};
+use std::alloc::Global;
+
+/// Runs the net of a line over a script, for all choices of delays in the declared intervals at
+/// once, with every gate kept.
+pub fn every_choice_waves(
+    alloc: Global,
+    line: &Line,
+    net: &Net,
+    script: &Script,
+) -> Result<Waves<Tern>, Memory>
+    requires { IsNetOf line.now net.now }
+    ensures of_net { IfOk result (λ waves. AreWavesOf net.now line.now waves) }
+    // Keys and trips are the one interval history over the declared intervals,
+    ensures history { IfOk result (λ waves. IsTheHistory line.now script.now (declared_box line.now)
+        (waves_history (λ x _. tern_rails x) 0 waves)) }
+    // and each gate has the pair of its tree over it.
+    ensures gates { IfOk result (λ waves. HavePairs (λ x _. tern_rails x) 0 line.now script.now
+        (declared_box line.now) net.now waves) }
+{
+    each_line_has_a_choice_inside();
+    let spans = declared_spans(alloc, line)?;
+    let steps: [Step<Within>; 0] = [];
+    run::<Tern>(alloc, net, line, script, &spans, &steps)
+}
+
+// The declared interval of each parameter, in order.
+fn declared_spans(alloc: Global, line: &Line) -> Result<Vec<Within>, Memory>
+    ensures { IfOk result (λ spans. spans.items ≡ spans_of line.now) }
+{
+    let mut spans = Vec::with_capacity(alloc, line.params.len())?;
+    for param in &line.params {
+        spans.push(Within::new(param.least, param.greatest))?;
+    }
+    Ok(spans)
+}
