@@ -3,7 +3,8 @@
 use Rattle.std.specs.Prelude.{◌≡◌, ℕ, List, [], Option, Result, Ok, Err}
 use Rattle.call_commands.specs.Answers as commands
 use Rattle.call_commands.specs.Answers.{prints}
-use Rattle.call_tables.specs.Settled.{settle_answer}
+use Rattle.call_tables.specs.{Margins.margins_answer, Settled.settle_answer}
+use Rattle.call_study.specs.declared.ask.Table.TheVariants as table
 use Rattle.call_pilot.specs.{Files.contents, declared.stop.File.File}
 use Rattle.call_study.specs.{Halts.End, declared.halt.Halt.Halt}
 use Rattle.call_study.specs.declared.ask.Form.TheVariants as form
@@ -24,7 +25,8 @@ abbrev pub answer_of : Wanted → commands.Answers
 answer_of (reading.bands line script) = prints (IsBandsText line script)
 answer_of (reading.play form.Diagram line script timing) = prints (IsRunText line script timing)
 answer_of (reading.play form.Dump line script timing) = prints (IsDumpText line script timing)
-answer_of (reading.settle line scripts) = settle_answer line scripts
+answer_of (reading.table (table.Settled analyses) line scripts) = settle_answer line scripts
+answer_of (reading.table table.Margins line scripts) = margins_answer line scripts
 
 -- it is done
 abbrev pub does : Wanted → Answers

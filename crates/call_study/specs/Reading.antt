@@ -8,16 +8,16 @@ use Rattle.call_pilot.specs.Reading.{of_study, of_timings}
 use Rattle.call_pilot.specs.{declared.refusal.Refusal.Refusal, declared.stop.File.File}
 use Rattle.call_pilot.specs.declared.refusal.Refusal.TheVariants as refusal
 use Rattle.call_pilot.specs.declared.stop.Stop.TheVariants as stop
-use Rattle.call_study.specs.{declared.ask.Form.Form, declared.halt.Halt.Halt}
+use Rattle.call_study.specs.{declared.ask.Form.Form, declared.ask.Table.Table, declared.halt.Halt.Halt}
 use Rattle.call_study.specs.declared.halt.Halt.TheVariants as halt
 use Rattle.call_study.specs.Request as request
 use Rattle.call_study.specs.{Chosen.chosen_script, Chosen.chosen_timing, Request.Asked}
 
--- a picture, or an answer to each obligation, over what the files say
+-- a picture, or a table, over what the files say
 pub data Wanted : Type 0 where
   bands : Line → Script → Wanted
   play : Form → Line → Script → NamedValues → Wanted
-  settle : Line → List Script → Wanted
+  table : Table → Line → List Script → Wanted
 
 -- what holds of what is wanted, or of why it can't be done
 abbrev pub Reading : Type 1
@@ -58,11 +58,11 @@ play_of form line_bytes scripts_bytes timings_bytes script timing halted holds =
     (λ timings. of_script scripts script halted
     (λ chosen. of_timing timings timing halted (λ played. holds (play form line chosen played)))))
 
--- each obligation settled
-abbrev pub settle_of : List ℕ → List ℕ → Reading
-settle_of line_bytes scripts_bytes halted holds =
+-- a table over all scripts
+abbrev pub table_of : Table → List ℕ → List ℕ → Reading
+table_of which line_bytes scripts_bytes halted holds =
     of_study line_bytes scripts_bytes (λ why. halted (refused_by why))
-    (λ line scripts. holds (settle line scripts))
+    (λ line scripts. holds (table which line scripts))
 
 -- over the bytes of the files in word order
 abbrev pub over_bytes : Option (List ℕ) → Asked → List (List ℕ) → Reading
@@ -70,8 +70,8 @@ over_bytes script request.bands (line_bytes ∷ scripts_bytes ∷ []) =
     bands_of line_bytes scripts_bytes script
 over_bytes script (request.play form _ timing) (line_bytes ∷ scripts_bytes ∷ timings_bytes ∷ []) =
     play_of form line_bytes scripts_bytes timings_bytes script timing
-over_bytes script request.settle (line_bytes ∷ scripts_bytes ∷ []) =
-    settle_of line_bytes scripts_bytes
+over_bytes script (request.table which) (line_bytes ∷ scripts_bytes ∷ []) =
+    table_of which line_bytes scripts_bytes
 over_bytes script asked bytes = λ halted holds. ⊥
 
 -- once the files are there, or one is too long

@@ -3,15 +3,14 @@ use Rattle.std.specs.Prelude.{ℕ, List, [], ◌∷◌, Option}
 use Rattle.std.specs.Option.{option_copied}
 use Rattle.call_pilot.specs.{Files.NamedFile, Words.named}
 use Rattle.call_pilot.specs.declared.stop.File.TheVariants as file
-use Rattle.call_study.specs.declared.ask.{Ask.Ask, Form.Form, Work.Work}
+use Rattle.call_study.specs.declared.ask.{Ask.Ask, Form.Form, Table.Table, Work.Work}
 use Rattle.call_study.specs.declared.ask.Work.TheVariants as work
 
--- a picture of every choice of delays, or of a play of a timing of a third file; or an answer to
--- each obligation
+-- a picture of every choice of delays, or of a play of a timing of a third file; or a table
 pub data Asked : Type 0 where
   bands : Asked
   play : Form → List ℕ → Option (List ℕ) → Asked
-  settle : Asked
+  table : Table → Asked
 
 -- over two files; a picture is that of one script
 pub record Request : Type 0 where
@@ -23,7 +22,7 @@ pub record Request : Type 0 where
 abbrev pub third_of : Asked → List NamedFile
 third_of bands = []
 third_of (play form timings timing) = named file.Timings timings ∷ []
-third_of settle = []
+third_of (table which) = []
 
 -- the files of a request in the order of its words
 abbrev pub files_over : List ℕ → List ℕ → Asked → List NamedFile
@@ -37,7 +36,7 @@ files_of request = files_over request.line request.scripts request.asked
 abbrev pub asked_of : Work → Asked
 asked_of work.Bands = bands
 asked_of (work.Play form timings timing) = play form timings.now (option_copied timing)
-asked_of (work.Settle analyses) = settle
+asked_of (work.Table which) = table which
 
 abbrev pub request_of : Ask → Request
 request_of ask = record {

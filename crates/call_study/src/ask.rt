@@ -21,10 +21,17 @@ pub enum Work<'a> {
         timings: &'a str,
         timing: Option<&'a str>,
     },
+    /// A table over all scripts.
+    Table(Table),
+}
+
+/// Which table.
+#[derive(Clone, Copy)]
+pub enum Table {
     /// An answer to each obligation, with at most so many analyses of boxes for each.
-    Settle {
-        analyses: u32,
-    },
+    Settled { analyses: u32 },
+    /// How far each end of each interval can be moved outward.
+    Margins,
 }
 
 /// How a play is shown: as a timing diagram, or as a value change dump.

@@ -1,5 +1,5 @@
 //! The top call of the program `study`, over a line file, a scripts file and a timings file: a play or
-//! the interval history as a timing diagram, a play as a value change dump, each obligation settled.
+//! the interval history as a timing diagram, a play as a value change dump, and tables.
 #![tactic(auto)]
 
 mod ask;
@@ -9,6 +9,6 @@ mod pictures;
 mod read;
 mod top;
 
-pub use ask::{Ask, Form, Work};
+pub use ask::{Ask, Form, Table, Work};
 pub use halt::{Halt, status_of};
 pub use top::study;

@@ -7,15 +7,17 @@ ghost use Rattle.model_line.specs.Fits.{Fits};
 ghost use Rattle.model_timing.specs.{Inside.IsTimingInside, NamedValues.values_of};
 ghost use Rattle.call_study.specs.{Answers.answer_by, Answers.answer_of, Ends.Gives};
 ghost use Rattle.call_commands.specs.declared.done.Done.TheVariants.{Good};
-ghost use Rattle.call_study.specs.Reading.{bands_of, play as a_play, play_of, settle_of};
+ghost use Rattle.call_study.specs.Reading.{bands_of, play as a_play, play_of, table as a_table};
+ghost use Rattle.call_study.specs.Reading.{table_of};
+ghost use Rattle.call_commands.specs.{Answers.Says, Study.IsStudy};
 
-use crate::ask::Form;
+use crate::ask::{Form, Table};
 use crate::choose::{choose_script, choose_timing};
 use crate::halt::Halt;
 use crate::pictures::{bands_text, dump_text, run_text};
-use call_commands::Said;
+use call_commands::{Said, Study};
 use call_pilot::read_study;
-use call_tables::settle_table;
+use call_tables::{margins_table, settle_table};
 use file_timing::read_timings;
 use model_line::{Line, Memory, Script};
 use model_timing::NamedTiming;
@@ -35,13 +37,24 @@ pub fn bands(alloc: Global, line: &[u8], scripts: &[u8], script: Option<&str>) -
     Ok(Said::good(text))
 }
 
-/// Each obligation settled, with at most so many analyses for each.
-pub fn settle(alloc: Global, line: &[u8], scripts: &[u8], analyses: u32) -> Result<Said, Halt>
-    ensures { Gives (answer_by (settle_of line.now scripts.now)) result }
+/// A table over all scripts.
+pub fn table(alloc: Global, which: Table, line: &[u8], scripts: &[u8]) -> Result<Said, Halt>
+    ensures { Gives (answer_by (table_of which line.now scripts.now)) result }
 {
     let study = read_study(alloc, line, scripts)?;
-    let said = settle_table(alloc, &study, analyses)?;
+    let said = table_said(alloc, which, &study)?;
     Ok(said)
+}
+
+fn table_said(alloc: Global, which: Table, study: &Study) -> Result<Said, Memory>
+    requires { IsStudy study.now }
+    ensures { IfOk result
+        (Says (answer_of (a_table which study.now.line study.now.scripts.items))) }
+{
+    match which {
+        Table::Settled { analyses } => settle_table(alloc, study, analyses),
+        Table::Margins => margins_table(alloc, study),
+    }
 }
 
 /// A play in that form.

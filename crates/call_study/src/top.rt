@@ -7,11 +7,11 @@ ghost use Rattle.call_study.specs.Answers.{answer_over};
 ghost use Rattle.call_study.specs.{Clauses.Clauses, Ends.EndsOf, Ends.Fetched};
 ghost use Rattle.call_study.specs.{Halts.IsDone, Halts.IsEarly};
 ghost use Rattle.call_study.specs.Request.{bands as asked_bands, files_of, files_over};
-ghost use Rattle.call_study.specs.Request.{play as asked_play, request_of, settle as asked_settle};
+ghost use Rattle.call_study.specs.Request.{play as asked_play, request_of, table as asked_table};
 
-use crate::ask::{Ask, Form, Work};
+use crate::ask::{Ask, Form, Table, Work};
 use crate::halt::{Halt, put_halt};
-use crate::read::{bands, play, settle};
+use crate::read::{bands, play, table};
 use base_store::{Sink, Store, put_all};
 use call_commands::{Done, Said};
 use call_pilot::{File, fetch_file};
@@ -93,14 +93,7 @@ fn said_of<S: Store>(alloc: Global, ask: &Ask<'_>, store: &mut S) -> Result<Said
             timing,
             store,
         ),
-        Work::Settle { analyses } => settle_over(
-            alloc,
-            ask.line,
-            ask.scripts,
-            ask.script,
-            analyses,
-            store,
-        ),
+        Work::Table(which) => { table_over(alloc, which, ask.line, ask.scripts, ask.script, store) }
     }
 }
 
@@ -120,21 +113,21 @@ fn bands_over<S: Store>(
     bands(alloc, line.as_slice(), scripts.as_slice(), script)
 }
 
-fn settle_over<S: Store>(
+fn table_over<S: Store>(
     alloc: Global,
+    which: Table,
     line: &str,
     scripts: &str,
     script: Option<&str>,
-    analyses: u32,
     store: &mut S,
 ) -> Result<Said, Halt>
-    ensures { Fetched (answer_over (option_copied script.entry) asked_settle) (S.held store.old)
-        (files_over line.now scripts.now asked_settle) (S.faults store.old)
-        (S.faults store.new) result }
+    ensures { Fetched (answer_over (option_copied script.entry) (asked_table which))
+        (S.held store.old) (files_over line.now scripts.now (asked_table which))
+        (S.faults store.old) (S.faults store.new) result }
 {
     let line = fetch_file(alloc, store, File::Line, line)?;
     let scripts = fetch_file(alloc, store, File::Scripts, scripts)?;
-    settle(alloc, line.as_slice(), scripts.as_slice(), analyses)
+    table(alloc, which, line.as_slice(), scripts.as_slice())
 }
 
 fn play_over<S: Store>(

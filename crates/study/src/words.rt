@@ -1,7 +1,7 @@
 //! The words of the program.
 
 use base_store::number;
-use call_study::{Ask, Form, Work};
+use call_study::{Ask, Form, Table, Work};
 use clap::{Arg, ArgMatches, Command};
 use std::alloc::{AllocError, Global};
 
@@ -15,7 +15,7 @@ pub struct Words<'a> {
 // How many analyses an obligation takes at most, where the words don't say it.
 const ANALYSES: u32 = 4000;
 
-/// The command line: `settle`, `bands`, `run` and `vcd`, with files and names.
+/// The command line: `settle`, `margins`, `bands`, `run` and `vcd`, with files and names.
 pub fn command<'a>(alloc: Global) -> Result<Command<'a>, AllocError> {
     Command::new(alloc, "study")
         .about("A line and its fault scripts: answers and pictures.")
@@ -23,6 +23,7 @@ pub fn command<'a>(alloc: Global) -> Result<Command<'a>, AllocError> {
         .subcommand_required(true)
         .arg_required_else_help(true)
         .subcommand(settle(alloc)?)?
+        .subcommand(margins(alloc)?)?
         .subcommand(bands(alloc)?)?
         .subcommand(play(
             alloc,
@@ -47,6 +48,14 @@ fn settle<'a>(alloc: Global) -> Result<Command<'a>, AllocError> {
                 .value_name("N")
                 .help("At most so many analyses for each obligation; 4000 without it"),
         )?
+        .arg(output(alloc))
+}
+
+fn margins<'a>(alloc: Global) -> Result<Command<'a>, AllocError> {
+    Command::new(alloc, "margins")
+        .about("How far each end of each interval can move with all held that is held today (CSV)")
+        .arg(file(alloc, "LINE", "The line file"))?
+        .arg(file(alloc, "SCRIPTS", "The file of fault scripts"))?
         .arg(output(alloc))
 }
 
@@ -105,7 +114,8 @@ fn output<'a>(alloc: Global) -> Arg<'a> {
 pub fn words_of<'a>(matches: &ArgMatches<'a>) -> Option<Words<'a>> {
     let (name, own) = matches.subcommand()?;
     let work = match name {
-        "settle" => settled(own)?,
+        "settle" => Work::Table(settled(own)?),
+        "margins" => Work::Table(Table::Margins),
         "run" => played(own, Form::Diagram)?,
         "vcd" => played(own, Form::Dump)?,
         _ => Work::Bands,
@@ -114,28 +124,27 @@ pub fn words_of<'a>(matches: &ArgMatches<'a>) -> Option<Words<'a>> {
         ask: Ask {
             line: own.get_str("LINE")?,
             scripts: own.get_str("SCRIPTS")?,
-            script: script_of(name, own),
+            script: script_of(work, own),
             work,
         },
         output: own.get_str("output"),
     })
 }
 
-// `settle` asks for all scripts.
-fn script_of<'a>(name: &str, own: &ArgMatches<'a>) -> Option<&'a str> {
-    if name == "settle" {
-        None
-    } else {
-        own.get_str("script")
+// A table is over all scripts.
+fn script_of<'a>(work: Work<'_>, own: &ArgMatches<'a>) -> Option<&'a str> {
+    match work {
+        Work::Table(_) => None,
+        Work::Bands | Work::Play { .. } => own.get_str("script"),
     }
 }
 
-fn settled<'a>(own: &ArgMatches<'a>) -> Option<Work<'a>> {
+fn settled(own: &ArgMatches<'_>) -> Option<Table> {
     let analyses = match own.get_str("analyses") {
         Some(digits) => number(digits.as_bytes())?,
         None => ANALYSES,
     };
-    Some(Work::Settle { analyses })
+    Some(Table::Settled { analyses })
 }
 
 fn played<'a>(own: &ArgMatches<'a>, form: Form) -> Option<Work<'a>> {
