@@ -1,6 +1,6 @@
 -- Numbers are told by their text, and end before a space.
 use Rattle.std.proofs.Common.{◌≡◌, ◌<◌, ◌^◌, ◌+◌, ℕ, Bool, true, cond, not, List, [], ◌∷◌, ◌++◌}
-use Rattle.std.proofs.Common.{subst, arith, decimal, length, ap, sym, ◌∙◌, refl, ne_eqb}
+use Rattle.std.proofs.Common.{subst, arith, decimal, length, ap, ◌∙◌, refl, ne_eqb}
 use Rattle.std.proofs.lemmas.Fmt.{decimal_injective}
 use Rattle.std.specs.Prelude.{◌==◌}
 use Rattle.std.specs.List.{list_all, position_or_len}

@@ -1,9 +1,9 @@
 -- Trees without cases, and a `no` without steps, have the text of split trees.
 use Rattle.std.proofs.Common.{◌≡◌, ℕ, List, [], ◌∷◌, ◌++◌, map, refl, ap, ◌∙◌}
-use Rattle.model_line.specs.{declared.line.Line.Line, declared.script.Script.Script}
+use Rattle.model_line.specs.{declared.line.Line.Line}
 use Rattle.judge_split.specs.declared.node.Node.{Node}
 use Rattle.judge_split.specs.declared.node.Node.TheVariants as split
-use Rattle.cert_text.specs.{Text.fed, Grammar.no_words, Grammar.terminal_names}
+use Rattle.cert_text.specs.{Text.fed}
 use Rattle.cert_split_text.specs.Grammar.{SplitResult, tree, fails, node_text as split_node_text}
 use Rattle.cert_split_text.specs.Text.{nodes_text as split_nodes_text}
 use Rattle.cert_split_text.specs.Text.{result_text as split_result_text}

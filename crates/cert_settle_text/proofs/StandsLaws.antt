@@ -1,5 +1,5 @@
 -- A line says one thing, and what it says has one text.
-use Rattle.std.proofs.Common.{◌≡◌, ◌<◌, ◌^◌, ℕ, List, [], get_or, refl, sym, ◌∙◌, ap, arith, drop}
+use Rattle.std.proofs.Common.{◌≡◌, ◌<◌, ◌^◌, ℕ, List, [], refl, sym, ◌∙◌, ap, arith, drop}
 use Rattle.std.proofs.Common.{◌⊎◌, inl, inr, subst}
 use Rattle.model_line.specs.{declared.line.Line.Line, Parameters.param_count}
 use Rattle.model_timing.specs.{declared.step.Step.Step, Inside.IsStepInside}

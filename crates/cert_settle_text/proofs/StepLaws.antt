@@ -1,6 +1,6 @@
 -- The line of a step, from its start to its last number.
 use Rattle.std.proofs.Common.{◌≡◌, ◌<◌, ◌^◌, ℕ, List, ◌∷◌, ◌++◌, length, take, drop, sym, ◌∙◌, ap}
-use Rattle.std.proofs.Common.{decimal, arith, ◌-◌, ◌≤◌}
+use Rattle.std.proofs.Common.{decimal, arith, ◌-◌}
 use Rattle.std.proofs.lemmas.List.{take_at, drop_at, append_cancel_left, take_all, length-drop}
 use Rattle.std.specs.Prelude.{codes, ◌==◌}
 use Rattle.std.specs.List.{position_or_len}

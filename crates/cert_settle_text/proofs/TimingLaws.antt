@@ -1,12 +1,11 @@
 -- Lines of a timing, read one after another.
-use Rattle.std.proofs.Common.{◌≡◌, ◌≢◌, ◌+◌, ◌&&◌, ℕ, List, [], ◌∷◌, ◌++◌, map, refl, sym, ◌∙◌, ap, subst, arith}
-use Rattle.std.proofs.Common.{true, Option, None, Some, ◌<◌, ◌-◌, length, suc, length-append}
+use Rattle.std.proofs.Common.{◌≡◌, ◌≢◌, ◌+◌, ℕ, List, [], ◌∷◌, ◌++◌, map, refl, sym, ◌∙◌, ap, subst, arith}
+use Rattle.std.proofs.Common.{true, Option, None, Some, ◌-◌, length, suc, length-append}
 use Rattle.std.specs.Prelude.{slice_get}
 use Rattle.judge_split.specs.ListLaws.{after_append}
 use Rattle.std.proofs.lemmas.Bool.{and_parts, and_from}
 use Rattle.std.proofs.lemmas.List.{map-append}
 use Rattle.std.proofs.lemmas.List.Elements.{All-nil, All-cons, All-append}
-use Rattle.std.specs.List.{All}
 use Rattle.model_line.specs.{declared.line.Line.Line, Parameters.param_count}
 use Rattle.model_logic.specs.Choice.{Box}
 use Rattle.model_timing.specs.{declared.step.Step.Step, Inside.IsStepInside}
@@ -16,7 +15,6 @@ use Rattle.base_lines.specs.{Lines.BeginsWith, Grammar.IsFault, ReadLaws.later_f
 use Rattle.base_lines.specs.LineLaws.{goes_one, goes_then, refused, absent}
 use Rattle.base_lines.specs.declared.fault.TextFault.TheVariants as fault
 use Rattle.cert_text.specs.Grammar.{AreNumbers, no_words}
-use Rattle.cert_settle_text.specs.declared.node.CaseNode.{CaseNode}
 use Rattle.cert_settle_text.specs.Reading.{GoesOn, AreSteps, AreRead, IsNoNode, last_of}
 use Rattle.cert_settle_text.specs.Reading.{timing_place}
 use Rattle.cert_settle_text.specs.Grammar.{Place, Said, says_nothing, says_step, says_no, says_node}

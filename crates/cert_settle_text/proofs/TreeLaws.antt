@@ -1,10 +1,9 @@
 -- Lines of a tree, read one after another.
-use Rattle.std.proofs.Common.{◌≡◌, ◌≢◌, ◌≤◌, ◌<◌, ◌-◌, ◌+◌, ℕ, List, [], ◌∷◌, ◌++◌, map, refl, sym}
+use Rattle.std.proofs.Common.{◌≡◌, ◌≢◌, ◌-◌, ℕ, List, [], ◌∷◌, ◌++◌, map, refl, sym}
 use Rattle.std.proofs.Common.{◌∙◌, ap}
 use Rattle.std.proofs.Common.{subst, arith, append_assoc}
 use Rattle.std.proofs.lemmas.List.{map-append}
 use Rattle.model_line.specs.declared.line.Line.{Line}
-use Rattle.model_logic.specs.Choice.{Box}
 use Rattle.model_cases.specs.CaseTrees.{CaseTree, Yes, Undecided, Split, Case, lower_half}
 use Rattle.model_cases.specs.CaseTrees.{upper_half}
 use Rattle.base_lines.specs.declared.fault.TextFault.{TextFault}
@@ -12,7 +11,7 @@ use Rattle.base_lines.specs.{LineLaws.goes_then, Grammar.IsFault}
 use Rattle.cert_settle_text.specs.declared.node.CaseNode.{CaseNode}
 use Rattle.cert_settle_text.specs.declared.node.CaseNode.TheVariants as node
 use Rattle.cert_settle_text.specs.Trees.{preorder}
-use Rattle.cert_settle_text.specs.Reading.{GoesOn, IsTreeOver, IsBelow, IsOver, AreTwo}
+use Rattle.cert_settle_text.specs.Reading.{GoesOn, IsBelow, IsOver, AreTwo}
 use Rattle.cert_settle_text.specs.Grammar.{Place, Root, Said, says_nothing, says_step, says_no}
 use Rattle.cert_settle_text.specs.Grammar.{says_node, Stands, opens, expected, IsNode, node_text}
 use Rattle.cert_settle_text.specs.Grammar.{MayStand, MaySplit, MayCase, grammar_of, after_node}

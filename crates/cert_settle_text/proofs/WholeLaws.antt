@@ -1,6 +1,6 @@
 -- The lines of nodes and steps have no line feed.
-use Rattle.std.proofs.Common.{◌≡◌, ◌<◌, ◌^◌, ℕ, true, refl, arith, decimal, ◌∷◌, ◌++◌, zero, suc, List}
-use Rattle.std.proofs.Common.{[], get_or, subst, sym}
+use Rattle.std.proofs.Common.{◌≡◌, ℕ, true, refl, arith, decimal, ◌∷◌, ◌++◌, zero, suc, List}
+use Rattle.std.proofs.Common.{[], get_or}
 use Rattle.std.proofs.lemmas.List.Elements.{All-head, All-tail}
 use Rattle.std.specs.Prelude.{codes}
 use Rattle.std.specs.List.{All}

@@ -1,5 +1,5 @@
 -- What split trees say, as settled trees say it.
-use Rattle.std.specs.Prelude.{List, [], map}
+use Rattle.std.specs.Prelude.{[], map}
 use Rattle.judge_split.specs.declared.node.Node.{Node}
 use Rattle.judge_split.specs.declared.node.Node.TheVariants as split
 use Rattle.cert_split_text.specs.Grammar.{SplitResult}

@@ -1,5 +1,5 @@
 -- Settled trees as they are read.
-use Rattle.std.specs.Prelude.{◌≡◌, ◌≢◌, ◌≤◌, ◌+◌, ◌++◌, ℕ, List, [], ◌∷◌, map, Vec, Option, None, Some, slice_get, length, ◌-◌}
+use Rattle.std.specs.Prelude.{◌≡◌, ◌≢◌, ◌≤◌, ◌+◌, ◌++◌, ℕ, List, ◌∷◌, map, Vec, Option, None, Some, slice_get, length, ◌-◌}
 use Rattle.std.specs.Prelude.{IsTrue}
 use Rattle.std.specs.List.{All}
 use Rattle.std.specs.declared.alloc.Global.{Global}
@@ -7,7 +7,7 @@ use Rattle.model_line.specs.{declared.line.Line.Line, declared.script.Script.Scr
 use Rattle.model_logic.specs.Choice.{Box}
 use Rattle.model_timing.specs.{declared.step.Step.Step, Inside.IsStepInside, Timing.ascend}
 use Rattle.model_cases.specs.CaseTrees.{CaseTree}
-use Rattle.base_lines.specs.{declared.fault.TextFault.TextFault, Grammar.Reads, Grammar.IsTextFault}
+use Rattle.base_lines.specs.{declared.fault.TextFault.TextFault, Grammar.IsTextFault}
 use Rattle.base_lines.specs.Lines.{Goes, BeginsWith}
 use Rattle.cert_settle_text.specs.declared.node.CaseNode.{CaseNode}
 use Rattle.cert_settle_text.specs.declared.claim.TreeClaim.{TreeClaim}

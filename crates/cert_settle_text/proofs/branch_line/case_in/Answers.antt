@@ -1,4 +1,4 @@
-use Rattle.std.proofs.Common.{◌≡◌, ◌≢◌, ◌∙◌, ℕ, List, true, false, below_more, arith, subst, sym}
+use Rattle.std.proofs.Common.{◌≡◌, ◌∙◌, ℕ, List, true, false, below_more, subst, sym}
 use Rattle.std.specs.Prelude.{codes}
 use Rattle.model_cases.specs.CaseTrees.{HasCases}
 use Rattle.cert_settle_text.specs.Grammar.{case_line, name_of_terminal}

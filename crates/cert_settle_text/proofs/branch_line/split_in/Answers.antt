@@ -1,6 +1,5 @@
-use Rattle.std.proofs.Common.{◌≡◌, ◌≢◌, ◌∙◌, ℕ, List, true, false, below_more, arith, subst, sym}
+use Rattle.std.proofs.Common.{◌≡◌, ◌∙◌, ℕ, List, true, false, below_more, subst, sym}
 use Rattle.std.specs.Prelude.{codes}
-use Rattle.model_logic.specs.Choice.{Box}
 use Rattle.model_names.specs.ParamNamesApart.{name_of_param}
 use Rattle.model_cases.specs.CaseTrees.{CanSplit}
 use Rattle.cert_settle_text.specs.Grammar.{split_line}

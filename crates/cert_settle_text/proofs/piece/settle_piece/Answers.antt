@@ -1,5 +1,5 @@
 use Rattle.std.proofs.Common.{◌≡◌, ◌++◌, ◌<◌, ℕ, List, [], length, map, take, get_or, sym, ◌∙◌, ap}
-use Rattle.std.proofs.Common.{arith, subst}
+use Rattle.std.proofs.Common.{arith}
 use Rattle.std.proofs.lemmas.List.{length-map}
 use Rattle.model_line.specs.Parameters.{terminal_count}
 use Rattle.cert_text.specs.{Grammar.script_text, Grammar.terminal_names, Text.fed}

@@ -1,5 +1,4 @@
 use Rattle.std.proofs.Common.{◌≡◌, ◌∙◌, true, false, sym, subst}
-use Rattle.model_timing.specs.declared.step.Step.{Step}
 use Rattle.cert_settle_text.specs.Grammar.{Follows}
 use Rattle.cert_settle_text.specs.Reading.{last_of}
 use Rattle.cert_settle_text.proofs.LineLaws.{one_step}

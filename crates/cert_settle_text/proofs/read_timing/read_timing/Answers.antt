@@ -1,9 +1,9 @@
-use Rattle.std.proofs.Common.{◌≡◌, ◌∙◌, ℕ, List, Some, None, sym, ap, subst}
+use Rattle.std.proofs.Common.{◌≡◌, ◌∙◌, ℕ, List, Some, sym, ap, subst}
 use Rattle.std.proofs.lemmas.Result.{err_from_is_err_and}
 use Rattle.model_timing.specs.declared.step.Step.{Step}
 use Rattle.cert_settle_text.specs.Grammar.{Follows}
 use Rattle.cert_settle_text.specs.Reading.{last_of}
-use Rattle.cert_settle_text.proofs.TimingLaws.{no_steps, none_read, one_step_more, last_added}
+use Rattle.cert_settle_text.proofs.TimingLaws.{one_step_more, last_added}
 use Rattle.cert_settle_text.proofs.TimingLaws.{one_more_read, missing, no_read, refused_here}
 use Rattle.cert_settle_text.proofs.read_timing.read_timing.Goals as goal
 

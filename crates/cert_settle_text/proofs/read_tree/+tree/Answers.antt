@@ -1,6 +1,6 @@
-use Rattle.std.proofs.Common.{◌-◌, ℕ, List, [], ◌∷◌, ◌++◌, map, arith}
+use Rattle.std.proofs.Common.{ℕ, List, [], ◌∷◌, ◌++◌, map, arith}
 use Rattle.std.proofs.lemmas.Result.{err_from_is_err_and, MatchResult-weaker}
-use Rattle.model_logic.specs.Choice.{Box, declared_box}
+use Rattle.model_logic.specs.Choice.{declared_box}
 use Rattle.model_cases.specs.CaseTrees.{lower_half, upper_half}
 use Rattle.cert_settle_text.specs.declared.node.CaseNode.TheVariants as node
 use Rattle.base_lines.specs.ReadLaws.{later_fault}
@@ -10,7 +10,7 @@ use Rattle.cert_settle_text.specs.Grammar.{grammar_of}
 use Rattle.cert_settle_text.proofs.TreeLaws.{split_can, case_can, below_fault, whole_tree}
 use Rattle.cert_settle_text.proofs.TreeLaws.{below_yes, below_undecided, below_split, below_case}
 use Rattle.cert_settle_text.proofs.TreeLaws.{two_trees}
-use Rattle.cert_settle_text.proofs.NodeLaws.{in_part, may_in_box}
+use Rattle.cert_settle_text.proofs.NodeLaws.{may_in_box}
 use Rattle.cert_settle_text.proofs.read_tree.+tree.Goals as goal
 
 -- ---- a tree

@@ -1,5 +1,5 @@
-use Rattle.std.proofs.Common.{◌≡◌, ◌∙◌, ◌++◌, ◌∷◌, ℕ, List, decimal, take, drop, sym, ap}
-use Rattle.cert_settle_text.proofs.StepLaws.{behind_name, numbers_are, first_is, rest_is, last_is}
+use Rattle.std.proofs.Common.{◌≡◌, ◌∙◌, ◌++◌, ◌∷◌, ℕ, List, decimal, sym, ap}
+use Rattle.cert_settle_text.proofs.StepLaws.{behind_name, first_is, rest_is, last_is}
 use Rattle.cert_settle_text.proofs.StepLaws.{tail_whole}
 use Rattle.cert_settle_text.proofs.step_line.step_of.Goals as goal
 
