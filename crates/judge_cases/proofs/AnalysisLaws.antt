@@ -1,0 +1,161 @@
+-- From a run under levels to what it tells of views.
+use Rattle.std.proofs.Common.{◌≡◌, ◌<◌, ◌≤◌, ℕ, zero, suc, Bool, List, [], ◌∷◌, Some, None, length}
+use Rattle.std.proofs.Common.{refl, sym, ◌∙◌, ap, subst, arith, ⊎_elim}
+use Rattle.std.proofs.Math.Path.{fun_ext}
+use Rattle.std.proofs.lemmas.Bool.{cases_lt}
+use Rattle.std.proofs.lemmas.Bool.Decides.{nat_tests}
+use Rattle.std.specs.Prelude.{Option, Decides, Contains, All, get_or, slice_get}
+use Rattle.model_history.specs.Rails.{Ends, Rails, single}
+use Rattle.model_line.specs.{declared.line.Line.Line, declared.script.Script.Script}
+use Rattle.model_line.specs.Parameters.{param_count}
+use Rattle.model_logic.specs.{Boxes.box_of, Tree.Tree}
+use Rattle.model_logic.specs.Choice.{Box, LeastFromOne, pair_world_of}
+use Rattle.model_logic.specs.Histories.{PairHistory}
+use Rattle.model_cases.specs.Assumed.{Assumption, assumed_level, wanted}
+use Rattle.model_cases.specs.CaseTrees.{HasCases}
+use Rattle.model_cases.specs.Under.{Excludes, own_pair, SomeIsExcluded}
+use Rattle.net_gates.specs.{NetOf.NetOf, NetOf.IsNetOf, Formulas.formula_of}
+use Rattle.run_simulator.specs.{LaneBox.own_ends, LaneBox.ends_in, ListLaws.exists_at}
+use Rattle.run_cases.specs.{Given.span_box, Runs.AreKeysUnder, Runs.ArePairsUnder}
+use Rattle.run_cases.specs.UnderWaves.{UnderWavesOf, own_wave}
+use Rattle.judge_boxes.specs.declared.terns.Terns64.{Terns64}
+use Rattle.judge_boxes.specs.{Spans.SpanLists, Spans.span_ends, Terns.terns_rails}
+use Rattle.judge_cases.specs.declared.view.View.{View}
+use Rattle.judge_cases.specs.Views.{AreViews, AreCases, interval_of, view_box}
+use Rattle.judge_cases.specs.Spans.{AreViewSpans, view_in}
+use Rattle.judge_cases.specs.{Puts.views_level, Puts.assumed_of, Excluded.OneExcluded}
+use Rattle.judge_cases.specs.Analyses.{IsHistoryOf}
+use Rattle.judge_cases.proofs.OneGate.{GatesAreTheirKinds}
+use Rattle.judge_cases.proofs.WantExists.{want_exists}
+
+pub view_exists : (count lane : ℕ) → 1 ≤ count → view_in count lane < count
+view_exists count lane some = grind (arith, nat_tests)
+
+pub view_here : (count lane : ℕ) → lane < count → view_in count lane ≡ lane
+view_here count lane inside = grind (arith, nat_tests)
+
+abbrev pub lane_ends : SpanLists → ℕ → Ends
+lane_ends span lane = span_ends span lane
+
+past : {X : Type 0} (xs : List X) (i : ℕ) (d : X) → length xs ≤ i → get_or xs i d ≡ d
+past [] zero d le = refl
+past [] (suc i) d le = refl
+past (x ∷ xs) zero d le = absurd (omega arith)
+past (x ∷ xs) (suc i) d le = past xs i d (omega arith)
+
+none_past : {X : Type 0} (xs : List X) (i : ℕ) → length xs ≤ i → slice_get xs i ≡ None
+none_past [] zero le = refl
+none_past [] (suc i) le = refl
+none_past (x ∷ xs) zero le = absurd (omega arith)
+none_past (x ∷ xs) (suc i) le = none_past xs i (omega arith)
+
+module _ (line : Line) (views : List View) (are : AreViews line views) (spans : List SpanLists)
+    (spanned : AreViewSpans line views spans) where
+  module _ (lane : ℕ) (view : View) (inside : lane < 64)
+      (at : slice_get views (view_in (length views) lane) ≡ Some view) where
+    own : (i : ℕ) → own_ends lane_ends lane spans i ≡ interval_of view.ends.items i
+    own i =
+        let count : length view.ends.items ≡ param_count line =
+        (are.each (view_in (length views) lane) view at).count in
+        ⊎_elim
+        (λ lt.
+        let there : i < length spans = omega (arith, spanned.count, lt) in
+        let (span, here) = exists_at spans i there in
+        ap (ends_in lane_ends lane) here ∙ spanned.each i span here lane view inside at)
+        (λ le. ap (ends_in lane_ends lane) (none_past spans i (omega (arith, spanned.count, le)))
+        ∙ sym (past view.ends.items i (single 0) (omega (arith, count, le))))
+        (cases_lt i (param_count line))
+
+    -- the box of a lane is that of its view
+    pub box_is : span_box lane_ends line spans lane ≡ view_box line view
+    box_is = ap (box_of line) (fun_ext own)
+
+  pub views_delayed : 1 ≤ length views → (lane : ℕ) → lane < 64
+      → LeastFromOne line (span_box lane_ends line spans lane)
+  views_delayed some lane inside =
+      let (view, at) = exists_at views (view_in (length views) lane)
+      (view_exists (length views) lane some) in
+      subst (LeastFromOne line) (sym (box_is lane view inside at))
+      (are.each (view_in (length views) lane) view at).delays
+
+  module _ (script : Script) (net : NetOf) (lane : ℕ) (view : View) (w : PairHistory)
+      (inside : lane < 64) (at : slice_get views (view_in (length views) lane) ≡ Some view)
+      (here : slice_get views lane ≡ Some view) (history : IsHistoryOf line script view w) where
+    abbrev level : Tree → ℕ → Option Bool
+    level = assumed_level line view.assumed.items
+
+    level_is : views_level line views lane ≡ level
+    level_is = ap (λ (o : Option View). assumed_level line (assumed_of o)) here
+
+    -- the keys of the view's history are those that the run asks for
+    pub keys_are : AreKeysUnder line (views_level line views lane)
+        (pair_world_of line script (span_box lane_ends line spans lane)) w.key
+    keys_are =
+        subst (λ (l : Tree → ℕ → Option Bool). AreKeysUnder line l
+        (pair_world_of line script (span_box lane_ends line spans lane)) w.key) (sym level_is)
+        (subst (λ (b : Box). AreKeysUnder line level (pair_world_of line script b) w.key)
+        (sym (box_is lane view inside at)) history.keys)
+
+    -- so its pairs are those of the view
+    pub pairs_are : (waves : UnderWavesOf Terns64)
+        → ArePairsUnder terns_rails lane (views_level line views lane)
+        (pair_world_of line script (span_box lane_ends line spans lane)) w.key line net waves
+        → ArePairsUnder terns_rails lane level (pair_world_of line script (view_box line view)) w.key
+        line net waves
+    pairs_are waves pairs =
+        subst (λ (b : Box). ArePairsUnder terns_rails lane level (pair_world_of line script b) w.key
+        line net waves) (box_is lane view inside at)
+        (subst (λ (l : Tree → ℕ → Option Bool). ArePairsUnder terns_rails lane l
+        (pair_world_of line script (span_box lane_ends line spans lane)) w.key line net waves)
+        level_is pairs)
+
+-- what is so of all is so of one that is contained
+contained : {X : Type 0} (P : X → Type 0) (xs : List X) (x : X) → All P xs → Contains xs x → P x
+contained P xs x all is = subst P is.2 (all is.0 x is.1)
+
+module _ (kinds : GatesAreTheirKinds) (line : Line) (net : NetOf) (of_line : IsNetOf line net)
+    (script : Script) (view : View) (cases : AreCases line view.assumed.items) (lane : ℕ)
+    (w : PairHistory) (waves : UnderWavesOf Terns64)
+    (pairs : ArePairsUnder terns_rails lane (assumed_level line view.assumed.items)
+    (pair_world_of line script (view_box line view)) w.key line net waves) where
+  abbrev own_of : Tree → ℕ → Rails
+  own_of x t =
+      own_pair (assumed_level line view.assumed.items)
+      (pair_world_of line script (view_box line view)) w.key x t
+
+  case_of : (a : Assumption) → Contains view.assumed.items a → HasCases line a.terminal a.tick
+  case_of a is =
+      contained (λ (b : Assumption). HasCases line b.terminal b.tick) view.assumed.items a cases is
+
+  own_is : (gate : ℕ) (a : Assumption) → gate < length net.gates → HasCases line a.terminal a.tick
+      → formula_of net.gates gate ≡ wanted line a.terminal
+      → own_wave terns_rails lane waves gate a.tick ≡ own_of (wanted line a.terminal) a.tick
+  own_is gate a inside case stands =
+      pairs.owns gate a.tick inside case.run ∙ ap (λ (x : Tree). own_of x a.tick) stands
+
+  -- an assumption that the values exclude is excluded over the history, and the other way round
+  pub excluded_decided : (b : Bool) → Decides b (OneExcluded line net view.assumed.items lane waves)
+      → Decides b (SomeIsExcluded line script (view_box line view) view.assumed.items w)
+  excluded_decided b told = (
+    λ on.
+        let one = told.0 on in
+        let case = case_of one.one one.is in
+        let (gate, stands) = want_exists kinds line net of_line one.one.terminal case.weak in
+        record {
+          one = one.one;
+          is = one.is;
+          terminal = case.exists;
+          tick = case.run;
+          excluded = subst (λ (r : Rails). Excludes r one.one.level)
+              (own_is gate one.one stands.within case stands.is)
+              (one.excluded gate stands.within stands.is);
+        },
+    λ some.
+        told.1 (record {
+          one = some.one;
+          is = some.is;
+          excluded = λ gate inside stands.
+              subst (λ (r : Rails). Excludes r some.one.level)
+              (sym (own_is gate some.one inside (case_of some.one some.is) stands)) some.excluded;
+        }),
+  )

@@ -1,0 +1,10 @@
+mod OneGate
+mod WeakKey
+mod ListLaws
+mod RowLaws
+mod PutLaws
+mod ViewLaws
+mod WantExists
+mod AnalysisLaws
+mod HeldLaws
+mod BelowLaws

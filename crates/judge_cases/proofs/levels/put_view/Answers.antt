@@ -1,0 +1,34 @@
+use Rattle.std.proofs.Common.{◌≡◌, ◌<◌, ◌+◌, ◌-◌, ◌∷◌, ℕ, suc, length, drop, sym, ◌∙◌, ap}
+use Rattle.std.proofs.Common.{arith, subst}
+use Rattle.std.specs.Prelude.{get_or}
+use Rattle.model_line.specs.Parameters.{terminal_count}
+use Rattle.model_cases.specs.Assumed.{Assumption}
+use Rattle.judge_cases.specs.Puts.{PutIn}
+use Rattle.judge_cases.proofs.BelowLaws.{drop_at}
+use Rattle.judge_cases.proofs.levels.put_view.Goals as goal
+
+pub loop-back-preserved : goal.loop-back-preserved
+loop-back-preserved c =
+    let line = c.args.line.now in
+    let all = c.args.assumed.now in
+    let back = c.loop-back.back in
+    let a = c.index-assumed-assumed.result in
+    let i : ℕ = length all - 1 - back in
+    let inside : back < length all = c.loop-back-test.true in
+    let step : a ∷ drop (length all - back) all ≡ drop (length all - (back + 1)) all =
+    ap (λ (x : Assumption). x ∷ drop (length all - back) all) c.index-assumed-assumed.is
+    ∙ ap (λ (n : ℕ). get_or all i a ∷ drop n all)
+    (let e : length all - back ≡ suc i = omega arith in e)
+    ∙ sym (drop_at all i a (omega arith))
+    ∙ ap (λ (n : ℕ). drop n all) (let e : i ≡ length all - (back + 1) = omega arith in e) in
+    record {
+      count = c.put_one.ensures.count;
+      lane = λ start.
+          subst (PutIn line c.args.net.now c.args.rows.now (terminal_count line) line.horizon
+          c.put_one.new.masks.items c.args.lane) step
+          (c.put_one.ensures.lane (drop (length all - back) all)
+          (c.loop-back.invariant.lane start));
+      others = λ k before low ne start.
+          c.put_one.ensures.others k before low ne
+          (c.loop-back.invariant.others k before low ne start);
+    }

@@ -1,0 +1,18 @@
+use Rattle.std.proofs.Common.{◌≡◌, ◌≢◌, ◌<◌, ◌-◌, ◌*◌, ℕ, List, [], length, drop}
+use Rattle.model_line.specs.Parameters.{terminal_count}
+use Rattle.model_cases.specs.Assumed.{Assumption}
+use Rattle.judge_cases.specs.Puts.{PutIn}
+use Rattle.judge_cases.proofs.levels.put_view.Given as goal
+
+abbrev pub invariant-loop-back : goal.invariant-loop-back
+invariant-loop-back l =
+    let n = terminal_count l.line in
+    record {
+      count : length l.masks.items ≡ l.line.horizon * n;
+      lane : PutIn l.line l.net l.rows n l.line.horizon l.initial.masks.items l.lane []
+          → PutIn l.line l.net l.rows n l.line.horizon l.masks.items l.lane
+          (drop (length l.assumed - l.back) l.assumed);
+      others : (k : ℕ) (before : List Assumption) → k < 64 → k ≢ l.lane
+          → PutIn l.line l.net l.rows n l.line.horizon l.initial.masks.items k before
+          → PutIn l.line l.net l.rows n l.line.horizon l.masks.items k before;
+    }

@@ -1,0 +1,21 @@
+use Rattle.std.proofs.Common.{◌≡◌, ◌≤◌, ℕ, length, ap, subst, arith}
+use Rattle.judge_cases.specs.Rows.{AreRows}
+use Rattle.judge_cases.proofs.RowLaws.{rows_none}
+use Rattle.judge_cases.proofs.rows.rows.Goals as goal
+
+pub loop-terminal-init : goal.loop-terminal-init
+loop-terminal-init c =
+    rows_none c.args.line.now c.args.net.now c.len.result c.in_ok-rows.rows.items c.len.ensures.len
+    c.in_ok-rows.ensures
+
+pub returns : goal.returns
+returns c =
+    let over : length c.as_slice-terminals.result.now ≤ c.loop-terminal.terminal =
+    c.loop-terminal-test.false in
+    let under : c.loop-terminal.terminal ≤ length c.as_slice-terminals.result.now =
+    c.loop-terminal.auto.terminal-end in
+    let len : length c.as_slice-terminals.result.now ≡ length c.args.line.now.terminals.items =
+    ap length c.as_slice-terminals.ensures.value in
+    let last : c.loop-terminal.terminal ≡ length c.args.line.now.terminals.items = omega arith in
+    subst (λ (n : ℕ). AreRows c.args.line.now c.args.net.now n c.loop-terminal.rows.items) last
+    c.loop-terminal.invariant

@@ -1,0 +1,9 @@
+use Rattle.std.proofs.Common.{arith, subst}
+use Rattle.net_gates.specs.Laws.{HasArguments}
+use Rattle.judge_cases.proofs.wanted.second_of_or.Goals as goal
+
+pub returns-in-Or-clause-exists : goal.returns-in-Or-clause-exists
+returns-in-Or-clause-exists c =
+    let both = subst (HasArguments c.args.gate.0) c.in-Or.is
+    (c.len-laws.ensures.laws.gates.earlier c.args.gate.0 c.gate.result.now c.gate.ensures.is) in
+    omega (arith, both.1, c.requires)

@@ -1,0 +1,39 @@
+-- Views: boxes, each with what is assumed.
+use Rattle.std.specs.Prelude.{◌≡◌, ℕ, List, Some, All, length, slice_get, get_or}
+use Rattle.model_history.specs.Rails.{Ends, single}
+use Rattle.model_line.specs.{declared.line.Line.Line, Parameters.param_count}
+use Rattle.model_logic.specs.{Boxes.box_of, Boxes.IsSameBox}
+use Rattle.model_logic.specs.Choice.{Box, LeastFromOne}
+use Rattle.model_cases.specs.Assumed.{Assumption}
+use Rattle.model_cases.specs.CaseTrees.{HasCases}
+use Rattle.judge_cases.specs.declared.view.View.{View}
+
+-- the interval of each parameter; past the last 0
+abbrev pub interval_of : List Ends → ℕ → Ends
+interval_of ends i = get_or ends i (single 0)
+
+-- the box of a view: each delay has its interval at every tick
+abbrev pub view_box : Line → View → Box
+view_box line view = box_of line (interval_of view.ends.items)
+
+-- each assumption is at a weak terminal of the line, at a tick of the run
+abbrev pub AreCases : Line → List Assumption → Type 0
+AreCases line assumed = All (λ a. HasCases line a.terminal a.tick) assumed
+
+-- the view is one of the line: an interval for each parameter, of a delay from 1 on, and
+-- assumptions that can be made
+pub record IsView (line : Line) (view : View) : Type 0 where
+  pub count : length view.ends.items ≡ param_count line
+  pub delays : LeastFromOne line (view_box line view)
+  pub cases : AreCases line view.assumed.items
+
+-- so is each of these
+pub record AreViews (line : Line) (views : List View) : Type 0 where
+  pub each : (i : ℕ) (view : View) → slice_get views i ≡ Some view → IsView line view
+
+-- the view is of this box, and what it assumes is this
+pub record Views (line : Line) (box : Box) (assumed : List Assumption) (view : View)
+    : Type 0 where
+  pub is : IsView line view
+  pub same : IsSameBox line (view_box line view) box
+  pub assumes : view.assumed.items ≡ assumed

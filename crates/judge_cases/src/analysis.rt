@@ -1,0 +1,173 @@
+//! The interval histories of views, side by side.
+
+ghost use Rattle.std.specs.Prelude.{◌≡◌, ◌≤◌, ◌<◌, ℕ, Some, Decides, length, slice_get, IfOk};
+ghost use Rattle.model_cases.specs.CaseTrees.{HasCases};
+ghost use Rattle.net_gates.specs.NetOf.{IsNetOf};
+ghost use Rattle.run_signal.specs.Bits.{bit_on};
+ghost use Rattle.run_cases.specs.UnderWaves.{value_at};
+ghost use Rattle.model_cases.specs.Under.{Excludes};
+ghost use Rattle.judge_boxes.specs.Terns.{terns_rails};
+ghost use Rattle.judge_cases.specs.{declared.view.View.View, Views.AreViews, Views.AreCases};
+ghost use Rattle.judge_cases.specs.Analyses.{IsAnalysis};
+ghost use Rattle.judge_cases.specs.Excluded.{ExcludedIn, OneExcluded, OneIsExcluded};
+
+use crate::assumed::Assumed;
+use crate::levels::masks_of;
+use crate::spans::view_spans;
+use crate::view::View;
+use crate::wanted::wanted_gate;
+use judge_boxes::Terns64;
+use model_cases::laws::{each_box_has_one_history_under, what_is_shown_rests_on_the_box};
+use model_line::{Line, Memory, Script};
+use model_logic::laws::line_laws;
+use net_gates::laws::gates_stand_for_their_trees;
+use net_gates::{GateId, Net};
+use run_cases::{UnderWaves, run_under};
+use run_signal::{Lanes64, Signal};
+use std::alloc::Global;
+use std::marker::Model;
+
+/// What 64 views are in their interval histories: each gate's pair at each tick, its own pair, and
+/// the lanes in which an assumption is excluded.
+#[derive(Drop)]
+pub struct Analysis {
+    waves: UnderWaves<Terns64>,
+    excluded: Lanes64,
+}
+
+/// Analyses up to 64 views side by side: lane i is view i, and the lanes past the last repeat it.
+pub fn analyse(
+    alloc: Global,
+    line: &Line,
+    net: &Net,
+    script: &Script,
+    views: &[View],
+) -> Result<Analysis, Memory>
+    requires of_line { IsNetOf line.now net.now }
+    requires some { 1 ≤ length views.now }
+    requires few { length views.now ≤ 64 }
+    requires views { AreViews line.now views.now }
+    ensures { IfOk result (λ analysis.
+        IsAnalysis line.now net.now script.now views.now analysis) }
+{
+    line_laws();
+    gates_stand_for_their_trees();
+    each_box_has_one_history_under();
+    what_is_shown_rests_on_the_box();
+    let spans = view_spans(alloc, line, views)?;
+    let masks = masks_of(alloc, net, line, views)?;
+    let waves = run_under::<Terns64>(alloc, net, line, script, &spans, &masks)?;
+    let excluded = excluded_lanes(line, net, views, &waves);
+    Ok(Analysis { waves, excluded })
+}
+
+impl Model for Analysis {
+    ghost use Rattle.judge_cases.specs.Analyses.{AnalysisOf, analysis_of};
+
+    ghost Value = { AnalysisOf };
+
+    ghost view = { λ a. analysis_of a.waves a.excluded };
+}
+
+impl Analysis {
+    /// The value of a gate at a tick, with what is assumed.
+    pub fn at(&self, gate: GateId, t: u32) -> Terns64
+        requires gate { gate.0 < self.now.waves.width }
+        requires tick { t < self.now.waves.horizon }
+        ensures { slice_get self.now.waves.values (value_at self.now.waves.width gate.0 t)
+            ≡ Some result }
+    {
+        self.waves.at(gate, t)
+    }
+
+    /// The value that a gate has at a tick by its own rule.
+    pub fn own(&self, gate: GateId, t: u32) -> Terns64
+        requires gate { gate.0 < self.now.waves.width }
+        requires tick { t < self.now.waves.horizon }
+        ensures { slice_get self.now.waves.owns (value_at self.now.waves.width gate.0 t)
+            ≡ Some result }
+    {
+        self.waves.own(gate, t)
+    }
+
+    /// The lanes in which an assumption of the view is excluded.
+    pub fn excluded(&self) -> Lanes64
+        ensures { result ≡ self.now.excluded }
+    {
+        self.excluded
+    }
+}
+
+// The lanes in which an assumption of the view is excluded.
+fn excluded_lanes(line: &Line, net: &Net, views: &[View], waves: &UnderWaves<Terns64>) -> Lanes64
+    requires of_line { IsNetOf line.now net.now }
+    requires few { length views.now ≤ 64 }
+    requires views { AreViews line.now views.now }
+    requires width { waves.now.width ≡ length net.now.gates }
+    requires horizon { waves.now.horizon ≡ line.now.horizon }
+    ensures { (lane : ℕ) (view : View) → slice_get views.now lane ≡ Some view →
+        Decides (bit_on result lane) (OneIsExcluded line.now net.now view lane waves.now) }
+{
+    let mut lanes = Lanes64::known(false);
+    for lane in 0..views.len() {
+        let excluded = is_excluded(line, net, &views[lane].assumed, waves, lane as u32);
+        lanes = lanes.with_lane(lane as u32, excluded);
+    }
+    lanes
+}
+
+// Whether one of these assumptions is excluded in a lane.
+fn is_excluded(
+    line: &Line,
+    net: &Net,
+    assumed: &[Assumed],
+    waves: &UnderWaves<Terns64>,
+    lane: u32,
+) -> bool
+    requires of_line { IsNetOf line.now net.now }
+    requires cases { AreCases line.now assumed.now }
+    requires lane { lane < 64 }
+    requires width { waves.now.width ≡ length net.now.gates }
+    requires horizon { waves.now.horizon ≡ line.now.horizon }
+    ensures { Decides result (OneExcluded line.now net.now assumed.now lane waves.now) }
+{
+    for i in 0..assumed.len() {
+        if is_one_excluded(line, net, assumed[i], waves, lane) {
+            return true;
+        }
+    }
+    false
+}
+
+// Whether an assumption is excluded in a lane.
+fn is_one_excluded(
+    line: &Line,
+    net: &Net,
+    assumed: Assumed,
+    waves: &UnderWaves<Terns64>,
+    lane: u32,
+) -> bool
+    requires of_line { IsNetOf line.now net.now }
+    requires case { HasCases line.now assumed.terminal assumed.tick }
+    requires lane { lane < 64 }
+    requires width { waves.now.width ≡ length net.now.gates }
+    requires horizon { waves.now.horizon ≡ line.now.horizon }
+    ensures { Decides result (ExcludedIn line.now net.now lane waves.now assumed) }
+{
+    gates_stand_for_their_trees();
+    let gate = wanted_gate(net, line, assumed.terminal());
+    let own = waves.own(gate, assumed.tick());
+    excludes(own, lane, assumed.level())
+}
+
+// Whether a value excludes a level in a lane.
+fn excludes(value: Terns64, lane: u32, level: bool) -> bool
+    requires { lane < 64 }
+    ensures { Decides result (Excludes (terns_rails value lane) level) }
+{
+    if level {
+        !value.may(lane)
+    } else {
+        value.must(lane)
+    }
+}

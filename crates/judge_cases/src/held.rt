@@ -1,0 +1,72 @@
+//! The lanes in which an obligation is held, or shown.
+
+ghost use Rattle.std.specs.Prelude.{◌≡◌, ◌≤◌, ◌<◌, ℕ, List, length};
+ghost use Rattle.model_history.specs.Elements.{some_below};
+ghost use Rattle.model_line.specs.Parameters.{terminal_count};
+ghost use Rattle.run_cases.specs.UnderWaves.{wave_pair};
+ghost use Rattle.judge_boxes.specs.Terns.{terns_rails};
+ghost use Rattle.net_gates.specs.NetOf.{IsNetOf};
+ghost use Rattle.judge_cases.specs.declared.view.View.{View};
+ghost use Rattle.judge_cases.specs.Views.{AreViews};
+ghost use Rattle.judge_cases.specs.Analyses.{IsAnalysis, TellHeld, TellShown};
+
+use crate::analysis::Analysis;
+use judge_boxes::Terns64;
+use model_cases::laws::{each_box_has_one_history_under, what_is_shown_of_one_is_shown};
+use model_line::{Kind, Line, Script};
+use model_logic::laws::line_laws;
+use net_gates::{GateId, Net};
+use run_signal::{Lanes64, Signal};
+
+impl Analysis {
+    /// The lanes in which the rule is held at a terminal.
+    pub fn held(&self, line: &Line, net: &Net, script: &Script, terminal: u32) -> Lanes64
+        requires of_line { IsNetOf line.now net.now }
+        requires width { self.now.waves.width ≡ length net.now.gates }
+        requires horizon { self.now.waves.horizon ≡ line.now.horizon }
+        requires deadline { script.now.deadline < line.now.horizon }
+        requires terminal { terminal < terminal_count line.now }
+        ensures { (views : List View) → IsAnalysis line.now net.now script.now views self.now →
+            TellHeld line.now script.now net.now terminal views result }
+    {
+        line_laws();
+        each_box_has_one_history_under();
+        let trip = net.trip_gate(terminal);
+        match script.kind {
+            Kind::Internal => some_of(self, trip, script.deadline + 1).must,
+            Kind::External => some_of(self, trip, line.horizon).possible().not(),
+        }
+    }
+
+    /// The lanes in which the rule is held at a terminal, or an assumption is excluded.
+    pub fn shown(&self, line: &Line, net: &Net, script: &Script, terminal: u32) -> Lanes64
+        requires of_line { IsNetOf line.now net.now }
+        requires width { self.now.waves.width ≡ length net.now.gates }
+        requires horizon { self.now.waves.horizon ≡ line.now.horizon }
+        requires deadline { script.now.deadline < line.now.horizon }
+        requires terminal { terminal < terminal_count line.now }
+        ensures { (views : List View) → AreViews line.now views →
+            IsAnalysis line.now net.now script.now views self.now →
+            TellShown line.now script.now terminal views result }
+    {
+        each_box_has_one_history_under();
+        what_is_shown_of_one_is_shown();
+        self.held(line, net, script, terminal).or(self.excluded())
+    }
+}
+
+// The lanes in which a gate must, or may, be on at some of the first ticks.
+fn some_of(analysis: &Analysis, gate: GateId, ticks: u32) -> Terns64
+    requires gate { gate.0 < analysis.now.waves.width }
+    requires ticks { ticks ≤ analysis.now.waves.horizon }
+    ensures must { (lane : ℕ) → lane < 64 → (terns_rails result lane).must
+        ≡ some_below (λ t. (wave_pair terns_rails lane analysis.now.waves gate.0 t).must) ticks }
+    ensures may { (lane : ℕ) → lane < 64 → (terns_rails result lane).may
+        ≡ some_below (λ t. (wave_pair terns_rails lane analysis.now.waves gate.0 t).may) ticks }
+{
+    let mut lanes = Terns64::known(false);
+    for t in 0..ticks {
+        lanes = analysis.at(gate, t).or(lanes);
+    }
+    lanes
+}

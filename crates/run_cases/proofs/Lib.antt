@@ -1,0 +1,8 @@
+mod Lists
+mod SendLaws
+mod TickLaws
+mod WalkLaws
+mod ValueLaws
+mod MaskLaws
+mod UnderLaws
+mod GivenLaws
