@@ -89,4 +89,5 @@ may_in_box known line part room depth box (node.Split param mid) same is may =
       can = in_box known line part box param mid is
           (in_part known line part (declared_box part) param mid own may.can);
     }
-may_in_box known line part room depth box (node.Case terminal tick) same is may = record { left = may.left; can = may.can }
+may_in_box known line part room depth box (node.Case terminal tick) same is may =
+    record { left = may.left; can = may.can }

@@ -7,7 +7,8 @@ use Rattle.model_line.specs.declared.line.Line.{Line}
 use Rattle.model_timing.specs.declared.step.Step.{Step}
 use Rattle.cert_settle_text.specs.declared.node.CaseNode.{CaseNode}
 use Rattle.cert_settle_text.specs.Grammar.{SettleResult, tree, fails, HasOneEach, Said, says_nothing}
-use Rattle.cert_settle_text.specs.Grammar.{says_step, says_no, says_node, result_said, tree_said, part_said}
+use Rattle.cert_settle_text.specs.Grammar.{says_step, says_no, says_node, result_said, tree_said}
+use Rattle.cert_settle_text.specs.Grammar.{part_said}
 use Rattle.cert_settle_text.proofs.Stretches.{Unmarked, BeginsMarked, fronts_tell}
 
 -- a line that says nothing begins the lines of a script or a terminal

@@ -147,7 +147,8 @@ module _ (known : Known) (line : Line) where
 
 -- ---- places
 
-fixed_or_not : (place : Place) → ((word : List ℕ) → ¬ (place ≡ fixed word)) ⊎ ((word : List ℕ) × (place ≡ fixed word))
+fixed_or_not : (place : Place) → ((word : List ℕ) → ¬ (place ≡ fixed word))
+    ⊎ ((word : List ℕ) × (place ≡ fixed word))
 fixed_or_not (fixed word) = inr (word, refl)
 fixed_or_not (result_over box) = inl (λ word e. cc)
 fixed_or_not (roots room root others) = inl (λ word e. cc)

@@ -1,5 +1,6 @@
 -- Lines of a timing, read one after another.
-use Rattle.std.proofs.Common.{◌≡◌, ◌≢◌, ◌+◌, ℕ, List, [], ◌∷◌, ◌++◌, map, refl, sym, ◌∙◌, ap, subst, arith}
+use Rattle.std.proofs.Common.{◌≡◌, ◌≢◌, ◌+◌, ℕ, List, [], ◌∷◌, ◌++◌, map, refl, sym}
+use Rattle.std.proofs.Common.{◌∙◌, ap, subst, arith}
 use Rattle.std.proofs.Common.{true, Option, None, Some, ◌-◌, length, suc, length-append}
 use Rattle.std.specs.Prelude.{slice_get}
 use Rattle.judge_split.specs.ListLaws.{after_append}

@@ -94,7 +94,8 @@ part_places line script =
 
 -- ---- what can stand in a line
 
--- what a line says: nothing more than that it stands there, a step, the numbers of a `no`, or a node
+-- what a line says: nothing more than that it stands there, a step, the numbers of a `no`, or a
+-- node
 pub data Said : Type 0 where
   says_nothing : Said
   says_step : Step ℕ → Said

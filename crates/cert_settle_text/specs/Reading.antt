@@ -1,5 +1,6 @@
 -- Settled trees as they are read.
-use Rattle.std.specs.Prelude.{◌≡◌, ◌≢◌, ◌≤◌, ◌+◌, ◌++◌, ℕ, List, ◌∷◌, map, Vec, Option, None, Some, slice_get, length, ◌-◌}
+use Rattle.std.specs.Prelude.{◌≡◌, ◌≢◌, ◌≤◌, ◌+◌, ◌++◌, ◌-◌, ℕ, List, ◌∷◌, map, Vec}
+use Rattle.std.specs.Prelude.{Option, None, Some, slice_get, length}
 use Rattle.std.specs.Prelude.{IsTrue}
 use Rattle.std.specs.List.{All}
 use Rattle.std.specs.declared.alloc.Global.{Global}
@@ -15,7 +16,8 @@ use Rattle.cert_settle_text.specs.declared.claim.TreeClaim.TheVariants as claim
 use Rattle.cert_settle_text.specs.Trees.{preorder, height, branch_count, Branches}
 use Rattle.cert_settle_text.specs.Grammar.{SettleResult, tree, fails, Place, Said, says_node}
 use Rattle.cert_settle_text.specs.Grammar.{says_step, Stands, opens, Root, expected, after_node}
-use Rattle.cert_settle_text.specs.Grammar.{result_over, after_step, script_parts, head_text, MayStand}
+use Rattle.cert_settle_text.specs.Grammar.{result_over, after_step, script_parts, head_text}
+use Rattle.cert_settle_text.specs.Grammar.{MayStand}
 use Rattle.cert_settle_text.specs.Grammar.{most_branches, whole_over, node_text}
 use Rattle.cert_text.specs.Grammar.{end_text}
 
