@@ -6,6 +6,7 @@ ghost use Rattle.std.specs.Prelude.{IfOk, MatchOption, None};
 ghost use Rattle.model_line.specs.{Fits.Fits, Parameters.terminal_count};
 ghost use Rattle.model_cases.specs.CaseTrees.{CaseTree};
 ghost use Rattle.net_gates.specs.NetOf.{IsNetOf};
+ghost use Rattle.judge_cases.specs.Views.{IsView};
 ghost use Rattle.cert_settle_text.specs.declared.node.CaseNode.{CaseNode};
 ghost use Rattle.cert_settle_text.specs.{Trees.Branches, Trees.preorder};
 ghost use Rattle.cert_settle_check.specs.CaseParts.{CasePart, parts_below, IsShownOver};
@@ -73,7 +74,8 @@ fn views_below(
     view: &View,
     root: CaseNode,
 ) -> Result<Option<(View, View)>, Memory>
-    requires { CanStand line.now view.now root }
+    requires stands { CanStand line.now view.now root }
+    requires view { IsView line.now view.now }
     ensures { IfOk result (λ two. (part : CasePart) → IsViewOf line.now part view.now →
         MatchOption two (parts_below part root ≡ None)
         (λ views. AreViewsBelow line.now part root views.0 views.1)) }

@@ -24,8 +24,11 @@ offset_bounds-nodes-passed t c =
     let here = within r.tree r.after c.args.nodes.now c.args.passed.nodes r.are in
     omega (arith, here, c.requires.few)
 
-pub views_below-requires : goal.views_below-requires
-views_below-requires t c =
+pub views_below-requires-clause-view : goal.views_below-requires-clause-view
+views_below-requires-clause-view t c = c.requires.tree.is_view.is
+
+pub views_below-requires-clause-stands : goal.views_below-requires-clause-stands
+views_below-requires-clause-stands t c =
     let r = c.requires.tree in
     let nodes : List CaseNode = c.args.nodes.now in
     let at : ℕ = c.args.passed.nodes in
