@@ -1,11 +1,11 @@
 -- The results of a script have one first fault, and none where they are supported.
 use Rattle.std.proofs.Common.{◌≡◌, ◌≢◌, ℕ, List, refl, sym, ◌∙◌, subst}
 use Rattle.model_line.specs.{declared.line.Line.Line, declared.script.Script.Script}
-use Rattle.model_timing.specs.{declared.step.Step.Step, Timing.TimingValues}
+use Rattle.model_timing.specs.{Timing.TimingValues}
 use Rattle.cert_check.specs.declared.no.NoFault.{NoFault}
 use Rattle.model_cases.specs.CaseTrees.{CaseTree}
 use Rattle.cert_check.specs.ScriptLaws.{wrong_refuses, wrong_once}
-use Rattle.cert_settle_text.specs.declared.node.CaseNode.{CaseNode}
+use Rattle.judge_cases.specs.declared.node.CaseNode.{CaseNode}
 use Rattle.cert_settle_text.specs.Grammar.{SettleResult, tree, fails}
 use Rattle.cert_settle_check.specs.declared.fault.ResultFault.{ResultFault}
 use Rattle.cert_settle_check.specs.declared.fault.ResultFault.TheVariants.{NotShown, No, Memory}

@@ -5,9 +5,9 @@ use Rattle.std.proofs.lemmas.List.{append-nil}
 use Rattle.model_line.specs.{declared.line.Line.Line, declared.script.Script.Script}
 use Rattle.model_cases.specs.CaseTrees.{CaseTree, Yes, Undecided, Split, Case}
 use Rattle.cert_check.specs.ScriptLaws.{same_number}
-use Rattle.cert_settle_text.specs.declared.node.CaseNode.{CaseNode}
-use Rattle.cert_settle_text.specs.declared.node.CaseNode.TheVariants as node
-use Rattle.cert_settle_text.specs.Trees.{preorder}
+use Rattle.judge_cases.specs.declared.node.CaseNode.{CaseNode}
+use Rattle.judge_cases.specs.declared.node.CaseNode.TheVariants as node
+use Rattle.judge_cases.specs.Nodes.{preorder}
 use Rattle.cert_settle_check.specs.{CaseParts.Leaf, FirstLeaf.IsFirstNotShown}
 
 -- one tree stands at the head of a list of nodes

@@ -1,6 +1,6 @@
 -- What a result is, from what was found of it.
-use Rattle.std.proofs.Common.{◌≡◌, ◌<◌, ◌≤◌, ◌+◌, ◌*◌, ◌^◌, ◌&&◌, ℕ, Bool, List, length, refl}
-use Rattle.std.proofs.Common.{sym, ◌∙◌, ap, subst, arith, length-append, IsTrue}
+use Rattle.std.proofs.Common.{◌≡◌, ◌<◌, ◌+◌, ◌*◌, ◌^◌, ◌&&◌, ℕ, Bool, List, length, refl}
+use Rattle.std.proofs.Common.{sym, ◌∙◌, ap, subst, arith, length-append}
 use Rattle.std.proofs.lemmas.List.Folds.{list_all-append}
 use Rattle.std.proofs.lemmas.List.Elements.{All-nil}
 use Rattle.std.specs.List.{list_all}
@@ -9,8 +9,9 @@ use Rattle.model_line.specs.Parameters.{terminal_count}
 use Rattle.model_logic.specs.Choice.{LeastFromOne, declared_box}
 use Rattle.model_cases.specs.CaseTrees.{CaseTree, Yes, Undecided, Split, Case, are_yes}
 use Rattle.model_cases.specs.{Laws.SoundTreesMeet, Assumed.Agrees}
-use Rattle.cert_settle_text.specs.declared.node.CaseNode.{CaseNode}
-use Rattle.cert_settle_text.specs.Trees.{preorder, branch_count}
+use Rattle.judge_cases.specs.declared.node.CaseNode.{CaseNode}
+use Rattle.cert_settle_text.specs.Trees.{branch_count}
+use Rattle.judge_cases.specs.Nodes.{preorder}
 use Rattle.cert_settle_text.specs.Grammar.{SettleResult, tree, fails, AreTree}
 use Rattle.cert_settle_check.specs.declared.fault.ResultFault.{ResultFault}
 use Rattle.cert_settle_check.specs.declared.fault.ResultFault.TheVariants as wrong

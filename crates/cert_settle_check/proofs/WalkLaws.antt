@@ -1,5 +1,5 @@
 -- What a walk finds of a tree, from its root and what it finds of both trees below it.
-use Rattle.std.proofs.Common.{◌≡◌, ◌<◌, ◌≤◌, ◌+◌, ◌*◌, ℕ, List, [], ◌∷◌, ◌++◌, length, drop, get_or}
+use Rattle.std.proofs.Common.{◌≡◌, ◌<◌, ◌≤◌, ◌+◌, ℕ, List, [], ◌∷◌, ◌++◌, length, drop, get_or}
 use Rattle.std.proofs.Common.{true, false, refl, sym, ◌∙◌, ap, subst, arith, length-append}
 use Rattle.std.proofs.Common.{append_assoc, Option, None, Some}
 use Rattle.std.proofs.Math.Seq.{drop-append_seam}
@@ -9,9 +9,10 @@ use Rattle.model_line.specs.{declared.line.Line.Line, declared.script.Script.Scr
 use Rattle.model_history.specs.Rails.{Ends}
 use Rattle.model_cases.specs.CaseTrees.{CaseTree, Yes, Undecided, Split, Case, CanSplit}
 use Rattle.judge_cases.specs.{declared.view.View.View, Views.view_box}
-use Rattle.cert_settle_text.specs.declared.node.CaseNode.{CaseNode}
-use Rattle.cert_settle_text.specs.declared.node.CaseNode.TheVariants as node
-use Rattle.cert_settle_text.specs.Trees.{preorder, Branches}
+use Rattle.judge_cases.specs.declared.node.CaseNode.{CaseNode}
+use Rattle.judge_cases.specs.declared.node.CaseNode.TheVariants as node
+use Rattle.cert_settle_text.specs.Trees.{Branches}
+use Rattle.judge_cases.specs.Nodes.{preorder}
 use Rattle.cert_settle_check.specs.declared.fault.ResultFault.{ResultFault}
 use Rattle.cert_settle_check.specs.declared.fault.ResultFault.TheVariants as wrong
 use Rattle.cert_settle_check.specs.declared.tree.Passed.{Passed}

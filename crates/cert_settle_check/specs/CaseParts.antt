@@ -5,8 +5,8 @@ use Rattle.model_logic.specs.Choice.{Box, declared_box}
 use Rattle.model_cases.specs.Assumed.{Assumption}
 use Rattle.model_cases.specs.CaseTrees.{CaseTree, Yes, Undecided, Split, Case, lower_half}
 use Rattle.model_cases.specs.CaseTrees.{upper_half, with_case, IsShownUnder, AreSound}
-use Rattle.cert_settle_text.specs.declared.node.CaseNode.{CaseNode}
-use Rattle.cert_settle_text.specs.declared.node.CaseNode.TheVariants as node
+use Rattle.judge_cases.specs.declared.node.CaseNode.{CaseNode}
+use Rattle.judge_cases.specs.declared.node.CaseNode.TheVariants as node
 
 -- a box, and what is assumed there, the latest first
 pub record CasePart : Type 0 where

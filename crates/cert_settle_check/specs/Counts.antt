@@ -4,8 +4,8 @@ use Rattle.std.specs.Prelude.{if◌then◌else◌}
 use Rattle.std.specs.List.{flat_map, list_all}
 use Rattle.cert_text.specs.Grammar.{Verdict, yes, no, undecided}
 use Rattle.cert_check.specs.{declared.counts.Counts.Counts, Counts.AreCounts}
-use Rattle.cert_settle_text.specs.declared.node.CaseNode.{CaseNode}
-use Rattle.cert_settle_text.specs.declared.node.CaseNode.TheVariants as node
+use Rattle.judge_cases.specs.declared.node.CaseNode.{CaseNode}
+use Rattle.judge_cases.specs.declared.node.CaseNode.TheVariants as node
 use Rattle.cert_settle_text.specs.Grammar.{SettleResult, tree, fails}
 
 -- the node is no undecided leaf

@@ -2,7 +2,7 @@
 use Rattle.std.specs.Prelude.{◌≡◌, ◌<◌, ℕ, List, Some, slice_get, IsTrue}
 use Rattle.model_line.specs.{declared.script.Script.Script, declared.line.Line.Line}
 use Rattle.model_cases.specs.CaseTrees.{CaseTree}
-use Rattle.cert_settle_text.specs.{declared.node.CaseNode.CaseNode, Trees.preorder}
+use Rattle.judge_cases.specs.{declared.node.CaseNode.CaseNode, Nodes.preorder}
 use Rattle.cert_settle_check.specs.CaseParts.{Leaf, leaves, whole_part, IsShownOver, AreSoundOver}
 
 -- Of all leaves, numbered from 0, this is the first that is yes where the obligation of terminal k

@@ -5,7 +5,7 @@ use Rattle.model_logic.specs.Histories.{History, IsLineHistory, Meets}
 use Rattle.model_logic.specs.Choice.{Choice, IsInside}
 use Rattle.model_timing.specs.{declared.step.Step.Step, Timing.TimingValues}
 use Rattle.cert_check.specs.Firsts.{EachOf, IsWrongFirst}
-use Rattle.cert_settle_text.specs.declared.node.CaseNode.{CaseNode}
+use Rattle.judge_cases.specs.declared.node.CaseNode.{CaseNode}
 use Rattle.cert_settle_text.specs.Grammar.{SettleResult, tree, fails}
 use Rattle.cert_settle_check.specs.declared.fault.ResultFault.{ResultFault}
 use Rattle.cert_settle_check.specs.declared.fault.ResultFault.TheVariants.{NotShown, No, Memory}

@@ -7,13 +7,16 @@ ghost use Rattle.cert_settle_text.specs.{Grammar.tree, Reading.result_in, Readin
 ghost use Rattle.cert_settle_check.specs.Counts.{is_yes_tree as yes_tree, verdict_of, CountResults};
 
 use cert_check::Counts;
-use cert_settle_text::{CaseNode, TreeClaim};
+use cert_settle_text::TreeClaim;
+use judge_cases::CaseNode;
 
 /// Whether no leaf of a tree with these nodes is undecided.
 pub fn is_yes_tree(nodes: &[CaseNode]) -> bool
     ensures { result ≡ yes_tree nodes.now }
 {
-    nodes.iter().all(|node| !matches!(node, CaseNode::Undecided))
+    nodes
+        .iter()
+        .all(|node| !matches!(node, CaseNode::Undecided))
 }
 
 // The counts after one result more.

@@ -19,6 +19,7 @@ pub use cert_check::Counts;
 pub use counts::is_yes_tree;
 pub use fault::{ResultFault, SettleFault};
 pub use laws::{
-    a_fault_refuses_the_settle_text, a_settle_text_has_one_first_fault, accepted_settled_trees_are_so,
+    a_fault_refuses_the_settle_text, a_settle_text_has_one_first_fault,
+    accepted_settled_trees_are_so,
 };
 pub use whole::check_settle;

@@ -12,8 +12,8 @@ ghost use Rattle.cert_settle_check.specs.Results.{AreTold, IsFirstFault};
 use crate::fault::ResultFault;
 use crate::timing::check_timing;
 use crate::tree::{Obligation, Passed, walk};
-use cert_settle_text::{CaseNode, TreeClaim};
-use judge_cases::declared_view;
+use cert_settle_text::TreeClaim;
+use judge_cases::{CaseNode, declared_view};
 use model_cases::laws::sound_trees_meet;
 use model_line::laws::deadlines_are_below_the_horizon;
 use model_line::{Line, Script};
@@ -85,11 +85,7 @@ fn check_result(
 }
 
 // Checks a tree over the declared box.
-fn check_tree(
-    alloc: Global,
-    of: &Obligation<'_>,
-    nodes: &[CaseNode],
-) -> Result<(), ResultFault>
+fn check_tree(alloc: Global, of: &Obligation<'_>, nodes: &[CaseNode]) -> Result<(), ResultFault>
     requires of_line { IsNetOf of.now.line.now of.now.net.now }
     requires fits { Fits of.now.line.now of.now.script.now }
     requires terminal { of.now.terminal < terminal_count of.now.line.now }

@@ -15,9 +15,7 @@ use crate::fault::{SettleFault, in_script};
 use crate::result::check_results;
 use base_lines::TextFault;
 use cert_check::Counts;
-use cert_settle_text::{
-    TreeClaim, a_settle_text_has_one_meaning, read_settle_text,
-};
+use cert_settle_text::{TreeClaim, a_settle_text_has_one_meaning, read_settle_text};
 use model_line::{Line, Script};
 use net_gates::Net;
 use std::alloc::Global;

@@ -7,8 +7,8 @@ use Rattle.model_names.specs.ParamNamesApart.{name_of_param}
 use Rattle.model_logic.specs.Choice.{Box, declared_box}
 use Rattle.model_cases.specs.CaseTrees.{CanSplit, HasCases}
 use Rattle.judge_split.specs.{Leaves.CanSplit as CanSplitPart, Parts.IsPart}
-use Rattle.cert_settle_text.specs.declared.node.CaseNode.{CaseNode}
-use Rattle.cert_settle_text.specs.declared.node.CaseNode.TheVariants as node
+use Rattle.judge_cases.specs.declared.node.CaseNode.{CaseNode}
+use Rattle.judge_cases.specs.declared.node.CaseNode.TheVariants as node
 use Rattle.cert_settle_text.specs.Known.{Known}
 use Rattle.cert_settle_text.specs.Grammar.{MayStand, node_text, split_line, case_line, Root}
 use Rattle.cert_settle_text.specs.Grammar.{name_of_terminal}

@@ -12,9 +12,10 @@ use Rattle.cert_text.specs.Text.{fed}
 use Rattle.model_timing.specs.{declared.step.Step.Step, Inside.IsStepInside}
 use Rattle.model_cases.specs.CaseTrees.{CaseTree, Yes, Undecided, Split, Case, lower_half}
 use Rattle.model_cases.specs.CaseTrees.{upper_half}
-use Rattle.cert_settle_text.specs.declared.node.CaseNode.{CaseNode}
-use Rattle.cert_settle_text.specs.declared.node.CaseNode.TheVariants as node
-use Rattle.cert_settle_text.specs.{Known.Known, Trees.preorder, Trees.Branches}
+use Rattle.judge_cases.specs.declared.node.CaseNode.{CaseNode}
+use Rattle.judge_cases.specs.declared.node.CaseNode.TheVariants as node
+use Rattle.cert_settle_text.specs.{Known.Known, Trees.Branches}
+use Rattle.judge_cases.specs.Nodes.{preorder}
 use Rattle.cert_settle_text.specs.{declared.claim.TreeClaim.TreeClaim, Reading.result_in}
 use Rattle.cert_settle_text.specs.Grammar.{SettleResult, tree_text, AreTree}
 use Rattle.cert_settle_text.specs.Text.{IsKnown, IsKnownStep, result_text, trees_text, part_text}

@@ -5,7 +5,7 @@ use Rattle.std.proofs.lemmas.List.Elements.{All-head, All-tail}
 use Rattle.std.specs.List.{All, flat_map}
 use Rattle.model_line.specs.declared.line.Line.{Line}
 use Rattle.model_timing.specs.declared.step.Step.{Step}
-use Rattle.cert_settle_text.specs.declared.node.CaseNode.{CaseNode}
+use Rattle.judge_cases.specs.declared.node.CaseNode.{CaseNode}
 use Rattle.cert_settle_text.specs.Grammar.{SettleResult, tree, fails, HasOneEach, Said, says_nothing}
 use Rattle.cert_settle_text.specs.Grammar.{says_step, says_no, says_node, result_said, tree_said}
 use Rattle.cert_settle_text.specs.Grammar.{part_said}

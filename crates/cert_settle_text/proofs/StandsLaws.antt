@@ -8,8 +8,8 @@ use Rattle.model_cases.specs.CaseTrees.{HasCases}
 use Rattle.std.specs.Prelude.{codes}
 use Rattle.base_lines.specs.NamedLaws.{first_same}
 use Rattle.cert_text.specs.{Grammar.no_words, Grammar.AreNumbers, NumberLaws.numbers_tell}
-use Rattle.cert_settle_text.specs.declared.node.CaseNode.{CaseNode}
-use Rattle.cert_settle_text.specs.declared.node.CaseNode.TheVariants as node
+use Rattle.judge_cases.specs.declared.node.CaseNode.{CaseNode}
+use Rattle.judge_cases.specs.declared.node.CaseNode.TheVariants as node
 use Rattle.cert_settle_text.specs.Known.{Known}
 use Rattle.cert_settle_text.specs.Grammar.{Place, fixed, result_over, roots, after_step, Stands}
 use Rattle.cert_settle_text.specs.Grammar.{Said, says_nothing, says_step, says_no, says_node}

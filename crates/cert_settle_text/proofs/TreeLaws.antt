@@ -8,9 +8,9 @@ use Rattle.model_cases.specs.CaseTrees.{CaseTree, Yes, Undecided, Split, Case, l
 use Rattle.model_cases.specs.CaseTrees.{upper_half}
 use Rattle.base_lines.specs.declared.fault.TextFault.{TextFault}
 use Rattle.base_lines.specs.{LineLaws.goes_then, Grammar.IsFault}
-use Rattle.cert_settle_text.specs.declared.node.CaseNode.{CaseNode}
-use Rattle.cert_settle_text.specs.declared.node.CaseNode.TheVariants as node
-use Rattle.cert_settle_text.specs.Trees.{preorder}
+use Rattle.judge_cases.specs.declared.node.CaseNode.{CaseNode}
+use Rattle.judge_cases.specs.declared.node.CaseNode.TheVariants as node
+use Rattle.judge_cases.specs.Nodes.{preorder}
 use Rattle.cert_settle_text.specs.Reading.{GoesOn, IsBelow, IsOver, AreTwo}
 use Rattle.cert_settle_text.specs.Grammar.{Place, Root, Said, says_nothing, says_step, says_no}
 use Rattle.cert_settle_text.specs.Grammar.{says_node, Stands, opens, expected, IsNode, node_text}

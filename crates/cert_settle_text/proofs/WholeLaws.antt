@@ -10,8 +10,8 @@ use Rattle.model_timing.specs.{declared.step.Step.Step, Inside.IsStepInside}
 use Rattle.base_lines.specs.Lines.{is_one_line}
 use Rattle.base_lines.specs.NamedLaws.{named_whole, decimal_whole, whole_append, whole_more}
 use Rattle.cert_text.specs.Grammar.{terminal_names}
-use Rattle.cert_settle_text.specs.declared.node.CaseNode.{CaseNode}
-use Rattle.cert_settle_text.specs.declared.node.CaseNode.TheVariants as node
+use Rattle.judge_cases.specs.declared.node.CaseNode.{CaseNode}
+use Rattle.judge_cases.specs.declared.node.CaseNode.TheVariants as node
 use Rattle.cert_settle_text.specs.Known.{Known}
 use Rattle.cert_settle_text.specs.Grammar.{node_text, step_text, name_of_terminal}
 use Rattle.cert_settle_text.proofs.NameLaws.{IsLineUpTo, param_stands, terminals_stand}

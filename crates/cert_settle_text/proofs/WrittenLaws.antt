@@ -21,9 +21,10 @@ use Rattle.cert_text.specs.Grammar.{script_text, end_text, terminal_names, numbe
 use Rattle.cert_text.specs.Grammar.{AreNumbers}
 use Rattle.cert_text.specs.Text.{fed}
 use Rattle.base_lines.specs.{Lines.Lines, Lines.is_one_line, NamedLaws.whole_append}
-use Rattle.cert_settle_text.specs.declared.node.CaseNode.{CaseNode}
-use Rattle.cert_settle_text.specs.declared.node.CaseNode.TheVariants as node
-use Rattle.cert_settle_text.specs.Trees.{preorder, height, branch_count, Branches}
+use Rattle.judge_cases.specs.declared.node.CaseNode.{CaseNode}
+use Rattle.judge_cases.specs.declared.node.CaseNode.TheVariants as node
+use Rattle.cert_settle_text.specs.Trees.{height, branch_count, Branches}
+use Rattle.judge_cases.specs.Nodes.{preorder}
 use Rattle.cert_settle_text.specs.Grammar.{SettleResult, tree, fails, IsSettleResult, HasOneEach}
 use Rattle.cert_settle_text.specs.Grammar.{deepest, most_branches, Root, whole_over, expected}
 use Rattle.cert_settle_text.specs.Grammar.{Place, fixed, result_over, roots, after_step, Stands}

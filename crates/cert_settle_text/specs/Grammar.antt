@@ -15,9 +15,10 @@ use Rattle.base_lines.specs.{Named.named, Grammar.Grammar, Grammar.IsFixed, Gram
 use Rattle.base_lines.specs.Grammar.{IsText, LeavesText}
 use Rattle.cert_text.specs.Grammar.{AreNumbers, no_words, script_text, end_text}
 use Rattle.cert_text.specs.Grammar.{terminal_names}
-use Rattle.cert_settle_text.specs.declared.node.CaseNode.{CaseNode}
-use Rattle.cert_settle_text.specs.declared.node.CaseNode.TheVariants as node
-use Rattle.cert_settle_text.specs.Trees.{preorder, height, branch_count, Branches}
+use Rattle.judge_cases.specs.declared.node.CaseNode.{CaseNode}
+use Rattle.judge_cases.specs.declared.node.CaseNode.TheVariants as node
+use Rattle.cert_settle_text.specs.Trees.{height, branch_count, Branches}
+use Rattle.judge_cases.specs.Nodes.{preorder}
 
 -- ---- what the text says
 

@@ -4,8 +4,8 @@ use Rattle.judge_split.specs.declared.node.Node.{Node}
 use Rattle.judge_split.specs.declared.node.Node.TheVariants as split
 use Rattle.cert_split_text.specs.Grammar.{SplitResult}
 use Rattle.cert_split_text.specs.Grammar.SplitResult.{tree as split_tree, fails as split_fails}
-use Rattle.cert_settle_text.specs.declared.node.CaseNode.{CaseNode}
-use Rattle.cert_settle_text.specs.declared.node.CaseNode.TheVariants as node
+use Rattle.judge_cases.specs.declared.node.CaseNode.{CaseNode}
+use Rattle.judge_cases.specs.declared.node.CaseNode.TheVariants as node
 use Rattle.cert_settle_text.specs.Grammar.{SettleResult, tree, fails}
 
 -- a node of a tree of splits

@@ -10,10 +10,11 @@ use Rattle.model_timing.specs.{declared.step.Step.Step, Inside.IsStepInside, Tim
 use Rattle.model_cases.specs.CaseTrees.{CaseTree}
 use Rattle.base_lines.specs.{declared.fault.TextFault.TextFault, Grammar.IsTextFault}
 use Rattle.base_lines.specs.Lines.{Goes, BeginsWith}
-use Rattle.cert_settle_text.specs.declared.node.CaseNode.{CaseNode}
+use Rattle.judge_cases.specs.declared.node.CaseNode.{CaseNode}
 use Rattle.cert_settle_text.specs.declared.claim.TreeClaim.{TreeClaim}
 use Rattle.cert_settle_text.specs.declared.claim.TreeClaim.TheVariants as claim
-use Rattle.cert_settle_text.specs.Trees.{preorder, height, branch_count, Branches}
+use Rattle.cert_settle_text.specs.Trees.{height, branch_count, Branches}
+use Rattle.judge_cases.specs.Nodes.{preorder}
 use Rattle.cert_settle_text.specs.Grammar.{SettleResult, tree, fails, Place, Said, says_node}
 use Rattle.cert_settle_text.specs.Grammar.{says_step, Stands, opens, Root, expected, after_node}
 use Rattle.cert_settle_text.specs.Grammar.{result_over, after_step, script_parts, head_text}

@@ -6,8 +6,8 @@ use Rattle.model_line.specs.Parameters.{param_count, terminal_count}
 use Rattle.model_timing.specs.declared.step.Step.{Step}
 use Rattle.cert_text.specs.Text.{fed}
 use Rattle.cert_text.specs.Grammar.{no_words, script_text, end_text, terminal_names}
-use Rattle.cert_settle_text.specs.declared.node.CaseNode.{CaseNode}
-use Rattle.cert_settle_text.specs.declared.node.CaseNode.TheVariants as node
+use Rattle.judge_cases.specs.declared.node.CaseNode.{CaseNode}
+use Rattle.judge_cases.specs.declared.node.CaseNode.TheVariants as node
 use Rattle.cert_settle_text.specs.Grammar.{SettleResult, tree, fails, head_text, tree_text}
 use Rattle.cert_settle_text.specs.Grammar.{node_text, step_text}
 

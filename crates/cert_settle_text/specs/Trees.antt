@@ -1,19 +1,9 @@
--- Trees of splits and cases, node by node.
-use Rattle.std.specs.Prelude.{◌+◌, ◌++◌, ℕ, max, List, [], ◌∷◌}
+-- Trees of splits and cases: how high, how many, and where they can be made.
+use Rattle.std.specs.Prelude.{◌+◌, ℕ, max}
 use Rattle.model_line.specs.declared.line.Line.{Line}
 use Rattle.model_logic.specs.Choice.{Box}
 use Rattle.model_cases.specs.CaseTrees.{CaseTree, Yes, Undecided, Split, Case, CanSplit, HasCases}
 use Rattle.model_cases.specs.CaseTrees.{lower_half, upper_half}
-use Rattle.cert_settle_text.specs.declared.node.CaseNode.{CaseNode}
-use Rattle.cert_settle_text.specs.declared.node.CaseNode.TheVariants as node
-
--- the nodes of a tree in preorder
-abbrev pub preorder : CaseTree → List CaseNode
-preorder Yes = node.Yes ∷ []
-preorder Undecided = node.Undecided ∷ []
-preorder (Split param mid first second) =
-    node.Split param mid ∷ (preorder first ++ preorder second)
-preorder (Case terminal tick off on) = node.Case terminal tick ∷ (preorder off ++ preorder on)
 
 -- how many splits and cases stand above one another, at most
 abbrev pub height : CaseTree → ℕ

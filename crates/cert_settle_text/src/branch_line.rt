@@ -8,15 +8,15 @@ ghost use Rattle.model_line.specs.{declared.line.Line.Line, SetBounds.SameButPar
 ghost use Rattle.model_names.specs.ParamNamesApart.{name_of_param};
 ghost use Rattle.model_cases.specs.CaseTrees.{CanSplit, HasCases};
 ghost use Rattle.judge_split.specs.Parts.{IsPart};
-ghost use Rattle.cert_settle_text.specs.declared.node.CaseNode.{CaseNode};
+ghost use Rattle.judge_cases.specs.declared.node.CaseNode.{CaseNode};
 ghost use Rattle.cert_settle_text.specs.Grammar.{MayStand, node_text, split_line, case_line};
 ghost use Rattle.cert_settle_text.specs.Grammar.{name_of_terminal};
 
 use crate::known::laws_below;
-use crate::node::CaseNode;
 use crate::number::number_after;
 use base_lines::is;
 use cert_text::name_at;
+use judge_cases::CaseNode;
 use judge_split::can_split;
 use model_line::{Line, Name};
 use model_logic::is_terminal_weak;

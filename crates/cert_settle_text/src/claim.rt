@@ -1,6 +1,6 @@
 //! What a text of settled trees says of an obligation.
 
-use crate::node::CaseNode;
+use judge_cases::CaseNode;
 use model_timing::Step;
 use run_signal::Tick;
 

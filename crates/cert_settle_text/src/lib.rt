@@ -7,7 +7,6 @@ mod claim;
 mod ends;
 mod known;
 mod laws;
-mod node;
 mod number;
 mod piece;
 mod print;
@@ -23,6 +22,5 @@ pub use laws::{
     printed_results_are_a_settle_text, settle_results_have_one_text,
     trees_without_cases_have_the_text_of_splits,
 };
-pub use node::CaseNode;
 pub use piece::settle_piece;
 pub use read::read_settle_text;

@@ -8,9 +8,9 @@ ghost use Rattle.cert_settle_text.specs.Grammar.{node_text, step_text};
 ghost use Rattle.cert_settle_text.specs.Text.{nodes_text, steps_text, IsKnown, IsKnownStep};
 
 use crate::branch_line::param_name_at;
-use crate::node::CaseNode;
 use cert_text::{name_at, push_no, push_start};
 use itoa::Buffer;
+use judge_cases::CaseNode;
 use model_line::{Line, Memory, Name};
 use model_timing::Step;
 use run_signal::Tick;

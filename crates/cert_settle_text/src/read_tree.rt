@@ -11,8 +11,8 @@ ghost use Rattle.cert_settle_text.specs.Reading.{GoesOn, IsBelow, IsOver, AreTwo
 
 use crate::branch_line::{Limits, node_in};
 use crate::known::laws_below;
-use crate::node::CaseNode;
 use base_lines::{LineCursor, TextFault};
+use judge_cases::CaseNode;
 use judge_split::{lower_part, upper_part};
 use model_line::Line;
 use std::alloc::Global;

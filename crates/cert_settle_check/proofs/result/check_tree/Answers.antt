@@ -1,7 +1,7 @@
 use Rattle.std.proofs.Common.{[], sym, ◌∙◌}
 use Rattle.std.proofs.lemmas.List.{append-nil}
 use Rattle.std.proofs.lemmas.Result.{err_from_is_err_and}
-use Rattle.cert_settle_text.specs.Trees.{preorder}
+use Rattle.judge_cases.specs.Nodes.{preorder}
 use Rattle.cert_settle_check.specs.CaseParts.{whole_part}
 use Rattle.cert_settle_check.proofs.ResultLaws.{tree_few, whole_fault}
 use Rattle.cert_settle_check.proofs.result.check_tree.Goals as goal

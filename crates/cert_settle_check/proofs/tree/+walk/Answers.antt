@@ -1,9 +1,9 @@
-use Rattle.std.proofs.Common.{◌≡◌, ◌<◌, ◌+◌, ◌++◌, ℕ, List, length, drop, refl, sym, subst, arith}
+use Rattle.std.proofs.Common.{◌≡◌, ◌+◌, ◌++◌, ℕ, List, length, drop, refl, sym, subst, arith}
 use Rattle.std.proofs.lemmas.Result.{err_from_is_err_and, MatchResult-weaker}
 use Rattle.std.specs.Prelude.{slice_index_or}
-use Rattle.cert_settle_text.specs.declared.node.CaseNode.{CaseNode}
-use Rattle.cert_settle_text.specs.declared.node.CaseNode.TheVariants as node
-use Rattle.cert_settle_text.specs.Trees.{preorder}
+use Rattle.judge_cases.specs.declared.node.CaseNode.{CaseNode}
+use Rattle.judge_cases.specs.declared.node.CaseNode.TheVariants as node
+use Rattle.judge_cases.specs.Nodes.{preorder}
 use Rattle.cert_settle_check.specs.declared.fault.ResultFault.{ResultFault}
 use Rattle.cert_settle_check.specs.{declared.tree.Passed.Passed, Walks.IsWalkFault}
 use Rattle.cert_settle_check.proofs.WalkLaws.{root_at, within, two_next, few_leaves, can_stand}

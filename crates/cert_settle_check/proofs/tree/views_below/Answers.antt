@@ -1,5 +1,5 @@
 use Rattle.std.proofs.Common.{true, false, refl, sym, subst}
-use Rattle.cert_settle_text.specs.declared.node.CaseNode.{CaseNode}
+use Rattle.judge_cases.specs.declared.node.CaseNode.{CaseNode}
 use Rattle.cert_settle_check.specs.CaseParts.{lower_of, upper_of, case_of}
 use Rattle.cert_settle_check.specs.Walks.{AreViewsBelow}
 use Rattle.cert_settle_check.proofs.tree.views_below.Goals as goal

@@ -1,6 +1,6 @@
 use Rattle.std.proofs.Common.{List, subst, sym}
 use Rattle.std.specs.List.{All}
-use Rattle.cert_settle_text.specs.declared.node.CaseNode.{CaseNode}
+use Rattle.judge_cases.specs.declared.node.CaseNode.{CaseNode}
 use Rattle.cert_settle_text.specs.Text.{IsKnown}
 use Rattle.cert_settle_text.proofs.PrintLaws.{known_nodes}
 use Rattle.cert_settle_text.proofs.piece.push_result.Goals as goal

@@ -3,8 +3,8 @@ use Rattle.std.proofs.lemmas.Result.{err_from_is_err_and}
 use Rattle.model_logic.specs.Choice.{Box, declared_box}
 use Rattle.base_lines.specs.LineLaws.{goes_one}
 use Rattle.base_lines.specs.{Reading.said_as, ReadLaws.later_fault}
-use Rattle.cert_settle_text.specs.declared.node.CaseNode.{CaseNode}
-use Rattle.cert_settle_text.specs.Trees.{preorder}
+use Rattle.judge_cases.specs.declared.node.CaseNode.{CaseNode}
+use Rattle.judge_cases.specs.Nodes.{preorder}
 use Rattle.cert_settle_text.specs.Grammar.{Stands, opens, result_over, says_node, after_node}
 use Rattle.cert_settle_text.specs.Grammar.{grammar_of, whole_over, most_branches}
 use Rattle.cert_settle_text.proofs.{NodeLaws.same_line, TreeLaws.whole_tree}

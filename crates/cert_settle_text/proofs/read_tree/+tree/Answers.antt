@@ -2,9 +2,9 @@ use Rattle.std.proofs.Common.{ℕ, List, [], ◌∷◌, ◌++◌, map, arith}
 use Rattle.std.proofs.lemmas.Result.{err_from_is_err_and, MatchResult-weaker}
 use Rattle.model_logic.specs.Choice.{declared_box}
 use Rattle.model_cases.specs.CaseTrees.{lower_half, upper_half}
-use Rattle.cert_settle_text.specs.declared.node.CaseNode.TheVariants as node
+use Rattle.judge_cases.specs.declared.node.CaseNode.TheVariants as node
 use Rattle.base_lines.specs.ReadLaws.{later_fault}
-use Rattle.cert_settle_text.specs.Trees.{preorder}
+use Rattle.judge_cases.specs.Nodes.{preorder}
 use Rattle.cert_settle_text.specs.Grammar.{Place, Root, roots, says_node, expected, after_node}
 use Rattle.cert_settle_text.specs.Grammar.{grammar_of}
 use Rattle.cert_settle_text.proofs.TreeLaws.{split_can, case_can, below_fault, whole_tree}
