@@ -19,7 +19,7 @@ const ANALYSES: u32 = 4000;
 pub fn command<'a>(alloc: Global) -> Result<Command<'a>, AllocError> {
     Command::new(alloc, "study")
         .about("A line and its fault scripts: answers and pictures.")
-        .version("0.10.0")
+        .version("0.11.0")
         .subcommand_required(true)
         .arg_required_else_help(true)
         .subcommand(settle(alloc)?)?

@@ -1,0 +1,14 @@
+pub mod Stretches
+pub mod NumberLaws
+pub mod NameLaws
+pub mod LineLaws
+pub mod StandsLaws
+pub mod SaidLaws
+pub mod WholeLaws
+pub mod WrittenLaws
+pub mod PrintLaws
+pub mod NodeLaws
+pub mod TreeLaws
+pub mod TimingLaws
+pub mod StepLaws
+pub mod SplitLaws
