@@ -26,10 +26,7 @@ pub fn sheet(alloc: Global) -> Result<Markup, AllocError>
 fn rules(alloc: Global) -> Result<Vec<u8>, AllocError>
     ensures { IfOk result (λ text. text.items ≡ rules_text) }
 {
-    let mut text = Vec::from_slice(
-        alloc,
-        b"\ntext { font: 12px sans-serif; fill: #1b2733 }\n",
-    )?;
+    let mut text = Vec::from_slice(alloc, b"\ntext { font: 12px sans-serif; fill: #1b2733 }\n")?;
     put_rules(&mut text, &CLASSES)?;
     Ok(text)
 }
