@@ -1,3 +1,4 @@
 pub mod Choices
 pub mod Spans
 pub mod Scripts
+pub mod Sweeps

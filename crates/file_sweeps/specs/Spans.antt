@@ -1,6 +1,6 @@
 -- What is seen of a fault whose times are fixed.
 use Rattle.std.specs.Prelude.{◌+◌, ◌==◌, ◌&&◌, ℕ, Bool, List, [], ◌∷◌, nat_lt, if◌then◌else◌}
-use Rattle.model_line.specs.{declared.script.SeenSpan.SeenSpan, declared.script.What.What}
+use Rattle.model_line.specs.{declared.script.SeenSpan.SeenSpan}
 use Rattle.model_line.specs.contracts.script.WhatPartialEq.TheImpl.{eq-value as what_eq}
 use Rattle.file_study.specs.declared.stage.Shown.{Shown}
 use Rattle.file_study.specs.Faults.{StageValues}
