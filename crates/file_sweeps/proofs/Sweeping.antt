@@ -1,6 +1,7 @@
 -- The choices of a fault and their scripts, one after another.
-use Rattle.std.proofs.Common.{◌≡◌, ◌+◌, ◌-◌, ◌*◌, ◌<◌, ◌++◌, ℕ, suc, List, [], ◌∷◌, sym, ◌∙◌, ap, refl}
-use Rattle.std.proofs.Common.{length, get_or, drop, map, Option, None, Some, append_assoc, arith}
+use Rattle.std.proofs.Common.{◌≡◌, ◌+◌, ◌-◌, ◌*◌, ◌<◌, ◌++◌, ℕ, suc, List, [], ◌∷◌, sym, ◌∙◌}
+use Rattle.std.proofs.Common.{ap, refl, length, get_or, drop, map, Option, None, Some, arith}
+use Rattle.std.proofs.Common.{append_assoc}
 use Rattle.std.proofs.lemmas.List.{drop_more, map_push}
 use Rattle.model_line.specs.declared.script.Script.{Script}
 use Rattle.file_script.specs.Values.{ScriptValues, values_of}

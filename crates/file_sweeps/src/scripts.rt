@@ -1,11 +1,11 @@
 //! The script of one choice of a fault's swept times.
 
-ghost use Rattle.std.specs.Prelude.{◌≡◌, ◌≤◌, ◌+◌, IfOk, [], map, length, sum, IfSome, IfNone, IsTrue};
-ghost use Rattle.std.specs.Prelude.{false};
-ghost use Rattle.model_line.specs.{Fits.Fits, PlainNames.is_plain_name};
+ghost use Rattle.std.specs.Prelude.{◌≡◌, ◌≤◌, ◌+◌, IfOk, IfSome, IfNone, [], false, map};
+ghost use Rattle.std.specs.Prelude.{length, sum};
+ghost use Rattle.model_line.specs.PlainNames.{is_plain_name};
 ghost use Rattle.file_script.specs.Values.{values_of};
 ghost use Rattle.file_study.specs.Faults.{fault_values, stage_values};
-ghost use Rattle.file_sweeps.specs.Choices.{choice_of, choice_values, horizon_for};
+ghost use Rattle.file_sweeps.specs.Choices.{choice_values, horizon_for};
 ghost use Rattle.file_sweeps.specs.{Scripts.deadline_of, Scripts.place_name, Scripts.script_of};
 ghost use Rattle.file_sweeps.specs.Spans.{spans_of};
 
