@@ -1,0 +1,4 @@
+pub mod Choices
+pub mod Spans
+pub mod Scripts
+pub mod Sweeps
