@@ -9,3 +9,4 @@ pub mod LineTables
 pub mod Shows
 pub mod Faults
 pub mod Studies
+pub mod FaultWords

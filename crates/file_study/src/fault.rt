@@ -2,6 +2,7 @@
 
 ghost use Rattle.std.specs.Prelude.{◌≡◌};
 ghost use Rattle.file_study.specs.declared.fault.StudyFault.TheVariants.{Memory};
+ghost use Rattle.file_study.specs.FaultWords.{words_of_time};
 
 use crate::path::Path;
 use file_times::TimeFault;
@@ -39,27 +40,62 @@ pub enum StudyFault {
     Memory,
 }
 
-impl fmt::Display for StudyFault {
-    fn fmt<W: fmt::Write>(&self, f: &mut fmt::Formatter<W>) -> fmt::Result {
+impl StudyFault {
+    ghost use Rattle.file_study.specs.FaultWords.{words_of, place_of};
+
+    /// The place in the study; none of a document that is none, and of want of memory.
+    pub fn place(&self) -> Option<Path>
+        ensures { result ≡ place_of self.now }
+    {
         match self {
-            StudyFault::NotToml => f.write_str("no TOML document"),
-            StudyFault::Unknown(path) => write!(f, "{path}: this key does not belong there"),
-            StudyFault::Missing(path) => write!(f, "{path}: this key is missing"),
-            StudyFault::WrongKind(path) => write!(f, "{path}: a value of another type is needed"),
-            StudyFault::Range(path) => write!(f, "{path}: outside the limits"),
-            StudyFault::BadName(path) => write!(f, "{path}: no such name"),
-            StudyFault::Twice(path) => write!(f, "{path}: this name stands before"),
-            StudyFault::BadTime(path, why) => write!(f, "{path}: {}", time_words(*why)),
-            StudyFault::Swept(path) => write!(f, "{path}: only the times of a fault are swept"),
-            StudyFault::NoInstant(path) => write!(f, "{path}: one time is needed, no interval"),
-            StudyFault::TooMany(path) => write!(f, "{path}: too many values"),
-            StudyFault::Memory => f.write_str("memory ran out"),
+            StudyFault::Unknown(path)
+            | StudyFault::Missing(path)
+            | StudyFault::WrongKind(path)
+            | StudyFault::Range(path)
+            | StudyFault::BadName(path)
+            | StudyFault::Twice(path)
+            | StudyFault::BadTime(path, _)
+            | StudyFault::Swept(path)
+            | StudyFault::NoInstant(path)
+            | StudyFault::TooMany(path) => Some(*path),
+            StudyFault::NotToml | StudyFault::Memory => None,
+        }
+    }
+
+    /// What is wrong there, in a few words.
+    pub fn words(&self) -> &'static str
+        ensures { result.now ≡ words_of self.now }
+    {
+        match self {
+            StudyFault::NotToml => "no TOML document",
+            StudyFault::Unknown(_) => "this key does not belong there",
+            StudyFault::Missing(_) => "this key is missing",
+            StudyFault::WrongKind(_) => "a value of another type is needed",
+            StudyFault::Range(_) => "outside the limits",
+            StudyFault::BadName(_) => "no such name",
+            StudyFault::Twice(_) => "this name stands before",
+            StudyFault::BadTime(_, why) => time_words(*why),
+            StudyFault::Swept(_) => "only the times of a fault are swept",
+            StudyFault::NoInstant(_) => "one time is needed, no interval",
+            StudyFault::TooMany(_) => "too many values",
+            StudyFault::Memory => "memory ran out",
         }
     }
 }
 
+impl fmt::Display for StudyFault {
+    fn fmt<W: fmt::Write>(&self, f: &mut fmt::Formatter<W>) -> fmt::Result {
+        if let Some(place) = self.place() {
+            write!(f, "{place}: ")?;
+        }
+        f.write_str(self.words())
+    }
+}
+
 // What is wrong with the text of a time.
-fn time_words(fault: TimeFault) -> &'static str {
+fn time_words(fault: TimeFault) -> &'static str
+    ensures { result.now ≡ words_of_time fault }
+{
     match fault {
         TimeFault::NoValue(_) => "a tolerance has no time before it",
         TimeFault::NoNumber(_) => "no number, as 8 or 1.25",

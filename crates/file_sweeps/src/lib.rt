@@ -1,16 +1,28 @@
-//! The scripts that a study's fault comes to: one for each choice of its swept times.
+//! The scripts that a study's faults come to, one for each choice of the swept times of each, and
+//! their files, in parts of 64.
 //!
 //! `specs/Choices.antt` says what a choice is, `specs/Spans.antt` what is seen of one,
-//! `specs/Scripts.antt` its script, and `specs/Sweeps.antt` all scripts of a fault.
+//! `specs/Scripts.antt` its script, `specs/Sweeps.antt` all scripts of a fault, `specs/Studies.antt`
+//! those of all faults, and `specs/Parts.antt` their parts.
 #![tactic(auto)]
 
 mod choice;
 mod fault;
+mod group;
+mod needed;
+mod parts;
 mod scripts;
 mod spans;
+mod study;
+mod study_fault;
 mod sweep;
 
 pub use choice::{Choice, choice_at, horizon_for};
 pub use fault::SweepFault;
+pub use group::{Group, groups_of_scripts};
+pub use needed::horizon_of;
+pub use parts::{part_count, part_of, part_text, printed_scripts_are_read_back};
 pub use scripts::{place_name, script};
+pub use study::{StudyScripts, scripts_of_study};
+pub use study_fault::StudySweepFault;
 pub use sweep::{count, scripts_of_fault};

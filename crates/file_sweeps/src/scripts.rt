@@ -1,6 +1,6 @@
 //! The script of one choice of a fault's swept times.
 
-ghost use Rattle.std.specs.Prelude.{◌≡◌, ◌≤◌, ◌+◌, IfOk, IfSome, IfNone, [], false, map};
+ghost use Rattle.std.specs.Prelude.{◌≡◌, ◌≤◌, ◌+◌, IfOk, IfSome, IfNone, [], false, map, true};
 ghost use Rattle.std.specs.Prelude.{length, sum};
 ghost use Rattle.model_line.specs.PlainNames.{is_plain_name};
 ghost use Rattle.file_script.specs.Values.{values_of};
@@ -21,6 +21,7 @@ use std::alloc::Global;
 pub fn place_name(alloc: Global, own: &Name, k: u32) -> Result<Option<Name>, Memory>
     requires { k ≤ 4000000 }
     ensures some { IfOk result (λ o. IfSome o (λ n. n ≡ place_name own.now k)) }
+    ensures plain { IfOk result (λ o. IfSome o (λ n. is_plain_name n ≡ true)) }
     ensures none { IfOk result (λ o. IfNone o (is_plain_name (place_name own.now k) ≡ false)) }
 {
     let mut buffer = Buffer::new();

@@ -1,19 +1,23 @@
 //! All scripts of a fault.
 
-ghost use Rattle.std.specs.Prelude.{◌≡◌, ◌≤◌, ◌*◌, IfOk, IfSome, Some, [], ◌∷◌, map};
+ghost use Rattle.std.specs.Prelude.{◌≡◌, ◌≤◌, ◌*◌, IfErr, IfNone, IfOk, IfSome, OnOk, Some, None};
+ghost use Rattle.std.specs.Prelude.{[], ◌∷◌, false, map, true, vec_len};
 ghost use Rattle.std.specs.List.{All};
 ghost use Rattle.model_line.specs.Fits.{Fits};
+ghost use Rattle.model_line.specs.PlainNames.{is_plain_name};
 ghost use Rattle.file_script.specs.Values.{values_of};
 ghost use Rattle.file_study.specs.Faults.{fault_values};
 ghost use Rattle.file_sweeps.specs.Choices.{choice_of};
+ghost use Rattle.file_sweeps.specs.Refusals.{IsAccepted, IsRefused, RefusesSo, choice_refusal};
 ghost use Rattle.file_sweeps.specs.Scripts.{script_of};
 ghost use Rattle.file_sweeps.specs.Sweeps.{count_of, counted, limited, script_name, scripts_of};
 
 use crate::choice::{choice_at, horizon_for};
 use crate::fault::SweepFault;
+use crate::needed::horizon_of;
 use crate::scripts::{place_name, script};
 use file_study::SweptFault;
-use model_line::{Line, Memory, Name, Script, fits};
+use model_line::{Line, Memory, Name, Script, fits, is_plain};
 use std::alloc::Global;
 
 /// How many choices a fault has, if at most 4,096.
@@ -57,7 +61,7 @@ fn limited(n: u32, values: usize) -> Option<u32>
     }
 }
 
-// The name of the script of choice k.
+// The name of the script of choice k, if it is plain.
 fn script_name(
     alloc: Global,
     fault: &SweptFault,
@@ -65,13 +69,20 @@ fn script_name(
     k: u32,
 ) -> Result<Option<Name>, Memory>
     requires { k ≤ 4096 }
-    ensures { IfOk result (λ o. IfSome o
+    ensures some { IfOk result (λ o. IfSome o
         (λ n. n ≡ script_name (fault_values fault.now) count k)) }
+    ensures plain { IfOk result (λ o. IfSome o (λ n. is_plain_name n ≡ true)) }
+    ensures none { IfOk result (λ o. IfNone o
+        (is_plain_name (script_name (fault_values fault.now) count k) ≡ false)) }
 {
-    if count == 1 {
-        return Ok(Some(fault.name));
+    if count != 1 {
+        return place_name(alloc, &fault.name, k);
     }
-    place_name(alloc, &fault.name, k)
+    if is_plain(fault.name.bytes()) {
+        Ok(Some(fault.name))
+    } else {
+        Ok(None)
+    }
 }
 
 // The script of choice k of a fault, which fits the line.
@@ -87,20 +98,22 @@ fn script_at(
         ≡ script_of (script_name (fault_values fault.now) count k) (fault_values fault.now)
         (choice_of (fault_values fault.now) k)) }
     ensures fits { IfOk result (λ s. Fits line.now s) }
+    ensures accepted { OnOk result
+        (choice_refusal line.now (fault_values fault.now) count k ≡ None) }
+    ensures refused { IfErr result (RefusesSo line.now (fault_values fault.now) count k) }
 {
     let Some(name) = script_name(alloc, fault, count, k)? else {
-        return Err(SweepFault::BadName);
+        return Err(SweepFault::BadName(k));
     };
     let choice = choice_at(alloc, fault, k)?;
-    let needed = horizon_for(&choice);
-    if needed > line.horizon as u128 {
-        return Err(SweepFault::Horizon(needed));
+    if horizon_for(&choice) > line.horizon as u128 {
+        return Err(SweepFault::Horizon(k, horizon_of(fault), line.tick_us));
     }
     let script = script(alloc, name, fault, &choice)?;
     if fits(line, &script) {
         Ok(script)
     } else {
-        Err(SweepFault::NoFit)
+        Err(SweepFault::NoFit(k))
     }
 }
 
@@ -113,6 +126,10 @@ pub fn scripts_of_fault(
     ensures scripts { IfOk result (λ v. scripts_of (fault_values fault.now)
         ≡ Some (map values_of v.items)) }
     ensures fit { IfOk result (λ v. All (Fits line.now) v.items) }
+    ensures count { IfOk result (λ v. count_of (fault_values fault.now) ≡ Some (vec_len v)) }
+    ensures few { IfOk result (λ v. vec_len v ≤ 4096) }
+    ensures accepted { OnOk result (IsAccepted line.now (fault_values fault.now)) }
+    ensures refused { IfErr result (IsRefused line.now (fault_values fault.now)) }
 {
     let Some(count) = count(fault) else {
         return Err(SweepFault::TooMany);

@@ -1,9 +1,9 @@
-use Rattle.std.proofs.Common.{◌≡◌, ◌++◌, ◌-◌, map}
+use Rattle.std.proofs.Common.{◌≡◌, ◌++◌, ◌-◌, ◌<◌, ℕ, None, map, vec_len}
 use Rattle.std.specs.List.{All}
 use Rattle.model_line.specs.Fits.{Fits}
 use Rattle.file_script.specs.Values.{values_of}
 use Rattle.file_study.specs.Faults.{fault_values}
-use Rattle.file_sweeps.specs.Sweeps.{scripts_from}
+use Rattle.file_sweeps.specs.{Refusals.choice_refusal, Sweeps.scripts_from}
 use Rattle.file_sweeps.proofs.sweep.scripts_of_fault.Given as goal
 
 abbrev pub invariant-loop-k : goal.invariant-loop-k
@@ -12,4 +12,6 @@ invariant-loop-k l = record {
       ++ scripts_from (fault_values l.fault) l.count l.k (l.count - l.k)
       ≡ scripts_from (fault_values l.fault) l.count 0 l.count;
   fit : All (Fits l.line) l.scripts.items;
+  len : vec_len l.scripts ≡ l.k;
+  each : (j : ℕ) → j < l.k → choice_refusal l.line (fault_values l.fault) l.count j ≡ None;
 }
