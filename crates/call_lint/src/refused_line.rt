@@ -1,0 +1,61 @@
+//! The text of a line file that is refused.
+
+use crate::rules::{key_rule, line_rule};
+use crate::spots::{push_mistake, toml_place};
+use crate::text::{Spot, push_all, push_whole_place};
+use file_line::LineFault;
+use file_mistakes::{Wanted, place_of_key};
+use model_line::Memory;
+use std::alloc::Global;
+
+/// The text: the line that `pilot` writes, and one of the place, `error: FILE:LINE:COLUMN: ..`.
+pub fn refused_line(
+    alloc: Global,
+    bytes: &[u8],
+    name: &str,
+    fault: &LineFault,
+) -> Result<Vec<u8>, Memory> {
+    let message = format!(in alloc; "refused line {fault}\n")?;
+    let mut text = message.into_bytes();
+    push_fault(alloc, &mut text, bytes, name, fault)?;
+    push_all(&mut text, &[b"\n"])?;
+    Ok(text)
+}
+
+fn push_fault(
+    alloc: Global,
+    text: &mut Vec<u8>,
+    bytes: &[u8],
+    name: &str,
+    fault: &LineFault,
+) -> Result<(), Memory> {
+    let path = path_of(fault);
+    let at = match fault {
+        LineFault::NotToml => toml_place(alloc, bytes)?,
+        _ => place_of_key(alloc, bytes, path)?,
+    };
+    let spot = Spot { name, bytes, at };
+    push_all(text, &[b"error: "])?;
+    push_whole_place(text, spot)?;
+    push_all(
+        text,
+        &[
+            line_rule(fault).as_bytes(),
+            key_rule(fault, path).as_bytes(),
+        ],
+    )?;
+    push_mistake(text, Wanted::Document, spot)
+}
+
+// The path that a fault tells.
+fn path_of(fault: &LineFault) -> &[u8] {
+    match fault {
+        LineFault::Unknown(path)
+        | LineFault::Missing(path)
+        | LineFault::WrongKind(path)
+        | LineFault::Range(path)
+        | LineFault::BadName(path)
+        | LineFault::Twice(path) => path.bytes(),
+        LineFault::NotToml | LineFault::Channels(_, _) | LineFault::Memory => b"",
+    }
+}

@@ -1,0 +1,86 @@
+//! The text of a study that is refused.
+
+ghost use Rattle.std.specs.Prelude.{◌≤◌, IfOk, length};
+
+use crate::rules::{study_rule, sweep_rule};
+use crate::spots::{push_mistake, toml_place};
+use crate::text::{Spot, push_all, push_number, push_whole_place};
+use file_mistakes::{Wanted, place_of_key};
+use file_study::StudyFault;
+use file_sweeps::StudySweepFault;
+use model_line::Memory;
+use std::alloc::Global;
+
+/// The text of a study that is no study: a line of the fault, and one of its place.
+pub fn refused_study(
+    alloc: Global,
+    bytes: &[u8],
+    name: &str,
+    fault: &StudyFault,
+) -> Result<Vec<u8>, Memory> {
+    let message = format!(in alloc; "refused study {fault}\n")?;
+    let mut text = message.into_bytes();
+    let at = match fault {
+        StudyFault::NotToml => toml_place(alloc, bytes)?,
+        _ => place_of_key(alloc, bytes, path_of(fault))?,
+    };
+    let spot = Spot { name, bytes, at };
+    push_all(&mut text, &[b"error: "])?;
+    push_whole_place(&mut text, spot)?;
+    push_all(&mut text, &[study_rule(fault).as_bytes()])?;
+    push_mistake(&mut text, Wanted::Document, spot)?;
+    push_all(&mut text, &[b"\n"])?;
+    Ok(text)
+}
+
+/// The text of a study of which a fault comes to no scripts.
+pub fn refused_sweep(
+    alloc: Global,
+    bytes: &[u8],
+    name: &str,
+    fault: &StudySweepFault,
+) -> Result<Vec<u8>, Memory> {
+    let message = format!(in alloc; "refused study {fault}\n")?;
+    let mut text = message.into_bytes();
+    let at = place_of_fault(alloc, bytes, number_of(fault))?;
+    push_all(&mut text, &[b"error: "])?;
+    push_whole_place(&mut text, Spot { name, bytes, at })?;
+    push_all(&mut text, &[sweep_rule(fault).as_bytes(), b"\n"])?;
+    Ok(text)
+}
+
+/// Where the name of this fault stands.
+pub fn place_of_fault(alloc: Global, bytes: &[u8], i: usize) -> Result<usize, Memory>
+    ensures { IfOk result (λ at. at ≤ length bytes.now) }
+{
+    let mut path = Vec::new(alloc);
+    push_all(&mut path, &[b"fault["])?;
+    push_number(&mut path, i)?;
+    push_all(&mut path, &[b"].name"])?;
+    place_of_key(alloc, bytes, &path)
+}
+
+// The fault that has no scripts.
+fn number_of(fault: &StudySweepFault) -> usize {
+    match fault {
+        StudySweepFault::Refused(i, _, _) | StudySweepFault::Twice(i, _, _) => *i,
+        StudySweepFault::Memory => 0,
+    }
+}
+
+// The path that a fault tells; a place of the line that the study comes to is none of the study.
+fn path_of(fault: &StudyFault) -> &[u8] {
+    match fault {
+        StudyFault::Unknown(path)
+        | StudyFault::Missing(path)
+        | StudyFault::WrongKind(path)
+        | StudyFault::Range(path)
+        | StudyFault::BadName(path)
+        | StudyFault::Twice(path)
+        | StudyFault::BadTime(path, _)
+        | StudyFault::Swept(path)
+        | StudyFault::NoInstant(path)
+        | StudyFault::TooMany(path) => path.bytes(),
+        StudyFault::NotToml | StudyFault::Memory => b"",
+    }
+}

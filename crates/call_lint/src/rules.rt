@@ -1,0 +1,137 @@
+//! The rules that a refused file breaks, in words.
+
+use file_line::LineFault;
+use file_script::ScriptFault;
+use file_study::StudyFault;
+use file_sweeps::{StudySweepFault, SweepFault};
+
+/// The rule of a line file that is broken.
+pub fn line_rule(fault: &LineFault) -> &'static str {
+    match fault {
+        LineFault::NotToml => "this is no TOML",
+        LineFault::Unknown(_) => "this key does not belong here",
+        LineFault::Missing(_) => "a key is missing",
+        LineFault::WrongKind(_) => "this key has values of another type",
+        LineFault::Range(_) => "this is outside the limits",
+        LineFault::BadName(_) => "this is no name that may stand here",
+        LineFault::Twice(_) => "this stands before already",
+        LineFault::Channels(_, _) => "each ordered pair of terminals needs a channel",
+        LineFault::Memory => "memory ran out",
+    }
+}
+
+/// What the key at this path may have.
+pub fn key_rule(fault: &LineFault, path: &[u8]) -> &'static str {
+    match fault {
+        LineFault::Unknown(_) if ends_with(path, b"zone1_trip") => {
+            ": it stands at the top of the file, before the first `[[`"
+        }
+        LineFault::WrongKind(_) | LineFault::Range(_) | LineFault::Missing(_) => value_rule(path),
+        LineFault::BadName(_) if ends_with(path, b".name") => {
+            ": 1 to 16 letters A to Z, a to z, digits, `_` and `-`, and no blank"
+        }
+        LineFault::BadName(_) => ": the name of a terminal, and `to` is another than `from`",
+        _ => "",
+    }
+}
+
+fn ends_with(path: &[u8], end: &[u8]) -> bool {
+    path.ends_with(end)
+}
+
+// What a key has.
+fn value_rule(path: &[u8]) -> &'static str {
+    match path {
+        b"version" => ": version = 1 has times in ticks, version = 2 in microseconds",
+        b"tick_us" => ": tick_us is the number of microseconds in a tick, 1 to 1000000",
+        b"horizon" => ": horizon is a number of ticks, 1 to 4000; longer ticks reach further",
+        b"scheme" => {
+            ": scheme is \"pott\", \"putt\", \"dcb\", \"dcub\" or \"dtt\", in small letters"
+        }
+        b"terminal" => ": two or three tables [[terminal]]",
+        b"channel" => ": a table [[channel]] for each ordered pair of terminals",
+        _ => time_rule(path),
+    }
+}
+
+fn time_rule(path: &[u8]) -> &'static str {
+    if ends_with(path, b"zone1_trip") {
+        ": true or false"
+    } else if ends_with(path, b".delay") {
+        ": a delay is [least, greatest], each at least one tick and at most 4000; version = 2 has microseconds, so that 3 ms are 3000"
+    } else if ends_with(path, b".name") || ends_with(path, b".from") || ends_with(path, b".to") {
+        ": the name of a terminal, in quotes"
+    } else {
+        ": a time is a whole number or [least, greatest], at most 4000 ticks; version = 1 has ticks and version = 2 microseconds, without a point, a unit or quotes"
+    }
+}
+
+/// The rule of a file of scripts that is broken.
+pub fn script_rule(fault: &ScriptFault) -> &'static str {
+    match fault {
+        ScriptFault::Header => "the first record is `script,item,place,from,to`",
+        ScriptFault::Fields(_) => "a record has five fields, so four commas",
+        ScriptFault::Item(_) => "an item is internal, external, z1, z2, rv, uv, cur or loss",
+        ScriptFault::BadPlace(_) => {
+            "the place is the name of a terminal of the line, of a loss that of a channel, as A>B, and of a head nothing; capital and small letters differ"
+        }
+        ScriptFault::Ticks(_) => {
+            "a span has two whole numbers of ticks, the first below the second, within the horizon; an internal fault has its deadline, a number below the horizon, in the field behind the place and nothing behind it"
+        }
+        ScriptFault::Order(_) =>
+            "a record stands behind the head of its script, which has the same name",
+        ScriptFault::BadName(_) => {
+            "a name has 1 to 16 letters A to Z, a to z, digits, `_` and `-`, and a script one of its own"
+        }
+        ScriptFault::TooMany => "at most 64 scripts, of at most 200 records each",
+        ScriptFault::Empty => "records of scripts follow the header",
+        ScriptFault::Memory => "memory ran out",
+    }
+}
+
+/// The rule of a study that is broken.
+pub fn study_rule(fault: &StudyFault) -> &'static str {
+    match fault {
+        StudyFault::NotToml => "this is no TOML",
+        StudyFault::Unknown(_) => "this key does not belong here",
+        StudyFault::Missing(_) => "a key is missing",
+        StudyFault::WrongKind(_) => "a time is text with a unit, as \"8 .. 16 ms\"",
+        StudyFault::Range(_) => "a time is at most 4000 ticks, and a delay at least one",
+        StudyFault::BadName(_) =>
+            "names have 1 to 16 letters, digits, `_` and `-`; elements are z1, z2, rv, uv and cur",
+        StudyFault::Twice(_) => "this stands before already",
+        StudyFault::BadTime(_, _) =>
+            "a time is \"8 ms\", \"250 us\", \"1.25 cycles\", \"8 .. 16 ms\" or \"30 ms +- 2 ms\", with a decimal point",
+        StudyFault::Swept(_) => "only the times of a fault are swept",
+        StudyFault::NoInstant(_) => "one time stands here, and no interval",
+        StudyFault::TooMany(_) => "a sweep has at most 1000 values, and a fault 4096 scripts",
+        StudyFault::Memory => "memory ran out",
+    }
+}
+
+/// The rule that the scripts of a study break.
+pub fn sweep_rule(fault: &StudySweepFault) -> &'static str {
+    match fault {
+        StudySweepFault::Refused(_, _, why) => fault_rule(why),
+        StudySweepFault::Twice(_, _, _) => {
+            "a script of this fault has the name of one before it: a swept fault has scripts NAME-1, NAME-2 and so on"
+        }
+        StudySweepFault::Memory => "memory ran out",
+    }
+}
+
+fn fault_rule(fault: &SweepFault) -> &'static str {
+    match fault {
+        SweepFault::TooMany => "the swept times of a fault come to at most 4096 scripts",
+        SweepFault::BadName(_) => {
+            "a swept fault has scripts NAME-1, NAME-2 and so on, each of at most 16 characters"
+        }
+        SweepFault::Horizon(_, _, _) => {
+            "its stages and its deadline have to end within the horizon: write a longer horizon"
+        }
+        SweepFault::NoFit(_) => {
+            "a script has at most 200 spans, of elements and channels that the line has"
+        }
+        SweepFault::Memory => "memory ran out",
+    }
+}

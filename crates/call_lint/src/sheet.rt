@@ -1,0 +1,24 @@
+//! The files in which something is found.
+
+/// The names of a line file and of a file of scripts, as they are to be told.
+#[derive(Clone, Copy)]
+pub struct Names<'a> {
+    pub line: &'a str,
+    pub scripts: &'a str,
+}
+
+/// The files: a line and its scripts, or a study, with the number of the fault that each script is
+/// of.
+#[derive(Clone, Copy)]
+pub enum Sheet<'a> {
+    Files {
+        line: &'a [u8],
+        scripts: &'a [u8],
+        names: Names<'a>,
+    },
+    Study {
+        bytes: &'a [u8],
+        name: &'a str,
+        faults: &'a [usize],
+    },
+}

@@ -1,0 +1,3 @@
+pub mod Mistakes
+pub mod Places
+pub mod Slips

@@ -1,0 +1,95 @@
+//! Paths of tables and keys, as bytes.
+
+ghost use Rattle.std.specs.Prelude.{◌≡◌, ◌≤◌, IfOk, length};
+
+use base_memory::Memory;
+use itoa::Buffer;
+use std::alloc::Global;
+
+/// The same bytes.
+pub fn copied(alloc: Global, bytes: &[u8]) -> Result<Vec<u8>, Memory>
+    ensures { IfOk result (λ v. v.items ≡ bytes.now) }
+{
+    Ok(Vec::from_slice(alloc, bytes)?)
+}
+
+/// The bytes without the blanks before them.
+pub fn trimmed(line: &[u8]) -> &[u8]
+    ensures { length result.now ≤ length line.now }
+{
+    match line.iter().position(|b| !is_blank(*b)) {
+        Some(start) => &line[start..],
+        None => &[],
+    }
+}
+
+fn is_blank(b: u8) -> bool {
+    b == b' ' || b == b'\t'
+}
+
+/// The name that stands before a byte, without brackets, blanks and quotes.
+pub fn plain(alloc: Global, line: &[u8], end: u8) -> Result<Vec<u8>, Memory> {
+    let mut name = Vec::new(alloc);
+    for b in line {
+        if *b == end {
+            return Ok(name);
+        }
+        if !is_blank(*b) && *b != b'[' && *b != b'"' && *b != b'\'' {
+            name.push(*b)?;
+        }
+    }
+    Ok(name)
+}
+
+/// Whether a line has a key: an equals sign, and no `#` before its first byte.
+pub fn has_key(line: &[u8]) -> bool {
+    !line.starts_with(b"#") && line.contains(&b'=')
+}
+
+/// All keys of a name but the last.
+pub fn parent(name: &[u8]) -> &[u8] {
+    match name.iter().rposition(|b| *b == b'.') {
+        Some(dot) => &name[..dot],
+        None => &[],
+    }
+}
+
+/// The last key of a name.
+pub fn last_key(name: &[u8]) -> &[u8] {
+    match name.rsplit(|b| *b == b'.').next() {
+        Some(key) => key,
+        None => name,
+    }
+}
+
+/// Appends a key of the table at the path; no key is none.
+pub fn push_key(path: &mut Vec<u8>, key: &[u8]) -> Result<(), Memory> {
+    if key.is_empty() {
+        return Ok(());
+    }
+    if !path.is_empty() {
+        path.push(b'.')?;
+    }
+    path.extend_from_slice(key)?;
+    Ok(())
+}
+
+/// Appends the number of a table of an array.
+pub fn push_index(path: &mut Vec<u8>, number: u32) -> Result<(), Memory> {
+    let mut digits = Buffer::new();
+    path.push(b'[')?;
+    path.extend_from_slice(digits.format(number).as_bytes())?;
+    path.push(b']')?;
+    Ok(())
+}
+
+/// Whether one path is the other, or a table in which the other stands.
+pub fn leads_to(own: &[u8], path: &[u8]) -> bool {
+    if !path.starts_with(own) {
+        return false;
+    }
+    match path.get(own.len()) {
+        None => true,
+        Some(b) => *b == b'.' || *b == b'[',
+    }
+}

@@ -1,0 +1,5 @@
+pub mod ElementTests
+pub mod Listed
+pub mod ScriptTests
+pub mod TimeTests
+pub mod Warnings

@@ -1,0 +1,35 @@
+//! All warnings.
+
+ghost use Rattle.std.specs.Prelude.{◌≡◌, IfOk};
+ghost use Rattle.std.specs.List.{All};
+ghost use Rattle.judge_lint.specs.{TimeTests.AreEnds, Warnings.warnings as warnings_of};
+
+use crate::elements::push_terminals;
+use crate::scripts::push_scripts;
+use crate::times::push_times;
+use crate::warning::Warning;
+use file_times::Interval;
+use model_line::{Line, Memory, Script};
+use std::alloc::Global;
+
+/// The warnings of a line and its scripts: of the times by parameter, of the terminals, of the
+/// scripts, in the order in which `Warning` names them.
+///
+/// `exact` has the ends of each parameter in microseconds, as they are written. Where it has none
+/// for a parameter, nothing is said of what was rounded to ticks.
+#[tactic(auto, unfolding(crate::specs::Warnings::warnings))]
+pub fn warnings(
+    alloc: Global,
+    line: &Line,
+    exact: &[Interval],
+    scripts: &[Script],
+) -> Result<Vec<Warning>, Memory>
+    requires { All AreEnds exact.now }
+    ensures { IfOk result (λ v. v.items ≡ warnings_of line.now exact.now scripts.now) }
+{
+    let mut list = Vec::new(alloc);
+    push_times(&mut list, line, exact)?;
+    push_terminals(&mut list, line, scripts)?;
+    push_scripts(&mut list, line, scripts)?;
+    Ok(list)
+}
