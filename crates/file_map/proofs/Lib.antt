@@ -1,0 +1,4 @@
+pub mod Named
+pub mod Ends
+pub mod Counts
+pub mod Steps

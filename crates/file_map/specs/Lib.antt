@@ -1,0 +1,10 @@
+pub mod PathBytes
+pub mod Paths
+pub mod Reading
+pub mod Keys
+pub mod Instants
+pub mod Sources
+pub mod Signals
+pub mod Recorders
+pub mod Maps
+pub mod DataNames

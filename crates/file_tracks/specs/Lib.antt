@@ -1,0 +1,5 @@
+pub mod Below
+pub mod Channels
+pub mod Tracks
+pub mod Levels
+pub mod Told
