@@ -4,7 +4,7 @@
 
 pub mod certify;
 pub mod check;
-mod checked;
+pub mod checked;
 mod done;
 mod found;
 mod laws;
@@ -21,7 +21,7 @@ pub mod run_bench;
 mod said;
 pub mod split;
 mod study;
-mod text;
+pub mod text;
 
 pub use done::Done;
 pub use laws::{each_certificate_has_one_text, each_play_has_one_text};

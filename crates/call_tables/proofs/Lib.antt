@@ -1,1 +1,5 @@
 pub mod Counted
+pub mod RowLaws
+pub mod WrittenLaws
+pub mod NamedLaws
+pub mod TextLaws

@@ -2,8 +2,7 @@
 
 ghost use Rattle.std.specs.Prelude.{◌<◌, ◌*◌, length, IfOk};
 ghost use Rattle.model_line.specs.Parameters.{terminal_count};
-ghost use Rattle.call_commands.specs.Study.{IsStudy};
-ghost use Rattle.call_tables.specs.Rows.{AreRows, IsRow};
+ghost use Rattle.call_tables.specs.Rows.{AreRows, IsAnyStudy, IsRow};
 
 use crate::row::Row;
 use call_commands::Study;
@@ -14,7 +13,7 @@ use std::alloc::Global;
 /// What is known of each obligation: of each script in order, at its terminals in line order, each
 /// after at most so many analyses.
 pub fn settle_all(alloc: Global, study: &Study, analyses: u32) -> Result<Vec<Row>, Memory>
-    requires { IsStudy study.now }
+    requires { IsAnyStudy study.now }
     ensures { IfOk result (λ rows.
         AreRows study.now.line study.now.scripts.items rows.items) }
 {
@@ -29,7 +28,7 @@ pub fn settle_all(alloc: Global, study: &Study, analyses: u32) -> Result<Vec<Row
 
 // What is known of the obligation of this number.
 fn settle_one(alloc: Global, study: &Study, i: usize, analyses: u32) -> Result<Row, Memory>
-    requires study { IsStudy study.now }
+    requires study { IsAnyStudy study.now }
     requires exists { i < length study.now.scripts.items * terminal_count study.now.line }
     ensures { IfOk result (λ row. IsRow study.now.line study.now.scripts.items i row) }
 {

@@ -2,9 +2,9 @@
 
 ghost use Rattle.std.specs.Prelude.{◌≡◌, IfOk};
 ghost use Rattle.std.specs.List.{list_any};
-ghost use Rattle.call_commands.specs.{Answers.Says, Answers.status_by, Study.IsStudy};
+ghost use Rattle.call_commands.specs.{Answers.Says, Answers.status_by};
 ghost use Rattle.call_tables.specs.Table.{is_failing as row_fails, is_open as row_is_open};
-ghost use Rattle.call_tables.specs.Settled.{settle_answer};
+ghost use Rattle.call_tables.specs.{Rows.AreRows, Rows.IsAnyStudy, Settled.settle_answer, Settled.IsTableOf};
 
 use crate::row::Row;
 use crate::rows::settle_all;
@@ -17,14 +17,24 @@ use std::alloc::Global;
 /// The table of all obligations, each settled with at most so many analyses: status 1 where one
 /// fails, else 2 where one is open, else 0.
 pub fn settle_table(alloc: Global, study: &Study, analyses: u32) -> Result<Said, Memory>
-    requires { IsStudy study.now }
+    requires { IsAnyStudy study.now }
     ensures { IfOk result
         (Says (settle_answer study.now.line study.now.scripts.items)) }
 {
     let rows = settle_all(alloc, study, analyses)?;
-    let text = table_text(alloc, study, rows.as_slice())?;
+    table_of(alloc, study, rows.as_slice())
+}
+
+/// The table of these rows, one for each obligation: status 1 where one fails, else 2 where one is
+/// open, else 0.
+pub fn table_of(alloc: Global, study: &Study, rows: &[Row]) -> Result<Said, Memory>
+    requires { AreRows study.now.line study.now.scripts.items rows.now }
+    ensures { IfOk result (λ said. IsTableOf study.now.line study.now.scripts.items rows.now
+        said.status said.text.items) }
+{
+    let text = table_text(alloc, study, rows)?;
     Ok(Said {
-        status: status_of(rows.as_slice()),
+        status: status_of(rows),
         text,
     })
 }

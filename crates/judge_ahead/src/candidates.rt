@@ -3,6 +3,7 @@
 ghost use Rattle.std.specs.Prelude.{◌<◌};
 ghost use Rattle.model_line.specs.Parameters.{channel_count};
 
+use crate::bits::first;
 use crate::moving::{Leaning, push_moves};
 use crate::outlook::Outlook64;
 use crate::run::look_ahead;
@@ -48,7 +49,7 @@ enum Way {
 /// in the middle, or at the least; the delays in five ways. The first that does not meet the
 /// obligation, as far as this looks.
 pub fn failing(alloc: Global, scene: &Scene, ends: &[Within]) -> Result<Option<Timing>, Memory> {
-    let mut views = Views64::new(alloc, scene.line, ends)?;
+    let mut views = Views64::new(alloc, scene.line, ends, first(CANDIDATES))?;
     for lane in 0..CANDIDATES {
         put_candidate(scene, ends, lane, &mut views);
     }
@@ -103,13 +104,22 @@ fn timing_of(
     }
     let mut timing = Timing::new(values);
     for channel in 0..scene.line.channels.len() {
-        push_channel(scene, ends, outlook, lane, channel as u32, &mut timing)?;
+        push_channel(
+            alloc,
+            scene,
+            ends,
+            outlook,
+            lane,
+            channel as u32,
+            &mut timing,
+        )?;
     }
     Ok(timing)
 }
 
 // Adds the steps of a channel's delay, if it moves.
 fn push_channel(
+    alloc: Global,
     scene: &Scene,
     ends: &[Within],
     outlook: &Outlook64,
@@ -131,7 +141,9 @@ fn push_channel(
         greatest: ends_at(ends, param).greatest(),
         on: may,
     };
-    push_moves(scene, outlook, lane, leaning, timing)
+    let horizon = scene.line.horizon;
+    let keys = outlook.keys(alloc, leaning.from, lane, horizon)?;
+    push_moves(&keys, horizon, leaning, timing)
 }
 
 // The number of a parameter in a candidate.

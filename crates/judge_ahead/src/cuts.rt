@@ -2,7 +2,7 @@
 
 ghost use Rattle.std.specs.Prelude.{◌<◌, ◌+◌};
 
-use crate::bits::{ALL, only};
+use crate::bits::{ALL, first, only};
 use crate::case::{Assumed, Case};
 use crate::outlook::{Outlook64, Score};
 use crate::run::look_ahead;
@@ -47,7 +47,7 @@ pub fn side_of(
     ends: &[Within],
     assumed: &[Assumed],
 ) -> Result<Side, Memory> {
-    let views = views_of(alloc, scene, ends, assumed)?;
+    let views = views_of(alloc, scene, ends, assumed, 1)?;
     let outlook = look_ahead(alloc, scene, &views)?;
     side_in(alloc, scene, &outlook, 0)
 }
@@ -121,33 +121,35 @@ fn look_at_block(
     ends: &[Within],
     assumed: &[Assumed],
     cuts: &[Cut],
-    first: usize,
+    from: usize,
 ) -> Result<Outlook64, Memory> {
-    let mut views = views_of(alloc, scene, ends, assumed)?;
+    let count = cuts.len().saturating_sub(from).min(BLOCK) as u32;
+    let mut views = views_of(alloc, scene, ends, assumed, 2 * count)?;
     for place in 0..BLOCK {
-        if let Some(cut) = cuts.get(first.saturating_add(place)) {
-            put_cut(ends, *cut, 2 * place as u32, &mut views);
+        if let Some(cut) = cuts.get(from.saturating_add(place)) {
+            put_cut(ends, *cut, 2 * place as u32, &mut views)?;
         }
     }
     look_ahead(alloc, scene, &views)
 }
 
-// The view in all lanes.
+// The view in so many lanes.
 fn views_of(
     alloc: Global,
     scene: &Scene,
     ends: &[Within],
     assumed: &[Assumed],
+    lanes: u32,
 ) -> Result<Views64, Memory> {
-    let mut views = Views64::new(alloc, scene.line, ends)?;
+    let mut views = Views64::new(alloc, scene.line, ends, first(lanes))?;
     for one in assumed {
-        views.assume(ALL, *one);
+        views.assume(ALL, *one)?;
     }
     Ok(views)
 }
 
 // Puts the sides of a cut into a lane and the next.
-fn put_cut(ends: &[Within], cut: Cut, lane: u32, views: &mut Views64)
+fn put_cut(ends: &[Within], cut: Cut, lane: u32, views: &mut Views64) -> Result<(), Memory>
     requires { lane + 1 < 64 }
 {
     match cut {
@@ -158,10 +160,11 @@ fn put_cut(ends: &[Within], cut: Cut, lane: u32, views: &mut Views64)
             );
             views.set(lane, param, least, mid);
             views.set(lane + 1, param, mid.saturating_add(1), greatest);
+            Ok(())
         }
         Cut::Case(case) => {
-            views.assume(only(lane), Assumed { case, level: false });
-            views.assume(only(lane + 1), Assumed { case, level: true });
+            views.assume(only(lane), Assumed { case, level: false })?;
+            views.assume(only(lane + 1), Assumed { case, level: true })
         }
     }
 }

@@ -11,13 +11,17 @@ mod case;
 mod channel;
 mod counter;
 mod cuts;
+mod marks;
 mod moving;
 mod outlook;
 mod reads;
 mod run;
 mod scene;
+mod since;
 mod timer;
+mod turns;
 mod views;
+mod wiring;
 
 pub use candidates::{CANDIDATES, failing};
 pub use case::{Assumed, Case};

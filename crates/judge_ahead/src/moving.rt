@@ -1,9 +1,5 @@
-//! The steps of a delay, from the lane in which it moved.
+//! The steps of a delay, from the key that it delayed.
 
-ghost use Rattle.std.specs.Prelude.{◌<◌};
-
-use crate::outlook::Outlook64;
-use crate::scene::Scene;
 use model_line::Memory;
 use model_timing::{Step, Timing, has_step};
 use run_signal::Tick;
@@ -18,19 +14,17 @@ pub struct Leaning {
     pub on: bool,
 }
 
-/// Adds the steps of such a delay to a timing. It changes where it must.
+/// Adds the steps of such a delay to a timing, where the sender's key is this at each tick. It
+/// changes where it must.
 pub fn push_moves(
-    scene: &Scene,
-    outlook: &Outlook64,
-    lane: u32,
+    keys: &[bool],
+    horizon: u32,
     leaning: Leaning,
     timing: &mut Timing,
-) -> Result<(), Memory>
-    requires { lane < 64 }
-{
+) -> Result<(), Memory> {
     let mut last = leaning.least;
-    for t in 1..scene.line.horizon {
-        let delay = delay_at(outlook, lane, leaning, t, last);
+    for t in 1..horizon {
+        let delay = delay_at(keys, leaning, t, last);
         if delay != last {
             push_step(timing, leaning.param, t, delay)?;
             last = delay;
@@ -40,14 +34,12 @@ pub fn push_moves(
 }
 
 // The delay at a tick: the last one if it serves, else the least that does, else the last one.
-fn delay_at(outlook: &Outlook64, lane: u32, leaning: Leaning, t: u32, last: u32) -> u32
-    requires { lane < 64 }
-{
-    if is_as_asked(outlook, lane, leaning, t, last) {
+fn delay_at(keys: &[bool], leaning: Leaning, t: u32, last: u32) -> u32 {
+    if is_as_asked(keys, leaning, t, last) {
         return last;
     }
     for delay in leaning.least..leaning.greatest.saturating_add(1) {
-        if is_as_asked(outlook, lane, leaning, t, delay) {
+        if is_as_asked(keys, leaning, t, delay) {
             return delay;
         }
     }
@@ -55,11 +47,13 @@ fn delay_at(outlook: &Outlook64, lane: u32, leaning: Leaning, t: u32, last: u32)
 }
 
 // Whether what arrives after a delay is as the delay leans.
-fn is_as_asked(outlook: &Outlook64, lane: u32, leaning: Leaning, t: u32, delay: u32) -> bool
-    requires { lane < 64 }
-{
-    let arrives = delay <= t && outlook.keys(leaning.from, lane, t - delay);
+fn is_as_asked(keys: &[bool], leaning: Leaning, t: u32, delay: u32) -> bool {
+    let arrives = delay <= t && is_on(keys, t - delay);
     arrives == leaning.on
+}
+
+fn is_on(keys: &[bool], t: u32) -> bool {
+    keys.get(t as usize).copied().unwrap_or(false)
 }
 
 fn push_step(timing: &mut Timing, param: u32, from: u32, delay: u32) -> Result<(), Memory> {

@@ -2,13 +2,13 @@
 
 ghost use Rattle.std.specs.Prelude.{◌<◌};
 
-use crate::bits::{holds, lowest, only, rest, word};
+use crate::bits::{holds, lowest, only, rest};
 use crate::case::Case;
 use crate::counter::Counter64;
 use crate::run::Run64;
 use crate::scene::Scene;
+use crate::since::{Since, by_tick, push_since};
 use model_line::{Kind, Memory};
-use net_gates::GateId;
 use std::alloc::Global;
 
 /// How far a view is from meeting the obligation: for an external fault at how many ticks what sets
@@ -52,11 +52,11 @@ pub struct Outlook64 {
     excluded: u64,
     set: Counter64,
     unknown: Counter64,
-    /// Of each terminal the lanes in which it is not known whether it wants an echo, by tick; an
-    /// empty list where no case is to be made of it.
-    wanted: Vec<Vec<u64>>,
-    /// Of each terminal the lanes in which it must key, by tick.
-    keys: Vec<Vec<u64>>,
+    /// Of each terminal the lanes in which it is not known whether it wants an echo; an empty list
+    /// where no case is to be made of it.
+    wanted: Vec<Vec<Since>>,
+    /// Of each terminal the lanes in which it must key.
+    keys: Vec<Vec<Since>>,
 }
 
 impl Outlook64 {
@@ -82,24 +82,24 @@ impl Outlook64 {
         })
     }
 
-    /// Notes what a run has at a tick.
-    pub fn note(&mut self, scene: &Scene, run: &Run64, t: u32) -> Result<(), Memory>
+    /// Notes what a run has at a tick and keeps for so many ticks.
+    pub fn note(&mut self, scene: &Scene, run: &Run64, t: u32, ticks: u32) -> Result<(), Memory>
         requires { t < 4000 }
     {
-        let counts = t < scene.counted();
+        let counted = scene.counted().saturating_sub(t).min(ticks);
         if let Some(trip) = scene.net.trip_gates().get(scene.terminal as usize) {
             let pair = run.pair(*trip);
-            self.note_trip(t, pair.must);
-            self.may |= if counts { pair.may } else { 0 };
+            self.note_trip(t, pair.must & run.lanes());
+            self.may |= if counted > 0 { pair.may } else { 0 };
         }
         if let Some(set) = scene.set() {
-            self.set.add(run.pair(set).may);
+            let mut on = Counter64::new();
+            on.add(run.pair(set).may);
+            self.set.add_times(&on, ticks);
         }
-        if counts {
-            self.note_unknown(scene, run);
-        }
-        self.note_wanted(scene, run)?;
-        self.note_keys(scene, run)
+        self.unknown.add_times(run.unknown(), counted);
+        self.note_wanted(scene, run, t)?;
+        self.note_keys(scene, run, t)
     }
 
     // The lanes that must trip for the first time.
@@ -115,32 +115,23 @@ impl Outlook64 {
         }
     }
 
-    // Counts the pairs that are not known.
-    fn note_unknown(&mut self, scene: &Scene, run: &Run64) {
-        for i in 0..scene.net.len() {
-            if scene.reads.gate(GateId(i)).is_read() {
-                self.unknown.add(run.pair(GateId(i)).unknown());
-            }
-        }
-    }
-
-    fn note_wanted(&mut self, scene: &Scene, run: &Run64) -> Result<(), Memory> {
+    fn note_wanted(&mut self, scene: &Scene, run: &Run64, t: u32) -> Result<(), Memory> {
         let wanted = scene.wanted();
         for terminal in 0..wanted.len() {
             if let Some(gate) = wanted[terminal] {
-                if let Some(by_tick) = self.wanted.get_mut(terminal) {
-                    by_tick.push(run.pair(gate).unknown())?;
+                if let Some(list) = self.wanted.get_mut(terminal) {
+                    push_since(list, t, run.pair(gate).unknown())?;
                 }
             }
         }
         Ok(())
     }
 
-    fn note_keys(&mut self, scene: &Scene, run: &Run64) -> Result<(), Memory> {
+    fn note_keys(&mut self, scene: &Scene, run: &Run64, t: u32) -> Result<(), Memory> {
         for terminal in 0..scene.net.key_gates().len() {
             let key = scene.net.key_gates()[terminal];
-            if let Some(by_tick) = self.keys.get_mut(terminal) {
-                by_tick.push(run.pair(key).must)?;
+            if let Some(list) = self.keys.get_mut(terminal) {
+                push_since(list, t, run.pair(key).must)?;
             }
         }
         Ok(())
@@ -195,24 +186,27 @@ impl Outlook64 {
     {
         let mut cases = Vec::new(alloc);
         for terminal in 0..scene.line.terminals.len() {
-            if let Some(by_tick) = self.wanted.get(terminal) {
+            if let Some(list) = self.wanted.get(terminal) {
                 let horizon = scene.line.horizon;
-                push_cases(&mut cases, by_tick, horizon, terminal as u32, only(lane))?;
+                push_cases(&mut cases, list, horizon, terminal as u32, only(lane))?;
             }
         }
         Ok(cases)
     }
 
-    /// Whether a terminal must key in a lane at a tick.
-    pub fn keys(&self, terminal: u32, lane: u32, t: u32) -> bool
+    /// Whether a terminal must key in a lane, at each tick of a run.
+    pub fn keys(
+        &self,
+        alloc: Global,
+        terminal: u32,
+        lane: u32,
+        horizon: u32,
+    ) -> Result<Vec<bool>, Memory>
         requires { lane < 64 }
     {
         match self.keys.get(terminal as usize) {
-            Some(by_tick) => match by_tick.get(t as usize) {
-                Some(lanes) => holds(*lanes, lane),
-                None => false,
-            },
-            None => false,
+            Some(list) => by_tick(alloc, list, lane, horizon),
+            None => Ok(Vec::new(alloc)),
         }
     }
 }
@@ -220,23 +214,43 @@ impl Outlook64 {
 // The ends of the first stretches of a lane, through a run of so many ticks.
 fn push_cases(
     cases: &mut Vec<Case>,
-    by_tick: &[u64],
+    list: &[Since],
     horizon: u32,
     terminal: u32,
     lane: u64,
 ) -> Result<(), Memory> {
     let mut found = 0u32;
-    let mut within = false;
-    for tick in 0..horizon {
-        let is = word(by_tick, tick as usize) & lane != 0;
-        let more = word(by_tick, tick as usize + 1) & lane != 0;
-        if is && found < STRETCHES && !(within && more) {
-            cases.push(Case { terminal, tick })?;
+    let mut begun: Option<u32> = None;
+    for since in list {
+        let is = since.lanes & lane != 0;
+        match begun {
+            Some(first) if !is => {
+                push_ends(cases, terminal, first, since.tick)?;
+                found = found.saturating_add(1);
+                begun = None;
+            }
+            None if is => begun = Some(since.tick),
+            _ => {}
         }
-        if is && !more {
-            found = found.saturating_add(1);
+        if found == STRETCHES {
+            return Ok(());
         }
-        within = is;
+    }
+    match begun {
+        Some(first) => push_ends(cases, terminal, first, horizon),
+        None => Ok(()),
+    }
+}
+
+// The first tick of a stretch, and its last, if that is another one.
+fn push_ends(cases: &mut Vec<Case>, terminal: u32, tick: u32, end: u32) -> Result<(), Memory> {
+    cases.push(Case { terminal, tick })?;
+    let last = end.saturating_sub(1);
+    if tick < last {
+        cases.push(Case {
+            terminal,
+            tick: last,
+        })?;
     }
     Ok(())
 }

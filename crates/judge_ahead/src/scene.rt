@@ -3,7 +3,9 @@
 ghost use Rattle.std.specs.Prelude.{◌≡◌, IfOk};
 
 use crate::reads::Reads;
-use model_line::{Kind, Line, Memory, Script, loss, seen};
+use crate::turns::{Turn, turns_of};
+use crate::wiring::Wiring;
+use model_line::{Kind, Line, Memory, Script};
 use net_gates::{Gate, GateId, Net};
 use std::alloc::Global;
 
@@ -16,8 +18,10 @@ pub struct Scene<'a> {
     pub terminal: u32,
     /// On which rails the obligation reads what.
     pub reads: Reads,
-    /// What the script shows of each gate, by tick; an empty list for a gate that is computed.
-    shown: Vec<Vec<bool>>,
+    /// Who reads whom.
+    pub wiring: Wiring,
+    /// Where what the script shows turns, by tick.
+    pub turns: Vec<Turn>,
     /// Of each terminal the gate of the echo that it wants, where it is read on both rails.
     wanted: Vec<Option<GateId>>,
     /// What sets the terminal's trip.
@@ -39,7 +43,8 @@ impl<'a> Scene<'a> {
         ensures terminal { IfOk result (λ s. s.terminal ≡ terminal) }
     {
         let reads = Reads::new(alloc, line, net, script.kind, terminal)?;
-        let shown = shown_gates(alloc, line, net, script)?;
+        let wiring = Wiring::new(alloc, line, net)?;
+        let turns = turns_of(alloc, line, net, script)?;
         let mut wanted = Vec::new(alloc);
         for key in net.key_gates() {
             let want = wanted_gate(net, *key);
@@ -52,18 +57,11 @@ impl<'a> Scene<'a> {
             script,
             terminal,
             reads,
-            shown,
+            wiring,
+            turns,
             wanted,
             set,
         })
-    }
-
-    /// What the script shows of a gate at a tick.
-    pub fn is_shown(&self, gate: u32, t: u32) -> bool {
-        match self.shown.get(gate as usize) {
-            Some(by_tick) => by_tick.get(t as usize).copied().unwrap_or(false),
-            None => false,
-        }
     }
 
     /// The gates of the echoes that are wanted, one for each terminal.
@@ -83,38 +81,6 @@ impl<'a> Scene<'a> {
             Kind::External => self.line.horizon,
         }
     }
-}
-
-// What the script shows of each gate.
-fn shown_gates(
-    alloc: Global,
-    line: &Line,
-    net: &Net,
-    script: &Script,
-) -> Result<Vec<Vec<bool>>, Memory> {
-    let mut all = Vec::new(alloc);
-    for i in 0..net.len() {
-        let gate = *net.gate(GateId(i));
-        all.push(shown_gate(alloc, line, script, gate)?)?;
-    }
-    Ok(all)
-}
-
-fn shown_gate(
-    alloc: Global,
-    line: &Line,
-    script: &Script,
-    gate: Gate,
-) -> Result<Vec<bool>, Memory> {
-    let mut by_tick = Vec::new(alloc);
-    for t in 0..line.horizon {
-        match gate {
-            Gate::Seen(place) => by_tick.push(seen(script, place, t))?,
-            Gate::Loss(channel) => by_tick.push(loss(script, channel, t))?,
-            _ => return Ok(by_tick),
-        }
-    }
-    Ok(by_tick)
 }
 
 // What the echo of a key starts from: of `ahead or (wanted and still)` the gate of `wanted`.

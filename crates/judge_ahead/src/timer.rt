@@ -2,23 +2,13 @@
 
 ghost use Rattle.std.specs.Prelude.{◌<◌, ◌≤◌};
 
-use crate::bits::{holds, lowest, only, rest, word};
-use model_line::Memory;
-use std::alloc::Global;
+use crate::bits::{holds, lowest, only, rest};
 
 /// The pickup and the dropout of a timer in each of 64 lanes, in ticks.
 #[derive(Clone, Copy)]
 pub struct Times64 {
     pub pickup: [u16; 64],
     pub dropout: [u16; 64],
-}
-
-impl Times64 {
-    /// At once in each lane.
-    pub const AT_ONCE: Times64 = Times64 {
-        pickup: [0; 64],
-        dropout: [0; 64],
-    };
 }
 
 // no tick
@@ -33,38 +23,72 @@ pub struct Timer64 {
     start: [u16; 64],
     /// The last tick at which it was on by its input.
     last: [u16; 64],
+    /// When each lane is due: then it answers otherwise, if its input stays.
+    next: [u16; 64],
+    /// The least of these.
+    due: u16,
     input: u64,
     output: u64,
-    /// The lanes that are due at each tick.
-    due: Vec<u64>,
 }
 
 impl Timer64 {
-    /// A timer before the first tick, whose input was off; for a run of so many ticks.
-    pub fn new(alloc: Global, horizon: u32, times: Times64) -> Result<Timer64, Memory> {
-        let due = vec![in alloc; 0u64; horizon as usize]?;
-        Ok(Timer64 {
+    /// A timer before the first tick, whose input was off.
+    pub fn new(times: Times64) -> Timer64 {
+        Timer64 {
             times,
             start: [NEVER; 64],
             last: [NEVER; 64],
+            next: [NEVER; 64],
+            due: NEVER,
             input: 0,
             output: 0,
-            due,
-        })
+        }
     }
 
-    /// What it is at a tick, after all ticks before, with this input.
-    pub fn feed(&mut self, t: u32, input: u64) -> u64
+    /// The next tick at which some lane is due; past each run where none is.
+    pub fn due(&self) -> u32 {
+        self.due as u32
+    }
+
+    /// What it is at a tick in these lanes, with this input, after all ticks before at which its
+    /// input changed or a lane was due.
+    pub fn feed(&mut self, t: u32, input: u64, lanes: u64) -> u64
         requires { t < 4000 }
     {
-        let mut touched = (input ^ self.input) | word(&self.due, t as usize);
+        let mut touched = (input ^ self.input) & lanes;
+        if self.due as u32 <= t {
+            touched |= self.lanes_due(t);
+        }
+        if touched == 0 {
+            return self.output;
+        }
         self.input = input;
         'lanes: while touched != 0 {
             let lane = lowest(touched);
             touched = rest(touched);
             self.look(t, lane, holds(input, lane));
         }
+        self.due = self.least_due();
         self.output
+    }
+
+    // The lanes that are due at a tick.
+    fn lanes_due(&self, t: u32) -> u64 {
+        let mut lanes = 0;
+        for lane in 0..64 {
+            if self.next[lane] as u32 <= t {
+                lanes |= only(lane as u32);
+            }
+        }
+        lanes
+    }
+
+    fn least_due(&self) -> u16 {
+        let mut least = NEVER;
+        for lane in 0..64 {
+            least = least.min(self.next[lane]);
+        }
+        least
     }
 
     // Takes a tick in one lane.
@@ -72,6 +96,7 @@ impl Timer64 {
         requires tick { t < 4000 }
         requires lane { lane < 64 }
     {
+        self.next[lane as usize] = NEVER;
         let held = self.is_held(t, lane, on);
         let last = self.last[lane as usize];
         let until = last as u32 + self.times.dropout[lane as usize] as u32;
@@ -109,12 +134,11 @@ impl Timer64 {
         false
     }
 
-    // Looks at a lane again at a tick, if it is one of the run.
+    // Looks at a lane again at a tick, or sooner.
     fn remind(&mut self, t: u32, lane: u32)
         requires { lane < 64 }
     {
-        if let Some(lanes) = self.due.get_mut(t as usize) {
-            *lanes |= only(lane);
-        }
+        let next = self.next[lane as usize] as u32;
+        self.next[lane as usize] = t.min(next) as u16;
     }
 }

@@ -5,6 +5,7 @@ ghost use Rattle.std.specs.Prelude.{◌<◌};
 use crate::bits::word;
 use crate::case::Assumed;
 use crate::channel::Window64;
+use crate::marks::Marks;
 use crate::timer::Times64;
 use model_line::{Line, Memory};
 use model_logic::Time;
@@ -18,16 +19,22 @@ pub struct Views64 {
     least: Vec<[u16; 64]>,
     greatest: Vec<[u16; 64]>,
     windows: Vec<Window64>,
+    /// The lanes that are views; the others stand still.
+    lanes: u64,
     /// Terminal after terminal the lanes in which it is assumed not to want an echo, by tick. Then
-    /// those in which it is assumed to want one.
+    /// those in which it is assumed to want one. Empty lists while nothing is assumed.
     off: Vec<u64>,
     on: Vec<u64>,
+    /// The ticks at which something is assumed, and those after them.
+    marks: Marks,
+    terminals: usize,
     horizon: u32,
 }
 
 impl Views64 {
-    /// These intervals of a line's parameters in each lane, its delays moving, nothing assumed.
-    pub fn new(alloc: Global, line: &Line, ends: &[Within]) -> Result<Views64, Memory> {
+    /// These intervals of a line's parameters in each of these lanes, its delays moving, nothing
+    /// assumed.
+    pub fn new(alloc: Global, line: &Line, ends: &[Within], lanes: u64) -> Result<Views64, Memory> {
         let mut least = Vec::new(alloc);
         let mut greatest = Vec::new(alloc);
         for one in ends {
@@ -39,15 +46,15 @@ impl Views64 {
             let delay = ends_at(ends, line.delay_of(channel as u32));
             windows.push(window(delay.least(), delay.greatest()))?;
         }
-        let all = line.terminals.len() * line.horizon as usize;
-        let off = vec![in alloc; 0u64; all]?;
-        let on = vec![in alloc; 0u64; all]?;
         Ok(Views64 {
             least,
             greatest,
             windows,
-            off,
-            on,
+            lanes,
+            off: Vec::new(alloc),
+            on: Vec::new(alloc),
+            marks: Marks::new(alloc, line.horizon)?,
+            terminals: line.terminals.len(),
             horizon: line.horizon,
         })
     }
@@ -91,7 +98,12 @@ impl Views64 {
     }
 
     /// Assumes a case in these lanes.
-    pub fn assume(&mut self, lanes: u64, assumed: Assumed) {
+    pub fn assume(&mut self, lanes: u64, assumed: Assumed) -> Result<(), Memory> {
+        let all = self.terminals.saturating_mul(self.horizon as usize);
+        self.off.resize(all, 0)?;
+        self.on.resize(all, 0)?;
+        self.marks.put(assumed.case.tick);
+        self.marks.put(assumed.case.tick.saturating_add(1));
         let place = self.place(assumed.case.terminal as usize, assumed.case.tick);
         if assumed.level {
             if let Some(on) = self.on.get_mut(place) {
@@ -100,6 +112,22 @@ impl Views64 {
         } else if let Some(off) = self.off.get_mut(place) {
             *off |= lanes;
         }
+        Ok(())
+    }
+
+    /// Whether something is assumed of a terminal at a tick, in some lane.
+    pub fn is_assumed(&self, terminal: usize, t: u32) -> bool {
+        self.assumed_off(terminal, t) | self.assumed_on(terminal, t) != 0
+    }
+
+    /// The lanes that are views.
+    pub fn lanes(&self) -> u64 {
+        self.lanes
+    }
+
+    /// The ticks at which something is assumed, and those after them.
+    pub fn marks(&self) -> &Marks {
+        &self.marks
     }
 
     /// The lanes in which a terminal is assumed not to want an echo at a tick.

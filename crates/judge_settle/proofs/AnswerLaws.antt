@@ -1,5 +1,5 @@
 -- Answers from what a search finds.
-use Rattle.std.proofs.Common.{◌≡◌, ◌<◌, ℕ, Bool, true, false, List, [], sym, ◌∙◌, refl}
+use Rattle.std.proofs.Common.{◌≡◌, ◌<◌, ◌≤◌, ℕ, Bool, true, false, List, [], sym, ◌∙◌, refl, arith}
 use Rattle.std.proofs.lemmas.List.Elements.{All-nil}
 use Rattle.std.specs.Prelude.{IsTrue}
 use Rattle.model_line.specs.{declared.line.Line.Line, declared.script.Script.Script}
@@ -11,8 +11,22 @@ use Rattle.model_cases.specs.CaseTrees.{CaseTree, are_yes, AreSound}
 use Rattle.model_cases.specs.Laws.{SoundTreesMeet}
 use Rattle.model_polarity.specs.{Laws.EveryChoiceMeets, Schemes.IsOneRailedBy}
 use Rattle.judge_settle.specs.declared.grown.Grown.{Grown}
-use Rattle.judge_settle.specs.Trees.{IsGrown}
+use Rattle.cert_settle_text.specs.Grammar.{AreTree}
+use Rattle.judge_settle.specs.Trees.{IsGrown, Size, size_of_text}
+use Rattle.judge_settle.proofs.TreeLaws.{branches_of}
 use Rattle.judge_settle.specs.Answers.{IsHeldTree, IsOpenTree}
+
+-- a tree that grew to at most the size of one in a text can stand there
+grown_written : (line : Line) (script : Script) (k : ℕ) (size : Size) (g : Grown)
+    → size.depth ≤ size_of_text.depth → size.cuts ≤ size_of_text.cuts
+    → IsGrown line script k size (declared_box line) [] g → AreTree line g.nodes.items
+grown_written line script k size g deep many grown = record {
+  tree = grown.tree;
+  are = grown.nodes;
+  branches = branches_of line script k (declared_box line) [] grown.tree grown.sound;
+  low = omega (arith, grown.small.low);
+  few = omega (arith, grown.small.few);
+}
 
 module _ (meet : SoundTreesMeet) (line : Line) (script : Script) (k : ℕ)
     (early : script.deadline < line.horizon) (later : LeastFromOne line (declared_box line))
@@ -23,9 +37,11 @@ module _ (meet : SoundTreesMeet) (line : Line) (script : Script) (k : ℕ)
       meet line script k (declared_box line) [] tree early later there sound all choice h inside is
       (All-nil (Agrees line script choice h))
 
-  pub held_answer : (g : Grown) → g.yes ≡ true
-      → IsGrown line script k (declared_box line) [] g → IsHeldTree line script k g.nodes.items
-  held_answer g all grown =
+  pub held_answer : (size : Size) (g : Grown) → g.yes ≡ true
+      → size.depth ≤ size_of_text.depth → size.cuts ≤ size_of_text.cuts
+      → IsGrown line script k size (declared_box line) [] g
+      → IsHeldTree line script k g.nodes.items
+  held_answer size g all deep many grown =
       let are : IsTrue (are_yes grown.tree) = sym grown.yes ∙ all in
       record {
         tree = grown.tree;
@@ -33,15 +49,18 @@ module _ (meet : SoundTreesMeet) (line : Line) (script : Script) (k : ℕ)
         sound = grown.sound;
         yes = are;
         meets = every_choice grown.tree grown.sound are;
+        written = grown_written line script k size g deep many grown;
       }
 
-pub open_answer : (line : Line) (script : Script) (k : ℕ) (g : Grown) → g.yes ≡ false
-    → IsGrown line script k (declared_box line) [] g → ¬ (IsOneRailedBy line.scheme line)
+pub open_answer : (line : Line) (script : Script) (k : ℕ) (size : Size) (g : Grown)
+    → g.yes ≡ false → size.depth ≤ size_of_text.depth → size.cuts ≤ size_of_text.cuts
+    → IsGrown line script k size (declared_box line) [] g → ¬ (IsOneRailedBy line.scheme line)
     → IsOpenTree line script k g.nodes.items
-open_answer line script k g off grown mixed = record {
+open_answer line script k size g off deep many grown mixed = record {
   tree = grown.tree;
   are = grown.nodes;
   sound = grown.sound;
   undecided = sym grown.yes ∙ off;
   mixed = mixed;
+  written = grown_written line script k size g deep many grown;
 }

@@ -1,10 +1,12 @@
 -- Trees from their leaves and their sides.
-use Rattle.std.proofs.Common.{◌≡◌, ◌∷◌, ◌++◌, [], ℕ, Bool, true, false, List, refl, ◌∙◌, ap, subst, sym}
+use Rattle.std.proofs.Common.{◌≡◌, ◌<◌, ◌+◌, ◌∷◌, ◌++◌, [], ℕ, Bool, true, false, List, refl, ◌∙◌, ap}
+use Rattle.std.proofs.Common.{subst, sym, arith}
 use Rattle.std.specs.Prelude.{◌&&◌, Decides}
 use Rattle.model_line.specs.{declared.line.Line.Line, declared.script.Script.Script}
 use Rattle.model_logic.specs.Choice.{Box}
 use Rattle.model_cases.specs.Assumed.{Assumption}
-use Rattle.model_cases.specs.CaseTrees.{Yes, Undecided, Split, Case, are_yes, IsShownUnder}
+use Rattle.model_cases.specs.CaseTrees.{CaseTree, Yes, Undecided, Split, Case, are_yes}
+use Rattle.model_cases.specs.CaseTrees.{IsShownUnder, AreSound}
 use Rattle.model_cases.specs.CaseTrees.{lower_half, upper_half, with_case}
 use Rattle.judge_ahead.specs.declared.cuts.Cut.{Cut}
 use Rattle.judge_ahead.specs.declared.cuts.Cut.TheVariants as cut
@@ -13,11 +15,12 @@ use Rattle.judge_cases.specs.Views.{Views, IsView, view_box}
 use Rattle.judge_cases.specs.declared.node.CaseNode.{CaseNode}
 use Rattle.judge_cases.specs.declared.node.CaseNode.TheVariants as node
 use Rattle.judge_cases.specs.declared.view.View.{View}
+use Rattle.cert_settle_text.specs.Trees.{Branches}
 use Rattle.judge_settle.specs.declared.grown.Grown.{Grown}
 use Rattle.judge_settle.specs.declared.sides.Branch.{Branch}
 use Rattle.judge_settle.specs.Joined.{node_of, leaf_of, joined}
 use Rattle.judge_settle.specs.Sides.{AreSides, AreOrdered}
-use Rattle.judge_settle.specs.Trees.{IsGrownOver}
+use Rattle.judge_settle.specs.Trees.{IsGrownOver, Size, IsWithin}
 use Rattle.judge_settle.proofs.ViewLaws.{own_view}
 
 either_way : (a b : Bool) → (a && b) ≡ (b && a)
@@ -26,35 +29,74 @@ either_way true false = refl
 either_way false true = refl
 either_way false false = refl
 
+-- each split and each pair of cases of a sound tree can be made
+pub branches_of : (line : Line) (script : Script) (k : ℕ) (box : Box) (assumed : List Assumption)
+    (tree : CaseTree) → AreSound line script k box assumed tree → Branches line box tree
+branches_of line script k box assumed Yes sound = tt
+branches_of line script k box assumed Undecided sound = tt
+branches_of line script k box assumed (Split param mid first second) sound = (
+  sound.0,
+  (
+    branches_of line script k (lower_half box param mid) assumed first sound.1.0,
+    branches_of line script k (upper_half box param mid) assumed second sound.1.1,
+  ),
+)
+branches_of line script k box assumed (Case terminal tick off on) sound = (
+  sound.0,
+  (
+    branches_of line script k box (with_case assumed terminal tick false) off sound.1.0,
+    branches_of line script k box (with_case assumed terminal tick true) on sound.1.1,
+  ),
+)
+
+-- a tree of this size has room for two of these sizes below its root
+pub record HasRoomFor (size one other : Size) : Type 0 where
+  pub first : one.depth < size.depth
+  pub second : other.depth < size.depth
+  pub many : one.cuts + other.cuts < size.cuts
+
+room_turned : (size one other : Size) → HasRoomFor size one other → HasRoomFor size other one
+room_turned size one other room =
+    record { first = room.second; second = room.first; many = omega arith }
+
+no_cuts : (size : Size) → IsWithin size Undecided
+no_cuts size = record { low = omega arith; few = omega arith }
+
+no_cuts_yes : (size : Size) → IsWithin size Yes
+no_cuts_yes size = record { low = omega arith; few = omega arith }
+
 module _ (line : Line) (script : Script) (k : ℕ) (view : View) where
-  pub leaf_undecided : (g : Grown) → g.nodes.items ≡ node.Undecided ∷ [] → g.yes ≡ false
-      → IsGrownOver line script k view g
-  leaf_undecided g is told box assumed v = record {
+  pub leaf_undecided : (size : Size) (g : Grown) → g.nodes.items ≡ node.Undecided ∷ []
+      → g.yes ≡ false → IsGrownOver line script k size view g
+  leaf_undecided size g is told box assumed v = record {
     tree = Undecided;
     nodes = is;
     yes = told;
     sound = tt;
+    small = no_cuts size;
   }
 
   -- a leaf that is yes where the obligation is shown over the view
-  pub leaf_shown : (g : Grown) (b : Bool) → g.nodes.items ≡ leaf_of b ∷ [] → g.yes ≡ b
-      → ((box : Box) (assumed : List Assumption) → Views line box assumed view
-      → Decides b (IsShownUnder line script k box assumed)) → IsGrownOver line script k view g
-  leaf_shown g true is told shown box assumed v = record {
+  pub leaf_shown : (size : Size) (g : Grown) (b : Bool) → g.nodes.items ≡ leaf_of b ∷ []
+      → g.yes ≡ b → ((box : Box) (assumed : List Assumption) → Views line box assumed view
+      → Decides b (IsShownUnder line script k box assumed)) → IsGrownOver line script k size view g
+  leaf_shown size g true is told shown box assumed v = record {
     tree = Yes;
     nodes = is;
     yes = told;
     sound = (shown box assumed v).0 refl;
+    small = no_cuts_yes size;
   }
-  leaf_shown g false is told shown box assumed v = leaf_undecided g is told box assumed v
+  leaf_shown size g false is told shown box assumed v = leaf_undecided size g is told box assumed v
 
   -- the trees of both sides behind their cut
-  sides_joined : (cut : Cut) (first second : View) (g a b : Grown)
-      → g.nodes.items ≡ node_of cut ∷ (a.nodes.items ++ b.nodes.items)
+  sides_joined : (size s t : Size) → HasRoomFor size s t → (cut : Cut) (first second : View)
+      (g a b : Grown) → g.nodes.items ≡ node_of cut ∷ (a.nodes.items ++ b.nodes.items)
       → g.yes ≡ (a.yes && b.yes) → AreSides line view cut first second
-      → IsGrownOver line script k first a → IsGrownOver line script k second b
-      → IsGrownOver line script k view g
-  sides_joined (cut.Split param mid) first second g a b is told sides below above box assumed v =
+      → IsGrownOver line script k s first a → IsGrownOver line script k t second b
+      → IsGrownOver line script k size view g
+  sides_joined size s t room (cut.Split param mid) first second g a b is told sides below above box
+      assumed v =
       let one = below (lower_half box param mid) assumed (sides.lower box assumed v) in
       let other = above (upper_half box param mid) assumed (sides.upper box assumed v) in
       record {
@@ -66,8 +108,10 @@ module _ (line : Line) (script : Script) (k : ℕ) (view : View) where
         yes = told ∙ ap (λ (x : Bool). x && b.yes) one.yes
             ∙ ap (λ (y : Bool). are_yes one.tree && y) other.yes;
         sound = (sides.can box assumed v, (one.sound, other.sound));
+        small = record { low = omega arith; few = omega arith };
       }
-  sides_joined (cut.Case case) first second g a b is told sides below above box assumed v =
+  sides_joined size s t room (cut.Case case) first second g a b is told sides below above box
+      assumed v =
       let terminal : ℕ = case.terminal in
       let tick : ℕ = case.tick in
       let one = below box (with_case assumed terminal tick false) (sides.off box assumed v) in
@@ -81,25 +125,29 @@ module _ (line : Line) (script : Script) (k : ℕ) (view : View) where
         yes = told ∙ ap (λ (x : Bool). x && b.yes) one.yes
             ∙ ap (λ (y : Bool). are_yes one.tree && y) other.yes;
         sound = (sides.can, (one.sound, other.sound));
+        small = record { low = omega arith; few = omega arith };
       }
 
   -- in whichever order the sides were searched
-  pub ordered_joined : (cut : Cut) (first second one other : Branch) (turned : Bool)
-      (g a b : Grown)
+  pub ordered_joined : (size s t : Size) → HasRoomFor size s t → (cut : Cut)
+      (first second one other : Branch) (turned : Bool) (g a b : Grown)
       → g.nodes.items ≡ node_of cut ∷ joined turned a.nodes.items b.nodes.items
       → g.yes ≡ (a.yes && b.yes) → AreSides line view cut first.view second.view
-      → AreOrdered first second turned one other → IsGrownOver line script k one.view a
-      → IsGrownOver line script k other.view b → IsGrownOver line script k view g
-  ordered_joined cut first second one other true g a b is told sides ordered worse better =
+      → AreOrdered first second turned one other → IsGrownOver line script k s one.view a
+      → IsGrownOver line script k t other.view b → IsGrownOver line script k size view g
+  ordered_joined size s t room cut first second one other true g a b is told sides ordered worse
+      better =
       let same = ordered.turned_round refl in
-      sides_joined cut first.view second.view g b a is (told ∙ either_way a.yes b.yes) sides
-      (subst (λ (x : Branch). IsGrownOver line script k x.view b) same.1 better)
-      (subst (λ (x : Branch). IsGrownOver line script k x.view a) same.0 worse)
-  ordered_joined cut first second one other false g a b is told sides ordered worse better =
+      sides_joined size t s (room_turned size s t room) cut first.view second.view g b a is
+      (told ∙ either_way a.yes b.yes) sides
+      (subst (λ (x : Branch). IsGrownOver line script k t x.view b) same.1 better)
+      (subst (λ (x : Branch). IsGrownOver line script k s x.view a) same.0 worse)
+  ordered_joined size s t room cut first second one other false g a b is told sides ordered worse
+      better =
       let same = ordered.kept refl in
-      sides_joined cut first.view second.view g a b is told sides
-      (subst (λ (x : Branch). IsGrownOver line script k x.view a) same.0 worse)
-      (subst (λ (x : Branch). IsGrownOver line script k x.view b) same.1 better)
+      sides_joined size s t room cut first.view second.view g a b is told sides
+      (subst (λ (x : Branch). IsGrownOver line script k s x.view a) same.0 worse)
+      (subst (λ (x : Branch). IsGrownOver line script k t x.view b) same.1 better)
 
 -- the sides of a view are views
 pub sides_are_views : (line : Line) (view : View) (cut : Cut) (first second : View)

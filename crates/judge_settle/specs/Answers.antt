@@ -6,12 +6,13 @@ use Rattle.model_cases.specs.CaseTrees.{CaseTree, are_yes, AreSound}
 use Rattle.model_polarity.specs.{Laws.EveryChoiceMeets, Schemes.IsOneRailedBy}
 use Rattle.judge_cases.specs.Nodes.{preorder}
 use Rattle.judge_cases.specs.declared.node.CaseNode.{CaseNode}
+use Rattle.cert_settle_text.specs.Grammar.{AreTree}
 use Rattle.judge_settle.specs.Trees.{IsFailing}
 use Rattle.judge_settle.specs.declared.answer.Answer.{Answer}
 use Rattle.judge_settle.specs.declared.answer.Answer.TheVariants.{Held, Fails, Open}
 
 -- the nodes are those of a tree that is sound over the declared box, and each leaf is yes; so every
--- history of every choice inside meets the obligation
+-- history of every choice inside meets the obligation; a text of settled trees can have this tree
 pub record IsHeldTree (line : Line) (script : Script) (k : ℕ) (nodes : List CaseNode)
     : Type 0 where
   pub tree : CaseTree
@@ -19,9 +20,10 @@ pub record IsHeldTree (line : Line) (script : Script) (k : ℕ) (nodes : List Ca
   pub sound : AreSound line script k (declared_box line) [] tree
   pub yes : IsTrue (are_yes tree)
   pub meets : EveryChoiceMeets line script k
+  pub written : AreTree line nodes
 
--- they are those of a sound tree of which some leaf is undecided; a line whose scheme makes every
--- trip one-railed has no such answer
+-- they are those of a sound tree of which some leaf is undecided, which a text of settled trees can
+-- have; a line whose scheme makes every trip one-railed has no such answer
 pub record IsOpenTree (line : Line) (script : Script) (k : ℕ) (nodes : List CaseNode)
     : Type 0 where
   pub tree : CaseTree
@@ -29,6 +31,7 @@ pub record IsOpenTree (line : Line) (script : Script) (k : ℕ) (nodes : List Ca
   pub sound : AreSound line script k (declared_box line) [] tree
   pub undecided : IsFalse (are_yes tree)
   pub mixed : ¬ (IsOneRailedBy line.scheme line)
+  pub written : AreTree line nodes
 
 -- the answer to the obligation of a script at terminal k
 abbrev pub IsAnswer : Line → Script → ℕ → Answer → Type 0

@@ -1,8 +1,9 @@
 //! What is done with one view.
 
-ghost use Rattle.std.specs.Prelude.{IfOk, IfSome};
+ghost use Rattle.std.specs.Prelude.{◌≡◌, ◌-◌, IfOk, IfSome, MatchOption};
 ghost use Rattle.judge_cases.specs.Views.{IsView};
-ghost use Rattle.judge_settle.specs.{Trees.IsGrownOver, Trees.IsFailing, Scenes.CanSearch};
+ghost use Rattle.judge_settle.specs.{Trees.IsGrownOver, Trees.IsFailing, Trees.Size};
+ghost use Rattle.judge_settle.specs.Scenes.{CanSearch};
 
 use crate::budget::Budget;
 use crate::grown::{Grown, leaf};
@@ -24,7 +25,9 @@ pub fn side_in(
     scene: &Scene,
     view: &View,
     budget: &mut Budget,
-) -> Result<Side, Memory> {
+) -> Result<Side, Memory>
+    ensures { budget.new.cuts ≡ budget.old.cuts }
+{
     budget.count(1);
     let assumed = assumed_in(alloc, view)?;
     side_of(alloc, scene, &view.ends, &assumed)
@@ -35,8 +38,8 @@ pub fn shown_leaf(alloc: Global, scene: &Scene, view: &View) -> Result<Grown, Me
     requires can { CanSearch scene.now.line.now scene.now.net.now scene.now.script.now
         scene.now.terminal }
     requires view { IsView scene.now.line.now view.now }
-    ensures { IfOk result (λ grown. IsGrownOver scene.now.line.now scene.now.script.now
-        scene.now.terminal view.now grown) }
+    ensures { IfOk result (λ grown. (size : Size) → IsGrownOver scene.now.line.now
+        scene.now.script.now scene.now.terminal size view.now grown) }
 {
     deadlines_are_below_the_horizon();
     let terminal = scene.terminal;
@@ -44,18 +47,24 @@ pub fn shown_leaf(alloc: Global, scene: &Scene, view: &View) -> Result<Grown, Me
     leaf(alloc, yes)
 }
 
-/// A timing of the box that fails the obligation, if one of its candidates does.
+/// A timing of the box that fails the obligation, if one of its candidates does. After a case none
+/// is tried, since the box is as before.
 pub fn failing_in(
     alloc: Global,
     scene: &Scene,
     view: &View,
+    last: Option<Case>,
     budget: &mut Budget,
 ) -> Result<Option<Timing>, Memory>
     requires { CanSearch scene.now.line.now scene.now.net.now scene.now.script.now
         scene.now.terminal }
-    ensures { IfOk result (λ found. IfSome found (λ timing.
+    ensures found { IfOk result (λ found. IfSome found (λ timing.
         IsFailing scene.now.line.now scene.now.script.now scene.now.terminal timing)) }
+    ensures cuts { budget.new.cuts ≡ budget.old.cuts }
 {
+    if last.is_some() {
+        return Ok(None);
+    }
     budget.count(CANDIDATES);
     let Some(timing) = failing(alloc, scene, &view.ends)? else {
         return Ok(None);
@@ -82,7 +91,10 @@ pub fn choose_in(
     branch: &Branch,
     last: Option<Case>,
     budget: &mut Budget,
-) -> Result<Option<Chosen>, Memory> {
+) -> Result<Option<Chosen>, Memory>
+    ensures { IfOk result (λ chosen. MatchOption chosen (budget.new.cuts ≡ budget.old.cuts)
+        (λ _. budget.new.cuts ≡ budget.old.cuts - 1)) }
+{
     let cuts = cuts_of(alloc, scene, &branch.view.ends, &branch.side.cases)?;
     if let Some(case) = last {
         let near = cuts_beside(alloc, &cuts, case)?;
@@ -101,7 +113,10 @@ fn choose_among(
     cuts: &[Cut],
     settling: bool,
     budget: &mut Budget,
-) -> Result<Option<Chosen>, Memory> {
+) -> Result<Option<Chosen>, Memory>
+    ensures { IfOk result (λ chosen. MatchOption chosen (budget.new.cuts ≡ budget.old.cuts)
+        (λ _. budget.new.cuts ≡ budget.old.cuts - 1)) }
+{
     if cuts.is_empty() {
         return Ok(None);
     }
@@ -110,11 +125,11 @@ fn choose_among(
     let ends = &branch.view.ends;
     let assumed = assumed_in(alloc, &branch.view)?;
     let score = branch.side.score;
-    let chosen = choose(alloc, scene, ends, &assumed, cuts, score, settling)?;
-    if let Some(one) = &chosen {
-        budget.cut(matches!(one.cut, Cut::Case(_)));
-    }
-    Ok(chosen)
+    let Some(chosen) = choose(alloc, scene, ends, &assumed, cuts, score, settling)? else {
+        return Ok(None);
+    };
+    budget.cut(matches!(chosen.cut, Cut::Case(_)));
+    Ok(Some(chosen))
 }
 
 // What a view assumes.

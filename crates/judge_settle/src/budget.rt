@@ -1,5 +1,8 @@
 //! What a search may still do.
 
+ghost use Rattle.std.specs.Prelude.{◌≡◌, ◌<◌, ◌-◌, IsFalse};
+ghost use Rattle.cert_settle_text.specs.Grammar.{most_branches};
+
 /// How many analyses of boxes and timings are made at most, and were made; how many splits and
 /// cases may still be made; and whether a split or a case was made.
 #[derive(Clone, Copy)]
@@ -12,8 +15,10 @@ pub struct Budget {
 }
 
 impl Budget {
-    /// This many analyses, and as many cuts as a tree of 4,096 nodes has.
-    pub fn new(analyses: u32) -> Budget {
+    /// This many analyses, and as many cuts as a tree in a text may have.
+    pub fn new(analyses: u32) -> Budget
+        ensures { result.cuts ≡ most_branches }
+    {
         Budget {
             analyses,
             made: 0,
@@ -24,17 +29,23 @@ impl Budget {
     }
 
     /// Whether nothing more may be done.
-    pub fn is_spent(&self) -> bool {
+    pub fn is_spent(&self) -> bool
+        ensures { IsFalse result → 0 < self.now.cuts }
+    {
         self.made >= self.analyses || self.cuts == 0
     }
 
     /// Counts analyses.
-    pub fn count(&mut self, analyses: u32) {
+    pub fn count(&mut self, analyses: u32)
+        ensures { self.new.cuts ≡ self.old.cuts }
+    {
         self.made = self.made.saturating_add(analyses);
     }
 
     /// Counts a cut.
-    pub fn cut(&mut self, case: bool) {
+    pub fn cut(&mut self, case: bool)
+        ensures { self.new.cuts ≡ self.old.cuts - 1 }
+    {
         self.cuts = self.cuts.saturating_sub(1);
         self.parts = self.parts || !case;
         self.cases = self.cases || case;

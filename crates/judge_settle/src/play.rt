@@ -6,7 +6,6 @@ ghost use Rattle.model_logic.specs.Histories.{MeetsBy};
 ghost use Rattle.net_gates.specs.NetOf.{IsNetOf};
 ghost use Rattle.model_timing.specs.Inside.{IsTimingInside};
 ghost use Rattle.run_simulator.specs.PlayedTracks.{is_on};
-ghost use Rattle.judge_corner.specs.Decided.{Fails};
 ghost use Rattle.judge_settle.specs.{Trees.IsFailing, Trips.SomeTickIsOn};
 
 use model_line::laws::deadlines_are_below_the_horizon;
@@ -56,7 +55,7 @@ fn is_met(
     requires terminal { terminal < terminal_count line.now }
     requires inside { IsTimingInside line.now timing.now }
     ensures { IfOk result (λ met. IsFalse met →
-        Fails line.now script.now terminal timing.now) }
+        IsFailing line.now script.now terminal timing.now) }
 {
     a_timing_is_one_choice();
     deadlines_are_below_the_horizon();

@@ -1,6 +1,6 @@
 //! The search.
 
-ghost use Rattle.std.specs.Prelude.{IfOk};
+ghost use Rattle.std.specs.Prelude.{◌≤◌, ◌-◌, IfOk};
 ghost use Rattle.judge_cases.specs.Views.{IsView};
 ghost use Rattle.judge_settle.specs.{Trees.IsFound, Scenes.CanSearch};
 
@@ -22,7 +22,7 @@ pub enum Found {
 
 /// Searches a view: it is cut in two, at most `depth` times above one another, until each part is
 /// shown or the budget is spent. A timing that fails ends the search. `last` is the case that was
-/// told apart last, if that was the last cut: then no timing is tried, since its box is as before.
+/// told apart last, if that was the last cut.
 pub fn search_view(
     alloc: Global,
     scene: &Scene,
@@ -34,8 +34,11 @@ pub fn search_view(
     requires can { CanSearch scene.now.line.now scene.now.net.now scene.now.script.now
         scene.now.terminal }
     requires view { IsView scene.now.line.now branch.now.view }
-    ensures { IfOk result (λ found. IsFound scene.now.line.now scene.now.script.now
-        scene.now.terminal branch.now.view found) }
+    // The tree has at most so many cuts above one another, and no more of them than were spent.
+    ensures found { IfOk result (λ found. IsFound scene.now.line.now scene.now.script.now
+        scene.now.terminal (record { depth = depth; cuts = budget.old.cuts - budget.new.cuts })
+        branch.now.view found) }
+    ensures spent { IfOk result (λ _. budget.new.cuts ≤ budget.old.cuts) }
 {
     if branch.side.met {
         return Ok(Found::Tree(shown_leaf(alloc, scene, &branch.view)?));
@@ -43,10 +46,8 @@ pub fn search_view(
     if depth == 0 || budget.is_spent() {
         return Ok(Found::Tree(leaf(alloc, false)?));
     }
-    if last.is_none() {
-        if let Some(timing) = failing_in(alloc, scene, &branch.view, budget)? {
-            return Ok(Found::Fails(timing));
-        }
+    if let Some(timing) = failing_in(alloc, scene, &branch.view, last, budget)? {
+        return Ok(Found::Fails(timing));
     }
     let Some(chosen) = choose_in(alloc, scene, branch, last, budget)? else {
         return Ok(Found::Tree(leaf(alloc, false)?));

@@ -1,6 +1,6 @@
 //! The answer to an obligation.
 
-ghost use Rattle.std.specs.Prelude.{◌<◌, ℕ, [], IfOk, IfSome};
+ghost use Rattle.std.specs.Prelude.{◌<◌, ◌≤◌, ℕ, [], IfOk, IfSome};
 ghost use Rattle.model_line.specs.{declared.line.Line.Line, declared.script.Script.Script};
 ghost use Rattle.model_line.specs.{Fits.Fits, Parameters.terminal_count};
 ghost use Rattle.model_logic.specs.Choice.{declared_box};
@@ -9,6 +9,7 @@ ghost use Rattle.net_gates.specs.NetOf.{IsNetOf};
 ghost use Rattle.judge_cases.specs.{declared.view.View.View, Views.Views};
 ghost use Rattle.judge_corner.specs.Decided.{OneTimingDecides};
 ghost use Rattle.judge_settle.specs.{Answers.IsAnswer, Trees.IsFound, Trees.IsFailing};
+ghost use Rattle.judge_settle.specs.Trees.{Size, size_of_text};
 
 use crate::answer::{Answer, By, Settled};
 use crate::boxes::side_in;
@@ -30,7 +31,7 @@ use model_timing::Timing;
 use net_gates::Net;
 use std::alloc::Global;
 
-/// How many cuts stand above one another at most.
+/// How many cuts stand above one another at most, as in a text.
 const DEPTH: u32 = 1024;
 
 /// Settles the obligation of a script at a terminal: by the worst corner where the line's scheme
@@ -96,6 +97,7 @@ fn by_corner(
     the_worst_choice_decides();
     each_box_has_one_history_under();
     let Decided { timing, held } = decided;
+    let _steps = timing.steps();
     if !held[terminal as usize] {
         return Ok(Settled {
             answer: Answer::Fails(timing),
@@ -138,10 +140,11 @@ fn refuted(
 
 // The answer that a search gives over the declared box.
 fn answer_of(found: Found) -> Answer
-    ensures { (line : Line) (script : Script) (k : ℕ) (view : View) →
+    ensures { (line : Line) (script : Script) (k : ℕ) (size : Size) (view : View) →
         script.deadline < line.horizon → k < terminal_count line →
         ¬ (IsOneRailedBy line.scheme line) → Views line (declared_box line) [] view →
-        IsFound line script k view found → IsAnswer line script k result }
+        size.depth ≤ size_of_text.depth → size.cuts ≤ size_of_text.cuts →
+        IsFound line script k size view found → IsAnswer line script k result }
 {
     sound_trees_meet();
     each_line_has_a_choice_inside();

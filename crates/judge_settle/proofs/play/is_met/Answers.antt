@@ -43,11 +43,15 @@ returns c = λ not_met.
     (sym (c.in_ok-tracks.ensures.trips.count ∙ c.requires.of_line.laws.same
     ∙ c.requires.of_line.terminals)) c.requires.terminal c.index-trip.ensures in
     record {
-      history = played keys trips;
-      is = exact.is;
-      fails = λ met.
-          let told : IsTrue c.meets.result = c.meets.ensures
-          (subst (λ (u : ℕ → Bool). MeetsBy script.kind script.deadline line.horizon u)
-          (shown_is trips c.args.terminal track at) met) in
-          absurd (cc);
+      inside = c.requires.inside;
+      ascending = c.steps-steps.ensures.ascending;
+      fails = record {
+        history = played keys trips;
+        is = exact.is;
+        fails = λ met.
+            let told : IsTrue c.meets.result = c.meets.ensures
+            (subst (λ (u : ℕ → Bool). MeetsBy script.kind script.deadline line.horizon u)
+            (shown_is trips c.args.terminal track at) met) in
+            absurd (cc);
+      };
     }

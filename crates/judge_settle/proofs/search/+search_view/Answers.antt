@@ -1,9 +1,9 @@
-use Rattle.std.proofs.Common.{Option, subst, arith}
+use Rattle.std.proofs.Common.{◌≡◌, ◌<◌, ◌+◌, ◌-◌, ℕ, Option, subst, arith}
 use Rattle.std.specs.Prelude.{IfSome}
 use Rattle.judge_settle.specs.declared.sides.Branches.{Branches}
 use Rattle.judge_settle.specs.declared.search.Found.{Found}
 use Rattle.judge_settle.specs.Sides.{AreBranches}
-use Rattle.judge_settle.specs.Trees.{IsFound, IsGrownOver}
+use Rattle.judge_settle.specs.Trees.{IsFound, IsGrownOver, Size}
 use Rattle.judge_settle.proofs.TreeLaws.{sides_are_views, ordered_views, ordered_joined}
 use Rattle.judge_settle.proofs.search.+search_view.Goals as goal
 
@@ -33,23 +33,45 @@ search_view-requires-2 t c =
     c.in-Some-3.branches.other c.in-Some-3.branches.turned are.ordered views.0 views.1 in
     (omega arith, (c.requires.can, both.1))
 
-pub returns : goal.returns
-returns t c =
+pub returns-clause-found : goal.returns-clause-found
+returns-clause-found t c =
     let line = c.args.scene.now.line.now in
     let script = c.args.scene.now.script.now in
     let k = c.args.scene.now.terminal in
     let view = c.args.branch.now.view in
     let cut = c.in-Some-2.chosen.cut in
     let branches = c.in-Some-3.branches in
+    let depth : ℕ = c.args.depth in
+    let before : ℕ = c.args.budget.now.cuts in
+    let cut_once : ℕ = c.choose_in.new.budget.cuts in
+    let between : ℕ = c.search_view.new.budget.cuts in
+    let after : ℕ = c.search_view-2.new.budget.cuts in
+    let size : Size = record { depth = depth; cuts = before - after } in
+    let one : Size = record { depth = depth - 1; cuts = cut_once - between } in
+    let two : Size = record { depth = depth - 1; cuts = between - after } in
+    let some : 0 < before = c.is_spent.ensures c.if-is_spent.false in
+    let spent : cut_once ≡ c.failing_in.new.budget.cuts - 1 =
+    rw c.in-Some-2.is at c.in_ok-chosen.ensures in
+    let deep : depth - 1 < depth = omega arith in
+    let many : (cut_once - between) + (between - after) < before - after =
+    omega (
+      arith,
+      some,
+      spent,
+      c.in_ok-timing.ensures.cuts,
+      c.in_ok-tree.ensures.spent,
+      c.in_ok-tree-2.ensures.spent,
+    ) in
     let are : AreBranches line view cut branches =
     subst (λ (o : Option Branches). IfSome o (AreBranches line view cut)) c.in-Some-3.is
     c.in_ok-branches.ensures in
-    let worse : IsGrownOver line script k branches.worse.view c.in-Tree.tree =
-    subst (λ (f : Found). IsFound line script k branches.worse.view f) c.in-Tree.is
-    c.in_ok-tree.ensures in
-    let other : IsGrownOver line script k branches.other.view c.in-Tree-2.tree =
-    subst (λ (f : Found). IsFound line script k branches.other.view f) c.in-Tree-2.is
-    c.in_ok-tree-2.ensures in
-    ordered_joined line script k view cut are.first are.second branches.worse branches.other
-    branches.turned c.in_ok-tree-3.tree c.in-Tree.tree c.in-Tree-2.tree c.in_ok-tree-3.ensures.nodes
-    c.in_ok-tree-3.ensures.yes are.sides are.ordered worse other
+    let worse : IsGrownOver line script k one branches.worse.view c.in-Tree.tree =
+    subst (λ (f : Found). IsFound line script k one branches.worse.view f) c.in-Tree.is
+    c.in_ok-tree.ensures.found in
+    let other : IsGrownOver line script k two branches.other.view c.in-Tree-2.tree =
+    subst (λ (f : Found). IsFound line script k two branches.other.view f) c.in-Tree-2.is
+    c.in_ok-tree-2.ensures.found in
+    ordered_joined line script k view size one two
+    (record { first = deep; second = deep; many = many }) cut are.first are.second branches.worse
+    branches.other branches.turned c.in_ok-tree-3.tree c.in-Tree.tree c.in-Tree-2.tree
+    c.in_ok-tree-3.ensures.nodes c.in_ok-tree-3.ensures.yes are.sides are.ordered worse other

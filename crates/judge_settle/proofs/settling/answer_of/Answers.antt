@@ -6,16 +6,16 @@ use Rattle.judge_settle.proofs.AnswerLaws.{held_answer, open_answer}
 use Rattle.judge_settle.proofs.settling.answer_of.Goals as goal
 
 pub returns-then-tree : goal.returns-then-tree
-returns-then-tree c = λ line script k view early there mixed views found.
-    let over : IsGrownOver line script k view c.in-Tree.tree =
-    subst (λ (f : Found). IsFound line script k view f) c.in-Tree.is found in
+returns-then-tree c = λ line script k size view early there mixed views deep many found.
+    let over : IsGrownOver line script k size view c.in-Tree.tree =
+    subst (λ (f : Found). IsFound line script k size view f) c.in-Tree.is found in
     held_answer c.sound_trees_meet.ensures line script k early
-    (c.each_line_has_a_choice_inside.ensures.declared line) there c.in-Tree.tree c.if-tree.true
-    (over (declared_box line) [] views)
+    (c.each_line_has_a_choice_inside.ensures.declared line) there size c.in-Tree.tree
+    c.if-tree.true deep many (over (declared_box line) [] views)
 
 pub returns-else-tree : goal.returns-else-tree
-returns-else-tree c = λ line script k view early there mixed views found.
-    let over : IsGrownOver line script k view c.in-Tree.tree =
-    subst (λ (f : Found). IsFound line script k view f) c.in-Tree.is found in
-    open_answer line script k c.in-Tree.tree c.if-tree.false (over (declared_box line) [] views)
-    mixed
+returns-else-tree c = λ line script k size view early there mixed views deep many found.
+    let over : IsGrownOver line script k size view c.in-Tree.tree =
+    subst (λ (f : Found). IsFound line script k size view f) c.in-Tree.is found in
+    open_answer line script k size c.in-Tree.tree c.if-tree.false deep many
+    (over (declared_box line) [] views) mixed

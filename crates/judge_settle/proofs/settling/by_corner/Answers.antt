@@ -1,4 +1,4 @@
-use Rattle.std.proofs.Common.{◌≡◌, ◌<◌, Bool, true, Some, refl, sym, ◌∙◌, ap}
+use Rattle.std.proofs.Common.{◌≡◌, ◌<◌, Bool, true, Some, refl, sym, ◌∙◌, ap, arith}
 use Rattle.std.proofs.lemmas.Option.{slice_get_read}
 use Rattle.std.specs.Prelude.{slice_get}
 use Rattle.model_line.specs.Parameters.{terminal_count}
@@ -27,4 +27,11 @@ returns c =
           c.requires.terminal c.requires.one_railed meets);
       yes = refl;
       meets = meets;
+      written = record {
+        tree = Yes;
+        are = c.in_ok-tree.ensures.nodes;
+        branches = tt;
+        low = omega arith;
+        few = omega arith;
+      };
     }

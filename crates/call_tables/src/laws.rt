@@ -1,0 +1,58 @@
+//! The laws of what is written of settled obligations.
+
+ghost use Rattle.std.specs.Prelude.{◌≡◌, ◌<◌, ◌≢◌, ℕ, List, [], Some, length, slice_get};
+ghost use Rattle.std.specs.List.{All};
+ghost use Rattle.model_line.specs.{Fits.Fits, declared.line.Line.Line};
+ghost use Rattle.model_line.specs.declared.script.Script.{Script};
+ghost use Rattle.cert_check.specs.declared.counts.Counts.{Counts};
+ghost use Rattle.cert_settle_text.specs.Grammar.{HasOneEach};
+ghost use Rattle.cert_settle_check.specs.Check.{IsAccepted};
+ghost use Rattle.file_timing.specs.Printed.{AreOfOneFile, MayStand};
+ghost use Rattle.call_tables.specs.Rows.{AreRows};
+ghost use Rattle.call_tables.specs.declared.row.Row.{Row};
+ghost use Rattle.call_tables.specs.Written.{results_of, rows_of, trees_text, failing_timings};
+ghost use Rattle.call_tables.specs.Written.{FailsWhereNamed};
+
+use cert_settle_text::printed_results_are_a_settle_text;
+use model_line::laws::{deadlines_are_below_the_horizon, declared_intervals_are_in_order};
+use model_logic::laws::{each_choice_has_one_history, each_line_has_a_choice_inside};
+use model_timing::timings_inside_are_choices_inside;
+
+/// The rows of a script can be printed as its part of a text of settled trees.
+pub fn rows_are_printable()
+    ensures { (line : Line) (scripts : List Script) (rows : List Row) (s : ℕ) →
+        AreRows line scripts rows → s < length scripts →
+        HasOneEach line (results_of (rows_of line rows s)) }
+{
+    declared_intervals_are_in_order();
+}
+
+/// The text of the trees and timings of all rows is accepted by whoever checks it: each split and
+/// each pair of cases can be made, each yes leaf is shown over its part, and each timing is inside
+/// and its history fails its obligation. So `check_settle` gives its counts, but for want of memory.
+pub fn what_settle_writes_is_accepted()
+    ensures { (line : Line) (scripts : List Script) (rows : List Row) →
+        All (Fits line) scripts → AreRows line scripts rows →
+        (counts : Counts) × IsAccepted line scripts (trees_text line scripts rows) counts }
+{
+    declared_intervals_are_in_order();
+    deadlines_are_below_the_horizon();
+    each_choice_has_one_history();
+    each_line_has_a_choice_inside();
+    timings_inside_are_choices_inside();
+    printed_results_are_a_settle_text();
+}
+
+/// The timings that fail obligations of a script can stand in one file of timings, and each fails
+/// the obligation at the terminal that it is named by.
+pub fn failing_timings_are_of_one_file()
+    ensures stand { (line : Line) (scripts : List Script) (rows : List Row) (s : ℕ) →
+        AreRows line scripts rows → s < length scripts →
+        All (MayStand line) (failing_timings line rows s) }
+    ensures one_file { (line : Line) (scripts : List Script) (rows : List Row) (s : ℕ) →
+        AreRows line scripts rows → s < length scripts →
+        failing_timings line rows s ≢ [] → AreOfOneFile (failing_timings line rows s) }
+    ensures fail { (line : Line) (scripts : List Script) (rows : List Row) (s : ℕ)
+        (script : Script) → AreRows line scripts rows → slice_get scripts s ≡ Some script →
+        All (FailsWhereNamed line script) (failing_timings line rows s) }
+{}

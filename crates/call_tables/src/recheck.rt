@@ -1,0 +1,79 @@
+//! Whether settled trees are accepted.
+
+ghost use Rattle.std.specs.Prelude.{◌≡◌, ◌≢◌, IfOk};
+ghost use Rattle.std.specs.List.{concat};
+ghost use Rattle.cert_settle_check.specs.declared.fault.SettleFault.{SettleFault};
+ghost use Rattle.call_commands.specs.{Answers.Says, Checked.line_pieces, Study.IsStudy};
+ghost use Rattle.call_tables.specs.Recheck.{recheck_answer, rejected_pieces};
+
+use call_commands::checked::{accepted_text, place, rejected_outside, rejected_passes};
+use call_commands::text::text_of;
+use call_commands::{Said, Study};
+use cert_settle_check::{SettleFault, check_settle};
+use itoa::Buffer;
+use model_line::Memory;
+use std::alloc::Global;
+
+/// The counts of what the obligations come to where the settled trees are accepted, and their first
+/// fault where they are rejected: then status 3.
+pub fn recheck_settled(alloc: Global, study: &Study, trees: &[u8]) -> Result<Said, Memory>
+    requires { IsStudy study.now }
+    ensures { IfOk result
+        (Says (recheck_answer study.now.line study.now.scripts.items trees.now)) }
+{
+    match check_settle(
+        alloc,
+        &study.line,
+        &study.net,
+        study.scripts.as_slice(),
+        trees,
+    ) {
+        Ok(counts) => Ok(Said::good(accepted_text(alloc, counts)?)),
+        Err(SettleFault::Memory) => Err(Memory),
+        Err(fault) => Ok(Said::rejected(rejected_text(alloc, study, fault)?)),
+    }
+}
+
+fn rejected_text(alloc: Global, study: &Study, fault: SettleFault) -> Result<Vec<u8>, Memory>
+    requires { fault ≢ SettleFault.Memory }
+    ensures { IfOk result (λ text. text.items
+        ≡ concat (rejected_pieces study.now.line study.now.scripts.items fault)) }
+{
+    match fault {
+        SettleFault::Line(number) => rejected_line(alloc, number),
+        SettleFault::NotShown {
+            script,
+            terminal,
+            leaf,
+        } => {
+            let mut digits = Buffer::new();
+            let place = place(alloc, study, script, terminal)?;
+            let leaf = digits.format(leaf).as_bytes();
+            text_of(
+                alloc,
+                &[b"rejected NotShown", place.as_slice(), b" ", leaf, b"\n"],
+            )
+        }
+        SettleFault::Outside {
+            script,
+            terminal,
+            param,
+            value,
+        } => rejected_outside(alloc, study, script, terminal, param, value),
+        SettleFault::Passes {
+            script,
+            terminal,
+            tick,
+        } => rejected_passes(alloc, study, script, terminal, tick),
+        SettleFault::Memory => Err(Memory),
+    }
+}
+
+// The first line that leaves the grammar; a text has more lines than a number of 32 bits counts.
+fn rejected_line(alloc: Global, number: usize) -> Result<Vec<u8>, Memory>
+    ensures { IfOk result (λ text. text.items ≡ concat (line_pieces number)) }
+{
+    let mut digits = Buffer::new();
+    let number = digits.format(number).as_bytes();
+    text_of(alloc, &[b"rejected Line ", number, b"\n"])
+}
