@@ -7,7 +7,7 @@ use Rattle.std.specs.Prelude.{slice_get}
 use Rattle.model_line.specs.WithBounds.{IsWithBounds}
 use Rattle.judge_map.specs.Placed.{IsPlaced, width_of}
 
-chained : (a b d : Line) → SameButParams a b → SameButParams b d → SameButParams a d
+pub chained : (a b d : Line) → SameButParams a b → SameButParams b d → SameButParams a d
 chained a b d p q = record {
   tick_us = q.tick_us ∙ p.tick_us;
   horizon = q.horizon ∙ p.horizon;

@@ -72,8 +72,8 @@ fn can_place(line: &Line, least: u32, param: u32) -> bool
     least + width(line, param) <= 4000
 }
 
-// How wide the declared interval is.
-fn width(line: &Line, param: u32) -> u32
+/// How wide the declared interval is.
+pub fn width(line: &Line, param: u32) -> u32
     requires { param < param_count line.now }
     ensures width { result ≡ width_of line.now param }
     ensures small { result ≤ 4000 }
