@@ -1,5 +1,6 @@
 pub mod Declared
 pub mod Lists
+pub mod StepLaws
 pub mod StretchLaws
 pub mod TraceLaws
 pub mod WindowLaws

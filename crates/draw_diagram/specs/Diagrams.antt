@@ -5,7 +5,9 @@ use Rattle.model_history.specs.Recorded.{first_ticks}
 use Rattle.model_line.specs.{declared.line.Line.Line, declared.script.Script.Script}
 use Rattle.model_line.specs.Parameters.{terminal_count}
 use Rattle.net_gates.specs.declared.gate.Gate.{Gate}
+use Rattle.model_timing.specs.declared.step.Step.{Step}
 use Rattle.draw_diagram.specs.{declared.diagram.Diagram.Diagram, declared.rows.Row.Row}
+use Rattle.draw_diagram.specs.{declared.drawn.Rows.Rows, DelaySteps.marks_of, Drawn.is_drawn}
 use Rattle.draw_diagram.specs.{declared.trace.Trace.Trace, Stretches.AreStretches}
 use Rattle.draw_diagram.specs.{Times.trip_times_of, Times.is_begun, Traces.traces_of}
 use Rattle.draw_diagram.specs.Traces.{ShownPairs}
@@ -21,10 +23,18 @@ abbrev pub IsRow : Script → ShownPairs → ℕ → Row → Type 0
 IsRow script w horizon row =
     AreStretches (trace_pair script w row.trace) 0 row.stretches.items horizon
 
+-- and its marks are the steps of delays that it is marked by, and it is drawn if it is one of those
+-- rows
+pub record IsMarkedRow (line : Line) (script : Script) (w : ShownPairs) (steps : List (Step ℕ))
+    (which : Rows) (row : Row) : Type 0 where
+  pub stretches : IsRow script w line.horizon row
+  pub marks : row.marks.items ≡ marks_of line steps row.trace
+  pub drawn : row.is_drawn ≡ is_drawn which row.trace row.stretches.items row.marks.items
+
 pub record IsDiagramOf (line : Line) (gates : List Gate) (script : Script) (w : ShownPairs)
-    (diagram : Diagram) : Type 0 where
+    (steps : List (Step ℕ)) (which : Rows) (diagram : Diagram) : Type 0 where
   pub traces : map trace_of diagram.rows.items ≡ traces_of line gates
-  pub stretches : All (IsRow script w line.horizon) diagram.rows.items
+  pub rows : All (IsMarkedRow line script w steps which) diagram.rows.items
   pub trips : diagram.trips.items
       ≡ first_ticks (λ k. trip_times_of script line.horizon (w.trip k)) (terminal_count line)
   pub inception : diagram.inception ≡ first_on (is_begun script.spans.items) line.horizon
@@ -32,7 +42,7 @@ pub record IsDiagramOf (line : Line) (gates : List Gate) (script : Script) (w : 
   -- some ticks below the horizon are shown
   pub some : diagram.window.first ≤ diagram.window.last
   pub within : diagram.window.last < line.horizon
-  -- nothing changes at a tick that is not shown
+  -- nothing changes at a tick that is not shown, and no delay has a step there
   pub shown : All (IsShown diagram.window) diagram.rows.items
   pub marked : IfSome diagram.inception (Holds diagram.window)
   pub due : IfSome diagram.deadline (Holds diagram.window)

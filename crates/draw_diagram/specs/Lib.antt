@@ -1,5 +1,8 @@
 pub mod Traces
 pub mod Stretches
 pub mod Times
+pub mod DelaySteps
+pub mod DelayStepLaws
+pub mod Drawn
 pub mod Windows
 pub mod Diagrams

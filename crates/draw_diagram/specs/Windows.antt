@@ -4,12 +4,16 @@ use Rattle.std.specs.List.{All}
 use Rattle.draw_diagram.specs.declared.rows.Row.{Row}
 use Rattle.draw_diagram.specs.{declared.stretch.Stretch.Stretch, declared.window.Window.Window}
 
--- the row changes at no tick from the horizon on
 abbrev pub BeginsBelow : ℕ → Stretch → Type 0
 BeginsBelow horizon s = s.from < horizon
 
+abbrev pub IsTickBelow : ℕ → ℕ → Type 0
+IsTickBelow horizon t = t < horizon
+
+-- the row changes at no tick from the horizon on, and has no mark there
 abbrev pub ChangesBelow : ℕ → Row → Type 0
-ChangesBelow horizon row = All (BeginsBelow horizon) row.stretches.items
+ChangesBelow horizon row =
+    All (BeginsBelow horizon) row.stretches.items × All (IsTickBelow horizon) row.marks.items
 
 -- the tick is shown
 abbrev pub Holds : Window → ℕ → Type 0
@@ -23,6 +27,7 @@ IsWider narrow wide = (wide.first ≤ narrow.first) × (narrow.last ≤ wide.las
 abbrev pub IsChangeShown : Window → Stretch → Type 0
 IsChangeShown window s = 0 < s.from → Holds window s.from
 
--- each change of the row is shown
+-- each change of the row is shown, and each of its marks
 abbrev pub IsShown : Window → Row → Type 0
-IsShown window row = All (IsChangeShown window) row.stretches.items
+IsShown window row =
+    All (IsChangeShown window) row.stretches.items × All (Holds window) row.marks.items

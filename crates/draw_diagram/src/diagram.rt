@@ -12,6 +12,7 @@ ghost use Rattle.run_simulator.specs.WavesOf.{waves_history};
 ghost use Rattle.draw_diagram.specs.{Diagrams.IsDiagramOf, Traces.known_history};
 ghost use Rattle.draw_diagram.specs.Traces.{pairs_shown};
 
+use crate::drawn::Rows;
 use crate::marks::inception;
 use crate::rows::{Row, rows};
 use crate::shown::Shown;
@@ -20,8 +21,9 @@ use crate::window::{Window, shown_window};
 use judge_interval::{PairWaves, Rule, judge};
 use judge_report::deadline;
 use model_line::{Line, Memory, Script};
+use model_timing::Step;
 use net_gates::Net;
-use run_signal::{Level, Tern};
+use run_signal::{Level, Tern, Tick};
 use run_simulator::Waves;
 use std::alloc::Global;
 
@@ -37,13 +39,15 @@ pub struct Diagram {
     pub window: Window,
 }
 
-/// The diagram of a play.
+/// The diagram of a play, whose delays have these steps.
 pub fn play_diagram(
     alloc: Global,
     line: &Line,
     net: &Net,
     script: &Script,
     waves: &Waves<Level>,
+    steps: &[Step<Tick>],
+    which: Rows,
 ) -> Result<Diagram, Memory>
     requires gates { waves.now.width ≡ length net.now.gates }
     requires keys { length waves.now.keys ≡ terminal_count line.now }
@@ -53,10 +57,10 @@ pub fn play_diagram(
     ensures diagram { IfOk result (λ diagram.
         IsDiagramOf line.now net.now.gates script.now
         (pairs_shown (known_history (played waves.now)) (λ gate t. both (is_on waves.now gate t)))
-        diagram) }
+        steps.now which diagram) }
     ensures rules { IfOk result (λ diagram. diagram.rules.items ≡ []) }
 {
-    diagram_of(alloc, line, net, script, waves, Vec::new(alloc))
+    diagram_of(alloc, line, net, script, waves, steps, which)
 }
 
 /// The diagram of every choice of delays at once: the rules are those of the first waves, all rows
@@ -68,6 +72,7 @@ pub fn history_diagram(
     script: &Script,
     judged: &PairWaves,
     waves: &Waves<Tern>,
+    which: Rows,
 ) -> Result<Diagram, Memory>
     requires gates { waves.now.width ≡ length net.now.gates }
     requires keys { length waves.now.keys ≡ terminal_count line.now }
@@ -79,13 +84,14 @@ pub fn history_diagram(
     ensures diagram { IfOk result (λ diagram.
         IsDiagramOf line.now net.now.gates script.now
         (pairs_shown (waves_history (λ x _. tern_rails x) 0 waves.now)
-        (wave_pair (λ x _. tern_rails x) 0 waves.now)) diagram) }
+        (wave_pair (λ x _. tern_rails x) 0 waves.now)) [] which diagram) }
     ensures rules { IfOk result (λ diagram. map rule_named diagram.rules.items
         ≡ first_ticks (λ k. rule_of line.now script.now ((pair_history judged.now).trip k))
         (terminal_count line.now)) }
 {
     let rules = rules(alloc, line, script, judged)?;
-    diagram_of(alloc, line, net, script, waves, rules)
+    let diagram = diagram_of(alloc, line, net, script, waves, &[], which)?;
+    Ok(Diagram { rules, ..diagram })
 }
 
 fn diagram_of<H: Shown>(
@@ -94,17 +100,19 @@ fn diagram_of<H: Shown>(
     net: &Net,
     script: &Script,
     shown: &H,
-    rules: Vec<Rule>,
+    steps: &[Step<Tick>],
+    which: Rows,
 ) -> Result<Diagram, Memory>
     requires gates { H.gates shown.now ≡ length net.now.gates }
     requires terminals { H.terminals shown.now ≡ terminal_count line.now }
     requires ticks { H.ticks shown.now ≡ line.now.horizon }
     requires deadline { script.now.deadline < line.now.horizon }
     ensures diagram { IfOk result (λ diagram.
-        IsDiagramOf line.now net.now.gates script.now (H.pairs shown.now) diagram) }
-    ensures rules { IfOk result (λ diagram. diagram.rules.items ≡ rules.items) }
+        IsDiagramOf line.now net.now.gates script.now (H.pairs shown.now) steps.now which
+        diagram) }
+    ensures rules { IfOk result (λ diagram. diagram.rules.items ≡ []) }
 {
-    let rows = rows(alloc, line, net, script, shown)?;
+    let rows = rows(alloc, line, net, script, shown, steps, which)?;
     let trips = trips(alloc, line, script, shown)?;
     let inception = inception(script, line.horizon);
     let deadline = deadline(script.kind, script.deadline);
@@ -112,7 +120,7 @@ fn diagram_of<H: Shown>(
     Ok(Diagram {
         rows,
         trips,
-        rules,
+        rules: Vec::new(alloc),
         inception,
         deadline,
         window,

@@ -3,7 +3,7 @@
 ghost use Rattle.std.specs.Prelude.{◌≡◌, ◌≤◌, ◌<◌, ℕ, IfSome};
 ghost use Rattle.std.specs.List.{All};
 ghost use Rattle.draw_diagram.specs.Windows.{Holds, IsWider, IsChangeShown, IsShown};
-ghost use Rattle.draw_diagram.specs.Windows.{BeginsBelow, ChangesBelow};
+ghost use Rattle.draw_diagram.specs.Windows.{BeginsBelow, ChangesBelow, IsTickBelow};
 
 use crate::rows::Row;
 use crate::stretch::Stretch;
@@ -15,8 +15,8 @@ pub struct Window {
     pub last: u32,
 }
 
-/// The ticks at which something happens, and some before and behind: each change of a row lies in
-/// them, the inception and the deadline.
+/// The ticks at which something happens, and some before and behind: each change and each mark of a
+/// row lies in them, the inception and the deadline.
 pub fn shown_window(
     rows: &[Row],
     inception: Option<u32>,
@@ -80,7 +80,22 @@ fn with_row(window: Window, row: &Row) -> Window
     ensures shown { IsShown result row.now }
     ensures wider { IsWider window result }
 {
-    with_stretches(window, row.stretches.as_slice())
+    with_marks(
+        with_stretches(window, row.stretches.as_slice()),
+        row.marks.as_slice(),
+    )
+}
+
+fn with_marks(window: Window, marks: &[u32]) -> Window
+    ensures below { (h : ℕ) → window.last < h → All (IsTickBelow h) marks.now → result.last < h }
+    ensures shown { All (Holds result) marks.now }
+    ensures wider { IsWider window result }
+{
+    let mut wide = window;
+    for mark in marks {
+        wide = widened(wide, *mark);
+    }
+    wide
 }
 
 fn with_stretches(window: Window, stretches: &[Stretch]) -> Window

@@ -8,18 +8,19 @@ use Rattle.std.proofs.lemmas.List.Kept.{AllPairs-cons}
 use Rattle.model_line.specs.declared.line.Line.{Line}
 use Rattle.draw_diagram.specs.declared.{diagram.Diagram.Diagram, rows.Row.Row, trace.Trace.Trace}
 use Rattle.draw_diagram.specs.declared.trace.Trace.TheVariants.{Seen, Lost, Logic, Key, Trip}
+use Rattle.draw_layout.specs.declared.scale.Scale.{Scale}
 use Rattle.draw_layout.specs.Drawings.{base_below, begins_terminal, end_below, height_above}
 use Rattle.draw_layout.specs.Drawings.{height_below, room_above, row_drawn, rows_drawn}
-use Rattle.draw_layout.specs.{Placed.IsBelow, Placed.placed, Rows.bar_height, Rows.is_drawn}
+use Rattle.draw_layout.specs.{Placed.IsBelow, Placed.placed, Rows.row_height}
 
 -- the rows stand on their bases
-pub on_bases : (line : Line) (diagram : Diagram) (y : ℕ) (rows : List Row)
-    → rows_drawn line diagram y rows
-    ≡ flat_map (λ (on : ℕ × Row). row_drawn line diagram on.0 on.1) (placed y rows)
-on_bases line diagram y [] = refl
-on_bases line diagram y (r ∷ rest) =
-    ap (λ more. row_drawn line diagram (base_below y r) r ++ more)
-    (on_bases line diagram (end_below y r) rest)
+pub on_bases : (line : Line) (scale : Scale) (diagram : Diagram) (y : ℕ) (rows : List Row)
+    → rows_drawn line scale diagram y rows
+    ≡ flat_map (λ (on : ℕ × Row). row_drawn line scale diagram on.0 on.1) (placed y rows)
+on_bases line scale diagram y [] = refl
+on_bases line scale diagram y (r ∷ rest) =
+    ap (λ more. row_drawn line scale diagram (base_below y r) r ++ more)
+    (on_bases line scale diagram (end_below y r) rest)
 
 below_few : (trace : Trace) → height_below trace ≤ 180
 below_few (Seen place) = omega arith
@@ -35,12 +36,12 @@ room_few (Logic what gate) = omega arith
 room_few (Key k) = omega arith
 room_few (Trip k) = omega arith
 
-room_for_bars : (trace : Trace) → bar_height trace < room_above trace
-room_for_bars (Seen place) = omega arith
-room_for_bars (Lost c) = omega arith
-room_for_bars (Logic what gate) = omega arith
-room_for_bars (Key k) = omega arith
-room_for_bars (Trip k) = omega arith
+room_for_row : (trace : Trace) → row_height trace < room_above trace
+room_for_row (Seen place) = omega arith
+room_for_row (Lost c) = omega arith
+room_for_row (Logic what gate) = omega arith
+room_for_row (Key k) = omega arith
+room_for_row (Trip k) = omega arith
 
 above_by : (begins drawn : Bool) (room : ℕ) → room ≤ 250
     → (if begins then 270 else 0) + (if drawn then room else 0) ≤ 520
@@ -51,7 +52,7 @@ above_by false false room le = omega arith
 
 above_few : (r : Row) → height_above r ≤ 520
 above_few r =
-    above_by (begins_terminal r.trace) (is_drawn r) (room_above r.trace) (room_few r.trace)
+    above_by (begins_terminal r.trace) r.is_drawn (room_above r.trace) (room_few r.trace)
 
 room_by : (begins drawn : Bool) (height room : ℕ) → height < room → IsTrue drawn
     → height < (if begins then 270 else 0) + (if drawn then room else 0)
@@ -59,9 +60,9 @@ room_by true true height room less is = omega arith
 room_by false true height room less is = omega arith
 room_by begins false height room less is = absurd (let bad : false ≡ true = is in cc)
 
-room : (r : Row) → IsTrue (is_drawn r) → bar_height r.trace < height_above r
-room r is = room_by (begins_terminal r.trace) (is_drawn r) (bar_height r.trace)
-    (room_above r.trace) (room_for_bars r.trace) is
+room : (r : Row) → IsTrue r.is_drawn → row_height r.trace < height_above r
+room r is = room_by (begins_terminal r.trace) r.is_drawn (row_height r.trace)
+    (room_above r.trace) (room_for_row r.trace) is
 
 few_more : (y n : ℕ) (r : Row) → y + 700 * suc n < 2 ^ 32
     → (base_below y r ≡ y + height_above r)
@@ -85,8 +86,8 @@ all_below a y (r ∷ rest) le few =
     (λ is. below_here (room r is) m.0)
     (all_below a (end_below y r) rest (begins m.1) (left m.1 m.2))
   where
-    below_here : bar_height r.trace < height_above r → base_below y r ≡ y + height_above r
-        → a.0 < base_below y r - bar_height r.trace
+    below_here : row_height r.trace < height_above r → base_below y r ≡ y + height_above r
+        → a.0 < base_below y r - row_height r.trace
     below_here has here = rw here (omega (arith, has, le))
 
     begins : end_below y r ≡ y + height_above r + height_below r.trace → a.0 ≤ end_below y r

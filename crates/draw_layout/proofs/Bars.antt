@@ -7,7 +7,7 @@ use Rattle.run_signal.specs.{Terns.tern_rails, declared.tern.Tern.Tern}
 use Rattle.draw_diagram.specs.{Stretches.AreStretches, Stretches.IsStretch}
 use Rattle.draw_diagram.specs.declared.stretch.Stretch.{Stretch}
 use Rattle.draw_shapes.specs.Seen.{SeenFigure}
-use Rattle.draw_layout.specs.Rows.{is_off}
+use Rattle.draw_diagram.specs.Drawn.{is_off}
 use Rattle.draw_layout.proofs.Anys.{any_cases, any_here, any_later, any_none}
 
 before_or_not : (t n : ℕ) → (t < n) ⊎ (n ≤ t)

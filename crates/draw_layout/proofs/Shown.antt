@@ -10,9 +10,10 @@ use Rattle.run_signal.specs.declared.tern.Tern.TheVariants as tern
 use Rattle.draw_diagram.specs.{Diagrams.IsRow, Stretches.IsStretch, Traces.trace_pair}
 use Rattle.draw_diagram.specs.declared.{rows.Row.Row, stretch.Stretch.Stretch, trace.Trace.Trace}
 use Rattle.draw_diagram.specs.declared.trace.Trace.TheVariants.{Seen, Lost, Logic, Key, Trip}
-use Rattle.draw_diagram.specs.declared.window.Window.{Window}
+use Rattle.draw_layout.specs.declared.scale.Scale.{Scale}
 use Rattle.draw_layout.specs.Covered.{Covers, CoversInFull, IsFull, ShowsTick}
-use Rattle.draw_layout.specs.{Rows.bar, Rows.bars, Rows.is_off, Scale.place_of}
+use Rattle.draw_layout.specs.{Rows.bar, Rows.bars, Scale.place_of}
+use Rattle.draw_diagram.specs.Drawn.{is_off}
 use Rattle.draw_layout.proofs.Bars.{is_told, seen}
 
 -- a value that may be on is not off
@@ -36,32 +37,32 @@ known_not_open : (b : Bool) → both b ≡ tern_rails tern.Unknown → ⊥
 known_not_open true is = let bad : true ≡ false = ap (λ x. x.must) is in cc
 known_not_open false is = let bad : false ≡ true = ap (λ x. x.may) is in cc
 
-module _ (window : Window) (t : ℕ)
-    (order : (a b : ℕ) → a ≤ b → place_of window a ≤ place_of window b)
-    (apart : place_of window t < place_of window (t + 1)) where
+module _ (scale : Scale) (t : ℕ)
+    (order : (a b : ℕ) → a ≤ b → place_of scale a ≤ place_of scale b)
+    (apart : place_of scale t < place_of scale (t + 1)) where
   module _ (trace : Trace) (base : ℕ) (s : Stretch) where
-    covers : s.from ≤ t → t < s.to → Covers window t (bar window trace base s)
+    covers : s.from ≤ t → t < s.to → Covers scale t (bar scale trace base s)
     covers begun open_yet =
         let left = order s.from t begun in
         let right = order (t + 1) s.to (omega (arith, open_yet)) in
         let whole = order s.from s.to (omega (arith, begun, open_yet)) in
         (left, omega (arith, right, whole))
 
-    covers_from : s.from < s.to → Covers window t (bar window trace base s) → s.from ≤ t
+    covers_from : s.from < s.to → Covers scale t (bar scale trace base s) → s.from ≤ t
     covers_from some c = grind (arith, order (t + 1) s.from, apart, c.0)
 
-    covers_to : s.from < s.to → Covers window t (bar window trace base s) → t < s.to
+    covers_to : s.from < s.to → Covers scale t (bar scale trace base s) → t < s.to
     covers_to some c = grind (arith, order s.to t, order s.from s.to, apart, c.1)
 
 -- a full bar stands for a value that is on: what the script shows is known
-full_is_on : (script : Script) (w : ShownPairs) (trace : Trace) (window : Window)
+full_is_on : (script : Script) (w : ShownPairs) (trace : Trace) (scale : Scale)
     (base : ℕ) (s : Stretch) → IsStretch (trace_pair script w trace) s → is_off s.value ≡ false
-    → IsFull (bar window trace base s) → (tern_rails s.value).must ≡ true
-full_is_on script w trace window base s is on full =
+    → IsFull (bar scale trace base s) → (tern_rails s.value).must ≡ true
+full_is_on script w trace scale base s is on full =
     by_value trace s.value on full (is.same s.from (omega arith) is.some)
   where
     by_value : (trace : Trace) (v : Tern) → is_off v ≡ false
-        → IsFull (bar window trace base (record { from = s.from; to = s.to; value = v }))
+        → IsFull (bar scale trace base (record { from = s.from; to = s.to; value = v }))
         → trace_pair script w trace s.from ≡ tern_rails v → (tern_rails v).must ≡ true
     by_value trace tern.Zero on full is = absurd (let bad : true ≡ false = on in cc)
     by_value trace tern.One on full is = refl
@@ -71,12 +72,12 @@ full_is_on script w trace window base s is on full =
     by_value (Key k) tern.Unknown on full is = absurd full
     by_value (Trip k) tern.Unknown on full is = absurd full
 
-on_is_full : (trace : Trace) (window : Window) (base : ℕ) (s : Stretch)
-    → (tern_rails s.value).must ≡ true → IsFull (bar window trace base s)
-on_is_full trace window base s must = by_value trace s.value must
+on_is_full : (trace : Trace) (scale : Scale) (base : ℕ) (s : Stretch)
+    → (tern_rails s.value).must ≡ true → IsFull (bar scale trace base s)
+on_is_full trace scale base s must = by_value trace s.value must
   where
     by_value : (trace : Trace) (v : Tern) → (tern_rails v).must ≡ true
-        → IsFull (bar window trace base (record { from = s.from; to = s.to; value = v }))
+        → IsFull (bar scale trace base (record { from = s.from; to = s.to; value = v }))
     by_value trace tern.Zero must = absurd (let bad : false ≡ true = must in cc)
     by_value (Seen p) tern.One must = tt
     by_value (Lost c) tern.One must = tt
@@ -85,9 +86,9 @@ on_is_full trace window base s must = by_value trace s.value must
     by_value (Trip k) tern.One must = tt
     by_value trace tern.Unknown must = absurd (let bad : false ≡ true = must in cc)
 
-module _ (window : Window) (t : ℕ)
-    (order : (a b : ℕ) → a ≤ b → place_of window a ≤ place_of window b)
-    (apart : place_of window t < place_of window (t + 1))
+module _ (scale : Scale) (t : ℕ)
+    (order : (a b : ℕ) → a ≤ b → place_of scale a ≤ place_of scale b)
+    (apart : place_of scale t < place_of scale (t + 1))
     (script : Script) (w : ShownPairs) (row : Row) (base horizon : ℕ) (below : t < horizon)
     (are : IsRow script w horizon row) where
   abbrev trace : Trace
@@ -105,40 +106,40 @@ module _ (window : Window) (t : ℕ)
   abbrev IsOn : Tern → Type 0
   IsOn v = (tern_rails v).must ≡ true
 
-  covered : (pair t).may ≡ true → Any (Covers window t) (bars window trace base stretches)
-  covered may = seen pair t (bar window trace base) (Covers window t) IsOpen may_is_on
-      (λ s is begun open_yet tells. covers window t order apart trace base s begun open_yet)
+  covered : (pair t).may ≡ true → Any (Covers scale t) (bars scale trace base stretches)
+  covered may = seen pair t (bar scale trace base) (Covers scale t) IsOpen may_is_on
+      (λ s is begun open_yet tells. covers scale t order apart trace base s begun open_yet)
       (λ v is. subst (λ x. x.may ≡ true) is may) 0 horizon stretches are (omega arith) below
 
-  covered_told : Any (Covers window t) (bars window trace base stretches) → (pair t).may ≡ true
+  covered_told : Any (Covers scale t) (bars scale trace base stretches) → (pair t).may ≡ true
   covered_told a =
-      let told = is_told pair t (bar window trace base) (Covers window t) IsOpen
+      let told = is_told pair t (bar scale trace base) (Covers scale t) IsOpen
       (λ s is on c. (
         s.value,
-        is.same t (covers_from window t order apart trace base s is.some c)
-            (covers_to window t order apart trace base s is.some c),
+        is.same t (covers_from scale t order apart trace base s is.some c)
+            (covers_to scale t order apart trace base s is.some c),
         on_may_be s.value on,
       )) 0 horizon stretches are a in
       rw told.1 told.2
 
-  full : (pair t).must ≡ true → Any (CoversInFull window t) (bars window trace base stretches)
-  full must = seen pair t (bar window trace base) (CoversInFull window t) IsOn must_is_on
+  full : (pair t).must ≡ true → Any (CoversInFull scale t) (bars scale trace base stretches)
+  full must = seen pair t (bar scale trace base) (CoversInFull scale t) IsOn must_is_on
       (λ s is begun open_yet tells. (
-        covers window t order apart trace base s begun open_yet,
-        on_is_full trace window base s tells,
+        covers scale t order apart trace base s begun open_yet,
+        on_is_full trace scale base s tells,
       ))
       (λ v is. subst (λ x. x.must ≡ true) is must) 0 horizon stretches are (omega arith) below
 
-  full_told : Any (CoversInFull window t) (bars window trace base stretches) → (pair t).must ≡ true
+  full_told : Any (CoversInFull scale t) (bars scale trace base stretches) → (pair t).must ≡ true
   full_told a =
-      let told = is_told pair t (bar window trace base) (CoversInFull window t) IsOn
+      let told = is_told pair t (bar scale trace base) (CoversInFull scale t) IsOn
       (λ s is on c. (
         s.value,
-        is.same t (covers_from window t order apart trace base s is.some c.0)
-            (covers_to window t order apart trace base s is.some c.0),
-        full_is_on script w trace window base s is on c.1,
+        is.same t (covers_from scale t order apart trace base s is.some c.0)
+            (covers_to scale t order apart trace base s is.some c.0),
+        full_is_on script w trace scale base s is on c.1,
       )) 0 horizon stretches are a in
       rw told.1 told.2
 
-  pub shows : ShowsTick window base row t (pair t)
+  pub shows : ShowsTick scale base row t (pair t)
   shows = record { may_be = (covered, covered_told); must_be = (full, full_told) }

@@ -15,7 +15,8 @@ use Rattle.draw_shapes.specs.{Seen.SeenFigure, Seen.SeenShape, Seen.SeenDrawing}
 use Rattle.draw_shapes.specs.Seen as seen
 use Rattle.draw_layout.specs.declared.subject.Subject.{Subject}
 use Rattle.draw_layout.specs.declared.subject.Subject.TheVariants as subject
-use Rattle.draw_layout.specs.{Rows.is_drawn, Rows.row_shape, Scale.more, Trips.trip_drawn}
+use Rattle.draw_layout.specs.{Rows.row_shape, Scale.more, Trips.trip_drawn}
+use Rattle.draw_layout.specs.{Left.scale_of, declared.scale.Scale.Scale}
 use Rattle.draw_layout.specs.{Axis.axis, Marks.marks, Legend.legend}
 
 -- ---- the heading
@@ -69,7 +70,7 @@ room_above (Trip k) = 250
 abbrev pub height_above : Row → ℕ
 height_above shown =
     (if begins_terminal shown.trace then 270 else 0)
-    + (if is_drawn shown then room_above shown.trace else 0)
+    + (if shown.is_drawn then room_above shown.trace else 0)
 
 -- below a trip stands its margin
 abbrev pub height_below : Trace → ℕ
@@ -90,33 +91,33 @@ end_below y shown = more (base_below y shown) (height_below shown.trace)
 -- a terminal's name above its rows
 abbrev pub name_drawn : Line → Row → ℕ → ℕ → List SeenFigure
 name_drawn of shown k base =
-    seen.text class.Terminal 140 (base - (if is_drawn shown then 190 else 0) - 60)
+    seen.text class.Terminal 140 (base - (if shown.is_drawn then 190 else 0) - 60)
     (terminal_name of k) ∷ []
 
-abbrev pub beside_trace : Line → Diagram → Row → ℕ → Trace → List SeenFigure
-beside_trace of diagram shown base (Seen place) =
+abbrev pub beside_trace : Line → Scale → Diagram → Row → ℕ → Trace → List SeenFigure
+beside_trace of scale diagram shown base (Seen place) =
     if is_z1 place.element then name_drawn of shown place.terminal base else []
-beside_trace of diagram shown base (Lost c) = []
-beside_trace of diagram shown base (Logic what gate) = []
-beside_trace of diagram shown base (Key k) = []
-beside_trace of diagram shown base (Trip k) = trip_drawn of diagram k base
+beside_trace of scale diagram shown base (Lost c) = []
+beside_trace of scale diagram shown base (Logic what gate) = []
+beside_trace of scale diagram shown base (Key k) = []
+beside_trace of scale diagram shown base (Trip k) = trip_drawn of scale diagram k base
 
 -- what is written at a row: at a terminal's first its name, at its trip the times
-abbrev pub beside : Line → Diagram → ℕ → Row → List SeenFigure
-beside of diagram base shown = beside_trace of diagram shown base shown.trace
+abbrev pub beside : Line → Scale → Diagram → ℕ → Row → List SeenFigure
+beside of scale diagram base shown = beside_trace of scale diagram shown base shown.trace
 
 -- a row on its base, if it is drawn, and what is written at it
-unfoldable pub row_drawn : Line → Diagram → ℕ → Row → List SeenShape
-row_drawn of diagram base shown =
-    (if is_drawn shown then row_shape of diagram.window base shown ∷ [] else [])
-    ++ seen.plain (beside of diagram base shown) ∷ []
+unfoldable pub row_drawn : Line → Scale → Diagram → ℕ → Row → List SeenShape
+row_drawn of scale diagram base shown =
+    (if shown.is_drawn then row_shape of scale base shown ∷ [] else [])
+    ++ seen.plain (beside of scale diagram base shown) ∷ []
 
 -- rows from y on, one below the other
-abbrev pub rows_drawn : Line → Diagram → ℕ → List Row → List SeenShape
-rows_drawn of diagram y [] = []
-rows_drawn of diagram y (shown ∷ rest) =
-    row_drawn of diagram (base_below y shown) shown
-    ++ rows_drawn of diagram (end_below y shown) rest
+abbrev pub rows_drawn : Line → Scale → Diagram → ℕ → List Row → List SeenShape
+rows_drawn of scale diagram y [] = []
+rows_drawn of scale diagram y (shown ∷ rest) =
+    row_drawn of scale diagram (base_below y shown) shown
+    ++ rows_drawn of scale diagram (end_below y shown) rest
 
 -- where they end
 abbrev pub bottom_of : ℕ → List Row → ℕ
@@ -131,17 +132,18 @@ head_drawn said height =
     seen.rectangle class.Paper 0 0 10000 height ∷ (seen.text class.Heading 140 260 said ∷ [])
 
 -- the shapes of a diagram whose rows end at `bottom`, the later ones over the earlier ones
-abbrev pub shapes_above : Line → Diagram → List ℕ → ℕ → List SeenShape
-shapes_above of diagram said bottom =
+abbrev pub shapes_above : Line → Scale → Diagram → List ℕ → ℕ → List SeenShape
+shapes_above of scale diagram said bottom =
     seen.plain (head_drawn said (more (more bottom 420) 720))
-    ∷ (seen.plain (axis of diagram.window 600 bottom)
-    ∷ (rows_drawn of diagram 600 diagram.rows.items
-    ++ seen.plain (marks of diagram 600 bottom)
+    ∷ (seen.plain (axis of scale 600 bottom)
+    ∷ (rows_drawn of scale diagram 600 diagram.rows.items
+    ++ seen.plain (marks of scale diagram 600 bottom)
     ∷ (seen.plain (legend of diagram (more bottom 420)) ∷ [])))
 
 abbrev pub shapes_of : Line → Script → Subject → Diagram → List SeenShape
 shapes_of of script what diagram =
-    shapes_above of diagram (heading of script what) (bottom_of 600 diagram.rows.items)
+    shapes_above of (scale_of of diagram) diagram (heading of script what)
+    (bottom_of 600 diagram.rows.items)
 
 -- the drawing, under its heading as its title
 abbrev pub drawing_of : Line → Script → Subject → Diagram → SeenDrawing

@@ -6,35 +6,43 @@ use Rattle.net_gates.specs.declared.gate.Gate.{Gate}
 use Rattle.draw_diagram.specs.Traces.{ShownPairs}
 use Rattle.draw_diagram.specs.{declared.diagram.Diagram.Diagram, Diagrams.IsDiagramOf}
 use Rattle.draw_diagram.specs.{Traces.trace_pair, Windows.Holds}
-use Rattle.draw_diagram.specs.declared.{rows.Row.Row, window.Window.Window}
+use Rattle.draw_diagram.specs.declared.{drawn.Rows.Rows, rows.Row.Row}
+use Rattle.model_timing.specs.declared.step.Step.{Step}
+use Rattle.draw_layout.specs.declared.scale.Scale.{Scale}
 use Rattle.draw_layout.specs.{Covered.ShowsTick, Drawings.row_drawn, Drawings.rows_drawn}
-use Rattle.draw_layout.specs.{Placed.IsBelow, Placed.placed, Scale.place_of}
+use Rattle.draw_layout.specs.{Placed.IsBelow, Placed.placed, Scale.length_of, Scale.place_of}
+use Rattle.draw_layout.specs.Left.{scale_of}
 
 -- a later tick stands no further left
 abbrev pub PlacesKeepTheOrder : Type 0
 PlacesKeepTheOrder =
-    (window : Window) (s t : ℕ) → s ≤ t → place_of window s ≤ place_of window t
+    (scale : Scale) (s t : ℕ) → s ≤ t → place_of scale s ≤ place_of scale t
 
--- no two ticks that are shown, nor their ends, stand at one place, where at most 5500 are shown
+-- no two ticks that are shown, nor their ends, stand at one place, where no more are shown than the
+-- axis is long
 abbrev pub ShownTicksStandApart : Type 0
-ShownTicksStandApart = (window : Window) (s t : ℕ) → window.last < window.first + 5500
-    → window.first ≤ s → s < t → t ≤ window.last + 1 → place_of window s < place_of window t
+ShownTicksStandApart = (scale : Scale) (s t : ℕ)
+    → scale.window.last < scale.window.first + length_of scale
+    → scale.window.first ≤ s → s < t → t ≤ scale.window.last + 1
+    → place_of scale s < place_of scale t
 
 -- in the diagram of pairs, whatever the base of a row, its bars show at each tick that is shown what
 -- the row's pair is there
 abbrev pub BarsShowTheHistory : Type 0
 BarsShowTheHistory = (line : Line) (gates : List Gate) (script : Script) (w : ShownPairs)
-    (diagram : Diagram) → IsDiagramOf line gates script w diagram
+    (steps : List (Step ℕ)) (which : Rows) (diagram : Diagram)
+    → IsDiagramOf line gates script w steps which diagram
     → All (λ (row : Row). (base t : ℕ) → Holds diagram.window t
-    → ShowsTick diagram.window base row t (trace_pair script w row.trace t)) diagram.rows.items
+    → ShowsTick (scale_of line diagram) base row t (trace_pair script w row.trace t))
+    diagram.rows.items
 
 -- the rows of a drawing stand on these bases,
 abbrev pub RowsStandOnBases : Type 0
-RowsStandOnBases = (line : Line) (diagram : Diagram) (y : ℕ) (rows : List Row)
-    → rows_drawn line diagram y rows
-    ≡ flat_map (λ (on : ℕ × Row). row_drawn line diagram on.0 on.1) (placed y rows)
+RowsStandOnBases = (line : Line) (scale : Scale) (diagram : Diagram) (y : ℕ) (rows : List Row)
+    → rows_drawn line scale diagram y rows
+    ≡ flat_map (λ (on : ℕ × Row). row_drawn line scale diagram on.0 on.1) (placed y rows)
 
--- and lie apart: the bars of each below the bases of all before it, as far as 32 bits hold their
+-- and lie apart: each with its bars and marks below the bases of all before it, as far as 32 bits hold their
 -- places
 abbrev pub RowsLieApart : Type 0
 RowsLieApart = (y : ℕ) (rows : List Row) → y + 700 * length rows < 2 ^ 32

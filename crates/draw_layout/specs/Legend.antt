@@ -1,65 +1,22 @@
--- The legend: what the bars are, and which ticks are shown.
-use Rattle.std.specs.Prelude.{◌++◌, ◌-◌, ◌==◌, ◌&&◌, ℕ, Bool, true, false, List, [], ◌∷◌, codes}
-use Rattle.std.specs.Prelude.{decimal, nat_le, if◌then◌else◌}
+-- The legend: which ticks are shown, and what the bars and marks are that the rows have.
+use Rattle.std.specs.Prelude.{◌++◌, ◌-◌, ◌==◌, ◌&&◌, ℕ, Bool, List, [], ◌∷◌, codes, decimal, nat_le}
+use Rattle.std.specs.Prelude.{if◌then◌else◌}
+use Rattle.std.specs.List.{flat_map, list_any}
 use Rattle.model_line.specs.declared.line.Line.{Line}
 use Rattle.draw_diagram.specs.{declared.diagram.Diagram.Diagram, declared.window.Window.Window}
+use Rattle.draw_diagram.specs.declared.{rows.Row.Row, stretch.Stretch.Stretch, trace.Trace.Trace}
+use Rattle.draw_diagram.specs.Drawn.{has_marks, is_shown}
 use Rattle.draw_shapes.specs.declared.class.Class.{Class}
 use Rattle.draw_shapes.specs.declared.class.Class.TheVariants as class
 use Rattle.draw_shapes.specs.{Seen.SeenFigure}
 use Rattle.draw_shapes.specs.Seen as seen
-use Rattle.std.specs.List.{list_any}
-use Rattle.draw_diagram.specs.declared.{rows.Row.Row, trace.Trace.Trace}
-use Rattle.draw_diagram.specs.declared.trace.Trace.TheVariants.{Seen, Lost, Logic, Key, Trip}
-use Rattle.draw_layout.specs.Rows.{is_drawn}
-use Rattle.draw_layout.specs.{Scale.more, Trips.no_rules, Words.milliseconds_said}
+use Rattle.draw_layout.specs.contracts.bar.BarPartialEq.TheImpl.{eq-value as bar_eq}
+use Rattle.draw_layout.specs.declared.bar.Bar.{Bar}
+use Rattle.draw_layout.specs.declared.bar.Bar.TheVariants as look
+use Rattle.draw_layout.specs.declared.bar.TheConstants.{BARS}
+use Rattle.draw_layout.specs.{Rows.bar_of, Rows.class_of, Scale.more, Words.milliseconds_said}
 
--- a bar and what it is
-unfoldable pub entry : ℕ → ℕ → Class → List ℕ → List SeenFigure
-entry x y look words =
-    seen.rectangle look x (y - 110) 240 120
-    ∷ (seen.text class.Quiet (more x 310) y words ∷ [])
-
-unfoldable pub signal_entries : ℕ → List SeenFigure
-signal_entries y =
-    entry 1900 y class.KeyOn (codes "key on") ++ entry 2900 y class.TripOn (codes "trip on")
-
--- what is on
-unfoldable pub on_entries : ℕ → List SeenFigure
-on_entries y =
-    entry 140 y class.Seen (codes "seen, or channel lost") ++ signal_entries y
-
--- what is open; in a play nothing is
-unfoldable pub open_entries : Bool → ℕ → List SeenFigure
-open_entries true y = []
-open_entries false y =
-    entry 3900 y class.KeyOpen (codes "key on or off, by the delays")
-    ++ entry 6200 y class.TripOpen (codes "trip on or off, by the delays")
-
--- rows of the logic
-abbrev pub is_logic : Trace → Bool
-is_logic (Seen place) = false
-is_logic (Lost c) = false
-is_logic (Logic what gate) = true
-is_logic (Key k) = false
-is_logic (Trip k) = false
-
-abbrev pub shows_logic : Row → Bool
-shows_logic shown = is_logic shown.trace && is_drawn shown
-
-abbrev pub has_logic : List Row → Bool
-has_logic rows = list_any shows_logic rows
-
-unfoldable pub logic_on : ℕ → List SeenFigure
-logic_on y = entry 140 y class.LogicOn (codes "received, or a step of the scheme")
-
-unfoldable pub logic_open : Bool → ℕ → List SeenFigure
-logic_open true y = []
-logic_open false y = entry 3900 y class.LogicOpen (codes "on or off, by the delays")
-
--- what they are, where there are any
-abbrev pub logic_entries : Bool → Bool → ℕ → List SeenFigure
-logic_entries false is_play y = []
-logic_entries true is_play y = logic_on y ++ logic_open is_play y
+-- ---- which ticks are shown
 
 abbrev pub shows_all : ℕ → Window → Bool
 shows_all last window = window.first == 0 && nat_le last window.last
@@ -82,8 +39,80 @@ legend_said of window =
     codes "Ticks of " ++ milliseconds_said of.tick_us ++ codes " ms. "
     ++ shown_said (of.horizon - 1) window
 
+-- ---- which bars and marks there are
+
+-- the bar of a stretch looks so
+abbrev pub looks_so : Bar → Trace → Stretch → Bool
+looks_so bar trace s = is_shown s && bar_eq.it (bar_of trace s.value) bar
+
+-- the row is drawn, and some bar of it looks so
+abbrev pub row_has_bar : Bar → Row → Bool
+row_has_bar bar shown = shown.is_drawn && list_any (looks_so bar shown.trace) shown.stretches.items
+
+abbrev pub has_bar : Bar → List Row → Bool
+has_bar bar rows = list_any (row_has_bar bar) rows
+
+-- the row is drawn, and has a mark
+abbrev pub row_has_mark : Row → Bool
+row_has_mark shown = shown.is_drawn && has_marks shown.marks.items
+
+abbrev pub has_mark : List Row → Bool
+has_mark rows = list_any row_has_mark rows
+
+-- ---- what they are
+
+-- where the entry of a bar stands, from the left and below the note of ticks
+abbrev pub entry_left : Bar → ℕ
+entry_left look.Seen = 140
+entry_left look.LogicOn = 2100
+entry_left look.LogicOpen = 2100
+entry_left look.KeyOn = 4800
+entry_left look.KeyOpen = 4800
+entry_left look.TripOn = 7300
+entry_left look.TripOpen = 7300
+
+abbrev pub entry_below : Bar → ℕ
+entry_below look.Seen = 400
+entry_below look.LogicOn = 400
+entry_below look.LogicOpen = 580
+entry_below look.KeyOn = 400
+entry_below look.KeyOpen = 580
+entry_below look.TripOn = 400
+entry_below look.TripOpen = 580
+
+abbrev pub bar_said : Bar → List ℕ
+bar_said look.Seen = codes "seen, or channel lost"
+bar_said look.LogicOn = codes "received, or a step of the scheme"
+bar_said look.LogicOpen = codes "on or off, by the delays"
+bar_said look.KeyOn = codes "key on"
+bar_said look.KeyOpen = codes "key on or off, by the delays"
+bar_said look.TripOn = codes "trip on"
+bar_said look.TripOpen = codes "trip on or off, by the delays"
+
+-- a bar and what it is
+unfoldable pub entry : ℕ → ℕ → Class → List ℕ → List SeenFigure
+entry x y looks words =
+    seen.rectangle looks x (y - 110) 240 120
+    ∷ (seen.text class.Quiet (more x 310) y words ∷ [])
+
+-- where some row has such a bar
+abbrev pub entry_if_any : List Row → ℕ → Bar → List SeenFigure
+entry_if_any rows top bar =
+    if has_bar bar rows
+    then entry (entry_left bar) (more top (entry_below bar)) (class_of bar) (bar_said bar) else []
+
+-- a mark and what it is, where some row has one
+unfoldable pub mark_entry : ℕ → List ℕ → List SeenFigure
+mark_entry y words =
+    seen.rectangle class.Step 250 (y - 130) 20 150
+    ∷ (seen.text class.Quiet 450 y words ∷ [])
+
+abbrev pub mark_entry_if_any : List Row → ℕ → List SeenFigure
+mark_entry_if_any rows top =
+    if has_mark rows then mark_entry (more top 580) (codes "change of channel delay") else []
+
 abbrev pub legend : Line → Diagram → ℕ → List SeenFigure
 legend of diagram top =
-    on_entries (more top 180) ++ open_entries (no_rules diagram.rules.items) (more top 180)
-    ++ seen.text class.Quiet 140 (more top 400) (legend_said of diagram.window) ∷ []
-    ++ logic_entries (has_logic diagram.rows.items) (no_rules diagram.rules.items) (more top 580)
+    seen.text class.Quiet 140 (more top 180) (legend_said of diagram.window) ∷ []
+    ++ flat_map (entry_if_any diagram.rows.items top) BARS
+    ++ mark_entry_if_any diagram.rows.items top

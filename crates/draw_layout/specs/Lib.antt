@@ -2,6 +2,7 @@ pub mod Words
 pub mod Said
 pub mod Scale
 pub mod Rows
+pub mod Left
 pub mod Marks
 pub mod Trips
 pub mod Axis

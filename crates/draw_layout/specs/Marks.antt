@@ -7,7 +7,8 @@ use Rattle.draw_shapes.specs.declared.class.Class.TheVariants as class
 use Rattle.draw_shapes.specs.{Seen.SeenFigure}
 use Rattle.draw_shapes.specs.Seen as seen
 use Rattle.draw_layout.specs.{declared.mark.Mark.Mark, declared.mark.Look.Look}
-use Rattle.draw_layout.specs.{Words.said, Words.tick_said}
+use Rattle.draw_layout.specs.Words.{said, tick_said, tick_end_said}
+use Rattle.draw_layout.specs.declared.scale.Scale.{Scale}
 use Rattle.draw_layout.specs.Scale.{place_of, end_of, more}
 
 -- where a mark's line stands, and what is said of it
@@ -15,15 +16,15 @@ abbrev pub view_of : Mark → ℕ × List ℕ
 view_of mark = (mark.x, said mark.said)
 
 -- the inception's line stands where its tick begins
-abbrev pub inception_of : Line → Diagram → Option (ℕ × List ℕ)
-inception_of of diagram =
-    option_map (λ t. (place_of diagram.window t, codes "fault " ++ tick_said of.tick_us t))
+abbrev pub inception_of : Line → Scale → Diagram → Option (ℕ × List ℕ)
+inception_of of scale diagram =
+    option_map (λ t. (place_of scale t, codes "fault " ++ tick_said of.tick_us t))
     diagram.inception
 
 -- the deadline's line stands where its tick ends
-abbrev pub deadline_of : Line → Diagram → Option (ℕ × List ℕ)
-deadline_of of diagram =
-    option_map (λ t. (end_of diagram.window t, codes "deadline " ++ tick_said of.tick_us t))
+abbrev pub deadline_of : Line → Scale → Diagram → Option (ℕ × List ℕ)
+deadline_of of scale diagram =
+    option_map (λ t. (end_of scale t, codes "deadline " ++ tick_end_said of.tick_us t))
     diagram.deadline
 
 -- how a mark looks: its line, and its words at the right and at the left of it
@@ -59,5 +60,6 @@ flags top bottom (Some inception) (Some deadline) =
     flag inception_look (nat_le inception.0 deadline.0) top bottom inception
     ++ flag deadline_look (nat_lt deadline.0 inception.0) top bottom deadline
 
-abbrev pub marks : Line → Diagram → ℕ → ℕ → List SeenFigure
-marks of diagram top bottom = flags top bottom (inception_of of diagram) (deadline_of of diagram)
+abbrev pub marks : Line → Scale → Diagram → ℕ → ℕ → List SeenFigure
+marks of scale diagram top bottom =
+    flags top bottom (inception_of of scale diagram) (deadline_of of scale diagram)

@@ -1,7 +1,7 @@
 -- A row: its name, its base line and its bars, under a title that says all its stretches.
-use Rattle.std.specs.Prelude.{◌++◌, ◌-◌, ℕ, Bool, true, false, not, List, [], ◌∷◌, codes}
+use Rattle.std.specs.Prelude.{◌++◌, ◌-◌, ℕ, Bool, List, [], ◌∷◌, codes}
 use Rattle.std.specs.Prelude.{decimal, if◌then◌else◌}
-use Rattle.std.specs.List.{flat_map, list_any}
+use Rattle.std.specs.List.{flat_map}
 use Rattle.model_line.specs.Channels.{from_of, to_of}
 use Rattle.model_line.specs.declared.line.Line.{Line}
 use Rattle.model_names.specs.NamesByNumber.{terminal_name, element_text}
@@ -9,7 +9,10 @@ use Rattle.run_signal.specs.declared.tern.Tern.{Tern}
 use Rattle.run_signal.specs.declared.tern.Tern.TheVariants as tern
 use Rattle.draw_diagram.specs.declared.{rows.Row.Row, stretch.Stretch.Stretch, trace.Trace.Trace}
 use Rattle.draw_diagram.specs.declared.trace.Trace.TheVariants.{Seen, Lost, Logic, Key, Trip}
-use Rattle.draw_diagram.specs.declared.window.Window.{Window}
+use Rattle.draw_diagram.specs.Drawn.{is_off}
+use Rattle.draw_layout.specs.declared.scale.Scale.{Scale}
+use Rattle.draw_layout.specs.declared.bar.Bar.{Bar}
+use Rattle.draw_layout.specs.declared.bar.Bar.TheVariants as look
 use Rattle.draw_shapes.specs.declared.class.Class.{Class}
 use Rattle.draw_shapes.specs.declared.class.Class.TheVariants as class
 use Rattle.draw_shapes.specs.Seen.{SeenFigure, SeenShape}
@@ -84,18 +87,24 @@ abbrev pub stretches_said : List Stretch → List ℕ
 stretches_said [] = []
 stretches_said (s ∷ rest) = codes ": " ++ stretch_said s ++ others_said rest
 
+-- the steps of its channel's delay, if there are any
+abbrev pub other_marks_said : List ℕ → List ℕ
+other_marks_said rest = flat_map (λ t. codes ", " ++ decimal t) rest
+
+unfoldable pub first_mark_said : ℕ → List ℕ
+first_mark_said t = codes "; channel delay changes at " ++ decimal t
+
+abbrev pub marks_said : List ℕ → List ℕ
+marks_said [] = []
+marks_said (t ∷ rest) = first_mark_said t ++ other_marks_said rest
+
 -- `A trip: off 0 to 14, open 15 to 18, on 19 to 119`
 abbrev pub row_title : Line → Row → List ℕ
 row_title of shown =
     terminal_name of (terminal_of of shown.trace) ++ codes " " ++ row_name of shown.trace
-    ++ stretches_said shown.stretches.items
+    ++ stretches_said shown.stretches.items ++ marks_said shown.marks.items
 
 -- ---- its bars
-
-abbrev pub is_off : Tern → Bool
-is_off tern.Zero = true
-is_off tern.One = false
-is_off tern.Unknown = false
 
 -- how high the bars are
 abbrev pub bar_height : Trace → ℕ
@@ -105,66 +114,73 @@ bar_height (Logic what gate) = 110
 bar_height (Key k) = 160
 bar_height (Trip k) = 160
 
+-- how far a row goes above its base, with its marks
+abbrev pub row_height : Trace → ℕ
+row_height (Seen place) = 90
+row_height (Lost c) = 90
+row_height (Logic what gate) = 150
+row_height (Key k) = 160
+row_height (Trip k) = 160
+
 -- how a bar looks: on is full, open is hatched
-abbrev pub open_or : Class → Class → Tern → Class
+abbrev pub open_or : Bar → Bar → Tern → Bar
 open_or hatched full tern.Zero = full
 open_or hatched full tern.One = full
 open_or hatched full tern.Unknown = hatched
 
+abbrev pub bar_of : Trace → Tern → Bar
+bar_of (Seen place) value = look.Seen
+bar_of (Lost c) value = look.Seen
+bar_of (Logic what gate) value = open_or look.LogicOpen look.LogicOn value
+bar_of (Key k) value = open_or look.KeyOpen look.KeyOn value
+bar_of (Trip k) value = open_or look.TripOpen look.TripOn value
+
+abbrev pub class_of : Bar → Class
+class_of look.Seen = class.Seen
+class_of look.LogicOn = class.LogicOn
+class_of look.LogicOpen = class.LogicOpen
+class_of look.KeyOn = class.KeyOn
+class_of look.KeyOpen = class.KeyOpen
+class_of look.TripOn = class.TripOn
+class_of look.TripOpen = class.TripOpen
+
 abbrev pub bar_class : Trace → Tern → Class
-bar_class (Seen place) value = class.Seen
-bar_class (Lost c) value = class.Seen
-bar_class (Logic what gate) value = open_or class.LogicOpen class.LogicOn value
-bar_class (Key k) value = open_or class.KeyOpen class.KeyOn value
-bar_class (Trip k) value = open_or class.TripOpen class.TripOn value
+bar_class trace value = class_of (bar_of trace value)
 
 -- the bar of a stretch: from where its first tick begins to where its last one ends, its lower
 -- edge on the base
-abbrev pub bar : Window → Trace → ℕ → Stretch → SeenFigure
-bar window trace base s =
-    seen.rectangle (bar_class trace s.value) (place_of window s.from) (base - bar_height trace)
-    (place_of window s.to - place_of window s.from) (bar_height trace)
+abbrev pub bar : Scale → Trace → ℕ → Stretch → SeenFigure
+bar scale trace base s =
+    seen.rectangle (bar_class trace s.value) (place_of scale s.from) (base - bar_height trace)
+    (place_of scale s.to - place_of scale s.from) (bar_height trace)
 
 -- a bar for each stretch that is not off
-abbrev pub bar_if_any : Window → Trace → ℕ → Stretch → List SeenFigure
-bar_if_any window trace base s = if is_off s.value then [] else bar window trace base s ∷ []
+abbrev pub bar_if_any : Scale → Trace → ℕ → Stretch → List SeenFigure
+bar_if_any scale trace base s = if is_off s.value then [] else bar scale trace base s ∷ []
 
-abbrev pub bars : Window → Trace → ℕ → List Stretch → List SeenFigure
-bars window trace base stretches = flat_map (bar_if_any window trace base) stretches
+abbrev pub bars : Scale → Trace → ℕ → List Stretch → List SeenFigure
+bars scale trace base stretches = flat_map (bar_if_any scale trace base) stretches
+
+-- ---- its marks
+
+-- the mark of a tick: a stroke through the bar where the tick begins
+abbrev pub step_mark : Scale → ℕ → ℕ → List SeenFigure
+step_mark scale base t =
+    seen.rectangle class.Step (place_of scale t - 10) (base - 150) 20 150 ∷ []
+
+abbrev pub step_marks : Scale → ℕ → List ℕ → List SeenFigure
+step_marks scale base marks = flat_map (step_mark scale base) marks
 
 -- ---- the whole row
 
-abbrev pub is_shown : Stretch → Bool
-is_shown s = not (is_off s.value)
+-- its name, its base line, its bars, its marks
+abbrev pub row_figures : Line → Scale → ℕ → Row → List SeenFigure
+row_figures of scale base shown =
+    seen.text class.End (scale.left - 100) (base - 10) (row_name of shown.trace)
+    ∷ (seen.line class.Base scale.left base 7500 base
+    ∷ bars scale shown.trace base shown.stretches.items
+    ++ step_marks scale base shown.marks.items)
 
-abbrev pub is_ever_shown : List Stretch → Bool
-is_ever_shown stretches = list_any is_shown stretches
-
--- it changes at some tick
-abbrev pub changes : List Stretch → Bool
-changes [] = false
-changes (s ∷ []) = false
-changes (s ∷ (next ∷ rest)) = true
-
--- keys and trips are drawn always, what the script shows if it is on at some tick, a gate of the
--- logic if it changes
-abbrev pub is_drawn_by : Trace → List Stretch → Bool
-is_drawn_by (Seen place) stretches = is_ever_shown stretches
-is_drawn_by (Lost c) stretches = is_ever_shown stretches
-is_drawn_by (Logic what gate) stretches = changes stretches
-is_drawn_by (Key k) stretches = true
-is_drawn_by (Trip k) stretches = true
-
-abbrev pub is_drawn : Row → Bool
-is_drawn shown = is_drawn_by shown.trace shown.stretches.items
-
--- its name, its base line, its bars
-abbrev pub row_figures : Line → Window → ℕ → Row → List SeenFigure
-row_figures of window base shown =
-    seen.text class.End 1900 (base - 10) (row_name of shown.trace)
-    ∷ (seen.line class.Base 2000 base 7500 base
-    ∷ bars window shown.trace base shown.stretches.items)
-
-unfoldable pub row_shape : Line → Window → ℕ → Row → SeenShape
-row_shape of window base shown =
-    seen.titled (row_title of shown) (row_figures of window base shown)
+unfoldable pub row_shape : Line → Scale → ℕ → Row → SeenShape
+row_shape of scale base shown =
+    seen.titled (row_title of shown) (row_figures of scale base shown)

@@ -5,7 +5,7 @@ use Rattle.model_line.specs.declared.line.Line.{Line}
 use Rattle.judge_interval.specs.{declared.rule.Rule.Rule, Rules.rule_named}
 use Rattle.judge_interval.specs.declared.rule.Rule.TheVariants as rule
 use Rattle.draw_diagram.specs.{declared.diagram.Diagram.Diagram, declared.times.TripTimes.TripTimes}
-use Rattle.draw_diagram.specs.declared.window.Window.{Window}
+use Rattle.draw_layout.specs.declared.scale.Scale.{Scale}
 use Rattle.judge_report.specs.ReportText.{rule_word}
 use Rattle.draw_shapes.specs.declared.class.Class.{Class}
 use Rattle.draw_shapes.specs.declared.class.Class.TheVariants as class
@@ -31,18 +31,18 @@ span base left right =
     ∷ (seen.line class.Margin right (more base 50) right (more base 130) ∷ []))
 
 -- the margin: from the end of the first tick of the trip to the end of the deadline's
-abbrev pub margin_span : Window → ℕ → Option ℕ → Option ℕ → List SeenFigure
-margin_span window base (Some deadline) (Some first) =
-    span base (min (end_of window deadline) (end_of window first))
-    (max (end_of window deadline) (end_of window first))
-margin_span window base (Some deadline) None = []
-margin_span window base None (Some first) = []
-margin_span window base None None = []
+abbrev pub margin_span : Scale → ℕ → Option ℕ → Option ℕ → List SeenFigure
+margin_span scale base (Some deadline) (Some first) =
+    span base (min (end_of scale deadline) (end_of scale first))
+    (max (end_of scale deadline) (end_of scale first))
+margin_span scale base (Some deadline) None = []
+margin_span scale base None (Some first) = []
+margin_span scale base None None = []
 
-abbrev pub times_drawn : Line → Diagram → ℕ → Option TripTimes → List SeenFigure
-times_drawn of diagram base None = []
-times_drawn of diagram base (Some times) =
-    margin_span diagram.window base diagram.deadline times.first_must
+abbrev pub times_drawn : Line → Scale → Diagram → ℕ → Option TripTimes → List SeenFigure
+times_drawn of scale diagram base None = []
+times_drawn of scale diagram base (Some times) =
+    margin_span scale base diagram.deadline times.first_must
     ++ told (base - 10)
     (first_ticks_said (no_rules diagram.rules.items) times.first_may times.first_must)
     ++ told (more base 140)
@@ -60,7 +60,7 @@ rule_drawn base (Some r) =
     seen.text (rule_class r) 9100 (base - 10) (rule_word (rule_named r)) ∷ []
 
 -- what is drawn of terminal k's trip, whose bars stand on the base
-abbrev pub trip_drawn : Line → Diagram → ℕ → ℕ → List SeenFigure
-trip_drawn of diagram k base =
-    times_drawn of diagram base (slice_get diagram.trips.items k)
+abbrev pub trip_drawn : Line → Scale → Diagram → ℕ → ℕ → List SeenFigure
+trip_drawn of scale diagram k base =
+    times_drawn of scale diagram base (slice_get diagram.trips.items k)
     ++ rule_drawn base (slice_get diagram.rules.items k)

@@ -1,5 +1,5 @@
 -- Numbers as words.
-use Rattle.std.specs.Prelude.{◌++◌, ◌==◌, ◌/◌, ◌%◌, ◌*◌, ◌-◌, ◌^◌, ℕ, List, [], codes, decimal, min}
+use Rattle.std.specs.Prelude.{◌++◌, ◌+◌, ◌==◌, ◌/◌, ◌%◌, ◌*◌, ◌-◌, ◌^◌, ℕ, List, [], codes, decimal, min}
 use Rattle.std.specs.Prelude.{if◌then◌else◌}
 use Rattle.draw_layout.specs.declared.words.Words.{Words}
 
@@ -33,3 +33,9 @@ ticks_said tick_us ticks =
 abbrev pub tick_said : ℕ → ℕ → List ℕ
 tick_said tick_us t =
     decimal t ++ codes " (" ++ milliseconds_said (microseconds_of tick_us t) ++ codes " ms)"
+
+-- a tick, with the milliseconds at which it ends
+unfoldable pub tick_end_said : ℕ → ℕ → List ℕ
+tick_end_said tick_us t =
+    decimal t ++ codes " (ends at " ++ milliseconds_said (microseconds_of tick_us (t + 1))
+    ++ codes " ms)"

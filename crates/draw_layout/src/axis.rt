@@ -7,9 +7,8 @@ ghost use Rattle.draw_layout.specs.Scale.{step_of, more};
 ghost use Rattle.draw_shapes.specs.Seen.{figures_seen};
 ghost use Rattle.draw_diagram.specs.Traces.{each_of};
 
-use crate::scale::{LEFT, RIGHT, label_step, x_of};
+use crate::scale::{RIGHT, Scale, label_step, x_of};
 use crate::words::Words;
-use draw_diagram::Window;
 use draw_shapes::{Class, Figure, put_line, put_text};
 use model_line::{Line, Memory};
 use std::alloc::Global;
@@ -23,19 +22,19 @@ pub fn put_axis(
     alloc: Global,
     figures: &mut Vec<Figure>,
     of: &Line,
-    window: Window,
+    scale: Scale,
     top: u32,
     bottom: u32,
 ) -> Result<(), Memory>
     ensures { OnOk result (figures_seen figures.new.items
-        ≡ figures_seen figures.old.items ++ axis of.now window top bottom) }
+        ≡ figures_seen figures.old.items ++ axis of.now scale top bottom) }
 {
-    put_units(alloc, figures, bottom)?;
-    put_ticks(alloc, figures, of, window, top, bottom)?;
-    if window.first > 0 {
-        put_cut(figures, LEFT, bottom)?;
+    put_units(alloc, figures, scale, bottom)?;
+    put_ticks(alloc, figures, of, scale, top, bottom)?;
+    if scale.window.first > 0 {
+        put_cut(figures, scale.left, bottom)?;
     }
-    if window.last < of.horizon - 1 {
+    if scale.window.last < of.horizon - 1 {
         put_cut(figures, RIGHT, bottom)?;
     }
     Ok(())
@@ -43,11 +42,16 @@ pub fn put_axis(
 
 // What the two rows of numbers are, at the left of the longest number that may stand at the axis's
 // left end.
-fn put_units(alloc: Global, figures: &mut Vec<Figure>, bottom: u32) -> Result<(), Memory>
+fn put_units(
+    alloc: Global,
+    figures: &mut Vec<Figure>,
+    scale: Scale,
+    bottom: u32,
+) -> Result<(), Memory>
     ensures { OnOk result (figures_seen figures.new.items
-        ≡ figures_seen figures.old.items ++ units bottom) }
+        ≡ figures_seen figures.old.items ++ units scale bottom) }
 {
-    let x = LEFT - 520;
+    let x = scale.left.saturating_sub(520);
     let tick = Words::new(alloc).word(b"tick")?;
     let ms = Words::new(alloc).word(b"ms")?;
     put_text(
@@ -70,17 +74,17 @@ fn put_ticks(
     alloc: Global,
     figures: &mut Vec<Figure>,
     of: &Line,
-    window: Window,
+    scale: Scale,
     top: u32,
     bottom: u32,
 ) -> Result<(), Memory>
     ensures { OnOk result (figures_seen figures.new.items
         ≡ figures_seen figures.old.items
-        ++ each_of (more window.last 1) (round_tick of.now window top bottom)) }
+        ++ each_of (more scale.window.last 1) (round_tick of.now scale top bottom)) }
 {
-    let step = label_step(window, of.tick_us);
-    for t in 0..window.last.saturating_add(1) {
-        put_if_round(alloc, figures, of, window, step, t, top, bottom)?;
+    let step = label_step(scale, of.tick_us);
+    for t in 0..scale.window.last.saturating_add(1) {
+        put_if_round(alloc, figures, of, scale, step, t, top, bottom)?;
     }
     Ok(())
 }
@@ -90,19 +94,19 @@ fn put_if_round(
     alloc: Global,
     figures: &mut Vec<Figure>,
     of: &Line,
-    window: Window,
+    scale: Scale,
     step: u32,
     t: u32,
     top: u32,
     bottom: u32,
 ) -> Result<(), Memory>
-    requires step { step ≡ step_of window of.now.tick_us }
+    requires step { step ≡ step_of scale of.now.tick_us }
     requires some { 1 ≤ step }
     ensures { OnOk result (figures_seen figures.new.items
-        ≡ figures_seen figures.old.items ++ round_tick of.now window top bottom t) }
+        ≡ figures_seen figures.old.items ++ round_tick of.now scale top bottom t) }
 {
-    if window.first <= t && t % step == 0 {
-        put_tick(alloc, figures, of, window, t, top, bottom)?;
+    if scale.window.first <= t && t % step == 0 {
+        put_tick(alloc, figures, of, scale, t, top, bottom)?;
     }
     Ok(())
 }
@@ -112,15 +116,15 @@ fn put_tick(
     alloc: Global,
     figures: &mut Vec<Figure>,
     of: &Line,
-    window: Window,
+    scale: Scale,
     t: u32,
     top: u32,
     bottom: u32,
 ) -> Result<(), Memory>
     ensures { OnOk result (figures_seen figures.new.items
-        ≡ figures_seen figures.old.items ++ tick_drawn of.now window top bottom t) }
+        ≡ figures_seen figures.old.items ++ tick_drawn of.now scale top bottom t) }
 {
-    let x = x_of(window, t);
+    let x = x_of(scale, t);
     let tick = Words::new(alloc).number(t as u64)?;
     let ms = Words::new(alloc).milliseconds((t as u64).saturating_mul(of.tick_us as u64))?;
     put_line(figures, Class::Grid, (x, top), (x, bottom))?;
@@ -141,13 +145,13 @@ fn put_tick(
 
 // Two slanted strokes through the foot of the axis.
 fn put_cut(figures: &mut Vec<Figure>, x: u32, bottom: u32) -> Result<(), Memory>
-    requires high { x ≤ 7500 }
-    requires low { 2000 ≤ x }
     ensures { OnOk result (figures_seen figures.new.items
         ≡ figures_seen figures.old.items ++ cut x bottom) }
 {
     let (upper, lower) = (bottom.saturating_sub(50), bottom.saturating_add(50));
-    put_line(figures, Class::Margin, (x - 50, lower), (x - 10, upper))?;
-    put_line(figures, Class::Margin, (x + 10, lower), (x + 50, upper))?;
+    let before = (x.saturating_sub(50), x.saturating_sub(10));
+    let behind = (x.saturating_add(10), x.saturating_add(50));
+    put_line(figures, Class::Margin, (before.0, lower), (before.1, upper))?;
+    put_line(figures, Class::Margin, (behind.0, lower), (behind.1, upper))?;
     Ok(())
 }

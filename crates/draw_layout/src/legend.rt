@@ -1,17 +1,17 @@
-//! What the bars are, and what is not shown.
+//! Which ticks are shown, and what the bars and marks are that the rows have.
 
 ghost use Rattle.std.specs.Prelude.{◌≡◌, ◌-◌, ◌++◌, IfOk, OnOk};
-ghost use Rattle.draw_layout.specs.Legend.{entry, on_entries, signal_entries, open_entries};
-ghost use Rattle.draw_layout.specs.Legend.{shown_said, is_logic, shows_logic, has_logic};
-ghost use Rattle.draw_layout.specs.Legend.{logic_entries, logic_on, logic_open};
-ghost use Rattle.draw_layout.specs.Legend.{legend_said, legend, shows_all, all_said, some_said};
+ghost use Rattle.std.specs.List.{flat_map, list_any};
+ghost use Rattle.draw_layout.specs.Legend.{all_said, entry, entry_if_any, has_bar, has_mark};
+ghost use Rattle.draw_layout.specs.Legend.{legend, legend_said, looks_so, mark_entry};
+ghost use Rattle.draw_layout.specs.Legend.{mark_entry_if_any, row_has_bar, row_has_mark};
+ghost use Rattle.draw_layout.specs.Legend.{shown_said, shows_all, some_said};
 ghost use Rattle.draw_layout.specs.Words.{said};
 ghost use Rattle.draw_shapes.specs.Seen.{figures_seen};
 
-use crate::row::is_drawn;
-use crate::trip::has_no_rules;
+use crate::bar::{BARS, Bar, bar_of};
 use crate::words::Words;
-use draw_diagram::{Diagram, Row, Trace, Window};
+use draw_diagram::{Diagram, Row, Stretch, Trace, Window, has_marks, is_off};
 use draw_shapes::{Class, Figure, put_rectangle, put_text};
 use model_line::{Line, Memory};
 use std::alloc::Global;
@@ -19,7 +19,8 @@ use std::alloc::Global;
 /// How much lies below the axis for the legend.
 pub const LEGEND_HEIGHT: u32 = 720;
 
-/// Appends the legend from `top` on, and the ticks that are not shown.
+/// Appends the legend from `top` on: the ticks that are shown, and below that an entry for each look
+/// that some bar has, and one for marks where there are any.
 pub fn put_legend(
     alloc: Global,
     figures: &mut Vec<Figure>,
@@ -30,126 +31,126 @@ pub fn put_legend(
     ensures { OnOk result (figures_seen figures.new.items
         ≡ figures_seen figures.old.items ++ legend of.now diagram.now top) }
 {
-    let y = top.saturating_add(180);
-    put_on(alloc, figures, y)?;
-    put_open(alloc, figures, has_no_rules(diagram.rules.as_slice()), y)?;
     let said = legend_words(alloc, of, diagram.window)?;
     put_text(
         figures,
         Class::Quiet,
-        (140, top.saturating_add(400)),
+        (140, top.saturating_add(180)),
         said.bytes,
     )?;
-    put_logic(
-        alloc,
-        figures,
-        has_logic(diagram.rows.as_slice()),
-        has_no_rules(diagram.rules.as_slice()),
-        top.saturating_add(580),
-    )
+    let rows = diagram.rows.as_slice();
+    put_entries(alloc, figures, rows, top, &BARS)?;
+    put_mark_entry_if_any(alloc, figures, rows, top)
 }
 
-fn has_logic(rows: &[Row]) -> bool
-    ensures { result ≡ has_logic rows.now }
-{
-    rows.iter().any(|row| shows_logic(row))
-}
-
-fn shows_logic(row: &Row) -> bool
-    ensures { result ≡ shows_logic row.now }
-{
-    is_logic(row.trace) && is_drawn(row)
-}
-
-fn is_logic(trace: Trace) -> bool
-    ensures { result ≡ is_logic trace }
-{
-    match trace {
-        Trace::Logic(_, _) => true,
-        Trace::Seen(_) | Trace::Lost(_) | Trace::Key(_) | Trace::Trip(_) => false,
-    }
-}
-
-fn put_logic(
+// Appends an entry for each of these looks that some bar has.
+fn put_entries(
     alloc: Global,
     figures: &mut Vec<Figure>,
-    is_there: bool,
-    is_play: bool,
-    y: u32,
+    rows: &[Row],
+    top: u32,
+    bars: &[Bar],
 ) -> Result<(), Memory>
     ensures { OnOk result (figures_seen figures.new.items
-        ≡ figures_seen figures.old.items ++ logic_entries is_there is_play y) }
+        ≡ figures_seen figures.old.items ++ flat_map (entry_if_any rows.now top) bars.now) }
 {
-    if !is_there {
-        return Ok(());
+    for bar in bars {
+        put_entry_if_any(alloc, figures, rows, top, *bar)?;
     }
-    put_logic_on(alloc, figures, y)?;
-    put_logic_open(alloc, figures, is_play, y)
+    Ok(())
 }
 
-#[tactic(auto, unfolding(crate::specs::Legend::logic_on))]
-fn put_logic_on(alloc: Global, figures: &mut Vec<Figure>, y: u32) -> Result<(), Memory>
-    ensures { OnOk result (figures_seen figures.new.items
-        ≡ figures_seen figures.old.items ++ logic_on y) }
-{
-    let said: &[u8] = b"received, or a step of the scheme";
-    put_entry(alloc, figures, 140, y, Class::LogicOn, said)
-}
-
-#[tactic(auto, unfolding(crate::specs::Legend::logic_open))]
-fn put_logic_open(
+fn put_entry_if_any(
     alloc: Global,
     figures: &mut Vec<Figure>,
-    is_play: bool,
-    y: u32,
+    rows: &[Row],
+    top: u32,
+    bar: Bar,
 ) -> Result<(), Memory>
     ensures { OnOk result (figures_seen figures.new.items
-        ≡ figures_seen figures.old.items ++ logic_open is_play y) }
+        ≡ figures_seen figures.old.items ++ entry_if_any rows.now top bar) }
 {
-    if is_play {
+    if !has_bar(rows, bar) {
         return Ok(());
     }
-    let said: &[u8] = b"on or off, by the delays";
-    put_entry(alloc, figures, 3900, y, Class::LogicOpen, said)
+    let y = top.saturating_add(bar.below());
+    put_entry(alloc, figures, bar.left(), y, bar.class(), bar.said())
 }
 
-#[tactic(auto, unfolding(crate::specs::Legend::on_entries))]
-fn put_on(alloc: Global, figures: &mut Vec<Figure>, y: u32) -> Result<(), Memory>
-    ensures { OnOk result (figures_seen figures.new.items
-        ≡ figures_seen figures.old.items ++ on_entries y) }
+// Whether some bar of the rows that are drawn looks so.
+fn has_bar(rows: &[Row], bar: Bar) -> bool
+    ensures { result ≡ has_bar bar rows.now }
 {
-    put_entry(
-        alloc,
+    rows.iter().any(|row| row_has_bar(row, bar))
+}
+
+fn row_has_bar(row: &Row, bar: Bar) -> bool
+    ensures { result ≡ row_has_bar bar row.now }
+{
+    row.is_drawn && some_looks_so(row.stretches.as_slice(), row.trace, bar)
+}
+
+fn some_looks_so(stretches: &[Stretch], trace: Trace, bar: Bar) -> bool
+    ensures { result ≡ list_any (looks_so bar trace) stretches.now }
+{
+    stretches.iter().any(|s| looks_so(s, trace, bar))
+}
+
+fn looks_so(stretch: &Stretch, trace: Trace, bar: Bar) -> bool
+    ensures { result ≡ looks_so bar trace stretch.now }
+{
+    !is_off(stretch.value) && bar_of(trace, stretch.value) == bar
+}
+
+// Whether some row that is drawn has a mark.
+fn has_mark(rows: &[Row]) -> bool
+    ensures { result ≡ has_mark rows.now }
+{
+    rows.iter().any(|row| row_has_mark(row))
+}
+
+fn row_has_mark(row: &Row) -> bool
+    ensures { result ≡ row_has_mark row.now }
+{
+    row.is_drawn && has_marks(row.marks.as_slice())
+}
+
+fn put_mark_entry_if_any(
+    alloc: Global,
+    figures: &mut Vec<Figure>,
+    rows: &[Row],
+    top: u32,
+) -> Result<(), Memory>
+    ensures { OnOk result (figures_seen figures.new.items
+        ≡ figures_seen figures.old.items ++ mark_entry_if_any rows.now top) }
+{
+    if !has_mark(rows) {
+        return Ok(());
+    }
+    let y = top.saturating_add(580);
+    put_mark_entry(alloc, figures, y, b"change of channel delay")
+}
+
+// A mark and what it is.
+#[tactic(auto, unfolding(crate::specs::Legend::mark_entry))]
+fn put_mark_entry(
+    alloc: Global,
+    figures: &mut Vec<Figure>,
+    y: u32,
+    what: &[u8],
+) -> Result<(), Memory>
+    ensures { OnOk result (figures_seen figures.new.items
+        ≡ figures_seen figures.old.items ++ mark_entry y what.now) }
+{
+    let said = Words::new(alloc).word(what)?;
+    put_rectangle(
         figures,
-        140,
-        y,
-        Class::Seen,
-        b"seen, or channel lost",
+        Class::Step,
+        (250, y.saturating_sub(130)),
+        (20, 150),
     )?;
-    put_signals(alloc, figures, y)
-}
-
-#[tactic(auto, unfolding(crate::specs::Legend::signal_entries))]
-fn put_signals(alloc: Global, figures: &mut Vec<Figure>, y: u32) -> Result<(), Memory>
-    ensures { OnOk result (figures_seen figures.new.items
-        ≡ figures_seen figures.old.items ++ signal_entries y) }
-{
-    put_entry(alloc, figures, 1900, y, Class::KeyOn, b"key on")?;
-    put_entry(alloc, figures, 2900, y, Class::TripOn, b"trip on")
-}
-
-#[tactic(auto, unfolding(crate::specs::Legend::open_entries))]
-fn put_open(alloc: Global, figures: &mut Vec<Figure>, is_play: bool, y: u32) -> Result<(), Memory>
-    ensures { OnOk result (figures_seen figures.new.items
-        ≡ figures_seen figures.old.items ++ open_entries is_play y) }
-{
-    if is_play {
-        return Ok(());
-    }
-    let key: &[u8] = b"key on or off, by the delays";
-    let trip: &[u8] = b"trip on or off, by the delays";
-    put_entry(alloc, figures, 3900, y, Class::KeyOpen, key)?;
-    put_entry(alloc, figures, 6200, y, Class::TripOpen, trip)
+    put_text(figures, Class::Quiet, (450, y), said.bytes)?;
+    Ok(())
 }
 
 // A bar and what it is.

@@ -4,8 +4,10 @@
 #![tactic(auto)]
 
 mod axis;
+mod bar;
 mod heading;
 mod laws;
+mod left;
 mod legend;
 mod mark;
 mod row;

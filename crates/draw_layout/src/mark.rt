@@ -3,10 +3,10 @@
 ghost use Rattle.std.specs.Prelude.{◌≡◌, ◌++◌, IfOk, OnOk, option_map};
 ghost use Rattle.draw_layout.specs.Marks.{deadline_of, inception_of, view_of, flag, marks};
 ghost use Rattle.draw_layout.specs.Marks.{deadline_look, inception_look, flags};
-ghost use Rattle.draw_layout.specs.Words.{said, tick_said};
+ghost use Rattle.draw_layout.specs.Words.{said, tick_end_said, tick_said};
 ghost use Rattle.draw_shapes.specs.Seen.{figures_seen};
 
-use crate::scale::x_of;
+use crate::scale::{Scale, x_of};
 use crate::words::Words;
 use draw_diagram::Diagram;
 use draw_shapes::{Class, Figure, put_line, put_text};
@@ -35,15 +35,16 @@ pub fn put_marks(
     alloc: Global,
     figures: &mut Vec<Figure>,
     of: &Line,
+    scale: Scale,
     diagram: &Diagram,
     top: u32,
     bottom: u32,
 ) -> Result<(), Memory>
     ensures { OnOk result (figures_seen figures.new.items
-        ≡ figures_seen figures.old.items ++ marks of.now diagram.now top bottom) }
+        ≡ figures_seen figures.old.items ++ marks of.now scale diagram.now top bottom) }
 {
-    let inception = inception_mark(alloc, of, diagram)?;
-    let deadline = deadline_mark(alloc, of, diagram)?;
+    let inception = inception_mark(alloc, of, scale, diagram)?;
+    let deadline = deadline_mark(alloc, of, scale, diagram)?;
     put_both(figures, inception, deadline, top, bottom)
 }
 
@@ -71,31 +72,41 @@ fn put_both(
 }
 
 // The mark of the inception.
-fn inception_mark(alloc: Global, of: &Line, diagram: &Diagram) -> Result<Option<Mark>, Memory>
+fn inception_mark(
+    alloc: Global,
+    of: &Line,
+    scale: Scale,
+    diagram: &Diagram,
+) -> Result<Option<Mark>, Memory>
     ensures { IfOk result (λ mark.
-        option_map view_of mark ≡ inception_of of.now diagram.now) }
+        option_map view_of mark ≡ inception_of of.now scale diagram.now) }
 {
     let Some(t) = diagram.inception else {
         return Ok(None);
     };
     let said = at_tick(Words::new(alloc).word(b"fault ")?, of, t)?;
     Ok(Some(Mark {
-        x: x_of(diagram.window, t),
+        x: x_of(scale, t),
         said,
     }))
 }
 
 // The mark of the deadline.
-fn deadline_mark(alloc: Global, of: &Line, diagram: &Diagram) -> Result<Option<Mark>, Memory>
+fn deadline_mark(
+    alloc: Global,
+    of: &Line,
+    scale: Scale,
+    diagram: &Diagram,
+) -> Result<Option<Mark>, Memory>
     ensures { IfOk result (λ mark.
-        option_map view_of mark ≡ deadline_of of.now diagram.now) }
+        option_map view_of mark ≡ deadline_of of.now scale diagram.now) }
 {
     let Some(t) = diagram.deadline else {
         return Ok(None);
     };
-    let said = at_tick(Words::new(alloc).word(b"deadline ")?, of, t)?;
+    let said = at_end_of_tick(Words::new(alloc).word(b"deadline ")?, of, t)?;
     Ok(Some(Mark {
-        x: x_of(diagram.window, t.saturating_add(1)),
+        x: x_of(scale, t.saturating_add(1)),
         said,
     }))
 }
@@ -108,6 +119,18 @@ fn at_tick(words: Words, of: &Line, t: u32) -> Result<Words, Memory>
         .number(t as u64)?
         .word(b" (")?
         .milliseconds((t as u64).saturating_mul(of.tick_us as u64))?
+        .word(b" ms)")
+}
+
+// And a tick, with the milliseconds at which it ends.
+#[tactic(auto, unfolding(crate::specs::Words::tick_end_said))]
+fn at_end_of_tick(words: Words, of: &Line, t: u32) -> Result<Words, Memory>
+    ensures { IfOk result (λ all. said all ≡ said words ++ tick_end_said of.now.tick_us t) }
+{
+    words
+        .number(t as u64)?
+        .word(b" (ends at ")?
+        .milliseconds((t as u64 + 1).saturating_mul(of.tick_us as u64))?
         .word(b" ms)")
 }
 

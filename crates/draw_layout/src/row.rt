@@ -2,8 +2,8 @@
 
 ghost use Rattle.std.specs.Prelude.{◌≡◌, ◌≤◌, ◌++◌, ◌∷◌, [], IfOk, OnOk};
 ghost use Rattle.draw_layout.specs.{Scale.place_of, Words.said};
-ghost use Rattle.draw_layout.specs.Rows.{is_drawn, is_ever_shown, is_shown, is_off, bar_height};
-ghost use Rattle.draw_layout.specs.Rows.{bar_class, row_name, changes, role_name, role_home};
+ghost use Rattle.draw_layout.specs.Rows.{bar_height, first_mark_said, marks_said, row_name};
+ghost use Rattle.draw_layout.specs.Rows.{other_marks_said, role_home, role_name, step_mark, step_marks};
 ghost use Rattle.draw_layout.specs.Rows.{others_said, terminal_of, value_word, stretch_said};
 ghost use Rattle.draw_layout.specs.Rows.{stretches_said};
 ghost use Rattle.draw_layout.specs.Rows.{row_title, bar_if_any, bars, row_figures, row_shape};
@@ -11,56 +11,16 @@ ghost use Rattle.draw_shapes.specs.Seen.{figures_seen, shape_seen};
 ghost use Rattle.model_line.specs.Channels.{from_of};
 ghost use Rattle.model_names.specs.NamesByNumber.{terminal_name};
 
-use crate::scale::{LEFT, RIGHT, x_of};
+use crate::bar::bar_of;
+use crate::scale::{RIGHT, Scale, x_of};
 use crate::words::Words;
-use draw_diagram::{Row, Stretch, Trace, Window};
+use draw_diagram::{Row, Stretch, Trace, is_off};
 use draw_roles::{Role, receiver};
 use draw_shapes::{Class, Figure, Shape, put_line, put_rectangle, put_text};
 use model_line::{Line, Memory};
 use model_names::{element_word, name_of_terminal};
 use run_signal::Tern;
 use std::alloc::Global;
-
-/// Whether a row is drawn: keys and trips always, and what the script shows at some tick.
-pub fn is_drawn(row: &Row) -> bool
-    ensures { result ≡ is_drawn row.now }
-{
-    match row.trace {
-        Trace::Key(_) | Trace::Trip(_) => true,
-        Trace::Seen(_) | Trace::Lost(_) => is_ever_shown(row.stretches.as_slice()),
-        Trace::Logic(_, _) => changes(row.stretches.as_slice()),
-    }
-}
-
-fn changes(stretches: &[Stretch]) -> bool
-    ensures { result ≡ changes stretches.now }
-{
-    match stretches {
-        [] | [_] => false,
-        [_, _, ..] => true,
-    }
-}
-
-fn is_ever_shown(stretches: &[Stretch]) -> bool
-    ensures { result ≡ is_ever_shown stretches.now }
-{
-    stretches.iter().any(|s| is_shown(s))
-}
-
-fn is_shown(stretch: &Stretch) -> bool
-    ensures { result ≡ is_shown stretch.now }
-{
-    !is_off(stretch.value)
-}
-
-fn is_off(value: Tern) -> bool
-    ensures { result ≡ is_off value }
-{
-    match value {
-        Tern::Zero => true,
-        Tern::One | Tern::Unknown => false,
-    }
-}
 
 // How high the bars of a row are.
 fn bar_height(trace: Trace) -> u32
@@ -73,8 +33,8 @@ fn bar_height(trace: Trace) -> u32
     }
 }
 
-// The name of a row within its terminal.
-fn row_name(alloc: Global, of: &Line, trace: Trace) -> Result<Words, Memory>
+/// The name of a row within its terminal.
+pub fn row_name(alloc: Global, of: &Line, trace: Trace) -> Result<Words, Memory>
     ensures { IfOk result (λ words. said words ≡ row_name of.now trace) }
 {
     let words = Words::new(alloc);
@@ -139,8 +99,8 @@ fn sender_name<'a>(of: &'a Line, channel: u32) -> &'a [u8]
     name_of_terminal(of, sender)
 }
 
-// The terminal of a row.
-fn terminal_of(of: &Line, trace: Trace) -> u32
+/// The terminal of a row.
+pub fn terminal_of(of: &Line, trace: Trace) -> u32
     ensures { result ≡ terminal_of of.now trace }
 {
     match trace {
@@ -155,60 +115,61 @@ fn terminal_of(of: &Line, trace: Trace) -> u32
 }
 
 /// A row: its name, its base line and a bar for each stretch that is not off, whose lower edge is
-/// at `base`. Its title says all stretches.
+/// at `base`, and its marks. Its title says all stretches and marks.
 #[tactic(auto, unfolding(crate::specs::Rows::row_shape))]
 pub fn drawn_row(
     alloc: Global,
     of: &Line,
-    window: Window,
+    scale: Scale,
     row: &Row,
     base: u32,
 ) -> Result<Shape, Memory>
-    ensures { IfOk result (λ shape. shape_seen shape ≡ row_shape of.now window base row.now) }
+    ensures { IfOk result (λ shape. shape_seen shape ≡ row_shape of.now scale base row.now) }
 {
     let title = row_title(alloc, of, row)?;
-    let figures = row_figures(alloc, of, window, row, base)?;
+    let figures = row_figures(alloc, of, scale, row, base)?;
     Ok(Shape::Titled(title.bytes, figures))
 }
 
 fn row_figures(
     alloc: Global,
     of: &Line,
-    window: Window,
+    scale: Scale,
     row: &Row,
     base: u32,
 ) -> Result<Vec<Figure>, Memory>
     ensures { IfOk result (λ figures.
-        figures_seen figures.items ≡ row_figures of.now window base row.now) }
+        figures_seen figures.items ≡ row_figures of.now scale base row.now) }
 {
     let name = row_name(alloc, of, row.trace)?;
     let mut figures = Vec::new(alloc);
-    let at = (LEFT - 100, base.saturating_sub(10));
+    let at = (scale.left.saturating_sub(100), base.saturating_sub(10));
     put_text(&mut figures, Class::End, at, name.bytes)?;
-    put_line(&mut figures, Class::Base, (LEFT, base), (RIGHT, base))?;
+    put_line(&mut figures, Class::Base, (scale.left, base), (RIGHT, base))?;
     put_bars(
         &mut figures,
-        window,
+        scale,
         row.trace,
         row.stretches.as_slice(),
         base,
     )?;
+    put_step_marks(&mut figures, scale, row.marks.as_slice(), base)?;
     Ok(figures)
 }
 
 // Appends a bar for each stretch that is not off.
 fn put_bars(
     figures: &mut Vec<Figure>,
-    window: Window,
+    scale: Scale,
     trace: Trace,
     stretches: &[Stretch],
     base: u32,
 ) -> Result<(), Memory>
     ensures { OnOk result (figures_seen figures.new.items
-        ≡ figures_seen figures.old.items ++ bars window trace base stretches.now) }
+        ≡ figures_seen figures.old.items ++ bars scale trace base stretches.now) }
 {
     for stretch in stretches {
-        put_bar(figures, window, trace, stretch, base)?;
+        put_bar(figures, scale, trace, stretch, base)?;
     }
     Ok(())
 }
@@ -216,38 +177,49 @@ fn put_bars(
 // Appends the bar of a stretch, if it is not off.
 fn put_bar(
     figures: &mut Vec<Figure>,
-    window: Window,
+    scale: Scale,
     trace: Trace,
     stretch: &Stretch,
     base: u32,
 ) -> Result<(), Memory>
     ensures { OnOk result (figures_seen figures.new.items
-        ≡ figures_seen figures.old.items ++ bar_if_any window trace base stretch.now) }
+        ≡ figures_seen figures.old.items ++ bar_if_any scale trace base stretch.now) }
 {
     if is_off(stretch.value) {
         return Ok(());
     }
     let height = bar_height(trace);
-    let from = x_of(window, stretch.from);
-    let to = x_of(window, stretch.to);
-    let class = bar_class(trace, stretch.value);
+    let from = x_of(scale, stretch.from);
+    let to = x_of(scale, stretch.to);
+    let class = bar_of(trace, stretch.value).class();
     let corner = (from, base.saturating_sub(height));
     put_rectangle(figures, class, corner, (to.saturating_sub(from), height))?;
     Ok(())
 }
 
-fn bar_class(trace: Trace, value: Tern) -> Class
-    ensures { result ≡ bar_class trace value }
+// Appends a mark at each of these ticks.
+fn put_step_marks(
+    figures: &mut Vec<Figure>,
+    scale: Scale,
+    marks: &[u32],
+    base: u32,
+) -> Result<(), Memory>
+    ensures { OnOk result (figures_seen figures.new.items
+        ≡ figures_seen figures.old.items ++ step_marks scale base marks.now) }
 {
-    match (trace, value) {
-        (Trace::Logic(_, _), Tern::Unknown) => Class::LogicOpen,
-        (Trace::Logic(_, _), _) => Class::LogicOn,
-        (Trace::Key(_), Tern::Unknown) => Class::KeyOpen,
-        (Trace::Key(_), _) => Class::KeyOn,
-        (Trace::Trip(_), Tern::Unknown) => Class::TripOpen,
-        (Trace::Trip(_), _) => Class::TripOn,
-        _ => Class::Seen,
+    for mark in marks {
+        put_step_mark(figures, scale, *mark, base)?;
     }
+    Ok(())
+}
+
+fn put_step_mark(figures: &mut Vec<Figure>, scale: Scale, t: u32, base: u32) -> Result<(), Memory>
+    ensures { OnOk result (figures_seen figures.new.items
+        ≡ figures_seen figures.old.items ++ step_mark scale base t) }
+{
+    let corner = (x_of(scale, t).saturating_sub(10), base.saturating_sub(150));
+    put_rectangle(figures, Class::Step, corner, (20, 150))?;
+    Ok(())
 }
 
 // What a row says in words: `A trip: off 0 to 14, open 15 to 18, on 19 to 119`.
@@ -259,7 +231,35 @@ fn row_title(alloc: Global, of: &Line, row: &Row) -> Result<Words, Memory>
         .word(name_of_terminal(of, terminal_of(of, row.trace)))?
         .word(b" ")?
         .word(name.bytes.as_slice())?;
-    stretches_said(title, row.stretches.as_slice())
+    let title = stretches_said(title, row.stretches.as_slice())?;
+    marks_said(title, row.marks.as_slice())
+}
+
+// And the steps of its channel's delay, if there are any.
+fn marks_said(words: Words, marks: &[u32]) -> Result<Words, Memory>
+    ensures { IfOk result (λ all. said all ≡ said words ++ marks_said marks.now) }
+{
+    match marks {
+        [] => Ok(words),
+        [first, rest @ ..] => other_marks_said(first_mark_said(words, *first)?, rest),
+    }
+}
+
+#[tactic(auto, unfolding(crate::specs::Rows::first_mark_said))]
+fn first_mark_said(words: Words, t: u32) -> Result<Words, Memory>
+    ensures { IfOk result (λ all. said all ≡ said words ++ first_mark_said t) }
+{
+    words.word(b"; channel delay changes at ")?.tick(t)
+}
+
+fn other_marks_said(words: Words, marks: &[u32]) -> Result<Words, Memory>
+    ensures { IfOk result (λ all. said all ≡ said words ++ other_marks_said marks.now) }
+{
+    let mut all = words;
+    for mark in marks {
+        all = all.word(b", ")?.tick(*mark)?;
+    }
+    Ok(all)
 }
 
 // And all stretches, the first behind a colon, each other behind a comma.

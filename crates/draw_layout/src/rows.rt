@@ -6,7 +6,8 @@ ghost use Rattle.draw_layout.specs.Drawings.{height_below, name_drawn, beside, r
 ghost use Rattle.draw_layout.specs.Drawings.{rows_drawn, bottom_of};
 ghost use Rattle.draw_shapes.specs.Seen.{figures_seen, shapes_seen};
 
-use crate::row::{drawn_row, is_drawn};
+use crate::row::drawn_row;
+use crate::scale::Scale;
 use crate::trip::put_trip;
 use crate::words::Words;
 use draw_diagram::{Diagram, Row, Trace};
@@ -23,13 +24,22 @@ pub fn put_rows(
     alloc: Global,
     shapes: &mut Vec<Shape>,
     line: &Line,
+    scale: Scale,
     diagram: &Diagram,
 ) -> Result<(), Memory>
     ensures { OnOk result (shapes_seen shapes.new.items
         ≡ shapes_seen shapes.old.items
-        ++ rows_drawn line.now diagram.now 600 diagram.now.rows.items) }
+        ++ rows_drawn line.now scale diagram.now 600 diagram.now.rows.items) }
 {
-    put_from(alloc, shapes, line, diagram, TOP, diagram.rows.as_slice())
+    put_from(
+        alloc,
+        shapes,
+        line,
+        scale,
+        diagram,
+        TOP,
+        diagram.rows.as_slice(),
+    )
 }
 
 // Appends rows from y on.
@@ -37,20 +47,21 @@ fn put_from(
     alloc: Global,
     shapes: &mut Vec<Shape>,
     line: &Line,
+    scale: Scale,
     diagram: &Diagram,
     y: u32,
     rows: &[Row],
 ) -> Result<(), Memory>
     ensures { OnOk result (shapes_seen shapes.new.items
-        ≡ shapes_seen shapes.old.items ++ rows_drawn line.now diagram.now y rows.now) }
+        ≡ shapes_seen shapes.old.items ++ rows_drawn line.now scale diagram.now y rows.now) }
 {
     match rows {
         [] => Ok(()),
         [shown, rest @ ..] => {
             let base = y.saturating_add(height_above(shown));
-            put_row(alloc, shapes, line, diagram, base, shown)?;
+            put_row(alloc, shapes, line, scale, diagram, base, shown)?;
             let end = base.saturating_add(height_below(shown.trace));
-            put_from(alloc, shapes, line, diagram, end, rest)
+            put_from(alloc, shapes, line, scale, diagram, end, rest)
         }
     }
 }
@@ -74,16 +85,17 @@ fn put_row(
     alloc: Global,
     shapes: &mut Vec<Shape>,
     line: &Line,
+    scale: Scale,
     diagram: &Diagram,
     base: u32,
     shown: &Row,
 ) -> Result<(), Memory>
     ensures { OnOk result (shapes_seen shapes.new.items
-        ≡ shapes_seen shapes.old.items ++ row_drawn line.now diagram.now base shown.now) }
+        ≡ shapes_seen shapes.old.items ++ row_drawn line.now scale diagram.now base shown.now) }
 {
-    let written = beside(alloc, line, diagram, base, shown)?;
-    if is_drawn(shown) {
-        let drawn = drawn_row(alloc, line, diagram.window, shown, base)?;
+    let written = beside(alloc, line, scale, diagram, base, shown)?;
+    if shown.is_drawn {
+        let drawn = drawn_row(alloc, line, scale, shown, base)?;
         shapes.push(drawn)?;
     }
     shapes.push(Shape::Plain(written))?;
@@ -94,12 +106,13 @@ fn put_row(
 fn beside(
     alloc: Global,
     line: &Line,
+    scale: Scale,
     diagram: &Diagram,
     base: u32,
     shown: &Row,
 ) -> Result<Vec<Figure>, Memory>
     ensures { IfOk result (λ figures.
-        figures_seen figures.items ≡ beside line.now diagram.now base shown.now) }
+        figures_seen figures.items ≡ beside line.now scale diagram.now base shown.now) }
 {
     let mut figures = Vec::new(alloc);
     match shown.trace {
@@ -108,7 +121,7 @@ fn beside(
                 put_name(alloc, &mut figures, line, shown, place.terminal, base)?;
             }
         }
-        Trace::Trip(k) => put_trip(alloc, &mut figures, line, diagram, k, base)?,
+        Trace::Trip(k) => put_trip(alloc, &mut figures, line, scale, diagram, k, base)?,
         Trace::Lost(_) | Trace::Logic(_, _) | Trace::Key(_) => {}
     }
     Ok(figures)
@@ -125,7 +138,7 @@ fn put_name(
     ensures { OnOk result (figures_seen figures.new.items
         ≡ figures_seen figures.old.items ++ name_drawn line.now shown.now k base) }
 {
-    let room = if is_drawn(shown) { 190 } else { 0 };
+    let room = if shown.is_drawn { 190 } else { 0 };
     let y = base.saturating_sub(room).saturating_sub(60);
     let said = Words::new(alloc).word(name_of_terminal(line, k))?;
     put_text(figures, Class::Terminal, (140, y), said.bytes)?;
@@ -138,7 +151,7 @@ fn height_above(row: &Row) -> u32
     ensures { result ≡ height_above row.now }
 {
     let name: u32 = if begins_terminal(row.trace) { 270 } else { 0 };
-    let room = if is_drawn(row) {
+    let room = if row.is_drawn {
         room_above(row.trace)
     } else {
         0

@@ -8,9 +8,9 @@ ghost use Rattle.draw_layout.specs.Trips.{rule_class, rule_drawn, trip_drawn};
 ghost use Rattle.draw_layout.specs.Words.{said};
 ghost use Rattle.draw_shapes.specs.Seen.{figures_seen};
 
-use crate::scale::{RIGHT, x_of};
+use crate::scale::{RIGHT, Scale, x_of};
 use crate::words::Words;
-use draw_diagram::{Diagram, TripTimes, Window};
+use draw_diagram::{Diagram, TripTimes};
 use draw_shapes::{Class, Figure, put_line, put_text};
 use judge_interval::Rule;
 use judge_report::rule_word;
@@ -29,17 +29,19 @@ pub fn put_trip(
     alloc: Global,
     figures: &mut Vec<Figure>,
     of: &Line,
+    scale: Scale,
     diagram: &Diagram,
     k: u32,
     base: u32,
 ) -> Result<(), Memory>
     ensures { OnOk result (figures_seen figures.new.items
-        ≡ figures_seen figures.old.items ++ trip_drawn of.now diagram.now k base) }
+        ≡ figures_seen figures.old.items ++ trip_drawn of.now scale diagram.now k base) }
 {
     put_times(
         alloc,
         figures,
         of,
+        scale,
         diagram,
         times_at(diagram.trips.as_slice(), k),
         base,
@@ -64,23 +66,18 @@ fn put_times(
     alloc: Global,
     figures: &mut Vec<Figure>,
     of: &Line,
+    scale: Scale,
     diagram: &Diagram,
     times: Option<TripTimes>,
     base: u32,
 ) -> Result<(), Memory>
     ensures { OnOk result (figures_seen figures.new.items
-        ≡ figures_seen figures.old.items ++ times_drawn of.now diagram.now base times) }
+        ≡ figures_seen figures.old.items ++ times_drawn of.now scale diagram.now base times) }
 {
     let Some(times) = times else {
         return Ok(());
     };
-    put_margin(
-        figures,
-        diagram.window,
-        base,
-        diagram.deadline,
-        times.first_must,
-    )?;
+    put_margin(figures, scale, base, diagram.deadline, times.first_must)?;
     let is_play = has_no_rules(diagram.rules.as_slice());
     let first = first_ticks(alloc, is_play, &times)?;
     put_told(figures, base.saturating_sub(10), first)?;
@@ -157,18 +154,18 @@ fn margin(
 // the trip to the end of the deadline's.
 fn put_margin(
     figures: &mut Vec<Figure>,
-    window: Window,
+    scale: Scale,
     base: u32,
     deadline: Option<u32>,
     first: Option<u32>,
 ) -> Result<(), Memory>
     ensures { OnOk result (figures_seen figures.new.items
-        ≡ figures_seen figures.old.items ++ margin_span window base deadline first) }
+        ≡ figures_seen figures.old.items ++ margin_span scale base deadline first) }
 {
     match (deadline, first) {
         (Some(deadline), Some(first)) => {
-            let due = x_of(window, deadline.saturating_add(1));
-            let trip = x_of(window, first.saturating_add(1));
+            let due = x_of(scale, deadline.saturating_add(1));
+            let trip = x_of(scale, first.saturating_add(1));
             put_span(figures, base, due.min(trip), due.max(trip))
         }
         (Some(_), None) | (None, _) => Ok(()),

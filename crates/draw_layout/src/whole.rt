@@ -4,14 +4,17 @@ ghost use Rattle.std.specs.Prelude.{◌≡◌, ◌<◌, IfOk};
 ghost use Rattle.draw_layout.specs.Axis.{axis};
 ghost use Rattle.draw_layout.specs.Drawings.{drawing_of, head_drawn, shapes_above};
 ghost use Rattle.draw_layout.specs.{Legend.legend, Marks.marks};
+ghost use Rattle.draw_layout.specs.Left.{scale_of};
 ghost use Rattle.draw_shapes.specs.Seen.{drawing_seen, shape_seen, shapes_seen};
 ghost use Rattle.draw_shapes.specs.Seen as seen;
 
 use crate::axis::{AXIS_HEIGHT, put_axis};
 use crate::heading::heading_words;
+use crate::left::scale_of;
 use crate::legend::{LEGEND_HEIGHT, put_legend};
 use crate::mark::put_marks;
 use crate::rows::{TOP, bottom_of, put_rows};
+use crate::scale::Scale;
 use crate::subject::Subject;
 use draw_diagram::Diagram;
 use draw_shapes::{Class, Drawing, Shape, put_rectangle, put_text};
@@ -30,11 +33,12 @@ pub fn draw(
         drawing_seen drawing ≡ drawing_of line.now script.now subject diagram.now) }
 {
     let title = heading_words(alloc, line, script, subject)?;
+    let scale = scale_of(alloc, line, diagram)?;
     let bottom = bottom_of(TOP, diagram.rows.as_slice());
     let height = bottom
         .saturating_add(AXIS_HEIGHT)
         .saturating_add(LEGEND_HEIGHT);
-    let shapes = shapes_of(alloc, line, diagram, title.bytes.as_slice(), bottom)?;
+    let shapes = shapes_of(alloc, line, scale, diagram, title.bytes.as_slice(), bottom)?;
     Ok(Drawing {
         title: title.bytes,
         height,
@@ -46,22 +50,23 @@ pub fn draw(
 fn shapes_of(
     alloc: Global,
     line: &Line,
+    scale: Scale,
     diagram: &Diagram,
     heading: &[u8],
     bottom: u32,
 ) -> Result<Vec<Shape>, Memory>
     ensures { IfOk result (λ shapes. shapes_seen shapes.items
-        ≡ shapes_above line.now diagram.now heading.now bottom) }
+        ≡ shapes_above line.now scale diagram.now heading.now bottom) }
 {
     let foot = bottom.saturating_add(AXIS_HEIGHT);
     let head = head_shape(alloc, heading, foot.saturating_add(LEGEND_HEIGHT))?;
-    let scale = axis_shape(alloc, line, diagram, bottom)?;
-    let marked = marks_shape(alloc, line, diagram, bottom)?;
+    let axis = axis_shape(alloc, line, scale, bottom)?;
+    let marked = marks_shape(alloc, line, scale, diagram, bottom)?;
     let below = legend_shape(alloc, line, diagram, foot)?;
     let mut shapes = Vec::new(alloc);
     shapes.push(head)?;
-    shapes.push(scale)?;
-    put_rows(alloc, &mut shapes, line, diagram)?;
+    shapes.push(axis)?;
+    put_rows(alloc, &mut shapes, line, scale, diagram)?;
     shapes.push(marked)?;
     shapes.push(below)?;
     Ok(shapes)
@@ -79,21 +84,27 @@ fn head_shape(alloc: Global, heading: &[u8], height: u32) -> Result<Shape, Memor
     Ok(Shape::Plain(figures))
 }
 
-fn axis_shape(alloc: Global, line: &Line, diagram: &Diagram, bottom: u32) -> Result<Shape, Memory>
+fn axis_shape(alloc: Global, line: &Line, scale: Scale, bottom: u32) -> Result<Shape, Memory>
     ensures { IfOk result (λ shape.
-        shape_seen shape ≡ seen.plain (axis line.now diagram.now.window 600 bottom)) }
+        shape_seen shape ≡ seen.plain (axis line.now scale 600 bottom)) }
 {
     let mut figures = Vec::new(alloc);
-    put_axis(alloc, &mut figures, line, diagram.window, TOP, bottom)?;
+    put_axis(alloc, &mut figures, line, scale, TOP, bottom)?;
     Ok(Shape::Plain(figures))
 }
 
-fn marks_shape(alloc: Global, line: &Line, diagram: &Diagram, bottom: u32) -> Result<Shape, Memory>
+fn marks_shape(
+    alloc: Global,
+    line: &Line,
+    scale: Scale,
+    diagram: &Diagram,
+    bottom: u32,
+) -> Result<Shape, Memory>
     ensures { IfOk result (λ shape.
-        shape_seen shape ≡ seen.plain (marks line.now diagram.now 600 bottom)) }
+        shape_seen shape ≡ seen.plain (marks line.now scale diagram.now 600 bottom)) }
 {
     let mut figures = Vec::new(alloc);
-    put_marks(alloc, &mut figures, line, diagram, TOP, bottom)?;
+    put_marks(alloc, &mut figures, line, scale, diagram, TOP, bottom)?;
     Ok(Shape::Plain(figures))
 }
 

@@ -1,10 +1,10 @@
 use Rattle.std.proofs.Common.{◌≡◌, map, take}
 use Rattle.std.specs.List.{All}
-use Rattle.draw_diagram.specs.Diagrams.{IsRow, trace_of}
+use Rattle.draw_diagram.specs.Diagrams.{IsMarkedRow, trace_of}
 use Rattle.draw_diagram.proofs.rows.rows_of.Given as goal
 
 abbrev pub invariant-loop-trace : goal.invariant-loop-trace
 invariant-loop-trace g l = record {
   traces : map trace_of l.all.items ≡ take l.trace-index l.traces;
-  rows : All (IsRow l.script (g.H.Shown.pairs l.shown) l.line.horizon) l.all.items;
+  rows : All (IsMarkedRow l.line l.script (g.H.Shown.pairs l.shown) l.steps l.which) l.all.items;
 }

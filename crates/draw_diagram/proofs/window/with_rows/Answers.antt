@@ -1,5 +1,8 @@
-use Rattle.std.proofs.Common.{take, subst, sym, arith}
+use Rattle.std.proofs.Common.{List, take, subst, sym, arith}
+use Rattle.std.proofs.lemmas.List.{take_all}
 use Rattle.std.proofs.lemmas.List.Elements.{All-more, All-weaker}
+use Rattle.std.specs.List.{All}
+use Rattle.draw_diagram.specs.declared.rows.Row.{Row}
 use Rattle.draw_diagram.specs.Windows.{ChangesBelow, IsShown}
 use Rattle.draw_diagram.proofs.WindowLaws.{row_still_shown}
 use Rattle.draw_diagram.proofs.window.with_rows.Goals as goal
@@ -22,3 +25,10 @@ loop-row-preserved c =
           (subst (ChangesBelow h) (sym c.row-item.is) (all i c.row-item.result (omega arith)));
       wider = (omega arith, omega arith);
     }
+
+pub returns-clause-shown : goal.returns-clause-shown
+returns-clause-shown c =
+    let xs : List Row = c.args.rows.now in
+    subst (λ (rows : List Row). All (IsShown c.loop-row.wide) rows)
+    (take_all c.loop-row.row-index xs (omega (arith, c.loop-row-test.false)))
+    c.loop-row.invariant.shown

@@ -8,4 +8,4 @@ abbrev pub invariant-loop-t : goal.invariant-loop-t
 invariant-loop-t l =
     figures_seen l.figures.items
     ≡ figures_seen l.initial.figures.items
-    ++ each_of l.t (round_tick l.of l.window l.top l.bottom)
+    ++ each_of l.t (round_tick l.of l.scale l.top l.bottom)

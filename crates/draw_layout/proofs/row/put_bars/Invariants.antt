@@ -7,4 +7,4 @@ abbrev pub invariant-loop-stretch : goal.invariant-loop-stretch
 invariant-loop-stretch l =
     figures_seen l.figures.items
     ≡ figures_seen l.initial.figures.items
-    ++ bars l.window l.trace l.base (take l.stretch-index l.stretches)
+    ++ bars l.scale l.trace l.base (take l.stretch-index l.stretches)
