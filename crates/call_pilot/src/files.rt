@@ -13,7 +13,7 @@ fn limit_of(file: File) -> u32
     ensures most { result ≤ 4194304 }
 {
     match file {
-        File::Line | File::Scripts | File::Record => 1_048_576,
+        File::Line | File::Scripts | File::Record | File::Study => 1_048_576,
         File::Timings | File::Cert | File::Trees => 4_194_304,
     }
 }

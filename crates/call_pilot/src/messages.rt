@@ -20,6 +20,7 @@ fn word_of_file(file: File) -> &'static [u8]
         File::Cert => b"cert",
         File::Record => b"record",
         File::Trees => b"trees",
+        File::Study => b"study",
     }
 }
 

@@ -42,6 +42,8 @@ pub enum File {
     Cert,
     Record,
     Trees,
+    /// A study file, which the program beside this one reads alone.
+    Study,
 }
 
 /// Why a call stopped, as its line to standard error says it.

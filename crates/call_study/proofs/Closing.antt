@@ -40,7 +40,7 @@ put_or_part old new line (Err y) puts =
 module _ {K : Type 0} (view : K → SinkView) (old new : K) (files : List ℕ → Option (List ℕ))
     (c1 c2 : List ℕ → ℕ) (request : Request) where
   abbrev EndsSo : End → Type 0
-  EndsSo end = EndsOf view (answer_over request.script request.asked) files (files_of request)
+  EndsSo end = EndsOf view (answer_over request) files (files_of request)
       c1 c2 old new end
 
   -- out was left as it was where there is no picture for another cause
@@ -51,8 +51,7 @@ module _ {K : Type 0} (view : K → SinkView) (old new : K) (files : List ℕ �
   unwritten (Err (halt.Stopped (stop.Store f))) e early = e.1
   unwritten (Err (halt.Stopped stop.Sink)) e early = absurd early
   unwritten (Err (halt.Stopped stop.Memory)) e early = e.1
-  unwritten (Err halt.UnknownScript) e early = e.1
-  unwritten (Err halt.UnknownTiming) e early = e.1
+  unwritten (Err (halt.Denied why)) e early = e.1
 
   module _ (e1 e2 : SinkView) where
     -- what the clauses see of the call
@@ -84,9 +83,7 @@ module _ {K : Type 0} (view : K → SinkView) (old new : K) (files : List ℕ �
     answered (Err (halt.Stopped (stop.Store f))) e is told = absurd is
     answered (Err (halt.Stopped stop.Sink)) e is told = absurd is
     answered (Err (halt.Stopped stop.Memory)) e is told = absurd is
-    answered (Err halt.UnknownScript) e is told =
-        record { text = []; is = e.2 told; out = same_out e.1 }
-    answered (Err halt.UnknownTiming) e is told =
+    answered (Err (halt.Denied why)) e is told =
         record { text = []; is = e.2 told; out = same_out e.1 }
 
     store_failed : (end : End) → EndsSo end → (file : File)
@@ -102,8 +99,7 @@ module _ {K : Type 0} (view : K → SinkView) (old new : K) (files : List ℕ �
     store_told (Err (halt.Stopped (stop.Store f))) e name more = (f, refl)
     store_told (Err (halt.Stopped stop.Sink)) e name more = not_more _ _ (e.0 name) more
     store_told (Err (halt.Stopped stop.Memory)) e name more = not_more _ _ (e.0 name) more
-    store_told (Err halt.UnknownScript) e name more = not_more _ _ (e.0 name) more
-    store_told (Err halt.UnknownTiming) e name more = not_more _ _ (e.0 name) more
+    store_told (Err (halt.Denied why)) e name more = not_more _ _ (e.0 name) more
 
     sink_failed : (end : End) → EndsSo end → end ≡ Err (halt.Stopped stop.Sink)
         → Rose (view old).faults (view new).faults × (IsTold seen → OutIsFront seen)
@@ -123,8 +119,7 @@ module _ {K : Type 0} (view : K → SinkView) (old new : K) (files : List ℕ �
     sink_told (Err (halt.Stopped (stop.Store f))) e more = same_faults e.1 more
     sink_told (Err (halt.Stopped stop.Sink)) e more = refl
     sink_told (Err (halt.Stopped stop.Memory)) e more = same_faults e.1 more
-    sink_told (Err halt.UnknownScript) e more = same_faults e.1 more
-    sink_told (Err halt.UnknownTiming) e more = same_faults e.1 more
+    sink_told (Err (halt.Denied why)) e more = same_faults e.1 more
 
     complete : (end : End) → EndsSo end → IsTold seen → NoneRose c1 c2 (files_of request)
         → (Rose (view old).faults (view new).faults → ⊥)
@@ -137,8 +132,7 @@ module _ {K : Type 0} (view : K → SinkView) (old new : K) (files : List ℕ �
         absurd (no_cause files c1 c2 (files_of request) f none e.0)
     complete (Err (halt.Stopped stop.Sink)) e told none still = absurd (still e.1.grew.0)
     complete (Err (halt.Stopped stop.Memory)) e told none still = inl refl
-    complete (Err halt.UnknownScript) e told none still = inr (answered _ e tt told)
-    complete (Err halt.UnknownTiming) e told none still = inr (answered _ e tt told)
+    complete (Err (halt.Denied why)) e told none still = inr (answered _ e tt told)
 
     -- the clauses, once the line to err is put
     pub closed : (end : End) → EndsSo end

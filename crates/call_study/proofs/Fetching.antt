@@ -10,8 +10,11 @@ use Rattle.call_pilot.specs.declared.refusal.Refusal.TheVariants as refusal
 use Rattle.call_pilot.specs.declared.stop.File.{File}
 use Rattle.call_pilot.specs.declared.stop.Stop.{Stop}
 use Rattle.call_pilot.specs.declared.stop.Stop.TheVariants as stop
-use Rattle.call_study.specs.{Answers.Answers, Ends.Fetched, Ends.Gives, Ends.over_told}
-use Rattle.call_study.specs.{Reading.refused_by, declared.halt.Halt.Halt}
+use Rattle.call_study.specs.{Answers.Answers, Answers.answer_by, Answers.answer_over}
+use Rattle.call_study.specs.{Ends.Fetched, Ends.Gives, Ends.over_told}
+use Rattle.call_study.specs.{Reading.over_further, Request.Asked}
+use Rattle.call_study.specs.Request as request
+use Rattle.call_study.specs.{Halts.End, Studied.refused_by, declared.halt.Halt.Halt}
 use Rattle.call_study.specs.declared.halt.Halt.TheVariants as halt
 use Rattle.call_study.proofs.Reading.{gives_wider}
 
@@ -57,8 +60,7 @@ module _ (files : List ℕ → Option (List ℕ)) where
       by_result (Err (halt.Stopped (stop.Store file))) given = absurd given
       by_result (Err (halt.Stopped stop.Sink)) given = absurd given
       by_result (Err (halt.Stopped stop.Memory)) given = ((λ name. refl), given)
-      by_result (Err halt.UnknownScript) given = ((λ name. refl), given)
-      by_result (Err halt.UnknownTiming) given = ((λ name. refl), given)
+      by_result (Err (halt.Denied why)) given = ((λ name. refl), given)
 
   -- the next file is too long, cannot be read, or finds no memory
   pub fetch_stops : (next : Result (List (List ℕ)) File → Answers) (a : NamedFile)
@@ -111,5 +113,46 @@ module _ (files : List ℕ → Option (List ℕ)) where
     )
     fetched_next (Err (halt.Stopped stop.Sink)) f = absurd f.1
     fetched_next (Err (halt.Stopped stop.Memory)) f = (same_both f.0, tt)
-    fetched_next (Err halt.UnknownScript) f = (same_both f.0, go_on (Err halt.UnknownScript) f.1)
-    fetched_next (Err halt.UnknownTiming) f = (same_both f.0, go_on (Err halt.UnknownTiming) f.1)
+    fetched_next (Err (halt.Denied why)) f = (same_both f.0, go_on (Err (halt.Denied why)) f.1)
+
+-- what is answered of the files may be answered by more
+pub fetched_wider : (p q : Result (List (List ℕ)) File → Answers) (files : List ℕ → Option (List ℕ))
+    (asked : List NamedFile) (c1 c2 : List ℕ → ℕ) (r : Result Said Halt)
+    → ((bytes : Result (List (List ℕ)) File) (end : End) (text : List ℕ)
+    → p bytes end text → q bytes end text)
+    → Fetched p files asked c1 c2 r → Fetched q files asked c1 c2 r
+fetched_wider p q files asked c1 c2 r wider f = by_result r f
+  where
+    more : (s : Result Said Halt) → Gives (over_told p files asked) s
+        → Gives (over_told q files asked) s
+    more s given = gives_wider (over_told p files asked) (over_told q files asked) s
+        (λ end text h told. wider _ end text (h told)) given
+
+    by_result : (s : Result Said Halt) → Fetched p files asked c1 c2 s
+        → Fetched q files asked c1 c2 s
+    by_result (Ok v) g = (g.0, more (Ok v) g.1)
+    by_result (Err (halt.Stopped stop.Usage)) g = absurd g.1
+    by_result (Err (halt.Stopped (stop.Refused why))) g =
+        (g.0, more (Err (halt.Stopped (stop.Refused why))) g.1)
+    by_result (Err (halt.Stopped (stop.Store file))) g = g
+    by_result (Err (halt.Stopped stop.Sink)) g = absurd g.1
+    by_result (Err (halt.Stopped stop.Memory)) g = (g.0, tt)
+    by_result (Err (halt.Denied why)) g = (g.0, more (Err (halt.Denied why)) g.1)
+
+-- what is answered over the further files is answered over all, of both kinds of sources
+module _ (script : Option (List ℕ)) (asked : Asked) where
+  pub over_two : (line_name scripts_name line scripts : List ℕ)
+      (more : Result (List (List ℕ)) File) (end : End) (text : List ℕ)
+      → answer_by (over_further (request.files line scripts) script asked more) end text
+      → answer_over (record { source = request.files line_name scripts_name; script = script; asked = asked })
+      (in_front line (in_front scripts more)) end text
+  over_two line_name scripts_name line scripts (Ok more) end text h = h
+  over_two line_name scripts_name line scripts (Err file) end text h = h
+
+  pub over_study : (name study_bytes : List ℕ) (more : Result (List (List ℕ)) File) (end : End)
+      (text : List ℕ)
+      → answer_by (over_further (request.study study_bytes) script asked more) end text
+      → answer_over (record { source = request.study name; script = script; asked = asked })
+      (in_front study_bytes more) end text
+  over_study name study_bytes (Ok more) end text h = h
+  over_study name study_bytes (Err file) end text h = h

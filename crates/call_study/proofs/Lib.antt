@@ -2,3 +2,4 @@ pub mod Chosen
 pub mod Closing
 pub mod Reading
 pub mod Fetching
+pub mod Loading

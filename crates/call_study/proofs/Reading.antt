@@ -1,35 +1,52 @@
 -- What holds of what was read, and of what is chosen of it.
-use Rattle.std.proofs.Common.{◌≡◌, ◌∷◌, ◌<◌, ℕ, suc, zero, List, [], length, Option, None, Some}
-use Rattle.std.proofs.Common.{Result, Ok, Err, refl, subst, sym, slice_get, arith}
+use Rattle.std.proofs.Common.{◌≡◌, ◌∷◌, ◌<◌, ℕ, suc, zero, List, [], length, map, Option, None, Some}
+use Rattle.std.proofs.Common.{Result, Ok, Err, refl, subst, sym, ap, slice_get, arith, inl, inr, ⊎_elim}
 use Rattle.std.specs.List.{All}
 use Rattle.model_line.specs.{declared.line.Line.Line, declared.script.Script.Script}
 use Rattle.file_line.specs.{LineFiles.line_of, Lines.LineValues}
 use Rattle.file_line.specs.declared.fault.LineFault.{LineFault}
 use Rattle.file_script.specs.{Scripts.scripts_of, Values.ScriptValues}
 use Rattle.file_script.specs.declared.fault.ScriptFault.{ScriptFault}
+use Rattle.file_study.specs.Studies.{StudyValues, study_of}
+use Rattle.file_study.specs.declared.fault.StudyFault.{StudyFault}
+use Rattle.file_sweeps.specs.Groups.{group_values, single_group}
+use Rattle.file_sweeps.specs.declared.group.Group.{Group}
 use Rattle.file_timing.specs.Gives as timing_reading
 use Rattle.file_timing.specs.declared.fault.TimingFault.{TimingFault}
 use Rattle.file_timing.specs.declared.fault.TimingFault.TheVariants as timing_fault
 use Rattle.model_timing.specs.{Inside.IsTimingInside, NamedValues.NamedValues}
-use Rattle.call_commands.specs.{Study.IsStudy, declared.said.Said.Said}
-use Rattle.call_commands.specs.{declared.study.Study.Study}
+use Rattle.call_commands.specs.{declared.said.Said.Said}
 use Rattle.call_pilot.specs.Reading.{of_line, of_scripts, of_study, of_timings}
-use Rattle.call_pilot.specs.{Stops.timing_stop, Study.IsSaid, Study.ReadsStudy}
+use Rattle.call_pilot.specs.Stops.{timing_stop}
 use Rattle.call_pilot.specs.declared.refusal.Refusal.{Refusal}
 use Rattle.call_pilot.specs.declared.refusal.Refusal.TheVariants as refusal
-use Rattle.call_pilot.specs.declared.stop.Stop.{Stop}
 use Rattle.call_pilot.specs.declared.stop.Stop.TheVariants as stop
 use Rattle.call_study.specs.{Answers.Answers, Ends.Gives, Halts.End}
-use Rattle.call_study.specs.{Reading.of_place, Reading.refused_by, declared.halt.Halt.Halt}
+use Rattle.call_study.specs.{Reading.of_place, declared.halt.Halt.Halt}
+use Rattle.call_study.specs.Loaded.{IsLoaded, IsWhy, Loads, Say, given_of, studied}
+use Rattle.call_study.specs.Studied.{Studied, of_values, refused_by}
 use Rattle.call_study.specs.declared.halt.Halt.TheVariants as halt
+use Rattle.call_study.specs.declared.load.Bytes.{Bytes}
+use Rattle.call_study.specs.declared.load.Bytes.TheVariants as bytes
+use Rattle.call_study.specs.declared.load.Loaded.{Loaded}
 
--- a line and scripts that were read
-pub study_read : (line_bytes scripts_bytes : List ℕ) (study : Study)
-    (refused : Refusal → Type 0) (holds : Line → List Script → Type 0)
-    → IsStudy study → IsSaid line_bytes scripts_bytes study
-    → holds study.line study.scripts.items → of_study line_bytes scripts_bytes refused holds
-study_read line_bytes scripts_bytes study refused holds is said h =
-    rw said.line_is (study.line, refl, rw said.scripts_are (study.scripts.items, refl, is.fit, h))
+-- what holds of groups of which each is one script
+abbrev pub HasGroups : List Script → (List Group → Type 0) → Type 0
+HasGroups scripts holds =
+    (groups : List Group) × (map group_values groups ≡ map single_group scripts) × holds groups
+
+-- what was read of a source
+pub given_read : (from : Bytes) (l : Loaded) (halted : Halt → Type 0) (holds : Studied → Type 0)
+    → IsLoaded l → Say from l → holds (studied l) → given_of from halted holds
+given_read (bytes.Files line scripts) l halted holds is said h =
+    rw said.0.line_is (
+      l.study.line,
+      refl,
+      rw said.0.scripts_are
+          (l.study.scripts.items, refl, is.fit, (l.groups.items, said.1, h)),
+    )
+given_read (bytes.Study study) l halted holds is said h =
+    rw said.1 (inl (studied l, said.2, h))
 
 -- timings that were read
 pub timings_read : (l : Line) (said : Result (List NamedValues) TimingFault)
@@ -69,8 +86,7 @@ gives_wider allowed more (Err (halt.Stopped (stop.Refused why))) wider given = w
 gives_wider allowed more (Err (halt.Stopped (stop.Store file))) wider given = absurd given
 gives_wider allowed more (Err (halt.Stopped stop.Sink)) wider given = absurd given
 gives_wider allowed more (Err (halt.Stopped stop.Memory)) wider given = tt
-gives_wider allowed more (Err halt.UnknownScript) wider given = wider _ _ given
-gives_wider allowed more (Err halt.UnknownTiming) wider given = wider _ _ given
+gives_wider allowed more (Err (halt.Denied why)) wider given = wider _ _ given
 
 line_wider : (said : Result LineValues LineFault) (R S : Refusal → Type 0) (H P : Line → Type 0)
     → ((why : Refusal) → R why → S why) → ((l : Line) → H l → P l)
@@ -85,32 +101,47 @@ scripts_wider : (l : Line) (said : Result (List ScriptValues) ScriptFault)
 scripts_wider l (Ok values) R S H P refused holds h = (h.0, h.1, h.2, holds h.0 h.3)
 scripts_wider l (Err e) R S H P refused holds h = refused _ h
 
--- what the first refusal makes of a reading
-pub study_refused : (line_bytes scripts_bytes : List ℕ) (why : Refusal) (refused : Refusal → Type 0)
-    (holds : Line → List Script → Type 0)
-    → of_study line_bytes scripts_bytes (λ first. first ≡ why) (λ line scripts. ⊥)
-    → refused why → of_study line_bytes scripts_bytes refused holds
-study_refused line_bytes scripts_bytes why refused holds first r =
-    let here = λ (w : Refusal) (is : w ≡ why). subst refused (sym is) r in
-    line_wider (line_of line_bytes) (λ f. f ≡ why) refused
-    (λ l. of_scripts l (scripts_of l scripts_bytes) (λ f. f ≡ why) (λ scripts. ⊥))
-    (λ l. of_scripts l (scripts_of l scripts_bytes) refused (holds l))
-    here
-    (λ l h. scripts_wider l (scripts_of l scripts_bytes) (λ f. f ≡ why) refused
-    (λ scripts. ⊥) (holds l) here (λ scripts bad. absurd bad) h)
+-- what holds of the first refusal, or of what is read, holds of each that is wider
+pub study_wider : (line_bytes scripts_bytes : List ℕ) (R S : Refusal → Type 0)
+    (H P : Line → List Script → Type 0) → ((why : Refusal) → R why → S why)
+    → ((line : Line) (scripts : List Script) → H line scripts → P line scripts)
+    → of_study line_bytes scripts_bytes R H → of_study line_bytes scripts_bytes S P
+study_wider line_bytes scripts_bytes R S H P refused holds first =
+    line_wider (line_of line_bytes) R S
+    (λ l. of_scripts l (scripts_of l scripts_bytes) R (H l))
+    (λ l. of_scripts l (scripts_of l scripts_bytes) S (P l)) refused
+    (λ l h. scripts_wider l (scripts_of l scripts_bytes) R S (H l) (P l) refused (holds l) h)
     first
 
--- the line or the scripts are refused, or memory ran out
-pub study_halts : (line_bytes scripts_bytes : List ℕ) (allowed : Answers) (why : Stop)
-    → ReadsStudy line_bytes scripts_bytes (Err why)
-    → ((w : Refusal) → of_study line_bytes scripts_bytes (λ first. first ≡ w) (λ line scripts. ⊥)
-    → allowed (Err (refused_by w)) [])
-    → Gives allowed (Err (halt.Stopped why))
-study_halts line_bytes scripts_bytes allowed stop.Usage read refused = absurd read
-study_halts line_bytes scripts_bytes allowed (stop.Refused why) read refused = refused why read
-study_halts line_bytes scripts_bytes allowed (stop.Store file) read refused = absurd read
-study_halts line_bytes scripts_bytes allowed stop.Sink read refused = absurd read
-study_halts line_bytes scripts_bytes allowed stop.Memory read refused = tt
+values_refused : (said : Result StudyValues StudyFault) (why : Halt) (halted : Halt → Type 0)
+    (holds : Studied → Type 0) → of_values said (λ first. first ≡ why) (λ of. ⊥) → halted why
+    → of_values said halted holds
+values_refused (Ok values) why halted holds first r =
+    ⊎_elim (λ held. absurd held.2)
+    (λ none. inr (none.0, none.1, subst halted (sym none.2) r)) first
+values_refused (Err e) why halted holds first r = subst halted (sym first) r
+
+-- what the first refusal makes of a source
+pub given_refused : (from : Bytes) (why : Halt) (halted : Halt → Type 0) (holds : Studied → Type 0)
+    → IsWhy (given_of from) why → halted why → given_of from halted holds
+given_refused (bytes.Files line scripts) why halted holds first r =
+    study_wider line.items scripts.items (λ w. refused_by w ≡ why) (λ w. halted (refused_by w))
+    (λ l s. HasGroups s (λ groups. ⊥))
+    (λ l s. HasGroups s (λ groups. holds (record { line = l; scripts = s; groups = groups })))
+    (λ w is. subst halted (sym is) r) (λ l s bad. absurd bad.2) first
+given_refused (bytes.Study study) why halted holds first r =
+    values_refused (study_of study.items) why halted holds first r
+
+-- a source is refused, or memory ran out
+pub load_halts : (from : Bytes) (allowed : Answers) (why : Halt)
+    → Loads (given_of from) (Say from) (Err why)
+    → (IsWhy (given_of from) why → allowed (Err why) []) → Gives allowed (Err why)
+load_halts from allowed (halt.Stopped stop.Usage) read refused = absurd read
+load_halts from allowed (halt.Stopped (stop.Refused why)) read refused = refused read
+load_halts from allowed (halt.Stopped (stop.Store file)) read refused = absurd read
+load_halts from allowed (halt.Stopped stop.Sink) read refused = absurd read
+load_halts from allowed (halt.Stopped stop.Memory) read refused = tt
+load_halts from allowed (halt.Denied why) read refused = refused read
 
 -- the timings are refused, or memory ran out
 pub timings_halt : (said : Result (List NamedValues) TimingFault) (allowed : Answers)

@@ -1,9 +1,15 @@
 -- What a call may answer: how it ends, which fixes its status and its line to err, and its text on
 -- out.
-use Rattle.std.specs.Prelude.{◌≡◌, ℕ, List, [], Option, Result, Ok, Err}
+use Rattle.std.specs.Prelude.{◌≡◌, ℕ, List, [], Option, Result, Ok, Err, map}
+use Rattle.file_line.specs.{LineFiles.line_of, Lines.line_values}
+use Rattle.file_script.specs.Values.{values_of}
+use Rattle.file_sweeps.specs.Parts.{SaysScripts, part}
 use Rattle.call_commands.specs.Answers as commands
 use Rattle.call_commands.specs.Answers.{prints}
-use Rattle.call_tables.specs.{Margins.margins_answer, Settled.settle_answer}
+use Rattle.call_tables.specs.{Margins.margins_answer, Recheck.recheck_answer}
+use Rattle.call_tables.specs.Settled.{settle_answer}
+use Rattle.call_verdicts.specs.Verdicts.{verdicts_answer}
+use Rattle.call_study.specs.{Linted.lint_answer, Settled.failing_answer, Settled.trees_answer}
 use Rattle.call_study.specs.declared.ask.Table.TheVariants as table
 use Rattle.call_pilot.specs.{Files.contents, declared.stop.File.File}
 use Rattle.call_study.specs.{Halts.End, declared.halt.Halt.Halt}
@@ -11,7 +17,7 @@ use Rattle.call_study.specs.declared.ask.Form.TheVariants as form
 use Rattle.call_study.specs.Pictures.{IsBandsText, IsDumpText, IsRunText}
 use Rattle.call_study.specs.Reading as reading
 use Rattle.call_study.specs.Reading.{Reading, Wanted, over_files}
-use Rattle.call_study.specs.Request.{Asked, Request, files_of}
+use Rattle.call_study.specs.Request.{Request, files_of}
 
 abbrev pub Answers : Type 1
 Answers = End → List ℕ → Type 0
@@ -22,11 +28,21 @@ halts why end text = (end ≡ Err why) × (text ≡ [])
 
 -- the status and the text of what is wanted
 abbrev pub answer_of : Wanted → commands.Answers
-answer_of (reading.bands line script) = prints (IsBandsText line script)
-answer_of (reading.play form.Diagram line script timing) = prints (IsRunText line script timing)
+answer_of (reading.bands which line script) = prints (IsBandsText line script which)
+answer_of (reading.play (form.Diagram which) line script timing) =
+    prints (IsRunText line script timing which)
 answer_of (reading.play form.Dump line script timing) = prints (IsDumpText line script timing)
-answer_of (reading.table (table.Settled analyses) line scripts) = settle_answer line scripts
-answer_of (reading.table table.Margins line scripts) = margins_answer line scripts
+answer_of (reading.table (table.Settled analyses) of) = settle_answer of.line of.scripts
+answer_of (reading.table (table.Trees analyses) of) = trees_answer of.line of.scripts
+answer_of (reading.table table.Margins of) = margins_answer of.line of.scripts
+answer_of (reading.table (table.Verdicts analyses) of) =
+    verdicts_answer of.line of.scripts of.groups
+answer_of (reading.table table.Line of) = prints (λ text. line_of text ≡ Ok (line_values of.line))
+answer_of (reading.table (table.Part n) of) =
+    prints (SaysScripts of.line (map values_of (part n of.scripts)))
+answer_of (reading.timings line script) = failing_answer line script
+answer_of (reading.recheck of trees) = recheck_answer of.line of.scripts trees
+answer_of (reading.lint from) = lint_answer from
 
 -- it is done
 abbrev pub does : Wanted → Answers
@@ -38,9 +54,9 @@ abbrev pub answer_by : Reading → Answers
 answer_by read end text = read (λ why. halts why end text) (λ wanted. does wanted end text)
 
 -- the answer over the contents of the files
-abbrev pub answer_over : Option (List ℕ) → Asked → Result (List (List ℕ)) File → Answers
-answer_over script asked bytes = answer_by (over_files script asked bytes)
+abbrev pub answer_over : Request → Result (List (List ℕ)) File → Answers
+answer_over request bytes = answer_by (over_files request bytes)
 
 -- the answer to a request over files that are all told
 abbrev pub answers : Request → (List ℕ → Option (List ℕ)) → Answers
-answers request files = answer_over request.script request.asked (contents files (files_of request))
+answers request files = answer_over request (contents files (files_of request))

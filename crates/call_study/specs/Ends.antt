@@ -18,8 +18,7 @@ Gives allowed (Err (halt.Stopped (stop.Refused why))) =
 Gives allowed (Err (halt.Stopped (stop.Store file))) = ⊥
 Gives allowed (Err (halt.Stopped stop.Sink)) = ⊥
 Gives allowed (Err (halt.Stopped stop.Memory)) = ⊤
-Gives allowed (Err halt.UnknownScript) = allowed (Err halt.UnknownScript) []
-Gives allowed (Err halt.UnknownTiming) = allowed (Err halt.UnknownTiming) []
+Gives allowed (Err (halt.Denied why)) = allowed (Err (halt.Denied why)) []
 
 -- what may be answered depends on the bytes of these files, and is said only where the store tells
 -- them all
@@ -68,7 +67,5 @@ EndsOf view next files asked c1 c2 old new (Err (halt.Stopped stop.Sink)) =
     × Put (WithSomeStatus (over_told next files asked)) (view old) (view new) GrewInPart
 EndsOf view next files asked c1 c2 old new (Err (halt.Stopped stop.Memory)) =
     SameCounts c1 c2 × (new ≡ old)
-EndsOf view next files asked c1 c2 old new (Err halt.UnknownScript) =
-    SameCounts c1 c2 × (new ≡ old) × over_told next files asked (Err halt.UnknownScript) []
-EndsOf view next files asked c1 c2 old new (Err halt.UnknownTiming) =
-    SameCounts c1 c2 × (new ≡ old) × over_told next files asked (Err halt.UnknownTiming) []
+EndsOf view next files asked c1 c2 old new (Err (halt.Denied why)) =
+    SameCounts c1 c2 × (new ≡ old) × over_told next files asked (Err (halt.Denied why)) []

@@ -1,31 +1,25 @@
 -- How a call ends: the exit status, and the line that says it.
-use Rattle.std.specs.Prelude.{◌∷◌, ℕ, List, [], Result, Ok, Err, codes}
-use Rattle.std.specs.List.{concat}
+use Rattle.std.specs.Prelude.{ℕ, List, [], Result, Ok, Err}
 use Rattle.call_commands.specs.declared.done.Done.{Done}
 use Rattle.call_commands.specs.declared.done.Done.TheVariants as done
-use Rattle.call_pilot.specs.Messages.{pieces_of}
+use Rattle.call_pilot.specs.Messages.{message_of}
 use Rattle.call_pilot.specs.declared.stop.Stop.TheVariants as stop
+use Rattle.call_study.specs.Denials.{denial_line, denial_status}
 use Rattle.call_study.specs.declared.halt.Halt.{Halt}
 use Rattle.call_study.specs.declared.halt.Halt.TheVariants as halt
 
--- that of `pilot`, and 9 where a name is unknown
+-- that of `pilot`, or that of what is denied
 abbrev pub halt_status : Halt → ℕ
 halt_status (halt.Stopped stop.Usage) = 4
 halt_status (halt.Stopped (stop.Refused why)) = 5
 halt_status (halt.Stopped (stop.Store file)) = 6
 halt_status (halt.Stopped stop.Sink) = 7
 halt_status (halt.Stopped stop.Memory) = 8
-halt_status halt.UnknownScript = 9
-halt_status halt.UnknownTiming = 9
-
--- the pieces of its line
-abbrev pub halt_pieces : Halt → List (List ℕ)
-halt_pieces (halt.Stopped why) = pieces_of why
-halt_pieces halt.UnknownScript = codes "unknown script\n" ∷ []
-halt_pieces halt.UnknownTiming = codes "unknown timing\n" ∷ []
+halt_status (halt.Denied why) = denial_status why
 
 abbrev pub halt_line : Halt → List ℕ
-halt_line why = concat (halt_pieces why)
+halt_line (halt.Stopped why) = message_of why
+halt_line (halt.Denied why) = denial_line why
 
 -- what is asked for is done, or why not
 abbrev pub End : Type 0
@@ -47,7 +41,7 @@ abbrev pub line_of : End → List ℕ
 line_of (Ok _) = []
 line_of (Err why) = halt_line why
 
--- the words and files alone decide: it is done, a file is refused, or a name is unknown
+-- the words and files alone decide: it is done, a file is refused, or what they say is denied
 abbrev pub IsAnswer : End → Type 0
 IsAnswer (Err (halt.Stopped (stop.Store file))) = ⊥
 IsAnswer (Err (halt.Stopped stop.Sink)) = ⊥

@@ -6,3 +6,8 @@ pub mod Halts
 pub mod Pictures
 pub mod Reading
 pub mod Request
+pub mod Denials
+pub mod Studied
+pub mod Loaded
+pub mod Settled
+pub mod Linted

@@ -16,6 +16,7 @@ use Rattle.model_timing.specs.NamedValues.{NamedValues}
 use Rattle.net_gates.specs.{Formulas.formula_of, NetOf.IsNetOf, NetOf.NetOf}
 use Rattle.draw_dump.specs.{Dump.dump_text, GateValues.gate_levels}
 use Rattle.draw_diagram.specs.{declared.diagram.Diagram.Diagram, Diagrams.IsDiagramOf}
+use Rattle.draw_diagram.specs.declared.drawn.Rows.{Rows}
 use Rattle.draw_diagram.specs.Traces.{known_history, pairs_shown}
 use Rattle.draw_shapes.specs.Svg.{svg_of}
 use Rattle.draw_layout.specs.declared.subject.Subject.{Subject}
@@ -27,8 +28,8 @@ abbrev pub text_of : Line → Script → Subject → Diagram → List ℕ
 text_of line script what diagram = svg_of (drawing_of line script what diagram)
 
 -- the text is that of the one interval history over the declared intervals, in which each gate of
--- the line's net has the pair of the tree that it stands for
-pub record IsBandsText (line : Line) (script : Script) (text : List ℕ) : Type 0 where
+-- the line's net has the pair of the tree that it stands for, with these rows
+pub record IsBandsText (line : Line) (script : Script) (which : Rows) (text : List ℕ) : Type 0 where
   pub net : NetOf
   pub of_line : IsNetOf line net
   pub history : PairHistory
@@ -39,7 +40,7 @@ pub record IsBandsText (line : Line) (script : Script) (text : List ℕ) : Type 
       ≡ pair_mean (pair_world_of line script (declared_box line)) history.key
       (formula_of net.gates gate) t
   pub diagram : Diagram
-  pub shows : IsDiagramOf line net.gates script (pairs_shown history gates) diagram
+  pub shows : IsDiagramOf line net.gates script (pairs_shown history gates) [] which diagram
   -- the rule of each terminal is that of the same history
   pub judged : PairHistory
   pub same : IsSamePairHistory line history judged
@@ -48,9 +49,10 @@ pub record IsBandsText (line : Line) (script : Script) (text : List ℕ) : Type 
   pub printed : text ≡ text_of line script subject.EveryChoice diagram
 
 -- the text is that of the one history at the choice of the timing, in which each gate of the line's
--- net has the value of the tree that it stands for; in a play nothing is open
-pub record IsRunText (line : Line) (script : Script) (timing : NamedValues) (text : List ℕ)
-    : Type 0 where
+-- net has the value of the tree that it stands for, with these rows and the timing's steps; in a play
+-- nothing is open
+pub record IsRunText (line : Line) (script : Script) (timing : NamedValues) (which : Rows)
+    (text : List ℕ) : Type 0 where
   pub net : NetOf
   pub of_line : IsNetOf line net
   pub history : History
@@ -62,7 +64,8 @@ pub record IsRunText (line : Line) (script : Script) (timing : NamedValues) (tex
       → gates gate t ≡ gate_levels line script (timing_choice line timing.timing) h net gate t
   pub diagram : Diagram
   pub shows : IsDiagramOf line net.gates script
-      (pairs_shown (known_history history) (λ gate t. both (gates gate t))) diagram
+      (pairs_shown (known_history history) (λ gate t. both (gates gate t))) timing.timing.steps which
+      diagram
   pub no_rules : diagram.rules.items ≡ []
   pub printed : text ≡ text_of line script (subject.Play timing.name) diagram
 

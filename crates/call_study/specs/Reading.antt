@@ -1,31 +1,37 @@
 -- What the files of a request say: what is wanted over them, or why it can't be done, by the first
 -- file that is too long or that a reader refuses, and then by a name that its file has not.
-use Rattle.std.specs.Prelude.{◌≡◌, ◌∷◌, ℕ, List, [], Option, None, Some, Result, Ok, Err, slice_get}
+use Rattle.std.specs.Prelude.{◌≡◌, ◌∷◌, ℕ, List, [], Option, None, Some}
+use Rattle.std.specs.Prelude.{Result, Ok, Err, if◌then◌else◌, length, nat_le, slice_get}
+use Rattle.file_sweeps.specs.Parts.{is_part}
+use Rattle.draw_diagram.specs.declared.drawn.Rows.{Rows}
 use Rattle.model_line.specs.{declared.line.Line.Line, declared.script.Script.Script}
 use Rattle.model_timing.specs.NamedValues.{NamedValues}
 use Rattle.file_timing.specs.Timings.{timings_of}
-use Rattle.call_pilot.specs.Reading.{of_study, of_timings}
-use Rattle.call_pilot.specs.{declared.refusal.Refusal.Refusal, declared.stop.File.File}
+use Rattle.call_pilot.specs.Reading.{of_timings}
+use Rattle.call_pilot.specs.declared.stop.File.{File}
 use Rattle.call_pilot.specs.declared.refusal.Refusal.TheVariants as refusal
-use Rattle.call_pilot.specs.declared.stop.Stop.TheVariants as stop
 use Rattle.call_study.specs.{declared.ask.Form.Form, declared.ask.Table.Table, declared.halt.Halt.Halt}
+use Rattle.call_study.specs.declared.ask.Table.TheVariants as tables
+use Rattle.call_study.specs.declared.denial.Denial.{Denial}
+use Rattle.call_study.specs.declared.denial.Denial.TheVariants as denial
 use Rattle.call_study.specs.declared.halt.Halt.TheVariants as halt
 use Rattle.call_study.specs.Request as request
-use Rattle.call_study.specs.{Chosen.chosen_script, Chosen.chosen_timing, Request.Asked}
+use Rattle.call_study.specs.{Chosen.chosen_script, Chosen.chosen_timing}
+use Rattle.call_study.specs.Request.{Asked, Request, Source}
+use Rattle.call_study.specs.Studied.{Given, Studied, of_files, of_study_file, refused_by}
 
--- a picture, or a table, over what the files say
+-- what is asked for, over what the files say
 pub data Wanted : Type 0 where
-  bands : Line → Script → Wanted
+  bands : Rows → Line → Script → Wanted
   play : Form → Line → Script → NamedValues → Wanted
-  table : Table → Line → List Script → Wanted
+  table : Table → Studied → Wanted
+  timings : Line → Script → Wanted
+  recheck : Studied → List ℕ → Wanted
+  lint : Source → Wanted
 
 -- what holds of what is wanted, or of why it can't be done
 abbrev pub Reading : Type 1
 Reading = (Halt → Type 0) → (Wanted → Type 0) → Type 0
-
--- a file is refused
-abbrev pub refused_by : Refusal → Halt
-refused_by why = halt.Stopped (stop.Refused why)
 
 -- what holds of the element at a place, or of why there is no such place
 abbrev pub of_place : {A : Type 0} → List A → Option ℕ → Halt → (Halt → Type 0) → (A → Type 0)
@@ -36,45 +42,97 @@ of_place list None none halted holds = halted none
 -- the script that is asked for, and then the timing
 abbrev pub of_script : List Script → Option (List ℕ) → (Halt → Type 0) → (Script → Type 0) → Type 0
 of_script scripts name halted holds =
-    of_place scripts (chosen_script scripts name) halt.UnknownScript halted holds
+    of_place scripts (chosen_script scripts name) (halt.Denied denial.UnknownScript) halted holds
 
 abbrev pub of_timing : List NamedValues → Option (List ℕ) → (Halt → Type 0)
     → (NamedValues → Type 0) → Type 0
-of_timing timings name halted holds =
-    of_place timings (chosen_timing timings name) halt.UnknownTiming halted holds
+of_timing all name halted holds =
+    of_place all (chosen_timing all name) (halt.Denied denial.UnknownTiming) halted holds
 
--- every choice of delays, over the bytes of a line file and a scripts file
-abbrev pub bands_of : List ℕ → List ℕ → Option (List ℕ) → Reading
-bands_of line_bytes scripts_bytes script halted holds =
-    of_study line_bytes scripts_bytes (λ why. halted (refused_by why))
-    (λ line scripts. of_script scripts script halted (λ chosen. holds (bands line chosen)))
+-- every choice of delays, over what a source says
+abbrev pub bands_of : Rows → Given → Option (List ℕ) → Reading
+bands_of which given script halted holds =
+    given halted (λ studied. of_script studied.scripts script halted
+    (λ chosen. holds (bands which studied.line chosen)))
 
 -- a play, over the bytes of a timings file too
-abbrev pub play_of : Form → List ℕ → List ℕ → List ℕ → Option (List ℕ) → Option (List ℕ) → Reading
-play_of form line_bytes scripts_bytes timings_bytes script timing halted holds =
-    of_study line_bytes scripts_bytes (λ why. halted (refused_by why))
-    (λ line scripts. of_timings line (timings_of line timings_bytes)
+abbrev pub play_of : Form → Given → List ℕ → Option (List ℕ) → Option (List ℕ) → Reading
+play_of form given timings_bytes script timing halted holds =
+    given halted (λ studied. of_timings studied.line (timings_of studied.line timings_bytes)
     (λ why. halted (refused_by why))
-    (λ timings. of_script scripts script halted
-    (λ chosen. of_timing timings timing halted (λ played. holds (play form line chosen played)))))
+    (λ all. of_script studied.scripts script halted
+    (λ chosen. of_timing all timing halted
+    (λ played. holds (play form studied.line chosen played)))))
+
+-- so many scripts at most
+abbrev pub at_most : ℕ → ℕ → Option Denial
+at_most most scripts = if nat_le scripts most then None else Some denial.TooManyScripts
+
+-- most work over all scripts takes 64; the tables of settled obligations and of verdicts as many as
+-- a study can come to, 1,000 faults of 4,096; and there are as many parts as hold 64 each
+abbrev pub denied_of : Table → ℕ → Option Denial
+denied_of (tables.Settled analyses) scripts = at_most 4096000 scripts
+denied_of (tables.Verdicts analyses) scripts = at_most 4096000 scripts
+denied_of (tables.Trees analyses) scripts = at_most 64 scripts
+denied_of tables.Margins scripts = at_most 64 scripts
+denied_of tables.Line scripts = None
+denied_of (tables.Part n) scripts =
+    if is_part n scripts then None else Some denial.UnknownPart
+
+abbrev pub unless_denied : Option Denial → (Halt → Type 0) → Type 0 → Type 0
+unless_denied None halted holds = holds
+unless_denied (Some why) halted holds = halted (halt.Denied why)
 
 -- a table over all scripts
-abbrev pub table_of : Table → List ℕ → List ℕ → Reading
-table_of which line_bytes scripts_bytes halted holds =
-    of_study line_bytes scripts_bytes (λ why. halted (refused_by why))
-    (λ line scripts. holds (table which line scripts))
+abbrev pub table_of : Table → Given → Reading
+table_of which given halted holds =
+    given halted (λ studied. unless_denied (denied_of which (length studied.scripts)) halted
+    (holds (table which studied)))
+
+-- the timings that fail obligations of a script
+abbrev pub timings_over : Given → Option (List ℕ) → Reading
+timings_over given script halted holds =
+    given halted (λ studied. of_script studied.scripts script halted
+    (λ chosen. holds (timings studied.line chosen)))
+
+-- whether trees are accepted, over their bytes
+abbrev pub recheck_of : Given → List ℕ → Reading
+recheck_of given trees_bytes halted holds =
+    given halted (λ studied. unless_denied (at_most 64 (length studied.scripts)) halted
+    (holds (recheck studied trees_bytes)))
+
+-- what a source of these bytes says
+abbrev pub given : Source → Given
+given (request.files line_bytes scripts_bytes) = of_files line_bytes scripts_bytes
+given (request.study study_bytes) = of_study_file study_bytes
+
+-- over the bytes of a source and of the further files
+abbrev pub over_source : Source → Option (List ℕ) → Asked → List (List ℕ) → Reading
+over_source from script (request.bands which) [] = bands_of which (given from) script
+over_source from script (request.play form _ timing) (timings_bytes ∷ []) =
+    play_of form (given from) timings_bytes script timing
+over_source from script (request.table which) [] = table_of which (given from)
+over_source from script (request.timings analyses) [] = timings_over (given from) script
+over_source from script (request.recheck _) (trees_bytes ∷ []) =
+    recheck_of (given from) trees_bytes
+over_source from script request.lint [] = λ halted holds. holds (lint from)
+over_source from script asked bytes = λ halted holds. ⊥
+
+-- once the further files are there, or one is too long
+abbrev pub over_further : Source → Option (List ℕ) → Asked → Result (List (List ℕ)) File → Reading
+over_further from script asked (Ok bytes) = over_source from script asked bytes
+over_further from script asked (Err file) =
+    λ halted holds. halted (refused_by (refusal.TooLong file))
 
 -- over the bytes of the files in word order
-abbrev pub over_bytes : Option (List ℕ) → Asked → List (List ℕ) → Reading
-over_bytes script request.bands (line_bytes ∷ scripts_bytes ∷ []) =
-    bands_of line_bytes scripts_bytes script
-over_bytes script (request.play form _ timing) (line_bytes ∷ scripts_bytes ∷ timings_bytes ∷ []) =
-    play_of form line_bytes scripts_bytes timings_bytes script timing
-over_bytes script (request.table which) (line_bytes ∷ scripts_bytes ∷ []) =
-    table_of which line_bytes scripts_bytes
-over_bytes script asked bytes = λ halted holds. ⊥
+abbrev pub over_bytes : Source → Option (List ℕ) → Asked → List (List ℕ) → Reading
+over_bytes (request.files _ _) script asked (line_bytes ∷ scripts_bytes ∷ further) =
+    over_source (request.files line_bytes scripts_bytes) script asked further
+over_bytes (request.study _) script asked (study_bytes ∷ further) =
+    over_source (request.study study_bytes) script asked further
+over_bytes source script asked bytes = λ halted holds. ⊥
 
 -- once the files are there, or one is too long
-abbrev pub over_files : Option (List ℕ) → Asked → Result (List (List ℕ)) File → Reading
-over_files script asked (Ok bytes) halted holds = over_bytes script asked bytes halted holds
-over_files script asked (Err file) halted holds = halted (refused_by (refusal.TooLong file))
+abbrev pub over_files : Request → Result (List (List ℕ)) File → Reading
+over_files request (Ok bytes) = over_bytes request.source request.script request.asked bytes
+over_files request (Err file) = λ halted holds. halted (refused_by (refusal.TooLong file))

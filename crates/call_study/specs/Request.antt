@@ -1,47 +1,67 @@
 -- What is asked for, by the names of files and of what is in them.
-use Rattle.std.specs.Prelude.{ℕ, List, [], ◌∷◌, Option}
+use Rattle.std.specs.Prelude.{◌++◌, ℕ, List, [], ◌∷◌, Option}
 use Rattle.std.specs.Option.{option_copied}
 use Rattle.call_pilot.specs.{Files.NamedFile, Words.named}
 use Rattle.call_pilot.specs.declared.stop.File.TheVariants as file
+use Rattle.draw_diagram.specs.declared.drawn.Rows.{Rows}
+use Rattle.call_study.specs.declared.ask as asks
 use Rattle.call_study.specs.declared.ask.{Ask.Ask, Form.Form, Table.Table, Work.Work}
+use Rattle.call_study.specs.declared.ask.Source.TheVariants as source
 use Rattle.call_study.specs.declared.ask.Work.TheVariants as work
 
--- a picture of every choice of delays, or of a play of a timing of a third file; or a table
+-- where a line and its scripts stand: in two files, or in one of a study; so too what these hold
+pub data Source : Type 0 where
+  files : List ℕ → List ℕ → Source
+  study : List ℕ → Source
+
+-- a picture of every choice of delays, or of a play of a timing of a further file; a table; timings
+-- that fail; whether the trees of a further file are accepted; or what is suspicious in the files
 pub data Asked : Type 0 where
-  bands : Asked
+  bands : Rows → Asked
   play : Form → List ℕ → Option (List ℕ) → Asked
   table : Table → Asked
+  timings : ℕ → Asked
+  recheck : List ℕ → Asked
+  lint : Asked
 
--- over two files; a picture is that of one script
+-- a picture, and timings that fail, are of one script
 pub record Request : Type 0 where
-  pub line : List ℕ
-  pub scripts : List ℕ
+  pub source : Source
   pub script : Option (List ℕ)
   pub asked : Asked
 
-abbrev pub third_of : Asked → List NamedFile
-third_of bands = []
-third_of (play form timings timing) = named file.Timings timings ∷ []
-third_of (table which) = []
+abbrev pub files_at : Source → List NamedFile
+files_at (files line scripts) = named file.Line line ∷ named file.Scripts scripts ∷ []
+files_at (study name) = named file.Study name ∷ []
+
+abbrev pub files_beside : Asked → List NamedFile
+files_beside (bands which) = []
+files_beside (play form name timing) = named file.Timings name ∷ []
+files_beside (table which) = []
+files_beside (timings analyses) = []
+files_beside (recheck trees) = named file.Trees trees ∷ []
+files_beside lint = []
 
 -- the files of a request in the order of its words
-abbrev pub files_over : List ℕ → List ℕ → Asked → List NamedFile
-files_over line scripts asked =
-    named file.Line line ∷ named file.Scripts scripts ∷ third_of asked
-
 abbrev pub files_of : Request → List NamedFile
-files_of request = files_over request.line request.scripts request.asked
+files_of request = files_at request.source ++ files_beside request.asked
 
 -- the request that the code's value stands for
+abbrev pub source_of : asks.Source.Source → Source
+source_of (source.Files line scripts) = files line.now scripts.now
+source_of (source.Study name) = study name.now
+
 abbrev pub asked_of : Work → Asked
-asked_of work.Bands = bands
-asked_of (work.Play form timings timing) = play form timings.now (option_copied timing)
+asked_of (work.Bands which) = bands which
+asked_of (work.Play form name timing) = play form name.now (option_copied timing)
 asked_of (work.Table which) = table which
+asked_of (work.Timings analyses) = timings analyses
+asked_of (work.Recheck trees) = recheck trees.now
+asked_of work.Lint = lint
 
 abbrev pub request_of : Ask → Request
 request_of ask = record {
-  line = ask.line.now;
-  scripts = ask.scripts.now;
+  source = source_of ask.source;
   script = option_copied ask.script;
   asked = asked_of ask.work;
 }

@@ -1,11 +1,21 @@
 //! What a study is asked for.
 
-/// Work over two files, a line's and its scripts'; a picture is that of one script, of the first
-/// where none is named.
+use draw_diagram::Rows;
+
+/// Where a line and its scripts stand, by the names of files.
+#[derive(Clone, Copy)]
+pub enum Source<'a> {
+    /// A line file and a scripts file, as `pilot` takes them.
+    Files { line: &'a str, scripts: &'a str },
+    /// A study file: the line, and the scripts of its faults.
+    Study(&'a str),
+}
+
+/// Work over a line and its scripts; a picture, and timings that fail, are of one script, of the
+/// first where none is named.
 #[derive(Clone, Copy)]
 pub struct Ask<'a> {
-    pub line: &'a str,
-    pub scripts: &'a str,
+    pub source: Source<'a>,
     pub script: Option<&'a str>,
     pub work: Work<'a>,
 }
@@ -13,30 +23,52 @@ pub struct Ask<'a> {
 /// Which work.
 #[derive(Clone, Copy)]
 pub enum Work<'a> {
-    /// A picture of every choice of delays.
-    Bands,
+    /// A picture of every choice of delays, with these rows.
+    Bands {
+        rows: Rows,
+    },
     /// A picture of a play, that of a timing of a third file, of the first where none is named.
     Play {
         form: Form,
         timings: &'a str,
         timing: Option<&'a str>,
     },
-    /// A table over all scripts.
+    /// A table over all scripts, or a file for `pilot`.
     Table(Table),
+    /// The timings that fail obligations of one script, as a file of timings, with at most so many
+    /// analyses of boxes for each obligation.
+    Timings {
+        analyses: u32,
+    },
+    /// Whether the settled trees of a further file are accepted.
+    Recheck {
+        trees: &'a str,
+    },
+    /// What is suspicious in the files of the source, or where and why one is refused.
+    Lint,
 }
 
-/// Which table.
+/// Which table, or file.
 #[derive(Clone, Copy)]
 pub enum Table {
     /// An answer to each obligation, with at most so many analyses of boxes for each.
     Settled { analyses: u32 },
+    /// The trees and timings by which the obligations are settled, as a text that is rechecked.
+    Trees { analyses: u32 },
     /// How far each end of each interval can be moved outward.
     Margins,
+    /// Whether each script of each fault is held at each terminal, in milliseconds, with at most so
+    /// many analyses for each obligation.
+    Verdicts { analyses: u32 },
+    /// The line, as a line file.
+    Line,
+    /// The part of this number of its scripts, 64 a part, as a scripts file. The first is 1.
+    Part(u32),
 }
 
-/// How a play is shown: as a timing diagram, or as a value change dump.
+/// How a play is shown: as a timing diagram with these rows, or as a value change dump.
 #[derive(Clone, Copy)]
 pub enum Form {
-    Diagram,
+    Diagram { rows: Rows },
     Dump,
 }

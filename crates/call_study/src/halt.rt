@@ -4,26 +4,29 @@ ghost use Rattle.std.specs.Prelude.{◌≡◌};
 ghost use Rattle.call_commands.specs.Sinks.{Puts, sink_view};
 ghost use Rattle.call_pilot.specs.declared.stop.Stop.TheVariants.{Memory, Sink};
 ghost use Rattle.call_study.specs.Halts.{halt_line, status_of as end_status};
-ghost use Rattle.call_study.specs.declared.halt.Halt.TheVariants.{Stopped};
+ghost use Rattle.call_study.specs.declared.halt.Halt.TheVariants.{Denied, Stopped};
 
+use crate::denial::{Denial, put_denial};
 use base_store::{PutFailed, Sink};
-use call_commands::{Done, put_pieces};
+use call_commands::Done;
 use call_pilot::{Stop, put_message};
+use file_study::StudyFault;
+use file_sweeps::StudySweepFault;
 use file_timing::TimingFault;
 use model_line::Memory;
 
-/// Why it is not done: what stops `pilot` too, or a name that its file has not.
+/// Why it is not done: what stops `pilot` too, or what the files and the words alone deny.
 #[derive(Clone, Copy, Debug, PartialEq, Eq)]
 pub enum Halt {
     Stopped(Stop),
-    UnknownScript,
-    UnknownTiming,
+    Denied(Denial),
 }
 
 impl Halt {
     ghost use Rattle.call_study.specs.Halts.{halt_status};
 
-    /// The exit status: that of `pilot`, 4 to 8; 9 where a name is unknown.
+    /// The exit status: that of `pilot`, 4 to 8; 5 where a study is refused, 9 where a name is
+    /// unknown.
     pub fn status(&self) -> u8
         ensures is { result ≡ halt_status self.now }
     {
@@ -33,7 +36,7 @@ impl Halt {
             Halt::Stopped(Stop::Store(_)) => 6,
             Halt::Stopped(Stop::Sink) => 7,
             Halt::Stopped(Stop::Memory) => 8,
-            Halt::UnknownScript | Halt::UnknownTiming => 9,
+            Halt::Denied(why) => why.status(),
         }
     }
 }
@@ -51,15 +54,14 @@ pub fn status_of(end: Result<Done, Halt>) -> u8
     }
 }
 
-/// Pushes the line that says it: that of `pilot`, or `unknown script`, `unknown timing`.
+/// Pushes the line that says it.
 pub fn put_halt<K: Sink>(sink: &mut K, halt: &Halt) -> Result<(), PutFailed>
     ensures { Puts (sink_view K.written K.faults sink.old) (sink_view K.written K.faults sink.new)
         (halt_line halt.now) result }
 {
     match halt {
         Halt::Stopped(stop) => put_message(sink, stop),
-        Halt::UnknownScript => put_pieces(sink, &[b"unknown script\n"]),
-        Halt::UnknownTiming => put_pieces(sink, &[b"unknown timing\n"]),
+        Halt::Denied(why) => put_denial(sink, why),
     }
 }
 
@@ -68,6 +70,14 @@ impl From<Stop> for Halt {
 
     fn from(stop: Stop) -> Self {
         Halt::Stopped(stop)
+    }
+}
+
+impl From<Denial> for Halt {
+    ghost from_gives = { λ why halt. halt ≡ Denied why };
+
+    fn from(why: Denial) -> Self {
+        Halt::Denied(why)
     }
 }
 
@@ -94,5 +104,31 @@ impl From<TimingFault> for Halt {
 
     fn from(fault: TimingFault) -> Self {
         Halt::Stopped(Stop::from(fault))
+    }
+}
+
+impl From<StudyFault> for Halt {
+    ghost use Rattle.call_study.specs.Loaded.{study_halt};
+
+    ghost from_gives = { λ fault halt. halt ≡ study_halt fault };
+
+    fn from(fault: StudyFault) -> Self {
+        match fault {
+            StudyFault::Memory => Halt::Stopped(Stop::Memory),
+            fault => Halt::Denied(Denial::Study(fault)),
+        }
+    }
+}
+
+impl From<StudySweepFault> for Halt {
+    ghost use Rattle.call_study.specs.Loaded.{scripts_halt};
+
+    ghost from_gives = { λ fault halt. halt ≡ scripts_halt fault };
+
+    fn from(fault: StudySweepFault) -> Self {
+        match fault {
+            StudySweepFault::Memory => Halt::Stopped(Stop::Memory),
+            fault => Halt::Denied(Denial::Scripts(fault)),
+        }
     }
 }

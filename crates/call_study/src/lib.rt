@@ -1,14 +1,20 @@
-//! The top call of the program `study`, over a line file, a scripts file and a timings file: a play or
-//! the interval history as a timing diagram, a play as a value change dump, and tables.
+//! The top call of the program `study`, over a study file, or a line file and a scripts file, and what
+//! further files the work takes: timing diagrams, value change dumps, and tables.
 #![tactic(auto)]
 
 mod ask;
 mod choose;
+mod denial;
 mod halt;
+mod linted;
+mod load;
 mod pictures;
 mod read;
+mod settled;
 mod top;
 
-pub use ask::{Ask, Form, Table, Work};
+pub use ask::{Ask, Form, Source, Table, Work};
+pub use denial::Denial;
+pub use draw_diagram::Rows;
 pub use halt::{Halt, status_of};
 pub use top::study;

@@ -7,7 +7,7 @@ ghost use Rattle.call_study.specs.Pictures.{IsBandsText, IsDumpText, IsRunText};
 ghost use Rattle.base_markup.specs.Content.{IsContent};
 ghost use Rattle.model_timing.specs.{Inside.IsTimingInside, NamedValues.values_of};
 
-use draw_diagram::{every_choice_waves, history_diagram, play_diagram};
+use draw_diagram::{Rows, every_choice_waves, history_diagram, play_diagram};
 use draw_dump::{play_waves, vcd_text};
 use draw_layout::{Subject, draw};
 use draw_shapes::svg;
@@ -20,16 +20,22 @@ use net_gates::Net;
 use std::alloc::Global;
 
 /// The timing diagram of every choice of delays: well-formed SVG.
-pub fn bands_text(alloc: Global, line: &Line, net: &Net, script: &Script) -> Result<Vec<u8>, Memory>
+pub fn bands_text(
+    alloc: Global,
+    line: &Line,
+    net: &Net,
+    script: &Script,
+    which: Rows,
+) -> Result<Vec<u8>, Memory>
     requires of_line { IsNetOf line.now net.now }
     requires fits { Fits line.now script.now }
     ensures well_formed { IfOk result (λ text. ∥ IsContent text.items ∥₁) }
-    ensures drawn { IfOk result (λ text. IsBandsText line.now script.now text.items) }
+    ensures drawn { IfOk result (λ text. IsBandsText line.now script.now which text.items) }
 {
     deadlines_are_below_the_horizon();
     let judged = analyse(alloc, net, line, script)?;
     let waves = every_choice_waves(alloc, line, net, script)?;
-    let diagram = history_diagram(alloc, line, net, script, &judged, &waves)?;
+    let diagram = history_diagram(alloc, line, net, script, &judged, &waves, which)?;
     let drawn = draw(alloc, line, script, Subject::EveryChoice, &diagram)?;
     let markup = svg(alloc, &drawn)?;
     Ok(markup.text)
@@ -42,17 +48,26 @@ pub fn run_text(
     net: &Net,
     script: &Script,
     timing: &NamedTiming,
+    which: Rows,
 ) -> Result<Vec<u8>, Memory>
     requires of_line { IsNetOf line.now net.now }
     requires fits { Fits line.now script.now }
     requires inside { IsTimingInside line.now timing.now.timing }
     ensures well_formed { IfOk result (λ text. ∥ IsContent text.items ∥₁) }
     ensures drawn { IfOk result (λ text.
-        IsRunText line.now script.now (values_of timing.now) text.items) }
+        IsRunText line.now script.now (values_of timing.now) which text.items) }
 {
     deadlines_are_below_the_horizon();
     let waves = play_waves(alloc, line, net, script, timing)?;
-    let diagram = play_diagram(alloc, line, net, script, &waves)?;
+    let diagram = play_diagram(
+        alloc,
+        line,
+        net,
+        script,
+        &waves,
+        timing.timing.steps(),
+        which,
+    )?;
     let drawn = draw(alloc, line, script, Subject::Play(timing.name), &diagram)?;
     let markup = svg(alloc, &drawn)?;
     Ok(markup.text)

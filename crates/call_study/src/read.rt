@@ -1,23 +1,34 @@
-//! What is asked for, over the bytes of its files.
+//! What is asked for, over what a source says.
 
-ghost use Rattle.std.specs.Prelude.{◌≤◌, length, IfOk};
+ghost use Rattle.std.specs.Prelude.{[], ◌≡◌, ◌≤◌, ◌<◌, ◌∷◌, length, slice_get, IfOk, None, Some};
+ghost use Rattle.model_line.specs.declared.script.Script.{Script as ScriptOf};
 ghost use Rattle.std.specs.Option.{option_copied};
 ghost use Rattle.net_gates.specs.NetOf.{IsNetOf};
 ghost use Rattle.model_line.specs.Fits.{Fits};
 ghost use Rattle.model_timing.specs.{Inside.IsTimingInside, NamedValues.values_of};
 ghost use Rattle.call_study.specs.{Answers.answer_by, Answers.answer_of, Ends.Gives};
+ghost use Rattle.call_study.specs.Loaded.{IsLoaded, given_of, studied};
 ghost use Rattle.call_commands.specs.declared.done.Done.TheVariants.{Good};
 ghost use Rattle.call_study.specs.Reading.{bands_of, play as a_play, play_of, table as a_table};
-ghost use Rattle.call_study.specs.Reading.{table_of};
-ghost use Rattle.call_commands.specs.{Answers.Says, Study.IsStudy};
+ghost use Rattle.file_sweeps.specs.Parts.{is_part as is_part_of};
+ghost use Rattle.call_study.specs.Reading.{denied_of, recheck_of, table_of, timings_over};
+ghost use Rattle.call_study.specs.Reading.{at_most as at_most_of};
+ghost use Rattle.call_commands.specs.{Answers.Says};
+ghost use Rattle.call_verdicts.specs.Verdicts.{verdicts_answer};
 
 use crate::ask::{Form, Table};
 use crate::choose::{choose_script, choose_timing};
+use crate::denial::Denial;
 use crate::halt::Halt;
+use crate::load::{Bytes, Loaded, load};
 use crate::pictures::{bands_text, dump_text, run_text};
+use crate::settled::{failing_said, trees_said};
 use call_commands::{Said, Study};
-use call_pilot::read_study;
-use call_tables::{margins_table, settle_table};
+use call_tables::{margins_table, recheck_settled, settle_table};
+use call_verdicts::{Cases, verdicts_table};
+use draw_diagram::Rows;
+use file_line::print_line;
+use file_sweeps::{part_count, part_text};
 use file_timing::read_timings;
 use model_line::{Line, Memory, Script};
 use model_timing::NamedTiming;
@@ -25,35 +36,156 @@ use net_gates::Net;
 use std::alloc::Global;
 
 /// The diagram of every choice of delays.
-pub fn bands(alloc: Global, line: &[u8], scripts: &[u8], script: Option<&str>) -> Result<Said, Halt>
-    ensures { Gives (answer_by (bands_of line.now scripts.now (option_copied script.entry)))
+pub fn bands(alloc: Global, which: Rows, bytes: &Bytes, script: Option<&str>) -> Result<Said, Halt>
+    ensures { Gives (answer_by (bands_of which (given_of bytes.now) (option_copied script.entry)))
         result }
 {
-    let study = read_study(alloc, line, scripts)?;
+    let loaded = load(alloc, bytes)?;
+    let study = &loaded.study;
     let Some(i) = choose_script(study.scripts.as_slice(), script) else {
-        return Err(Halt::UnknownScript);
+        return Err(Halt::Denied(Denial::UnknownScript));
     };
-    let text = bands_text(alloc, &study.line, &study.net, &study.scripts[i])?;
+    let text = bands_text(alloc, &study.line, &study.net, &study.scripts[i], which)?;
     Ok(Said::good(text))
 }
 
-/// A table over all scripts.
-pub fn table(alloc: Global, which: Table, line: &[u8], scripts: &[u8]) -> Result<Said, Halt>
-    ensures { Gives (answer_by (table_of which line.now scripts.now)) result }
+/// A table over all scripts, or a file for `pilot`.
+pub fn table(alloc: Global, which: Table, bytes: &Bytes) -> Result<Said, Halt>
+    ensures { Gives (answer_by (table_of which (given_of bytes.now))) result }
 {
-    let study = read_study(alloc, line, scripts)?;
-    let said = table_said(alloc, which, &study)?;
+    let loaded = load(alloc, bytes)?;
+    match denied(which, loaded.study.scripts.as_slice()) {
+        Some(why) => Err(Halt::Denied(why)),
+        None => {
+            let said = table_said(alloc, which, &loaded)?;
+            Ok(said)
+        }
+    }
+}
+
+// Why there is no such table over these scripts, if there is none.
+fn denied(which: Table, scripts: &[Script]) -> Option<Denial>
+    ensures { result ≡ denied_of which (length scripts.now) }
+{
+    match which {
+        Table::Settled { .. } | Table::Verdicts { .. } => at_most(4_096_000, scripts),
+        Table::Trees { .. } | Table::Margins => at_most(64, scripts),
+        Table::Line => None,
+        Table::Part(n) => {
+            if is_part(n as usize, scripts) {
+                None
+            } else {
+                Some(Denial::UnknownPart)
+            }
+        }
+    }
+}
+
+fn at_most(most: usize, scripts: &[Script]) -> Option<Denial>
+    ensures { result ≡ at_most_of most (length scripts.now) }
+{
+    if scripts.len() <= most {
+        None
+    } else {
+        Some(Denial::TooManyScripts)
+    }
+}
+
+// Whether the scripts have a part of that number.
+fn is_part(n: usize, scripts: &[Script]) -> bool
+    ensures { result ≡ is_part_of n (length scripts.now) }
+{
+    1 <= n && n <= part_count(scripts)
+}
+
+fn table_said(alloc: Global, which: Table, loaded: &Loaded) -> Result<Said, Memory>
+    requires loaded { IsLoaded loaded.now }
+    requires there { denied_of which (length loaded.now.study.scripts.items) ≡ None }
+    ensures { IfOk result (Says (answer_of (a_table which (studied loaded.now)))) }
+{
+    let study = &loaded.study;
+    match which {
+        Table::Settled { analyses } => settle_table(alloc, study, analyses),
+        Table::Trees { analyses } => trees_said(alloc, study, analyses),
+        Table::Margins => margins_table(alloc, study),
+        Table::Verdicts { analyses } => verdicts_said(alloc, loaded, analyses),
+        Table::Line => Ok(Said::good(print_line(alloc, &study.line)?)),
+        Table::Part(n) => match part_text(alloc, &study.line, &study.scripts, n as usize)? {
+            Some(text) => Ok(Said::good(text)),
+            None => Err(Memory),
+        },
+    }
+}
+
+fn verdicts_said(alloc: Global, loaded: &Loaded, analyses: u32) -> Result<Said, Memory>
+    requires loaded { IsLoaded loaded.now }
+    requires few { length loaded.now.study.scripts.items ≤ 4096000 }
+    ensures { IfOk result (Says (verdicts_answer loaded.now.study.line
+        loaded.now.study.scripts.items loaded.now.groups.items)) }
+{
+    let study = &loaded.study;
+    let cases = Cases {
+        line: &study.line,
+        net: &study.net,
+        scripts: study.scripts.as_slice(),
+        groups: loaded.groups.as_slice(),
+    };
+    verdicts_table(alloc, &cases, analyses)
+}
+
+/// The timings that fail obligations of a script.
+pub fn timings(
+    alloc: Global,
+    bytes: &Bytes,
+    script: Option<&str>,
+    analyses: u32,
+) -> Result<Said, Halt>
+    ensures { Gives (answer_by (timings_over (given_of bytes.now) (option_copied script.entry)))
+        result }
+{
+    let loaded = load(alloc, bytes)?;
+    let Some(i) = choose_script(loaded.study.scripts.as_slice(), script) else {
+        return Err(Halt::Denied(Denial::UnknownScript));
+    };
+    let study = alone(alloc, loaded.study, i)?;
+    let said = failing_said(alloc, &study, analyses)?;
     Ok(said)
 }
 
-fn table_said(alloc: Global, which: Table, study: &Study) -> Result<Said, Memory>
-    requires { IsStudy study.now }
-    ensures { IfOk result
-        (Says (answer_of (a_table which study.now.line study.now.scripts.items))) }
+// The line with its net and one of its scripts.
+fn alone(alloc: Global, study: Study, i: usize) -> Result<Study, Memory>
+    requires inside { i < length study.scripts.items }
+    ensures line { IfOk result (λ one. one.line ≡ study.line) }
+    ensures net { IfOk result (λ one. one.net ≡ study.net) }
+    ensures script { IfOk result (λ one. (script : ScriptOf) →
+        slice_get study.scripts.items i ≡ Some script → one.scripts.items ≡ script ∷ []) }
 {
-    match which {
-        Table::Settled { analyses } => settle_table(alloc, study, analyses),
-        Table::Margins => margins_table(alloc, study),
+    let Study {
+        line,
+        mut scripts,
+        net,
+    } = study;
+    let own = scripts.swap_remove(i);
+    let mut only = Vec::new(alloc);
+    only.push(own)?;
+    Ok(Study {
+        line,
+        scripts: only,
+        net,
+    })
+}
+
+/// Whether settled trees are accepted.
+pub fn recheck(alloc: Global, bytes: &Bytes, trees: &[u8]) -> Result<Said, Halt>
+    ensures { Gives (answer_by (recheck_of (given_of bytes.now) trees.now)) result }
+{
+    let loaded = load(alloc, bytes)?;
+    match at_most(64, loaded.study.scripts.as_slice()) {
+        Some(why) => Err(Halt::Denied(why)),
+        None => {
+            let said = recheck_settled(alloc, &loaded.study, trees)?;
+            Ok(said)
+        }
     }
 }
 
@@ -61,23 +193,23 @@ fn table_said(alloc: Global, which: Table, study: &Study) -> Result<Said, Memory
 pub fn play(
     alloc: Global,
     form: Form,
-    line: &[u8],
-    scripts: &[u8],
+    bytes: &Bytes,
     timings: &[u8],
     script: Option<&str>,
     timing: Option<&str>,
 ) -> Result<Said, Halt>
     requires { length timings.now ≤ 4194304 }
-    ensures { Gives (answer_by (play_of form line.now scripts.now timings.now
+    ensures { Gives (answer_by (play_of form (given_of bytes.now) timings.now
         (option_copied script.entry) (option_copied timing.entry))) result }
 {
-    let study = read_study(alloc, line, scripts)?;
+    let loaded = load(alloc, bytes)?;
+    let study = &loaded.study;
     let timings = read_timings(alloc, &study.line, timings)?;
     let Some(i) = choose_script(study.scripts.as_slice(), script) else {
-        return Err(Halt::UnknownScript);
+        return Err(Halt::Denied(Denial::UnknownScript));
     };
     let Some(j) = choose_timing(timings.as_slice(), timing) else {
-        return Err(Halt::UnknownTiming);
+        return Err(Halt::Denied(Denial::UnknownTiming));
     };
     let text = play_text(
         alloc,
@@ -105,7 +237,7 @@ fn play_text(
         answer_of (a_play form line.now script.now (values_of timing.now)) Good text.items) }
 {
     match form {
-        Form::Diagram => run_text(alloc, line, net, script, timing),
+        Form::Diagram { rows } => run_text(alloc, line, net, script, timing, rows),
         Form::Dump => dump_text(alloc, line, net, script, timing),
     }
 }

@@ -1,17 +1,18 @@
 //! The top call.
 
 ghost use Rattle.std.specs.Prelude.{◌≡◌};
-ghost use Rattle.std.specs.Option.{option_copied};
 ghost use Rattle.call_commands.specs.Sinks.{sink_view};
-ghost use Rattle.call_study.specs.Answers.{answer_over};
+ghost use Rattle.call_study.specs.Answers.{answer_by, answer_over};
 ghost use Rattle.call_study.specs.{Clauses.Clauses, Ends.EndsOf, Ends.Fetched};
-ghost use Rattle.call_study.specs.{Halts.IsDone, Halts.IsEarly};
-ghost use Rattle.call_study.specs.Request.{bands as asked_bands, files_of, files_over};
-ghost use Rattle.call_study.specs.Request.{play as asked_play, request_of, table as asked_table};
+ghost use Rattle.call_study.specs.{Halts.IsDone, Halts.IsEarly, Loaded.source_in};
+ghost use Rattle.call_study.specs.Reading.{over_further};
+ghost use Rattle.call_study.specs.Request.{files_beside, files_of, request_of};
 
-use crate::ask::{Ask, Form, Table, Work};
+use crate::ask::{Ask, Source, Work};
 use crate::halt::{Halt, put_halt};
-use crate::read::{bands, play, table};
+use crate::linted::lint_said;
+use crate::load::Bytes;
+use crate::read::{bands, play, recheck, table, timings};
 use base_store::{Sink, Store, put_all};
 use call_commands::{Done, Said};
 use call_pilot::{File, fetch_file};
@@ -61,8 +62,7 @@ fn answer<S: Store, O: Sink>(
     store: &mut S,
     out: &mut O,
 ) -> Result<Done, Halt>
-    ensures { EndsOf (sink_view O.written O.faults)
-        (answer_over (request_of ask.now).script (request_of ask.now).asked)
+    ensures { EndsOf (sink_view O.written O.faults) (answer_over (request_of ask.now))
         (S.held store.old) (files_of (request_of ask.now)) (S.faults store.old)
         (S.faults store.new) out.old out.new result }
 {
@@ -73,89 +73,55 @@ fn answer<S: Store, O: Sink>(
 
 // The status and the text.
 fn said_of<S: Store>(alloc: Global, ask: &Ask<'_>, store: &mut S) -> Result<Said, Halt>
-    ensures { Fetched (answer_over (request_of ask.now).script (request_of ask.now).asked)
-        (S.held store.old) (files_of (request_of ask.now)) (S.faults store.old)
-        (S.faults store.new) result }
+    ensures { Fetched (answer_over (request_of ask.now)) (S.held store.old)
+        (files_of (request_of ask.now)) (S.faults store.old) (S.faults store.new) result }
 {
-    match ask.work {
-        Work::Bands => bands_over(alloc, ask.line, ask.scripts, ask.script, store),
-        Work::Play {
-            form,
-            timings,
-            timing,
-        } => play_over(
-            alloc,
-            form,
-            ask.line,
-            ask.scripts,
-            timings,
-            ask.script,
-            timing,
-            store,
-        ),
-        Work::Table(which) => { table_over(alloc, which, ask.line, ask.scripts, ask.script, store) }
+    match ask.source {
+        Source::Files { line, scripts } => {
+            let line = fetch_file(alloc, store, File::Line, line)?;
+            let scripts = fetch_file(alloc, store, File::Scripts, scripts)?;
+            said_over(alloc, &Bytes::Files { line, scripts }, ask, store)
+        }
+        Source::Study(study) => {
+            let study = fetch_file(alloc, store, File::Study, study)?;
+            said_over(alloc, &Bytes::Study(study), ask, store)
+        }
     }
 }
 
-fn bands_over<S: Store>(
+// The status and the text over what the source holds, once the further files are fetched.
+fn said_over<S: Store>(
     alloc: Global,
-    line: &str,
-    scripts: &str,
-    script: Option<&str>,
+    bytes: &Bytes,
+    ask: &Ask<'_>,
     store: &mut S,
 ) -> Result<Said, Halt>
-    ensures { Fetched (answer_over (option_copied script.entry) asked_bands) (S.held store.old)
-        (files_over line.now scripts.now asked_bands) (S.faults store.old) (S.faults store.new)
-        result }
+    ensures { Fetched
+        (λ further. answer_by (over_further (source_in bytes.now) (request_of ask.now).script
+        (request_of ask.now).asked further))
+        (S.held store.old) (files_beside (request_of ask.now).asked) (S.faults store.old)
+        (S.faults store.new) result }
 {
-    let line = fetch_file(alloc, store, File::Line, line)?;
-    let scripts = fetch_file(alloc, store, File::Scripts, scripts)?;
-    bands(alloc, line.as_slice(), scripts.as_slice(), script)
-}
-
-fn table_over<S: Store>(
-    alloc: Global,
-    which: Table,
-    line: &str,
-    scripts: &str,
-    script: Option<&str>,
-    store: &mut S,
-) -> Result<Said, Halt>
-    ensures { Fetched (answer_over (option_copied script.entry) (asked_table which))
-        (S.held store.old) (files_over line.now scripts.now (asked_table which))
-        (S.faults store.old) (S.faults store.new) result }
-{
-    let line = fetch_file(alloc, store, File::Line, line)?;
-    let scripts = fetch_file(alloc, store, File::Scripts, scripts)?;
-    table(alloc, which, line.as_slice(), scripts.as_slice())
-}
-
-fn play_over<S: Store>(
-    alloc: Global,
-    form: Form,
-    line: &str,
-    scripts: &str,
-    timings: &str,
-    script: Option<&str>,
-    timing: Option<&str>,
-    store: &mut S,
-) -> Result<Said, Halt>
-    ensures { Fetched (answer_over (option_copied script.entry)
-        (asked_play form timings.now (option_copied timing.entry))) (S.held store.old)
-        (files_over line.now scripts.now
-        (asked_play form timings.now (option_copied timing.entry)))
-        (S.faults store.old) (S.faults store.new) result }
-{
-    let line = fetch_file(alloc, store, File::Line, line)?;
-    let scripts = fetch_file(alloc, store, File::Scripts, scripts)?;
-    let timings = fetch_file(alloc, store, File::Timings, timings)?;
-    play(
-        alloc,
-        form,
-        line.as_slice(),
-        scripts.as_slice(),
-        timings.as_slice(),
-        script,
-        timing,
-    )
+    let script = ask.script;
+    match ask.work {
+        Work::Bands { rows } => bands(alloc, rows, bytes, script),
+        Work::Play {
+            form,
+            timings: name,
+            timing,
+        } => {
+            let timings = fetch_file(alloc, store, File::Timings, name)?;
+            play(alloc, form, bytes, timings.as_slice(), script, timing)
+        }
+        Work::Table(which) => table(alloc, which, bytes),
+        Work::Timings { analyses } => timings(alloc, bytes, script, analyses),
+        Work::Recheck { trees } => {
+            let trees = fetch_file(alloc, store, File::Trees, trees)?;
+            recheck(alloc, bytes, trees.as_slice())
+        }
+        Work::Lint => {
+            let said = lint_said(alloc, bytes, ask.source)?;
+            Ok(said)
+        }
+    }
 }

@@ -1,4 +1,7 @@
-use Rattle.std.proofs.Common.{◌∙◌, ap}
+use Rattle.std.proofs.Common.{◌∙◌, ℕ, List, ap, subst}
+use Rattle.model_history.specs.Rails.{both}
+use Rattle.model_timing.specs.declared.step.Step.{Step}
+use Rattle.draw_diagram.specs.{Diagrams.IsDiagramOf, Traces.known_history, Traces.pairs_shown}
 use Rattle.draw_shapes.specs.Svg.{svg_of}
 use Rattle.run_simulator.specs.Played.{is_on, played}
 use Rattle.call_study.proofs.pictures.run_text.Goals as goal
@@ -12,7 +15,13 @@ returns-clause-drawn c = record {
   gates = is_on c.in_ok-waves.waves;
   trees = c.in_ok-waves.ensures.gates;
   diagram = c.in_ok-diagram.diagram;
-  shows = c.in_ok-diagram.ensures.diagram;
+  shows =
+      subst (λ (steps : List (Step ℕ)).
+      IsDiagramOf c.args.line.now c.args.net.now.gates c.args.script.now
+      (pairs_shown (known_history (played c.in_ok-waves.waves))
+      (λ gate t. both (is_on c.in_ok-waves.waves gate t)))
+      steps c.args.which c.in_ok-diagram.diagram)
+      c.steps.ensures.same c.in_ok-diagram.ensures.diagram;
   no_rules = c.in_ok-diagram.ensures.rules;
   printed = c.in_ok-markup.ensures ∙ ap svg_of c.in_ok-drawn.ensures;
 }

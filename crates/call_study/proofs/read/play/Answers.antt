@@ -8,40 +8,39 @@ use Rattle.file_timing.specs.Timings.{timings_of}
 use Rattle.call_study.specs.Chosen.{chosen_script, chosen_timing}
 use Rattle.call_study.proofs.Chosen.{chosen-map}
 use Rattle.std.proofs.lemmas.Result.{err_from_is_err_and}
-use Rattle.call_study.specs.{Answers.answer_by, Reading.play_of}
-use Rattle.call_study.proofs.Reading.{none_placed, one_placed, placed_at, study_halts, study_read}
-use Rattle.call_study.proofs.Reading.{study_refused, timings_halt, timings_read}
+use Rattle.call_study.specs.{Answers.answer_by, Loaded.given_of, Reading.play_of}
+use Rattle.call_study.proofs.Reading.{given_read, given_refused, load_halts, none_placed, one_placed}
+use Rattle.call_study.proofs.Reading.{placed_at, timings_halt, timings_read}
 use Rattle.call_study.proofs.read.play.Goals as goal
 
-pub returns-in_err-study : goal.returns-in_err-study
-returns-in_err-study c =
+pub returns-in_err-loaded : goal.returns-in_err-loaded
+returns-in_err-loaded c =
     let p = err_from_is_err_and c.from_residual.result c.from_residual.ensures.1 in
-    let line = c.args.line.now in
-    let scripts = c.args.scripts.now in
-    rw (p.1, p.2) (study_halts line scripts
-    (answer_by (play_of c.args.form line scripts c.args.timings.now
+    let bytes = c.args.bytes.now in
+    rw (p.1, p.2) (load_halts bytes
+    (answer_by (play_of c.args.form (given_of bytes) c.args.timings.now
     (option_copied c.args.script) (option_copied c.args.timing)))
-    c.in_err-study.field-0.0 c.in_err-study.ensures
-    (λ why first. study_refused line scripts why _ _ first (refl, refl)))
+    c.in_err-loaded.field-0.0 c.in_err-loaded.ensures
+    (λ why. given_refused bytes _ _ _ why (refl, refl)))
 
 pub returns-in_err-timings : goal.returns-in_err-timings
 returns-in_err-timings c =
     let p = err_from_is_err_and c.from_residual-in_err-timings.result
     c.from_residual-in_err-timings.ensures.1 in
-    let study = c.in_ok-study.study in
+    let study = c.in_ok-loaded.loaded.study in
     rw (p.1, p.2) (timings_halt (timings_of study.line c.args.timings.now)
-    (answer_by (play_of c.args.form c.args.line.now c.args.scripts.now c.args.timings.now
+    (answer_by (play_of c.args.form (given_of c.args.bytes.now) c.args.timings.now
     (option_copied c.args.script) (option_copied c.args.timing)))
     c.in_err-timings.field-0.0 c.in_err-timings.ensures.said
-    (λ is. study_read c.args.line.now c.args.scripts.now study _ _ c.in_ok-study.ensures.0
-    c.in_ok-study.ensures.1 (rw is (refl, refl))))
+    (λ is. given_read c.args.bytes.now c.in_ok-loaded.loaded _ _ c.in_ok-loaded.ensures.0
+    c.in_ok-loaded.ensures.1 (rw is (refl, refl))))
 
 pub returns-in_default : goal.returns-in_default
 returns-in_default c =
-    let study = c.in_ok-study.study in
+    let study = c.in_ok-loaded.loaded.study in
     let timings = c.in_ok-timings.timings.items in
-    study_read c.args.line.now c.args.scripts.now study _ _ c.in_ok-study.ensures.0
-    c.in_ok-study.ensures.1
+    given_read c.args.bytes.now c.in_ok-loaded.loaded _ _ c.in_ok-loaded.ensures.0
+    c.in_ok-loaded.ensures.1
     (timings_read study.line (timings_of study.line c.args.timings.now) (map values_of timings) _ _
     c.in_ok-timings.ensures.said
     (All-map (λ (timing : NamedValues). IsTimingInside study.line timing.timing) values_of timings
@@ -52,12 +51,12 @@ returns-in_default c =
 
 pub returns-in_default-choose_timing : goal.returns-in_default-choose_timing
 returns-in_default-choose_timing c =
-    let study = c.in_ok-study.study in
+    let study = c.in_ok-loaded.loaded.study in
     let timings = c.in_ok-timings.timings.items in
     let script = rw c.as_slice.ensures.value at c.in-Some.ensures in
     let there = placed_at study.scripts.items c.in-Some.i script.exists in
-    study_read c.args.line.now c.args.scripts.now study _ _ c.in_ok-study.ensures.0
-    c.in_ok-study.ensures.1
+    given_read c.args.bytes.now c.in_ok-loaded.loaded _ _ c.in_ok-loaded.ensures.0
+    c.in_ok-loaded.ensures.1
     (timings_read study.line (timings_of study.line c.args.timings.now) (map values_of timings) _ _
     c.in_ok-timings.ensures.said
     (All-map (λ (timing : NamedValues). IsTimingInside study.line timing.timing) values_of timings
@@ -73,12 +72,12 @@ returns-in_default-choose_timing c =
 
 pub returns : goal.returns
 returns c =
-    let study = c.in_ok-study.study in
+    let study = c.in_ok-loaded.loaded.study in
     let timings = c.in_ok-timings.timings.items in
     let script = rw c.as_slice.ensures.value at c.in-Some.ensures in
     let timing = rw c.as_slice-2.ensures.value at c.in-Some-choose_timing.ensures in
-    study_read c.args.line.now c.args.scripts.now study _ _ c.in_ok-study.ensures.0
-    c.in_ok-study.ensures.1
+    given_read c.args.bytes.now c.in_ok-loaded.loaded _ _ c.in_ok-loaded.ensures.0
+    c.in_ok-loaded.ensures.1
     (timings_read study.line (timings_of study.line c.args.timings.now) (map values_of timings) _ _
     c.in_ok-timings.ensures.said
     (All-map (λ (timing : NamedValues). IsTimingInside study.line timing.timing) values_of timings

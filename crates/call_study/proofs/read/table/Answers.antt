@@ -1,19 +1,29 @@
-use Rattle.std.proofs.Common.{refl}
+use Rattle.std.proofs.Common.{◌≡◌, ◌∙◌, None, Some, ap, arith, length, refl, sym}
 use Rattle.std.proofs.lemmas.Result.{err_from_is_err_and}
-use Rattle.call_study.specs.{Answers.answer_by, Reading.table_of}
-use Rattle.call_study.proofs.Reading.{study_halts, study_read, study_refused}
+use Rattle.call_study.specs.{Answers.answer_by, Loaded.given_of, Reading.denied_of, Reading.table_of}
+use Rattle.call_study.proofs.Reading.{given_read, given_refused, load_halts}
 use Rattle.call_study.proofs.read.table.Goals as goal
 
-pub returns-in_err-study : goal.returns-in_err-study
-returns-in_err-study c =
+pub returns-in_err-loaded : goal.returns-in_err-loaded
+returns-in_err-loaded c =
     let p = err_from_is_err_and c.from_residual.result c.from_residual.ensures.1 in
-    let line = c.args.line.now in
-    let scripts = c.args.scripts.now in
-    rw (p.1, p.2) (study_halts line scripts (answer_by (table_of c.args.which line scripts))
-    c.in_err-study.field-0.0 c.in_err-study.ensures
-    (λ why first. study_refused line scripts why _ _ first (refl, refl)))
+    let bytes = c.args.bytes.now in
+    rw (p.1, p.2) (load_halts bytes (answer_by (table_of c.args.which (given_of bytes)))
+    c.in_err-loaded.field-0.0 c.in_err-loaded.ensures
+    (λ why. given_refused bytes _ _ _ why (refl, refl)))
+
+pub returns-in-Some : goal.returns-in-Some
+returns-in-Some c =
+    let loaded = c.in_ok-loaded.loaded in
+    let is : denied_of c.args.which (length loaded.study.scripts.items) ≡ Some c.in-Some.why =
+    (rw c.as_slice.ensures.value at (sym c.denied.ensures)) ∙ c.in-Some.is in
+    given_read c.args.bytes.now loaded _ _ c.in_ok-loaded.ensures.0 c.in_ok-loaded.ensures.1
+    (rw is (refl, refl))
 
 pub returns : goal.returns
 returns c =
-    study_read c.args.line.now c.args.scripts.now c.in_ok-study.study _ _
-    c.in_ok-study.ensures.0 c.in_ok-study.ensures.1 c.in_ok-said.ensures
+    let loaded = c.in_ok-loaded.loaded in
+    let is : denied_of c.args.which (length loaded.study.scripts.items) ≡ None =
+    (rw c.as_slice.ensures.value at (sym c.denied.ensures)) ∙ c.in-None.is in
+    given_read c.args.bytes.now loaded _ _ c.in_ok-loaded.ensures.0 c.in_ok-loaded.ensures.1
+    (rw is c.in_ok-said-in-None.ensures)

@@ -1,0 +1,34 @@
+use Rattle.std.proofs.Common.{◌≡◌, ℕ, List, Some, refl, sym, subst, ◌∙◌, ap}
+use Rattle.std.specs.Prelude.{slice_get}
+use Rattle.std.proofs.lemmas.Option.{slice_get_read}
+use Rattle.model_history.specs.Rails.{Rails, must_of}
+use Rattle.model_line.specs.{declared.line.Line.Line, declared.script.Script.Script}
+use Rattle.judge_interval.specs.PairWavesOf.{pair_at}
+use Rattle.judge_settle.specs.Answers.{IsAnswer}
+use Rattle.run_waves.specs.FirstTick.{first_on, first_on-same}
+use Rattle.call_verdicts.proofs.finding.find.Goals as goal
+
+pub returns : goal.returns
+returns c =
+    let line : Line = c.args.cases.now.line.now in
+    let scripts : List Script = c.args.cases.now.scripts.now in
+    let k : ℕ = c.args.terminal in
+    let script : Script = c.index-cases-i.result in
+    let trip : ℕ → Rails = pair_at c.args.waves.now.trips k in
+    let at : slice_get scripts c.args.i ≡ Some script =
+    slice_get_read scripts _ c.args.i script refl c.requires.exists c.index-cases-i.is in
+    record {
+      script = script;
+      at = at;
+      terminal = c.requires.terminal;
+      place = refl;
+      standing = c.standing_of.ensures line script k
+          (subst (λ (s : Script). IsAnswer line s k c.in_ok-settled.settled.answer)
+          (sym c.index-cases-i.is) c.in_ok-settled.ensures);
+      first = λ w is_w.
+          c.first_must-first_must.ensures.first
+          ∙ ap (first_on (λ t. (trip t).must)) c.requires.horizon
+          ∙ first_on-same (λ t. (trip t).must) (λ t. (w.trip k t).must) line.horizon
+          (λ t lt.
+          ap must_of (((c.requires.history script at).only w is_w).trips k t c.requires.terminal lt));
+    }

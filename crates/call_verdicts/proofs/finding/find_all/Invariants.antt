@@ -1,0 +1,10 @@
+use Rattle.std.proofs.Common.{◌*◌}
+use Rattle.model_line.specs.Parameters.{terminal_count}
+use Rattle.judge_verdict.specs.OneEach.{OneEach}
+use Rattle.call_verdicts.specs.Findings.{IsFinding}
+use Rattle.call_verdicts.proofs.finding.find_all.Given as goal
+
+abbrev pub invariant-loop-i : goal.invariant-loop-i
+invariant-loop-i l =
+    OneEach (IsFinding l.cases.line.now l.cases.scripts.now)
+    (l.i * terminal_count l.cases.line.now) l.found.items

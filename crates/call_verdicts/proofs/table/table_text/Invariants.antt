@@ -1,0 +1,8 @@
+use Rattle.std.proofs.Common.{◌≡◌, take}
+use Rattle.call_verdicts.specs.Records.{verdicts_text}
+use Rattle.call_verdicts.proofs.table.table_text.Given as goal
+
+abbrev pub invariant-loop-one : goal.invariant-loop-one
+invariant-loop-one l =
+    l.text.items
+    ≡ verdicts_text l.cases.line.now l.cases.scripts.now l.cases.groups.now (take l.one-index l.found)

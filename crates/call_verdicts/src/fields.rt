@@ -1,0 +1,124 @@
+//! The fields of a record of the table.
+
+ghost use Rattle.std.specs.Prelude.{◌≡◌, ◌++◌, ◌∷◌, IfOk, OnOk, Some};
+ghost use Rattle.model_line.specs.declared.script.Kind.TheVariants.{Internal};
+ghost use Rattle.judge_report.specs.ReportText.{kind_word as word_of_kind};
+ghost use Rattle.call_tables.specs.Table.{by_word as word_of_by};
+ghost use Rattle.call_verdicts.specs.Records.{answer_word as word_of_answer, ticks_text};
+ghost use Rattle.call_verdicts.specs.Records.{margin_text as margin_text_of, times_text};
+ghost use Rattle.call_verdicts.specs.Records.{trip_text as trip_text_of};
+
+use crate::finding::Standing;
+use crate::milliseconds::push_ms;
+use judge_settle::By;
+use model_line::{Kind, Memory};
+use std::alloc::Global;
+
+// Appends ticks in milliseconds.
+fn push_ticks(text: &mut Vec<u8>, tick_us: u32, t: u32) -> Result<(), Memory>
+    ensures { OnOk result (text.new.items ≡ text.old.items ++ ticks_text tick_us t) }
+{
+    push_ms(text, t as u64 * tick_us as u64)
+}
+
+/// Times with `/` between them.
+#[tactic(auto, using(crate::proofs::Times::times_text_split))]
+pub fn times(alloc: Global, tick_us: u32, ticks: &[u32]) -> Result<Vec<u8>, Memory>
+    ensures { IfOk result (λ text. text.items ≡ times_text tick_us ticks.now) }
+{
+    let mut text = Vec::new(alloc);
+    if ticks.is_empty() {
+        return Ok(text);
+    }
+    push_ticks(&mut text, tick_us, ticks[0])?;
+    let more = &ticks[1..];
+    for t in more {
+        push_more(&mut text, tick_us, *t)?;
+    }
+    Ok(text)
+}
+
+// Appends one time more.
+fn push_more(text: &mut Vec<u8>, tick_us: u32, t: u32) -> Result<(), Memory>
+    ensures { OnOk result (text.new.items ≡ text.old.items ++ 47 ∷ ticks_text tick_us t) }
+{
+    text.push(b'/')?;
+    push_ticks(text, tick_us, t)
+}
+
+/// When the trip must have come; nothing where it need not come.
+pub fn trip_text(alloc: Global, tick_us: u32, first: Option<u32>) -> Result<Vec<u8>, Memory>
+    ensures { IfOk result (λ text. text.items ≡ trip_text_of tick_us first) }
+{
+    let mut text = Vec::new(alloc);
+    if let Some(first) = first {
+        push_ticks(&mut text, tick_us, first)?;
+    }
+    Ok(text)
+}
+
+/// The deadline less that; nothing where there are not both.
+pub fn margin_text(
+    alloc: Global,
+    tick_us: u32,
+    kind: Kind,
+    deadline: u32,
+    first: Option<u32>,
+) -> Result<Vec<u8>, Memory>
+    ensures { IfOk result (λ text.
+        text.items ≡ margin_text_of tick_us kind deadline first) }
+{
+    match (kind, first) {
+        (Kind::Internal, Some(first)) => margin(alloc, tick_us, deadline, first),
+        (Kind::Internal, None) => Ok(Vec::new(alloc)),
+        (Kind::External, _) => Ok(Vec::new(alloc)),
+    }
+}
+
+fn margin(alloc: Global, tick_us: u32, deadline: u32, first: u32) -> Result<Vec<u8>, Memory>
+    ensures { IfOk result (λ text.
+        text.items ≡ margin_text_of tick_us Internal deadline (Some first)) }
+{
+    let mut text = Vec::new(alloc);
+    if first <= deadline {
+        push_ticks(&mut text, tick_us, deadline - first)?;
+        return Ok(text);
+    }
+    text.push(b'-')?;
+    push_ticks(&mut text, tick_us, first - deadline)?;
+    Ok(text)
+}
+
+/// `internal` or `external`.
+pub fn kind_word(kind: Kind) -> &'static [u8]
+    ensures { result.now ≡ word_of_kind kind }
+{
+    match kind {
+        Kind::Internal => b"internal",
+        Kind::External => b"external",
+    }
+}
+
+/// `held`, `fails` or `open`.
+pub fn answer_word(standing: Standing) -> &'static [u8]
+    ensures { result.now ≡ word_of_answer standing }
+{
+    match standing {
+        Standing::Held => b"held",
+        Standing::Fails => b"fails",
+        Standing::Open => b"open",
+    }
+}
+
+/// By what it was settled, as a word.
+pub fn by_word(by: By) -> &'static [u8]
+    ensures { result.now ≡ word_of_by by }
+{
+    match by {
+        By::Rules => b"rules",
+        By::Candidate => b"candidate",
+        By::Corner => b"corner",
+        By::Parts => b"parts",
+        By::Cases => b"cases",
+    }
+}
