@@ -18,6 +18,3 @@ pub use numbers::number;
 pub use sink::{PutFailed, Sink, SinkFailed, put_all};
 pub use std_sink::StdSink;
 pub use store::{FetchFault, Store, StoreFailed, fetch};
-
-#[cfg(test)]
-mod tests;

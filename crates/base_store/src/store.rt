@@ -49,7 +49,7 @@ pub trait Store {
     /// Fills the front of `into` with bytes of the name from the place `from` on, and gives their
     /// number. Where `into` has room, 0 means that there are no more.
     fn pull(&mut self, name: &str, from: u64, into: &mut [u8]) -> Result<usize, StoreFailed>
-        requires { from ≤ 4194304 }
+        requires { from ≤ 67108864 }
 
         ensures bound { IfOk result (λ n. n ≤ length into.new) }
         ensures bytes { IfOk result (λ n.
@@ -85,7 +85,7 @@ pub fn fetch<S: Store>(
     name: &str,
     limit: u32,
 ) -> Result<Vec<u8>, FetchFault>
-    requires { limit ≤ 4194304 }
+    requires { limit ≤ 67108864 }
 
     ensures short { IfOk result (λ v. length v.items ≤ limit) }
     ensures whole { IfOk result (λ v.

@@ -16,6 +16,3 @@ pub use figure::{Figure, Label, Rectangle, Stroke};
 pub use laws::each_class_is_listed;
 pub use pen::{put_line, put_rectangle, put_text};
 pub use shape::{Drawing, Shape};
-
-#[cfg(test)]
-mod tests;

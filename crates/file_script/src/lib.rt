@@ -13,6 +13,3 @@ pub use fault::ScriptFault;
 pub use laws::a_file_says_scripts_of_one_file;
 pub use print::print_scripts;
 pub use read::read_scripts;
-
-#[cfg(test)]
-mod tests;

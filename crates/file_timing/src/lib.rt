@@ -14,6 +14,3 @@ pub use fault::TimingFault;
 pub use laws::timings_are_read_back;
 pub use print::print_timings;
 pub use read::read_timings;
-
-#[cfg(test)]
-mod tests;

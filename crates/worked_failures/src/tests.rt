@@ -12,6 +12,7 @@ mod derived_waves;
 mod play_pieces;
 mod scarce_memory;
 mod store_and_sink_faults;
+mod stores_and_writers;
 mod usage;
 mod worked_files;
 

@@ -1,7 +1,6 @@
 //! How much one pull asks for, and what the store over files and the sink over a writer do.
 
-use super::*;
-use std::alloc::Global;
+use base_store::{FetchFault, FileStore, MemoryStore, PutFailed, StdSink, fetch, put_all};
 use std::io::Write;
 use std::test::Fail;
 use std::{fs, io};
