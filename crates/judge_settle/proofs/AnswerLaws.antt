@@ -1,11 +1,10 @@
 -- Answers from what a search finds.
-use Rattle.std.proofs.Common.{◌≡◌, ◌<◌, ◌≤◌, ℕ, Bool, true, false, List, [], sym, ◌∙◌, refl, arith}
+use Rattle.std.proofs.Common.{◌≡◌, ◌<◌, ◌≤◌, ℕ, true, false, [], sym, ◌∙◌, arith}
 use Rattle.std.proofs.lemmas.List.Elements.{All-nil}
 use Rattle.std.specs.Prelude.{IsTrue}
 use Rattle.model_line.specs.{declared.line.Line.Line, declared.script.Script.Script}
 use Rattle.model_line.specs.Parameters.{terminal_count}
-use Rattle.model_logic.specs.Choice.{Choice, declared_box, LeastFromOne}
-use Rattle.model_logic.specs.Histories.{History}
+use Rattle.model_logic.specs.Choice.{declared_box, LeastFromOne}
 use Rattle.model_cases.specs.Assumed.{Agrees}
 use Rattle.model_cases.specs.CaseTrees.{CaseTree, are_yes, AreSound}
 use Rattle.model_cases.specs.Laws.{SoundTreesMeet}

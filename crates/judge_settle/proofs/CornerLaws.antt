@@ -1,9 +1,9 @@
 -- Where one timing decides, what every choice meets is shown over the declared box.
-use Rattle.std.proofs.Common.{◌≡◌, ◌<◌, ℕ, List, []}
+use Rattle.std.proofs.Common.{◌<◌, ℕ}
 use Rattle.model_line.specs.{declared.line.Line.Line, declared.script.Script.Script}
 use Rattle.model_line.specs.Parameters.{terminal_count}
 use Rattle.model_logic.specs.Choice.{Choice, declared_box}
-use Rattle.model_logic.specs.Histories.{PairHistory, IsPairHistory}
+use Rattle.model_logic.specs.Histories.{PairHistory}
 use Rattle.model_logic.specs.Laws.{LineLaws}
 use Rattle.model_polarity.specs.{Laws.EveryChoiceMeets, Worst.deciding, Worst.worst_choice}
 use Rattle.model_polarity.specs.Schemes.{IsOneRailedBy, TheWorstChoiceDecides, scheme_sides}

@@ -1,4 +1,5 @@
 mod ViewLaws
 mod TreeLaws
+mod LeafLaws
 mod CornerLaws
 mod AnswerLaws

@@ -1,7 +1,7 @@
 -- Trees from their leaves and their sides.
 use Rattle.std.proofs.Common.{◌≡◌, ◌<◌, ◌+◌, ◌∷◌, ◌++◌, [], ℕ, Bool, true, false, List, refl, ◌∙◌, ap}
 use Rattle.std.proofs.Common.{subst, sym, arith}
-use Rattle.std.specs.Prelude.{◌&&◌, Decides}
+use Rattle.std.specs.Prelude.{◌&&◌}
 use Rattle.model_line.specs.{declared.line.Line.Line, declared.script.Script.Script}
 use Rattle.model_logic.specs.Choice.{Box}
 use Rattle.model_cases.specs.Assumed.{Assumption}
@@ -18,7 +18,7 @@ use Rattle.judge_cases.specs.declared.view.View.{View}
 use Rattle.cert_settle_text.specs.Trees.{Branches}
 use Rattle.judge_settle.specs.declared.grown.Grown.{Grown}
 use Rattle.judge_settle.specs.declared.sides.Branch.{Branch}
-use Rattle.judge_settle.specs.Joined.{node_of, leaf_of, joined}
+use Rattle.judge_settle.specs.Joined.{node_of, joined}
 use Rattle.judge_settle.specs.Sides.{AreSides, AreOrdered}
 use Rattle.judge_settle.specs.Trees.{IsGrownOver, Size, IsWithin}
 use Rattle.judge_settle.proofs.ViewLaws.{own_view}
@@ -76,18 +76,16 @@ module _ (line : Line) (script : Script) (k : ℕ) (view : View) where
     small = no_cuts size;
   }
 
-  -- a leaf that is yes where the obligation is shown over the view
-  pub leaf_shown : (size : Size) (g : Grown) (b : Bool) → g.nodes.items ≡ leaf_of b ∷ []
-      → g.yes ≡ b → ((box : Box) (assumed : List Assumption) → Views line box assumed view
-      → Decides b (IsShownUnder line script k box assumed)) → IsGrownOver line script k size view g
-  leaf_shown size g true is told shown box assumed v = record {
+  pub leaf_yes : (size : Size) (g : Grown) → g.nodes.items ≡ node.Yes ∷ [] → g.yes ≡ true
+      → ((box : Box) (assumed : List Assumption) → Views line box assumed view
+      → IsShownUnder line script k box assumed) → IsGrownOver line script k size view g
+  leaf_yes size g is told shown box assumed v = record {
     tree = Yes;
     nodes = is;
     yes = told;
-    sound = (shown box assumed v).0 refl;
+    sound = shown box assumed v;
     small = no_cuts_yes size;
   }
-  leaf_shown size g false is told shown box assumed v = leaf_undecided size g is told box assumed v
 
   -- the trees of both sides behind their cut
   sides_joined : (size s t : Size) → HasRoomFor size s t → (cut : Cut) (first second : View)

@@ -1,5 +1,5 @@
 -- What a search finds over a view.
-use Rattle.std.specs.Prelude.{◌≡◌, ◌≤◌, ℕ, Bool, List, IsTrue}
+use Rattle.std.specs.Prelude.{◌≡◌, ◌≤◌, ℕ, List, IsTrue}
 use Rattle.model_line.specs.{declared.line.Line.Line, declared.script.Script.Script}
 use Rattle.model_logic.specs.Choice.{Box}
 use Rattle.model_timing.specs.{Timing.TimingValues, Timing.ascend, Inside.IsTimingInside}

@@ -1,21 +1,18 @@
 //! What is done with one view.
 
 ghost use Rattle.std.specs.Prelude.{◌≡◌, ◌-◌, IfOk, IfSome, MatchOption};
-ghost use Rattle.judge_cases.specs.Views.{IsView};
-ghost use Rattle.judge_settle.specs.{Trees.IsGrownOver, Trees.IsFailing, Trees.Size};
+ghost use Rattle.judge_settle.specs.{Trees.IsFailing};
 ghost use Rattle.judge_settle.specs.Scenes.{CanSearch};
 
 use crate::budget::Budget;
-use crate::grown::{Grown, leaf};
 use crate::play::fails;
 use crate::sides::Branch;
 use judge_ahead::{
     Assumed, CANDIDATES, Case, Chosen, Cut, Scene, Side, choose, cuts_beside, cuts_of, failing,
     side_of,
 };
-use judge_cases::{View, is_shown};
+use judge_cases::View;
 use model_line::Memory;
-use model_line::laws::deadlines_are_below_the_horizon;
 use model_timing::Timing;
 use std::alloc::Global;
 
@@ -31,20 +28,6 @@ pub fn side_in(
     budget.count(1);
     let assumed = assumed_in(alloc, view)?;
     side_of(alloc, scene, &view.ends, &assumed)
-}
-
-/// The leaf of a view: yes if the obligation is shown over it.
-pub fn shown_leaf(alloc: Global, scene: &Scene, view: &View) -> Result<Grown, Memory>
-    requires can { CanSearch scene.now.line.now scene.now.net.now scene.now.script.now
-        scene.now.terminal }
-    requires view { IsView scene.now.line.now view.now }
-    ensures { IfOk result (λ grown. (size : Size) → IsGrownOver scene.now.line.now
-        scene.now.script.now scene.now.terminal size view.now grown) }
-{
-    deadlines_are_below_the_horizon();
-    let terminal = scene.terminal;
-    let yes = is_shown(alloc, scene.line, scene.net, scene.script, terminal, view)?;
-    leaf(alloc, yes)
 }
 
 /// A timing of the box that fails the obligation, if one of its candidates does. After a case none

@@ -6,6 +6,7 @@ mod answer;
 mod boxes;
 mod budget;
 mod grown;
+mod leaves;
 mod play;
 mod search;
 mod settling;

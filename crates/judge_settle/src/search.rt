@@ -1,14 +1,17 @@
 //! The search.
 
 ghost use Rattle.std.specs.Prelude.{◌≤◌, ◌-◌, IfOk};
-ghost use Rattle.judge_cases.specs.Views.{IsView};
-ghost use Rattle.judge_settle.specs.{Trees.IsFound, Scenes.CanSearch};
+ghost use Rattle.judge_cases.specs.Views.{IsView, AreViews};
+ghost use Rattle.judge_settle.specs.Scenes.{CanSearch};
+ghost use Rattle.judge_settle.specs.Leaves.{AreMoreViews, IsFoundWith};
 
-use crate::boxes::{choose_in, failing_in, shown_leaf};
+use crate::boxes::{choose_in, failing_in};
 use crate::budget::Budget;
 use crate::grown::{Grown, join, leaf};
-use crate::sides::{Branch, branches_of};
+use crate::leaves::taken_leaf;
+use crate::sides::{Branch, Branches, branches_of};
 use judge_ahead::{Case, Cut, Scene};
+use judge_cases::View;
 use model_line::Memory;
 use model_timing::Timing;
 use std::alloc::Global;
@@ -21,27 +24,33 @@ pub enum Found {
 }
 
 /// Searches a view: it is cut in two, at most `depth` times above one another, until each part is
-/// shown or the budget is spent. A timing that fails ends the search. `last` is the case that was
-/// told apart last, if that was the last cut.
+/// taken to be shown or the budget is spent. What has to be shown is added to the leaves. A timing
+/// that fails ends the search. `last` is the case that was told apart last, if that was the last
+/// cut.
 pub fn search_view(
     alloc: Global,
     scene: &Scene,
-    branch: &Branch,
+    branch: Branch,
     last: Option<Case>,
     depth: u32,
     budget: &mut Budget,
+    leaves: &mut Vec<View>,
 ) -> Result<Found, Memory>
     requires can { CanSearch scene.now.line.now scene.now.net.now scene.now.script.now
         scene.now.terminal }
-    requires view { IsView scene.now.line.now branch.now.view }
+    requires view { IsView scene.now.line.now branch.view }
+    requires leaves { AreViews scene.now.line.now leaves.old.items }
     // The tree has at most so many cuts above one another, and no more of them than were spent.
-    ensures found { IfOk result (λ found. IsFound scene.now.line.now scene.now.script.now
+    ensures found { IfOk result (λ found. IsFoundWith scene.now.line.now scene.now.script.now
         scene.now.terminal (record { depth = depth; cuts = budget.old.cuts - budget.new.cuts })
-        branch.now.view found) }
+        branch.view leaves.new.items found) }
     ensures spent { IfOk result (λ _. budget.new.cuts ≤ budget.old.cuts) }
+    ensures leaves { IfOk result (λ _.
+        AreMoreViews scene.now.line.now leaves.old.items leaves.new.items) }
 {
     if branch.side.met {
-        return Ok(Found::Tree(shown_leaf(alloc, scene, &branch.view)?));
+        let Branch { view, side: _side } = branch;
+        return Ok(Found::Tree(taken_leaf(alloc, view, leaves)?));
     }
     if depth == 0 || budget.is_spent() {
         return Ok(Found::Tree(leaf(alloc, false)?));
@@ -49,23 +58,28 @@ pub fn search_view(
     if let Some(timing) = failing_in(alloc, scene, &branch.view, last, budget)? {
         return Ok(Found::Fails(timing));
     }
-    let Some(chosen) = choose_in(alloc, scene, branch, last, budget)? else {
+    let Some(chosen) = choose_in(alloc, scene, &branch, last, budget)? else {
         return Ok(Found::Tree(leaf(alloc, false)?));
     };
     let cut = chosen.cut;
     let Some(branches) = branches_of(alloc, scene.line, &branch.view, chosen)? else {
         return Ok(Found::Tree(leaf(alloc, false)?));
     };
+    let Branches {
+        turned,
+        worse,
+        other,
+    } = branches;
     let next = case_of(cut);
-    let worse_tree = match search_view(alloc, scene, &branches.worse, next, depth - 1, budget)? {
+    let worse_tree = match search_view(alloc, scene, worse, next, depth - 1, budget, leaves)? {
         Found::Tree(tree) => tree,
         Found::Fails(timing) => return Ok(Found::Fails(timing)),
     };
-    let other_tree = match search_view(alloc, scene, &branches.other, next, depth - 1, budget)? {
+    let other_tree = match search_view(alloc, scene, other, next, depth - 1, budget, leaves)? {
         Found::Tree(tree) => tree,
         Found::Fails(timing) => return Ok(Found::Fails(timing)),
     };
-    let tree = join(alloc, cut, branches.turned, &worse_tree, &other_tree)?;
+    let tree = join(alloc, cut, turned, &worse_tree, &other_tree)?;
     Ok(Found::Tree(tree))
 }
 

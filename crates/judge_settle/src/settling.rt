@@ -1,20 +1,22 @@
 //! The answer to an obligation.
 
-ghost use Rattle.std.specs.Prelude.{◌<◌, ◌≤◌, ℕ, [], IfOk, IfSome};
+ghost use Rattle.std.specs.Prelude.{◌≡◌, ◌<◌, ◌≤◌, ℕ, [], IfOk, IfSome, IsTrue};
 ghost use Rattle.model_line.specs.{declared.line.Line.Line, declared.script.Script.Script};
 ghost use Rattle.model_line.specs.{Fits.Fits, Parameters.terminal_count};
 ghost use Rattle.model_logic.specs.Choice.{declared_box};
-ghost use Rattle.model_polarity.specs.Schemes.{IsOneRailedBy};
+ghost use Rattle.model_logic.specs.HeldOver.{IsHeldOver};
+ghost use Rattle.model_polarity.specs.{Schemes.IsOneRailedBy, Laws.EveryChoiceMeets};
 ghost use Rattle.net_gates.specs.NetOf.{IsNetOf};
 ghost use Rattle.judge_cases.specs.{declared.view.View.View, Views.Views};
 ghost use Rattle.judge_corner.specs.Decided.{OneTimingDecides};
-ghost use Rattle.judge_settle.specs.{Answers.IsAnswer, Trees.IsFound, Trees.IsFailing};
+ghost use Rattle.judge_settle.specs.{Answers.IsAnswer, Trees.IsFound};
 ghost use Rattle.judge_settle.specs.Trees.{Size, size_of_text};
 
 use crate::answer::{Answer, By, Settled};
 use crate::boxes::side_in;
 use crate::budget::Budget;
 use crate::grown::leaf;
+use crate::leaves::confirmed;
 use crate::play::fails;
 use crate::search::{Found, search_view};
 use crate::sides::Branch;
@@ -56,20 +58,18 @@ pub fn settle(
         Some(decided) => return by_corner(alloc, line, script, terminal, decided),
         None => {}
     }
-    if let Some(timing) = refuted(alloc, line, net, script, terminal)? {
-        return Ok(Settled {
-            answer: Answer::Fails(timing),
-            by: By::Candidate,
-            analyses: 1,
-        });
+    if let Some(settled) = by_certificate(alloc, line, net, script, terminal)? {
+        return Ok(settled);
     }
     let scene = Scene::new(alloc, line, net, script, terminal)?;
     let mut budget = Budget::new(analyses);
     let view = declared_view(alloc, line)?;
     let side = side_in(alloc, &scene, &view, &mut budget)?;
     let root = Branch { view, side };
-    let found = search_view(alloc, &scene, &root, None, DEPTH, &mut budget)?;
-    let answer = answer_of(found);
+    let mut leaves = Vec::new(alloc);
+    let found = search_view(alloc, &scene, root, None, DEPTH, &mut budget, &mut leaves)?;
+    let sure = confirmed(alloc, &scene, found, leaves.as_slice())?;
+    let answer = answer_of(sure);
     let by = by(&answer, &budget);
     Ok(Settled {
         answer,
@@ -95,7 +95,6 @@ fn by_corner(
 {
     line_laws();
     the_worst_choice_decides();
-    each_box_has_one_history_under();
     let Decided { timing, held } = decided;
     let _steps = timing.steps();
     if !held[terminal as usize] {
@@ -105,6 +104,17 @@ fn by_corner(
             analyses: 1,
         });
     }
+    let settled = held_at_once(alloc)?;
+    Ok(settled)
+}
+
+// The answer where the interval rules alone show the obligation: a tree of one leaf.
+fn held_at_once(alloc: Global) -> Result<Settled, Memory>
+    ensures { IfOk result (λ settled. (line : Line) (script : Script) (k : ℕ) →
+        IsHeldOver line script k (declared_box line) → EveryChoiceMeets line script k →
+        IsAnswer line script k settled.answer) }
+{
+    each_box_has_one_history_under();
     let tree = leaf(alloc, true)?;
     Ok(Settled {
         answer: Answer::Held(tree.nodes),
@@ -113,29 +123,44 @@ fn by_corner(
     })
 }
 
-// The first of the line's candidates that fails the obligation, if one does.
-fn refuted(
+// The answer of the interval rules over the declared box, or of the first of the line's candidates
+// that fails the obligation, if one of them settles it.
+fn by_certificate(
     alloc: Global,
     line: &Line,
     net: &Net,
     script: &Script,
     terminal: u32,
-) -> Result<Option<Timing>, Memory>
+) -> Result<Option<Settled>, Memory>
     requires of_line { IsNetOf line.now net.now }
     requires fits { Fits line.now script.now }
     requires terminal { terminal < terminal_count line.now }
-    ensures { IfOk result (λ found. IfSome found (λ timing.
-        IsFailing line.now script.now terminal timing)) }
+    ensures { IfOk result (λ found. IfSome found (λ settled.
+        IsAnswer line.now script.now terminal settled.answer)) }
 {
     let said = certify(alloc, line, net, script)?;
     let mut verdicts = said.verdicts;
+    if is_yes(&verdicts[terminal as usize]) {
+        let settled = held_at_once(alloc)?;
+        return Ok(Some(settled));
+    }
     let Verdict::No(timing) = verdicts.swap_remove(terminal as usize) else {
         return Ok(None);
     };
     if fails(alloc, line, net, script, terminal, &timing)? {
-        return Ok(Some(timing));
+        return Ok(Some(Settled {
+            answer: Answer::Fails(timing),
+            by: By::Candidate,
+            analyses: 1,
+        }));
     }
     Ok(None)
+}
+
+fn is_yes(verdict: &Verdict) -> bool
+    ensures { IsTrue result → verdict.now ≡ Verdict.Yes }
+{
+    matches!(verdict, Verdict::Yes)
 }
 
 // The answer that a search gives over the declared box.

@@ -1,4 +1,4 @@
-use Rattle.std.proofs.Common.{◌≡◌, ◌<◌, ◌≤◌, ◌+◌, ℕ, Bool, true, false, not, refl, subst, arith}
+use Rattle.std.proofs.Common.{◌≤◌, Bool, true, false, not, refl, subst, arith}
 use Rattle.model_line.specs.declared.script.Kind.{Kind}
 use Rattle.model_line.specs.declared.script.Kind.TheVariants.{Internal, External}
 use Rattle.model_logic.specs.Histories.{MeetsBy}

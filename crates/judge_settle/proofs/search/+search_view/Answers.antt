@@ -3,14 +3,15 @@ use Rattle.std.specs.Prelude.{IfSome}
 use Rattle.judge_settle.specs.declared.sides.Branches.{Branches}
 use Rattle.judge_settle.specs.declared.search.Found.{Found}
 use Rattle.judge_settle.specs.Sides.{AreBranches}
-use Rattle.judge_settle.specs.Trees.{IsFound, IsGrownOver, Size}
+use Rattle.judge_settle.specs.{Trees.IsGrownOver, Trees.Size, Leaves.IsFoundWith}
 use Rattle.judge_settle.proofs.TreeLaws.{sides_are_views, ordered_views, ordered_joined}
+use Rattle.judge_settle.proofs.LeafLaws.{more_and_more, shown_before}
 use Rattle.judge_settle.proofs.search.+search_view.Goals as goal
 
 pub search_view-requires : goal.search_view-requires
 search_view-requires t c =
     let line = c.args.scene.now.line.now in
-    let view = c.args.branch.now.view in
+    let view = c.args.branch.view in
     let are : AreBranches line view c.in-Some-2.chosen.cut c.in-Some-3.branches =
     subst (λ (o : Option Branches). IfSome o (AreBranches line view c.in-Some-2.chosen.cut))
     c.in-Some-3.is c.in_ok-branches.ensures in
@@ -18,12 +19,12 @@ search_view-requires t c =
     c.requires.view are.sides in
     let both = ordered_views line are.first are.second c.in-Some-3.branches.worse
     c.in-Some-3.branches.other c.in-Some-3.branches.turned are.ordered views.0 views.1 in
-    (omega arith, (c.requires.can, both.0))
+    (omega arith, (c.requires.can, (both.0, c.requires.leaves)))
 
 pub search_view-requires-2 : goal.search_view-requires-2
 search_view-requires-2 t c =
     let line = c.args.scene.now.line.now in
-    let view = c.args.branch.now.view in
+    let view = c.args.branch.view in
     let are : AreBranches line view c.in-Some-2.chosen.cut c.in-Some-3.branches =
     subst (λ (o : Option Branches). IfSome o (AreBranches line view c.in-Some-2.chosen.cut))
     c.in-Some-3.is c.in_ok-branches.ensures in
@@ -31,14 +32,14 @@ search_view-requires-2 t c =
     c.requires.view are.sides in
     let both = ordered_views line are.first are.second c.in-Some-3.branches.worse
     c.in-Some-3.branches.other c.in-Some-3.branches.turned are.ordered views.0 views.1 in
-    (omega arith, (c.requires.can, both.1))
+    (omega arith, (c.requires.can, (both.1, c.in_ok-tree.ensures.leaves.views)))
 
 pub returns-clause-found : goal.returns-clause-found
-returns-clause-found t c =
+returns-clause-found t c = λ shown.
     let line = c.args.scene.now.line.now in
     let script = c.args.scene.now.script.now in
     let k = c.args.scene.now.terminal in
-    let view = c.args.branch.now.view in
+    let view = c.args.branch.view in
     let cut = c.in-Some-2.chosen.cut in
     let branches = c.in-Some-3.branches in
     let depth : ℕ = c.args.depth in
@@ -62,16 +63,29 @@ returns-clause-found t c =
       c.in_ok-tree.ensures.spent,
       c.in_ok-tree-2.ensures.spent,
     ) in
+    let leaves = c.search_view.new.leaves.items in
+    let all = c.search_view-2.new.leaves.items in
     let are : AreBranches line view cut branches =
     subst (λ (o : Option Branches). IfSome o (AreBranches line view cut)) c.in-Some-3.is
     c.in_ok-branches.ensures in
     let worse : IsGrownOver line script k one branches.worse.view c.in-Tree.tree =
-    subst (λ (f : Found). IsFound line script k one branches.worse.view f) c.in-Tree.is
-    c.in_ok-tree.ensures.found in
+    subst (λ (f : Found). IsFoundWith line script k one branches.worse.view leaves f) c.in-Tree.is
+    c.in_ok-tree.ensures.found
+    (shown_before line script k leaves all c.in_ok-tree-2.ensures.leaves shown) in
     let other : IsGrownOver line script k two branches.other.view c.in-Tree-2.tree =
-    subst (λ (f : Found). IsFound line script k two branches.other.view f) c.in-Tree-2.is
-    c.in_ok-tree-2.ensures.found in
+    subst (λ (f : Found). IsFoundWith line script k two branches.other.view all f) c.in-Tree-2.is
+    c.in_ok-tree-2.ensures.found shown in
     ordered_joined line script k view size one two
     (record { first = deep; second = deep; many = many }) cut are.first are.second branches.worse
     branches.other branches.turned c.in_ok-tree-3.tree c.in-Tree.tree c.in-Tree-2.tree
     c.in_ok-tree-3.ensures.nodes c.in_ok-tree-3.ensures.yes are.sides are.ordered worse other
+
+pub returns-in-Fails-2-clause-leaves : goal.returns-in-Fails-2-clause-leaves
+returns-in-Fails-2-clause-leaves t c =
+    more_and_more c.args.scene.now.line.now c.args.leaves.now.items c.search_view.new.leaves.items
+    c.search_view-2.new.leaves.items c.in_ok-tree.ensures.leaves c.in_ok-tree-2.ensures.leaves
+
+pub returns-clause-leaves : goal.returns-clause-leaves
+returns-clause-leaves t c =
+    more_and_more c.args.scene.now.line.now c.args.leaves.now.items c.search_view.new.leaves.items
+    c.search_view-2.new.leaves.items c.in_ok-tree.ensures.leaves c.in_ok-tree-2.ensures.leaves

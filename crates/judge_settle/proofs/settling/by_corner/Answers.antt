@@ -1,9 +1,7 @@
-use Rattle.std.proofs.Common.{◌≡◌, ◌<◌, Bool, true, Some, refl, sym, ◌∙◌, ap, arith}
+use Rattle.std.proofs.Common.{◌≡◌, ◌<◌, Some, sym, ◌∙◌, ap}
 use Rattle.std.proofs.lemmas.Option.{slice_get_read}
 use Rattle.std.specs.Prelude.{slice_get}
 use Rattle.model_line.specs.Parameters.{terminal_count}
-use Rattle.model_logic.specs.Choice.{declared_box}
-use Rattle.model_cases.specs.CaseTrees.{Yes}
 use Rattle.judge_settle.proofs.CornerLaws.{met_is_held}
 use Rattle.judge_settle.proofs.settling.by_corner.Goals as goal
 
@@ -19,19 +17,7 @@ returns c =
     slice_get_read held (terminal_count line) k c.index.result.now
     (sym c.requires.decides.count) c.requires.terminal c.index.ensures in
     let meets = c.requires.decides.meets k (at ∙ ap Some c.if-not-index.false) in
-    record {
-      tree = Yes;
-      are = c.in_ok-tree.ensures.nodes;
-      sound = (c.each_box_has_one_history_under.ensures.held line script k (declared_box line)).1
-          (met_is_held c.line_laws.ensures c.the_worst_choice_decides.ensures line script k early
-          c.requires.terminal c.requires.one_railed meets);
-      yes = refl;
-      meets = meets;
-      written = record {
-        tree = Yes;
-        are = c.in_ok-tree.ensures.nodes;
-        branches = tt;
-        low = omega arith;
-        few = omega arith;
-      };
-    }
+    c.in_ok-settled.ensures line script k
+    (met_is_held c.line_laws.ensures c.the_worst_choice_decides.ensures line script k early
+    c.requires.terminal c.requires.one_railed meets)
+    meets

@@ -12,7 +12,7 @@ returns c =
     let script = c.args.script.now in
     let k = c.args.terminal in
     let view = c.in_ok-view.view in
-    let found = c.in_ok-found.found in
+    let found = c.in_ok-sure.sure in
     let scene = c.in_ok-scene.ensures in
     let size : Size = record {
       depth = 1024;
@@ -26,7 +26,9 @@ returns c =
     let over_line : IsFound line c.in_ok-scene.scene.script.now c.in_ok-scene.scene.terminal size
     view found =
     subst (λ (l : Line). IsFound l c.in_ok-scene.scene.script.now c.in_ok-scene.scene.terminal size
-    view found) scene.line c.in_ok-found.ensures.found in
+    view found) scene.line
+    ((rw c.as_slice.ensures.value at c.in_ok-sure.ensures) size view
+    c.in_ok-found.ensures.found) in
     let over_script : IsFound line script c.in_ok-scene.scene.terminal size view found =
     subst (λ (s : Script). IsFound line s c.in_ok-scene.scene.terminal size view found) scene.script
     over_line in
