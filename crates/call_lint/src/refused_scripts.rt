@@ -1,7 +1,7 @@
 //! The text of a file of scripts that is refused.
 
 use crate::rules::script_rule;
-use crate::spots::{push_mistake, push_record_slip};
+use crate::spots::push_mistake;
 use crate::text::{Spot, push_all, push_whole_place};
 use file_mistakes::{Wanted, place_of_record};
 use file_script::ScriptFault;
@@ -23,7 +23,6 @@ pub fn refused_scripts(
     push_whole_place(&mut text, spot)?;
     push_all(&mut text, &[script_rule(fault).as_bytes()])?;
     push_mistake(&mut text, Wanted::Records, spot)?;
-    push_record_slip(&mut text, spot)?;
     push_all(&mut text, &[b"\n"])?;
     Ok(text)
 }

@@ -18,11 +18,11 @@ pub fn refused_study(
     name: &str,
     fault: &StudyFault,
 ) -> Result<Vec<u8>, Memory> {
-    let message = format!(in alloc; "refused study {fault}\n")?;
+    let message = format!(in alloc; "refused study: {fault}\n")?;
     let mut text = message.into_bytes();
-    let at = match fault {
-        StudyFault::NotToml => toml_place(alloc, bytes)?,
-        _ => place_of_key(alloc, bytes, path_of(fault))?,
+    let at = match fault.place() {
+        Some(path) => place_of_key(alloc, bytes, path.bytes())?,
+        None => toml_place(alloc, bytes)?,
     };
     let spot = Spot { name, bytes, at };
     push_all(&mut text, &[b"error: "])?;
@@ -40,7 +40,7 @@ pub fn refused_sweep(
     name: &str,
     fault: &StudySweepFault,
 ) -> Result<Vec<u8>, Memory> {
-    let message = format!(in alloc; "refused study {fault}\n")?;
+    let message = format!(in alloc; "refused study: {fault}\n")?;
     let mut text = message.into_bytes();
     let at = place_of_fault(alloc, bytes, number_of(fault))?;
     push_all(&mut text, &[b"error: "])?;
@@ -65,22 +65,5 @@ fn number_of(fault: &StudySweepFault) -> usize {
     match fault {
         StudySweepFault::Refused(i, _, _) | StudySweepFault::Twice(i, _, _) => *i,
         StudySweepFault::Memory => 0,
-    }
-}
-
-// The path that a fault tells; a place of the line that the study comes to is none of the study.
-fn path_of(fault: &StudyFault) -> &[u8] {
-    match fault {
-        StudyFault::Unknown(path)
-        | StudyFault::Missing(path)
-        | StudyFault::WrongKind(path)
-        | StudyFault::Range(path)
-        | StudyFault::BadName(path)
-        | StudyFault::Twice(path)
-        | StudyFault::BadTime(path, _)
-        | StudyFault::Swept(path)
-        | StudyFault::NoInstant(path)
-        | StudyFault::TooMany(path) => path.bytes(),
-        StudyFault::NotToml | StudyFault::Memory => b"",
     }
 }

@@ -94,7 +94,7 @@ pub fn study_rule(fault: &StudyFault) -> &'static str {
     match fault {
         StudyFault::NotToml => "this is no TOML",
         StudyFault::Unknown(_) => "this key does not belong here",
-        StudyFault::Missing(_) => "a key is missing",
+        StudyFault::Missing(path) => missing_rule(path.bytes()),
         StudyFault::WrongKind(_) => "a time is text with a unit, as \"8 .. 16 ms\"",
         StudyFault::Range(_) => "a time is at most 4000 ticks, and a delay at least one",
         StudyFault::BadName(_) =>
@@ -106,6 +106,19 @@ pub fn study_rule(fault: &StudyFault) -> &'static str {
         StudyFault::NoInstant(_) => "one time stands here, and no interval",
         StudyFault::TooMany(_) => "a sweep has at most 1000 values, and a fault 4096 scripts",
         StudyFault::Memory => "memory ran out",
+    }
+}
+
+// What a study has.
+fn missing_rule(path: &[u8]) -> &'static str {
+    match path {
+        b"study" => {
+            "a key is missing: a study begins with `study = 1`, and a line file is given with its scripts"
+        }
+        _ if ends_with(path, b".trip_within") => {
+            "a key is missing: of an internal fault the time from its start within which it has to be tripped"
+        }
+        _ => "a key is missing",
     }
 }
 

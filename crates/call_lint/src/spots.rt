@@ -28,13 +28,8 @@ pub fn push_mistake(text: &mut Vec<u8>, wanted: Wanted, spot: Spot<'_>) -> Resul
     }
     match wanted {
         Wanted::Document => push_slip(text, document_slip(line_text(spot.bytes, spot.at))),
-        Wanted::Records => Ok(()),
+        Wanted::Records => push_slip(text, record_slip(line_text(spot.bytes, spot.at))),
     }
-}
-
-/// Appends the slip that the record shows.
-pub fn push_record_slip(text: &mut Vec<u8>, spot: Spot<'_>) -> Result<(), Memory> {
-    push_slip(text, record_slip(line_text(spot.bytes, spot.at)))
 }
 
 fn push_slip(text: &mut Vec<u8>, slip: Option<Slip>) -> Result<(), Memory> {
@@ -65,6 +60,6 @@ fn slip_words(slip: Slip) -> &'static str {
         Slip::Point => "a point stands in it: ticks are whole numbers",
         Slip::Semicolon => "a semicolon stands in it: write a comma",
         Slip::DecimalComma =>
-            "a comma stands between two digits: of an interval write [2, 4], and of a fraction whole microseconds",
+            "a comma stands between two digits: a study has a decimal point, and a line file [2, 4] of an interval, and whole numbers",
     }
 }

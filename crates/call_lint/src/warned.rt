@@ -3,7 +3,7 @@
 use crate::sheet::Sheet;
 use crate::subject::{push_subject, spot_of, subject_of};
 use crate::text::{push_all, push_line_place};
-use crate::words::{of_script_before, warning_words};
+use crate::words::{of_script_before, study_words, warning_words};
 use judge_lint::Warning;
 use model_line::{Line, Memory, Script};
 use std::alloc::Global;
@@ -41,7 +41,15 @@ fn push_warning(
     push_line_place(text, spot)?;
     push_all(text, &[b": "])?;
     push_subject(text, line, scripts, subject)?;
-    push_all(text, &[b": ", warning_words(warning).as_bytes(), b"\n"])
+    push_all(text, &[b": ", words_of(sheet, warning).as_bytes(), b"\n"])
+}
+
+// What it says, of a study or of a line file.
+fn words_of(sheet: &Sheet<'_>, warning: &Warning) -> &'static str {
+    match sheet {
+        Sheet::Study { .. } => study_words(warning),
+        Sheet::Files { .. } => warning_words(warning),
+    }
 }
 
 // Whether the same is said of the script before, which is of the same fault, or of a time that was

@@ -30,6 +30,19 @@ pub fn warning_words(warning: &Warning) -> &'static str {
     }
 }
 
+/// What a warning of a study says, whose times have units, where it is other than of a line file.
+pub fn study_words(warning: &Warning) -> &'static str {
+    match warning {
+        Warning::BelowTick(_) =>
+            "less than one tick, and rounded outward: is its unit meant? A smaller tick_us keeps it",
+        Warning::PastHorizon(_) =>
+            "it is not over within the horizon: is its unit meant, or is the horizon too short?",
+        Warning::FixedDelay(_) =>
+            "a delay of one time alone: channels have a tolerance, as 3 .. 5 ms",
+        other => warning_words(other),
+    }
+}
+
 /// Whether the same is said of the script before.
 pub fn of_script_before(warning: &Warning) -> Option<Warning> {
     match warning {

@@ -1,3 +1,6 @@
 pub mod Counted
 pub mod Found
+pub mod Kept
+pub mod Shares
 pub mod Times
+pub mod Worsts

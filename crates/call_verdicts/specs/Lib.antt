@@ -1,6 +1,9 @@
 pub mod Cases
+pub mod Faults
 pub mod Findings
 pub mod Milliseconds
 pub mod Places
 pub mod Records
+pub mod Stretches
 pub mod Verdicts
+pub mod Worst

@@ -1,17 +1,24 @@
 //! The table of verdicts: whether each fault's scripts meet their obligations, and how soon each
-//! trips, in milliseconds.
+//! trips, in milliseconds; and the same by fault: how many of its scripts, and where they do not.
 #![tactic(auto)]
 
 mod cases;
+mod fault_fields;
+mod fault_table;
+mod faults;
 mod fields;
 mod finding;
 mod milliseconds;
 mod place;
+mod stretches;
 mod table;
 mod told;
+mod verdict;
 mod verdicts;
+mod worst;
 
 pub use cases::Cases;
+pub use faults::faults_table;
 pub use finding::{Finding, Standing, find_all};
 pub use milliseconds::push_ms;
 pub use place::{Place, place_of};

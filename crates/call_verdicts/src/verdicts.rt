@@ -29,7 +29,8 @@ pub fn verdicts_table(alloc: Global, cases: &Cases, analyses: u32) -> Result<Sai
     })
 }
 
-fn status_of(found: &[Finding]) -> Done
+/// Status 1 where one fails, else 2 where one is open, else 0.
+pub fn status_of(found: &[Finding]) -> Done
     ensures { result
         ≡ status_by (list_any finding_fails found.now) (list_any finding_is_open found.now) }
 {

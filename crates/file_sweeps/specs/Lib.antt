@@ -2,6 +2,7 @@ pub mod Choices
 pub mod Spans
 pub mod Scripts
 pub mod Sweeps
+pub mod SweepWords
 pub mod Refusals
 pub mod Groups
 pub mod Studies

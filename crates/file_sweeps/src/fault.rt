@@ -1,6 +1,7 @@
 //! Why a fault comes to no scripts.
 
 ghost use Rattle.std.specs.Prelude.{◌≡◌};
+ghost use Rattle.file_sweeps.specs.SweepWords.{horizon_words as words_of_horizon};
 ghost use Rattle.file_sweeps.specs.declared.fault.SweepFault.TheVariants.{Memory};
 
 use std::alloc::{AllocError, AllocFailed};
@@ -24,46 +25,72 @@ pub enum SweepFault {
     Memory,
 }
 
-impl fmt::Display for SweepFault {
-    fn fmt<W: fmt::Write>(&self, f: &mut fmt::Formatter<W>) -> fmt::Result {
+// The ticks that a line has at most.
+const LONGEST: u128 = 4000;
+
+impl SweepFault {
+    ghost use Rattle.file_sweeps.specs.SweepWords.{horizon_to_write, place_of, words_of};
+
+    /// The script that it is told of, counted from 1.
+    pub fn place(&self) -> Option<u64>
+        ensures { result ≡ place_of self.now }
+    {
         match self {
-            SweepFault::TooMany => {
-                f.write_str("more than 4096 scripts: write sweeps with fewer values")
+            SweepFault::BadName(k) | SweepFault::Horizon(k, _, _) | SweepFault::NoFit(k) => {
+                Some(*k as u64 + 1)
             }
-            SweepFault::BadName(k) => {
-                let place = *k as u64 + 1;
-                write!(
-                    f,
-                    "script {place}: its name is longer than 16 bytes: write a shorter name"
-                )
+            SweepFault::TooMany | SweepFault::Memory => None,
+        }
+    }
+
+    /// What is wrong, behind `script PLACE` where there is one, and before the horizon where there is
+    /// one to be written.
+    pub fn words(&self) -> &'static str
+        ensures { result.now ≡ words_of self.now }
+    {
+        match self {
+            SweepFault::TooMany => "more than 4096 scripts: write sweeps with fewer values",
+            SweepFault::BadName(_) => ": its name is longer than 16 bytes: write a shorter name",
+            SweepFault::Horizon(_, ticks, _) => horizon_words(*ticks),
+            SweepFault::NoFit(_) => ": more than 200 spans: write fewer stages",
+            SweepFault::Memory => "memory ran out",
+        }
+    }
+
+    /// The horizon that serves all choices, in microseconds, where a line can have it.
+    pub fn horizon_us(&self) -> Option<u128>
+        ensures { result ≡ horizon_to_write self.now }
+    {
+        match self {
+            SweepFault::Horizon(_, ticks, tick_us) if *ticks <= LONGEST => {
+                Some(*ticks * *tick_us as u128)
             }
-            SweepFault::Horizon(k, ticks, tick_us) => write_horizon(f, *k, *ticks, *tick_us),
-            SweepFault::NoFit(k) => {
-                let place = *k as u64 + 1;
-                write!(f, "script {place}: more than 200 spans: write fewer stages")
-            }
-            SweepFault::Memory => f.write_str("memory ran out"),
+            _ => None,
         }
     }
 }
 
-// Which horizon serves; a line has at most 4,000 ticks.
-fn write_horizon<W: fmt::Write>(
-    f: &mut fmt::Formatter<W>,
-    k: u32,
-    ticks: u128,
-    tick_us: u32,
-) -> fmt::Result {
-    let place = k as u64 + 1;
-    write!(f, "script {place} leaves the horizon: ")?;
-    if ticks > 4000 {
-        return write!(
-            f,
-            "{ticks} ticks are needed, and there are at most 4000: write a longer tick_us"
-        );
+fn horizon_words(ticks: u128) -> &'static str
+    ensures { result.now ≡ words_of_horizon ticks }
+{
+    if ticks <= LONGEST {
+        " leaves the horizon: write horizon = "
+    } else {
+        " leaves the longest horizon, of 4000 ticks: write a longer tick_us"
     }
-    let micros = ticks * tick_us as u128;
-    write!(f, "write horizon = \"{micros} us\" ({ticks} ticks)")
+}
+
+impl fmt::Display for SweepFault {
+    fn fmt<W: fmt::Write>(&self, f: &mut fmt::Formatter<W>) -> fmt::Result {
+        if let Some(place) = self.place() {
+            write!(f, "script {place}")?;
+        }
+        f.write_str(self.words())?;
+        if let Some(us) = self.horizon_us() {
+            write!(f, "\"{us} us\"")?;
+        }
+        Ok(())
+    }
 }
 
 impl Error for SweepFault {}

@@ -1,10 +1,9 @@
-//! A call of the program `pilot` over files, and how it ends.
+//! A call of a program over files, and how it ends.
 
 use crate::change::{Change, changed};
 use crate::fault::Fault;
 use base_store::{FetchFault, MemorySink, MemoryStore, Sink, Store, fetch, put_all};
-use call_engine::NetEngine;
-use call_pilot::pilot;
+use itoa::Buffer;
 use std::alloc::{AllocError, Global};
 
 // The longest file that is read.
@@ -13,11 +12,31 @@ const LONGEST: u32 = 4_194_304;
 // More than any line on standard error has.
 const LONGEST_MESSAGE: u32 = 400;
 
-/// The words that a line has behind `$ pilot`, where `''` is the empty one, or None where the line is
-/// no call of `pilot`.
-pub fn read_words(alloc: Global, line: &str) -> Result<Option<Vec<String>>, AllocError> {
+/// A program whose calls are made.
+pub trait Program {
+    /// Its name.
+    fn name(&self) -> &'static str;
+
+    /// Makes a call of these words over the store, and gives its status.
+    fn call<O: Sink>(
+        &mut self,
+        alloc: Global,
+        words: &[String],
+        store: &mut MemoryStore,
+        out: &mut O,
+        err: &mut MemorySink,
+    ) -> Result<u8, Fault>;
+}
+
+/// The words that a line has behind `$ NAME`, where `''` is the empty one, or None where the line is
+/// no call of that program.
+pub fn read_words(
+    alloc: Global,
+    name: &str,
+    line: &str,
+) -> Result<Option<Vec<String>>, AllocError> {
     let mut spelled = line.split_whitespace();
-    if spelled.next() != Some("$") || spelled.next() != Some("pilot") {
+    if spelled.next() != Some("$") || spelled.next() != Some(name) {
         return Ok(None);
     }
     let mut words = Vec::new(alloc);
@@ -30,8 +49,9 @@ pub fn read_words(alloc: Global, line: &str) -> Result<Option<Vec<String>>, Allo
 
 /// Makes the call over the files, as the changes make them: its text goes to `out`, and then its line
 /// on standard error, behind `err: `, and its status.
-pub fn make_call<F: Store, O: Sink>(
+pub fn make_call<P: Program, F: Store, O: Sink>(
     alloc: Global,
+    program: &mut P,
     words: &[String],
     changes: &[Change],
     files: &mut F,
@@ -39,14 +59,14 @@ pub fn make_call<F: Store, O: Sink>(
 ) -> Result<(), Fault> {
     let mut store = store_of(alloc, words, changes, files)?;
     let mut err = MemorySink::new(alloc, LONGEST_MESSAGE)?;
-    let mut engine = NetEngine::new();
-    let status = pilot(alloc, words, &mut engine, &mut store, out, &mut err);
+    let status = program.call(alloc, words, &mut store, out, &mut err)?;
     if !err.written().is_empty() {
         put_all(out, b"err: ")?;
         put_all(out, err.written())?;
     }
     put_all(out, b"status ")?;
-    put_all(out, &[b'0' + status as u8, b'\n'])?;
+    put_all(out, Buffer::new().format(status).as_bytes())?;
+    put_all(out, b"\n")?;
     Ok(())
 }
 

@@ -1,0 +1,24 @@
+//! Worked rows: the calls of a program that stand in a file `cases`, over the files beside it, and how
+//! each ends.
+//!
+//! Each line of `cases` is printed as it stands, and then done:
+//!
+//! - `# WORDS`, or an empty line: nothing more. It says what the next call shows.
+//! - `in FILE: OLD -> NEW`: in the next call alone, the file has the new text where it has the old
+//!   one, which stands there once.
+//! - `throughout FILE: OLD -> NEW`: the same wherever the old text stands, at least once.
+//! - `fill FILE: BYTE -> LENGTH`: in the next call alone, the file is filled up with the byte.
+//! - `$ PROGRAM WORDS`: the call, its text, its line on standard error behind `err: `, its status.
+//!
+//! Any other line, and a call with a change that cannot be made, ends the rows. They end at the line
+//! that was printed last.
+#![tactic(auto)]
+
+mod call;
+mod change;
+mod fault;
+mod rows;
+
+pub use call::Program;
+pub use fault::Fault;
+pub use rows::run_rows;
