@@ -25,7 +25,7 @@ pub fn map_text(
     cells: &[Cell],
 ) -> Result<Vec<u8>, Memory>
     requires axes { AreAxes line.now axes.now }
-    requires few { length scripts.now ≤ 64 }
+    requires few { length scripts.now ≤ 4096 }
     requires cells { AreCells line.now scripts.now axes.now cells.now }
     ensures { IfOk result (λ text.
         text.items ≡ map_text_of line.now scripts.now axes.now cells.now) }

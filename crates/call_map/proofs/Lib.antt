@@ -1,0 +1,3 @@
+pub mod SameAxes
+pub mod Params
+pub mod Denied

@@ -1,0 +1,4 @@
+pub mod Mapped
+pub mod Asked
+pub mod Denials
+pub mod Answers

@@ -1,0 +1,16 @@
+//! What a map is asked for.
+
+/// As a drawing (SVG), or as records (CSV).
+#[derive(Clone, Copy, PartialEq, Eq, Debug)]
+pub enum MapForm {
+    Drawing,
+    Records,
+}
+
+/// The words of the axis of the columns, and those of the rows, if there are any: `P=FROM..TO:STEP`.
+#[derive(Clone, Copy)]
+pub struct MapAsk<'a> {
+    pub x: &'a [u8],
+    pub y: Option<&'a [u8]>,
+    pub form: MapForm,
+}

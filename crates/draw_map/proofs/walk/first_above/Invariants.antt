@@ -1,0 +1,10 @@
+use Rattle.std.proofs.Common.{◌≡◌, ◌<◌}
+use Rattle.std.specs.Prelude.{IfSome}
+use Rattle.judge_map.specs.Axes.{row_count}
+use Rattle.draw_map.specs.Beyond.{first_from, is_held_at}
+use Rattle.draw_map.proofs.walk.first_above.Given as goal
+
+abbrev pub invariant-loop-n : goal.invariant-loop-n
+invariant-loop-n l =
+    (l.found ≡ first_from (is_held_at l.map.axes.now l.map.cells.now l.column) l.from l.n)
+    × IfSome l.found (λ k. k < row_count l.map.axes.now)

@@ -1,0 +1,4 @@
+pub mod Maps
+pub mod Words
+pub mod Beyond
+pub mod Grids
