@@ -1,0 +1,22 @@
+-- Lists with one element for each number, made one by one.
+use Rattle.std.proofs.Common.{◌≡◌, ℕ, ◌+◌, List, [], ◌∷◌, ◌++◌, length-append, sym, ◌∙◌, ap, subst, refl}
+use Rattle.std.proofs.Common.{⊎_elim}
+use Rattle.run_simulator.specs.ListLaws.{at_push}
+use Rattle.judge_verdict.specs.OneEach.{OneEach}
+
+pub one_more : {X : Type 0} (said : ℕ → X → Type 0) (n m : ℕ) (xs new : List X) (x : X)
+    → m ≡ n + 1 → new ≡ xs ++ x ∷ [] → said n x → OneEach said n xs → OneEach said m new
+one_more said n m xs new x next is here so_far =
+    rw (next, is)
+    (record {
+      count = length-append xs (x ∷ []) ∙ ap (λ (k : ℕ). k + 1) so_far.count;
+      each = λ k y at.
+          ⊎_elim (λ before. so_far.each k y before)
+          (λ last.
+          subst (said k) (sym last.1)
+          (subst (λ (j : ℕ). said j x) (sym (last.0 ∙ so_far.count)) here))
+          (at_push xs x y k at);
+    })
+
+pub nothing_yet : {X : Type 0} (said : ℕ → X → Type 0) → OneEach said 0 []
+nothing_yet said = record { count = refl; each = λ k y at. absurd (cc) }

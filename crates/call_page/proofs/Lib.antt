@@ -1,0 +1,5 @@
+mod Counted
+mod Sides
+mod Chains
+mod Shares
+mod Ends

@@ -1,0 +1,9 @@
+use Rattle.std.proofs.Common.{take}
+use Rattle.std.specs.List.{flat_map}
+use Rattle.call_page.specs.{Choices.IsChoiceOf, Choices.failing_row, Lists.EachOf}
+use Rattle.call_page.proofs.choices.choices.Given as goal
+
+abbrev pub invariant-loop-row : goal.invariant-loop-row
+invariant-loop-row l =
+    EachOf (IsChoiceOf l.study.line l.study.scripts.items l.parts)
+    (flat_map failing_row (take l.row-index l.rows)) l.choices.items

@@ -1,0 +1,9 @@
+use Rattle.std.proofs.Common.{take}
+use Rattle.std.specs.List.{flat_map}
+use Rattle.call_page.specs.{Choices.IsUndecidedOf, Choices.open_row, Lists.EachOf}
+use Rattle.call_page.proofs.undecided.undecided.Given as goal
+
+abbrev pub invariant-loop-row : goal.invariant-loop-row
+invariant-loop-row l =
+    EachOf (IsUndecidedOf l.study.line l.study.scripts.items l.parts)
+    (flat_map open_row (take l.row-index l.rows)) l.those.items

@@ -1,0 +1,77 @@
+-- What fails, and what is open.
+use Rattle.std.specs.Prelude.{◌≡◌, ◌≤◌, ◌<◌, ◌+◌, ◌&&◌, ◌==◌, ℕ, Bool, List, map, not}
+use Rattle.model_line.specs.{declared.line.Line.Line, declared.script.Script.Script}
+use Rattle.model_line.specs.Parameters.{declared_ends, param_count}
+use Rattle.model_names.specs.NamesByNumber.{parameter_name, script_name, terminal_name}
+use Rattle.model_timing.specs.{Timing.TimingValues, declared.step.Step.Step}
+use Rattle.judge_cut.specs.Cuts.{IsCut, least_of, nominal_of, number}
+use Rattle.draw_page.specs.declared.page.{FailingChoice.FailingChoice, ToldTime.ToldTime}
+use Rattle.draw_page.specs.declared.page.{ToldStep.ToldStep, Undecided.Undecided}
+use Rattle.call_tables.specs.{declared.row.Row.Row, Table.is_failing, Table.is_open}
+use Rattle.call_page.specs.declared.parts.Part.{Part}
+use Rattle.call_page.specs.{Drawings.IsPlayOf, Lists.At, Lists.EachOf, Lists.if_one}
+use Rattle.call_page.specs.Lists.{those_below}
+
+-- the obligations that fail, and those that are open, in order
+abbrev pub failing_row : Row → List Row
+failing_row row = if_one (is_failing row) row
+
+abbrev pub open_row : Row → List Row
+open_row row = if_one (is_open row) row
+
+-- ---- a choice that fails
+
+-- a number that is neither the middle of its interval nor its least; one that is its least alone
+abbrev pub is_told : Line → TimingValues → ℕ → Bool
+is_told line timing i =
+    not (number timing i == nominal_of line i) && not (number timing i == least_of line i)
+
+abbrev pub is_at_least : Line → TimingValues → ℕ → Bool
+is_at_least line timing i =
+    not (number timing i == nominal_of line i) && (number timing i == least_of line i)
+
+pub record IsToldTime (line : Line) (timing : TimingValues) (i : ℕ) (told : ToldTime) : Type 0 where
+  pub name : told.name.items ≡ parameter_name line i
+  pub number_is : told.number ≡ number timing i
+  pub low : told.low ≡ (declared_ends line i).least
+  pub high : told.high ≡ (declared_ends line i).greatest
+
+pub record IsToldStep (line : Line) (step : Step ℕ) (told : ToldStep) : Type 0 where
+  pub name : told.name.items ≡ parameter_name line step.param
+  pub from : told.from ≡ step.from
+  pub number_is : told.number ≡ step.value
+
+-- the fault with this number is the one whose scripts this is one of
+abbrev pub IsFaultOfScript : List Part → ℕ → ℕ → Type 0
+IsFaultOfScript parts s fault =
+    At parts fault (λ p. (p.start ≤ s) × (s < p.start + p.count))
+
+-- a timing that fails the script's obligation, cut to what matters: the numbers that matter, those
+-- that stand at their least, and the steps; all others stand in the middle of their intervals. And
+-- its play.
+pub record IsChoiceFor (line : Line) (script : Script) (k : ℕ) (c : FailingChoice) : Type 0 where
+  pub whole : TimingValues
+  pub cut : TimingValues
+  pub is_cut : IsCut line script k whole cut
+  pub told : EachOf (IsToldTime line cut) (those_below (is_told line cut) (param_count line))
+      c.told.items
+  pub least : map (λ name. name.items) c.least.items
+      ≡ map (parameter_name line) (those_below (is_at_least line cut) (param_count line))
+  pub steps : EachOf (IsToldStep line) cut.steps c.steps.items
+  pub play : IsPlayOf line script (record { name = terminal_name line k; timing = cut }) c.play
+
+pub record IsChoiceOf (line : Line) (scripts : List Script) (parts : List Part) (row : Row)
+    (c : FailingChoice) : Type 0 where
+  pub fault : IsFaultOfScript parts row.script c.fault
+  pub script : At scripts row.script (λ s. c.script.items ≡ s.name)
+  pub terminal : c.terminal.items ≡ terminal_name line row.terminal
+  pub choice : At scripts row.script (λ s. IsChoiceFor line s row.terminal c)
+
+-- ---- what is open
+
+pub record IsUndecidedOf (line : Line) (scripts : List Script) (parts : List Part) (row : Row)
+    (u : Undecided) : Type 0 where
+  pub fault : IsFaultOfScript parts row.script u.fault
+  pub script : u.script.items ≡ script_name scripts row.script
+  pub terminal : u.terminal.items ≡ terminal_name line row.terminal
+  pub analyses : u.analyses ≡ row.settled.analyses

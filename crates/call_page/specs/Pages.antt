@@ -1,0 +1,72 @@
+-- The page of a study.
+use Rattle.std.specs.Prelude.{◌≡◌, ◌≤◌, ◌+◌, ◌*◌, ℕ, List, length, map}
+use Rattle.std.specs.List.{flat_map, list_any}
+use Rattle.model_line.specs.{declared.line.Line.Line, declared.script.Script.Script}
+use Rattle.model_line.specs.Parameters.{terminal_count}
+use Rattle.draw_layout.specs.Drawings.{scheme_said}
+use Rattle.draw_page.specs.{declared.page.Page.Page, declared.page.Counts.Counts, Pages.page_of}
+use Rattle.draw_page.specs.declared.page.{Time.Time, Digest.Digest}
+use Rattle.file_sweeps.specs.declared.group.Group.{Group}
+use Rattle.call_commands.specs.{Answers.Answers, Answers.status_by, declared.done.Done.Done}
+use Rattle.call_tables.specs.{Rows.AreRows, Table.is_failing, Table.is_open}
+use Rattle.call_tables.specs.declared.row.Row.{Row}
+use Rattle.call_page.specs.declared.{firsts.Firsts.Firsts, parts.Part.Part}
+use Rattle.call_page.specs.Choices.{IsChoiceOf, IsUndecidedOf, failing_row, open_row}
+use Rattle.call_page.specs.{Facts.AreFirsts, Faults.IsFaultOf, Least.IsLeastOf, Lists.EachOf}
+use Rattle.call_page.specs.{Parts.AreParts, Times.AreTimes, Files.AreFiles, Files.AreDigests}
+
+-- the head: the line's own words and numbers
+pub record IsHeadOf (line : Line) (title : List ℕ) (page : Page) : Type 0 where
+  pub title_is : page.title.items ≡ title
+  pub scheme : page.scheme.items ≡ scheme_said line.scheme
+  pub zone1 : page.zone1_trip ≡ line.zone1_trip
+  pub tick : page.tick_us ≡ line.tick_us
+  pub horizon : page.horizon ≡ line.horizon
+  pub terminals : map (λ name. name.items) page.terminals.items
+      ≡ map (λ t. t.name) line.terminals.items
+
+-- each obligation is counted once
+pub record AreCounts (line : Line) (scripts : List Script) (rows : List Row) (counts : Counts)
+    : Type 0 where
+  pub fails : counts.fails ≡ length (flat_map failing_row rows)
+  pub undecided : counts.undecided ≡ length (flat_map open_row rows)
+  pub all : counts.held + counts.fails + counts.undecided ≡ length scripts * terminal_count line
+
+-- where there are at most 64 scripts, as in one file: the margins and the digest of the trees. With
+-- more of them the page leaves these out.
+pub record AreOfFew (line : Line) (scripts : List Script) (rows : List Row) (times : List Time)
+    (digests : List Digest) : Type 0 where
+  pub times_are : length scripts ≤ 64 → AreTimes line scripts times
+  pub digests_are : length scripts ≤ 64 → AreDigests line scripts rows digests
+
+-- a page made of these answers and first ticks
+pub record IsPageOf (line : Line) (scripts : List Script) (groups : List Group) (title : List ℕ)
+    (rows : List Row) (firsts : List Firsts) (page : Page) : Type 0 where
+  pub head : IsHeadOf line title page
+  pub counts : AreCounts line scripts rows page.counts
+  pub least : IsLeastOf line scripts firsts page.least
+  pub parts : List Part
+  pub are_parts : AreParts groups (length scripts) parts
+  pub faults : EachOf (IsFaultOf line scripts groups rows firsts) parts page.faults.items
+  pub failing : EachOf (IsChoiceOf line scripts parts) (flat_map failing_row rows)
+      page.failing.items
+  pub undecided : EachOf (IsUndecidedOf line scripts parts) (flat_map open_row rows)
+      page.undecided.items
+  pub few : AreOfFew line scripts rows page.times.items page.digests.items
+  pub files : AreFiles line scripts page.files.items
+
+-- the text of a page made of answers that are so, and of first ticks of the one history; which
+-- answer it is, where more than one can be found, is left free
+pub record IsPageText (line : Line) (scripts : List Script) (groups : List Group)
+    (title : List ℕ) (status : Done) (text : List ℕ) : Type 0 where
+  pub rows : List Row
+  pub are_rows : AreRows line scripts rows
+  pub firsts : List Firsts
+  pub are_firsts : AreFirsts line scripts firsts
+  pub page : Page
+  pub of : IsPageOf line scripts groups title rows firsts page
+  pub status_is : status ≡ status_by (list_any is_failing rows) (list_any is_open rows)
+  pub text_is : text ≡ page_of page
+
+abbrev pub page_answer : Line → List Script → List Group → List ℕ → Answers
+page_answer line scripts groups title = IsPageText line scripts groups title

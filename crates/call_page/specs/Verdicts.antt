@@ -1,0 +1,66 @@
+-- How a fault's scripts stand at a terminal, and which of them does worst.
+use Rattle.std.specs.Prelude.{◌≡◌, ◌≤◌, ◌<◌, ◌+◌, ◌-◌, ℕ, List, Option, None, Some, slice_get}
+use Rattle.model_line.specs.{declared.line.Line.Line, declared.script.Script.Script}
+use Rattle.model_line.specs.declared.script.Kind.{Kind}
+use Rattle.model_line.specs.declared.script.Kind.TheVariants.{Internal, External}
+use Rattle.model_names.specs.NamesByNumber.{terminal_name}
+use Rattle.judge_report.specs.Margin.{deadline_of}
+use Rattle.judge_settle.specs.declared.answer.Answer.{Answer}
+use Rattle.judge_settle.specs.declared.answer.Answer.TheVariants.{Held, Fails, Open}
+use Rattle.judge_verdict.specs.OneEach.{OneEach}
+use Rattle.draw_page.specs.declared.page.{Standing.Standing, Verdict.Verdict}
+use Rattle.draw_page.specs.declared.page.Standing.TheVariants as standing
+use Rattle.call_tables.specs.declared.row.Row.{Row}
+use Rattle.call_page.specs.declared.firsts.Firsts.{Firsts}
+use Rattle.call_page.specs.{Facts.place, Lists.At}
+
+-- how an obligation with this answer stands
+abbrev pub standing_of : Answer → Standing
+standing_of (Held nodes) = standing.Held
+standing_of (Fails timing) = standing.Fails
+standing_of (Open nodes) = standing.Open
+
+-- how far it is from failing: one that fails is at 0, one that is open at 1; one that is held is
+-- farther by what is to spare before its deadline, and farthest where it has none
+abbrev pub distance_held : Kind → ℕ → Option ℕ → ℕ
+distance_held Internal deadline None = 2
+distance_held Internal deadline (Some first) = 2 + (deadline - first)
+distance_held External deadline first = 8000
+
+abbrev pub distance : Answer → Kind → ℕ → Option ℕ → ℕ
+distance (Fails timing) kind deadline first = 0
+distance (Open nodes) kind deadline first = 1
+distance (Held nodes) kind deadline first = distance_held kind deadline first
+
+abbrev pub distance_by : Option Script → Option Row → Option Firsts → ℕ
+distance_by (Some s) (Some row) (Some f) = distance row.settled.answer s.kind s.deadline f.must
+distance_by (Some s) (Some row) None = 0
+distance_by (Some s) None f = 0
+distance_by None row f = 0
+
+-- that of script s at terminal k
+abbrev pub distance_at : Line → List Script → List Row → List Firsts → ℕ → ℕ → ℕ
+distance_at line scripts rows firsts s k =
+    distance_by (slice_get scripts s) (slice_get rows (place line s k))
+    (slice_get firsts (place line s k))
+
+-- of so many scripts from `start` on this one does worst at terminal k: none is nearer to failing
+pub record IsWorst (line : Line) (scripts : List Script) (rows : List Row) (firsts : List Firsts)
+    (start count k worst : ℕ) : Type 0 where
+  pub among : worst < count
+  pub least : (j : ℕ) → j < count
+      → distance_at line scripts rows firsts (start + worst) k
+      ≤ distance_at line scripts rows firsts (start + j) k
+
+-- the standing of each of these scripts at terminal k; and deadline and first ticks of the one that
+-- does worst there
+pub record IsVerdictOf (line : Line) (scripts : List Script) (rows : List Row)
+    (firsts : List Firsts) (start count k : ℕ) (v : Verdict) : Type 0 where
+  pub terminal : v.terminal.items ≡ terminal_name line k
+  pub standings : OneEach
+      (λ j x. At rows (place line (start + j) k) (λ row. x ≡ standing_of row.settled.answer)) count
+      v.standings.items
+  pub worst : ℕ
+  pub is_worst : IsWorst line scripts rows firsts start count k worst
+  pub deadline : At scripts (start + worst) (λ s. v.deadline ≡ deadline_of s.kind s.deadline)
+  pub ticks : At firsts (place line (start + worst) k) (λ f. (v.may ≡ f.may) × (v.must ≡ f.must))

@@ -1,0 +1,68 @@
+//! A choice of delays that fails an obligation.
+
+ghost use Rattle.std.specs.Prelude.{◌≡◌, ◌<◌, ◌^◌, IfOk, length};
+ghost use Rattle.model_line.specs.{Fits.Fits, Parameters.terminal_count};
+ghost use Rattle.judge_settle.specs.Trees.{IsFailing};
+ghost use Rattle.call_tables.specs.Rows.{IsAnyStudy};
+ghost use Rattle.call_page.specs.Choices.{IsChoiceFor, IsChoiceOf};
+ghost use Rattle.call_page.specs.Lists.{At};
+
+use crate::drawings::play;
+use crate::known::{name_of, script_at};
+use crate::parts::{Part, part_of_script};
+use crate::told::{least_times, told_steps, told_times};
+use call_commands::Study;
+use call_tables::Row;
+use draw_page::FailingChoice;
+use judge_cut::{Obligation, cut};
+use model_line::Memory;
+use model_names::name_of_terminal;
+use model_timing::{NamedTiming, Timing};
+use std::alloc::Global;
+
+/// The choice of a timing that fails the obligation of a row, cut to what matters.
+pub fn choice(
+    alloc: Global,
+    study: &Study,
+    parts: &[Part],
+    row: &Row,
+    timing: &Timing,
+) -> Result<FailingChoice, Memory>
+    requires study { IsAnyStudy study.now }
+    requires few { length parts.now < 2 ^ 32 }
+    requires script { row.now.script < length study.now.scripts.items }
+    requires terminal { row.now.terminal < terminal_count study.now.line }
+    requires fails { At study.now.scripts.items row.now.script
+        (λ s. IsFailing study.now.line s row.now.terminal timing.now) }
+    ensures { IfOk result
+        (IsChoiceOf study.now.line study.now.scripts.items parts.now row.now) }
+{
+    let line = &study.line;
+    let of_script = script_at(study, row.script);
+    let of = Obligation {
+        line,
+        net: &study.net,
+        script: of_script,
+        terminal: row.terminal,
+    };
+    let cut = cut(alloc, &of, timing)?;
+    let told = told_times(alloc, line, &cut)?;
+    let least = least_times(alloc, line, &cut)?;
+    let moves = cut.steps();
+    let steps = told_steps(alloc, line, moves)?;
+    let name = name_of(line, row.terminal);
+    let named = NamedTiming { name, timing: cut };
+    let play = play(alloc, line, &study.net, of_script, &named)?;
+    let fault = part_of_script(parts, row.script as usize);
+    let script = Vec::from_slice(alloc, of_script.name.bytes())?;
+    let terminal = Vec::from_slice(alloc, name_of_terminal(line, row.terminal))?;
+    Ok(FailingChoice {
+        fault,
+        script,
+        terminal,
+        told,
+        least,
+        steps,
+        play,
+    })
+}

@@ -1,0 +1,72 @@
+//! Faults.
+
+ghost use Rattle.std.specs.Prelude.{◌≡◌, ◌≤◌, ◌<◌, ◌+◌, IfOk, length};
+ghost use Rattle.call_page.specs.{Facts.IsKnown, Faults.IsFaultOf, Lists.EachOf};
+ghost use Rattle.call_page.specs.Parts.{AreParts};
+
+use crate::case::cases;
+use crate::drawings::bands;
+use crate::known::Known;
+use crate::parts::{Part, name_from};
+use crate::verdict::verdicts;
+use crate::worst::shown;
+use draw_page::Fault;
+use itoa::Buffer;
+use model_line::Memory;
+use std::alloc::Global;
+
+/// The faults of these parts, in order.
+pub fn faults(alloc: Global, known: &Known<'_>, parts: &[Part]) -> Result<Vec<Fault>, Memory>
+    requires known { IsKnown known.now }
+    requires parts { AreParts known.now.groups.now
+        (length known.now.study.now.scripts.items) parts.now }
+    ensures { IfOk result (λ faults. EachOf
+        (IsFaultOf known.now.study.now.line known.now.study.now.scripts.items
+        known.now.groups.now known.now.rows.now known.now.firsts.now) parts.now faults.items) }
+{
+    let mut faults = Vec::new(alloc);
+    for part in parts {
+        let fault = fault(alloc, known, *part)?;
+        faults.push(fault)?;
+    }
+    Ok(faults)
+}
+
+fn fault(alloc: Global, known: &Known<'_>, part: Part) -> Result<Fault, Memory>
+    requires known { IsKnown known.now }
+    requires some { 1 ≤ part.count }
+    requires within { part.start + part.count ≤ length known.now.study.now.scripts.items }
+    ensures { IfOk result (IsFaultOf known.now.study.now.line
+        known.now.study.now.scripts.items known.now.groups.now known.now.rows.now
+        known.now.firsts.now part) }
+{
+    let study = known.study;
+    let scripts = study.scripts.as_slice();
+    let name = name_from(alloc, known.groups, scripts, part.start as u32)?;
+    let cases = cases(alloc, known, part)?;
+    let verdicts = verdicts(alloc, known, part)?;
+    let worst = &scripts[part.start + shown(known, part)];
+    let bands = bands(alloc, &study.line, &study.net, worst)?;
+    let shown = Vec::from_slice(alloc, worst.name.bytes())?;
+    let swept = swept_words(alloc, cases[0].swept.len())?;
+    Ok(Fault {
+        name,
+        kind: scripts[part.start].kind,
+        swept,
+        cases,
+        verdicts,
+        bands,
+        shown,
+    })
+}
+
+// What the swept times are called, by their order: a study's groups know their values alone.
+fn swept_words(alloc: Global, count: usize) -> Result<Vec<Vec<u8>>, Memory> {
+    let mut words = Vec::new(alloc);
+    for i in 0..count {
+        let mut word = Vec::from_slice(alloc, b"swept time ")?;
+        word.extend_from_slice(Buffer::new().format(i as u64 + 1).as_bytes())?;
+        words.push(word)?;
+    }
+    Ok(words)
+}

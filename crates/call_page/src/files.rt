@@ -1,0 +1,87 @@
+//! The files of a study, as they are judged.
+
+ghost use Rattle.std.specs.Prelude.{◌≡◌, ◌≤◌, ◌<◌, ◌+◌, ◌∷◌, [], IfOk, length};
+ghost use Rattle.file_script.specs.SoFar.{AreOnce};
+ghost use Rattle.file_sweeps.specs.{Studies.script_names, Parts.parts_of};
+ghost use Rattle.call_commands.specs.Study.{IsStudy};
+ghost use Rattle.call_tables.specs.Rows.{AreRows, IsAnyStudy};
+ghost use Rattle.call_page.specs.Files.{AreDigests, AreFiles, IsLineFile, IsScriptsFile};
+
+use crate::hash::hash_of;
+use call_commands::Study;
+use call_tables::{Row, settle_trees};
+use draw_page::{Digest, FileText};
+use file_line::print_line;
+use file_sweeps::{part_count, part_text};
+use itoa::Buffer;
+use model_line::Memory;
+use std::alloc::Global;
+
+/// The line file, and the scripts files.
+pub fn files(alloc: Global, study: &Study) -> Result<Vec<FileText>, Memory>
+    requires study { IsAnyStudy study.now }
+    requires once { AreOnce (script_names study.now.scripts.items) }
+    ensures { IfOk result (λ files. AreFiles study.now.line study.now.scripts.items files.items) }
+{
+    let mut files = Vec::new(alloc);
+    let first = line_file(alloc, study)?;
+    files.push(first)?;
+    for n in 0..part_count(study.scripts.as_slice()) {
+        let file = scripts_file(alloc, study, n)?;
+        files.push(file)?;
+    }
+    Ok(files)
+}
+
+fn line_file(alloc: Global, study: &Study) -> Result<FileText, Memory>
+    ensures { IfOk result (IsLineFile study.now.line) }
+{
+    let text = print_line(alloc, &study.line)?;
+    let sha256 = hash_of(alloc, text.as_slice())?;
+    let name = Vec::from_slice(alloc, b"line.toml")?;
+    Ok(FileText { name, text, sha256 })
+}
+
+// Part n of the scripts, counted from 0.
+fn scripts_file(alloc: Global, study: &Study, n: usize) -> Result<FileText, Memory>
+    requires study { IsAnyStudy study.now }
+    requires once { AreOnce (script_names study.now.scripts.items) }
+    requires exists { n < parts_of (length study.now.scripts.items) }
+    ensures { IfOk result (IsScriptsFile study.now.line study.now.scripts.items n) }
+{
+    let scripts = study.scripts.as_slice();
+    let Some(text) = part_text(alloc, &study.line, scripts, n + 1)? else {
+        return Err(Memory);
+    };
+    let sha256 = hash_of(alloc, text.as_slice())?;
+    let name = scripts_name(alloc, part_count(scripts), n)?;
+    Ok(FileText { name, text, sha256 })
+}
+
+// `scripts.csv`, or `scripts.2.csv` where there are several.
+fn scripts_name(alloc: Global, count: usize, n: usize) -> Result<Vec<u8>, Memory>
+    requires { n < count }
+{
+    let mut name = Vec::from_slice(alloc, b"scripts")?;
+    if count > 1 {
+        name.extend_from_slice(b".")?;
+        name.extend_from_slice(Buffer::new().format(n as u64 + 1).as_bytes())?;
+    }
+    name.extend_from_slice(b".csv")?;
+    Ok(name)
+}
+
+/// The hash of the trees and timings by which the obligations are settled.
+pub fn digests(alloc: Global, study: &Study, rows: &[Row]) -> Result<Vec<Digest>, Memory>
+    requires study { IsStudy study.now }
+    requires rows { AreRows study.now.line study.now.scripts.items rows.now }
+    ensures { IfOk result (λ digests.
+        AreDigests study.now.line study.now.scripts.items rows.now digests.items) }
+{
+    let trees = settle_trees(alloc, study, rows)?;
+    let sha256 = hash_of(alloc, trees.as_slice())?;
+    let of = Vec::from_slice(alloc, b"settled trees (study settle --trees)")?;
+    let mut digests = Vec::new(alloc);
+    digests.push(Digest { of, sha256 })?;
+    Ok(digests)
+}

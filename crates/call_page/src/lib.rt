@@ -1,0 +1,28 @@
+//! The page of a study: every obligation answered, first ticks, margins, diagrams and failing
+//! choices as one value, and the text of it.
+//!
+//! `specs/Pages.antt` says what stands on it; the other files of `specs/` say each part.
+#![tactic(auto)]
+
+mod case;
+mod choice;
+mod choices;
+mod drawings;
+mod fault;
+mod files;
+mod firsts;
+mod hash;
+mod head;
+mod inception;
+mod known;
+mod least;
+mod page;
+mod parts;
+mod said;
+mod times;
+mod told;
+mod undecided;
+mod verdict;
+mod worst;
+
+pub use said::{Asked, page_said};

@@ -1,0 +1,113 @@
+//! What the command says.
+
+ghost use Rattle.std.specs.Prelude.{◌≡◌, IfOk};
+ghost use Rattle.std.specs.List.{list_any};
+ghost use Rattle.file_script.specs.SoFar.{AreOnce};
+ghost use Rattle.file_sweeps.specs.Studies.{script_names};
+ghost use Rattle.call_commands.specs.{Answers.Says, Answers.status_by};
+ghost use Rattle.call_tables.specs.Rows.{AreRows, IsAnyStudy};
+ghost use Rattle.call_tables.specs.Table.{is_failing as row_fails, is_open as row_is_open};
+ghost use Rattle.call_page.specs.{Facts.AreFirsts, Pages.IsPageOf, Pages.page_answer};
+
+use crate::firsts::{Firsts, find_firsts};
+use crate::known::Known;
+use crate::page::page;
+use crate::undecided::is_open;
+use call_commands::{Done, Said, Study};
+use call_tables::{Row, settle_all};
+use draw_page::{Page, page_text};
+use file_sweeps::Group;
+use judge_settle::Answer;
+use model_line::Memory;
+use std::alloc::Global;
+
+/// What a page is asked to say: its title, the program and what proved it, each in words; and at
+/// most how many analyses each obligation is settled with.
+#[derive(Clone, Copy)]
+pub struct Asked<'a> {
+    pub title: &'a [u8],
+    pub program: &'a [u8],
+    pub kit: &'a [u8],
+    pub analyses: u32,
+}
+
+/// The page of a line and its scripts: status 1 where an obligation fails, else 2 where one is open,
+/// else 0.
+pub fn page_said(
+    alloc: Global,
+    study: &Study,
+    groups: &[Group],
+    asked: &Asked<'_>,
+) -> Result<Said, Memory>
+    requires study { IsAnyStudy study.now }
+    requires once { AreOnce (script_names study.now.scripts.items) }
+    ensures { IfOk result (Says (page_answer study.now.line study.now.scripts.items groups.now
+        asked.now.title.now)) }
+{
+    let rows = settle_all(alloc, study, asked.analyses)?;
+    let firsts = find_firsts(alloc, study)?;
+    let all = rows.as_slice();
+    let ticks = firsts.as_slice();
+    let page = page_of(alloc, study, groups, all, ticks, asked)?;
+    let text = page_text(alloc, &page)?;
+    let status = status_of(all);
+    Ok(Said { status, text })
+}
+
+// The page of these answers and first ticks.
+fn page_of<'a>(
+    alloc: Global,
+    study: &'a Study,
+    groups: &'a [Group],
+    rows: &'a [Row],
+    firsts: &'a [Firsts],
+    asked: &Asked<'_>,
+) -> Result<Page, Memory>
+    requires study { IsAnyStudy study.now }
+    requires once { AreOnce (script_names study.now.scripts.items) }
+    requires rows { AreRows study.now.line study.now.scripts.items rows.now }
+    requires firsts { AreFirsts study.now.line study.now.scripts.items firsts.now }
+    ensures { IfOk result (IsPageOf study.now.line study.now.scripts.items groups.now
+        asked.now.title.now rows.now firsts.now) }
+{
+    let known = Known {
+        study,
+        groups,
+        rows,
+        firsts,
+    };
+    page(alloc, &known, asked)
+}
+
+fn status_of(rows: &[Row]) -> Done
+    ensures { result ≡ status_by (list_any row_fails rows.now) (list_any row_is_open rows.now) }
+{
+    if some_fails(rows) {
+        Done::SomeNo
+    } else if some_is_open(rows) {
+        Done::SomeUndecided
+    } else {
+        Done::Good
+    }
+}
+
+fn some_fails(rows: &[Row]) -> bool
+    ensures { result ≡ list_any row_fails rows.now }
+{
+    rows.iter().any(|row| is_failing(row))
+}
+
+fn some_is_open(rows: &[Row]) -> bool
+    ensures { result ≡ list_any row_is_open rows.now }
+{
+    rows.iter().any(|row| is_open(row))
+}
+
+fn is_failing(row: &Row) -> bool
+    ensures { result ≡ row_fails row.now }
+{
+    match row.settled.answer {
+        Answer::Fails(_) => true,
+        Answer::Held(_) | Answer::Open(_) => false,
+    }
+}

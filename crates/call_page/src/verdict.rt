@@ -1,0 +1,103 @@
+//! How a fault's scripts stand at each terminal.
+
+ghost use Rattle.std.specs.Prelude.{◌≡◌, ◌≤◌, ◌<◌, ◌+◌, IfOk, length};
+ghost use Rattle.model_line.specs.Parameters.{terminal_count};
+ghost use Rattle.judge_verdict.specs.OneEach.{OneEach};
+ghost use Rattle.call_page.specs.{Facts.IsKnown, Facts.place, Lists.At};
+ghost use Rattle.call_page.specs.Verdicts.{IsVerdictOf, standing_of as standing_of_answer};
+
+use crate::known::{Known, firsts_at, row_at};
+use crate::parts::Part;
+use crate::worst::worst;
+use draw_page::{Means, Standing, Verdict};
+use judge_report::deadline;
+use judge_settle::{Answer, By};
+use model_line::Memory;
+use model_names::name_of_terminal;
+use std::alloc::Global;
+
+/// The verdicts of a part, one for each terminal in line order.
+pub fn verdicts(alloc: Global, known: &Known<'_>, part: Part) -> Result<Vec<Verdict>, Memory>
+    requires known { IsKnown known.now }
+    requires some { 1 ≤ part.count }
+    requires within { part.start + part.count ≤ length known.now.study.now.scripts.items }
+    ensures { IfOk result (λ verdicts. OneEach
+        (IsVerdictOf known.now.study.now.line known.now.study.now.scripts.items
+        known.now.rows.now known.now.firsts.now part.start part.count)
+        (terminal_count known.now.study.now.line) verdicts.items) }
+{
+    let mut verdicts = Vec::new(alloc);
+    for k in 0..known.study.line.terminals.len() {
+        let verdict = verdict(alloc, known, part, k as u32)?;
+        verdicts.push(verdict)?;
+    }
+    Ok(verdicts)
+}
+
+fn verdict(alloc: Global, known: &Known<'_>, part: Part, terminal: u32) -> Result<Verdict, Memory>
+    requires known { IsKnown known.now }
+    requires some { 1 ≤ part.count }
+    requires within { part.start + part.count ≤ length known.now.study.now.scripts.items }
+    requires terminal { terminal < terminal_count known.now.study.now.line }
+    ensures { IfOk result (IsVerdictOf known.now.study.now.line
+        known.now.study.now.scripts.items known.now.rows.now known.now.firsts.now part.start
+        part.count terminal) }
+{
+    let standings = standings(alloc, known, part, terminal)?;
+    let script = part.start + worst(known, part, terminal);
+    let row = row_at(known, script, terminal);
+    let firsts = firsts_at(known, script, terminal);
+    let of = &known.study.scripts[script];
+    let name = Vec::from_slice(alloc, name_of_terminal(&known.study.line, terminal))?;
+    Ok(Verdict {
+        terminal: name,
+        standings,
+        by: means(row.settled.by),
+        deadline: deadline(of.kind, of.deadline),
+        may: firsts.may,
+        must: firsts.must,
+    })
+}
+
+// How each script of a part stands at a terminal.
+fn standings(
+    alloc: Global,
+    known: &Known<'_>,
+    part: Part,
+    terminal: u32,
+) -> Result<Vec<Standing>, Memory>
+    requires known { IsKnown known.now }
+    requires within { part.start + part.count ≤ length known.now.study.now.scripts.items }
+    requires terminal { terminal < terminal_count known.now.study.now.line }
+    ensures { IfOk result (λ standings. OneEach
+        (λ j x. At known.now.rows.now
+        (place known.now.study.now.line (part.start + j) terminal)
+        (λ row. x ≡ standing_of_answer row.settled.answer)) part.count standings.items) }
+{
+    let mut standings = Vec::new(alloc);
+    for j in 0..part.count {
+        let row = row_at(known, part.start + j, terminal);
+        standings.push(standing_of(&row.settled.answer))?;
+    }
+    Ok(standings)
+}
+
+fn standing_of(answer: &Answer) -> Standing
+    ensures { result ≡ standing_of_answer answer.now }
+{
+    match answer {
+        Answer::Held(_) => Standing::Held,
+        Answer::Fails(_) => Standing::Fails,
+        Answer::Open(_) => Standing::Open,
+    }
+}
+
+fn means(by: By) -> Means {
+    match by {
+        By::Rules => Means::Rules,
+        By::Candidate => Means::Candidate,
+        By::Corner => Means::Corner,
+        By::Parts => Means::Parts,
+        By::Cases => Means::Cases,
+    }
+}

@@ -1,0 +1,35 @@
+-- The files that were judged, and the digests of all.
+use Rattle.std.specs.Prelude.{◌++◌, ℕ, List, [], ◌∷◌, codes}
+use Rattle.std.specs.List.{flat_map}
+use Rattle.base_html.specs.declared.tag.Tag.TheVariants as tag
+use Rattle.base_html.specs.Content.{words_text}
+use Rattle.draw_page.specs.declared.anchor.Anchor.TheVariants as anchor
+use Rattle.draw_page.specs.declared.page.{Page.Page, Digest.Digest, FileText.FileText}
+use Rattle.draw_page.specs.Bare.{bare_cell_html}
+use Rattle.draw_page.specs.Elements.{columns_html, head_cell_html, plain_html}
+use Rattle.draw_page.specs.Elements.{section_html, table_html, words_in_html}
+
+unfoldable pub hash_row_html : List ℕ → List ℕ → List ℕ
+hash_row_html name sha256 =
+    plain_html tag.Row
+    (head_cell_html (codes "row") (words_text name)
+    ++ bare_cell_html (codes "hash") (words_in_html tag.Code sha256))
+
+abbrev pub file_row_html : FileText → List ℕ
+file_row_html file = hash_row_html file.name.items file.sha256.items
+
+abbrev pub digest_row_html : Digest → List ℕ
+digest_row_html digest = hash_row_html digest.of.items digest.sha256.items
+
+-- a file, folded under its name
+unfoldable pub file_html : FileText → List ℕ
+file_html file =
+    plain_html tag.Details
+    (words_in_html tag.Summary file.name.items ++ words_in_html tag.Preformatted file.text.items)
+
+unfoldable pub files_html : Page → List ℕ
+files_html page =
+    section_html anchor.Files (codes "Files")
+    (table_html (codes "files") (columns_html (codes "File" ∷ (codes "SHA-256" ∷ [])))
+    (flat_map file_row_html page.files.items ++ flat_map digest_row_html page.digests.items)
+    ++ flat_map file_html page.files.items)

@@ -1,0 +1,79 @@
+//! The files that were judged, and the digests of all.
+
+ghost use Rattle.std.specs.Prelude.{◌≡◌, IfOk};
+ghost use Rattle.std.specs.List.{flat_map};
+ghost use Rattle.draw_page.specs.Filed.{digest_row_html, file_html, file_row_html, files_html};
+ghost use Rattle.draw_page.specs.Filed.{hash_row_html};
+
+use crate::anchor::Anchor;
+use crate::bare::bare_cell;
+use crate::elements::{columns, head_cell, plain, section, table, words_in};
+use crate::page::{Digest, FileText, Page};
+use base_html::{Html, Tag};
+use std::alloc::{AllocError, Global};
+
+/// The section of the files: the digests, and each file in a fold.
+#[tactic(auto, unfolding(crate::specs::Filed::files_html))]
+pub fn files(alloc: Global, page: &Page) -> Result<Html, AllocError>
+    ensures { IfOk result (λ html. html.text.items ≡ files_html page.now) }
+{
+    let head = columns(alloc, &[b"File", b"SHA-256"])?;
+    let rows = file_rows(alloc, page.files.as_slice())?.and(&digest_rows(
+        alloc,
+        page.digests.as_slice(),
+    )?)?;
+    let inside = table(alloc, b"files", &head, &rows)?.and(&folded(alloc, page.files.as_slice())?)?;
+    section(alloc, Anchor::Files, b"Files", &inside)
+}
+
+fn file_rows(alloc: Global, files: &[FileText]) -> Result<Html, AllocError>
+    ensures { IfOk result (λ html. html.text.items ≡ flat_map file_row_html files.now) }
+{
+    let mut made = Html::new(alloc);
+    for file in files {
+        made = made.and(&hash_row(alloc, file.name.as_slice(), file.sha256.as_slice())?)?;
+    }
+    Ok(made)
+}
+
+fn digest_rows(alloc: Global, digests: &[Digest]) -> Result<Html, AllocError>
+    ensures { IfOk result (λ html. html.text.items ≡ flat_map digest_row_html digests.now) }
+{
+    let mut made = Html::new(alloc);
+    for digest in digests {
+        made = made.and(&hash_row(alloc, digest.of.as_slice(), digest.sha256.as_slice())?)?;
+    }
+    Ok(made)
+}
+
+#[tactic(auto, unfolding(crate::specs::Filed::hash_row_html))]
+fn hash_row(alloc: Global, name: &[u8], sha256: &[u8]) -> Result<Html, AllocError>
+    ensures { IfOk result (λ html. html.text.items ≡ hash_row_html name.now sha256.now) }
+{
+    let name = Html::words(alloc, name)?;
+    let hash = words_in(alloc, Tag::Code, sha256)?;
+    let cells = head_cell(alloc, b"row", &name)?.and(&bare_cell(alloc, b"hash", &hash)?)?;
+    plain(alloc, Tag::Row, &cells)
+}
+
+fn folded(alloc: Global, files: &[FileText]) -> Result<Html, AllocError>
+    ensures { IfOk result (λ html. html.text.items ≡ flat_map file_html files.now) }
+{
+    let mut made = Html::new(alloc);
+    for file in files {
+        made = made.and(&one_file(alloc, file)?)?;
+    }
+    Ok(made)
+}
+
+#[tactic(auto, unfolding(crate::specs::Filed::file_html))]
+fn one_file(alloc: Global, file: &FileText) -> Result<Html, AllocError>
+    ensures { IfOk result (λ html. html.text.items ≡ file_html file.now) }
+{
+    let inside = words_in(alloc, Tag::Summary, file.name.as_slice())?.and(&words_in(
+        alloc,
+        Tag::Preformatted,
+        file.text.as_slice(),
+    )?)?;
+    plain(alloc, Tag::Details, &inside)
+}

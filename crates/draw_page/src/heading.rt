@@ -1,0 +1,204 @@
+//! The head of the page: what it is of, and the counts in large.
+
+ghost use Rattle.std.specs.Prelude.{◌≡◌, IfOk, Some};
+ghost use Rattle.draw_page.specs.Headings.{answer_links_html, contents_html, count_html};
+ghost use Rattle.draw_page.specs.Headings.{counts_html, failing_html, header_html, held_html};
+ghost use Rattle.draw_page.specs.Headings.{least_html, link_item_html, meaning_html, notes_html};
+ghost use Rattle.draw_page.specs.Headings.{other_links_html, subject_said, undecided_html};
+ghost use Rattle.draw_page.specs.Headings.{tile_class as class_of_tile, tile_html, zone_said};
+
+use crate::anchor::Anchor;
+use crate::elements::{classed, link, plain, said_in, words_in};
+use crate::page::{Counts, LeastMargin, Page};
+use crate::words::{number_words, push_ticks, time_words};
+use base_html::{Attribute, Html, Key, Tag};
+use std::alloc::{AllocError, Global};
+
+/// The head of the page.
+#[tactic(auto, unfolding(crate::specs::Headings::header_html))]
+pub fn header(alloc: Global, page: &Page) -> Result<Html, AllocError>
+    ensures { IfOk result (λ html. html.text.items ≡ header_html page.now) }
+{
+    let subject = subject_words(alloc, page)?;
+    let inside = words_in(alloc, Tag::Heading1, page.title.as_slice())?
+        .and(&said_in(alloc, Tag::Paragraph, b"subject", subject.as_slice())?)?
+        .and(&counts(alloc, page.counts, page.tick_us, &page.least)?)?
+        .and(&meaning(alloc)?)?
+        .and(&notes(alloc, page.notes.as_slice())?)?
+        .and(&contents(alloc)?)?;
+    plain(alloc, Tag::Header, &inside)
+}
+
+// The scheme, the terminals and the ticks.
+#[tactic(auto, unfolding(crate::specs::Headings::subject_said))]
+fn subject_words(alloc: Global, page: &Page) -> Result<Vec<u8>, AllocError>
+    ensures { IfOk result (λ text. text.items ≡ subject_said page.now) }
+{
+    let mut text = Vec::from_slice(alloc, page.scheme.as_slice())?;
+    text.extend_from_slice(b", ")?;
+    let terminals = number_words(alloc, page.terminals.len())?;
+    text.extend_from_slice(terminals.as_slice())?;
+    text.extend_from_slice(b" terminals; ")?;
+    text.extend_from_slice(zone_words(page.zone1_trip))?;
+    push_ticks(&mut text, page.tick_us, page.horizon)?;
+    text.extend_from_slice(b" ms are judged, in ticks of ")?;
+    push_ticks(&mut text, page.tick_us, 1)?;
+    text.extend_from_slice(b" ms.")?;
+    Ok(text)
+}
+
+fn zone_words(trips: bool) -> &'static [u8]
+    ensures { result.now ≡ zone_said trips }
+{
+    if trips {
+        b"zone 1 trips by itself. "
+    } else {
+        b"zone 1 does not trip by itself. "
+    }
+}
+
+// The counts, and the least margin.
+#[tactic(auto, unfolding(crate::specs::Headings::counts_html))]
+fn counts(
+    alloc: Global,
+    counts: Counts,
+    tick_us: u32,
+    least: &Option<LeastMargin>,
+) -> Result<Html, AllocError>
+    ensures { IfOk result (λ html. html.text.items ≡ counts_html counts tick_us least.now) }
+{
+    let inside = held(alloc, counts.held)?
+        .and(&failing(alloc, counts.fails)?)?
+        .and(&undecided(alloc, counts.undecided)?)?
+        .and(&least_tile(alloc, tick_us, least)?)?;
+    classed(alloc, Tag::Division, b"tiles", &inside)
+}
+
+#[tactic(auto, unfolding(crate::specs::Headings::held_html))]
+fn held(alloc: Global, count: u32) -> Result<Html, AllocError>
+    ensures { IfOk result (λ html. html.text.items ≡ held_html count) }
+{
+    tile(alloc, b"tile yes", count, b"held for every choice")
+}
+
+#[tactic(auto, unfolding(crate::specs::Headings::failing_html))]
+fn failing(alloc: Global, count: u32) -> Result<Html, AllocError>
+    ensures { IfOk result (λ html. html.text.items ≡ failing_html count) }
+{
+    tile(alloc, b"tile no", count, b"fail for some choice")
+}
+
+#[tactic(auto, unfolding(crate::specs::Headings::undecided_html))]
+fn undecided(alloc: Global, count: u32) -> Result<Html, AllocError>
+    ensures { IfOk result (λ html. html.text.items ≡ undecided_html count) }
+{
+    tile(alloc, b"tile unknown", count, b"open")
+}
+
+// A number in large, and what it counts.
+fn tile(alloc: Global, class: &[u8], number: u32, words: &[u8]) -> Result<Html, AllocError>
+    ensures { IfOk result (λ html. html.text.items
+        ≡ count_html class.now number words.now) }
+{
+    let count = number_words(alloc, number as usize)?;
+    tile_of(alloc, tile_class(class, number), count.as_slice(), words)
+}
+
+// Of nothing a quiet look.
+fn tile_class<'a>(class: &'a [u8], number: u32) -> &'a [u8]
+    ensures { result.now ≡ class_of_tile class.now number }
+{
+    if number == 0 { b"tile none" } else { class }
+}
+
+#[tactic(auto, unfolding(crate::specs::Headings::tile_html))]
+fn tile_of(alloc: Global, class: &[u8], number: &[u8], words: &[u8]) -> Result<Html, AllocError>
+    ensures { IfOk result (λ html. html.text.items
+        ≡ tile_html class.now number.now words.now) }
+{
+    let inside = words_in(alloc, Tag::Strong, number)?.and(&words_in(alloc, Tag::Span, words)?)?;
+    classed(alloc, Tag::Division, class, &inside)
+}
+
+fn least_tile(alloc: Global, tick_us: u32, least: &Option<LeastMargin>) -> Result<Html, AllocError>
+    ensures { IfOk result (λ html. html.text.items ≡ least_html tick_us least.now) }
+{
+    match least {
+        Some(least) => some_least(alloc, tick_us, least),
+        None => Ok(Html::new(alloc)),
+    }
+}
+
+fn some_least(alloc: Global, tick_us: u32, least: &LeastMargin) -> Result<Html, AllocError>
+    ensures { IfOk result (λ html. html.text.items ≡ least_html tick_us (Some least.now)) }
+{
+    let number = time_words(alloc, tick_us, least.ticks)?;
+    let mut words = Vec::from_slice(alloc, b"least margin by rule: ")?;
+    words.extend_from_slice(least.at.as_slice())?;
+    tile_of(alloc, b"tile", number.as_slice(), words.as_slice())
+}
+
+// What the three words mean.
+#[tactic(auto, unfolding(crate::specs::Headings::meaning_html))]
+fn meaning(alloc: Global) -> Result<Html, AllocError>
+    ensures { IfOk result (λ html. html.text.items ≡ meaning_html) }
+{
+    said_in(
+        alloc,
+        Tag::Paragraph,
+        b"small",
+        b"Held: every choice of delays inside the declared intervals meets the obligation. Fails: a choice inside them, shown below, does not. Open: neither is known.",
+    )
+}
+
+// Lines that say what is left out.
+fn notes(alloc: Global, notes: &[Vec<u8>]) -> Result<Html, AllocError>
+    ensures { IfOk result (λ html. html.text.items ≡ notes_html notes.now) }
+{
+    let mut made = Html::new(alloc);
+    for note in notes {
+        made = made.and(&said_in(alloc, Tag::Paragraph, b"note", note.as_slice())?)?;
+    }
+    Ok(made)
+}
+
+// Links to the sections.
+#[tactic(auto, unfolding(crate::specs::Headings::contents_html))]
+fn contents(alloc: Global) -> Result<Html, AllocError>
+    ensures { IfOk result (λ html. html.text.items ≡ contents_html) }
+{
+    let items = answer_links(alloc)?.and(&other_links(alloc)?)?;
+    let list = plain(alloc, Tag::List, &items)?;
+    let label = Attribute {
+        key: Key::AriaLabel,
+        words: b"Contents",
+    };
+    Html::element(alloc, Tag::Nav, &[label], &list)
+}
+
+#[tactic(auto, unfolding(crate::specs::Headings::answer_links_html))]
+fn answer_links(alloc: Global) -> Result<Html, AllocError>
+    ensures { IfOk result (λ html. html.text.items ≡ answer_links_html) }
+{
+    link_item(alloc, Anchor::Verdicts, b"Verdicts")?
+        .and(&link_item(alloc, Anchor::Failing, b"Failing choices")?)?
+        .and(&link_item(alloc, Anchor::Open, b"Open")?)
+}
+
+#[tactic(auto, unfolding(crate::specs::Headings::other_links_html))]
+fn other_links(alloc: Global) -> Result<Html, AllocError>
+    ensures { IfOk result (λ html. html.text.items ≡ other_links_html) }
+{
+    link_item(alloc, Anchor::Times, b"Times")?
+        .and(&link_item(alloc, Anchor::Faults, b"Faults")?)?
+        .and(&link_item(alloc, Anchor::Files, b"Files")?)?
+        .and(&link_item(alloc, Anchor::Signature, b"Signature")?)
+}
+
+#[tactic(auto, unfolding(crate::specs::Headings::link_item_html))]
+fn link_item(alloc: Global, anchor: Anchor, words: &[u8]) -> Result<Html, AllocError>
+    ensures { IfOk result (λ html. html.text.items ≡ link_item_html anchor words.now) }
+{
+    let inside = link(alloc, anchor, words)?;
+    plain(alloc, Tag::Item, &inside)
+}

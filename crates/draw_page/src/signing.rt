@@ -1,0 +1,49 @@
+//! By what the page was made, and lines to sign.
+
+ghost use Rattle.std.specs.Prelude.{◌≡◌, IfOk};
+ghost use Rattle.draw_page.specs.Signing.{line_html, made_said, signing_html};
+
+use crate::anchor::Anchor;
+use crate::elements::{classed, plain, section, words_in};
+use crate::page::Page;
+use base_html::{Html, Tag};
+use std::alloc::{AllocError, Global};
+
+/// The section to sign.
+#[tactic(auto, unfolding(crate::specs::Signing::signing_html))]
+pub fn signing(alloc: Global, page: &Page) -> Result<Html, AllocError>
+    ensures { IfOk result (λ html. html.text.items ≡ signing_html page.now) }
+{
+    let made = made_words(alloc, page)?;
+    let lines = line(alloc, b"Name")?
+        .and(&line(alloc, b"Date")?)?
+        .and(&line(alloc, b"Signature")?)?;
+    let inside = words_in(alloc, Tag::Paragraph, made.as_slice())?.and(&classed(
+        alloc,
+        Tag::Division,
+        b"lines",
+        &lines,
+    )?)?;
+    section(alloc, Anchor::Signature, b"Signature", &inside)
+}
+
+#[tactic(auto, unfolding(crate::specs::Signing::made_said))]
+fn made_words(alloc: Global, page: &Page) -> Result<Vec<u8>, AllocError>
+    ensures { IfOk result (λ text. text.items ≡ made_said page.now) }
+{
+    let mut text = Vec::from_slice(alloc, b"Made by ")?;
+    text.extend_from_slice(page.program.as_slice())?;
+    text.extend_from_slice(b", proved with ")?;
+    text.extend_from_slice(page.kit.as_slice())?;
+    text.extend_from_slice(b".")?;
+    Ok(text)
+}
+
+// A line to write on.
+#[tactic(auto, unfolding(crate::specs::Signing::line_html))]
+fn line(alloc: Global, words: &[u8]) -> Result<Html, AllocError>
+    ensures { IfOk result (λ html. html.text.items ≡ line_html words.now) }
+{
+    let inside = words_in(alloc, Tag::Span, words)?;
+    plain(alloc, Tag::Division, &inside)
+}

@@ -1,0 +1,167 @@
+//! The table of times.
+
+ghost use Rattle.std.specs.Prelude.{◌≡◌, ◌≤◌, IfOk};
+ghost use Rattle.std.specs.List.{flat_map};
+ghost use Rattle.draw_page.specs.Times.{lost_html, margin_columns_html, no_times_html, reach_said, slack_html};
+ghost use Rattle.draw_page.specs.Times.{time_row_html, times_head_html, times_html, times_meaning};
+ghost use Rattle.draw_page.specs.Times.{some_times_html, times_table_html};
+ghost use Rattle.draw_page.specs.Times.{bar_cell_html, slack_cell_html, time_cells_html};
+
+use crate::anchor::Anchor;
+use crate::bar::{bar, reach};
+use crate::bare::bare_cell;
+use crate::elements::{
+    cell, column, head_cell, number_cell, plain, said_in, section, table, words_in,
+};
+use crate::figure::drawing;
+use crate::page::{Page, Slack, Time};
+use crate::words::{interval_words, push_ticks, time_words};
+use base_html::{Html, Tag};
+use std::alloc::{AllocError, Global};
+
+/// The section of the times and their margins.
+#[tactic(auto, unfolding(crate::specs::Times::times_html))]
+pub fn times(alloc: Global, page: &Page) -> Result<Html, AllocError>
+    ensures { IfOk result (λ html. html.text.items ≡ times_html page.now) }
+{
+    let inside = some_times(alloc, page.tick_us, page.times.as_slice())?;
+    section(alloc, Anchor::Times, b"Times and margins", &inside)
+}
+
+fn some_times(alloc: Global, tick_us: u32, times: &[Time]) -> Result<Html, AllocError>
+    ensures { IfOk result (λ html. html.text.items ≡ some_times_html tick_us times.now) }
+{
+    match times {
+        [] => no_times(alloc),
+        [_, ..] => meaning(alloc)?.and(&times_table(alloc, tick_us, times)?),
+    }
+}
+
+#[tactic(auto, unfolding(crate::specs::Times::no_times_html))]
+fn no_times(alloc: Global) -> Result<Html, AllocError>
+    ensures { IfOk result (λ html. html.text.items ≡ no_times_html) }
+{
+    words_in(alloc, Tag::Paragraph, b"No margins were worked out.")
+}
+
+#[tactic(auto, unfolding(crate::specs::Times::times_meaning))]
+fn meaning(alloc: Global) -> Result<Html, AllocError>
+    ensures { IfOk result (λ html. html.text.items ≡ times_meaning) }
+{
+    said_in(
+        alloc,
+        Tag::Paragraph,
+        b"small",
+        b"To spare: how far one end alone can move outward, all else as declared, with each obligation that the interval rules hold still held, and what is lost first beyond. One that is held by parts, cases or a corner alone is left out. A full bar is the declared interval, a thin one how far its ends can go.",
+    )
+}
+
+#[tactic(auto, unfolding(crate::specs::Times::times_table_html))]
+fn times_table(alloc: Global, tick_us: u32, times: &[Time]) -> Result<Html, AllocError>
+    ensures { IfOk result (λ html. html.text.items ≡ times_table_html tick_us times.now) }
+{
+    let reach = reach(times);
+    let head = times_head(alloc, tick_us, reach)?;
+    let rows = time_rows(alloc, tick_us, reach, times)?;
+    table(alloc, b"times", &head, &rows)
+}
+
+#[tactic(auto, unfolding(crate::specs::Times::times_head_html))]
+fn times_head(alloc: Global, tick_us: u32, reach: u32) -> Result<Html, AllocError>
+    ensures { IfOk result (λ html. html.text.items ≡ times_head_html tick_us reach) }
+{
+    let to = reach_words(alloc, tick_us, reach)?;
+    let cells = margin_columns(alloc)?.and(&column(alloc, to.as_slice())?)?;
+    let row = plain(alloc, Tag::Row, &cells)?;
+    plain(alloc, Tag::TableHead, &row)
+}
+
+#[tactic(auto, unfolding(crate::specs::Times::margin_columns_html))]
+fn margin_columns(alloc: Global) -> Result<Html, AllocError>
+    ensures { IfOk result (λ html. html.text.items ≡ margin_columns_html) }
+{
+    column(alloc, b"Time")?
+        .and(&column(alloc, b"declared")?)?
+        .and(&column(alloc, b"to spare below")?)?
+        .and(&column(alloc, b"to spare above")?)
+}
+
+// From where to where the bars go.
+fn reach_words(alloc: Global, tick_us: u32, reach: u32) -> Result<Vec<u8>, AllocError>
+    ensures { IfOk result (λ text. text.items ≡ reach_said tick_us reach) }
+{
+    let mut text = Vec::from_slice(alloc, b"0 to ")?;
+    push_ticks(&mut text, tick_us, reach)?;
+    text.extend_from_slice(b" ms")?;
+    Ok(text)
+}
+
+fn time_rows(alloc: Global, tick_us: u32, reach: u32, times: &[Time]) -> Result<Html, AllocError>
+    requires { 1 ≤ reach }
+    ensures { IfOk result (λ html. html.text.items
+        ≡ flat_map (time_row_html tick_us reach) times.now) }
+{
+    let mut made = Html::new(alloc);
+    for time in times {
+        made = made.and(&time_row(alloc, tick_us, reach, time)?)?;
+    }
+    Ok(made)
+}
+
+#[tactic(auto, unfolding(crate::specs::Times::time_row_html))]
+fn time_row(alloc: Global, tick_us: u32, reach: u32, time: &Time) -> Result<Html, AllocError>
+    requires { 1 ≤ reach }
+    ensures { IfOk result (λ html. html.text.items ≡ time_row_html tick_us reach time.now) }
+{
+    let cells = time_cells(alloc, tick_us, time)?.and(&bar_cell(alloc, tick_us, reach, time)?)?;
+    plain(alloc, Tag::Row, &cells)
+}
+
+#[tactic(auto, unfolding(crate::specs::Times::time_cells_html))]
+fn time_cells(alloc: Global, tick_us: u32, time: &Time) -> Result<Html, AllocError>
+    ensures { IfOk result (λ html. html.text.items ≡ time_cells_html tick_us time.now) }
+{
+    let name = words_in(alloc, Tag::Code, time.name.as_slice())?;
+    let declared = interval_words(alloc, tick_us, time.low, time.high)?;
+    head_cell(alloc, b"row", &name)?
+        .and(&number_cell(alloc, b"declared", declared.as_slice())?)?
+        .and(&slack_cell(alloc, tick_us, b"to spare below", &time.below)?)?
+        .and(&slack_cell(alloc, tick_us, b"to spare above", &time.above)?)
+}
+
+#[tactic(auto, unfolding(crate::specs::Times::bar_cell_html))]
+fn bar_cell(alloc: Global, tick_us: u32, reach: u32, time: &Time) -> Result<Html, AllocError>
+    requires { 1 ≤ reach }
+    ensures { IfOk result (λ html. html.text.items ≡ bar_cell_html tick_us reach time.now) }
+{
+    let of = bar(alloc, tick_us, reach, time)?;
+    let drawn = drawing(alloc, &of)?;
+    bare_cell(alloc, b"bar", &drawn)
+}
+
+#[tactic(auto, unfolding(crate::specs::Times::slack_cell_html))]
+fn slack_cell(alloc: Global, tick_us: u32, label: &[u8], of: &Slack) -> Result<Html, AllocError>
+    ensures { IfOk result (λ html. html.text.items
+        ≡ slack_cell_html tick_us label.now of.now) }
+{
+    let inside = slack(alloc, tick_us, of)?;
+    cell(alloc, b"number", label, &inside)
+}
+
+// How far an end can move, and what is lost first beyond.
+fn slack(alloc: Global, tick_us: u32, slack: &Slack) -> Result<Html, AllocError>
+    ensures { IfOk result (λ html. html.text.items ≡ slack_html tick_us slack.now) }
+{
+    match &slack.lost {
+        Some(lost) => bounded(alloc, tick_us, slack.ticks, lost.as_slice()),
+        None => Html::words(alloc, b"any"),
+    }
+}
+
+#[tactic(auto, unfolding(crate::specs::Times::lost_html))]
+fn bounded(alloc: Global, tick_us: u32, ticks: u32, lost: &[u8]) -> Result<Html, AllocError>
+    ensures { IfOk result (λ html. html.text.items ≡ lost_html tick_us ticks lost.now) }
+{
+    let spare = time_words(alloc, tick_us, ticks)?;
+    Html::words(alloc, spare.as_slice())?.and(&said_in(alloc, Tag::Span, b"lost", lost)?)
+}

@@ -1,0 +1,4 @@
+mod Order
+mod Played
+mod Weights
+mod Tries

@@ -1,0 +1,4 @@
+pub mod Failing
+pub mod Cuts
+pub mod Obligations
+pub mod Rounds
