@@ -1,0 +1,6 @@
+pub mod Folder
+pub mod Running
+pub mod Recorders
+pub mod Answering
+pub mod Closing
+pub mod Maps

@@ -1,0 +1,10 @@
+use Rattle.call_records.proofs.refusal.gap_refused.Goals as goal
+
+pub returns : goal.returns
+returns c =
+    rw (
+      c.as_bytes-from.ensures.value,
+      c.format.ensures.text,
+      c.as_bytes-to.ensures.value,
+      c.format-2.ensures.text,
+    ) at c.refused.ensures

@@ -1,0 +1,99 @@
+-- The course of a call: one file is read after another, and what one says names those behind it.
+use Rattle.std.specs.Prelude.{◌++◌, ◌∷◌, ℕ, List, [], Option, None, Some, Result, Ok, Err, codes}
+use Rattle.model_line.specs.declared.line.Line.{Line}
+use Rattle.file_line.specs.{LineFiles.line_of, Lines.LineValues, declared.fault.LineFault.LineFault}
+use Rattle.file_map.specs.{DataNames.data_name, Maps.MapValues, Maps.map_of, Recorders.RecorderValues}
+use Rattle.file_map.specs.declared.{fault.MapFault.MapFault, source.Signal.Signal}
+use Rattle.file_tracks.specs.{Told.first_untold, Tracks.BytesValues}
+use Rattle.call_records.specs.{Beside.beside, Request.Request, declared.ask.Work.Work}
+use Rattle.call_records.specs.declared.ask.Work.TheVariants as work
+use Rattle.call_records.specs.Faults.{line_refusal, map_refusal, untold_refusal}
+
+-- A file: how messages tell it, its name in the store, and the most bytes that it may have.
+pub record NamedFile : Type 0 where
+  pub told : List ℕ
+  pub name : List ℕ
+  pub limit : ℕ
+
+-- The files of a recorder, with their names.
+pub record RecorderFiles : Type 0 where
+  pub config_name : List ℕ
+  pub config : List ℕ
+  pub data_name : List ℕ
+  pub samples : List ℕ
+
+abbrev pub bytes_in : RecorderFiles → BytesValues
+bytes_in f = record { config = f.config; samples = f.samples }
+
+-- what comes next: a file is refused with this line; the work is done over all that was read; a file
+-- is read, and what comes then depends on its bytes; or a line with these values is made
+pub data Course : Type 0 where
+  refused : List ℕ → Course
+  over : Work → Line → MapValues → List RecorderFiles → Course
+  reads : NamedFile → (List ℕ → Course) → Course
+  makes : LineValues → (Line → Course) → Course
+
+-- ---- the files of recorders
+
+abbrev pub config_file : List ℕ → NamedFile
+config_file name = record { told = name; name = name; limit = 1048576 }
+
+abbrev pub data_file : List ℕ → NamedFile
+data_file name = record { told = name; name = name; limit = 67108864 }
+
+abbrev pub files_with : List ℕ → List ℕ → List ℕ → List ℕ → RecorderFiles
+files_with config_name config data_name samples =
+    record { config_name = config_name; config = config; data_name = data_name; samples = samples }
+
+-- the configuration of a recorder and its data, which lie beside the map
+abbrev pub recorder_course : List ℕ → RecorderValues → (RecorderFiles → Course) → Course
+recorder_course map_name r next =
+    reads (config_file (beside map_name r.config))
+    (λ config. reads (data_file (beside map_name (data_name r.config)))
+    (λ samples. next (files_with (beside map_name r.config) config
+    (beside map_name (data_name r.config)) samples)))
+
+-- those of all recorders, behind those that are there
+abbrev pub recorders_course : List ℕ → List RecorderValues → List RecorderFiles
+    → (List RecorderFiles → Course) → Course
+recorders_course map_name [] done next = next done
+recorders_course map_name (r ∷ rs) done next =
+    recorder_course map_name r (λ files. recorders_course map_name rs (done ++ files ∷ []) next)
+
+-- ---- the whole call
+
+-- a record needs each key and trip
+abbrev pub untold_by : Work → Line → MapValues → Option Signal
+untold_by work.Scripts line map = None
+untold_by work.Show line map = None
+untold_by work.Record line map = first_untold line map.recorders
+
+abbrev pub unless_untold : Option Signal → Line → Course → Course
+unless_untold None line next = next
+unless_untold (Some signal) line next = refused (untold_refusal line signal)
+
+abbrev pub with_map : Work → List ℕ → Line → MapValues → Course
+with_map asked map_name line map =
+    unless_untold (untold_by asked line map) line
+    (recorders_course map_name map.recorders [] (over asked line map))
+
+abbrev pub after_map : Work → List ℕ → Line → Result MapValues MapFault → Course
+after_map asked map_name line (Ok map) = with_map asked map_name line map
+after_map asked map_name line (Err why) = refused (map_refusal why)
+
+abbrev pub map_file : List ℕ → NamedFile
+map_file name = record { told = codes "map"; name = name; limit = 1048576 }
+
+abbrev pub with_line : Work → List ℕ → Line → Course
+with_line asked map_name line =
+    reads (map_file map_name) (λ bytes. after_map asked map_name line (map_of line bytes))
+
+abbrev pub after_line : Work → List ℕ → Result LineValues LineFault → Course
+after_line asked map_name (Ok values) = makes values (with_line asked map_name)
+after_line asked map_name (Err why) = refused (line_refusal why)
+
+abbrev pub line_file : List ℕ → NamedFile
+line_file name = record { told = codes "line"; name = name; limit = 1048576 }
+
+abbrev pub course_of : Request → Course
+course_of r = reads (line_file r.line) (λ bytes. after_line r.work r.map (line_of bytes))

@@ -1,0 +1,10 @@
+pub mod Beside
+pub mod Halts
+pub mod Request
+pub mod Faults
+pub mod Course
+pub mod Answers
+pub mod Files
+pub mod Read
+pub mod Ends
+pub mod Clauses

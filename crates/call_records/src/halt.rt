@@ -1,0 +1,120 @@
+//! Why what is asked for is not done.
+
+ghost use Rattle.std.specs.Prelude.{◌≡◌};
+ghost use Rattle.call_commands.specs.Sinks.{Puts, sink_view};
+ghost use Rattle.call_records.specs.Halts.{halt_line, status_of as end_status};
+ghost use Rattle.call_records.specs.declared.halt.Halt.TheVariants as halt_of;
+
+use base_store::{PutFailed, Sink};
+use call_commands::put_pieces;
+use model_line::Memory;
+use std::alloc::{AllocError, AllocFailed};
+
+/// A file that is read.
+#[derive(Debug, Drop)]
+pub enum File {
+    Line,
+    Map,
+    /// A configuration, or data, by its name in the store.
+    Recorder(Vec<u8>),
+}
+
+/// Why it is not done.
+#[derive(Debug, Drop)]
+pub enum Halt {
+    /// A file is too long, or says something that is refused: the line that tells it,
+    /// `refused record: FILE: WHAT`.
+    Refused(Vec<u8>),
+    /// The file could not be read.
+    Store(File),
+    /// The text could not be written.
+    Sink,
+    /// Memory ran out.
+    Memory,
+}
+
+impl File {
+    ghost use Rattle.call_records.specs.Halts.{told_of};
+
+    /// How messages tell it: `line`, `map`, or its name.
+    pub fn told(&self) -> &[u8]
+        ensures { result.now ≡ told_of self.now }
+    {
+        match self {
+            File::Line => b"line",
+            File::Map => b"map",
+            File::Recorder(name) => name.as_slice(),
+        }
+    }
+}
+
+impl Halt {
+    ghost use Rattle.call_records.specs.Halts.{halt_status};
+
+    /// The exit status, 5 to 8.
+    pub fn status(&self) -> u8
+        ensures { result ≡ halt_status self.now }
+    {
+        match self {
+            Halt::Refused(_) => 5,
+            Halt::Store(_) => 6,
+            Halt::Sink => 7,
+            Halt::Memory => 8,
+        }
+    }
+}
+
+/// The exit status of a call that ended so: 0 where it is done.
+pub fn status_of(end: &Result<(), Halt>) -> u8
+    ensures { result ≡ end_status end.now }
+{
+    match end {
+        Ok(_) => 0,
+        Err(halt) => halt.status(),
+    }
+}
+
+/// Pushes the line that says it.
+pub fn put_halt<K: Sink>(sink: &mut K, halt: &Halt) -> Result<(), PutFailed>
+    ensures { Puts (sink_view K.written K.faults sink.old) (sink_view K.written K.faults sink.new)
+        (halt_line halt.now) result }
+{
+    match halt {
+        Halt::Refused(line) => put_pieces(sink, &[line.as_slice()]),
+        Halt::Store(file) => put_pieces(sink, &[b"store fault ", file.told(), b"\n"]),
+        Halt::Sink => put_pieces(sink, &[b"sink fault\n"]),
+        Halt::Memory => put_pieces(sink, &[b"no memory\n"]),
+    }
+}
+
+impl From<Memory> for Halt {
+    ghost from_gives = { λ _ halt. halt ≡ halt_of.Memory };
+
+    fn from(_: Memory) -> Self {
+        Halt::Memory
+    }
+}
+
+impl From<AllocError> for Halt {
+    ghost from_gives = { λ _ halt. halt ≡ halt_of.Memory };
+
+    fn from(_: AllocError) -> Self {
+        Halt::Memory
+    }
+}
+
+impl<T: Drop> From<AllocFailed<T>> for Halt {
+    ghost from_gives = { λ _ halt. halt ≡ halt_of.Memory };
+
+    fn from(_: AllocFailed<T>) -> Self {
+        Halt::Memory
+    }
+}
+
+impl From<PutFailed> for Halt {
+    ghost from_gives = { λ _ halt. halt ≡ halt_of.Sink };
+
+    fn from(_: PutFailed) -> Self {
+        Halt::Sink
+    }
+}

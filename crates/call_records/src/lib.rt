@@ -1,0 +1,19 @@
+//! The call over the records of relays: from a line file and a map to a script or a record for
+//! `pilot`, or to a table of what the map names.
+//!
+//! `specs/Course.antt` says which files are read after which, `specs/Answers.antt` what is answered,
+//! and `specs/Clauses.antt` what is promised of the whole call.
+#![tactic(auto)]
+
+mod answer;
+mod ask;
+mod beside;
+mod fetch;
+mod halt;
+mod read;
+mod refusal;
+mod top;
+
+pub use ask::{Ask, Work};
+pub use halt::{File, Halt, status_of};
+pub use top::records;

@@ -1,0 +1,131 @@
+//! The call.
+
+ghost use Rattle.std.specs.Prelude.{[], ◌≡◌, ◌≤◌, IsTrue, length};
+ghost use Rattle.model_line.specs.{Fits.deadline_fits, PlainNames.is_plain_name};
+ghost use Rattle.file_map.specs.Maps.{map_values};
+ghost use Rattle.call_commands.specs.Sinks.{sink_view};
+ghost use Rattle.call_records.specs.{Clauses.Clauses, Ends.EndsOf, Request.request_of};
+ghost use Rattle.call_records.specs.Course.{course_of, over, recorders_course, untold_by, with_line};
+ghost use Rattle.call_records.specs.{Files.Runs, Read.text_seen};
+ghost use Rattle.call_records.specs.Halts.{IsDone, IsEarly};
+
+use crate::answer::answer;
+use crate::ask::{Ask, Work};
+use crate::fetch::{SMALL, fetch_file, fetch_recorders};
+use crate::halt::{File, Halt, put_halt};
+use crate::read::{read_line, read_map};
+use crate::refusal::untold_halt;
+use base_store::{Sink, Store, put_all};
+use file_map::{Map, Signal};
+use file_tracks::first_untold;
+use model_line::Line;
+use std::alloc::Global;
+
+/// Makes of records what is asked for, over the store, with its text on `out` and, where there is
+/// none, one line on `err`.
+///
+/// The line file is read first, then the map, and then each recorder's configuration and data, in
+/// the order of the map; their names are taken from the folder of the map.
+pub fn records<S: Store, O: Sink, E: Sink>(
+    alloc: Global,
+    ask: &Ask<'_>,
+    store: &mut S,
+    out: &mut O,
+    err: &mut E,
+) -> Result<(), Halt>
+    ensures clauses { Clauses (record {
+      request = request_of ask.now;
+      files = S.held store.old;
+      faults_old = S.faults store.old;
+      faults_new = S.faults store.new;
+      out_old = sink_view O.written O.faults out.old;
+      out_new = sink_view O.written O.faults out.new;
+      err_old = sink_view E.written E.faults err.old;
+      err_new = sink_view E.written E.faults err.new;
+    }) result }
+
+    // Out is as it was where it is not done for another cause than out itself, also where a sink
+    // tells nothing; err is where it is done.
+    ensures unwritten { IsEarly result → out.new ≡ out.old }
+    ensures quiet { IsDone result → err.new ≡ err.old }
+{
+    match written(alloc, ask, store, out) {
+        Ok(()) => Ok(()),
+        Err(halt) => {
+            let _ = put_halt(err, &halt);
+            Err(halt)
+        }
+    }
+}
+
+// All of the call but the line to err.
+fn written<S: Store, O: Sink>(
+    alloc: Global,
+    ask: &Ask<'_>,
+    store: &mut S,
+    out: &mut O,
+) -> Result<(), Halt>
+    ensures { EndsOf (sink_view O.written O.faults) (S.held store.old) (S.faults store.old)
+        (S.faults store.new) (course_of (request_of ask.now)) out.old out.new result }
+{
+    let text = text_of(alloc, ask, store)?;
+    put_all(out, text.as_slice())?;
+    Ok(())
+}
+
+// The text.
+fn text_of<S: Store>(alloc: Global, ask: &Ask<'_>, store: &mut S) -> Result<Vec<u8>, Halt>
+    ensures { Runs (S.held store.old) (S.faults store.old) (S.faults store.new)
+        (course_of (request_of ask.now)) (text_seen result) }
+{
+    let bytes = fetch_file(alloc, store, File::Line, ask.line, SMALL)?;
+    let line = read_line(alloc, bytes.as_slice())?;
+    text_for_line(alloc, ask, &line, store)
+}
+
+// The text, once the line is read.
+fn text_for_line<S: Store>(
+    alloc: Global,
+    ask: &Ask<'_>,
+    line: &Line,
+    store: &mut S,
+) -> Result<Vec<u8>, Halt>
+    ensures { Runs (S.held store.old) (S.faults store.old) (S.faults store.new)
+        (with_line ask.now.work ask.now.map.now line.now) (text_seen result) }
+{
+    let bytes = fetch_file(alloc, store, File::Map, ask.map, SMALL)?;
+    let map = read_map(alloc, line, bytes.as_slice())?;
+    match untold(ask.work, line, &map) {
+        Some(signal) => Err(untold_halt(alloc, line, signal)),
+        None => text_for_map(alloc, ask, line, &map, store),
+    }
+}
+
+// The first key or trip that a record lacks.
+fn untold(work: Work, line: &Line, map: &Map) -> Option<Signal>
+    ensures { result ≡ untold_by work line.now (map_values map.now) }
+{
+    match work {
+        Work::Scripts | Work::Show => None,
+        Work::Record => first_untold(line, map.recorders.as_slice()),
+    }
+}
+
+// The text, once the map is read.
+fn text_for_map<S: Store>(
+    alloc: Global,
+    ask: &Ask<'_>,
+    line: &Line,
+    map: &Map,
+    store: &mut S,
+) -> Result<Vec<u8>, Halt>
+    requires few { length map.now.recorders.items ≤ 8 }
+    requires plain { IsTrue (is_plain_name map.now.script) }
+    requires deadline { IsTrue (deadline_fits line.now.horizon map.now.kind map.now.deadline) }
+    ensures { Runs (S.held store.old) (S.faults store.old) (S.faults store.new)
+        (recorders_course ask.now.map.now (map_values map.now).recorders []
+        (over ask.now.work line.now (map_values map.now))) (text_seen result) }
+{
+    let files = fetch_recorders(alloc, store, ask.map, map.recorders.as_slice())?;
+    answer(alloc, ask.work, line, map, files.as_slice())
+}

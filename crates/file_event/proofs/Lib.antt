@@ -1,0 +1,2 @@
+pub mod TrackLevels
+pub mod SameData

@@ -1,0 +1,10 @@
+use Rattle.std.proofs.Common.{◌≡◌, ◌++◌, map}
+use Rattle.file_script.specs.Printed.{records_text}
+use Rattle.file_tracks.specs.{Below.below, Tracks.track_values}
+use Rattle.file_recorded.specs.Changes.{terminal_changes}
+use Rattle.file_recorded.proofs.changes.push_tick.Given as goal
+
+abbrev pub invariant-loop-k : goal.invariant-loop-k
+invariant-loop-k l =
+    l.text.items ≡ l.initial.text.items ++ records_text
+    (below l.k (terminal_changes l.script l.line (map track_values l.tracks) l.t))

@@ -1,0 +1,14 @@
+use Rattle.std.proofs.Common.{◌∷◌, [], map}
+use Rattle.judge_match.specs.Row.{header_record}
+use Rattle.file_script.specs.Printed.{records_text}
+use Rattle.file_tracks.specs.Tracks.{track_values}
+use Rattle.file_recorded.specs.Changes.{head_record, tick_changes}
+use Rattle.file_recorded.proofs.Items.{rows_more}
+use Rattle.file_recorded.proofs.changes.record_text.Goals as goal
+
+pub loop-t-preserved : goal.loop-t-preserved
+loop-t-preserved c =
+    rows_more (records_text (header_record ∷ head_record c.args.script.now ∷ []))
+    c.loop-t.text.items c.push_tick.new.text.items
+    (tick_changes c.args.script.now c.args.line.now (map track_values c.args.tracks.now))
+    c.loop-t.t c.loop-t.invariant c.in_ok-push_tick.ensures
