@@ -1,0 +1,4 @@
+pub mod Picked
+pub mod Table
+pub mod Explain
+pub mod Words

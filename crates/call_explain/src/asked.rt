@@ -1,0 +1,29 @@
+//! What is asked.
+
+use model_line::{Line, Script};
+use net_gates::Net;
+
+/// In which form a timing is told that explains a record.
+#[derive(Clone, Copy, Debug, PartialEq, Eq)]
+pub enum ExplainForm {
+    /// A table with a record for each change.
+    Changes,
+    /// A timings file with the timing, under the name `explained`.
+    Timings,
+}
+
+/// A line with its net and scripts, and the bytes of a record file.
+#[derive(Clone, Copy)]
+pub struct Asked<'a> {
+    pub line: &'a Line,
+    pub net: &'a Net,
+    pub scripts: &'a [Script],
+    pub record: &'a [u8],
+    /// The number of the script whose record is asked about, if one is named.
+    pub script: Option<u32>,
+    /// How many ticks apart a change and its play may be.
+    pub within: u32,
+    /// After so many analyses of boxes and timings it is left open.
+    pub analyses: u32,
+    pub form: ExplainForm,
+}

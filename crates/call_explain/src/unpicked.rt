@@ -1,0 +1,10 @@
+//! Why no record of a file is picked.
+
+/// Why no record of a file is picked.
+#[derive(Clone, Copy, Debug, PartialEq, Eq)]
+pub enum Unpicked {
+    /// There are several records, and no script is named.
+    Several,
+    /// No record is of the script that is named.
+    Missing,
+}
