@@ -3,3 +3,6 @@ pub mod Closing
 pub mod Reading
 pub mod Fetching
 pub mod Loading
+pub mod Mapping
+pub mod Explaining
+pub mod Unplaced

@@ -1,5 +1,5 @@
 -- What is told of a source that is refused.
-use Rattle.std.proofs.Common.{◌≡◌, ◌<◌, ◌∷◌, ℕ, List, [], Result, Ok, Err, refl, ap, inr, map, subst}
+use Rattle.std.proofs.Common.{◌≡◌, ◌<◌, ◌∷◌, ℕ, List, [], Ok, Err, refl, ap, inr, map, subst}
 use Rattle.std.proofs.lemmas.List.{length-map}
 use Rattle.model_line.specs.declared.script.Script.{Script}
 use Rattle.file_script.specs.{SoFar.AreOnce, Values.AreOfOneFile, Values.values_of}

@@ -1,6 +1,6 @@
 -- What holds of what was read, and of what is chosen of it.
 use Rattle.std.proofs.Common.{◌≡◌, ◌∷◌, ◌<◌, ℕ, suc, zero, List, [], length, map, Option, None, Some}
-use Rattle.std.proofs.Common.{Result, Ok, Err, refl, subst, sym, ap, slice_get, arith, inl, inr, ⊎_elim}
+use Rattle.std.proofs.Common.{Result, Ok, Err, refl, subst, sym, slice_get, arith, inl, inr, ⊎_elim}
 use Rattle.std.specs.List.{All}
 use Rattle.model_line.specs.{declared.line.Line.Line, declared.script.Script.Script}
 use Rattle.file_line.specs.{LineFiles.line_of, Lines.LineValues}
@@ -24,7 +24,7 @@ use Rattle.call_pilot.specs.declared.stop.Stop.TheVariants as stop
 use Rattle.call_study.specs.{Answers.Answers, Ends.Gives, Halts.End}
 use Rattle.call_study.specs.{Reading.of_place, declared.halt.Halt.Halt}
 use Rattle.call_study.specs.Loaded.{IsLoaded, IsWhy, Loads, Say, given_of, studied}
-use Rattle.call_study.specs.Studied.{Studied, of_values, refused_by}
+use Rattle.call_study.specs.Studied.{Studied, of_values, refused_by, untitled}
 use Rattle.call_study.specs.declared.halt.Halt.TheVariants as halt
 use Rattle.call_study.specs.declared.load.Bytes.{Bytes}
 use Rattle.call_study.specs.declared.load.Bytes.TheVariants as bytes
@@ -43,7 +43,7 @@ given_read (bytes.Files line scripts) l halted holds is said h =
       l.study.line,
       refl,
       rw said.0.scripts_are
-          (l.study.scripts.items, refl, is.fit, (l.groups.items, said.1, h)),
+          (l.study.scripts.items, refl, is.fit, (l.groups.items, said.1, rw said.2 at h)),
     )
 given_read (bytes.Study study) l halted holds is said h =
     rw said.1 (inl (studied l, said.2, h))
@@ -127,7 +127,7 @@ pub given_refused : (from : Bytes) (why : Halt) (halted : Halt → Type 0) (hold
 given_refused (bytes.Files line scripts) why halted holds first r =
     study_wider line.items scripts.items (λ w. refused_by w ≡ why) (λ w. halted (refused_by w))
     (λ l s. HasGroups s (λ groups. ⊥))
-    (λ l s. HasGroups s (λ groups. holds (record { line = l; scripts = s; groups = groups })))
+    (λ l s. HasGroups s (λ groups. holds (record { title = untitled; line = l; scripts = s; groups = groups })))
     (λ w is. subst halted (sym is) r) (λ l s bad. absurd bad.2) first
 given_refused (bytes.Study study) why halted holds first r =
     values_refused (study_of study.items) why halted holds first r

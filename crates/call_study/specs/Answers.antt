@@ -1,20 +1,24 @@
 -- What a call may answer: how it ends, which fixes its status and its line to err, and its text on
 -- out.
 use Rattle.std.specs.Prelude.{◌≡◌, ℕ, List, [], Option, Result, Ok, Err, map}
+use Rattle.file_event.specs.{Config.config_text, Map.map_text}
 use Rattle.file_line.specs.{LineFiles.line_of, Lines.line_values}
 use Rattle.file_script.specs.Values.{values_of}
 use Rattle.file_sweeps.specs.Parts.{SaysScripts, part}
 use Rattle.call_commands.specs.Answers as commands
 use Rattle.call_commands.specs.Answers.{prints}
+use Rattle.call_explain.specs.Explain.{explain_answer}
+use Rattle.call_map.specs.Answers.{map_answer}
+use Rattle.call_page.specs.Pages.{page_answer}
 use Rattle.call_tables.specs.{Margins.margins_answer, Recheck.recheck_answer}
 use Rattle.call_tables.specs.Settled.{settle_answer}
-use Rattle.call_verdicts.specs.Verdicts.{verdicts_answer}
+use Rattle.call_verdicts.specs.{Faults.faults_answer, Verdicts.verdicts_answer}
 use Rattle.call_study.specs.{Linted.lint_answer, Settled.failing_answer, Settled.trees_answer}
 use Rattle.call_study.specs.declared.ask.Table.TheVariants as table
 use Rattle.call_pilot.specs.{Files.contents, declared.stop.File.File}
 use Rattle.call_study.specs.{Halts.End, declared.halt.Halt.Halt}
 use Rattle.call_study.specs.declared.ask.Form.TheVariants as form
-use Rattle.call_study.specs.Pictures.{IsBandsText, IsDumpText, IsRunText}
+use Rattle.call_study.specs.Pictures.{IsBandsText, IsDataText, IsDumpText, IsRunText}
 use Rattle.call_study.specs.Reading as reading
 use Rattle.call_study.specs.Reading.{Reading, Wanted, over_files}
 use Rattle.call_study.specs.Request.{Request, files_of}
@@ -32,17 +36,28 @@ answer_of (reading.bands which line script) = prints (IsBandsText line script wh
 answer_of (reading.play (form.Diagram which) line script timing) =
     prints (IsRunText line script timing which)
 answer_of (reading.play form.Dump line script timing) = prints (IsDumpText line script timing)
+answer_of (reading.play form.Config line script timing) =
+    prints (λ text. text ≡ config_text line script.name)
+answer_of (reading.play form.Data line script timing) = prints (IsDataText line script timing)
+answer_of (reading.play (form.Map name) line script timing) =
+    prints (λ text. text ≡ map_text line script name.now)
 answer_of (reading.table (table.Settled analyses) of) = settle_answer of.line of.scripts
 answer_of (reading.table (table.Trees analyses) of) = trees_answer of.line of.scripts
 answer_of (reading.table table.Margins of) = margins_answer of.line of.scripts
 answer_of (reading.table (table.Verdicts analyses) of) =
     verdicts_answer of.line of.scripts of.groups
+answer_of (reading.table (table.Faults analyses) of) =
+    faults_answer of.line of.scripts of.groups
 answer_of (reading.table table.Line of) = prints (λ text. line_of text ≡ Ok (line_values of.line))
 answer_of (reading.table (table.Part n) of) =
     prints (SaysScripts of.line (map values_of (part n of.scripts)))
 answer_of (reading.timings line script) = failing_answer line script
 answer_of (reading.recheck of trees) = recheck_answer of.line of.scripts trees
 answer_of (reading.lint from) = lint_answer from
+answer_of (reading.explain within form which line scripts record_bytes) =
+    explain_answer line scripts record_bytes which within form
+answer_of (reading.map form x y both of) = map_answer of.line of.scripts form x y both
+answer_of (reading.page of) = page_answer of.line of.scripts of.groups of.title
 
 -- it is done
 abbrev pub does : Wanted → Answers

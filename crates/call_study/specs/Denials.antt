@@ -1,16 +1,17 @@
 -- What the files and the words alone deny: the exit status, and the line that says it.
-use Rattle.std.specs.Prelude.{◌∷◌, ◌++◌, ℕ, List, [], Option, None, Some, codes, decimal}
+use Rattle.std.specs.Prelude.{◌∷◌, ◌++◌, ℕ, List, [], Option, None, Some, codes}
 use Rattle.std.specs.List.{concat}
+use Rattle.call_explain.specs.declared.unpicked.Unpicked.{Unpicked}
+use Rattle.call_explain.specs.declared.unpicked.Unpicked.TheVariants as unpicked
+use Rattle.call_map.specs.Denials.{map_denial_pieces, map_denial_status}
 use Rattle.file_study.specs.FaultWords.{place_of, words_of}
 use Rattle.file_study.specs.declared.fault.StudyFault.{StudyFault}
-use Rattle.file_sweeps.specs.declared.fault.SweepFault.{SweepFault}
-use Rattle.file_sweeps.specs.declared.fault.SweepFault.TheVariants as sweep
+use Rattle.file_sweeps.specs.SweepWords as sweeps
 use Rattle.file_sweeps.specs.declared.study_fault.StudySweepFault.{StudySweepFault}
-use Rattle.file_sweeps.specs.declared.study_fault.StudySweepFault.TheVariants as scripts
 use Rattle.call_study.specs.declared.denial.Denial.{Denial}
 use Rattle.call_study.specs.declared.denial.Denial.TheVariants as denial
 
--- 5 where a file is refused, 9 where a name is unknown
+-- 4 where the words of a map ask for none, 5 where a file is refused, 9 where a name is unknown
 abbrev pub denial_status : Denial → ℕ
 denial_status (denial.Study why) = 5
 denial_status (denial.Scripts why) = 5
@@ -18,6 +19,8 @@ denial_status denial.TooManyScripts = 5
 denial_status denial.UnknownScript = 9
 denial_status denial.UnknownTiming = 9
 denial_status denial.UnknownPart = 9
+denial_status (denial.Record why) = 9
+denial_status (denial.Map why) = map_denial_status why
 
 -- the place of a fault, where it has one, and what is wrong there
 abbrev pub place_pieces : Option (List ℕ) → List ℕ → List (List ℕ)
@@ -29,29 +32,13 @@ abbrev pub study_pieces : StudyFault → List (List ℕ)
 study_pieces why = place_pieces (place_of why) (words_of why)
 
 -- what is wrong with a fault that comes to no scripts
-abbrev pub reason_pieces : SweepFault → List (List ℕ)
-reason_pieces sweep.TooMany = codes "more than 4096 scripts" ∷ [] ∷ [] ∷ []
-reason_pieces (sweep.BadName k) = codes "the name of a script is longer than 16 bytes" ∷ [] ∷ [] ∷ []
-reason_pieces (sweep.Horizon k ticks tick_us) =
-    codes "a longer horizon is needed: " ∷ decimal ticks ∷ codes " ticks" ∷ []
-reason_pieces (sweep.NoFit k) = codes "a script has more than 200 spans" ∷ [] ∷ [] ∷ []
-reason_pieces sweep.Memory = codes "no memory" ∷ [] ∷ [] ∷ []
-
--- with the number of the fault, and its name
-abbrev pub line_pieces : List ℕ → List ℕ → List (List ℕ) → List (List ℕ)
-line_pieces i name reason =
-    codes "refused study: fault[" ∷ i ∷ codes "] " ∷ name ∷ codes ": "
-    ∷ (reason ++ codes "\n" ∷ [])
-
-abbrev pub fault_pieces : ℕ → List ℕ → SweepFault → List (List ℕ)
-fault_pieces i name why = line_pieces (decimal i) name (reason_pieces why)
-
 abbrev pub scripts_pieces : StudySweepFault → List (List ℕ)
-scripts_pieces (scripts.Refused i name why) = fault_pieces i name why
-scripts_pieces (scripts.Twice i name k) =
-    codes "refused study: fault[" ∷ decimal i ∷ codes "]: another script has the name " ∷ name
-    ∷ codes "\n" ∷ []
-scripts_pieces scripts.Memory = codes "no memory\n" ∷ []
+scripts_pieces why = codes "refused study: " ∷ (sweeps.study_pieces why ++ codes "\n" ∷ [])
+
+-- why no record is the one that is asked about
+abbrev pub unpicked_pieces : Unpicked → List (List ℕ)
+unpicked_pieces unpicked.Several = codes "several records: name a script\n" ∷ []
+unpicked_pieces unpicked.Missing = codes "no record of that script\n" ∷ []
 
 -- the pieces of its line
 abbrev pub denial_pieces : Denial → List (List ℕ)
@@ -61,6 +48,8 @@ denial_pieces denial.TooManyScripts = codes "refused scripts TooMany\n" ∷ []
 denial_pieces denial.UnknownScript = codes "unknown script\n" ∷ []
 denial_pieces denial.UnknownTiming = codes "unknown timing\n" ∷ []
 denial_pieces denial.UnknownPart = codes "unknown part\n" ∷ []
+denial_pieces (denial.Record why) = unpicked_pieces why
+denial_pieces (denial.Map why) = map_denial_pieces why
 
 abbrev pub denial_line : Denial → List ℕ
 denial_line why = concat (denial_pieces why)

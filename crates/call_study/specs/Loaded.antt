@@ -1,5 +1,5 @@
 -- What is read of a source.
-use Rattle.std.specs.Prelude.{◌≡◌, ⊤, ℕ, List, Result, Ok, Err, length, map}
+use Rattle.std.specs.Prelude.{◌≡◌, ⊤, ℕ, List, [], Result, Ok, Err, map, string_bytes}
 use Rattle.std.specs.List.{All}
 use Rattle.model_line.specs.Fits.{Fits}
 use Rattle.file_script.specs.SoFar.{AreOnce}
@@ -21,11 +21,12 @@ use Rattle.call_study.specs.declared.load.Bytes.TheVariants as bytes
 use Rattle.call_study.specs.declared.load.Loaded.{Loaded}
 use Rattle.call_study.specs.{Reading.given, Request.Source}
 use Rattle.call_study.specs.Request as request
-use Rattle.call_study.specs.Studied.{Given, IsOf, Studied}
+use Rattle.call_study.specs.Studied.{Given, IsOf, Studied, untitled}
 
 -- what it is asked about
 abbrev pub studied : Loaded → Studied
 studied l = record {
+  title = string_bytes l.title;
   line = l.study.line;
   scripts = l.study.scripts.items;
   groups = l.groups.items;
@@ -40,7 +41,9 @@ pub record IsLoaded (l : Loaded) : Type 0 where
 -- a line file and a scripts file say it
 abbrev pub FilesSay : List ℕ → List ℕ → Loaded → Type 0
 FilesSay line scripts l =
-    IsSaid line scripts l.study × (map group_values l.groups.items ≡ map single_group l.study.scripts.items)
+    IsSaid line scripts l.study
+    × (map group_values l.groups.items ≡ map single_group l.study.scripts.items)
+    × (string_bytes l.title ≡ untitled)
 
 -- a study file says it
 abbrev pub StudySays : List ℕ → Loaded → Type 0

@@ -22,6 +22,7 @@ use Rattle.draw_shapes.specs.Svg.{svg_of}
 use Rattle.draw_layout.specs.declared.subject.Subject.{Subject}
 use Rattle.draw_layout.specs.declared.subject.Subject.TheVariants as subject
 use Rattle.draw_layout.specs.Drawings.{drawing_of}
+use Rattle.file_event.specs.Data.{data_text}
 
 -- the text of a diagram
 abbrev pub text_of : Line → Script → Subject → Diagram → List ℕ
@@ -78,3 +79,10 @@ pub record IsDumpText (line : Line) (script : Script) (timing : NamedValues) (te
   pub of_line : IsNetOf line net
   pub printed : text ≡ dump_text timing.name script.name line net
       (gate_levels line script (timing_choice line timing.timing) history net)
+
+-- the text is the data of a record of the history at the choice of the timing
+pub record IsDataText (line : Line) (script : Script) (timing : NamedValues) (text : List ℕ)
+    : Type 0 where
+  pub history : History
+  pub is_history : IsLineHistory line script (timing_choice line timing.timing) history
+  pub printed : text ≡ data_text line script history

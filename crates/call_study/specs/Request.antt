@@ -4,6 +4,8 @@ use Rattle.std.specs.Option.{option_copied}
 use Rattle.call_pilot.specs.{Files.NamedFile, Words.named}
 use Rattle.call_pilot.specs.declared.stop.File.TheVariants as file
 use Rattle.draw_diagram.specs.declared.drawn.Rows.{Rows}
+use Rattle.call_explain.specs.declared.asked.ExplainForm.{ExplainForm}
+use Rattle.call_map.specs.declared.ask.MapForm.{MapForm}
 use Rattle.call_study.specs.declared.ask as asks
 use Rattle.call_study.specs.declared.ask.{Ask.Ask, Form.Form, Table.Table, Work.Work}
 use Rattle.call_study.specs.declared.ask.Source.TheVariants as source
@@ -15,7 +17,8 @@ pub data Source : Type 0 where
   study : List ℕ → Source
 
 -- a picture of every choice of delays, or of a play of a timing of a further file; a table; timings
--- that fail; whether the trees of a further file are accepted; or what is suspicious in the files
+-- that fail; whether the trees of a further file are accepted; what is suspicious in the files; what
+-- explains a record of a further file; a map, by the words of one axis or two; or the page
 pub data Asked : Type 0 where
   bands : Rows → Asked
   play : Form → List ℕ → Option (List ℕ) → Asked
@@ -23,8 +26,11 @@ pub data Asked : Type 0 where
   timings : ℕ → Asked
   recheck : List ℕ → Asked
   lint : Asked
+  explain : List ℕ → ℕ → ExplainForm → Asked
+  map : MapForm → List ℕ → Option (List ℕ) → Asked
+  page : Asked
 
--- a picture, and timings that fail, are of one script
+-- a picture, timings that fail and a record are of one script
 pub record Request : Type 0 where
   pub source : Source
   pub script : Option (List ℕ)
@@ -41,6 +47,9 @@ files_beside (table which) = []
 files_beside (timings analyses) = []
 files_beside (recheck trees) = named file.Trees trees ∷ []
 files_beside lint = []
+files_beside (explain name within form) = named file.Record name ∷ []
+files_beside (map form x y) = []
+files_beside page = []
 
 -- the files of a request in the order of its words
 abbrev pub files_of : Request → List NamedFile
@@ -58,6 +67,9 @@ asked_of (work.Table which) = table which
 asked_of (work.Timings analyses) = timings analyses
 asked_of (work.Recheck trees) = recheck trees.now
 asked_of work.Lint = lint
+asked_of (work.Explain name within analyses form) = explain name.now within form
+asked_of (work.Map ask) = map ask.form ask.x.now (option_copied ask.y)
+asked_of (work.Page analyses program kit) = page
 
 abbrev pub request_of : Ask → Request
 request_of ask = record {

@@ -1,5 +1,5 @@
 -- What a source says: a line and the scripts of its faults, or why it says none.
-use Rattle.std.specs.Prelude.{◌≡◌, ◌⊎◌, ℕ, Bool, true, false, IsTrue, List}
+use Rattle.std.specs.Prelude.{◌≡◌, ◌⊎◌, ℕ, Bool, true, false, IsTrue, List, codes}
 use Rattle.std.specs.Prelude.{Result, Ok, Err, map}
 use Rattle.model_line.specs.{declared.line.Line.Line, declared.script.Script.Script}
 use Rattle.file_line.specs.Lines.{line_values}
@@ -17,8 +17,9 @@ use Rattle.call_study.specs.declared.denial.Denial.TheVariants as denial
 use Rattle.call_study.specs.declared.halt.Halt.{Halt}
 use Rattle.call_study.specs.declared.halt.Halt.TheVariants as halt
 
--- A line, its scripts, and their groups, one for each fault.
+-- A title, a line, its scripts, and their groups, one for each fault.
 pub record Studied : Type 0 where
+  pub title : List ℕ
   pub line : Line
   pub scripts : List Script
   pub groups : List Group
@@ -31,16 +32,21 @@ Given = (Halt → Type 0) → (Studied → Type 0) → Type 0
 abbrev pub refused_by : Refusal → Halt
 refused_by why = halt.Stopped (stop.Refused why)
 
+-- the title of a line and scripts that have none of their own
+abbrev pub untitled : List ℕ
+untitled = codes "A line and its fault scripts"
+
 -- the bytes of a line file and a scripts file; each script is a fault of its own
 abbrev pub of_files : List ℕ → List ℕ → Given
 of_files line_bytes scripts_bytes halted holds =
     of_study line_bytes scripts_bytes (λ why. halted (refused_by why))
     (λ line scripts. (groups : List Group)
     × (map group_values groups ≡ map single_group scripts)
-    × holds (record { line = line; scripts = scripts; groups = groups }))
+    × holds (record { title = untitled; line = line; scripts = scripts; groups = groups }))
 
--- a line and faults that come to these scripts
+-- its title, its line and faults that come to these scripts
 pub record IsOf (values : StudyValues) (studied : Studied) : Type 0 where
+  pub title : studied.title ≡ values.title
   pub line : line_values studied.line ≡ values.line
   pub scripts : AreScriptsOf studied.line values.faults studied.scripts studied.groups
 

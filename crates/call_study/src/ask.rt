@@ -1,5 +1,7 @@
 //! What a study is asked for.
 
+use call_explain::ExplainForm;
+use call_map::MapAsk;
 use draw_diagram::Rows;
 
 /// Where a line and its scripts stand, by the names of files.
@@ -29,7 +31,7 @@ pub enum Work<'a> {
     },
     /// A picture of a play, that of a timing of a third file, of the first where none is named.
     Play {
-        form: Form,
+        form: Form<'a>,
         timings: &'a str,
         timing: Option<&'a str>,
     },
@@ -46,6 +48,24 @@ pub enum Work<'a> {
     },
     /// What is suspicious in the files of the source, or where and why one is refused.
     Lint,
+    /// Whether a timing inside explains a record of the field, which stands in a further file, each
+    /// change within so many ticks, with at most so many analyses. It is that of a script, or the
+    /// only one of the file.
+    Explain {
+        record: &'a str,
+        within: u32,
+        analyses: u32,
+        form: ExplainForm,
+    },
+    /// Over which numbers of one setting or two each obligation is held.
+    Map(MapAsk<'a>),
+    /// The page of the whole study, which says that this program made it, of a version that this kit
+    /// proved, with at most so many analyses for each obligation.
+    Page {
+        analyses: u32,
+        program: &'a [u8],
+        kit: &'a [u8],
+    },
 }
 
 /// Which table, or file.
@@ -60,15 +80,22 @@ pub enum Table {
     /// Whether each script of each fault is held at each terminal, in milliseconds, with at most so
     /// many analyses for each obligation.
     Verdicts { analyses: u32 },
+    /// How many scripts of each fault are held at each terminal, and where not, with at most so many
+    /// analyses for each obligation.
+    Faults { analyses: u32 },
     /// The line, as a line file.
     Line,
     /// The part of this number of its scripts, 64 a part, as a scripts file. The first is 1.
     Part(u32),
 }
 
-/// How a play is shown: as a timing diagram with these rows, or as a value change dump.
+/// How a play is shown: as a timing diagram with these rows, or as a value change dump; or the
+/// configuration, the data or the map of a record of it (COMTRADE), whose files go by this name.
 #[derive(Clone, Copy)]
-pub enum Form {
+pub enum Form<'a> {
     Diagram { rows: Rows },
     Dump,
+    Config,
+    Data,
+    Map { name: &'a str },
 }

@@ -1,13 +1,17 @@
 //! What the files and the words alone deny.
 
-ghost use Rattle.std.specs.Prelude.{[], ◌≡◌, ◌∷◌};
+ghost use Rattle.std.specs.Prelude.{[], ◌≡◌, ◌∷◌, ◌++◌, ℕ, codes, decimal};
 ghost use Rattle.std.specs.List.{concat};
 ghost use Rattle.call_commands.specs.Sinks.{Puts, sink_view};
-ghost use Rattle.call_study.specs.Denials.{denial_line, fault_pieces, line_pieces, scripts_pieces};
-ghost use Rattle.call_study.specs.Denials.{study_pieces};
+ghost use Rattle.call_study.specs.Denials.{denial_line, scripts_pieces, study_pieces};
+ghost use Rattle.call_study.specs.Denials.{unpicked_pieces};
+ghost use Rattle.file_sweeps.specs.SweepWords.{horizon_pieces};
+ghost use Rattle.file_sweeps.specs.declared.study_fault.StudySweepFault.TheVariants.{Refused};
 
 use base_store::{PutFailed, Sink};
 use call_commands::put_pieces;
+use call_explain::Unpicked;
+use call_map::{MapDenial, put_map_denial};
 use file_study::StudyFault;
 use file_sweeps::{StudySweepFault, SweepFault};
 use itoa::Buffer;
@@ -28,24 +32,33 @@ pub enum Denial {
     UnknownTiming,
     /// There is no such part of the scripts.
     UnknownPart,
+    /// No record of a file is the one that is asked about.
+    Record(Unpicked),
+    /// There is no such map.
+    Map(MapDenial),
 }
 
 impl Denial {
     ghost use Rattle.call_study.specs.Denials.{denial_status};
 
-    /// 5 where a file is refused, 9 where a name is unknown.
+    /// 4 where the words of a map ask for none, 5 where a file is refused, 9 where a name is unknown.
     pub fn status(&self) -> u8
         ensures { result ≡ denial_status self.now }
     {
         match self {
             Denial::Study(_) | Denial::Scripts(_) | Denial::TooManyScripts => 5,
-            Denial::UnknownScript | Denial::UnknownTiming | Denial::UnknownPart => 9,
+            Denial::UnknownScript
+            | Denial::UnknownTiming
+            | Denial::UnknownPart
+            | Denial::Record(_) => 9,
+            Denial::Map(why) => why.status(),
         }
     }
 }
 
 /// Pushes the line that says it: `refused study: PLACE: WHAT`, `refused scripts TooMany`,
-/// `unknown script`, `unknown timing`, `unknown part`.
+/// `unknown script`, `unknown timing`, `unknown part`, `several records: name a script`, `no record of
+/// that script`, `refused map: WHAT`.
 pub fn put_denial<K: Sink>(sink: &mut K, why: &Denial) -> Result<(), PutFailed>
     ensures { Puts (sink_view K.written K.faults sink.old) (sink_view K.written K.faults sink.new)
         (denial_line why.now) result }
@@ -57,6 +70,19 @@ pub fn put_denial<K: Sink>(sink: &mut K, why: &Denial) -> Result<(), PutFailed>
         Denial::UnknownScript => put_pieces(sink, &[b"unknown script\n"]),
         Denial::UnknownTiming => put_pieces(sink, &[b"unknown timing\n"]),
         Denial::UnknownPart => put_pieces(sink, &[b"unknown part\n"]),
+        Denial::Record(why) => put_unpicked(sink, *why),
+        Denial::Map(why) => put_map_denial(sink, why),
+    }
+}
+
+// Pushes why no record is the one that is asked about.
+fn put_unpicked<K: Sink>(sink: &mut K, why: Unpicked) -> Result<(), PutFailed>
+    ensures { Puts (sink_view K.written K.faults sink.old) (sink_view K.written K.faults sink.new)
+        (concat (unpicked_pieces why)) result }
+{
+    match why {
+        Unpicked::Several => put_pieces(sink, &[b"several records: name a script\n"]),
+        Unpicked::Missing => put_pieces(sink, &[b"no record of that script\n"]),
     }
 }
 
@@ -82,22 +108,35 @@ fn put_scripts<K: Sink>(sink: &mut K, fault: &StudySweepFault) -> Result<(), Put
 {
     match fault {
         StudySweepFault::Refused(i, name, why) => put_fault(sink, *i, name, why),
-        StudySweepFault::Twice(i, name, _) => {
-            let mut digits = Buffer::new();
-            let i = digits.format(*i).as_bytes();
-            put_pieces(
-                sink,
-                &[
-                    b"refused study: fault[",
-                    i,
-                    b"]: another script has the name ",
-                    name.bytes(),
-                    b"\n",
-                ],
-            )
-        }
-        StudySweepFault::Memory => put_pieces(sink, &[b"no memory\n"]),
+        StudySweepFault::Twice(i, name, _) => put_twice(sink, *i, name),
+        StudySweepFault::Memory => put_pieces(
+            sink,
+            &[b"refused study: ", b"memory ran out", b"\n"],
+        ),
     }
+}
+
+// Pushes that the name of a fault's script is that of an earlier one.
+fn put_twice<K: Sink>(sink: &mut K, i: usize, name: &Name) -> Result<(), PutFailed>
+    ensures { Puts (sink_view K.written K.faults sink.old) (sink_view K.written K.faults sink.new)
+        (concat (codes "refused study: " ∷ codes "fault[" ∷ decimal i
+        ∷ codes "]: another script has the name " ∷ name.now
+        ∷ codes ": write another name of one of the faults" ∷ codes "\n" ∷ [])) result }
+{
+    let mut digits = Buffer::new();
+    let i = digits.format(i).as_bytes();
+    put_pieces(
+        sink,
+        &[
+            b"refused study: ",
+            b"fault[",
+            i,
+            b"]: another script has the name ",
+            name.bytes(),
+            b": write another name of one of the faults",
+            b"\n",
+        ],
+    )
 }
 
 // Pushes why a fault comes to none.
@@ -108,55 +147,71 @@ fn put_fault<K: Sink>(
     why: &SweepFault,
 ) -> Result<(), PutFailed>
     ensures { Puts (sink_view K.written K.faults sink.old) (sink_view K.written K.faults sink.new)
-        (concat (fault_pieces i name.now why.now)) result }
+        (concat (scripts_pieces (Refused i name.now why.now))) result }
 {
     let mut digits = Buffer::new();
     let i = digits.format(i).as_bytes();
     let name = name.bytes();
-    match why {
-        SweepFault::TooMany => put_reason(sink, i, name, b"more than 4096 scripts", b"", b""),
-        SweepFault::BadName(_) => put_reason(
-            sink,
-            i,
-            name,
-            b"the name of a script is longer than 16 bytes",
-            b"",
-            b"",
-        ),
-        SweepFault::Horizon(_, ticks, _) => {
-            let mut more = Buffer::new();
-            let ticks = more.format(*ticks).as_bytes();
-            put_reason(
-                sink,
-                i,
-                name,
-                b"a longer horizon is needed: ",
-                ticks,
-                b" ticks",
-            )
-        }
-        SweepFault::NoFit(_) => {
-            put_reason(sink, i, name, b"a script has more than 200 spans", b"", b"")
-        }
-        SweepFault::Memory => put_reason(sink, i, name, b"no memory", b"", b""),
+    let words = why.words().as_bytes();
+    match why.place() {
+        Some(place) => put_script(sink, i, name, place, words, why.horizon_us()),
+        None => put_whole(sink, i, name, words),
     }
 }
 
-// Pushes the line of a fault, with what is wrong, a number and its unit.
-fn put_reason<'a, K: Sink>(
+// Pushes what is wrong with a fault.
+fn put_whole<'a, K: Sink>(
     sink: &mut K,
     i: &'a [u8],
     name: &'a [u8],
     words: &'a [u8],
-    number: &'a [u8],
-    unit: &'a [u8],
 ) -> Result<(), PutFailed>
     ensures { Puts (sink_view K.written K.faults sink.old) (sink_view K.written K.faults sink.new)
-        (concat (line_pieces i.now name.now (words.now ∷ number.now ∷ unit.now ∷ []))) result }
+        (concat (codes "refused study: " ∷ codes "fault[" ∷ i.now ∷ codes "] " ∷ name.now
+        ∷ codes ": " ∷ words.now ∷ codes "\n" ∷ [])) result }
 {
-    let fault: &'a [u8] = b"refused study: fault[";
+    let head: &'a [u8] = b"refused study: ";
     put_pieces(
         sink,
-        &[fault, i, b"] ", name, b": ", words, number, unit, b"\n"],
+        &[head, b"fault[", i, b"] ", name, b": ", words, b"\n"],
     )
+}
+
+// Pushes what is wrong with a script of a fault, and the horizon that serves, in microseconds, if
+// there is one.
+fn put_script<'a, K: Sink>(
+    sink: &mut K,
+    i: &'a [u8],
+    name: &'a [u8],
+    place: u64,
+    words: &'a [u8],
+    horizon: Option<u128>,
+) -> Result<(), PutFailed>
+    ensures { Puts (sink_view K.written K.faults sink.old) (sink_view K.written K.faults sink.new)
+        (concat (codes "refused study: " ∷ codes "fault[" ∷ i.now ∷ codes "] " ∷ name.now
+        ∷ codes ": " ∷ codes "script " ∷ decimal place ∷ words.now
+        ∷ (horizon_pieces horizon ++ codes "\n" ∷ []))) result }
+{
+    let mut digits = Buffer::new();
+    let place = digits.format(place).as_bytes();
+    let head: &'a [u8] = b"refused study: ";
+    match horizon {
+        None => put_pieces(
+            sink,
+            &[
+                head, b"fault[", i, b"] ", name, b": ", b"script ", place, words, b"\n",
+            ],
+        ),
+        Some(us) => {
+            let mut more = Buffer::new();
+            let us = more.format(us).as_bytes();
+            put_pieces(
+                sink,
+                &[
+                    head, b"fault[", i, b"] ", name, b": ", b"script ", place, words, b"\"", us,
+                    b" us\"", b"\n",
+                ],
+            )
+        }
+    }
 }

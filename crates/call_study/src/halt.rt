@@ -9,6 +9,8 @@ ghost use Rattle.call_study.specs.declared.halt.Halt.TheVariants.{Denied, Stoppe
 use crate::denial::{Denial, put_denial};
 use base_store::{PutFailed, Sink};
 use call_commands::Done;
+use call_explain::ExplainStop;
+use call_map::MapStop;
 use call_pilot::{Stop, put_message};
 use file_study::StudyFault;
 use file_sweeps::StudySweepFault;
@@ -116,6 +118,34 @@ impl From<StudyFault> for Halt {
         match fault {
             StudyFault::Memory => Halt::Stopped(Stop::Memory),
             fault => Halt::Denied(Denial::Study(fault)),
+        }
+    }
+}
+
+impl From<ExplainStop> for Halt {
+    ghost use Rattle.call_study.specs.Reading.{explain_halt};
+
+    ghost from_gives = { λ why halt. halt ≡ explain_halt why };
+
+    fn from(why: ExplainStop) -> Self {
+        match why {
+            ExplainStop::Memory => Halt::Stopped(Stop::Memory),
+            ExplainStop::TooManyScripts => Halt::Denied(Denial::TooManyScripts),
+            ExplainStop::Record(fault) => Halt::Stopped(Stop::from(fault)),
+            ExplainStop::Unpicked(why) => Halt::Denied(Denial::Record(why)),
+        }
+    }
+}
+
+impl From<MapStop> for Halt {
+    ghost use Rattle.call_study.specs.Reading.{map_halt};
+
+    ghost from_gives = { λ why halt. halt ≡ map_halt why };
+
+    fn from(why: MapStop) -> Self {
+        match why {
+            MapStop::Denied(why) => Halt::Denied(Denial::Map(why)),
+            MapStop::Memory => Halt::Stopped(Stop::Memory),
         }
     }
 }

@@ -5,15 +5,20 @@
 mod ask;
 mod choose;
 mod denial;
+mod explain;
 mod halt;
 mod linted;
 mod load;
+mod map;
+mod page;
 mod pictures;
 mod read;
 mod settled;
 mod top;
 
 pub use ask::{Ask, Form, Source, Table, Work};
+pub use call_explain::ExplainForm;
+pub use call_map::{MapAsk, MapForm};
 pub use denial::Denial;
 pub use draw_diagram::Rows;
 pub use halt::{Halt, status_of};

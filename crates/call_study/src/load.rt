@@ -1,13 +1,15 @@
 //! A line and its scripts, from the bytes of their files.
 
+ghost use Rattle.std.specs.Prelude.{◌≡◌, IfOk, string_bytes};
 ghost use Rattle.call_study.specs.Loaded.{FilesSay, Loads, Say, StudySays, given_of};
-ghost use Rattle.call_study.specs.Studied.{of_files, of_study_file};
+ghost use Rattle.call_study.specs.Studied.{of_files, of_study_file, untitled as title_of_none};
 
 use crate::halt::Halt;
 use call_commands::Study;
 use call_pilot::read_study;
 use file_script::a_file_says_scripts_of_one_file;
 use file_sweeps::{Group, groups_of_scripts, scripts_of_study};
+use model_line::Memory;
 use net_compile::compile;
 use std::alloc::Global;
 
@@ -18,9 +20,10 @@ pub enum Bytes {
     Study(Vec<u8>),
 }
 
-/// A line, its net and its scripts, in groups, one for each fault.
+/// A title, a line, its net and its scripts, in groups, one for each fault.
 #[derive(Drop)]
 pub struct Loaded {
+    pub title: String,
     pub study: Study,
     pub groups: Vec<Group>,
 }
@@ -42,7 +45,19 @@ fn load_files(alloc: Global, line: &[u8], scripts: &[u8]) -> Result<Loaded, Halt
     a_file_says_scripts_of_one_file();
     let study = read_study(alloc, line, scripts)?;
     let groups = groups_of_scripts(alloc, study.scripts.as_slice())?;
-    Ok(Loaded { study, groups })
+    let title = untitled(alloc)?;
+    Ok(Loaded {
+        title,
+        study,
+        groups,
+    })
+}
+
+// The title of a line and scripts that have none of their own.
+fn untitled(alloc: Global) -> Result<String, Memory>
+    ensures { IfOk result (λ title. string_bytes title ≡ title_of_none) }
+{
+    Ok(String::from_str(alloc, "A line and its fault scripts")?)
 }
 
 // The line of a study, and the scripts of its faults.
@@ -58,6 +73,7 @@ fn load_study(alloc: Global, study: &[u8]) -> Result<Loaded, Halt>
         net,
     };
     Ok(Loaded {
+        title: said.title,
         study,
         groups: swept.groups,
     })

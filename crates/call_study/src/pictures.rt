@@ -1,9 +1,9 @@
-//! The texts of pictures.
+//! The texts of pictures, and of the data of a record.
 
 ghost use Rattle.std.specs.Prelude.{IfOk};
 ghost use Rattle.net_gates.specs.NetOf.{IsNetOf};
 ghost use Rattle.model_line.specs.Fits.{Fits};
-ghost use Rattle.call_study.specs.Pictures.{IsBandsText, IsDumpText, IsRunText};
+ghost use Rattle.call_study.specs.Pictures.{IsBandsText, IsDataText, IsDumpText, IsRunText};
 ghost use Rattle.base_markup.specs.Content.{IsContent};
 ghost use Rattle.model_timing.specs.{Inside.IsTimingInside, NamedValues.values_of};
 
@@ -11,6 +11,7 @@ use draw_diagram::{Rows, every_choice_waves, history_diagram, play_diagram};
 use draw_dump::{play_waves, vcd_text};
 use draw_layout::{Subject, draw};
 use draw_shapes::svg;
+use file_event::data_text;
 use judge_interval::analyse;
 use model_line::laws::deadlines_are_below_the_horizon;
 use model_line::{Line, Memory, Script};
@@ -90,5 +91,25 @@ pub fn dump_text(
     each_line_has_a_choice_inside();
     each_choice_has_one_history();
     let text = vcd_text(alloc, line, net, script, timing)?;
+    Ok(text)
+}
+
+/// The data of a record of a play.
+pub fn record_data(
+    alloc: Global,
+    line: &Line,
+    net: &Net,
+    script: &Script,
+    timing: &NamedTiming,
+) -> Result<Vec<u8>, Memory>
+    requires of_line { IsNetOf line.now net.now }
+    requires inside { IsTimingInside line.now timing.now.timing }
+    ensures { IfOk result (λ text.
+        IsDataText line.now script.now (values_of timing.now) text.items) }
+{
+    timings_inside_are_choices_inside();
+    each_line_has_a_choice_inside();
+    each_choice_has_one_history();
+    let text = data_text(alloc, line, net, script, timing)?;
     Ok(text)
 }

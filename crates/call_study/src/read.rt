@@ -14,19 +14,19 @@ ghost use Rattle.file_sweeps.specs.Parts.{is_part as is_part_of};
 ghost use Rattle.call_study.specs.Reading.{denied_of, recheck_of, table_of, timings_over};
 ghost use Rattle.call_study.specs.Reading.{at_most as at_most_of};
 ghost use Rattle.call_commands.specs.{Answers.Says};
-ghost use Rattle.call_verdicts.specs.Verdicts.{verdicts_answer};
 
 use crate::ask::{Form, Table};
 use crate::choose::{choose_script, choose_timing};
 use crate::denial::Denial;
 use crate::halt::Halt;
 use crate::load::{Bytes, Loaded, load};
-use crate::pictures::{bands_text, dump_text, run_text};
+use crate::pictures::{bands_text, dump_text, record_data, run_text};
 use crate::settled::{failing_said, trees_said};
 use call_commands::{Said, Study};
 use call_tables::{margins_table, recheck_settled, settle_table};
-use call_verdicts::{Cases, verdicts_table};
+use call_verdicts::{Cases, faults_table, verdicts_table};
 use draw_diagram::Rows;
+use file_event::{config_text, map_text};
 use file_line::print_line;
 use file_sweeps::{part_count, part_text};
 use file_timing::read_timings;
@@ -68,7 +68,9 @@ fn denied(which: Table, scripts: &[Script]) -> Option<Denial>
     ensures { result ≡ denied_of which (length scripts.now) }
 {
     match which {
-        Table::Settled { .. } | Table::Verdicts { .. } => at_most(4_096_000, scripts),
+        Table::Settled { .. } | Table::Verdicts { .. } | Table::Faults { .. } => {
+            at_most(4_096_000, scripts)
+        }
         Table::Trees { .. } | Table::Margins => at_most(64, scripts),
         Table::Line => None,
         Table::Part(n) => {
@@ -81,7 +83,8 @@ fn denied(which: Table, scripts: &[Script]) -> Option<Denial>
     }
 }
 
-fn at_most(most: usize, scripts: &[Script]) -> Option<Denial>
+/// Why this work takes no such number of scripts, if it takes at most so many.
+pub fn at_most(most: usize, scripts: &[Script]) -> Option<Denial>
     ensures { result ≡ at_most_of most (length scripts.now) }
 {
     if scripts.len() <= most {
@@ -108,7 +111,8 @@ fn table_said(alloc: Global, which: Table, loaded: &Loaded) -> Result<Said, Memo
         Table::Settled { analyses } => settle_table(alloc, study, analyses),
         Table::Trees { analyses } => trees_said(alloc, study, analyses),
         Table::Margins => margins_table(alloc, study),
-        Table::Verdicts { analyses } => verdicts_said(alloc, loaded, analyses),
+        Table::Verdicts { analyses } => verdicts_table(alloc, &cases_of(loaded), analyses),
+        Table::Faults { analyses } => faults_table(alloc, &cases_of(loaded), analyses),
         Table::Line => Ok(Said::good(print_line(alloc, &study.line)?)),
         Table::Part(n) => match part_text(alloc, &study.line, &study.scripts, n as usize)? {
             Some(text) => Ok(Said::good(text)),
@@ -117,20 +121,20 @@ fn table_said(alloc: Global, which: Table, loaded: &Loaded) -> Result<Said, Memo
     }
 }
 
-fn verdicts_said(alloc: Global, loaded: &Loaded, analyses: u32) -> Result<Said, Memory>
-    requires loaded { IsLoaded loaded.now }
-    requires few { length loaded.now.study.scripts.items ≤ 4096000 }
-    ensures { IfOk result (Says (verdicts_answer loaded.now.study.line
-        loaded.now.study.scripts.items loaded.now.groups.items)) }
+// The cases of all faults.
+fn cases_of(loaded: &Loaded) -> Cases<'_>
+    ensures line { result.line.now ≡ loaded.now.study.line }
+    ensures net { result.net.now ≡ loaded.now.study.net }
+    ensures scripts { result.scripts.now ≡ loaded.now.study.scripts.items }
+    ensures groups { result.groups.now ≡ loaded.now.groups.items }
 {
     let study = &loaded.study;
-    let cases = Cases {
+    Cases {
         line: &study.line,
         net: &study.net,
         scripts: study.scripts.as_slice(),
         groups: loaded.groups.as_slice(),
-    };
-    verdicts_table(alloc, &cases, analyses)
+    }
 }
 
 /// The timings that fail obligations of a script.
@@ -192,14 +196,14 @@ pub fn recheck(alloc: Global, bytes: &Bytes, trees: &[u8]) -> Result<Said, Halt>
 /// A play in that form.
 pub fn play(
     alloc: Global,
-    form: Form,
+    form: Form<'_>,
     bytes: &Bytes,
     timings: &[u8],
     script: Option<&str>,
     timing: Option<&str>,
 ) -> Result<Said, Halt>
     requires { length timings.now ≤ 4194304 }
-    ensures { Gives (answer_by (play_of form (given_of bytes.now) timings.now
+    ensures { Gives (answer_by (play_of form.entry (given_of bytes.now) timings.now
         (option_copied script.entry) (option_copied timing.entry))) result }
 {
     let loaded = load(alloc, bytes)?;
@@ -224,7 +228,7 @@ pub fn play(
 
 fn play_text(
     alloc: Global,
-    form: Form,
+    form: Form<'_>,
     line: &Line,
     net: &Net,
     script: &Script,
@@ -234,10 +238,13 @@ fn play_text(
     requires fits { Fits line.now script.now }
     requires inside { IsTimingInside line.now timing.now.timing }
     ensures { IfOk result (λ text.
-        answer_of (a_play form line.now script.now (values_of timing.now)) Good text.items) }
+        answer_of (a_play form.entry line.now script.now (values_of timing.now)) Good text.items) }
 {
     match form {
         Form::Diagram { rows } => run_text(alloc, line, net, script, timing, rows),
         Form::Dump => dump_text(alloc, line, net, script, timing),
+        Form::Config => config_text(alloc, line, script),
+        Form::Data => record_data(alloc, line, net, script, timing),
+        Form::Map { name } => map_text(alloc, line, script, name.as_bytes()),
     }
 }

@@ -9,9 +9,12 @@ ghost use Rattle.call_study.specs.Reading.{over_further};
 ghost use Rattle.call_study.specs.Request.{files_beside, files_of, request_of};
 
 use crate::ask::{Ask, Source, Work};
+use crate::explain::{Explaining, explain};
 use crate::halt::{Halt, put_halt};
 use crate::linted::lint_said;
 use crate::load::Bytes;
+use crate::map::map;
+use crate::page::page;
 use crate::read::{bands, play, recheck, table, timings};
 use base_store::{Sink, Store, put_all};
 use call_commands::{Done, Said};
@@ -123,5 +126,25 @@ fn said_over<S: Store>(
             let said = lint_said(alloc, bytes, ask.source)?;
             Ok(said)
         }
+        Work::Explain {
+            record: name,
+            within,
+            analyses,
+            form,
+        } => {
+            let record = fetch_file(alloc, store, File::Record, name)?;
+            let how = Explaining {
+                within,
+                analyses,
+                form,
+            };
+            explain(alloc, how, bytes, record.as_slice(), script)
+        }
+        Work::Map(axes) => map(alloc, bytes, &axes),
+        Work::Page {
+            analyses,
+            program,
+            kit,
+        } => page(alloc, bytes, analyses, program, kit),
     }
 }

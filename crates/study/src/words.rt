@@ -1,218 +1,127 @@
-//! The words of the program.
+//! What the words ask for.
 
+use crate::command::{KIT, PROGRAM};
 use base_store::number;
-use call_study::{Ask, Form, Rows, Source, Table, Work};
-use clap::{Arg, ArgAction, ArgMatches, Command};
-use std::alloc::{AllocError, Global};
+use call_records::Work as Recorded;
+use call_study::{Ask, ExplainForm, Form, MapAsk, MapForm, Rows, Source, Table, Work};
+use clap::ArgMatches;
 
 /// What the words ask for, and the file that it is written to, if not standard output.
 #[derive(Clone, Copy)]
 pub struct Words<'a> {
-    pub ask: Ask<'a>,
+    pub call: Call<'a>,
     pub output: Option<&'a str>,
 }
 
-// The names of the files with one of timings, or of settled trees.
-const TIMINGS: &[&str] = &["STUDY | LINE SCRIPTS", "TIMINGS"];
+/// What is called.
+#[derive(Clone, Copy)]
+pub enum Call<'a> {
+    /// Work over a line and its scripts.
+    Study(Ask<'a>),
+    /// What relays recorded: as a script, a record or a table.
+    Records(call_records::Ask<'a>),
+    /// A play as a record.
+    Event(Event<'a>),
+}
 
-const TREES: &[&str] = &["STUDY | LINE SCRIPTS", "TREES"];
+/// The three files of a play as a record, each asked for by itself.
+#[derive(Clone, Copy)]
+pub struct Event<'a> {
+    pub config: Ask<'a>,
+    pub samples: Ask<'a>,
+    pub map: Ask<'a>,
+}
 
 // How many analyses an obligation takes at most, where the words don't say it.
 const ANALYSES: u32 = 4000;
 
-/// The command line: a word for each command, with files and names.
-pub fn command<'a>(alloc: Global) -> Result<Command<'a>, AllocError> {
-    Command::new(alloc, "study")
-        .about("A line and its fault scripts: answers and pictures.")
-        .version("0.12.0")
-        .subcommand_required(true)
-        .arg_required_else_help(true)
-        .subcommand(lines(alloc)?)?
-        .subcommand(scripts(alloc)?)?
-        .subcommand(verdicts(alloc)?)?
-        .subcommand(lint(alloc)?)?
-        .subcommand(settle(alloc)?)?
-        .subcommand(recheck(alloc)?)?
-        .subcommand(margins(alloc)?)?
-        .subcommand(bands(alloc)?)?
-        .subcommand(play(
-            alloc,
-            "run",
-            "A play as a timing diagram (SVG): the script under one timing",
-        )?
-        .arg(all_rows(alloc))?)?
-        .subcommand(play(
-            alloc,
-            "vcd",
-            "A play as a value change dump (VCD) of every gate, for a waveform viewer",
-        )?)
-}
-
-fn lines<'a>(alloc: Global) -> Result<Command<'a>, AllocError> {
-    Command::new(alloc, "lines")
-        .about("The line as a line file for `pilot` (TOML, in ticks)")
-        .arg(files(alloc))?
-        .arg(output(alloc))
-}
-
-fn scripts<'a>(alloc: Global) -> Result<Command<'a>, AllocError> {
-    Command::new(alloc, "scripts")
-        .about("The scripts as a scripts file for `pilot` (CSV), 64 at most")
-        .arg(files(alloc))?
-        .arg(
-            Arg::new(alloc, "part").long("part").value_name("N").help(
-                "The part of this number, where there are more than 64; 1 without it",
-            ),
-        )?
-        .arg(output(alloc))
-}
-
-fn verdicts<'a>(alloc: Global) -> Result<Command<'a>, AllocError> {
-    Command::new(alloc, "verdicts")
-        .about(
-            "Whether each fault is met at each terminal, script by script, in milliseconds (CSV)",
-        )
-        .arg(files(alloc))?
-        .arg(analyses(alloc))?
-        .arg(output(alloc))
-}
-
-fn lint<'a>(alloc: Global) -> Result<Command<'a>, AllocError> {
-    Command::new(alloc, "lint")
-        .about("What is suspicious in the files, or where and why one is refused")
-        .arg(files(alloc))?
-        .arg(output(alloc))
-}
-
-fn settle<'a>(alloc: Global) -> Result<Command<'a>, AllocError> {
-    Command::new(alloc, "settle")
-        .about("An answer to each obligation, also where the interval rules leave it open (CSV)")
-        .arg(files(alloc))?
-        .arg(analyses(alloc))?
-        .arg(flag(
-            alloc,
-            "trees",
-            "In place of the table the trees and timings that settle it, for `recheck`",
-        ))?
-        .arg(flag(
-            alloc,
-            "timings",
-            "In place of the table the timings that fail a script, for `pilot play`",
-        ))?
-        .arg(named(
-            alloc,
-            "script",
-            "With --timings, the name of the script; the first without it",
-        ))?
-        .arg(output(alloc))
-}
-
-fn recheck<'a>(alloc: Global) -> Result<Command<'a>, AllocError> {
-    Command::new(alloc, "recheck")
-        .about("Whether the trees of `settle --trees` are so, without trusting who made them")
-        .arg(files_with(alloc, TREES))?
-        .arg(output(alloc))
-}
-
-fn margins<'a>(alloc: Global) -> Result<Command<'a>, AllocError> {
-    Command::new(alloc, "margins")
-        .about("How far each end of each interval can move with all held that is held today (CSV)")
-        .arg(files(alloc))?
-        .arg(output(alloc))
-}
-
-fn bands<'a>(alloc: Global) -> Result<Command<'a>, AllocError> {
-    Command::new(alloc, "bands")
-        .about("Every choice of delays at once as a timing diagram (SVG)")
-        .arg(files(alloc))?
-        .arg(named(
-            alloc,
-            "script",
-            "The name of the script; the first without it",
-        ))?
-        .arg(all_rows(alloc))?
-        .arg(output(alloc))
-}
-
-// A play: three files, a timing and a script.
-fn play<'a>(alloc: Global, name: &'a str, about: &'a str) -> Result<Command<'a>, AllocError> {
-    Command::new(alloc, name)
-        .about(about)
-        .arg(files_with(alloc, TIMINGS))?
-        .arg(named(
-            alloc,
-            "timing",
-            "The name of the timing; the first without it",
-        ))?
-        .arg(named(
-            alloc,
-            "script",
-            "The name of the script; the first without it",
-        ))?
-        .arg(output(alloc))
-}
-
-fn analyses<'a>(alloc: Global) -> Arg<'a> {
-    Arg::new(alloc, "analyses")
-        .long("analyses")
-        .value_name("N")
-        .help("At most so many analyses for each obligation; 4000 without it")
-}
-
-fn all_rows<'a>(alloc: Global) -> Arg<'a> {
-    flag(alloc, "all", "Rows that do not change too")
-}
-
-// A study file, or a line file and a file of fault scripts.
-fn files<'a>(alloc: Global) -> Arg<'a> {
-    Arg::new(alloc, "files")
-        .required(true)
-        .num_args(1..=2)
-        .value_names(&["STUDY | LINE", "SCRIPTS"])
-        .help("A study file; or a line file and a file of fault scripts")
-}
-
-// The same, and a further file.
-fn files_with<'a>(alloc: Global, names: &'a [&'a str]) -> Arg<'a> {
-    Arg::new(alloc, "files")
-        .required(true)
-        .num_args(2..=3)
-        .value_names(names)
-        .help("A study file, or a line file and a file of fault scripts; then the further file")
-}
-
-fn flag<'a>(alloc: Global, name: &'a str, help: &'a str) -> Arg<'a> {
-    Arg::new(alloc, name)
-        .long(name)
-        .action(ArgAction::SetTrue)
-        .help(help)
-}
-
-fn named<'a>(alloc: Global, name: &'a str, help: &'a str) -> Arg<'a> {
-    Arg::new(alloc, name)
-        .long(name)
-        .value_name("NAME")
-        .help(help)
-}
-
-fn output<'a>(alloc: Global) -> Arg<'a> {
-    Arg::new(alloc, "output")
-        .short('o')
-        .value_name("FILE")
-        .help("The file to write; standard output without it")
-}
+// The same for a record that is to be explained.
+const TRIES: u32 = 20_000;
 
 /// What the words say.
 pub fn words_of<'a>(matches: &ArgMatches<'a>) -> Option<Words<'a>> {
     let (name, own) = matches.subcommand()?;
+    if name == "comtrade" {
+        return comtrade_of(own);
+    }
+    Some(Words {
+        call: Call::Study(study_of(name, own)?),
+        output: own.get_str("output"),
+    })
+}
+
+// Records of relays, in and out.
+fn comtrade_of<'a>(matches: &ArgMatches<'a>) -> Option<Words<'a>> {
+    let (name, own) = matches.subcommand()?;
+    let files = own.get_strs("files")?;
+    let output = own.get_str("output");
+    let work = match name {
+        "scripts" => Recorded::Scripts,
+        "record" => Recorded::Record,
+        "show" => Recorded::Show,
+        _ => {
+            return Some(Words {
+                call: event_of(own, output?)?,
+                output,
+            });
+        }
+    };
+    Some(Words {
+        call: Call::Records(call_records::Ask {
+            line: *files.first()?,
+            map: *files.get(1)?,
+            work,
+        }),
+        output,
+    })
+}
+
+// A play as a record of files whose names begin so.
+fn event_of<'a>(own: &ArgMatches<'a>, stem: &'a str) -> Option<Call<'a>> {
+    let name = last_part(stem);
+    if !is_quotable(name) {
+        return None;
+    }
+    Some(Call::Event(Event {
+        config: ask_of(played(own, Form::Config)?, own)?,
+        samples: ask_of(played(own, Form::Data)?, own)?,
+        map: ask_of(played(own, Form::Map { name })?, own)?,
+    }))
+}
+
+// What stands behind the last slash.
+fn last_part(name: &str) -> &str {
+    match name.rsplit_once("/") {
+        Some((_, last)) => last,
+        None => name,
+    }
+}
+
+// Whether a name can stand between quotes as it is: it is not empty, and has no quote, no backslash
+// and nothing but printable characters.
+fn is_quotable(name: &str) -> bool {
+    !name.is_empty()
+        && name.as_bytes().iter().all(|byte| *byte >= 32
+            && *byte != 34
+            && *byte != 92
+            && *byte != 127)
+}
+
+// Work over a line and its scripts.
+fn study_of<'a>(name: &str, own: &ArgMatches<'a>) -> Option<Ask<'a>> {
     let work = match name {
         "lines" => Work::Table(Table::Line),
         "scripts" => Work::Table(Table::Part(count_of(own, "part", 1)?)),
         "settle" => settled(own)?,
         "lint" => Work::Lint,
-        "verdicts" => Work::Table(Table::Verdicts {
+        "verdicts" => verdicts_of(own)?,
+        "explain" => explained(own)?,
+        "map" => map_of(own)?,
+        "page" => Work::Page {
             analyses: count_of(own, "analyses", ANALYSES)?,
-        }),
+            program: PROGRAM,
+            kit: KIT,
+        },
         "recheck" => Work::Recheck {
             trees: *own.get_strs("files")?.last()?,
         },
@@ -221,37 +130,50 @@ pub fn words_of<'a>(matches: &ArgMatches<'a>) -> Option<Words<'a>> {
         "vcd" => played(own, Form::Dump)?,
         _ => Work::Bands { rows: rows_of(own) },
     };
-    Some(Words {
-        ask: Ask {
-            source: source_of(work, own.get_strs("files")?)?,
-            script: script_of(work, own),
-            work,
-        },
-        output: own.get_str("output"),
+    ask_of(work, own)
+}
+
+// The work over the files of these words.
+fn ask_of<'a>(work: Work<'a>, own: &ArgMatches<'a>) -> Option<Ask<'a>> {
+    Some(Ask {
+        source: source_of(work, own.get_strs("files")?)?,
+        script: script_of(work, own),
+        work,
     })
 }
 
 // Where the line and its scripts stand: all files but the further one.
 fn source_of<'a>(work: Work<'_>, files: &[&'a str]) -> Option<Source<'a>> {
     let own = match work {
-        Work::Play { .. } | Work::Recheck { .. } => files.len().checked_sub(1)?,
-        Work::Bands { .. } | Work::Table(_) | Work::Timings { .. } | Work::Lint => files.len(),
+        Work::Play { .. } | Work::Recheck { .. } | Work::Explain { .. } => {
+            files.len().checked_sub(1)?
+        }
+        Work::Map(_) => files.iter().take_while(|word| !is_axis(word)).count(),
+        Work::Bands { .. }
+        | Work::Table(_)
+        | Work::Timings { .. }
+        | Work::Lint
+        | Work::Page { .. } => files.len(),
     };
     let first = *files.first()?;
-    if own == 1 {
-        return Some(Source::Study(first));
+    match own {
+        1 => Some(Source::Study(first)),
+        2 => Some(Source::Files {
+            line: first,
+            scripts: *files.get(1)?,
+        }),
+        _ => None,
     }
-    Some(Source::Files {
-        line: first,
-        scripts: *files.get(1)?,
-    })
 }
 
 // A table, and trees, are over all scripts.
 fn script_of<'a>(work: Work<'_>, own: &ArgMatches<'a>) -> Option<&'a str> {
     match work {
-        Work::Table(_) | Work::Recheck { .. } | Work::Lint => None,
-        Work::Bands { .. } | Work::Play { .. } | Work::Timings { .. } => own.get_str("script"),
+        Work::Table(_) | Work::Recheck { .. } | Work::Lint | Work::Map(_) | Work::Page { .. } =>
+            None,
+        Work::Bands { .. } | Work::Play { .. } | Work::Timings { .. } | Work::Explain { .. } => {
+            own.get_str("script")
+        }
     }
 }
 
@@ -262,6 +184,41 @@ fn rows_of(own: &ArgMatches<'_>) -> Rows {
     } else {
         Rows::Changing
     }
+}
+
+// Verdicts script by script, or fault by fault.
+fn verdicts_of<'a>(own: &ArgMatches<'a>) -> Option<Work<'a>> {
+    let analyses = count_of(own, "analyses", ANALYSES)?;
+    Some(Work::Table(if own.get_flag("faults") {
+        Table::Faults { analyses }
+    } else {
+        Table::Verdicts { analyses }
+    }))
+}
+
+// A map over the words that have an equals sign: one or two, after those of the source.
+fn map_of<'a>(own: &ArgMatches<'a>) -> Option<Work<'a>> {
+    let words = own.get_strs("files")?;
+    let mut axes = words.iter().skip_while(|word| !is_axis(word));
+    let x = axes.next()?;
+    let y = axes.next();
+    if axes.next().is_some() {
+        return None;
+    }
+    Some(Work::Map(MapAsk {
+        x: x.as_bytes(),
+        y: y.map(|word| word.as_bytes()),
+        form: if own.get_flag("csv") {
+            MapForm::Records
+        } else {
+            MapForm::Drawing
+        },
+    }))
+}
+
+// Whether a word is an axis and no file: it has an equals sign.
+fn is_axis(word: &str) -> bool {
+    word.as_bytes().contains(&b'=')
 }
 
 // Settled obligations: as a table, as trees, or as the timings that fail.
@@ -285,7 +242,21 @@ fn count_of(own: &ArgMatches<'_>, word: &str, other: u32) -> Option<u32> {
     }
 }
 
-fn played<'a>(own: &ArgMatches<'a>, form: Form) -> Option<Work<'a>> {
+// What explains the record of the further file.
+fn explained<'a>(own: &ArgMatches<'a>) -> Option<Work<'a>> {
+    Some(Work::Explain {
+        record: *own.get_strs("files")?.last()?,
+        within: number(own.get_str("within")?.as_bytes())?,
+        analyses: count_of(own, "analyses", TRIES)?,
+        form: if own.get_flag("timings") {
+            ExplainForm::Timings
+        } else {
+            ExplainForm::Changes
+        },
+    })
+}
+
+fn played<'a>(own: &ArgMatches<'a>, form: Form<'a>) -> Option<Work<'a>> {
     Some(Work::Play {
         form,
         timings: *own.get_strs("files")?.last()?,

@@ -11,3 +11,9 @@ returns-in-UnknownTiming g c = rw c.in-UnknownTiming.is c.put_pieces-in-UnknownT
 
 pub returns-in-UnknownPart : goal.returns-in-UnknownPart
 returns-in-UnknownPart g c = rw c.in-UnknownPart.is c.put_pieces-in-UnknownPart.ensures
+
+pub returns-in-Record : goal.returns-in-Record
+returns-in-Record g c = rw c.in-Record.is c.put_unpicked.ensures
+
+pub returns-in-Map : goal.returns-in-Map
+returns-in-Map g c = rw c.in-Map.is c.put_map_denial.ensures

@@ -1,37 +1,29 @@
+use Rattle.std.proofs.Common.{◌∙◌, sym}
+use Rattle.call_study.proofs.Unplaced.{unplaced}
 use Rattle.call_study.proofs.denial.put_fault.Goals as goal
 
-pub returns-in-TooMany : goal.returns-in-TooMany
-returns-in-TooMany g c =
-    rw c.in-TooMany.is
-    (rw (c.as_bytes-i.ensures.value, c.format.ensures.text, c.bytes-name.ensures.same)
-    at c.put_reason.ensures)
-
-pub returns-in-BadName : goal.returns-in-BadName
-returns-in-BadName g c =
-    rw c.in-BadName.is
-    (rw (c.as_bytes-i.ensures.value, c.format.ensures.text, c.bytes-name.ensures.same)
-    at c.put_reason-in-BadName.ensures)
-
-pub returns-in-NoFit : goal.returns-in-NoFit
-returns-in-NoFit g c =
-    rw c.in-NoFit.is
-    (rw (c.as_bytes-i.ensures.value, c.format.ensures.text, c.bytes-name.ensures.same)
-    at c.put_reason-in-NoFit.ensures)
-
-pub returns-in-Memory : goal.returns-in-Memory
-returns-in-Memory g c =
-    rw c.in-Memory.is
-    (rw (c.as_bytes-i.ensures.value, c.format.ensures.text, c.bytes-name.ensures.same)
-    at c.put_reason-in-Memory.ensures)
-
-pub returns-in-Horizon : goal.returns-in-Horizon
-returns-in-Horizon g c =
-    rw c.in-Horizon.is
+pub returns-in-Some : goal.returns-in-Some
+returns-in-Some g c =
+    rw (sym c.place.ensures ∙ c.in-Some.is)
     (rw (
       c.as_bytes-i.ensures.value,
       c.format.ensures.text,
       c.bytes-name.ensures.same,
-      c.as_bytes-ticks.ensures.value,
-      c.format-in-Horizon.ensures.text,
+      c.as_bytes-words.ensures.value,
+      c.words.ensures,
+      c.horizon_us.ensures,
     )
-    at c.put_reason-in-Horizon.ensures)
+    at c.put_script.ensures)
+
+pub returns-in-None : goal.returns-in-None
+returns-in-None g c =
+    let is = sym c.place.ensures ∙ c.in-None.is in
+    rw (is, unplaced c.args.why.now is)
+    (rw (
+      c.as_bytes-i.ensures.value,
+      c.format.ensures.text,
+      c.bytes-name.ensures.same,
+      c.as_bytes-words.ensures.value,
+      c.words.ensures,
+    )
+    at c.put_whole.ensures)

@@ -19,5 +19,9 @@ returns c = (
     once = once_in_file c.in_ok-study.study.scripts.items
         (c.a_file_says_scripts_of_one_file.ensures _ _ _ c.in_ok-study.ensures.1.scripts_are);
   },
-  (c.in_ok-study.ensures.1, rw c.as_slice.ensures.value at c.in_ok-groups.ensures),
+  (
+    c.in_ok-study.ensures.1,
+    rw c.as_slice.ensures.value at c.in_ok-groups.ensures,
+    c.in_ok-title.ensures,
+  ),
 )

@@ -28,6 +28,6 @@ returns c =
       (
         study_values said,
         c.in_ok-said.ensures,
-        record { line = refl; scripts = are },
+        record { title = refl; line = refl; scripts = are },
       ),
     )

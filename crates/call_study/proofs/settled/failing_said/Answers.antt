@@ -1,4 +1,4 @@
-use Rattle.std.proofs.Common.{◌≡◌, ◌∷◌, [], Some, inl, inr, refl, slice_get}
+use Rattle.std.proofs.Common.{◌≡◌, Some, inl, inr, refl, slice_get}
 use Rattle.call_study.proofs.settled.failing_said.Goals as goal
 
 pub returns-in-Some : goal.returns-in-Some

@@ -1,4 +1,4 @@
-use Rattle.std.specs.Prelude.{[], ◌∷◌, Result, Ok, Err, ℕ, List}
+use Rattle.std.specs.Prelude.{◌∷◌}
 use Rattle.std.specs.Option.{option_copied}
 use Rattle.call_pilot.specs.{Files.NamedFile, Files.in_front, Words.named}
 use Rattle.call_pilot.specs.declared.stop.File.TheVariants as file

@@ -1,0 +1,23 @@
+-- Why there is no such map.
+use Rattle.std.proofs.Common.{◌≡◌, ℕ, List, Option, Result, Err, None, length, refl}
+use Rattle.call_commands.specs.declared.said.Said.{Said}
+use Rattle.call_map.specs.{Asked.asked_of, declared.ask.MapForm.MapForm}
+use Rattle.call_map.specs.declared.denial.{MapDenial.MapDenial, MapStop.MapStop}
+use Rattle.call_map.specs.declared.denial.MapStop.TheVariants as map_stop
+use Rattle.call_study.specs.{Answers.answer_by, Ends.Gives, Reading.at_most}
+use Rattle.call_study.specs.Loaded.{IsLoaded, Say, given_of}
+use Rattle.call_study.specs.Reading.{map_halt, map_of}
+use Rattle.call_study.specs.declared.load.Bytes.{Bytes}
+use Rattle.call_study.specs.declared.load.Loaded.{Loaded}
+use Rattle.call_study.proofs.Reading.{given_read}
+
+-- the words ask for none, or memory ran out
+pub map_halts : (form : MapForm) (x : List ℕ) (y : Option (List ℕ)) (from : Bytes) (l : Loaded)
+    (stop : MapStop) (result : Result Said MapStop) → IsLoaded l → Say from l
+    → at_most 4096 (length l.study.scripts.items) ≡ None → result ≡ Err stop
+    → ((why : MapDenial) → result ≡ Err (map_stop.Denied why)
+    → asked_of l.study.line x y ≡ Err why)
+    → Gives (answer_by (map_of form x y (given_of from))) (Err (map_halt stop))
+map_halts form x y from l (map_stop.Denied why) result is said few of denied =
+    given_read from l _ _ is said (rw (few, denied why of) (refl, refl))
+map_halts form x y from l map_stop.Memory result is said few of denied = tt

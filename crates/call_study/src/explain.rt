@@ -1,0 +1,91 @@
+//! What explains a record of the field.
+
+ghost use Rattle.std.specs.Prelude.{◌≡◌, ◌≤◌, IfSome, length};
+ghost use Rattle.std.specs.Option.{option_copied};
+ghost use Rattle.net_gates.specs.NetOf.{IsNetOf};
+ghost use Rattle.call_study.specs.{Answers.answer_by, Ends.Gives, Loaded.given_of};
+ghost use Rattle.call_study.specs.Reading.{explain_in, explain_of, which_script};
+
+use crate::choose::choose_script;
+use crate::denial::Denial;
+use crate::halt::Halt;
+use crate::load::{Bytes, load};
+use crate::read::at_most;
+use call_commands::{Said, Study};
+use call_explain::{Asked, ExplainForm, explain_said};
+use model_line::Script;
+use std::alloc::Global;
+
+/// How a record is explained: within how many ticks, after how many analyses at most, and in which
+/// form.
+#[derive(Clone, Copy)]
+pub struct Explaining {
+    pub within: u32,
+    pub analyses: u32,
+    pub form: ExplainForm,
+}
+
+/// What explains a record, that of the script or the only one.
+pub fn explain(
+    alloc: Global,
+    how: Explaining,
+    bytes: &Bytes,
+    record: &[u8],
+    script: Option<&str>,
+) -> Result<Said, Halt>
+    requires { length record.now ≤ 1048576 }
+    ensures { Gives (answer_by (explain_of how.within how.form (given_of bytes.now) record.now
+        (option_copied script.entry))) result }
+{
+    let loaded = load(alloc, bytes)?;
+    match at_most(64, loaded.study.scripts.as_slice()) {
+        Some(why) => Err(Halt::Denied(why)),
+        None => explain_over(alloc, how, &loaded.study, record, script),
+    }
+}
+
+// The same over what the source says.
+fn explain_over(
+    alloc: Global,
+    how: Explaining,
+    study: &Study,
+    record: &[u8],
+    script: Option<&str>,
+) -> Result<Said, Halt>
+    requires of_line { IsNetOf study.now.line study.now.net }
+    requires few { length study.now.scripts.items ≤ 64 }
+    requires short { length record.now ≤ 1048576 }
+    ensures { Gives (answer_by (explain_in how.within how.form study.now.line
+        study.now.scripts.items record.now (option_copied script.entry))) result }
+{
+    let scripts = study.scripts.as_slice();
+    let Some(which) = script_named(scripts, script) else {
+        return Err(Halt::Denied(Denial::UnknownScript));
+    };
+    let asked = Asked {
+        line: &study.line,
+        net: &study.net,
+        scripts,
+        record,
+        script: which,
+        within: how.within,
+        analyses: how.analyses,
+        form: how.form,
+    };
+    let said = explain_said(alloc, &asked)?;
+    Ok(said)
+}
+
+// The number of the script that is named, none where none is; or nothing where none has that name.
+fn script_named(scripts: &[Script], name: Option<&str>) -> Option<Option<u32>>
+    requires { length scripts.now ≤ 64 }
+    ensures { result ≡ which_script scripts.now (option_copied name.entry) }
+{
+    match name {
+        None => Some(None),
+        Some(name) => match choose_script(scripts, Some(name)) {
+            Some(i) => Some(Some(i as u32)),
+            None => None,
+        },
+    }
+}

@@ -1,0 +1,27 @@
+//! A map of one setting or two.
+
+ghost use Rattle.std.specs.Option.{option_copied};
+ghost use Rattle.call_study.specs.{Answers.answer_by, Ends.Gives, Loaded.given_of};
+ghost use Rattle.call_study.specs.Reading.{map_of as map_over};
+
+use crate::halt::Halt;
+use crate::load::{Bytes, load};
+use crate::read::at_most;
+use call_commands::Said;
+use call_map::{MapAsk, map_of};
+use std::alloc::Global;
+
+/// Over which numbers of one setting or two each obligation is held.
+pub fn map(alloc: Global, bytes: &Bytes, ask: &MapAsk<'_>) -> Result<Said, Halt>
+    ensures { Gives (answer_by (map_over ask.now.form ask.now.x.now (option_copied ask.now.y)
+        (given_of bytes.now))) result }
+{
+    let loaded = load(alloc, bytes)?;
+    match at_most(4096, loaded.study.scripts.as_slice()) {
+        Some(why) => Err(Halt::Denied(why)),
+        None => {
+            let said = map_of(alloc, &loaded.study, ask)?;
+            Ok(said)
+        }
+    }
+}

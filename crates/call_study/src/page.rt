@@ -1,0 +1,37 @@
+//! The page of a study.
+
+ghost use Rattle.call_study.specs.{Answers.answer_by, Ends.Gives, Loaded.given_of};
+ghost use Rattle.call_study.specs.Reading.{page_of};
+
+use crate::halt::Halt;
+use crate::load::{Bytes, load};
+use crate::read::at_most;
+use call_commands::Said;
+use call_page::{Asked, page_said};
+use std::alloc::Global;
+
+/// The page of a study, by a program and a kit of these names.
+pub fn page(
+    alloc: Global,
+    bytes: &Bytes,
+    analyses: u32,
+    program: &[u8],
+    kit: &[u8],
+) -> Result<Said, Halt>
+    ensures { Gives (answer_by (page_of (given_of bytes.now))) result }
+{
+    let loaded = load(alloc, bytes)?;
+    match at_most(4_096_000, loaded.study.scripts.as_slice()) {
+        Some(why) => Err(Halt::Denied(why)),
+        None => {
+            let asked = Asked {
+                title: loaded.title.as_bytes(),
+                program,
+                kit,
+                analyses,
+            };
+            let said = page_said(alloc, &loaded.study, loaded.groups.as_slice(), &asked)?;
+            Ok(said)
+        }
+    }
+}
