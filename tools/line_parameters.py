@@ -37,24 +37,3 @@ def settings(line):
 def names(line):
     """The names alone."""
     return [name for name, _, _ in settings(line)]
-
-
-def text(line):
-    """A line file of these dictionaries."""
-    tops = [f'{key} = {value(line[key])}' for key in line if key not in ('terminal', 'channel')]
-    tables = [[f'[[{kind}]]'] + [f'{key} = {value(table[key])}' for key in table]
-              for kind in ('terminal', 'channel') for table in line[kind]]
-    return '\n\n'.join('\n'.join(part) for part in [tops] + tables) + '\n'
-
-
-def value(of):
-    """A value as TOML writes it."""
-    if isinstance(of, bool):
-        return 'true' if of else 'false'
-    if isinstance(of, int):
-        return str(of)
-    if isinstance(of, str):
-        return f'"{of}"'
-    if isinstance(of, list):
-        return '[' + ', '.join(value(one) for one in of) + ']'
-    return '{ ' + ', '.join(f'{key} = {value(one)}' for key, one in of.items()) + ' }'
