@@ -2,7 +2,7 @@
 
 ghost use Rattle.std.specs.Prelude.{◌≡◌, ◌<◌, ◌≤◌, ℕ, slice_index, IsTrue};
 ghost use Rattle.model_history.specs.Rails.{single};
-ghost use Rattle.run_signal.specs.Spans.{InOrderInEachLane};
+ghost use Rattle.run_signal.specs.{Bits.bit_on, Spans.InOrderInEachLane};
 ghost use Rattle.judge_boxes.specs.Spans.{span_lists, span_ends, AreOrdered, AreAlike};
 
 use run_signal::{Lanes64, Signal, Ticks64};
@@ -81,6 +81,17 @@ impl Spans64 {
         ensures in_order { InOrderInEachLane 64 (span_ends self.now) }
     {
         self.greatest.as_array()[lane as usize] as u32
+    }
+
+    /// The lanes that have the span of this one.
+    pub fn alike(&self, lane: u32) -> Lanes64
+        requires { lane < 64 }
+        ensures itself { IsTrue (bit_on result lane) }
+        ensures alike { (k : ℕ) → k < 64 → IsTrue (bit_on result k) →
+            span_ends self.now k ≡ span_ends self.now lane }
+    {
+        let greatest = Lanes64::alike(&self.greatest, lane);
+        Lanes64::alike(&self.least, lane).and(greatest)
     }
 
     /// Whether all lanes have the span of the first one.

@@ -65,6 +65,12 @@ impl Signal for Terns64 {
         }
     }
 
+    fn same(self, other: Self) -> bool {
+        let must = self.must.same(other.must);
+        let may = self.possible().same(other.possible());
+        must && may
+    }
+
     fn must(self, lane: u32) -> bool {
         self.must.must(lane)
     }
@@ -83,6 +89,10 @@ impl Signal for Terns64 {
 
     fn greatest(span: &Spans64, lane: u32) -> u32 {
         span.greatest_in(lane)
+    }
+
+    fn alike(span: &Spans64, lane: u32) -> Lanes64 {
+        span.alike(lane)
     }
 
     ghost must_implies_may = { λ x lane inside. terns_sound x lane };

@@ -9,10 +9,10 @@ use Rattle.std.proofs.lemmas.Option.{slice_get-map, get_or_from_slice_get, slice
 use Rattle.std.proofs.lemmas.Option.{slice_get_within}
 use Rattle.std.specs.List.Sorted.{IsPartitionedBy, IsPartitionPoint}
 use Rattle.std.specs.Prelude.{slice_get, option_map, true, false, Bool, not, IsTrue, IsFalse}
-use Rattle.model_history.specs.Rails.{Rails, rails_at, both}
+use Rattle.model_history.specs.Rails.{Rails, Ends, rails_at, both}
 use Rattle.run_signal.specs.Lanes.{in_lane}
 use Rattle.run_channel.specs.Tracks.{IsOneOf, AreAscending, ChangeAt, IsTrack, IsLast, IsNextAfter}
-use Rattle.run_channel.specs.Tracks.{StaysUntil}
+use Rattle.run_channel.specs.Tracks.{StaysUntil, IsSteadySince}
 
 pub denied : (b : Bool) → IsFalse (not b) → IsTrue b
 denied true h = refl
@@ -272,6 +272,29 @@ module _ {V : Type 0} (lanes : ℕ) (rails : V → ℕ → Rails) where
           let e : r ≡ t + (r - t) = omega arith in
           ap (rails_at (in_lane rails lane values)) e ∙ same_on (r - t) (omega arith);
     }
+
+  -- the same since the greatest delay, where no change is later
+  pub steady_since : (values : List V) (changes : List ℕ) (e : Ends)
+      → ChangeAt lanes rails changes values → e.least ≤ e.greatest → 1 ≤ e.greatest
+      → e.greatest ≤ length values
+      → ((i c : ℕ) → slice_get changes i ≡ Some c → c ≤ length values - e.greatest)
+      → (lane : ℕ) → lane < lanes
+      → IsSteadySince (rails_at (in_lane rails lane values)) e (length values)
+  steady_since values changes e told ordered some past before lane inside =
+      let end = length values in
+      let next : IsNextAfter changes (end - e.greatest) end end = record {
+        later = omega arith;
+        limited = omega arith;
+        least = λ i c at after. let low : c ≤ end - e.greatest = before i c at in absurd (omega arith);
+      } in
+      let on : StaysUntil (rails_at (in_lane rails lane values)) (end - e.greatest) end end =
+      stays values changes (end - e.greatest) end told next lane inside in
+      record {
+        ordered = ordered;
+        past = past;
+        same = λ r low high.
+            on.same r (omega arith) high ∙ sym (on.same (end - 1) (omega arith) (omega arith));
+      }
 
   -- so many more of one value, where its change is noted
   pub track_filled : (values new : List V) (value : V) (room more : ℕ) (changes noted : List ℕ)

@@ -1,6 +1,6 @@
 -- The values of a key or a trip, with the ticks at which they change.
-use Rattle.std.specs.Prelude.{◌≡◌, ◌<◌, ◌≤◌, ◌⊎◌, ℕ, suc, List, Some, length, slice_get}
-use Rattle.model_history.specs.Rails.{Rails, rails_at}
+use Rattle.std.specs.Prelude.{◌≡◌, ◌<◌, ◌≤◌, ◌+◌, ◌-◌, ◌⊎◌, ℕ, suc, List, Some, length, slice_get}
+use Rattle.model_history.specs.Rails.{Rails, Ends, rails_at}
 use Rattle.run_signal.specs.Lanes.{in_lane}
 
 -- the number is one of these
@@ -51,3 +51,9 @@ pub record StaysUntil (u : ℕ → Rails) (t bound end : ℕ) : Type 0 where
   pub later : t < end
   pub limited : end ≤ bound
   pub same : (r : ℕ) → t ≤ r → r < end → u r ≡ u t
+
+-- the history is the same from the greatest delay before tick t to the tick before it
+pub record IsSteadySince (u : ℕ → Rails) (e : Ends) (t : ℕ) : Type 0 where
+  pub ordered : e.least ≤ e.greatest
+  pub past : e.greatest ≤ t
+  pub same : (r : ℕ) → t ≤ r + e.greatest → r < t → u r ≡ u (t - 1)

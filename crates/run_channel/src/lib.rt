@@ -1,8 +1,9 @@
 //! What a channel delivers: the keys that were sent, after a delay of which the least and the
 //! greatest number of ticks are known.
 //!
-//! A tick costs, whatever the number of keys sent: for a level one look at a key, for three values
-//! a look for each delay of the span and rail, for 64 lanes one look for each lane.
+//! A tick costs, whatever the number of keys sent: for a level one look at a key; for three values
+//! one where the key is the same since the greatest delay, else one for each delay of the span and
+//! rail; for 64 lanes one for each delay that some lanes have.
 #![tactic(auto)]
 
 ghost use Rattle.std.specs.Prelude.{◌≡◌, ℕ, ◌<◌, ◌≤◌, length};
@@ -13,7 +14,6 @@ use run_signal::Signal;
 
 mod lanes;
 mod level;
-mod same;
 mod tern;
 mod track;
 

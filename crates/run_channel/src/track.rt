@@ -7,10 +7,11 @@ ghost use Rattle.model_history.specs.Rails.{rails_at, rails_delayed};
 ghost use Rattle.run_signal.specs.Lanes.{in_lane};
 ghost use Rattle.run_channel.specs.SentKeys.{SentKeys};
 ghost use Rattle.run_channel.specs.Tracks.{IsLast, IsNextAfter, StaysUntil, AreAscending};
+ghost use Rattle.run_channel.specs.Tracks.{IsSteadySince};
 
 use crate::Carried;
-use crate::same::is_same;
 use base_memory::Memory;
+use model_history::delay_laws::delays_are_their_facts;
 use run_signal::Signal;
 use std::alloc::Global;
 use std::marker::Model;
@@ -106,7 +107,32 @@ impl<V: Carried> Track<V> {
             ≡ rails_delayed (rails_at (in_lane V.rails lane self.now.keys))
             (V.ends delay.now lane) (length self.now.keys) }
     {
+        delays_are_their_facts();
+        if self.is_steady(delay) {
+            return self.at(self.len() - 1);
+        }
         V::arrive(&self.values, delay)
+    }
+
+    // Whether there is one lane, and the key is the same since the greatest delay before the next
+    // tick.
+    fn is_steady(&self, delay: &V::Span) -> bool
+        requires { (lane : ℕ) → lane < V.LANES → 1 ≤ (V.ends delay.now lane).least }
+        ensures some { IsTrue result → 1 ≤ length self.now.keys }
+        ensures since { IsTrue result → (lane : ℕ) → lane < V.LANES →
+            IsSteadySince (rails_at (in_lane V.rails lane self.now.keys))
+            (V.ends delay.now lane) (length self.now.keys) }
+    {
+        let lanes = V::LANES;
+        if lanes != 1 {
+            return false;
+        }
+        let greatest = V::greatest(delay, 0);
+        let t = self.values.len() as u32;
+        if t < greatest {
+            return false;
+        }
+        last_change(&self.changes) <= t - greatest
     }
 }
 
@@ -132,7 +158,7 @@ fn changes_to<V: Signal>(values: &[V], value: V) -> bool
     if count == 0 {
         return true;
     }
-    !is_same(values[count - 1], value)
+    !values[count - 1].same(value)
 }
 
 // Whether there is a next tick, and its value may differ from that of this one.
@@ -141,7 +167,7 @@ fn changes_next<V: Signal>(values: &[V], t: u32) -> bool
     ensures { IsTrue result → t + 1 < length values.now }
 {
     let next = t as usize + 1;
-    next < values.len() && !is_same(values[next], values[t as usize])
+    next < values.len() && !values[next].same(values[t as usize])
 }
 
 // Appends a value so many times to a list with room for them.
@@ -156,6 +182,18 @@ fn fill_within<V: Copy>(list: &mut Vec<V>, value: V, count: u32)
     }
     let len = list.len() + count as usize;
     list.resize(len, value).unwrap();
+}
+
+// The last of the changes, or 0 where there is none.
+fn last_change(changes: &[u32]) -> u32
+    requires { AreAscending changes.now }
+    ensures { (i c : ℕ) → slice_get changes.now i ≡ Some c → c ≤ result }
+{
+    let count = changes.len();
+    if count == 0 {
+        return 0;
+    }
+    changes[count - 1]
 }
 
 // The first of the changes after t, or the bound where there is none.

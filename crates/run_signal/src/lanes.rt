@@ -1,13 +1,15 @@
 //! Sixty-four truth values that are known.
 #![tactic(auto)]
 
-ghost use Rattle.std.specs.Prelude.{◌≡◌, ◌≢◌, ℕ, ◌<◌, ◌≤◌, List, length, slice_index};
+ghost use Rattle.std.specs.Prelude.{◌≡◌, ◌≢◌, ℕ, ◌<◌, ◌≤◌, ◌==◌, List, length, slice_index};
+ghost use Rattle.std.specs.Prelude.{IsTrue, IsFalse, ◌↔◌, ◌⊎◌};
 ghost use Rattle.model_history.specs.Rails.{both};
-ghost use Rattle.run_signal.specs.Bits.{bit_rails};
+ghost use Rattle.run_signal.specs.Bits.{bit_on, bit_rails};
 
 use crate::Signal;
 use crate::span::Tick;
 use std::marker::Model;
+use std::simd::prelude::*;
 
 /// A truth value that is known in each of 64 lanes. Contracts see a number: lane i is its bit i.
 #[derive(Clone, Copy)]
@@ -36,6 +38,27 @@ impl Lanes64 {
         ensures { result ≡ self }
     {
         self.bits
+    }
+
+    /// The first lane that is on, or 64.
+    pub fn first(self) -> u32
+        ensures on { result < 64 → IsTrue (bit_on self result) }
+        ensures off { (k : ℕ) → k < 64 → k < result → IsFalse (bit_on self k) }
+        ensures limited { result ≤ 64 }
+    {
+        let bits = self.bits();
+        if bits == 0 {
+            return 64;
+        }
+        bits.trailing_zeros()
+    }
+
+    /// The lanes that are on here and off there.
+    pub fn without(self, other: Lanes64) -> Lanes64
+        ensures { (k : ℕ) → k < 64 →
+            IsFalse (bit_on result k) ↔ (IsFalse (bit_on self k) ⊎ IsTrue (bit_on other k)) }
+    {
+        self.and(other.not())
     }
 
     /// The same values but in this lane.
@@ -99,6 +122,24 @@ impl Ticks64 {
     }
 }
 
+impl Ticks64 {
+    /// The lanes that have this number.
+    pub fn lanes_with(&self, number: u16) -> Lanes64
+        ensures { (lane : ℕ) → lane < 64 →
+            bit_on result lane ≡ (slice_index self.now lane == number) }
+    {
+        let numbers = u16x64::from_slice(&self.values);
+        Lanes64::from_bits(bits_equal(numbers, u16x64::splat(number)))
+    }
+}
+
+// The lanes where both numbers are the same, as bits.
+fn bits_equal(a: u16x64, b: u16x64) -> u64
+    ensures { (i : ℕ) → i < 64 → bit_on result i ≡ (slice_index a i == slice_index b i) }
+{
+    a.simd_eq(b).to_bitmask()
+}
+
 // The numbers of 64 ticks.
 fn numbers(ticks: &[Tick]) -> [u16; 64]
     requires { length ticks.now ≡ 64 }
@@ -149,6 +190,10 @@ impl Signal for Lanes64 {
         }
     }
 
+    fn same(self, other: Self) -> bool {
+        self.bits == other.bits
+    }
+
     fn must(self, lane: u32) -> bool {
         (self.bits >> lane) & 1 == 1
     }
@@ -169,6 +214,10 @@ impl Signal for Lanes64 {
 
     fn greatest(span: &Ticks64, lane: u32) -> u32 {
         span.values[lane as usize] as u32
+    }
+
+    fn alike(span: &Ticks64, lane: u32) -> Lanes64 {
+        span.lanes_with(span.values[lane as usize])
     }
 
     ghost must_implies_may = { λ x lane inside on. on };

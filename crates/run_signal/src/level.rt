@@ -2,6 +2,7 @@
 #![tactic(auto)]
 
 use crate::Signal;
+use crate::lanes::Lanes64;
 use crate::span::Tick;
 
 /// A truth value that is known: one lane, both rails the same, each time one number of ticks.
@@ -50,6 +51,10 @@ impl Signal for Level {
         }
     }
 
+    fn same(self, other: Self) -> bool {
+        self == other
+    }
+
     fn must(self, _lane: u32) -> bool {
         match self {
             Level::Off => false,
@@ -71,6 +76,10 @@ impl Signal for Level {
 
     fn greatest(span: &Tick, _lane: u32) -> u32 {
         span.value()
+    }
+
+    fn alike(_span: &Tick, _lane: u32) -> Lanes64 {
+        Lanes64::from_bits(1)
     }
 
     ghost must_implies_may = { λ x lane inside. level_sound x };

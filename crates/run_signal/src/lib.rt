@@ -6,10 +6,11 @@
 //! 64 timings at a time. No call takes memory.
 #![tactic(auto)]
 
-ghost use Rattle.std.specs.Prelude.{◌≡◌, ℕ, ◌<◌, ◌≤◌};
+ghost use Rattle.std.specs.Prelude.{◌≡◌, ℕ, ◌<◌, ◌≤◌, IsTrue};
 ghost use Rattle.model_history.specs.Rails.{Rails, Ends, IsSound, single, both, rails_not};
 ghost use Rattle.model_history.specs.Rails.{rails_and};
 ghost use Rattle.model_history.specs.Rails.{rails_or};
+ghost use Rattle.run_signal.specs.Bits.{bit_on};
 ghost use Rattle.run_signal.specs.Spans.{InOrderInEachLane};
 
 mod lanes;
@@ -52,6 +53,11 @@ pub trait Signal: Copy {
         ensures { (lane : ℕ) → lane < LANES →
             rails result lane ≡ rails_or (rails self lane) (rails other lane) };
 
+    /// Whether both values are the same in each lane.
+    fn same(self, other: Self) -> bool
+        ensures { IsTrue result →
+            (lane : ℕ) → lane < LANES → rails self lane ≡ rails other lane };
+
     /// Whether the value must be on in the lane.
     fn must(self, lane: u32) -> bool
         requires { lane < LANES }
@@ -79,6 +85,14 @@ pub trait Signal: Copy {
         requires { lane < LANES }
         ensures greatest { result ≡ (ends span.now lane).greatest }
         ensures in_order { InOrderInEachLane LANES (ends span.now) };
+
+    /// This lane, and others whose spans have the ends that its span has.
+    fn alike(span: &Self::Span, lane: u32) -> Lanes64
+        requires { lane < LANES }
+        ensures itself { IsTrue (bit_on result lane) }
+        ensures alike { (k : ℕ) → k < LANES → IsTrue (bit_on result k) →
+            ends span.now k ≡ ends span.now lane }
+        ensures few { LANES ≤ 64 };
 
     /// What must be may be.
     ghost must_implies_may: { (x : Self) (lane : ℕ) → lane < LANES → IsSound (rails x lane) };

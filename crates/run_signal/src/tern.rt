@@ -6,6 +6,7 @@ ghost use Rattle.model_history.specs.Rails.{Rails, RailsCover, IsSound};
 ghost use Rattle.run_signal.specs.Terns.{tern_rails};
 
 use crate::Signal;
+use crate::lanes::Lanes64;
 use crate::span::Within;
 
 /// A truth value over a whole box of timings: off in all, on in all, or unknown. One lane, each
@@ -74,6 +75,10 @@ impl Signal for Tern {
         }
     }
 
+    fn same(self, other: Self) -> bool {
+        self == other
+    }
+
     fn must(self, _lane: u32) -> bool {
         match self {
             Tern::One => true,
@@ -98,6 +103,10 @@ impl Signal for Tern {
 
     fn greatest(span: &Within, _lane: u32) -> u32 {
         span.greatest()
+    }
+
+    fn alike(_span: &Within, _lane: u32) -> Lanes64 {
+        Lanes64::from_bits(1)
     }
 
     ghost must_implies_may = { λ x lane inside. tern_sound x };

@@ -2,6 +2,7 @@ pub mod LagLaws
 pub mod ReaderLaws
 pub mod TraceLaws
 pub mod WaitLaws
+pub mod MarkLaws
 pub mod Lists
 pub mod Loops
 pub mod GatePairLaws
@@ -20,3 +21,4 @@ pub mod ValueLaws
 pub mod RunLaws
 pub mod PointLaws
 pub mod PlayLaws
+pub mod AgreeLaws

@@ -36,7 +36,7 @@ closed_in x y v outer is inner =
 
 module _ (laws : LineLaws) (line : Line) (script : Script) (box : Box) (d : LeastFromOne line box)
     (choice : Choice) (point : IsPoint line box choice) where
-  delays_from_one : DelaysFromOne line choice
+  pub delays_from_one : DelaysFromOne line choice
   delays_from_one c t lt early =
       subst (λ (e : Ends). 1 ≤ e.least) (point.delays c t lt early) (d c t lt early)
 

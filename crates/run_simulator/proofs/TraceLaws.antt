@@ -19,10 +19,12 @@ use Rattle.run_simulator.specs.Readers.{IsTold}
 use Rattle.run_simulator.specs.declared.readers.Readers.{Readers}
 use Rattle.model_history.specs.Laws.{RecordedTicksSuffice}
 use Rattle.run_timers.specs.Stretches.{ElementsInAStretch}
-use Rattle.net_gates.specs.Laws.{HasArguments}
+use Rattle.net_gates.specs.Laws.{HasArguments, AreGates}
+use Rattle.run_simulator.specs.Marks.{AreMarked, IsMarked}
+use Rattle.run_simulator.specs.declared.marks.Marks.{Marks}
 use Rattle.run_simulator.proofs.Lists.{at_set, one_value}
 use Rattle.run_simulator.proofs.LagLaws.{args_same, rest_pair, rest_timer, rest_lags, rests_more}
-use Rattle.run_simulator.proofs.LagLaws.{rests_none, ArgsSame}
+use Rattle.run_simulator.proofs.LagLaws.{rests_none, ArgsSame, at_least_one}
 use Rattle.run_simulator.proofs.WaitLaws.{timer_none}
 use Rattle.std.proofs.lemmas.Option.{slice_get_within}
 
@@ -59,11 +61,8 @@ pub fresh_lowered : (t n : ℕ) (old new : List ℕ) → AreLowered old new → 
 fresh_lowered t n old new lowered fresh first k due low at =
     ⊎_elim (λ none. none) (λ same. fresh first k due low same) (lowered k due at)
 
-fresh_next : (t i n : ℕ) (dues : List ℕ) → i ≤ n → AreFreshDues t i dues → AreFreshDues t n dues
+pub fresh_next : (t i n : ℕ) (dues : List ℕ) → i ≤ n → AreFreshDues t i dues → AreFreshDues t n dues
 fresh_next t i n dues le fresh first k due low at = fresh first k due (omega arith) at
-
-pub fresh_on : (t i : ℕ) (dues : List ℕ) → AreFreshDues t i dues → AreFreshDues t (i + 1) dues
-fresh_on t i dues fresh = fresh_next t i (i + 1) dues (omega arith) fresh
 
 if_not : (b : Bool) → (IsTrue b → ⊥) → b ≡ false
 if_not false none = refl
@@ -221,6 +220,73 @@ module _ {C S V : Type 0} (stands_for : C → S → S → ℕ → List Rails →
         rest_timer w u t (t - 1) (due - (t - 1)) (due - t) gate next (omega (arith, some, later)) args
             waits.timer,
       )
+
+  -- the timers of the gates from one to another keep until they are due
+  abbrev KeepBetween : ℕ → ℕ → List ℕ → Type 0
+  KeepBetween i n dues = (k : ℕ) (g : Gate) (due : ℕ) → i ≤ k → k < n
+      → slice_get gates k ≡ Some g → slice_get dues k ≡ Some due → TimerKeeps w u t (due - t) g
+
+  -- so many gates more that are left as they are
+  traced_on : (stretch : ElementsInAStretch) (recorded : RecordedTicksSuffice)
+      (cells : List (Cell C V S)) (sinces : List (Since V)) (dues : List ℕ) (column : List V)
+      → length cells ≡ length gates → length sinces ≡ length gates → length dues ≡ length gates
+      → length column ≡ length gates → AreGates gates → ((r : ℕ) → AreTold w keys u r gates)
+      → GivenRests w t turned → (i : ℕ) → AreFreshDues t i dues → (d : ℕ) → i + d ≤ length gates
+      → ((k due : ℕ) → i ≤ k → k < i + d → slice_get dues k ≡ Some due → t < due)
+      → Traced i cells sinces dues column
+      → Traced (i + d) cells sinces dues column × KeepBetween i (i + d) dues
+  traced_on stretch recorded cells sinces dues column lc ls ld lv laws told given i fresh zero fits
+      late traced =
+      let e : i ≡ i + 0 = omega arith in (
+        subst (λ (n : ℕ). Traced n cells sinces dues column) e traced,
+        λ k g due low lt. absurd (omega (arith, low, lt)),
+      )
+  traced_on stretch recorded cells sinces dues column lc ls ld lv laws told given i fresh (suc d)
+      fits late traced =
+      let before = traced_on stretch recorded cells sinces dues column lc ls ld lv laws told given i
+      fresh d (omega (arith, fits)) (λ k due low lt. late k due low (omega (arith, lt))) traced in
+      let n : ℕ = i + d in
+      let inside : n < length gates = omega (arith, fits) in
+      let (gate, ga) = exists_at gates n inside in
+      let (due, da) = exists_at dues n (omega (arith, inside, ld)) in
+      let low : i ≤ n = omega arith in
+      let high : n < i + suc d = omega arith in
+      let later : t < due = late n due low high da in
+      let some : 1 ≤ t = at_least_one t due later (λ first. fresh first n due low da) in
+      let more = traced_rest stretch recorded n due gate cells sinces dues column lc ls lv
+      (laws.earlier n gate ga) some later ga da told given before.0 in
+      let e : n + 1 ≡ i + suc d = omega arith in (
+        subst (λ (m : ℕ). Traced m cells sinces dues column) e more.0,
+        λ k g x from to gat dat.
+            ⊎_elim
+            (λ lower. before.1 k g x from lower gat dat)
+            (λ ge. let here : n ≡ k = omega (arith, ge, to) in
+            subst (λ (h : Gate). TimerKeeps w u t (x - t) h) (one_value gates n k gate g here ga gat)
+            (subst (λ (y : ℕ). TimerKeeps w u t (y - t) gate) (one_value dues n k due x here da dat)
+            more.1))
+            (cases_lt k n),
+      )
+
+  -- the gates without a mark from one to another are left as they are
+  pub traced_past : (stretch : ElementsInAStretch) (recorded : RecordedTicksSuffice) (marks : Marks)
+      (i n : ℕ) (cells : List (Cell C V S)) (sinces : List (Since V)) (dues : List ℕ)
+      (column : List V) → length cells ≡ length gates → length sinces ≡ length gates
+      → length dues ≡ length gates → length column ≡ length gates → AreGates gates
+      → AreMarked dues marks → t < marks.least → AreFreshDues t i dues → i ≤ n → n ≤ length gates
+      → ((k : ℕ) → i ≤ k → k < n → IsMarked k marks.words.items → ⊥)
+      → ((r : ℕ) → AreTold w keys u r gates) → GivenRests w t turned
+      → Traced i cells sinces dues column
+      → Traced n cells sinces dues column × KeepBetween i n dues
+  traced_past stretch recorded marks i n cells sinces dues column lc ls ld lv laws marked least fresh
+      from to passed told given traced =
+      let e : i + (n - i) ≡ n = omega (arith, from) in
+      subst (λ (m : ℕ). Traced m cells sinces dues column × KeepBetween i m dues) e
+      (traced_on stretch recorded cells sinces dues column lc ls ld lv laws told given i fresh (n - i)
+      (omega (arith, e, to))
+      (λ k due low lt at. ⊎_elim (λ m. absurd (passed k low (omega (arith, lt, e)) m))
+      (λ late. omega (arith, late, least))
+      (marked.watched k due (slice_get_within dues k due at) at))
+      traced)
 
   -- one gate more that was evaluated
   pub traced_more : (readers : Readers) (i lanes : ℕ) (cells : List (Cell C V S))

@@ -177,5 +177,20 @@ rested_later all t n until some keeps _ = record {
       ∙ sym (keeps.lost c (t + n - 1) (omega arith) (omega arith));
 }
 
+pub keeps_later : (all : List SeenSpan) (t n until : ℕ) → ScriptKeeps all t (until - t)
+    → ScriptKeeps all (t + n) (until - (t + n))
+keeps_later all t n until keeps = record {
+  seen = λ p r low high. keeps.seen p r (omega (arith, low)) (omega (arith, low, high))
+      ∙ sym (keeps.seen p (t + n) (omega arith) (omega (arith, low, high)));
+  lost = λ c r low high. keeps.lost c r (omega (arith, low)) (omega (arith, low, high))
+      ∙ sym (keeps.lost c (t + n) (omega arith) (omega (arith, low, high)));
+}
+
+pub keeps_none : (all : List SeenSpan) (until : ℕ) → until ≡ 0 → ScriptKeeps all 0 (until - 0)
+keeps_none all until none = record {
+  seen = λ p r low high. absurd (omega (arith, high, none));
+  lost = λ c r low high. absurd (omega (arith, high, none));
+}
+
 pub rested_none : (all : List SeenSpan) (until : ℕ) → HasRested all 0 until
 rested_none all until some = absurd (omega arith)

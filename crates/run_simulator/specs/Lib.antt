@@ -13,5 +13,7 @@ pub mod Shown
 pub mod Inputs
 pub mod Lags
 pub mod Readers
+pub mod Marks
 pub mod Tracks
 pub mod PlayedTracks
+pub mod Agreeing

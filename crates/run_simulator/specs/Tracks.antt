@@ -14,7 +14,7 @@ use Rattle.run_simulator.specs.Ticks.{KeysSent, HaveCells, AreSent}
 use Rattle.run_simulator.specs.{Lags.AllWait, Lags.AreFreshDues, declared.since.Since.Since}
 use Rattle.run_simulator.specs.Quiet.{ScriptKeeps}
 use Rattle.model_line.specs.declared.script.SeenSpan.{SeenSpan}
-use Rattle.run_simulator.specs.Readers.{ReadersHold}
+use Rattle.run_simulator.specs.{Readers.ReadersHold, Marks.AreMarked}
 use Rattle.run_simulator.specs.{declared.cell.Cell.Cell, declared.kept.Kept.Kept, Shown.AreShown}
 use Rattle.run_simulator.specs.Inputs.{AreDelays, DelaysHold}
 
@@ -55,6 +55,7 @@ pub record CanTake {C S V : Type 0} (ends : S → ℕ → Ends) (line : Line) (n
   pub column : length kept.column.items ≡ length net.gates
   pub sinces : length kept.sinces.items ≡ length net.gates
   pub dues : length kept.dues.items ≡ length net.gates
+  pub marks : AreMarked kept.dues.items kept.marks
   pub fresh : AreFreshDues t 0 kept.dues.items
   pub delays : AreDelays line kept.inputs.delays.items
   pub held : DelaysHold ends spans steps kept.inputs.delays.items t kept.inputs.until
@@ -68,7 +69,8 @@ pub record IsKeptOf {C S V : Type 0} (lanes : ℕ) (stands_for : C → S → S �
     (ends : S → ℕ → Ends) (rails : V → ℕ → Rails) (line : Line) (script : Script) (spans : List S)
     (steps : List (Step S)) (net : NetOf) (t : ℕ) (kept : Kept C V S S) : Type 0 where
   pub shown : AreShown script.spans.items kept.inputs.shown t kept.inputs.until
-  pub rests : HasRested script.spans.items t kept.inputs.until
+  pub rests : HasRested script.spans.items t kept.inputs.rests
+  pub keeps : ScriptKeeps script.spans.items t (kept.inputs.rests - t)
   pub tracked : (lane : ℕ) → lane < lanes
       → LineTracked stands_for ends rails line script spans steps net lane t kept
 

@@ -13,7 +13,7 @@ use crate::lesser::lesser;
 use model_history::laws::history_laws;
 use model_line::Line;
 use run_channel::Track;
-use run_signal::Signal;
+use run_signal::{Lanes64, Signal};
 
 /// For how many ticks from this one on, up to a limit, the same arrives over each channel, where
 /// the keys of the tick were sent and are held on.
@@ -43,8 +43,9 @@ pub fn arrivals_stay<V: Signal>(
     stays
 }
 
-// For how many ticks, up to a limit, the same arrives of a key, through a delay within the span. An
-// end that the lane before has too is not looked for again.
+// For how many ticks, up to a limit, the same arrives of a key, through a delay within the span. One
+// lane is asked of those with the same ends; an end that the last one has too is not looked for
+// again.
 fn arrival_stays<V: Signal>(key: &Track<V>, delay: &V::Span, t: u32, limit: u32) -> u32
     requires later { (lane : ℕ) → lane < V.LANES → 1 ≤ (V.ends delay.now lane).least }
     requires known { length key.now.keys ≡ suc t }
@@ -60,14 +61,20 @@ fn arrival_stays<V: Signal>(key: &Track<V>, delay: &V::Span, t: u32, limit: u32)
         return 1;
     }
     history_laws();
+    let lanes = V::LANES;
     let mut stays = limit;
     let mut last = 0;
-    for lane in 0..V::LANES {
+    let mut left = Lanes64::known(true);
+    let mut lane = 0;
+    'next_span: while lane < lanes {
         let least = V::least(delay, lane);
         let greatest = V::greatest(delay, lane);
         let first = sooner(key, least, last, t, stays);
         stays = sooner(key, greatest, least, t, first);
         last = greatest;
+        let alike = V::alike(delay, lane);
+        left = left.without(alike);
+        lane = left.first();
     }
     stays
 }

@@ -1,15 +1,16 @@
 //! What a net is given at a tick: what its script shows and loses, and its delays.
 
-ghost use Rattle.std.specs.Prelude.{◌≡◌, ℕ, ◌<◌, ◌≤◌, ◌+◌, List, length, IfOk, IsTrue};
+ghost use Rattle.std.specs.Prelude.{◌≡◌, ℕ, ◌<◌, ◌≤◌, ◌+◌, ◌-◌, List, length, IfOk, IsTrue};
 ghost use Rattle.model_line.specs.Parameters.{channel_count, param_count, delay_param};
 ghost use Rattle.model_line.specs.declared.script.SeenSpan.{SeenSpan};
 ghost use Rattle.model_timing.specs.Timing.{ascend};
 ghost use Rattle.run_simulator.specs.Inputs.{AreDelays, DelayHolds, DelaysHold};
-ghost use Rattle.run_simulator.specs.Shown.{ShowTheSame, AreShown, not_over};
+ghost use Rattle.run_simulator.specs.{Shown.ShowTheSame, Shown.AreShown, Shown.not_over};
+ghost use Rattle.run_simulator.specs.Quiet.{ScriptKeeps};
 
 use crate::lesser::lesser;
 use crate::shown::Shown;
-use crate::steps::{steps_stay, value_at};
+use crate::steps::{passed_steps, steps_stay, value_at};
 use model_line::{Line, Memory, Script};
 use model_timing::Step;
 use run_signal::Signal;
@@ -23,13 +24,14 @@ pub struct Delay<P: Copy> {
     pub span: P,
 }
 
-/// What the script shows at a tick, the delay of each channel at it, and the first tick at which
-/// either may differ.
+/// What the script shows at a tick, the delay of each channel at it, the first tick at which either
+/// may differ, and that at which what is shown may.
 #[derive(Drop)]
 pub struct Inputs<P: Copy> {
     pub shown: Shown,
     pub delays: Vec<Delay<P>>,
     pub until: u32,
+    pub rests: u32,
 }
 
 /// What is looked up before tick 0. All memory is taken here.
@@ -44,6 +46,7 @@ pub fn fresh_inputs<V: Signal>(
         ShowTheSame r (not_over inputs.shown) script.now.spans.items) }
     ensures delays { IfOk result (λ inputs. AreDelays line.now inputs.delays.items) }
     ensures over { IfOk result (λ inputs. inputs.until ≡ 0) }
+    ensures rests { IfOk result (λ inputs. inputs.rests ≡ 0) }
 {
     let shown = Shown::new(alloc, script)?;
     let delays = fresh_delays::<V>(alloc, line, spans)?;
@@ -51,6 +54,7 @@ pub fn fresh_inputs<V: Signal>(
         shown,
         delays,
         until: 0,
+        rests: 0,
     })
 }
 
@@ -96,6 +100,8 @@ pub fn turn<V: Signal>(
     // Of whichever spans it was shown before, it is now.
     ensures shown { (all : List SeenSpan) → AreShown all inputs.old.shown t inputs.old.until →
         AreShown all inputs.new.shown t inputs.new.until }
+    ensures rests { (all : List SeenSpan) → AreShown all inputs.old.shown t inputs.old.until →
+        ScriptKeeps all t (inputs.old.rests - t) → ScriptKeeps all t (inputs.new.rests - t) }
 {
     if t < inputs.until {
         return;
@@ -103,6 +109,7 @@ pub fn turn<V: Signal>(
     let shown = inputs.shown.turn(t);
     let still = set_delays::<V>(line, spans, steps, &mut inputs.delays, t);
     inputs.until = t + lesser(shown, still);
+    inputs.rests = t + shown;
 }
 
 // Sets each delay to its span at the tick, and answers for how many ticks all stay.
@@ -143,6 +150,7 @@ fn set_delay<V: Signal>(
     ensures param { delay.new.param ≡ delay.old.param }
     ensures holds { DelayHolds V.ends spans.now steps.now delay.new t (t + result) }
 {
-    delay.span = value_at(steps, spans[delay.param as usize], delay.param, t);
-    steps_stay(steps, delay.param, t)
+    let passed = passed_steps(steps, delay.param, t);
+    delay.span = value_at(steps, spans[delay.param as usize], delay.param, t, passed);
+    steps_stay(steps, delay.param, t, passed)
 }

@@ -6,6 +6,7 @@
 //! history over a box of timings, at `Lanes64` the histories of 64 timings at once.
 #![tactic(auto)]
 
+mod agreeing;
 mod answer;
 mod arrivals;
 mod cell;
@@ -15,12 +16,14 @@ mod kept;
 pub mod laws;
 mod lesser;
 mod look;
+mod marks;
 mod readers;
 mod run_net;
 mod send;
 mod shown;
 mod since;
 mod spans;
+mod start;
 mod steps;
 mod stretch;
 mod ticks;
@@ -30,6 +33,7 @@ mod walk;
 mod waves;
 mod within;
 
+pub use agreeing::agreeing_lanes;
 pub use run_net::run;
 pub use tracks::{Tracks, run_tracks};
 pub use waves::Waves;

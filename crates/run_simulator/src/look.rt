@@ -50,25 +50,6 @@ fn input_of<V: Signal>(gate: &Gate, earlier: &[V]) -> V
     }
 }
 
-/// Whether two values are the same in each lane.
-pub fn is_same<V: Signal>(a: V, b: V) -> bool
-    ensures { IsTrue result → (lane : ℕ) → lane < V.LANES → V.rails a lane ≡ V.rails b lane }
-{
-    for lane in 0..V::LANES {
-        if !is_same_in(a, b, lane) {
-            return false;
-        }
-    }
-    true
-}
-
-fn is_same_in<V: Signal>(a: V, b: V, lane: u32) -> bool
-    requires { lane < V.LANES }
-    ensures { IsTrue result → V.rails a lane ≡ V.rails b lane }
-{
-    a.must(lane) == b.must(lane) && a.may(lane) == b.may(lane)
-}
-
 /// Evaluates a gate, whose cell may lag behind the tick.
 pub fn look<V: Timed + Carried>(
     gate: &Gate,
@@ -90,6 +71,7 @@ pub fn look<V: Timed + Carried>(
     requires delays { CanReceive V.LANES V.ends line.now delays.now }
     requires sent { AreSent (terminal_count line.now) line.now.horizon t sent.now }
     ensures shape { HasCell gate.now cell.new }
+    ensures later { t < due.new }
     ensures stands { (lane : ℕ) (w : PairWorld) (u : GateSignals) → lane < V.LANES →
         ValuesAgree V.rails lane u t earlier.now →
         Lags V.stands_for V.ends V.rails lane w u t gate.now cell.old since.old →

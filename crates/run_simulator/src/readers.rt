@@ -1,13 +1,14 @@
 //! Which gates are to be looked at where one changes.
 
-ghost use Rattle.std.specs.Prelude.{◌≡◌, ℕ, [], ◌<◌, IfOk, length, slice_get, slice_set, Some, IsTrue};
+ghost use Rattle.std.specs.Prelude.{◌≡◌, [], ◌<◌, IfOk, length, slice_get, slice_set, Some, IsTrue};
+ghost use Rattle.run_simulator.specs.Marks.{AreMarked};
 ghost use Rattle.net_gates.specs.Laws.{HasArguments};
 ghost use Rattle.run_simulator.specs.Readers.{AreAwake, AreBelow, AreLowered, AreReadersAwake};
 ghost use Rattle.run_simulator.specs.Readers.{IsListed, IsTold, ListGates, ListsGrow, ReadersHold};
 ghost use Rattle.run_simulator.specs.Readers.{IsConstant, IsGiven, IsRaw, ReadsOne, ReadsTwo};
 ghost use Rattle.run_simulator.specs.Readers.{StandsIn};
 
-use crate::look::is_same;
+use crate::marks::{Marks, mark};
 use model_line::Memory;
 use net_gates::{Gate, GateId, Net};
 use run_signal::Signal;
@@ -182,67 +183,82 @@ fn list_in(x: GateId, i: u32, readers: &mut Readers) -> Result<(), Memory>
 }
 
 // Makes each of these gates due at once.
-fn wake(gates: &[u32], dues: &mut Vec<u32>)
+fn wake(gates: &[u32], dues: &mut Vec<u32>, marks: &mut Marks)
     requires inside { AreBelow (length dues.old.items) gates.now }
+    requires marks { AreMarked dues.old.items marks.old }
     ensures count { length dues.new.items ≡ length dues.old.items }
     ensures lowered { AreLowered dues.old.items dues.new.items }
     ensures awake { AreAwake gates.now dues.new.items }
+    ensures marks { AreMarked dues.new.items marks.new }
+    ensures least { marks.new.least ≡ marks.old.least }
 {
     for gate in gates {
-        wake_one(*gate, dues);
+        wake_one(*gate, dues, marks);
     }
 }
 
-fn wake_one(gate: u32, dues: &mut Vec<u32>)
-    requires { gate < length dues.old.items }
-    ensures { dues.new.items ≡ slice_set dues.old.items gate 0 }
+fn wake_one(gate: u32, dues: &mut Vec<u32>, marks: &mut Marks)
+    requires inside { gate < length dues.old.items }
+    requires marks { AreMarked dues.old.items marks.old }
+    ensures due { dues.new.items ≡ slice_set dues.old.items gate 0 }
+    ensures marks { AreMarked dues.new.items marks.new }
+    ensures least { marks.new.least ≡ marks.old.least }
 {
     dues[gate as usize] = 0;
+    mark(&mut marks.words, gate);
 }
 
 /// Makes what arrives over the channels due at once, and what a script shows and loses if that
 /// turned.
-pub fn wake_sources(readers: &Readers, turned: bool, dues: &mut Vec<u32>)
+pub fn wake_sources(readers: &Readers, turned: bool, dues: &mut Vec<u32>, marks: &mut Marks)
     requires lists { ListGates (length dues.old.items) readers.now }
+    requires marks { AreMarked dues.old.items marks.old }
     ensures count { length dues.new.items ≡ length dues.old.items }
     ensures lowered { AreLowered dues.old.items dues.new.items }
     ensures raws { AreAwake readers.now.raws.items dues.new.items }
     ensures given { IsTrue turned → AreAwake readers.now.given.items dues.new.items }
+    ensures marks { AreMarked dues.new.items marks.new }
+    ensures least { marks.new.least ≡ marks.old.least }
 {
-    wake(&readers.raws, dues);
+    wake(&readers.raws, dues, marks);
     if turned {
-        wake(&readers.given, dues);
+        wake(&readers.given, dues, marks);
     }
 }
 
 /// Makes the readers of a gate due at once if its value is another than the last one.
-pub fn tell<V: Signal>(readers: &Readers, gate: u32, value: V, last: V, dues: &mut Vec<u32>)
+pub fn tell<V: Signal>(
+    readers: &Readers,
+    gate: u32,
+    value: V,
+    last: V,
+    dues: &mut Vec<u32>,
+    marks: &mut Marks,
+)
     requires inside { gate < length dues.old.items }
     requires lists { ListGates (length dues.old.items) readers.now }
+    requires marks { AreMarked dues.old.items marks.old }
     ensures count { length dues.new.items ≡ length dues.old.items }
     ensures lowered { AreLowered dues.old.items dues.new.items }
     ensures told { IsTold V.LANES V.rails gate readers.now value last dues.new.items }
+    ensures marks { AreMarked dues.new.items marks.new }
+    ensures least { marks.new.least ≡ marks.old.least }
 {
-    if !is_same(value, last) {
-        wake_readers(readers, gate, dues);
+    if !value.same(last) {
+        wake_readers(readers, gate, dues, marks);
     }
 }
 
 // Makes the readers of a gate due at once.
-fn wake_readers(readers: &Readers, gate: u32, dues: &mut Vec<u32>)
+fn wake_readers(readers: &Readers, gate: u32, dues: &mut Vec<u32>, marks: &mut Marks)
     requires inside { gate < length dues.old.items }
     requires lists { ListGates (length dues.old.items) readers.now }
+    requires marks { AreMarked dues.old.items marks.old }
     ensures count { length dues.new.items ≡ length dues.old.items }
     ensures lowered { AreLowered dues.old.items dues.new.items }
     ensures awake { AreReadersAwake gate readers.now dues.new.items }
+    ensures marks { AreMarked dues.new.items marks.new }
+    ensures least { marks.new.least ≡ marks.old.least }
 {
-    wake(&readers.of_gates[gate as usize], dues);
-}
-
-/// Whether a gate is not due at the tick.
-pub fn is_at_rest(dues: &[u32], gate: u32, t: u32) -> bool
-    requires { gate < length dues.now }
-    ensures { IsTrue result → (due : ℕ) → slice_get dues.now gate ≡ Some due → t < due }
-{
-    t < dues[gate as usize]
+    wake(&readers.of_gates[gate as usize], dues, marks);
 }

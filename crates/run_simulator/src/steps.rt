@@ -7,12 +7,12 @@ ghost use Rattle.run_simulator.specs.{Steps.IsParted, Quiet.NoStepIn};
 use model_timing::Step;
 
 /// The value of a parameter at a tick: that of its step with the greatest `from` not after the
-/// tick, else its own. The search takes as many looks as the number of steps has binary digits.
-pub fn value_at<P: Copy>(steps: &[Step<P>], own: P, param: u32, t: u32) -> P
-    requires { IsTrue (ascend steps.now) }
+/// tick, else its own. So many of the steps are passed.
+pub fn value_at<P: Copy>(steps: &[Step<P>], own: P, param: u32, t: u32, passed: usize) -> P
+    requires ascending { IsTrue (ascend steps.now) }
+    requires parted { IsParted param t steps.now passed }
     ensures { result ≡ number_at steps.now param t own }
 {
-    let passed = passed_steps(steps, param, t);
     if passed == 0 {
         return own;
     }
@@ -20,13 +20,14 @@ pub fn value_at<P: Copy>(steps: &[Step<P>], own: P, param: u32, t: u32) -> P
     if last.param == param { last.value } else { own }
 }
 
-/// For how many ticks from this one on no step of the parameter comes.
-pub fn steps_stay<P: Copy>(steps: &[Step<P>], param: u32, t: u32) -> u32
+/// For how many ticks from this one on no step of the parameter comes. So many of the steps are
+/// passed.
+pub fn steps_stay<P: Copy>(steps: &[Step<P>], param: u32, t: u32, passed: usize) -> u32
     requires ascending { IsTrue (ascend steps.now) }
+    requires parted { IsParted param t steps.now passed }
     ensures some { 1 ≤ result }
     ensures keeps { NoStepIn steps.now param t result }
 {
-    let passed = passed_steps(steps, param, t);
     if passed == steps.len() {
         return 4000;
     }
@@ -38,8 +39,9 @@ pub fn steps_stay<P: Copy>(steps: &[Step<P>], param: u32, t: u32) -> u32
     }
 }
 
-// How many steps are passed: of earlier parameters, or of this one and come.
-fn passed_steps<P: Copy>(steps: &[Step<P>], param: u32, t: u32) -> usize
+/// How many steps are passed: of earlier parameters, or of this one and come. The search takes as
+/// many looks as the number of steps has binary digits.
+pub fn passed_steps<P: Copy>(steps: &[Step<P>], param: u32, t: u32) -> usize
     requires { IsTrue (ascend steps.now) }
     ensures { IsParted param t steps.now result }
 {

@@ -12,6 +12,7 @@ use crate::arrivals::arrivals_stay;
 use crate::inputs::turn;
 use crate::kept::Kept;
 use crate::lesser::lesser;
+use crate::marks::quiet_ticks;
 use crate::send::send_all;
 use crate::trace::trace;
 use model_history::recorded_laws::recorded_ticks_suffice;
@@ -51,7 +52,7 @@ pub fn take_stretch<V: Timed + Carried>(
     gates_stand_for_their_trees();
     elements_stay_in_a_stretch();
     recorded_ticks_suffice();
-    let turned = has_ended(kept.inputs.until, t);
+    let turned = has_ended(kept.inputs.rests, t);
     turn::<V>(line, spans, steps, &mut kept.inputs, t);
     trace::<V>(
         net,
@@ -59,6 +60,7 @@ pub fn take_stretch<V: Timed + Carried>(
         &mut kept.cells,
         &mut kept.sinces,
         &mut kept.dues,
+        &mut kept.marks,
         &mut kept.column,
         turned,
         line,
@@ -68,7 +70,7 @@ pub fn take_stretch<V: Timed + Carried>(
         t,
     );
     let limit = stretch_limit(ahead, kept.inputs.until, line.horizon, t);
-    let timers = least_due(kept.dues.as_slice(), t, limit);
+    let timers = quiet_ticks(&kept.marks, t, limit);
     send_all(
         net.key_gates(),
         kept.column.as_slice(),
@@ -98,25 +100,11 @@ pub fn take_stretch<V: Timed + Carried>(
     stays
 }
 
-// Whether what is given is over.
-fn has_ended(until: u32, t: u32) -> bool
-    ensures { result ≡ false → t < until }
+// Whether what is shown may differ from the tick before.
+fn has_ended(rests: u32, t: u32) -> bool
+    ensures { result ≡ false → t < rests }
 {
-    until <= t
-}
-
-// For how many ticks, up to a limit, no gate is due; if one is at the next tick, 1.
-fn least_due(dues: &[u32], t: u32, limit: u32) -> u32
-    requires { 1 ≤ limit }
-    ensures some { 1 ≤ result }
-    ensures limited { result ≤ limit }
-    ensures later { 1 < result → (i due : ℕ) → slice_get dues.now i ≡ Some due → result ≤ due - t }
-{
-    let mut stays = limit;
-    for due in dues {
-        stays = lesser(stays, due.saturating_sub(t));
-    }
-    stays.max(1)
+    rests <= t
 }
 
 // For how many ticks a stretch may last: until what is given is over, and up to the horizon.

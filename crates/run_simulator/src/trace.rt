@@ -8,12 +8,13 @@ ghost use Rattle.run_simulator.specs.Inputs.{CanReceive, IsWorldAt};
 ghost use Rattle.run_simulator.specs.Ticks.{HaveCells, ValuesAgree, AreSent};
 ghost use Rattle.run_simulator.specs.{GatePairs.GateSignals, Quiet.TimerKeeps};
 ghost use Rattle.run_simulator.specs.Lags.{IsSteady, IsTraced, IsGivenAt, AllLag, AreFreshDues};
-ghost use Rattle.run_simulator.specs.Readers.{ReadersHold};
+ghost use Rattle.run_simulator.specs.{Readers.ReadersHold, Marks.AreMarked};
 
 use crate::cell::Cell;
 use crate::inputs::Delay;
 use crate::look::look;
-use crate::readers::{Readers, is_at_rest, tell, wake_sources};
+use crate::marks::{Marks, next_marked, settle, wake_due};
+use crate::readers::{Readers, tell, wake_sources};
 use crate::since::Since;
 use model_history::recorded_laws::recorded_ticks_suffice;
 use model_line::{Line, SeenSpan};
@@ -28,6 +29,7 @@ pub fn trace<V: Timed + Carried>(
     cells: &mut Vec<Cell<V::Cells, SealCell<V>, V::Span>>,
     sinces: &mut Vec<Since<V>>,
     dues: &mut Vec<u32>,
+    marks: &mut Marks,
     column: &mut Vec<V>,
     turned: bool,
     line: &Line,
@@ -43,6 +45,7 @@ pub fn trace<V: Timed + Carried>(
     requires sinces { length sinces.old.items ≡ length net.now.gates }
     requires dues { length dues.old.items ≡ length net.now.gates }
     requires column { length column.old.items ≡ length net.now.gates }
+    requires marks { AreMarked dues.old.items marks.old }
     requires fresh { AreFreshDues t 0 dues.old.items }
     requires early { t < 4000 }
     requires tick { t < line.now.horizon }
@@ -52,6 +55,7 @@ pub fn trace<V: Timed + Carried>(
     ensures sinces { length sinces.new.items ≡ length net.now.gates }
     ensures dues { length dues.new.items ≡ length net.now.gates }
     ensures column { length column.new.items ≡ length net.now.gates }
+    ensures marks { AreMarked dues.new.items marks.new }
     ensures answers { (lane : ℕ) (w : PairWorld) (keys : PairSignals) (u : GateSignals) →
         lane < V.LANES → IsWorldAt V.ends lane present.now delays.now w t →
         IsSteady V.stands_for V.ends V.rails lane w keys u t turned net.now.gates sent.now
@@ -71,9 +75,10 @@ pub fn trace<V: Timed + Carried>(
         (lane i : ℕ) (g : Gate) (due : ℕ) → lane < V.LANES → slice_get net.now.gates i ≡ Some g →
         slice_get dues.new.items i ≡ Some due → TimerKeeps (w lane) (u lane) t (due - t) g }
 {
-    wake_sources(readers, turned, dues);
+    wake_due(dues.as_slice(), marks, net.len(), t);
+    wake_sources(readers, turned, dues, marks);
     trace_all::<V>(
-        net, readers, cells, sinces, dues, column, line, present, delays, sent, t,
+        net, readers, cells, sinces, dues, marks, column, line, present, delays, sent, t,
     );
 }
 
@@ -84,6 +89,7 @@ fn trace_all<V: Timed + Carried>(
     cells: &mut Vec<Cell<V::Cells, SealCell<V>, V::Span>>,
     sinces: &mut Vec<Since<V>>,
     dues: &mut Vec<u32>,
+    marks: &mut Marks,
     column: &mut Vec<V>,
     line: &Line,
     present: &[SeenSpan],
@@ -98,6 +104,8 @@ fn trace_all<V: Timed + Carried>(
     requires sinces { length sinces.old.items ≡ length net.now.gates }
     requires dues { length dues.old.items ≡ length net.now.gates }
     requires column { length column.old.items ≡ length net.now.gates }
+    requires marks { AreMarked dues.old.items marks.old }
+    requires later { t < marks.old.least }
     requires fresh { AreFreshDues t 0 dues.old.items }
     requires early { t < 4000 }
     requires tick { t < line.now.horizon }
@@ -107,6 +115,7 @@ fn trace_all<V: Timed + Carried>(
     ensures sinces { length sinces.new.items ≡ length net.now.gates }
     ensures dues { length dues.new.items ≡ length net.now.gates }
     ensures column { length column.new.items ≡ length net.now.gates }
+    ensures marks { AreMarked dues.new.items marks.new }
     ensures answers { (lane : ℕ) (w : PairWorld) (keys : PairSignals) (u : GateSignals)
         (turned : Bool) → lane < V.LANES →
         IsGivenAt V.ends V.rails lane w keys u t turned present.now delays.now sent.now
@@ -132,20 +141,23 @@ fn trace_all<V: Timed + Carried>(
         (lane i : ℕ) (g : Gate) (due : ℕ) → lane < V.LANES → slice_get net.now.gates i ≡ Some g →
         slice_get dues.new.items i ≡ Some due → TimerKeeps (w lane) (u lane) t (due - t) g }
 {
-    for i in 0..net.len() {
-        take_gate::<V>(
-            net, readers, cells, sinces, dues, column, line, present, delays, sent, i, t,
+    let mut i = 0;
+    while i < net.len() {
+        i = take_next::<V>(
+            net, readers, cells, sinces, dues, marks, column, line, present, delays, sent, i, t,
         );
     }
 }
 
-// Evaluates a gate if it is due, and makes those due that read it, if it changes.
-fn take_gate<V: Timed + Carried>(
+// Leaves the gates without a mark as they are, from this one on, and evaluates the next one that has
+// one. Answers behind which gate.
+fn take_next<V: Timed + Carried>(
     net: &Net,
     readers: &Readers,
     cells: &mut Vec<Cell<V::Cells, SealCell<V>, V::Span>>,
     sinces: &mut Vec<Since<V>>,
     dues: &mut Vec<u32>,
+    marks: &mut Marks,
     column: &mut Vec<V>,
     line: &Line,
     present: &[SeenSpan],
@@ -153,7 +165,7 @@ fn take_gate<V: Timed + Carried>(
     sent: &[Track<V>],
     i: u32,
     t: u32,
-)
+) -> u32
     requires inside { i < length net.now.gates }
     requires laws { IsNet net.now }
     requires readers { ReadersHold net.now.gates readers.now }
@@ -162,16 +174,22 @@ fn take_gate<V: Timed + Carried>(
     requires sinces { length sinces.old.items ≡ length net.now.gates }
     requires dues { length dues.old.items ≡ length net.now.gates }
     requires column { length column.old.items ≡ length net.now.gates }
+    requires marks { AreMarked dues.old.items marks.old }
+    requires later { t < marks.old.least }
     requires fresh { AreFreshDues t i dues.old.items }
     requires early { t < 4000 }
     requires tick { t < line.now.horizon }
     requires delays { CanReceive V.LANES V.ends line.now delays.now }
     requires sent { AreSent (terminal_count line.now) line.now.horizon t sent.now }
+    ensures further { i < result }
+    ensures inside { result ≤ length net.now.gates }
     ensures cells { HaveCells net.now.gates cells.new.items }
     ensures sinces { length sinces.new.items ≡ length net.now.gates }
     ensures dues { length dues.new.items ≡ length net.now.gates }
     ensures column { length column.new.items ≡ length net.now.gates }
-    ensures fresh { AreFreshDues t (i + 1) dues.new.items }
+    ensures marks { AreMarked dues.new.items marks.new }
+    ensures later { t < marks.new.least }
+    ensures fresh { AreFreshDues t result dues.new.items }
     ensures others { (k due : ℕ) → k < i → slice_get dues.new.items k ≡ Some due →
         (due ≡ 0) ⊎ (slice_get dues.old.items k ≡ Some due) }
     ensures takes { (lane : ℕ) (w : PairWorld) (keys : PairSignals) (u : GateSignals)
@@ -180,26 +198,29 @@ fn take_gate<V: Timed + Carried>(
         net.now.gates →
         IsTraced V.stands_for V.ends V.rails lane w keys u t i turned net.now.gates
         cells.old.items sinces.old.items dues.old.items column.old.items →
-        IsTraced V.stands_for V.ends V.rails lane w keys u t (i + 1) turned net.now.gates
+        IsTraced V.stands_for V.ends V.rails lane w keys u t result turned net.now.gates
         cells.new.items sinces.new.items dues.new.items column.new.items }
-    ensures timer { (w : ℕ → PairWorld) (keys : ℕ → PairSignals) (u : ℕ → GateSignals)
+    ensures timers { (w : ℕ → PairWorld) (keys : ℕ → PairSignals) (u : ℕ → GateSignals)
         (turned : Bool) →
         ((lane : ℕ) → lane < V.LANES →
         IsGivenAt V.ends V.rails lane (w lane) (keys lane) (u lane) t turned present.now
         delays.now sent.now net.now.gates
         × IsTraced V.stands_for V.ends V.rails lane (w lane) (keys lane) (u lane) t i turned
         net.now.gates cells.old.items sinces.old.items dues.old.items column.old.items) →
-        (lane : ℕ) (g : Gate) (due : ℕ) → lane < V.LANES → slice_get net.now.gates i ≡ Some g →
-        slice_get dues.new.items i ≡ Some due → TimerKeeps (w lane) (u lane) t (due - t) g }
+        (lane k : ℕ) (g : Gate) (due : ℕ) → lane < V.LANES → i ≤ k → k < result →
+        slice_get net.now.gates k ≡ Some g → slice_get dues.new.items k ≡ Some due →
+        TimerKeeps (w lane) (u lane) t (due - t) g }
 {
     elements_stay_in_a_stretch();
     recorded_ticks_suffice();
-    if is_at_rest(dues, i, t) {
-        return;
+    let next = next_marked(&marks.words, i, net.len());
+    if next == net.len() {
+        return next;
     }
     evaluate::<V>(
-        net, readers, cells, sinces, dues, column, line, present, delays, sent, i, t,
+        net, readers, cells, sinces, dues, marks, column, line, present, delays, sent, next, t,
     );
+    next + 1
 }
 
 // Evaluates a gate, and makes those due that read it, if it changes.
@@ -209,6 +230,7 @@ fn evaluate<V: Timed + Carried>(
     cells: &mut Vec<Cell<V::Cells, SealCell<V>, V::Span>>,
     sinces: &mut Vec<Since<V>>,
     dues: &mut Vec<u32>,
+    marks: &mut Marks,
     column: &mut Vec<V>,
     line: &Line,
     present: &[SeenSpan],
@@ -225,6 +247,8 @@ fn evaluate<V: Timed + Carried>(
     requires sinces { length sinces.old.items ≡ length net.now.gates }
     requires dues { length dues.old.items ≡ length net.now.gates }
     requires column { length column.old.items ≡ length net.now.gates }
+    requires marks { AreMarked dues.old.items marks.old }
+    requires later { t < marks.old.least }
     requires fresh { AreFreshDues t i dues.old.items }
     requires early { t < 4000 }
     requires tick { t < line.now.horizon }
@@ -234,6 +258,8 @@ fn evaluate<V: Timed + Carried>(
     ensures sinces { length sinces.new.items ≡ length net.now.gates }
     ensures dues { length dues.new.items ≡ length net.now.gates }
     ensures column { length column.new.items ≡ length net.now.gates }
+    ensures marks { AreMarked dues.new.items marks.new }
+    ensures later { t < marks.new.least }
     ensures fresh { AreFreshDues t (i + 1) dues.new.items }
     ensures others { (k due : ℕ) → k < i → slice_get dues.new.items k ≡ Some due →
         (due ≡ 0) ⊎ (slice_get dues.old.items k ≡ Some due) }
@@ -269,6 +295,8 @@ fn evaluate<V: Timed + Carried>(
         sent,
         t,
     );
+    let due = dues[k];
+    settle(marks, i, due);
     column[k] = value;
-    tell::<V>(readers, i, value, last, dues);
+    tell::<V>(readers, i, value, last, dues, marks);
 }

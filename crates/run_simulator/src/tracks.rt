@@ -9,11 +9,8 @@ ghost use Rattle.run_simulator.specs.Runs.{CanRun, AreDelayed, IsTheHistory, IsP
 ghost use Rattle.run_simulator.specs.Tracks.{CanTake, IsKeptOf, tracks_history};
 ghost use Rattle.run_simulator.specs.{LaneBox.lane_box, Ticks.AreSent};
 
-use crate::fresh::{fresh_cells, fresh_list, fresh_tracks};
-use crate::inputs::fresh_inputs;
 use crate::kept::Kept;
-use crate::readers::fresh_readers;
-use crate::since::Since;
+use crate::start::fresh_kept;
 use crate::stretch::take_stretch;
 use model_history::laws::history_laws;
 use model_line::{Line, Memory, Script};
@@ -67,29 +64,7 @@ pub fn run_tracks<V: Timed + Carried>(
     line_laws();
     gates_stand_for_their_trees();
     history_laws();
-    let cells = fresh_cells::<V>(alloc, net, line, spans)?;
-    let since = Since {
-        fed: 0,
-        input: V::known(false),
-    };
-    let count = net.len();
-    let sinces = fresh_list(alloc, count, since)?;
-    let dues = fresh_list(alloc, count, 0u32)?;
-    let column = fresh_list(alloc, count, V::known(false))?;
-    let readers = fresh_readers(alloc, net)?;
-    let inputs = fresh_inputs::<V>(alloc, line, script, spans)?;
-    let keys = fresh_tracks::<V>(alloc, net.key_gates().len() as u32, line.horizon)?;
-    let trips = fresh_tracks::<V>(alloc, net.trip_gates().len() as u32, line.horizon)?;
-    let mut kept = Kept {
-        cells,
-        sinces,
-        dues,
-        column,
-        readers,
-        inputs,
-        keys,
-        trips,
-    };
+    let mut kept = fresh_kept::<V>(alloc, net, line, script, spans)?;
     take_all::<V>(net, line, spans, steps, &mut kept);
     Ok(Tracks {
         keys: kept.keys,
@@ -116,21 +91,35 @@ fn take_all<V: Timed + Carried>(
 {
     let mut t = 0;
     let mut next_look = 0;
+    let mut pause = 0;
     while t < line.horizon {
         let ahead = next_look <= t;
         let stays = take_stretch::<V>(net, line, spans, steps, kept, t, ahead);
         t += stays;
-        next_look = look_again(next_look, ahead, stays, t);
+        pause = next_pause(pause, ahead, stays);
+        next_look = look_again(next_look, ahead, pause, t);
     }
 }
 
-// From which tick on it is worth looking ahead: where a look found nothing, not at once.
-fn look_again(next_look: u32, ahead: bool, stays: u32, t: u32) -> u32
-    requires { t ≤ 4000 }
+/// Each look ahead in turn that finds nothing makes the pause before the next one longer.
+pub fn next_pause(pause: u32, ahead: bool, stays: u32) -> u32
+    requires { pause ≤ 15 }
+    ensures { result ≤ 15 }
 {
-    if ahead && stays == 1 {
-        t + 4
-    } else {
-        next_look
+    if !ahead {
+        return pause;
     }
+    if stays == 1 {
+        (2 * pause + 1).min(15)
+    } else {
+        0
+    }
+}
+
+/// From which tick on it is worth looking ahead.
+pub fn look_again(next_look: u32, ahead: bool, pause: u32, t: u32) -> u32
+    requires early { t ≤ 4000 }
+    requires short { pause ≤ 15 }
+{
+    if ahead { t + pause / 2 } else { next_look }
 }

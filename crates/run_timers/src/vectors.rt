@@ -75,6 +75,19 @@ pub fn lasting(left: u16x64) -> Lanes64
 pub fn spread(input: Lanes64) -> u16x64
     ensures { HasLanes result (λ i. if bit_on input i then 1 else 0) }
 {
+    if input.same(Lanes64::known(false)) {
+        return splat(0);
+    }
+    if input.same(Lanes64::known(true)) {
+        return splat(1);
+    }
+    spread_bits(input)
+}
+
+// The same, bit by bit.
+fn spread_bits(input: Lanes64) -> u16x64
+    ensures { HasLanes result (λ i. if bit_on input i then 1 else 0) }
+{
     let mut lanes = [0; 64];
     for lane in 0..64 {
         lanes[lane] = input.must(lane as u32) as u16;

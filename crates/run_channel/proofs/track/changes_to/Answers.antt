@@ -17,5 +17,5 @@ returns g c = λ off.
       count = omega arith;
       same = λ lane inside.
           rails_read g.V.Signal.LANES g.V.Signal.rails values n x lane at
-          ∙ c.is_same.ensures (denied _ off) lane inside;
+          ∙ c.same.ensures (denied _ off) lane inside;
     }

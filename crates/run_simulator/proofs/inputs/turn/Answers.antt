@@ -4,6 +4,19 @@ use Rattle.run_simulator.proofs.{InputLaws.script_fewer, ShownLaws.same_trans}
 use Rattle.run_simulator.proofs.{ShownLaws.keeps_alike}
 use Rattle.run_simulator.proofs.inputs.turn.Goals as goal
 
+pub returns-then-t-inputs-clause-rests : goal.returns-then-t-inputs-clause-rests
+returns-then-t-inputs-clause-rests g c = λ all before keeps. keeps
+
+pub returns-clause-rests : goal.returns-clause-rests
+returns-clause-rests g c = λ all before keeps.
+    let t = c.args.t in
+    let old = not_over c.args.inputs.now.shown in
+    let turned = c.turn-shown.ensures in
+    let ticks : c.turn-shown.result ≡ t + c.turn-shown.result - t = omega arith in
+    subst (ScriptKeeps all t) ticks
+    (keeps_alike old all t c.turn-shown.result turned.some (λ r low high. before.left r low)
+    turned.keeps)
+
 pub returns-clause-held : goal.returns-clause-held
 returns-clause-held g c =
     let less : c.lesser.result ≤ c.set_delays-still.result = c.lesser.ensures.second in

@@ -10,10 +10,12 @@ loop-gate-init c = record {
   count = refl;
   lowered = λ i due at. inr at;
   awake = λ j y lt. absurd (omega arith);
+  marks = c.requires.marks;
+  least = refl;
 }
 
-pub wake_one-requires : goal.wake_one-requires
-wake_one-requires c =
+pub wake_one-requires-clause-inside : goal.wake_one-requires-clause-inside
+wake_one-requires-clause-inside c =
     below_read (length c.args.dues.now.items) (length c.loop-gate.dues.items) c.args.gates.now
     c.loop-gate.gate-index _ c.loop-gate-test.true c.requires.inside c.loop-gate.invariant.count
 
@@ -21,7 +23,7 @@ pub loop-gate-preserved : goal.loop-gate-preserved
 loop-gate-preserved c =
     let dues = c.loop-gate.dues.items in
     let new = c.wake_one.new.dues.items in
-    let is = c.wake_one.ensures in
+    let is = c.wake_one.ensures.due in
     record {
       count = count_one dues new _ is ∙ c.loop-gate.invariant.count;
       lowered = lowered_one c.args.dues.now.items dues new _ is c.loop-gate.invariant.lowered;
@@ -29,6 +31,8 @@ loop-gate-preserved c =
           c.args.gates.now c.loop-gate.gate-index _ c.loop-gate-test.true
           (λ j y lt at. zero_kept dues new _ y is (c.loop-gate.invariant.awake j y lt at))
           (zero_now dues new _ is);
+      marks = c.wake_one.ensures.marks;
+      least = c.wake_one.ensures.least ∙ c.loop-gate.invariant.least;
     }
 
 pub returns-clause-awake : goal.returns-clause-awake

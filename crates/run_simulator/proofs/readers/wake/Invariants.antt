@@ -1,6 +1,6 @@
 use Rattle.std.proofs.Common.{◌≡◌, ℕ, length, Some}
 use Rattle.std.specs.Prelude.{slice_get}
-use Rattle.run_simulator.specs.Readers.{AreLowered}
+use Rattle.run_simulator.specs.{Readers.AreLowered, Marks.AreMarked}
 use Rattle.run_simulator.proofs.Loops.{FirstHave}
 use Rattle.run_simulator.proofs.readers.wake.Given as goal
 
@@ -10,4 +10,6 @@ invariant-loop-gate l = record {
   lowered : AreLowered l.initial.dues.items l.dues.items;
   awake : FirstHave (λ (i : ℕ). (due : ℕ) → slice_get l.dues.items i ≡ Some due → due ≡ 0) l.gates
       l.gate-index;
+  marks : AreMarked l.dues.items l.marks;
+  least : l.marks.least ≡ l.initial.marks.least;
 }

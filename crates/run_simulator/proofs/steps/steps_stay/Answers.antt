@@ -5,8 +5,8 @@ use Rattle.run_simulator.proofs.steps.steps_stay.Goals as goal
 pub returns-then-next-param-clause-keeps : goal.returns-then-next-param-clause-keeps
 returns-then-next-param-clause-keeps g c = λ i step at of to_come.
     let next = c.index-steps-passed.result in
-    let parted = c.passed_steps-passed.ensures in
-    let first = read_comes c.args.param c.args.t c.args.steps.now c.passed_steps-passed.result i
+    let parted = c.requires.parted in
+    let first = read_comes c.args.param c.args.t c.args.steps.now c.args.passed i
     next step c.requires.ascending parted (omega (arith, parted.inside, c.if-passed-steps.false))
     c.index-steps-passed.is at of to_come in
     let le : next.from ≤ step.from = first.1 in
@@ -14,8 +14,8 @@ returns-then-next-param-clause-keeps g c = λ i step at of to_come.
 
 pub returns-else-next-param-clause-keeps : goal.returns-else-next-param-clause-keeps
 returns-else-next-param-clause-keeps g c = λ i step at of to_come.
-    let parted = c.passed_steps-passed.ensures in
+    let parted = c.requires.parted in
     absurd (c.if-next-param.false (read_comes c.args.param c.args.t c.args.steps.now
-    c.passed_steps-passed.result i c.index-steps-passed.result step c.requires.ascending parted
+    c.args.passed i c.index-steps-passed.result step c.requires.ascending parted
     (omega (arith, parted.inside, c.if-passed-steps.false)) c.index-steps-passed.is at of
     to_come).0)

@@ -34,17 +34,17 @@ module _ {S : Type 0} (param t : ℕ) (own : S) (xs : List (Step S)) (low : ℕ)
 
 pub returns-then-passed-eq0 : goal.returns-then-passed-eq0
 returns-then-passed-eq0 g c =
-    found_none c.args.param c.args.t c.args.own c.args.steps.now c.passed_steps-passed.result
-    c.passed_steps-passed.ensures c.if-passed-eq0.true
+    found_none c.args.param c.args.t c.args.own c.args.steps.now c.args.passed
+    c.requires.parted c.if-passed-eq0.true
 
 pub returns-then-last-param : goal.returns-then-last-param
 returns-then-last-param g c =
-    found_last c.args.param c.args.t c.args.own c.args.steps.now c.passed_steps-passed.result
-    c.passed_steps-passed.ensures c.index-steps-passed.result c.if-passed-eq0.false
+    found_last c.args.param c.args.t c.args.own c.args.steps.now c.args.passed
+    c.requires.parted c.index-steps-passed.result c.if-passed-eq0.false
     c.index-steps-passed.is c.if-last-param.true
 
 pub returns-else-last-param : goal.returns-else-last-param
 returns-else-last-param g c =
-    found_other c.args.param c.args.t c.args.own c.args.steps.now c.passed_steps-passed.result
-    c.passed_steps-passed.ensures c.index-steps-passed.result c.if-passed-eq0.false
-    c.index-steps-passed.is (all_ascend c.args.steps.now c.requires) c.if-last-param.false
+    found_other c.args.param c.args.t c.args.own c.args.steps.now c.args.passed
+    c.requires.parted c.index-steps-passed.result c.if-passed-eq0.false
+    c.index-steps-passed.is (all_ascend c.args.steps.now c.requires.ascending) c.if-last-param.false

@@ -12,11 +12,11 @@ use Rattle.run_simulator.specs.GatePairs.{GateSignals, line_pairs}
 use Rattle.run_simulator.specs.Inputs.{AreDelaysOf, CanReceive, IsWorldAt}
 use Rattle.run_simulator.specs.Ticks.{AreSent, KeysSent, ValuesAgree}
 use Rattle.run_simulator.specs.{Tracks.trips_of, LaneBox.lane_box, Lags.IsSteady, Quiet.TimerKeeps}
-use Rattle.run_simulator.specs.{LaneBox.lane_world, Quiet.Keeps, Shown.AreShown}
+use Rattle.run_simulator.specs.{LaneBox.lane_world, Quiet.Keeps, Quiet.ScriptKeeps, Shown.AreShown}
 use Rattle.run_simulator.specs.ListLaws.{exists_at}
 use Rattle.run_simulator.proofs.GivenLaws.{can_receive, held_later, shown_later, world_at}
 use Rattle.run_simulator.proofs.StretchLaws.{held_values, keeps_one, key_is, stretch_keeps}
-use Rattle.run_simulator.proofs.WaitLaws.{all_wait, rests_given, rested_later}
+use Rattle.run_simulator.proofs.WaitLaws.{all_wait, rests_given, rested_later, keeps_later}
 use Rattle.run_simulator.proofs.{GatePairLaws.gate_pairs-kind, QuietLaws.timer_fewer}
 use Rattle.run_simulator.proofs.QuietLaws.{timer_one}
 use Rattle.run_simulator.proofs.stretch.take_stretch.Goals as goal
@@ -48,7 +48,7 @@ arrivals_stay-stays-requires-clause-sent g c =
     let n : length c.key_gates.result.now ≡ terminal_count line =
     ap length c.key_gates.ensures ∙ c.requires.can.of_line.terminals in
     subst (λ l. AreSent (terminal_count line) line.horizon (suc t) l)
-    (sym c.as_slice-6.ensures.value)
+    (sym c.as_slice-5.ensures.value)
     (subst (λ (m : ℕ). AreSent (terminal_count line) line.horizon m tracks) next
     (subst (λ (m : ℕ). AreSent m line.horizon (t + 1) tracks) n c.send_all.ensures.count))
 
@@ -66,6 +66,7 @@ returns-clause-kept g c =
       column = c.trace.ensures.column;
       sinces = c.trace.ensures.sinces;
       dues = c.trace.ensures.dues;
+      marks = c.trace.ensures.marks;
       fresh = λ first. absurd (omega arith);
       delays = c.turn.ensures.delays;
       held = held_later g.V.Signal.ends c.args.spans.now c.args.steps.now inputs.delays.items t
@@ -82,11 +83,15 @@ returns-clause-stands g c = λ script before.
     let inputs = c.turn.new.inputs in
     let shown_now : AreShown script.spans.items inputs.shown c.args.t inputs.until =
     c.turn.ensures.shown script.spans.items before.shown in
+    let keeps_now : ScriptKeeps script.spans.items c.args.t (inputs.rests - c.args.t) =
+    c.turn.ensures.rests script.spans.items before.shown before.keeps in
     record {
       shown = shown_later script.spans.items inputs.shown c.args.t
           (c.args.t + c.arrivals_stay-stays.result) inputs.until (omega arith) shown_now;
-      rests = rested_later script.spans.items c.args.t c.arrivals_stay-stays.result inputs.until
-          c.arrivals_stay-stays.ensures.some shown_now.keeps;
+      rests = rested_later script.spans.items c.args.t c.arrivals_stay-stays.result inputs.rests
+          c.arrivals_stay-stays.ensures.some keeps_now;
+      keeps = keeps_later script.spans.items c.args.t c.arrivals_stay-stays.result inputs.rests
+          keeps_now;
       tracked = λ lane inside.
           let t = c.args.t in
           let line = c.args.line.now in
@@ -113,7 +118,7 @@ returns-clause-stands g c = λ script before.
                 (key l) net.gates i gate r of_line.laws.gates at;
             sent = subst (KeysSent rails l (key l) t) (sym c.as_slice-2.ensures.value)
                 (before.tracked l il).keys_kept;
-            given = rests_given ends line script spans steps l t old.inputs.until turned
+            given = rests_given ends line script spans steps l t old.inputs.rests turned
                 before.rests c.has_ended-turned.ensures;
             wait = (before.tracked l il).wait;
           } in
@@ -127,12 +132,12 @@ returns-clause-stands g c = λ script before.
           let agree : ValuesAgree rails lane (u lane) t c.trace.new.column.items =
           c.trace.ensures.answers lane (w lane) (key lane) (u lane) inside (world lane)
           (steady lane inside) in
-          let agree' : ValuesAgree rails lane (u lane) t c.as_slice-7.result.now =
-          subst (ValuesAgree rails lane (u lane) t) (sym c.as_slice-7.ensures.value) agree in
+          let agree' : ValuesAgree rails lane (u lane) t c.as_slice-6.result.now =
+          subst (ValuesAgree rails lane (u lane) t) (sym c.as_slice-6.ensures.value) agree in
           let some : 1 ≤ n = c.arrivals_stay-stays.ensures.some in
-          let limited : n ≤ c.least_due-timers.result = c.arrivals_stay-stays.ensures.limited in
-          let first : c.least_due-timers.result ≤ c.stretch_limit-limit.result =
-          c.least_due-timers.ensures.limited in
+          let limited : n ≤ c.quiet_ticks-timers.result = c.arrivals_stay-stays.ensures.limited in
+          let first : c.quiet_ticks-timers.result ≤ c.stretch_limit-limit.result =
+          c.quiet_ticks-timers.ensures.limited in
           let over : t + c.stretch_limit-limit.result ≤ inputs.until =
           c.stretch_limit-limit.ensures.given in
           let most : t + c.stretch_limit-limit.result ≤ line.horizon =
@@ -152,8 +157,8 @@ returns-clause-stands g c = λ script before.
           (λ k x kn at r low high.
           let kn' : k < length net.keys = subst (λ ids. k < length ids) c.key_gates.ensures kn in
           let at' : slice_get c.trace.new.column.items (id_at net.keys k) ≡ Some x =
-          subst (λ l. slice_get l (id_at net.keys k) ≡ Some x) c.as_slice-4.ensures.value
-          (subst (λ ids. slice_get c.as_slice-4.result.now (id_at ids k) ≡ Some x)
+          subst (λ l. slice_get l (id_at net.keys k) ≡ Some x) c.as_slice-3.ensures.value
+          (subst (λ ids. slice_get c.as_slice-3.result.now (id_at ids k) ≡ Some x)
           c.key_gates.ensures at) in
           is k r kn' (omega arith)
           ∙ held_values rails lane (u lane) t 1 (length net.gates) c.trace.new.column.items
@@ -164,14 +169,14 @@ returns-clause-stands g c = λ script before.
           (λ k x kn at r low high.
           let kn' : k < length net.trips = subst (λ ids. k < length ids) c.trip_gates.ensures kn in
           let at' : slice_get c.trace.new.column.items (id_at net.trips k) ≡ Some x =
-          subst (λ l. slice_get l (id_at net.trips k) ≡ Some x) c.as_slice-5.ensures.value
-          (subst (λ ids. slice_get c.as_slice-5.result.now (id_at ids k) ≡ Some x)
+          subst (λ l. slice_get l (id_at net.trips k) ≡ Some x) c.as_slice-4.ensures.value
+          (subst (λ ids. slice_get c.as_slice-4.result.now (id_at ids k) ≡ Some x)
           c.trip_gates.ensures at) in
           held_values rails lane (u lane) t 1 (length net.gates) c.trace.new.column.items
           net.trips of_line.laws.trips agree one k x kn' at' r low high)
           (before.tracked lane inside).trips_kept in
-          let held : KeysSent rails lane (key lane) (suc t) c.as_slice-6.result.now =
-          subst (KeysSent rails lane (key lane) (suc t)) (sym c.as_slice-6.ensures.value)
+          let held : KeysSent rails lane (key lane) (suc t) c.as_slice-5.result.now =
+          subst (KeysSent rails lane (key lane) (suc t)) (sym c.as_slice-5.ensures.value)
           (subst (λ (m : ℕ). KeysSent rails lane (key lane) m c.send_all.new.tracks.items) next kept) in
           let timers : (j : ℕ) (gate : Gate) (due : ℕ) → slice_get net.gates j ≡ Some gate
           → slice_get dues j ≡ Some due → TimerKeeps (w lane) (u lane) t (due - t) gate =
@@ -184,15 +189,14 @@ returns-clause-stands g c = λ script before.
           let within : j < length net.gates = slice_get_within net.gates j gate at in
           let (due, da) = exists_at dues j (omega (arith, long, within)) in
           ⊎_elim
-          (λ more. let less : c.least_due-timers.result ≤ due - t =
-          c.least_due-timers.ensures.later more j due
-          (subst (λ l. slice_get l j ≡ Some due) (sym c.as_slice-3.ensures.value) da) in
+          (λ more. let less : c.quiet_ticks-timers.result ≤ due - t =
+          c.quiet_ticks-timers.ensures.later more dues c.trace.ensures.marks j due da in
           timer_fewer (w lane) (u lane) t n (due - t) gate (omega (arith, limited, less))
           (timers j gate due at da))
           (λ few. let this : 1 ≡ n = omega (arith, few, some, limited) in
           subst (λ (m : ℕ). TimerKeeps (w lane) (u lane) t m gate) this
           (timer_one (w lane) (u lane) t gate))
-          (cases_lt 1 c.least_due-timers.result) in
+          (cases_lt 1 c.quiet_ticks-timers.result) in
           let delays : AreDelaysOf ends lane c.deref.result.now (w lane) t =
           subst (λ x. AreDelaysOf ends lane x (w lane) t) (sym c.deref.ensures.value)
           (world_at ends line spans steps lane inputs.delays.items t inputs.until

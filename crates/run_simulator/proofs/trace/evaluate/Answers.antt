@@ -1,15 +1,49 @@
 use Rattle.std.proofs.Common.{◌≡◌, ℕ, ◌+◌, ◌-◌, ◌<◌, length, Some, refl, sym, ◌∙◌}
 use Rattle.std.proofs.Common.{subst, arith, inl, inr, ⊎_elim, length-set}
+use Rattle.std.proofs.lemmas.List.{get_or-set_same}
 use Rattle.std.proofs.lemmas.Option.{slice_get_read}
 use Rattle.std.specs.Prelude.{slice_get, slice_set, take}
 use Rattle.net_gates.specs.declared.gate.Gate.{Gate}
-use Rattle.run_simulator.specs.{Quiet.TimerKeeps, Ticks.ValuesAgree}
-use Rattle.run_simulator.specs.{ListLaws.exists_at}
+use Rattle.run_simulator.specs.{Quiet.TimerKeeps, Ticks.ValuesAgree, Marks.AreMarked}
 use Rattle.run_simulator.proofs.WalkLaws.{have_more}
-use Rattle.run_simulator.proofs.{Lists.one_value, LagLaws.at_least_one}
-use Rattle.run_simulator.proofs.TraceLaws.{set_here, set_other, fresh_more, fresh_on, fresh_lowered}
-use Rattle.run_simulator.proofs.TraceLaws.{lowered_keeps, traced_rest, traced_more, traced_agree}
+use Rattle.run_simulator.proofs.Lists.{one_value}
+use Rattle.run_simulator.proofs.TraceLaws.{set_here, set_other, fresh_more, fresh_lowered}
+use Rattle.run_simulator.proofs.TraceLaws.{lowered_keeps, traced_more, traced_agree}
 use Rattle.run_simulator.proofs.trace.evaluate.Goals as goal
+
+pub settle-requires-clause-wide : goal.settle-requires-clause-wide
+settle-requires-clause-wide g c =
+    let wide = c.requires.marks.wide in
+    omega (arith, wide, c.requires.inside, c.requires.dues)
+
+pub settle-requires-clause-room : goal.settle-requires-clause-room
+settle-requires-clause-room g c =
+    let room = c.requires.marks.room in
+    omega (arith, room, c.requires.inside, c.requires.dues)
+
+pub tell-requires-clause-marks : goal.tell-requires-clause-marks
+tell-requires-clause-marks g c =
+    let i = c.args.i in
+    let dues = c.args.dues.now.items in
+    let new = c.look-value.new.due in
+    let due = c.index-due.result.now in
+    let inside : i < length dues = omega (arith, c.requires.inside, c.requires.dues) in
+    subst (λ (x : ℕ). AreMarked (slice_set dues i x) c.settle.new.marks)
+    (c.index-due.ensures ∙ get_or-set_same dues i new due inside)
+    (c.settle.ensures.marks dues c.requires.marks)
+
+pub returns-clause-later : goal.returns-clause-later
+returns-clause-later g c =
+    let t = c.args.t in
+    let i = c.args.i in
+    let dues = c.args.dues.now.items in
+    let new = c.look-value.new.due in
+    let due = c.index-due.result.now in
+    let inside : i < length dues = omega (arith, c.requires.inside, c.requires.dues) in
+    subst (λ (m : ℕ). t < m) (sym c.tell.ensures.least)
+    (c.settle.ensures.later t c.requires.later
+    (subst (λ (x : ℕ). t < x) (sym (c.index-due.ensures ∙ get_or-set_same dues i new due inside))
+    c.look-value.ensures.later))
 
 pub returns-clause-cells : goal.returns-clause-cells
 returns-clause-cells g c =

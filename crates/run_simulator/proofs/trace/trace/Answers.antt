@@ -1,9 +1,24 @@
-use Rattle.std.proofs.Common.{◌∙◌}
+use Rattle.std.proofs.Common.{◌<◌, List, ℕ, ◌∙◌, sym, subst}
+use Rattle.run_simulator.specs.Marks.{AreMarked}
 use Rattle.run_simulator.proofs.TraceLaws.{fresh_lowered, traced_none, given_at}
 use Rattle.run_simulator.proofs.trace.trace.Goals as goal
 
+pub wake_due-requires-clause-marks : goal.wake_due-requires-clause-marks
+wake_due-requires-clause-marks g c =
+    subst (λ (l : List ℕ). AreMarked l c.args.marks.now) (sym c.as_slice.ensures.value)
+    c.requires.marks
+
+pub wake_sources-requires-clause-marks : goal.wake_sources-requires-clause-marks
+wake_sources-requires-clause-marks g c =
+    subst (λ (l : List ℕ). AreMarked l c.wake_due.new.marks) c.as_slice.ensures.value
+    c.wake_due.ensures.marks
+
 pub trace_all-requires-clause-dues : goal.trace_all-requires-clause-dues
 trace_all-requires-clause-dues g c = c.wake_sources.ensures.count ∙ c.requires.dues
+
+pub trace_all-requires-clause-later : goal.trace_all-requires-clause-later
+trace_all-requires-clause-later g c =
+    subst (λ (m : ℕ). c.args.t < m) (sym c.wake_sources.ensures.least) c.wake_due.ensures.later
 
 pub trace_all-requires-clause-fresh : goal.trace_all-requires-clause-fresh
 trace_all-requires-clause-fresh g c =

@@ -1,43 +1,12 @@
-use Rattle.std.proofs.Common.{◌≡◌, ℕ, ◌<◌, length, refl, sym, ◌∙◌, ap, subst, Some}
-use Rattle.std.proofs.lemmas.List.{length-replicate}
-use Rattle.std.specs.Prelude.{slice_get}
-use Rattle.run_simulator.specs.declared.since.Since.{Since}
-use Rattle.run_simulator.proofs.WaitLaws.{at_replicate, wait_fresh, rested_none}
+use Rattle.std.proofs.Common.{◌≡◌, ℕ, ◌<◌, length, sym, ◌∙◌, subst}
 use Rattle.model_logic.specs.PairMean.{PairWorld, PairSignals}
 use Rattle.model_logic.specs.{Logic.key_tree, Solution.the_keys, Choice.pair_world_of}
 use Rattle.run_simulator.specs.Tracks.{tracks_history, trips_of, LineTracked}
 use Rattle.run_simulator.specs.{GatePairs.GateSignals, GatePairs.line_pairs, LaneBox.lane_box}
-use Rattle.run_simulator.specs.{LaneBox.lane_world, Ticks.AreSent, Inputs.DelaysHold}
-use Rattle.run_simulator.specs.Shown.{AreShown}
+use Rattle.run_simulator.specs.{LaneBox.lane_world}
 use Rattle.run_simulator.proofs.PointLaws.{exact_at}
-use Rattle.run_simulator.proofs.{SendLaws.fresh_sent, SendLaws.none_sent, TrackLaws.kept_pair}
-use Rattle.run_simulator.proofs.{TrackLaws.kept_history, GivenLaws.held_none, GivenLaws.shown_none}
+use Rattle.run_simulator.proofs.TrackLaws.{kept_pair, kept_history}
 use Rattle.run_simulator.proofs.tracks.run_tracks.Goals as goal
-
-pub take_all-requires-clause-kept : goal.take_all-requires-clause-kept
-take_all-requires-clause-kept g c =
-    let h = c.args.line.now.horizon in
-    let keys = c.in_ok-keys.keys.items in
-    let trips = c.in_ok-trips.trips.items in
-    let delays = c.in_ok-inputs.inputs.delays.items in
-    record {
-      readers = c.in_ok-readers.ensures;
-      column = ap length c.in_ok-column.ensures ∙ length-replicate _ _ ∙ c.len-count.ensures.len;
-      sinces = ap length c.in_ok-sinces.ensures ∙ length-replicate _ _ ∙ c.len-count.ensures.len;
-      dues = ap length c.in_ok-dues.ensures ∙ length-replicate _ _ ∙ c.len-count.ensures.len;
-      fresh = λ _ i due low at.
-          at_replicate c.len-count.result 0 i due
-          (subst (λ l. slice_get l i ≡ Some due) c.in_ok-dues.ensures at);
-      delays = c.in_ok-inputs.ensures.delays;
-      held = subst (DelaysHold g.V.Signal.ends c.args.spans.now c.args.steps.now delays 0)
-          (sym c.in_ok-inputs.ensures.over)
-          (held_none g.V.Signal.ends c.args.spans.now c.args.steps.now delays);
-      cells = c.in_ok-cells.ensures.shape;
-      keys = subst (λ (m : ℕ). AreSent m h 0 keys) (ap length c.key_gates.ensures)
-          (fresh_sent (length c.key_gates.result.now) h keys c.in_ok-keys.ensures);
-      trips = subst (λ (m : ℕ). AreSent m h 0 trips) (ap length c.trip_gates.ensures)
-          (fresh_sent (length c.trip_gates.result.now) h trips c.in_ok-trips.ensures);
-    }
 
 pub returns-clause-history : goal.returns-clause-history
 unfolding pair_world_of lane_box
@@ -57,25 +26,7 @@ returns-clause-history g c = λ lane inside.
     let kept = c.take_all.new.kept in
     let stands : LineTracked g.V.Timed.stands_for ends rails line script spans steps net lane h
     kept =
-    (c.take_all.ensures.stands script (record {
-      shown = subst (AreShown script.spans.items c.in_ok-inputs.inputs.shown 0)
-          (sym c.in_ok-inputs.ensures.over)
-          (shown_none script.spans.items c.in_ok-inputs.inputs.shown c.in_ok-inputs.ensures.shown);
-      rests = rested_none script.spans.items c.in_ok-inputs.inputs.until;
-      tracked = λ l il. record {
-        keys_kept = none_sent rails l (length c.key_gates.result.now) h (key l)
-            c.in_ok-keys.keys.items c.in_ok-keys.ensures;
-        trips_kept = none_sent rails l (length c.trip_gates.result.now) h (trips_of net (u l))
-            c.in_ok-trips.trips.items c.in_ok-trips.ensures;
-        wait = wait_fresh g.V.Timed.stands_for ends rails l (w l) (key l) (u l) net.gates c.in_ok-cells.cells.items
-            c.in_ok-sinces.sinces.items c.in_ok-dues.dues.items c.in_ok-column.column.items
-            (λ i s at. ap (λ (x : Since _). x.fed) (at_replicate c.len-count.result _ i s
-            (subst (λ x. slice_get x i ≡ Some s) c.in_ok-sinces.ensures at)))
-            (λ i due at. at_replicate c.len-count.result 0 i due
-            (subst (λ x. slice_get x i ≡ Some due) c.in_ok-dues.ensures at))
-            (c.in_ok-cells.ensures.stands l (w l) (u l) il (λ x. refl));
-      };
-    })).tracked lane inside in
+    (c.take_all.ensures.stands script (c.in_ok-kept.ensures.stands steps)).tracked lane inside in
     kept_history c.line_laws.ensures c.gates_stand_for_their_trees.ensures line script (lane_box ends line spans steps lane) (c.requires.delayed lane inside)
     net of_line
     (tracks_history rails lane kept.keys.items kept.trips.items)
@@ -90,3 +41,6 @@ pub returns-clause-exact : goal.returns-clause-exact
 returns-clause-exact g c = λ lane choice inside point.
     exact_at c.line_laws.ensures c.args.line.now c.args.script.now _ (c.requires.delayed lane inside) choice point _
     (returns-clause-history g c lane inside).is
+
+pub take_all-requires-clause-kept : goal.take_all-requires-clause-kept
+take_all-requires-clause-kept g c = c.in_ok-kept.ensures.can c.args.steps.now

@@ -4,11 +4,12 @@ use Rattle.run_simulator.proofs.tracks.take_all.Goals as goal
 
 pub loop-t-init : goal.loop-t-init
 loop-t-init g c =
-    record { fits = omega arith; kept = c.requires.kept; stands = λ script given. given }
+    record { fits = omega arith; short = omega arith; kept = c.requires.kept; stands = λ script given. given }
 
 pub loop-t-preserved : goal.loop-t-preserved
 loop-t-preserved g c = record {
   fits = c.take_stretch-stays.ensures.fits;
+  short = c.next_pause-pause.ensures;
   kept = c.take_stretch-stays.ensures.kept;
   stands = λ script given.
       c.take_stretch-stays.ensures.stands script (c.loop-t.invariant.stands script given);

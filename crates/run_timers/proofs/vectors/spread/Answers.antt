@@ -1,12 +1,16 @@
-use Rattle.std.proofs.Common.{◌≡◌, ◌+◌, ap, get_or, length, ◌∙◌, arith}
-use Rattle.std.proofs.lemmas.Simd.{get_or-chunk}
+use Rattle.std.proofs.Common.{Bool, sym, ◌∙◌, ap}
+use Rattle.std.specs.Prelude.{if◌then◌else◌}
+use Rattle.model_history.specs.Rails.{must_of}
 use Rattle.run_timers.proofs.vectors.spread.Goals as goal
 
-pub returns : goal.returns
-returns c =
-    let long : length c.loop-lane.lanes ≡ 64 = c.loop-lane.invariant.long in
-    λ i lt.
-    let start : 0 + i ≡ i = omega arith in
-    get_or-chunk 0 64 c.loop-lane.lanes i 0 lt
-    ∙ ap (λ k. get_or c.loop-lane.lanes k 0) start
-    ∙ c.loop-lane.invariant.spread i (omega arith)
+pub returns-then-same : goal.returns-then-same
+returns-then-same c = λ i lt.
+    c.splat.ensures i lt
+    ∙ ap (λ (b : Bool). if b then 1 else 0)
+    (sym (ap must_of (c.same.ensures c.if-same.true i lt ∙ c.known.ensures i lt)))
+
+pub returns-then-same-2 : goal.returns-then-same-2
+returns-then-same-2 c = λ i lt.
+    c.splat-then-same-2.ensures i lt
+    ∙ ap (λ (b : Bool). if b then 1 else 0)
+    (sym (ap must_of (c.same-2.ensures c.if-same-2.true i lt ∙ c.known-2.ensures i lt)))
