@@ -1,3 +1,4 @@
 pub mod Earlier
 pub mod SoFarInside
 pub mod Standing
+pub mod TableLaws

@@ -58,7 +58,11 @@ with_row t (named.Step i from) value = record t {
 
 -- what the code holds of them
 abbrev pub open_of : Open → OpenTiming
-open_of t = record { name = t.name; timing = t.timing; given = t.given.items }
+open_of t = record {
+  name = t.name;
+  timing = record { values = t.values.items; steps = t.steps };
+  given = t.given.items;
+}
 
 abbrev pub so_far_of : Reading → TimingsSoFar
 so_far_of r = record { done = map values_of r.done.items; latest = option_map open_of r.latest }
@@ -67,8 +71,14 @@ so_far_of r = record { done = map values_of r.done.items; latest = option_map op
 abbrev pub IsFull : Line → OpenTiming → Type 0
 IsFull line t = length t.timing.values ≡ param_count line
 
--- what a row names is one of these
+-- a step that a row names has a place in the table of steps
+abbrev pub IsPlaced : Named → Type 0
+IsPlaced named.Nothing = Unit {0}
+IsPlaced (named.Number i) = Unit {0}
+IsPlaced (named.Step i from) = (i < 64) × (from < 4096)
+
+-- what a row names is one of these; the line has at most 63 parameters and 4,000 ticks
 abbrev pub IsNamedIn : Line → Named → Type 0
 IsNamedIn line named.Nothing = Unit {0}
 IsNamedIn line (named.Number i) = i < param_count line
-IsNamedIn line (named.Step i from) = Unit {0}
+IsNamedIn line (named.Step i from) = IsPlaced (named.Step i from)

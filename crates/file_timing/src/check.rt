@@ -3,7 +3,7 @@
 ghost use Rattle.std.specs.Prelude.{◌≡◌, ◌≤◌, ◌<◌, ◌+◌, ◌&&◌, ◌==◌, Some, length, drop, IfSome};
 ghost use Rattle.std.specs.List.{list_any, position_or_len};
 ghost use Rattle.std.specs.Str.{bytes_eq};
-ghost use Rattle.file_timing.specs.SoFar.{open_of, IsNamedIn};
+ghost use Rattle.file_timing.specs.SoFar.{open_of, IsNamedIn, IsPlaced};
 ghost use Rattle.file_timing.specs.Checks.{is_at, step_named, named_in, value_for, number_within};
 ghost use Rattle.file_timing.specs.Checks.{is_given as is_given_in};
 
@@ -12,8 +12,9 @@ use crate::reading::Open;
 use base_records::{is, is_nothing};
 use base_store::number;
 use model_line::Line;
+use model_line::laws::parameters_are_numbered;
 use model_names::parameter_of_name;
-use model_timing::{NamedTiming, has_step, is_in};
+use model_timing::{NamedTiming, is_in};
 
 /// Whether one of the timings has the name.
 pub fn is_any(timings: &[NamedTiming], name: &[u8]) -> bool
@@ -26,6 +27,7 @@ pub fn is_any(timings: &[NamedTiming], name: &[u8]) -> bool
 pub fn named(line: &Line, field: &[u8]) -> Option<Named>
     ensures named { result ≡ named_in line.now field.now }
     ensures exists { IfSome result (IsNamedIn line.now) }
+    ensures placed { IfSome result IsPlaced }
 {
     if is_nothing(field) {
         return Some(Named::Nothing);
@@ -40,6 +42,7 @@ fn step(line: &Line, field: &[u8]) -> Option<Named>
     ensures named { result ≡ step_named line.now field.now }
     ensures exists { IfSome result (IsNamedIn line.now) }
 {
+    parameters_are_numbered();
     let at = place_of_at(field);
     let i = parameter_of_name(line, &field[..at])?;
     let from = number(after(field, at))?;
@@ -100,12 +103,13 @@ fn within(line: &Line, i: u32, value: u32) -> Option<u32>
 
 /// Whether a row of the timing has named this.
 pub fn is_given(timing: &Open, what: Named) -> bool
+    requires { IsPlaced what }
     ensures { result ≡ is_given_in (open_of timing.now) what }
 {
     match what {
         Named::Nothing => false,
         Named::Number(i) => has(timing.given.as_slice(), i),
-        Named::Step(i, from) => has_step(timing.timing.steps(), i, from),
+        Named::Step(i, from) => timing.steps.has(i, from),
     }
 }
 

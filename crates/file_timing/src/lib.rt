@@ -9,6 +9,7 @@ mod named;
 mod print;
 mod read;
 mod reading;
+mod steps;
 
 pub use fault::TimingFault;
 pub use laws::timings_are_read_back;

@@ -127,17 +127,18 @@ fn entered(line: &Line, latest: Open, what: Named, number: Tick) -> Result<Open,
 {
     let Open {
         name,
-        mut timing,
+        mut values,
+        mut steps,
         mut given,
     } = latest;
     match what {
         Named::Nothing => {}
         Named::Number(i) => {
-            timing.set(i, number);
+            values[i as usize] = number;
             given.push(i)?;
         }
         Named::Step(param, from) => {
-            timing.insert(Step {
+            steps.insert(Step {
                 param,
                 from,
                 value: number,
@@ -146,7 +147,8 @@ fn entered(line: &Line, latest: Open, what: Named, number: Tick) -> Result<Open,
     }
     Ok(Open {
         name,
-        timing,
+        values,
+        steps,
         given,
     })
 }

@@ -9,6 +9,7 @@ ghost use Rattle.file_timing.specs.{Gives.Gives, Checks.check_timing, Opened.ope
 
 use crate::check::is_any;
 use crate::fault::TimingFault;
+use crate::steps::Steps;
 use base_records::is;
 use model_line::{Line, Name};
 use model_timing::{NamedTiming, Timing};
@@ -19,7 +20,8 @@ use std::alloc::Global;
 #[derive(Drop)]
 pub struct Open {
     pub name: Name,
-    pub timing: Timing,
+    pub values: Vec<Tick>,
+    pub steps: Steps,
     pub given: Vec<u32>,
 }
 
@@ -46,18 +48,26 @@ pub fn finished(reading: Reading) -> Result<Vec<NamedTiming>, TimingFault>
 {
     let Reading { mut done, latest } = reading;
     if let Some(timing) = latest {
-        done.push(closed(timing))?;
+        done.push(closed(timing)?)?;
     }
     Ok(done)
 }
 
-fn closed(timing: Open) -> NamedTiming
-    ensures { values_of result ≡ closed_of (open_of timing) }
+// A timing with its steps in order.
+fn closed(timing: Open) -> Result<NamedTiming, TimingFault>
+    ensures { Gives values_of result (Ok (closed_of (open_of timing))) }
 {
-    NamedTiming {
-        name: timing.name,
-        timing: timing.timing,
-    }
+    let Open {
+        name,
+        values,
+        steps,
+        given: _,
+    } = timing;
+    let steps = steps.in_order(*values.allocator())?;
+    Ok(NamedTiming {
+        name,
+        timing: Timing::with_steps(values, steps),
+    })
 }
 
 /// The timings before the row's, and the row's own.
@@ -96,7 +106,7 @@ pub fn opened_by(
     if done.len() >= 15 {
         return Err(TimingFault::TooMany);
     }
-    done.push(closed(timing))?;
+    done.push(closed(timing)?)?;
     let timing = new_timing(alloc, line, Name::plain(name))?;
     Ok(Opened { done, timing })
 }
@@ -108,7 +118,8 @@ pub fn new_timing(alloc: Global, line: &Line, name: Name) -> Result<Open, Timing
 {
     Ok(Open {
         name,
-        timing: Timing::new(least_values(alloc, line)?),
+        values: least_values(alloc, line)?,
+        steps: Steps::new(alloc),
         given: Vec::new(alloc),
     })
 }

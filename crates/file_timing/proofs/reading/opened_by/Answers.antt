@@ -47,11 +47,12 @@ returns-clause-said c =
     let none : list_any (λ x. bytes_eq x.name name) ts ≡ false =
     ap (λ xs. list_any (λ x. bytes_eq x.name name) xs) (sym c.as_slice.ensures.value)
     ∙ sym c.is_any.ensures ∙ c.if-is_any.false in
-    let pushed : c.push.new.self.items ≡ ts ++ c.closed.result ∷ [] = c.in_ok-push.ensures.items in
+    let pushed : c.push.new.self.items ≡ ts ++ c.in_ok-closed.field-0 ∷ [] = c.in_ok-push.ensures.items in
     let done : map values_of c.push.new.self.items
     ≡ map values_of ts ++ closed (open_of c.in-Some.timing) ∷ [] =
-    ap (λ xs. map values_of xs) pushed ∙ map-append values_of ts (c.closed.result ∷ [])
-    ∙ ap (λ v. map values_of ts ++ v ∷ []) c.closed.ensures in
+    ap (λ xs. map values_of xs) pushed ∙ map-append values_of ts (c.in_ok-closed.field-0 ∷ [])
+    ∙ ap (λ v. map values_of ts ++ v ∷ []) (sym (same_ok (closed (open_of c.in-Some.timing))
+    (values_of c.in_ok-closed.field-0) c.in_ok-closed.ensures)) in
     let opening : opened line c.plain-2.result ≡ open_of c.in_ok-timing-2.timing =
     same_ok (opened line c.plain-2.result) (open_of c.in_ok-timing-2.timing)
     c.in_ok-timing-2.ensures.said in
