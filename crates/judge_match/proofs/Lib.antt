@@ -7,3 +7,5 @@ pub mod LevelLaws
 pub mod AnswerLaws
 pub mod OneMatch
 pub mod OneRecord
+pub mod BlockLaws
+pub mod RecordedLaws

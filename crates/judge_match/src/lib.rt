@@ -3,16 +3,18 @@
 #![tactic(auto)]
 
 mod answer;
+mod block;
 mod change;
 mod check;
 mod clash;
 mod fault;
 mod fields;
+mod giving;
 mod heads;
 mod laws;
 mod read;
 mod reader;
-mod replay;
+mod recorded;
 mod seen;
 mod settling;
 mod text;

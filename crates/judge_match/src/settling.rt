@@ -9,12 +9,12 @@ ghost use Rattle.judge_match.specs.Seen.{AreSeen, seen_history};
 ghost use Rattle.judge_match.specs.{declared.seen.Match.Match, Match.IsMatch, MatchText.IsWritten};
 
 use crate::clash::first_clash;
+use crate::giving::first_giving;
 use crate::laws::what_a_choice_gives_is_allowed;
-use crate::replay::gives;
 use crate::seen::{Match, Seen};
 use cert_check::gate_waves;
 use model_line::{Line, Memory, Script};
-use model_timing::{candidate, candidate_count, candidates_are_inside};
+use model_timing::{candidate, candidates_are_inside};
 use net_gates::Net;
 use std::alloc::Global;
 
@@ -52,11 +52,8 @@ pub fn settle(
             derived: clash.derived,
         });
     }
-    for number in 0..candidate_count(line) {
-        let timing = candidate(alloc, line, number)?;
-        if gives(alloc, line, net, script, &timing, seen)? {
-            return Ok(Match::Explained(timing));
-        }
+    match first_giving(alloc, line, net, script, seen)? {
+        Some(number) => Ok(Match::Explained(candidate(alloc, line, number)?)),
+        None => Ok(Match::Unsettled),
     }
-    Ok(Match::Unsettled)
 }

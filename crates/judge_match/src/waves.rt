@@ -1,9 +1,9 @@
 //! The waves of a record.
 
-ghost use Rattle.std.specs.Prelude.{◌≡◌, ◌≤◌, Ok, false, filter, IfOk};
+ghost use Rattle.std.specs.Prelude.{◌≡◌, ◌≤◌, length, min, Ok, IfOk};
 ghost use Rattle.judge_match.specs.Gives.{Gives};
-ghost use Rattle.judge_match.specs.Heads.{values_of, level_by, is_of as is_of_signal};
-ghost use Rattle.judge_match.specs.Waves.{seen_of, seen_values, wave_of, waves_of, tern_by};
+ghost use Rattle.judge_match.specs.{Heads.values_of, SetLevels.IsSetBetween, SetLevels.IsSetBy};
+ghost use Rattle.judge_match.specs.Waves.{known_level, seen_of, seen_values, wave_of, waves_of};
 
 use crate::change::Change;
 use crate::check::is_of;
@@ -48,52 +48,70 @@ fn wave(
     requires { horizon ≤ 4000 }
     ensures { IfOk result (λ wave. wave ≡ wave_of horizon changes.now trip terminal) }
 {
-    let own = changes_of(alloc, changes, trip, terminal)?;
+    let levels = levels(alloc, horizon, changes, trip, terminal)?;
     let mut wave = Runs::new(alloc);
-    for t in 0..horizon {
-        wave.push(level_at(&own, trip, terminal, t), 1)?;
+    for level in &levels {
+        wave.push(*level, 1)?;
     }
     Ok(wave)
 }
 
-// The changes of one signal, in file order. A signal has at most one at each tick, so that what is
-// looked at for a wave does not grow with the other signals' changes.
-fn changes_of(
+// The levels of a signal, tick by tick. The last of its changes not after a tick counts there: from
+// the last change back each one sets the ticks that no later one has set, so that each tick is set
+// once at most.
+fn levels(
     alloc: Global,
+    horizon: u32,
     changes: &[Change],
     trip: bool,
     terminal: u32,
-) -> Result<Vec<Change>, Memory>
-    ensures { IfOk result (λ own. own.items ≡ filter (is_of_signal terminal trip) changes.now) }
+) -> Result<Vec<Tern>, Memory>
+    ensures { IfOk result (λ levels. levels.items ≡ wave_of horizon changes.now trip terminal) }
 {
-    let mut own = Vec::new(alloc);
-    for change in changes {
-        if is_of(*change, terminal, trip) {
-            own.push(*change)?;
-        }
+    let mut levels = Vec::with_capacity(alloc, horizon as usize)?;
+    levels.resize(horizon as usize, Tern::Zero).unwrap();
+    let mut end = horizon as usize;
+    let mut rest = changes.len();
+    'from_the_last: while rest > 0 {
+        rest -= 1;
+        let change = changes[rest];
+        end = set_by(&mut levels, change, trip, terminal, end);
     }
-    Ok(own)
+    Ok(levels)
 }
 
-// The level of a signal at a tick.
-fn level_at(changes: &[Change], trip: bool, terminal: u32, t: u32) -> Tern
-    ensures { result ≡ tern_by changes.now trip terminal t }
+// Sets the ticks that a change decides, where those from `end` on are set, and answers from which
+// tick on they are set then.
+fn set_by(levels: &mut Vec<Tern>, change: Change, trip: bool, terminal: u32, end: usize) -> usize
+    requires { end ≤ length levels.old.items }
+    ensures long { length levels.new.items ≡ length levels.old.items }
+    ensures set { IsSetBy levels.old.items levels.new.items terminal trip change end result }
 {
-    if is_on(changes, trip, terminal, t) {
-        Tern::One
+    if is_of(change, terminal, trip) {
+        set_back(levels, known(change.level), change.tick as usize, end)
     } else {
-        Tern::Zero
+        end
     }
 }
 
-fn is_on(changes: &[Change], trip: bool, terminal: u32, t: u32) -> bool
-    ensures { result ≡ level_by terminal trip t changes.now false }
+// Sets the ticks from one on until another, and answers where the ticks that are set begin.
+fn set_back(levels: &mut Vec<Tern>, level: Tern, from: usize, end: usize) -> usize
+    requires { end ≤ length levels.old.items }
+    ensures begins { result ≡ min from end }
+    ensures long { length levels.new.items ≡ length levels.old.items }
+    ensures set { IsSetBetween levels.old.items levels.new.items level from end }
 {
-    let mut level = false;
-    for change in changes {
-        if is_of(*change, terminal, trip) && change.tick <= t {
-            level = change.level;
-        }
+    let mut t = end;
+    while t > from {
+        t -= 1;
+        levels[t] = level;
     }
-    level
+    from.min(end)
+}
+
+// A level that is known.
+fn known(level: bool) -> Tern
+    ensures { result ≡ known_level level }
+{
+    if level { Tern::One } else { Tern::Zero }
 }

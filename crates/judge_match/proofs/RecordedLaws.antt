@@ -1,0 +1,85 @@
+-- Tracks of a record: a stretch more of one, and one track more.
+use Rattle.std.proofs.Common.{◌≡◌, ◌+◌, ◌-◌, ◌<◌, ◌≤◌, ℕ, Bool, false, List, [], ◌∷◌, ◌++◌, Some, length}
+use Rattle.std.proofs.Common.{length-append, map, get_or, replicate, refl, sym, ◌∙◌, ap, subst, arith}
+use Rattle.std.proofs.Common.{⊎_elim}
+use Rattle.std.proofs.lemmas.Bool.{cases_lt}
+use Rattle.std.proofs.lemmas.List.{get_or-map, get_or_append_left, get_or-append_right}
+use Rattle.std.proofs.lemmas.List.{get_or-replicate, length-map, length-replicate, map-append}
+use Rattle.std.proofs.lemmas.Option.{slice_get_within}
+use Rattle.std.specs.Prelude.{slice_get}
+use Rattle.model_history.specs.Rails.{Rails, both, must_of, rails_at}
+use Rattle.run_signal.specs.{declared.level.Level.Level, Levels.level_rails, Lanes.in_lane}
+use Rattle.run_channel.specs.SentKeys.{SentKeys}
+use Rattle.run_simulator.specs.{ListLaws.at_push, ListLaws.exists_at, PlayedTracks.is_shown}
+use Rattle.run_simulator.specs.{PlayedTracks.is_on, PlayedTracks.shown_is, Ticks.AreSent}
+use Rattle.run_simulator.specs.Ticks.{HasKeys}
+
+-- ---- values of one track
+
+abbrev rails_of : Level → Rails
+rails_of x = level_rails x
+
+abbrev on : List Level → ℕ → Bool
+on levels t = (rails_at (in_lane (λ x _. level_rails x) 0 levels) t).must
+
+module _ (levels new : List Level) (x : Level) (n : ℕ) (is : new ≡ levels ++ replicate n x) where
+  pub long : length new ≡ length levels + n
+  long =
+      ap length is ∙ length-append levels (replicate n x)
+      ∙ ap (λ (k : ℕ). length levels + k) (length-replicate n x)
+
+  pub on_before : (t : ℕ) → t < length levels → on new t ≡ on levels t
+  on_before t lt =
+      let count = length-map levels rails_of in
+      ap (λ (l : List Level). on l t) is
+      ∙ ap (λ (l : List Rails). (rails_at l t).must) (map-append rails_of levels (replicate n x))
+      ∙ ap must_of (get_or_append_left (map rails_of levels) (map rails_of (replicate n x))
+      (both false) t (omega arith))
+
+  pub on_after : (t : ℕ) → length levels ≤ t → t < length levels + n
+      → on new t ≡ (level_rails x).must
+  on_after t low high =
+      let less : t - length levels < n = omega arith in
+      let inside : t < length new = omega (arith, long) in
+      ap must_of
+      (get_or-map rails_of new t x (both false) inside
+      ∙ ap rails_of
+      (ap (λ (l : List Level). get_or l t x) is
+      ∙ get_or-append_right levels (replicate n x) (length levels) t x refl low
+      ∙ get_or-replicate n (t - length levels) x x less))
+
+-- ---- one track more
+
+module _ (horizon n : ℕ) (tracks new : List (SentKeys Level)) (x : SentKeys Level)
+    (is : new ≡ tracks ++ x ∷ []) (sent : AreSent n horizon horizon tracks) where
+  pub sent_more : HasKeys horizon horizon 0 x → AreSent (n + 1) horizon horizon new
+  sent_more here =
+      subst (AreSent (n + 1) horizon horizon) (sym is)
+      (record {
+        count = length-append tracks (x ∷ []) ∙ ap (λ (k : ℕ). k + 1) sent.count;
+        each = λ k s at.
+            ⊎_elim (λ before. sent.each k s before)
+            (λ last. subst (HasKeys horizon horizon k) (sym last.1) here) (at_push tracks x s k at);
+      })
+
+  -- what is shown at a place
+  pub shown_more : (value : ℕ → ℕ → Bool)
+      → ((k t : ℕ) → k < n → t < horizon → is_shown tracks k t ≡ value k t)
+      → ((t : ℕ) → t < horizon → is_on x t ≡ value n t)
+      → (k t : ℕ) → k < n + 1 → t < horizon → is_shown new k t ≡ value k t
+  shown_more value before here k t kn lt =
+      subst (λ (l : List (SentKeys Level)). is_shown l k t ≡ value k t) (sym is)
+      (let count : length tracks ≡ n = sent.count in
+      let (s, at) = exists_at (tracks ++ x ∷ []) k (omega (arith, length-append tracks (x ∷ []))) in
+      ap (λ (f : ℕ → Bool). f t) (shown_is (tracks ++ x ∷ []) k s at)
+      ∙ ⊎_elim
+      (λ early.
+      let less : k < n = within k s early in
+      sym (ap (λ (f : ℕ → Bool). f t) (shown_is tracks k s early)) ∙ before k t less lt)
+      (λ last.
+      let e : n ≡ k = sym (last.0 ∙ count) in
+      ap (λ (y : SentKeys Level). is_on y t) last.1 ∙ here t lt ∙ ap (λ (m : ℕ). value m t) e)
+      (at_push tracks x s k at))
+    where
+      within : (k : ℕ) (s : SentKeys Level) → slice_get tracks k ≡ Some s → k < n
+      within k s at = subst (λ (m : ℕ). k < m) sent.count (slice_get_within tracks k s at)

@@ -1,0 +1,11 @@
+use Rattle.std.proofs.Common.{◌≡◌, ◌<◌, ℕ}
+use Rattle.run_simulator.specs.{PlayedTracks.is_shown, Ticks.AreSent}
+use Rattle.cert_check.specs.Claims.{pairs_of}
+use Rattle.judge_match.proofs.recorded.tracks_of.Given as goal
+
+abbrev pub invariant-loop-k : goal.invariant-loop-k
+invariant-loop-k l = record {
+  sent : AreSent l.k l.line.horizon l.line.horizon l.tracks.items;
+  same : (k t : ℕ) → k < l.k → t < l.line.horizon
+      → is_shown l.tracks.items k t ≡ (pairs_of l.waves k t).must;
+}

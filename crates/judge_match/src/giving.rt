@@ -1,0 +1,57 @@
+//! The first candidate that gives a record.
+
+ghost use Rattle.std.specs.Prelude.{◌≡◌, ◌<◌, IfOk, MatchOption};
+ghost use Rattle.net_gates.specs.NetOf.{IsNetOf};
+ghost use Rattle.model_timing.specs.Candidates.{candidate_count as count_of};
+ghost use Rattle.judge_match.specs.Candidates.{IsFirstGiving, IsLowest, IsNone64};
+ghost use Rattle.judge_match.specs.{Match.NoneGives, Seen.AreSeen};
+
+use crate::block::{giving_lanes, number_in};
+use crate::recorded::seen_tracks;
+use crate::seen::Seen;
+use model_line::laws::parameters_are_numbered;
+use model_line::{Line, Memory, Script};
+use model_timing::candidate_count;
+use net_gates::Net;
+use run_signal::{Lanes64, Signal};
+use std::alloc::Global;
+
+/// The number of the first candidate that gives what was seen. Candidates are run in blocks of 64.
+pub fn first_giving(
+    alloc: Global,
+    line: &Line,
+    net: &Net,
+    script: &Script,
+    seen: &Seen,
+) -> Result<Option<u32>, Memory>
+    requires of_line { IsNetOf line.now net.now }
+    requires seen { AreSeen line.now seen.now }
+    ensures { IfOk result (λ found. MatchOption found
+        (NoneGives line.now script.now seen.now (count_of line.now))
+        (λ number. IsFirstGiving line.now script.now seen.now number)) }
+{
+    parameters_are_numbered();
+    let recorded = seen_tracks(alloc, line, seen)?;
+    let count = candidate_count(line);
+    let mut first = 0;
+    'next_block: while first < count {
+        let lanes = giving_lanes(alloc, line, net, script, first, &recorded)?;
+        if let Some(lane) = first_lane(lanes) {
+            return Ok(Some(number_in(count, first, lane)));
+        }
+        first += 64;
+    }
+    Ok(None)
+}
+
+// The first of these lanes.
+fn first_lane(lanes: Lanes64) -> Option<u32>
+    ensures { MatchOption result (IsNone64 lanes) (λ lane. IsLowest lanes lane) }
+{
+    for lane in 0..64 {
+        if lanes.must(lane) {
+            return Some(lane);
+        }
+    }
+    None
+}
