@@ -1,5 +1,5 @@
 -- The table of verdicts with a record for each script and terminal.
-use Rattle.std.specs.Prelude.{◌+◌, ◌-◌, ◌*◌, ◌++◌, ℕ, List, [], ◌∷◌, Option, None, Some, map}
+use Rattle.std.specs.Prelude.{◌+◌, ◌-◌, ◌++◌, ℕ, List, [], ◌∷◌, Option, None, Some, map}
 use Rattle.std.specs.Prelude.{codes, decimal, get_or, nat_le, if◌then◌else◌}
 use Rattle.std.specs.List.{flat_map}
 use Rattle.csv.specs.Writing.{row_text, default_writer}
@@ -10,7 +10,8 @@ use Rattle.model_names.specs.NamesByNumber.{script_name, terminal_name}
 use Rattle.judge_report.specs.ReportText.{kind_word}
 use Rattle.file_sweeps.specs.declared.group.Group.{Group}
 use Rattle.call_tables.specs.Table.{by_word}
-use Rattle.call_verdicts.specs.{Milliseconds.ms_text, Places.PlaceValues, Places.place_in}
+use Rattle.base_times.specs.Milliseconds.{ticks_text}
+use Rattle.call_verdicts.specs.{Places.PlaceValues, Places.place_in}
 use Rattle.call_verdicts.specs.declared.finding.{Finding.Finding, Standing.Standing}
 use Rattle.call_verdicts.specs.declared.finding.Standing.TheVariants.{Held, Fails, Open}
 
@@ -18,10 +19,6 @@ abbrev pub answer_word : Standing → List ℕ
 answer_word Held = codes "held"
 answer_word Fails = codes "fails"
 answer_word Open = codes "open"
-
--- ticks in milliseconds
-abbrev pub ticks_text : ℕ → ℕ → List ℕ
-ticks_text tick_us t = ms_text (t * tick_us)
 
 -- times with `/` between them
 abbrev pub times_text : ℕ → List ℕ → List ℕ

@@ -4,22 +4,16 @@ ghost use Rattle.std.specs.Prelude.{◌≡◌, ◌++◌, ◌∷◌, IfOk, OnOk, 
 ghost use Rattle.model_line.specs.declared.script.Kind.TheVariants.{Internal};
 ghost use Rattle.judge_report.specs.ReportText.{kind_word as word_of_kind};
 ghost use Rattle.call_tables.specs.Table.{by_word as word_of_by};
-ghost use Rattle.call_verdicts.specs.Records.{answer_word as word_of_answer, ticks_text};
+ghost use Rattle.base_times.specs.Milliseconds.{ticks_text};
+ghost use Rattle.call_verdicts.specs.Records.{answer_word as word_of_answer};
 ghost use Rattle.call_verdicts.specs.Records.{margin_text as margin_text_of, times_text};
 ghost use Rattle.call_verdicts.specs.Records.{trip_text as trip_text_of};
 
 use crate::finding::Standing;
-use crate::milliseconds::push_ms;
+use base_times::push_ticks;
 use judge_settle::By;
 use model_line::{Kind, Memory};
 use std::alloc::Global;
-
-// Appends ticks in milliseconds.
-fn push_ticks(text: &mut Vec<u8>, tick_us: u32, t: u32) -> Result<(), Memory>
-    ensures { OnOk result (text.new.items ≡ text.old.items ++ ticks_text tick_us t) }
-{
-    push_ms(text, t as u64 * tick_us as u64)
-}
 
 /// Times with `/` between them.
 #[tactic(auto, using(crate::proofs::Times::times_text_split))]
@@ -43,7 +37,8 @@ fn push_more(text: &mut Vec<u8>, tick_us: u32, t: u32) -> Result<(), Memory>
     ensures { OnOk result (text.new.items ≡ text.old.items ++ 47 ∷ ticks_text tick_us t) }
 {
     text.push(b'/')?;
-    push_ticks(text, tick_us, t)
+    push_ticks(text, tick_us, t)?;
+    Ok(())
 }
 
 /// When the trip must have come; nothing where it need not come.

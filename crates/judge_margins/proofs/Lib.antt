@@ -5,3 +5,5 @@ pub mod BracketLaws
 pub mod EndLaws
 pub mod TodayLaws
 pub mod OneEnd
+pub mod RowLaws
+pub mod AskLaws

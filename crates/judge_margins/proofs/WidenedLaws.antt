@@ -5,13 +5,12 @@ use Rattle.std.proofs.lemmas.Bool.{cases_eq, ne_eqb}
 use Rattle.model_history.specs.Rails.{Ends, IsPartOf}
 use Rattle.model_line.specs.Parameters.{param_count, delay_param, declared_ends}
 use Rattle.model_line.specs.Parameters.{is_delay}
-use Rattle.model_line.specs.{declared.line.Line.Line, declared.script.Script.Script}
-use Rattle.model_line.specs.SetBounds.{SameButParams}
-use Rattle.model_logic.specs.Choice.{Box, IsBoxWithin, LeastFromOne, declared_box}
-use Rattle.model_logic.specs.{Boxes.IsSameBox, Boxes.ends_with, HeldOver.IsHeldOver}
+use Rattle.model_line.specs.declared.line.Line.{Line}
+use Rattle.model_logic.specs.Choice.{IsBoxWithin, LeastFromOne, declared_box}
+use Rattle.model_logic.specs.Boxes.{ends_with}
 use Rattle.judge_margins.specs.{Known.Known, declared.end.Side.Side}
 use Rattle.judge_margins.specs.declared.end.Side.TheVariants.{Above, Below}
-use Rattle.judge_margins.specs.Widened.{moved, first_number, room, widened, IsWidened}
+use Rattle.judge_margins.specs.Widened.{moved, first_number, room, widened}
 
 -- at the parameter the new interval, elsewhere the old one
 ends_with-here : (ends : ℕ → Ends) (param : ℕ) (new : Ends) (i : ℕ) → i ≡ param
@@ -126,41 +125,3 @@ module _ (known : Known) (line : Line) (param : ℕ) (side : Side) where
             subst (λ (e : Ends). 1 ≤ e.least)
             (sym (ends_with-elsewhere (declared_ends line) param new delay apart)) low
       ]
-
--- ---- the line whose declared box it is
-
-same_box_sym : (line : Line) (a b : Box) → IsSameBox line a b → IsSameBox line b a
-same_box_sym line a b same = record {
-  numbers = λ i lt. sym (same.numbers i lt);
-  delays = λ c t lt early. sym (same.delays c t lt early);
-}
-
-exchanged : (line other : Line) → SameButParams line other → SameButParams other line
-exchanged line other same = record {
-  tick_us = sym same.tick_us;
-  horizon = sym same.horizon;
-  scheme = sym same.scheme;
-  zone1_trip = sym same.zone1_trip;
-  terminals = sym same.terminals;
-  channels = sym same.channels;
-}
-
-module _ (known : Known) (line other : Line) (param : ℕ) (side : Side) (n : ℕ)
-    (here : param < param_count line) (is : IsWidened line param side n other) where
-  same : IsSameBox line (declared_box other) (widened line param side n)
-  same =
-      known.changed.all line other param (moved (declared_ends line param) side n).least
-      (moved (declared_ends line param) side n).greatest here is
-
-  pub to_box : (script : Script) (k : ℕ) → IsHeldOver other script k (declared_box other)
-      → IsHeldOver line script k (widened line param side n)
-  to_box script k held =
-      known.held.same line script k (declared_box other) (widened line param side n)
-      (same_box_sym line (declared_box other) (widened line param side n) same)
-      (known.held.lines other line script k (declared_box other) (exchanged line other is.rest) held)
-
-  pub from_box : (script : Script) (k : ℕ) → IsHeldOver line script k (widened line param side n)
-      → IsHeldOver other script k (declared_box other)
-  from_box script k held =
-      known.held.lines line other script k (declared_box other) is.rest
-      (known.held.same line script k (widened line param side n) (declared_box other) same held)

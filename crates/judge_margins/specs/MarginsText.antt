@@ -1,5 +1,6 @@
 -- The rows of margins: a header, and a row for each end.
 use Rattle.std.specs.Prelude.{◌+◌, ◌-◌, ◌++◌, ℕ, List, [], ◌∷◌, codes, decimal, Option, None, Some}
+use Rattle.base_times.specs.Milliseconds.{ticks_text}
 use Rattle.model_history.specs.Rails.{Ends}
 use Rattle.model_names.specs.NamesByNumber.{terminal_name, parameter_name, script_name}
 use Rattle.model_line.specs.{declared.script.Script.Script, declared.line.Line.Line}
@@ -35,11 +36,22 @@ end_numbers ends side slack =
     decimal (end_moved ends side 0) ++ (codes "," ++ (decimal (end_moved ends side slack)
     ++ (codes "," ++ (decimal slack ++ codes ","))))
 
--- `PARAMETER,SIDE,DECLARED,REACHED,SLACK,LOST`
+-- `,DECLARED_MS,REACHED_MS,SLACK_MS`, the same in milliseconds
+abbrev pub end_times : ℕ → Ends → Side → ℕ → List ℕ
+end_times tick_us ends side slack =
+    codes "," ++ (ticks_text tick_us (end_moved ends side 0) ++ (codes ","
+    ++ (ticks_text tick_us (end_moved ends side slack) ++ (codes "," ++ ticks_text tick_us slack))))
+
+-- `PARAMETER,SIDE,DECLARED,REACHED,SLACK,LOST,DECLARED_MS,REACHED_MS,SLACK_MS`
 abbrev pub end_row : Line → List Script → ℕ → Side → End → List ℕ
 end_row line scripts param side end =
     end_head line param side ++ (end_numbers (declared_ends line param) side end.slack
-    ++ (lost_words line scripts end.lost ++ codes "\n"))
+    ++ (lost_words line scripts end.lost
+    ++ (end_times line.tick_us (declared_ends line param) side end.slack ++ codes "\n")))
+
+abbrev pub header : List ℕ
+header =
+    codes "parameter,side,declared,reached,slack,lost,declared_ms,reached_ms,slack_ms\n"
 
 -- the rows from this place on
 abbrev pub end_rows : Line → List Script → ℕ → List End → List ℕ
@@ -49,5 +61,4 @@ end_rows line scripts place (end ∷ ends) =
     ++ end_rows line scripts (place + 1) ends
 
 abbrev pub margins_rows : Line → List Script → List End → List ℕ
-margins_rows line scripts ends =
-    codes "parameter,side,declared,reached,slack,lost\n" ++ end_rows line scripts 0 ends
+margins_rows line scripts ends = header ++ end_rows line scripts 0 ends

@@ -1,7 +1,7 @@
 -- The declared box with one end of one interval moved outward.
 use Rattle.std.specs.Prelude.{◌+◌, ◌-◌, ◌/◌, ◌%◌, ◌==◌, ℕ, if◌then◌else◌}
 use Rattle.model_history.specs.Rails.{Ends}
-use Rattle.model_line.specs.{declared.line.Line.Line, WithBounds.IsWithBounds}
+use Rattle.model_line.specs.declared.line.Line.{Line}
 use Rattle.model_line.specs.Parameters.{declared_ends, is_delay}
 use Rattle.model_logic.specs.{Choice.Box, Boxes.declared_with}
 use Rattle.judge_margins.specs.declared.end.Side.{Side}
@@ -24,12 +24,6 @@ room line param Below = (declared_ends line param).least - first_number line par
 -- the declared box with an end of one parameter moved outward by n
 abbrev pub widened : Line → ℕ → Side → ℕ → Box
 widened line param side n = declared_with line param (moved (declared_ends line param) side n)
-
--- the line with that interval
-abbrev pub IsWidened : Line → ℕ → Side → ℕ → Line → Type 0
-IsWidened line param side n other =
-    IsWithBounds line param (moved (declared_ends line param) side n).least
-    (moved (declared_ends line param) side n).greatest other
 
 -- the ends of all parameters are told in order, of each the end above before the one below
 abbrev pub param_at : ℕ → ℕ

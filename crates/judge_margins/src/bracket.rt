@@ -1,57 +1,59 @@
 //! Between which numbers the slack of an end lies.
 
 ghost use Rattle.std.specs.Prelude.{◌≡◌, ◌≤◌};
-ghost use Rattle.judge_margins.specs.Brackets.{middle_of, half_of, first_bracket};
+ghost use Rattle.judge_margins.specs.Brackets.{half_of, fresh_bracket, tried as tried_of};
 
-/// The obligation is held with the end moved by `near`, and lost one tick beyond `far`.
-#[derive(Clone, Copy, PartialEq, Eq, Debug)]
+use judge_margin::Lost;
+
+/// The obligations are held with the end moved by `near`. One tick beyond `far` this one is lost
+/// first.
+#[derive(Clone, Copy)]
 pub struct Bracket {
-    pub near: u16,
-    pub far: u16,
+    pub near: u32,
+    pub far: u32,
+    pub lost: Option<Lost>,
 }
 
 impl Bracket {
-    /// By whether the obligation is held with the end moved by its whole slack.
-    pub fn first(slack: u32, held: bool) -> Bracket
-        requires { slack ≤ 4000 }
-        ensures { result ≡ first_bracket slack held }
+    /// Before anything is asked.
+    pub fn fresh(slack: u32) -> Bracket
+        ensures { result ≡ fresh_bracket slack }
     {
-        let slack = slack as u16;
-        if held {
-            Bracket {
-                near: slack,
-                far: slack,
-            }
-        } else {
-            Bracket {
-                near: 0,
-                far: slack.saturating_sub(1),
-            }
+        Bracket {
+            near: 0,
+            far: slack,
+            lost: None,
         }
     }
 
-    /// The number to be tried next: the middle, rounded up.
-    pub fn middle(self) -> u32
-        ensures { result ≡ middle_of self }
+    /// The number to be tried next: the whole slack, or the middle, rounded up.
+    pub fn tried(self, whole: bool) -> u32
+        requires ordered { self.near ≤ self.far }
+        requires small { self.far ≤ 4000 }
+        ensures { result ≡ tried_of whole self }
     {
-        (self.near as u32 + self.far as u32 + 1) / 2
+        if whole {
+            self.far
+        } else {
+            (self.near + self.far + 1) / 2
+        }
     }
 
-    /// What is left where the obligation is held at the middle, or not.
-    pub fn half(self, held: bool) -> Bracket
-        ensures { result ≡ half_of self held }
+    /// What is left where all are held at a number, or this is lost first.
+    pub fn half(self, number: u32, lost: Option<Lost>) -> Bracket
+        ensures { result ≡ half_of number self lost }
     {
-        let middle = self.middle() as u16;
-        if held {
-            Bracket {
-                near: middle,
+        match lost {
+            None => Bracket {
+                near: number,
                 far: self.far,
-            }
-        } else {
-            Bracket {
+                lost: self.lost,
+            },
+            Some(lost) => Bracket {
                 near: self.near,
-                far: middle.saturating_sub(1),
-            }
+                far: number.saturating_sub(1),
+                lost: Some(lost),
+            },
         }
     }
 }

@@ -2,21 +2,16 @@
 
 ghost use Rattle.judge_margins.specs.Known.{Known};
 
-use model_line::laws::{
-    counts_do_not_rest_on_the_intervals, declared_intervals_are_in_order, delays_are_parameters,
-};
-use model_logic::interval_laws::{a_changed_interval_changes_the_box, the_rule_over_a_box};
+use model_line::laws::{declared_intervals_are_in_order, delays_are_parameters};
+use model_logic::interval_laws::the_rule_over_a_box;
 use model_logic::laws::line_laws;
 
-/// The laws of lines, of boxes and of lines that differ in their intervals, as their crates state
-/// them.
+/// The laws of lines and of boxes, as their crates state them.
 pub fn laws_below()
     ensures { Known }
 {
     line_laws();
-    counts_do_not_rest_on_the_intervals();
     declared_intervals_are_in_order();
     delays_are_parameters();
-    a_changed_interval_changes_the_box();
     the_rule_over_a_box();
 }

@@ -3,13 +3,18 @@
 //! lost first beyond.
 #![tactic(auto)]
 
+mod ask;
 mod bracket;
 mod end;
+mod group;
+mod held;
 mod known;
 mod laws;
 mod lists;
 mod narrow;
 mod probe;
+mod rows;
+mod spans;
 mod text;
 mod today;
 mod widened;

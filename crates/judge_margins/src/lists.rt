@@ -1,57 +1,37 @@
 //! Lists with one element for each end.
 
-ghost use Rattle.std.specs.Prelude.{◌≡◌, ◌≤◌, ◌<◌, ◌+◌, ℕ, Bool, Some, IfOk, length, slice_get};
-ghost use Rattle.judge_margins.specs.Brackets.{AreSlacks, AreFirst, AreMiddles, AreHalves};
-ghost use Rattle.judge_margins.specs.Brackets.{AreSettled, half_of, middle_of, settled};
-ghost use Rattle.judge_margins.specs.Brackets.{first_bracket};
+ghost use Rattle.std.specs.Prelude.{◌≡◌, ◌≤◌, ◌<◌, ◌+◌, ℕ, Option, Some, IfOk, OnOk, length};
+ghost use Rattle.std.specs.Prelude.{slice_get};
+ghost use Rattle.judge_margin.specs.declared.upper_end.Lost.{Lost as LostOf};
+ghost use Rattle.judge_margins.specs.Brackets.{AreAsksOf, AreHalves, AreOpen, AreSettled, AreSlots};
+ghost use Rattle.judge_margins.specs.Brackets.{IsHalf, IsSlot, fresh_bracket, settled};
 ghost use Rattle.judge_margins.specs.declared.bracket.Bracket.{Bracket as BracketOf};
 ghost use Rattle.judge_margins.specs.declared.end.End.{End as EndOf};
 
+use crate::ask::Ask;
 use crate::bracket::Bracket;
 use crate::end::End;
 use judge_margin::Lost;
 use model_line::Memory;
 use std::alloc::Global;
 
-/// The slack of each end.
-pub fn slacks(alloc: Global, ends: &[End]) -> Result<Vec<u32>, Memory>
-    ensures { IfOk result (λ by. AreSlacks ends.now by.items) }
-{
-    let mut by = Vec::new(alloc);
-    for place in 0..ends.len() {
-        by.push(slack_at(ends, place))?;
-    }
-    Ok(by)
-}
-
-fn slack_at(ends: &[End], place: usize) -> u32
-    requires { place < length ends.now }
-    ensures { (end : EndOf) → slice_get ends.now place ≡ Some end → result ≡ end.slack }
-{
-    ends[place].slack
-}
-
-/// The brackets by whether the obligation is held with each end moved by its slack.
-pub fn firsts(alloc: Global, by: &[u32], held: &[bool]) -> Result<Vec<Bracket>, Memory>
-    requires count { length held.now ≡ length by.now }
-    requires small { (place n : ℕ) → slice_get by.now place ≡ Some n → n ≤ 4000 }
-    ensures { IfOk result (λ brackets. AreFirst held.now by.now brackets.items) }
+/// Brackets of which nothing is asked yet.
+pub fn opened(alloc: Global, ends: &[End]) -> Result<Vec<Bracket>, Memory>
+    ensures { IfOk result (λ brackets. AreOpen ends.now brackets.items) }
 {
     let mut brackets = Vec::new(alloc);
-    for place in 0..by.len() {
-        brackets.push(first_at(by, held, place))?;
+    for place in 0..ends.len() {
+        brackets.push(opened_at(ends, place))?;
     }
     Ok(brackets)
 }
 
-fn first_at(by: &[u32], held: &[bool], place: usize) -> Bracket
-    requires place { place < length by.now }
-    requires count { length held.now ≡ length by.now }
-    requires small { (n : ℕ) → slice_get by.now place ≡ Some n → n ≤ 4000 }
-    ensures { (n : ℕ) (on : Bool) → slice_get by.now place ≡ Some n →
-        slice_get held.now place ≡ Some on → result ≡ first_bracket n on }
+fn opened_at(ends: &[End], place: usize) -> Bracket
+    requires { place < length ends.now }
+    ensures { (end : EndOf) → slice_get ends.now place ≡ Some end →
+        result ≡ fresh_bracket end.slack }
 {
-    Bracket::first(by[place], held[place])
+    Bracket::fresh(ends[place].slack)
 }
 
 /// No bracket is wider.
@@ -77,76 +57,144 @@ fn width_at(brackets: &[Bracket], place: usize) -> u32
     requires { place < length brackets.now }
     ensures { (b : BracketOf) → slice_get brackets.now place ≡ Some b → b.far ≤ b.near + result }
 {
-    brackets[place].far.saturating_sub(brackets[place].near) as u32
+    brackets[place].far.saturating_sub(brackets[place].near)
 }
 
-/// The number to be tried next of each.
-pub fn middles(alloc: Global, brackets: &[Bracket]) -> Result<Vec<u32>, Memory>
-    ensures { IfOk result (λ by. AreMiddles brackets.now by.items) }
+/// What is asked of the brackets that are open, and where it stands among the asks.
+#[derive(Drop)]
+pub struct Slots {
+    pub asks: Vec<Ask>,
+    pub slots: Vec<Option<usize>>,
+}
+
+/// What is asked of the brackets that are open: whether all is held at the whole slack, or at the
+/// middle.
+pub fn asked(alloc: Global, brackets: &[Bracket], whole: bool) -> Result<Slots, Memory>
+    requires ordered { (place : ℕ) (b : BracketOf) → slice_get brackets.now place ≡ Some b →
+        b.near ≤ b.far }
+    requires small { (place : ℕ) (b : BracketOf) → slice_get brackets.now place ≡ Some b →
+        b.far ≤ 4000 }
+    ensures slots { IfOk result (λ asked. AreSlots whole brackets.now asked.slots.items
+        asked.asks.items (length brackets.now)) }
+    ensures asks { IfOk result (λ asked. AreAsksOf whole brackets.now asked.asks.items) }
 {
-    let mut by = Vec::new(alloc);
+    let mut asks = Vec::new(alloc);
+    let mut slots = Vec::new(alloc);
     for place in 0..brackets.len() {
-        by.push(middle_at(brackets, place))?;
+        ask_more(brackets, place, whole, &mut asks, &mut slots)?;
     }
-    Ok(by)
+    Ok(Slots { asks, slots })
 }
 
-fn middle_at(brackets: &[Bracket], place: usize) -> u32
-    requires { place < length brackets.now }
-    ensures { (b : BracketOf) → slice_get brackets.now place ≡ Some b → result ≡ middle_of b }
+// The slot of one bracket more.
+fn ask_more(
+    brackets: &[Bracket],
+    place: usize,
+    whole: bool,
+    asks: &mut Vec<Ask>,
+    slots: &mut Vec<Option<usize>>,
+) -> Result<(), Memory>
+    requires place { place < length brackets.now }
+    requires ordered { (i : ℕ) (b : BracketOf) → slice_get brackets.now i ≡ Some b →
+        b.near ≤ b.far }
+    requires small { (i : ℕ) (b : BracketOf) → slice_get brackets.now i ≡ Some b → b.far ≤ 4000 }
+    requires slots { AreSlots whole brackets.now slots.old.items asks.old.items place }
+    requires asks { AreAsksOf whole brackets.now asks.old.items }
+    ensures slots { OnOk result
+        (AreSlots whole brackets.now slots.new.items asks.new.items (place + 1)) }
+    ensures asks { OnOk result (AreAsksOf whole brackets.now asks.new.items) }
 {
-    brackets[place].middle()
+    let bracket = bracket_at(brackets, place);
+    if bracket.near >= bracket.far {
+        slots.push(None)?;
+        return Ok(());
+    }
+    slots.push(Some(asks.len()))?;
+    asks.push(Ask {
+        place,
+        by: bracket.tried(whole),
+    })?;
+    Ok(())
 }
 
-/// What is left of each.
-pub fn halves(alloc: Global, brackets: &[Bracket], held: &[bool]) -> Result<Vec<Bracket>, Memory>
-    requires { length held.now ≡ length brackets.now }
-    ensures { IfOk result (λ halves. AreHalves held.now brackets.now halves.items) }
+fn bracket_at(brackets: &[Bracket], place: usize) -> Bracket
+    requires { place < length brackets.now }
+    ensures { slice_get brackets.now place ≡ Some result }
+{
+    brackets[place]
+}
+
+/// What is left of each bracket by what is told of the asks.
+pub fn halves(
+    alloc: Global,
+    brackets: &[Bracket],
+    slots: &[Option<usize>],
+    told: &[Option<Lost>],
+    whole: bool,
+) -> Result<Vec<Bracket>, Memory>
+    requires count { length slots.now ≡ length brackets.now }
+    requires told { (place j : ℕ) → slice_get slots.now place ≡ Some (Some j) →
+        j < length told.now }
+    requires ordered { (place : ℕ) (b : BracketOf) → slice_get brackets.now place ≡ Some b →
+        b.near ≤ b.far }
+    requires small { (place : ℕ) (b : BracketOf) → slice_get brackets.now place ≡ Some b →
+        b.far ≤ 4000 }
+    ensures { IfOk result (λ halves.
+        AreHalves whole slots.now told.now brackets.now halves.items) }
 {
     let mut halves = Vec::new(alloc);
     for place in 0..brackets.len() {
-        halves.push(half_at(brackets, held, place))?;
+        halves.push(half_at(brackets, slots, told, whole, place))?;
     }
     Ok(halves)
 }
 
-fn half_at(brackets: &[Bracket], held: &[bool], place: usize) -> Bracket
+fn half_at(
+    brackets: &[Bracket],
+    slots: &[Option<usize>],
+    told: &[Option<Lost>],
+    whole: bool,
+    place: usize,
+) -> Bracket
     requires place { place < length brackets.now }
-    requires count { length held.now ≡ length brackets.now }
-    ensures { (b : BracketOf) (on : Bool) → slice_get brackets.now place ≡ Some b →
-        slice_get held.now place ≡ Some on → result ≡ half_of b on }
+    requires count { length slots.now ≡ length brackets.now }
+    requires told { (j : ℕ) → slice_get slots.now place ≡ Some (Some j) → j < length told.now }
+    requires ordered { (i : ℕ) (b : BracketOf) → slice_get brackets.now i ≡ Some b →
+        b.near ≤ b.far }
+    requires small { (i : ℕ) (b : BracketOf) → slice_get brackets.now i ≡ Some b → b.far ≤ 4000 }
+    ensures { (b : BracketOf) (slot : Option ℕ) → slice_get brackets.now place ≡ Some b →
+        slice_get slots.now place ≡ Some slot → IsHalf whole told.now b slot result }
 {
-    brackets[place].half(held[place])
+    let bracket = bracket_at(brackets, place);
+    match slots[place] {
+        None => bracket,
+        Some(j) => bracket.half(bracket.tried(whole), told[j]),
+    }
 }
 
-/// The ends where this obligation is held too.
-pub fn settle(
-    alloc: Global,
-    ends: &[End],
-    brackets: &[Bracket],
-    lost: Lost,
-) -> Result<Vec<End>, Memory>
+/// The ends where these obligations are held too.
+pub fn settle(alloc: Global, ends: &[End], brackets: &[Bracket]) -> Result<Vec<End>, Memory>
     requires { length brackets.now ≡ length ends.now }
-    ensures { IfOk result (λ settled. AreSettled lost brackets.now ends.now settled.items) }
+    ensures { IfOk result (λ settled. AreSettled brackets.now ends.now settled.items) }
 {
     let mut settled = Vec::new(alloc);
     for place in 0..ends.len() {
-        settled.push(settled_at(ends, brackets, lost, place))?;
+        settled.push(settled_at(ends, brackets, place))?;
     }
     Ok(settled)
 }
 
-fn settled_at(ends: &[End], brackets: &[Bracket], lost: Lost, place: usize) -> End
+fn settled_at(ends: &[End], brackets: &[Bracket], place: usize) -> End
     requires place { place < length ends.now }
     requires count { length brackets.now ≡ length ends.now }
     ensures { (end : EndOf) (b : BracketOf) → slice_get ends.now place ≡ Some end →
-        slice_get brackets.now place ≡ Some b → result ≡ settled lost b.near end }
+        slice_get brackets.now place ≡ Some b → result ≡ settled b end }
 {
-    let near = brackets[place].near as u32;
-    if near < ends[place].slack {
+    let bracket = brackets[place];
+    if bracket.near < ends[place].slack {
         End {
-            slack: near,
-            lost: Some(lost),
+            slack: bracket.near,
+            lost: bracket.lost,
         }
     } else {
         ends[place]

@@ -1,20 +1,21 @@
-//! The slack of each end, obligation by obligation.
+//! The slack of each end, script by script.
 
-ghost use Rattle.std.specs.Prelude.{◌≡◌, ◌<◌, ◌+◌, ◌*◌, ◌/◌, ℕ, List, Some, IfOk, length};
-ghost use Rattle.std.specs.Prelude.{slice_get};
-ghost use Rattle.std.specs.List.{All};
-ghost use Rattle.model_line.specs.{Parameters.terminal_count, Parameters.param_count, Fits.Fits};
-ghost use Rattle.model_logic.specs.{Choice.declared_box, HeldOver.IsHeldOver};
+ghost use Rattle.std.specs.Prelude.{◌≡◌, ◌≤◌, ◌<◌, ◌*◌, ℕ, IfOk, IsTrue, Some, length, slice_get};
+ghost use Rattle.std.specs.List.{All, slice_range};
+ghost use Rattle.model_line.specs.{Parameters.param_count, Fits.Fits};
+ghost use Rattle.model_logic.specs.Choice.{declared_box};
 ghost use Rattle.net_gates.specs.NetOf.{IsNetOf};
-ghost use Rattle.judge_margins.specs.Ends.{AreEnds, AreFound, AreLimits, HaveRoom, limit_of};
-ghost use Rattle.judge_margins.specs.Brackets.{AreBrackets, AreMiddles, AreMoves};
+ghost use Rattle.judge_margin.specs.declared.upper_end.Lost.{Lost as LostOf};
+ghost use Rattle.judge_margins.specs.Ends.{AreEnds, AreLimits, HaveRoom, limit_of};
+ghost use Rattle.judge_margins.specs.Brackets.{AreBrackets, AreBracketsOf, AreNarrowed, left_of};
+ghost use Rattle.judge_margins.specs.Groups.{AreOfOneScript, IsGroup};
 ghost use Rattle.judge_margins.specs.{Kept.AreKept, Kept.AreObligations};
-ghost use Rattle.judge_margins.specs.declared.end.End.{End as EndOf};
 
 use crate::bracket::Bracket;
 use crate::end::End;
+use crate::group::Group;
 use crate::known::laws_below;
-use crate::lists::{firsts, halves, middles, settle, slacks, widest};
+use crate::lists::{asked, halves, opened, settle, widest};
 use crate::probe::probe;
 use crate::widened::{param_at, room, side_at};
 use judge_margin::Lost;
@@ -43,10 +44,60 @@ pub fn margins(
 {
     laws_below();
     let mut ends = limits(alloc, line)?;
-    for place in 0..obligations.len() {
-        ends = narrowed(alloc, line, net, scripts, obligations, place, &ends)?;
+    let mut first = 0;
+    'next_script: while first < obligations.len() {
+        let next = next_script(obligations, first);
+        let of = Group {
+            line,
+            net,
+            scripts,
+            script: obligation_at(obligations, first).script,
+            these: between(obligations, first, next),
+        };
+        ends = narrowed(alloc, &of, &ends)?;
+        first = next;
     }
     Ok(ends)
+}
+
+// Where the obligations of the script at this place end.
+fn next_script(obligations: &[Lost], first: usize) -> usize
+    requires { first < length obligations.now }
+    ensures later { first < result }
+    ensures within { result ≤ length obligations.now }
+    ensures same { AreOfOneScript obligations.now first result }
+{
+    let mut next = first + 1;
+    'same_script: while next < obligations.len() && is_of_script(obligations, first, next) {
+        next += 1;
+    }
+    next
+}
+
+// Whether two obligations are of one script.
+fn is_of_script(obligations: &[Lost], first: usize, next: usize) -> bool
+    requires first { first < length obligations.now }
+    requires next { next < length obligations.now }
+    ensures { IsTrue result → (o p : LostOf) → slice_get obligations.now first ≡ Some p →
+        slice_get obligations.now next ≡ Some o → o.script ≡ p.script }
+{
+    obligations[next].script == obligations[first].script
+}
+
+// The obligations from one place up to another.
+fn between(obligations: &[Lost], first: usize, next: usize) -> &[Lost]
+    requires ordered { first ≤ next }
+    requires within { next ≤ length obligations.now }
+    ensures { result.now ≡ slice_range obligations.now first next }
+{
+    &obligations[first..next]
+}
+
+fn obligation_at(obligations: &[Lost], place: usize) -> Lost
+    requires { place < length obligations.now }
+    ensures { slice_get obligations.now place ≡ Some result }
+{
+    obligations[place]
 }
 
 // Each end at its limit.
@@ -72,108 +123,50 @@ fn limit_at(line: &Line, place: usize) -> End
     }
 }
 
-// The ends over one obligation more.
-fn narrowed(
-    alloc: Global,
-    line: &Line,
-    net: &Net,
-    scripts: &[Script],
-    obligations: &[Lost],
-    place: usize,
-    ends: &[End],
-) -> Result<Vec<End>, Memory>
-    requires of_line { IsNetOf line.now net.now }
-    requires fit { All (Fits line.now) scripts.now }
-    requires exist { AreObligations line.now scripts.now obligations.now }
-    requires held { AreKept line.now scripts.now (declared_box line.now) obligations.now
-        (length obligations.now) }
-    requires place { place < length obligations.now }
-    requires found { AreFound line.now scripts.now obligations.now place ends.now }
-    ensures { IfOk result (λ more.
-        AreFound line.now scripts.now obligations.now (place + 1) more.items) }
+// The ends over the obligations of one more script.
+fn narrowed(alloc: Global, of: &Group, ends: &[End]) -> Result<Vec<End>, Memory>
+    requires group { IsGroup of.now }
+    requires room { HaveRoom of.now.line.now ends.now }
+    ensures { IfOk result (λ more. AreNarrowed of.now ends.now more.items) }
 {
-    laws_below();
-    let lost = obligation_at(obligations, place);
-    let script = &scripts[lost.script as usize];
-    let brackets = closed_brackets(alloc, line, net, script, lost.terminal, ends)?;
-    settle(alloc, ends, &brackets, lost)
+    let brackets = closed_brackets(alloc, of, ends)?;
+    settle(alloc, ends, &brackets)
 }
 
-fn obligation_at(obligations: &[Lost], place: usize) -> Lost
-    requires { place < length obligations.now }
-    ensures { slice_get obligations.now place ≡ Some result }
-{
-    obligations[place]
-}
-
-// How far each end can be moved so that an obligation is held, no further than its slack.
-fn closed_brackets(
-    alloc: Global,
-    line: &Line,
-    net: &Net,
-    script: &Script,
-    terminal: u32,
-    ends: &[End],
-) -> Result<Vec<Bracket>, Memory>
-    requires of_line { IsNetOf line.now net.now }
-    requires fits { Fits line.now script.now }
-    requires terminal { terminal < terminal_count line.now }
-    requires held { IsHeldOver line.now script.now terminal (declared_box line.now) }
-    requires slacks { HaveRoom line.now ends.now }
-    ensures { IfOk result (λ brackets.
-        AreBrackets line.now script.now terminal ends.now 0 brackets.items) }
+// How far each end can be moved so that the obligations are held, no further than its slack.
+fn closed_brackets(alloc: Global, of: &Group, ends: &[End]) -> Result<Vec<Bracket>, Memory>
+    requires group { IsGroup of.now }
+    requires room { HaveRoom of.now.line.now ends.now }
+    ensures { IfOk result (λ brackets. AreBrackets of.now ends.now 0 brackets.items) }
 {
     laws_below();
-    let mut brackets = first_brackets(alloc, line, net, script, terminal, ends)?;
+    let mut brackets = opened(alloc, ends)?;
+    brackets = narrower(alloc, of, ends, &brackets, true)?;
     let mut width = widest(&brackets);
     'halving: while width > 0 {
-        brackets = narrower(alloc, line, net, script, terminal, &brackets)?;
+        brackets = narrower(alloc, of, ends, &brackets, false)?;
         width /= 2;
     }
     Ok(brackets)
 }
 
-// By whether the obligation is held with each end moved by its whole slack.
-fn first_brackets(
-    alloc: Global,
-    line: &Line,
-    net: &Net,
-    script: &Script,
-    terminal: u32,
-    ends: &[End],
-) -> Result<Vec<Bracket>, Memory>
-    requires of_line { IsNetOf line.now net.now }
-    requires fits { Fits line.now script.now }
-    requires terminal { terminal < terminal_count line.now }
-    requires held { IsHeldOver line.now script.now terminal (declared_box line.now) }
-    requires slacks { HaveRoom line.now ends.now }
-    ensures { IfOk result (λ brackets.
-        AreBrackets line.now script.now terminal ends.now 4000 brackets.items) }
-{
-    laws_below();
-    let by = slacks(alloc, ends)?;
-    let held = probe(alloc, line, net, script, terminal, &by)?;
-    firsts(alloc, &by, &held)
-}
-
-// By whether the obligation is held with each end moved to the middle of its bracket.
+// By what is lost first with each end moved to the next number of its bracket.
 fn narrower(
     alloc: Global,
-    line: &Line,
-    net: &Net,
-    script: &Script,
-    terminal: u32,
+    of: &Group,
+    ends: &[End],
     brackets: &[Bracket],
+    whole: bool,
 ) -> Result<Vec<Bracket>, Memory>
-    requires of_line { IsNetOf line.now net.now }
-    requires fits { Fits line.now script.now }
-    requires terminal { terminal < terminal_count line.now }
-    requires moves { (by : List ℕ) → AreMiddles brackets.now by → AreMoves line.now by }
-    ensures { IfOk result (λ halves. (ends : List EndOf) (width : ℕ) →
-        AreBrackets line.now script.now terminal ends width brackets.now →
-        AreBrackets line.now script.now terminal ends (width / 2) halves.items) }
+    requires group { IsGroup of.now }
+    requires room { HaveRoom of.now.line.now ends.now }
+    requires brackets { AreBracketsOf of.now ends.now brackets.now }
+    ensures { IfOk result (λ halves. (width : ℕ) →
+        AreBrackets of.now ends.now width brackets.now →
+        AreBrackets of.now ends.now (left_of whole width) halves.items) }
 {
-    let by = middles(alloc, brackets)?;
-    let held = probe(alloc, line, net, script, terminal, &by)?;
-    halves(alloc, brackets, &held)
+    laws_below();
+    let slots = asked(alloc, brackets, whole)?;
+    let told = probe(alloc, of, &slots.asks)?;
+    halves(alloc, brackets, &slots.slots, &told, whole)
 }

@@ -1,58 +1,51 @@
-//! Whether an obligation is held with each end moved outward.
+//! What is lost first with each of some ends moved outward.
 
-ghost use Rattle.std.specs.Prelude.{◌≡◌, ◌<◌, ℕ, Some, IfOk, length, slice_get};
-ghost use Rattle.model_line.specs.{Parameters.terminal_count, Fits.Fits};
-ghost use Rattle.net_gates.specs.NetOf.{IsNetOf};
-ghost use Rattle.judge_margins.specs.Brackets.{AreMoves, AreWidened, TellMoves};
-ghost use Rattle.judge_margins.specs.Widened.{IsWidened, param_at as param_of, side_at as side_of};
+ghost use Rattle.std.specs.Prelude.{◌≡◌, ◌≤◌, ◌<◌, IfOk, OnOk, length};
+ghost use Rattle.judge_margins.specs.Asks.{AreAsks, AreTold};
+ghost use Rattle.judge_margins.specs.Groups.{IsGroup};
 
-use crate::known::laws_below;
-use crate::widened::{param_at, side_at, widened_line};
-use judge_boxes::held_each;
-use model_line::{Line, Memory, Script};
-use net_gates::Net;
+use crate::ask::Ask;
+use crate::group::Group;
+use crate::rows::{first_off, rows};
+use judge_margin::Lost;
+use model_line::Memory;
 use std::alloc::Global;
 
-/// Whether the obligation of a script at a terminal is held with each end moved outward so far. One
-/// run serves 64 ends.
-pub fn probe(
-    alloc: Global,
-    line: &Line,
-    net: &Net,
-    script: &Script,
-    terminal: u32,
-    by: &[u32],
-) -> Result<Vec<bool>, Memory>
-    requires of_line { IsNetOf line.now net.now }
-    requires fits { Fits line.now script.now }
-    requires terminal { terminal < terminal_count line.now }
-    requires moves { AreMoves line.now by.now }
-    ensures { IfOk result (λ held. TellMoves line.now script.now terminal by.now held.items) }
+/// Of each ask which of the obligations is lost first, or none. One run serves 64 asks and all of
+/// the obligations.
+pub fn probe(alloc: Global, of: &Group, asks: &[Ask]) -> Result<Vec<Option<Lost>>, Memory>
+    requires group { IsGroup of.now }
+    requires asks { AreAsks of.now.line.now asks.now }
+    ensures { IfOk result (λ told. AreTold of.now asks.now told.items (length asks.now)) }
 {
-    laws_below();
-    let lines = widened_lines(alloc, line, by)?;
-    held_each(alloc, line, net, script, terminal, &lines)
-}
-
-// The line with each end moved so, one end at a time.
-fn widened_lines(alloc: Global, line: &Line, by: &[u32]) -> Result<Vec<Line>, Memory>
-    requires { AreMoves line.now by.now }
-    ensures { IfOk result (λ lines. AreWidened line.now by.now lines.items) }
-{
-    let mut lines = Vec::new(alloc);
-    for place in 0..by.len() {
-        let other = widened_at(alloc, line, by, place)?;
-        lines.push(other)?;
+    let mut told = Vec::with_capacity(alloc, asks.len())?;
+    'next_block: while told.len() < asks.len() {
+        tell_block(alloc, of, asks, &mut told)?;
     }
-    Ok(lines)
+    Ok(told)
 }
 
-fn widened_at(alloc: Global, line: &Line, by: &[u32], place: usize) -> Result<Line, Memory>
-    requires moves { AreMoves line.now by.now }
-    requires place { place < length by.now }
-    ensures { IfOk result (λ other. (n : ℕ) → slice_get by.now place ≡ Some n →
-        IsWidened line.now (param_of place) (side_of place) n other) }
+// Of up to 64 asks more.
+fn tell_block(
+    alloc: Global,
+    of: &Group,
+    asks: &[Ask],
+    told: &mut Vec<Option<Lost>>,
+) -> Result<(), Memory>
+    requires group { IsGroup of.now }
+    requires asks { AreAsks of.now.line.now asks.now }
+    requires left { length told.old.items < length asks.now }
+    requires so_far { AreTold of.now asks.now told.old.items (length told.old.items) }
+    ensures more { OnOk result (length told.old.items < length told.new.items) }
+    ensures within { OnOk result (length told.new.items ≤ length asks.now) }
+    ensures so_far { OnOk result
+        (AreTold of.now asks.now told.new.items (length told.new.items)) }
 {
-    laws_below();
-    widened_line(alloc, line, param_at(place), side_at(place), by[place])
+    let first = told.len();
+    let rows = rows(alloc, of, asks, first)?;
+    let lanes = (asks.len() - first).min(64);
+    for lane in 0..lanes {
+        told.push(first_off(of.these, &rows, lane as u32))?;
+    }
+    Ok(())
 }

@@ -3,21 +3,25 @@
 ghost use Rattle.std.specs.Prelude.{◌≡◌, ◌≤◌, ◌<◌, ◌++◌, OnOk, IfOk, decimal};
 ghost use Rattle.model_line.specs.Parameters.{param_count, declared_ends};
 ghost use Rattle.judge_margins.specs.MarginsText.{margins_rows, end_row, end_moved, side_word};
-ghost use Rattle.judge_margins.specs.MarginsText.{lost_words, end_head, end_numbers};
+ghost use Rattle.judge_margins.specs.MarginsText.{lost_words, end_head, end_numbers, end_times};
 ghost use Rattle.judge_margins.specs.{Ends.HaveRoom, Widened.room as room_of};
 
 use crate::end::{End, Side};
 use crate::known::laws_below;
 use crate::widened::{param_at, side_at};
+use base_times::push_ticks;
 use itoa::Buffer;
 use judge_margin::Lost;
 use model_line::{Line, Memory, Script};
 use model_names::{name_of_parameter, name_of_script, name_of_terminal};
 use std::alloc::Global;
 
-/// The margins as records, in ticks: `parameter,side,declared,reached,slack,lost`, both ends of each
-/// parameter, in order. What is lost one tick further is written `SCRIPT/TERMINAL`; nothing is at
-/// the limit.
+const HEADER: &[u8] =
+    b"parameter,side,declared,reached,slack,lost,declared_ms,reached_ms,slack_ms\n";
+
+/// The margins as records, both ends of each parameter, in order:
+/// `parameter,side,declared,reached,slack,lost,declared_ms,reached_ms,slack_ms`, in ticks and then in
+/// milliseconds. What is lost one tick further is written `SCRIPT/TERMINAL`; nothing is at the limit.
 pub fn margins_text(
     alloc: Global,
     line: &Line,
@@ -28,7 +32,7 @@ pub fn margins_text(
     ensures { IfOk result (λ text. text.items ≡ margins_rows line.now scripts.now ends.now) }
 {
     laws_below();
-    let mut text = Vec::from_slice(alloc, b"parameter,side,declared,reached,slack,lost\n")?;
+    let mut text = Vec::from_slice(alloc, HEADER)?;
     for place in 0..ends.len() {
         let end = &ends[place];
         push_row(
@@ -60,6 +64,7 @@ fn push_row(
     push_head(text, line, param, side)?;
     push_numbers(text, line, param, side, end.slack)?;
     push_lost(text, line, scripts, end.lost)?;
+    push_times(text, line, param, side, end.slack)?;
     text.extend_from_slice(b"\n")?;
     Ok(())
 }
@@ -94,6 +99,28 @@ fn push_numbers(
     text.extend_from_slice(b",")?;
     push_number(text, slack)?;
     text.extend_from_slice(b",")?;
+    Ok(())
+}
+
+// Appends the same in milliseconds.
+fn push_times(
+    text: &mut Vec<u8>,
+    line: &Line,
+    param: u32,
+    side: Side,
+    slack: u32,
+) -> Result<(), Memory>
+    requires param { param < param_count line.now }
+    requires slack { slack ≤ room_of line.now param side }
+    ensures { OnOk result (text.new.items ≡ text.old.items
+        ++ end_times line.now.tick_us (declared_ends line.now param) side slack) }
+{
+    text.extend_from_slice(b",")?;
+    push_ticks(text, line.tick_us, moved(line, param, side, 0))?;
+    text.extend_from_slice(b",")?;
+    push_ticks(text, line.tick_us, moved(line, param, side, slack))?;
+    text.extend_from_slice(b",")?;
+    push_ticks(text, line.tick_us, slack)?;
     Ok(())
 }
 

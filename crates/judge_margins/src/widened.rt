@@ -1,15 +1,14 @@
-//! A line with one end of one interval moved outward.
+//! One end of one interval moved outward.
 
-ghost use Rattle.std.specs.Prelude.{◌≡◌, ◌≤◌, ◌<◌, IfOk};
+ghost use Rattle.std.specs.Prelude.{◌≡◌, ◌≤◌, ◌<◌};
 ghost use Rattle.model_line.specs.Parameters.{param_count, declared_ends};
-ghost use Rattle.judge_margins.specs.Widened.{IsWidened, moved, room as room_of};
+ghost use Rattle.judge_margins.specs.Widened.{moved, room as room_of};
 ghost use Rattle.judge_margins.specs.Widened.{first_number as first_of};
 ghost use Rattle.judge_margins.specs.Widened.{param_at as param_of, side_at as side_of};
 
 use crate::end::Side;
 use crate::known::laws_below;
-use model_line::{Line, Memory};
-use std::alloc::Global;
+use model_line::Line;
 
 /// The parameter of an end by its place: both ends of each, in order.
 pub fn param_at(place: usize) -> u32
@@ -53,31 +52,17 @@ fn first_number(line: &Line, param: u32) -> u32
     if line.is_delay(param) { 1 } else { 0 }
 }
 
-/// The line with an end of a parameter's interval moved outward by so many ticks.
-pub fn widened_line(
-    alloc: Global,
-    line: &Line,
-    param: u32,
-    side: Side,
-    by: u32,
-) -> Result<Line, Memory>
-    requires exists { param < param_count line.now }
-    requires room { by ≤ room_of line.now param side }
-    ensures { IfOk result (λ other. IsWidened line.now param side by other) }
-{
-    laws_below();
-    let first = first_number(line, param);
-    let (least, greatest) = moved_ends(line, param, side, by);
-    line.with_bounds(alloc, param, least, greatest)
-}
-
-// The interval with this end moved.
-fn moved_ends(line: &Line, param: u32, side: Side, by: u32) -> (u32, u32)
+/// The interval with this end moved.
+pub fn moved_ends(line: &Line, param: u32, side: Side, by: u32) -> (u32, u32)
     requires exists { param < param_count line.now }
     requires room { by ≤ room_of line.now param side }
     ensures least { result.0 ≡ (moved (declared_ends line.now param) side by).least }
     ensures greatest { result.1 ≡ (moved (declared_ends line.now param) side by).greatest }
+    ensures ordered { result.0 ≤ result.1 }
+    ensures limit { result.1 ≤ 4000 }
 {
+    laws_below();
+    let first = first_number(line, param);
     let (least, greatest) = (line.least(param), line.greatest(param));
     match side {
         Side::Above => (least, greatest + by),

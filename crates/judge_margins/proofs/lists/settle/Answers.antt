@@ -9,7 +9,7 @@ use Rattle.judge_margins.proofs.lists.settle.Goals as goal
 pub loop-place-preserved : goal.loop-place-preserved
 loop-place-preserved c =
     one_more (λ place (old new : End). (b : Bracket) → slice_get c.args.brackets.now place ≡ Some b
-    → new ≡ settled c.args.lost b.near old)
+    → new ≡ settled b old)
     c.args.ends.now c.loop-place.settled.items c.push.new.self.items
     c.settled_at.result c.loop-place.place c.loop-place.invariant
     c.in_ok-push.ensures.items (λ end at b there. c.settled_at.ensures end b at there)
@@ -17,6 +17,6 @@ loop-place-preserved c =
 pub returns : goal.returns
 returns c =
     all_of (λ place (old new : End). (b : Bracket) → slice_get c.args.brackets.now place ≡ Some b
-    → new ≡ settled c.args.lost b.near old) c.args.ends.now
+    → new ≡ settled b old) c.args.ends.now
     c.loop-place.settled.items c.loop-place.place c.loop-place.invariant
     (omega (arith, c.loop-place-test.false)) (omega (arith, c.loop-place.auto.place-end))

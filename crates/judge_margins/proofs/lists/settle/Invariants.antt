@@ -1,13 +1,13 @@
 use Rattle.std.proofs.Common.{◌≡◌, Some}
 use Rattle.std.specs.Prelude.{slice_get}
-use Rattle.judge_margins.specs.Each.{OneForEach}
 use Rattle.judge_margins.specs.declared.bracket.Bracket.{Bracket}
 use Rattle.judge_margins.specs.declared.end.End.{End}
 use Rattle.judge_margins.specs.Brackets.{settled}
+use Rattle.judge_margins.specs.Each.{OneForEach}
 use Rattle.judge_margins.proofs.lists.settle.Given as goal
 
 abbrev pub invariant-loop-place : goal.invariant-loop-place
 invariant-loop-place l =
     OneForEach (λ place (old new : End). (b : Bracket) → slice_get l.brackets place ≡ Some b
-    → new ≡ settled l.lost b.near old)
+    → new ≡ settled b old)
     l.ends l.settled.items l.place
