@@ -11,8 +11,9 @@ use Rattle.base_html.specs.declared.{tag.Tag.Tag, tag.Void.Void, attribute.Key.K
 use Rattle.base_html.specs.Names.{sign_text}
 use Rattle.base_html.specs.{Attributes.keys_differ}
 use Rattle.base_html.specs.Content.{IsHtml, nothing, words, sign, void, element, sheet, drawing}
-use Rattle.base_html.specs.Content.{words_text, void_text, element_text, sheet_text, document_text}
-use Rattle.base_html.specs.Content.{HasOneRoot, IsDocument}
+use Rattle.base_html.specs.Words.{words_text}
+use Rattle.base_html.specs.Content.{void_text, element_text, sheet_text, document_text}
+use Rattle.base_html.specs.Content.{IsDocument}
 
 -- content behind content
 pub IsHtml-append : {first second : List ℕ} → IsHtml first → IsHtml second

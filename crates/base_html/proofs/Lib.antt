@@ -1,1 +1,2 @@
 pub mod Grown
+mod Unmarked

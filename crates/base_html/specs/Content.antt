@@ -1,7 +1,6 @@
 -- Well-formed content of HTML: text, signs, elements that are closed by their own names, those that
 -- hold nothing, style sheets and drawings; and documents of one root.
 use Rattle.std.specs.Prelude.{◌≡◌, ◌++◌, ◌==◌, ℕ, List, [], codes, IsTrue, map, if◌then◌else◌}
-use Rattle.base_markup.specs.Escape.{escaped}
 use Rattle.base_markup.specs.Attributes as svg
 use Rattle.base_markup.specs.Content as svg_content
 use Rattle.base_markup.specs.declared.tag.Tag.TheVariants as svg_tag
@@ -9,10 +8,7 @@ use Rattle.base_markup.specs.declared.attribute.Key.{Key as SvgKey}
 use Rattle.base_html.specs.declared.{tag.Tag.Tag, tag.Void.Void, attribute.Key.Key, sign.Sign.Sign}
 use Rattle.base_html.specs.Names.{tag_name, tag_end, void_name, sign_text}
 use Rattle.base_html.specs.Attributes.{attributes_text, keys_differ}
-
--- text in which nothing can be taken for markup
-unfoldable pub words_text : List ℕ → List ℕ
-words_text words = escaped words
+use Rattle.base_html.specs.Words.{words_text}
 
 -- the start of an element of this name
 abbrev pub start_text : List ℕ → List (Key × List ℕ) → List ℕ

@@ -1,3 +1,4 @@
 pub mod Names
 pub mod Attributes
+pub mod Words
 pub mod Content

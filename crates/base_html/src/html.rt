@@ -6,12 +6,14 @@ ghost use Rattle.base_markup.specs.Content as svg_content;
 ghost use Rattle.base_markup.specs.declared.tag.Tag.TheVariants as svg_tag;
 ghost use Rattle.base_html.specs.Attributes.{keys_differ, said};
 ghost use Rattle.base_html.specs.Content.{IsHtml, element_text, sheet_text, start_text, void_text};
-ghost use Rattle.base_html.specs.Content.{plain_sheet, words_text};
+ghost use Rattle.base_html.specs.Content.{plain_sheet};
 ghost use Rattle.base_html.specs.Names.{sign_text};
+ghost use Rattle.base_html.specs.Words.{words_text};
 
 use crate::attribute::{Attribute, put_attributes};
 use crate::sign::Sign;
 use crate::tag::{Tag, Void};
+use crate::words::words_of;
 use base_markup::Markup;
 use std::alloc::{AllocError, Global};
 
@@ -34,12 +36,10 @@ impl Html {
     }
 
     /// These words as text, whatever is in them.
-    #[tactic(auto, unfolding(crate::specs::Content::words_text))]
     pub fn words(alloc: Global, words: &[u8]) -> Result<Html, AllocError>
         ensures { IfOk result (λ html. html.text.items ≡ words_text words.now) }
     {
-        let words = Markup::words(alloc, words)?;
-        let text = words.text;
+        let text = words_of(alloc, words)?;
         Ok(Html { text })
     }
 

@@ -6,11 +6,14 @@
 mod attribute;
 mod document;
 mod html;
+mod laws;
 mod sign;
 mod tag;
+mod words;
 
 pub use attribute::{Attribute, Key};
 pub use document::Document;
 pub use html::Html;
+pub use laws::text_has_no_markup;
 pub use sign::Sign;
 pub use tag::{Tag, Void};

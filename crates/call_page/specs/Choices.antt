@@ -5,8 +5,8 @@ use Rattle.model_line.specs.Parameters.{declared_ends, param_count}
 use Rattle.model_names.specs.NamesByNumber.{parameter_name, script_name, terminal_name}
 use Rattle.model_timing.specs.{Timing.TimingValues, declared.step.Step.Step}
 use Rattle.judge_cut.specs.Cuts.{IsCut, least_of, nominal_of, number}
-use Rattle.draw_page.specs.declared.page.{FailingChoice.FailingChoice, ToldTime.ToldTime}
-use Rattle.draw_page.specs.declared.page.{ToldStep.ToldStep, Undecided.Undecided}
+use Rattle.draw_elements.specs.declared.page.{FailingChoice.FailingChoice, ToldTime.ToldTime}
+use Rattle.draw_elements.specs.declared.page.{ToldStep.ToldStep, Undecided.Undecided}
 use Rattle.call_tables.specs.{declared.row.Row.Row, Table.is_failing, Table.is_open}
 use Rattle.call_page.specs.declared.parts.Part.{Part}
 use Rattle.call_page.specs.{Drawings.IsPlayOf, Lists.At, Lists.EachOf, Lists.if_one}

@@ -6,7 +6,7 @@ use Rattle.run_waves.specs.FirstTick.{first_on}
 use Rattle.judge_report.specs.Margin.{deadline_of}
 use Rattle.judge_verdict.specs.OneEach.{OneEach}
 use Rattle.draw_diagram.specs.Times.{is_begun}
-use Rattle.draw_page.specs.declared.page.{Case.Case, Fault.Fault}
+use Rattle.draw_elements.specs.declared.page.{Case.Case, Fault.Fault}
 use Rattle.file_sweeps.specs.declared.group.Group.{Group}
 use Rattle.call_tables.specs.declared.row.Row.{Row}
 use Rattle.call_verdicts.specs.Places.{place_in}

@@ -7,7 +7,7 @@ use Rattle.file_sweeps.specs.Parts.{SaysScripts, part, parts_of}
 use Rattle.hex.specs.Hex.{encode_lower}
 use Rattle.judge_verdict.specs.OneEach.{OneEach}
 use Rattle.sha2.specs.Sha256.{sha256}
-use Rattle.draw_page.specs.declared.page.{Digest.Digest, FileText.FileText}
+use Rattle.draw_elements.specs.declared.page.{Digest.Digest, FileText.FileText}
 use Rattle.call_tables.specs.{declared.row.Row.Row, Written.trees_text}
 
 -- the hash of the text that stands in it

@@ -5,7 +5,7 @@ use Rattle.model_line.specs.{declared.line.Line.Line, declared.script.Script.Scr
 use Rattle.model_line.specs.declared.script.Kind.{Kind}
 use Rattle.model_line.specs.declared.script.Kind.TheVariants.{Internal, External}
 use Rattle.model_names.specs.NamesByNumber.{script_name, terminal_name}
-use Rattle.draw_page.specs.declared.page.LeastMargin.{LeastMargin}
+use Rattle.draw_elements.specs.declared.page.LeastMargin.{LeastMargin}
 use Rattle.call_page.specs.Lists.{At}
 use Rattle.call_page.specs.declared.least.Spare.{Spare}
 use Rattle.call_page.specs.declared.firsts.Firsts.{Firsts}

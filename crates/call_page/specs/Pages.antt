@@ -4,8 +4,9 @@ use Rattle.std.specs.List.{flat_map, list_any}
 use Rattle.model_line.specs.{declared.line.Line.Line, declared.script.Script.Script}
 use Rattle.model_line.specs.Parameters.{terminal_count}
 use Rattle.draw_layout.specs.Drawings.{scheme_said}
-use Rattle.draw_page.specs.{declared.page.Page.Page, declared.page.Counts.Counts, Pages.page_of}
-use Rattle.draw_page.specs.declared.page.{Time.Time, Digest.Digest}
+use Rattle.draw_elements.specs.{declared.page.Page.Page, declared.page.Counts.Counts}
+use Rattle.draw_page.specs.Pages.{page_of}
+use Rattle.draw_elements.specs.declared.page.{Time.Time, Digest.Digest}
 use Rattle.file_sweeps.specs.declared.group.Group.{Group}
 use Rattle.call_commands.specs.{Answers.Answers, Answers.status_by, declared.done.Done.Done}
 use Rattle.call_tables.specs.{Rows.AreRows, Table.is_failing, Table.is_open}

@@ -8,7 +8,7 @@ use Rattle.judge_margins.specs.{Ends.IsEnd, Today.AreToday}
 use Rattle.judge_margins.specs.declared.end.{End.End, Side.Side}
 use Rattle.judge_margins.specs.declared.end.Side.TheVariants.{Above, Below}
 use Rattle.judge_verdict.specs.OneEach.{OneEach}
-use Rattle.draw_page.specs.declared.page.{Slack.Slack, Time.Time}
+use Rattle.draw_elements.specs.declared.page.{Slack.Slack, Time.Time}
 use Rattle.call_page.specs.Least.{at_words}
 
 -- an end of parameter i: how far it can be moved with what is held today held still, and what is

@@ -8,8 +8,8 @@ use Rattle.judge_report.specs.Margin.{deadline_of}
 use Rattle.judge_settle.specs.declared.answer.Answer.{Answer}
 use Rattle.judge_settle.specs.declared.answer.Answer.TheVariants.{Held, Fails, Open}
 use Rattle.judge_verdict.specs.OneEach.{OneEach}
-use Rattle.draw_page.specs.declared.page.{Standing.Standing, Verdict.Verdict}
-use Rattle.draw_page.specs.declared.page.Standing.TheVariants as standing
+use Rattle.draw_elements.specs.declared.page.{Standing.Standing, Verdict.Verdict}
+use Rattle.draw_elements.specs.declared.page.Standing.TheVariants as standing
 use Rattle.call_tables.specs.declared.row.Row.{Row}
 use Rattle.call_page.specs.declared.firsts.Firsts.{Firsts}
 use Rattle.call_page.specs.{Facts.place, Lists.At}

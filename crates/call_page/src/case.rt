@@ -7,7 +7,7 @@ ghost use Rattle.call_page.specs.{Facts.IsKnown, Faults.IsCaseOf, Lists.At};
 use crate::inception::inception;
 use crate::known::Known;
 use crate::parts::{Part, swept};
-use draw_page::Case;
+use draw_elements::Case;
 use judge_report::deadline;
 use model_line::Memory;
 use std::alloc::Global;

@@ -13,7 +13,7 @@ use crate::parts::{Part, part_of_script};
 use crate::told::{least_times, told_steps, told_times};
 use call_commands::Study;
 use call_tables::Row;
-use draw_page::FailingChoice;
+use draw_elements::FailingChoice;
 use judge_cut::{Obligation, cut};
 use model_line::Memory;
 use model_names::name_of_terminal;

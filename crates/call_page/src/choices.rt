@@ -11,7 +11,7 @@ use crate::choice::choice;
 use crate::parts::Part;
 use call_commands::Study;
 use call_tables::Row;
-use draw_page::FailingChoice;
+use draw_elements::FailingChoice;
 use judge_settle::Answer;
 use model_line::Memory;
 use std::alloc::Global;

@@ -10,7 +10,7 @@ use crate::known::Known;
 use crate::parts::{Part, name_from};
 use crate::verdict::verdicts;
 use crate::worst::shown;
-use draw_page::Fault;
+use draw_elements::Fault;
 use itoa::Buffer;
 use model_line::Memory;
 use std::alloc::Global;

@@ -10,7 +10,7 @@ ghost use Rattle.call_page.specs.Files.{AreDigests, AreFiles, IsLineFile, IsScri
 use crate::hash::hash_of;
 use call_commands::Study;
 use call_tables::{Row, settle_trees};
-use draw_page::{Digest, FileText};
+use draw_elements::{Digest, FileText};
 use file_line::print_line;
 use file_sweeps::{part_count, part_text};
 use itoa::Buffer;

@@ -9,7 +9,7 @@ ghost use Rattle.call_page.specs.declared.firsts.Firsts.{Firsts as FirstsOf};
 
 use crate::firsts::Firsts;
 use call_commands::Study;
-use draw_page::LeastMargin;
+use draw_elements::LeastMargin;
 use model_line::{Kind, Line, Memory, Script};
 use model_names::{name_of_script, name_of_terminal};
 use std::alloc::Global;

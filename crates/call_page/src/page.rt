@@ -18,7 +18,7 @@ use crate::times::times;
 use crate::undecided::undecided;
 use call_commands::Study;
 use call_tables::Row;
-use draw_page::{Counts, Digest, Page, Time};
+use draw_elements::{Counts, Digest, Page, Time};
 use model_line::Memory;
 use std::alloc::Global;
 

@@ -11,7 +11,7 @@ ghost use Rattle.call_page.specs.Times.{AreTimes, IsTimeOf};
 
 use crate::least::at_words;
 use call_commands::Study;
-use draw_page::{Slack, Time};
+use draw_elements::{Slack, Time};
 use judge_margins::{End, held_today, margins};
 use model_line::Memory;
 use model_names::name_of_parameter;

@@ -8,7 +8,7 @@ ghost use Rattle.call_page.specs.Choices.{IsToldTime, IsToldStep, is_told as is_
 ghost use Rattle.call_page.specs.Choices.{is_at_least as is_at_least_of};
 ghost use Rattle.call_page.specs.Lists.{EachOf, if_one, those_below};
 
-use draw_page::{ToldStep, ToldTime};
+use draw_elements::{ToldStep, ToldTime};
 use judge_cut::{nominal, number_of};
 use model_line::{Line, Memory};
 use model_names::name_of_parameter;

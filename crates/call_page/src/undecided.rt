@@ -9,7 +9,7 @@ ghost use Rattle.call_page.specs.{Choices.IsUndecidedOf, Choices.open_row, Lists
 use crate::parts::{Part, part_of_script};
 use call_commands::Study;
 use call_tables::Row;
-use draw_page::Undecided;
+use draw_elements::Undecided;
 use judge_settle::Answer;
 use model_line::Memory;
 use model_names::{name_of_script, name_of_terminal};

@@ -9,7 +9,7 @@ ghost use Rattle.call_page.specs.Verdicts.{IsVerdictOf, standing_of as standing_
 use crate::known::{Known, firsts_at, row_at};
 use crate::parts::Part;
 use crate::worst::worst;
-use draw_page::{Means, Standing, Verdict};
+use draw_elements::{Means, Standing, Verdict};
 use judge_report::deadline;
 use judge_settle::{Answer, By};
 use model_line::Memory;

@@ -1,17 +1,7 @@
-pub mod Words
-pub mod Elements
-pub mod Bare
-pub mod Badges
-pub mod Figures
 pub mod Sheets
 pub mod Headings
-pub mod Matrices
-pub mod Choices
-pub mod Opens
 pub mod Bars
 pub mod Times
-pub mod Sweeps
-pub mod Faults
 pub mod Filed
 pub mod Signing
 pub mod Pages

@@ -5,11 +5,10 @@ ghost use Rattle.std.specs.List.{flat_map};
 ghost use Rattle.draw_page.specs.Filed.{digest_row_html, file_html, file_row_html, files_html};
 ghost use Rattle.draw_page.specs.Filed.{hash_row_html};
 
-use crate::anchor::Anchor;
-use crate::bare::bare_cell;
-use crate::elements::{columns, head_cell, plain, section, table, words_in};
-use crate::page::{Digest, FileText, Page};
 use base_html::{Html, Tag};
+use draw_elements::{
+    Anchor, Digest, FileText, Page, bare_cell, columns, head_cell, plain, section, table, words_in,
+};
 use std::alloc::{AllocError, Global};
 
 /// The section of the files: the digests, and each file in a fold.

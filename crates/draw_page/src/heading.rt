@@ -7,11 +7,11 @@ ghost use Rattle.draw_page.specs.Headings.{least_html, link_item_html, meaning_h
 ghost use Rattle.draw_page.specs.Headings.{other_links_html, subject_said, undecided_html};
 ghost use Rattle.draw_page.specs.Headings.{tile_class as class_of_tile, tile_html, zone_said};
 
-use crate::anchor::Anchor;
-use crate::elements::{classed, link, plain, said_in, words_in};
-use crate::page::{Counts, LeastMargin, Page};
-use crate::words::{number_words, push_ticks, time_words};
 use base_html::{Attribute, Html, Key, Tag};
+use draw_elements::{
+    Anchor, Counts, LeastMargin, Page, classed, link, number_words, plain, push_ticks, said_in,
+    time_words, words_in,
+};
 use std::alloc::{AllocError, Global};
 
 /// The head of the page.

@@ -2,13 +2,12 @@
 
 ghost use Rattle.std.specs.Prelude.{◌≡◌, ◌++◌, IfOk, OnOk};
 ghost use Rattle.std.specs.List.{flat_map};
-ghost use Rattle.draw_shapes.specs.Svg.{rule_text};
-ghost use Rattle.draw_page.specs.Figures.{look_rule};
+ghost use Rattle.draw_elements.specs.Figures.{look_rule};
 ghost use Rattle.draw_page.specs.Sheets.{first_words, last_words, sheet_html, sheet_words};
 
 use crate::style::{Part, rules_of};
 use base_html::Html;
-use draw_shapes::{CLASSES, Class};
+use draw_shapes::{CLASSES, Class, put_rule};
 use std::alloc::{AllocError, Global};
 
 /// The style sheet, with a rule for each look of a drawing.
@@ -26,7 +25,7 @@ fn words(alloc: Global) -> Result<Vec<u8>, AllocError>
 {
     let mut text = Vec::new(alloc);
     put_first(&mut text)?;
-    put_rules(&mut text, &CLASSES)?;
+    put_looks(&mut text, &CLASSES)?;
     put_last(&mut text)?;
     Ok(text)
 }
@@ -49,31 +48,20 @@ fn put_last(text: &mut Vec<u8>) -> Result<(), AllocError>
     text.extend_from_slice(rules_of(Part::Print))
 }
 
-fn put_rules(text: &mut Vec<u8>, classes: &[Class]) -> Result<(), AllocError>
+fn put_looks(text: &mut Vec<u8>, classes: &[Class]) -> Result<(), AllocError>
     ensures { OnOk result (text.new.items ≡ text.old.items ++ flat_map look_rule classes.now) }
 {
     for class in classes {
-        put_rule(text, *class)?;
+        put_look(text, *class)?;
     }
     Ok(())
 }
 
 // The rule of a look, for drawings alone.
-#[tactic(auto, unfolding(crate::specs::Figures::look_rule))]
-fn put_rule(text: &mut Vec<u8>, class: Class) -> Result<(), AllocError>
+#[tactic(auto, unfolding(draw_elements::specs::Figures::look_rule))]
+fn put_look(text: &mut Vec<u8>, class: Class) -> Result<(), AllocError>
     ensures { OnOk result (text.new.items ≡ text.old.items ++ look_rule class) }
 {
     text.extend_from_slice(b"svg ")?;
-    put_look(text, class)
-}
-
-#[tactic(auto, unfolding(draw_shapes::specs::Svg::rule_text))]
-fn put_look(text: &mut Vec<u8>, class: Class) -> Result<(), AllocError>
-    ensures { OnOk result (text.new.items ≡ text.old.items ++ rule_text class) }
-{
-    text.extend_from_slice(b".")?;
-    text.extend_from_slice(class.name())?;
-    text.extend_from_slice(b" { ")?;
-    text.extend_from_slice(class.look())?;
-    text.extend_from_slice(b" }\n")
+    put_rule(text, class)
 }

@@ -68,6 +68,9 @@ tbody th { font-weight: 600 }
   color: var(--ink); font-size: 15px }
 .number, .state { white-space: nowrap }
 .number { text-align: right }
+.matrix td:nth-child(3n + 1) { white-space: normal; min-width: 6.2em }
+.matrix:has(th[scope=colgroup]:nth-child(5)) { font-size: 13.5px }
+.matrix:has(th[scope=colgroup]:nth-child(5)) :is(th, td) { padding-right: 9px }
 .matrix thead tr + tr th:nth-child(3n), .matrix thead tr + tr th:nth-child(3n + 2),
   .told thead th + th, .times thead th:nth-child(n + 2):nth-child(-n + 4),
   .ends thead th:nth-child(n + 3):nth-child(-n + 5), .scripts thead th:nth-child(2),
@@ -134,6 +137,7 @@ pub const NARROW: &[u8] = b"
   tr { border-bottom: 1px solid var(--line); padding: 8px 0 }
   th, td { border: 0; padding: 1px 0 }
   .number, .state, td { white-space: normal; text-align: left }
+  .matrix td:nth-child(3n + 1) { min-width: 0 }
   .matrix .state, td.bar, .by { padding-left: 0 }
   .told { min-width: 0 }
   .label { display: inline-block; min-width: 8.5em; color: var(--soft); font-size: 13px }
@@ -151,12 +155,21 @@ pub const PRINT: &[u8] = b"
   main { max-width: none; padding: 0 }
   nav { display: none }
   a { color: inherit; text-decoration: none }
-  h2, h3 { break-after: avoid }
-  tr, .tiles, .strip, .lines, .drawing { break-inside: avoid }
+  h2, h3, .small { break-after: avoid }
+  tr, .small, .tiles, .strip, .lines, .drawing { break-inside: avoid }
+  #failing section, #faults section { break-inside: avoid }
   .wide, .drawing { overflow: visible }
   .drawing { border: 0; padding: 0 }
   .drawing svg { min-width: 0 }
   th, td { padding: 3px 8px 3px 0 }
+  thead th { font-size: 8pt }
+  .matrix .state, .matrix th[scope=colgroup],
+    .matrix thead tr + tr th:nth-child(3n + 1) { padding-left: 8px }
+  .matrix:has(th[scope=colgroup]:nth-child(5)) { font-size: 7.5pt }
+  .matrix:has(th[scope=colgroup]:nth-child(5)) td:nth-child(3n + 1) { min-width: 5.6em }
+  .matrix:has(th[scope=colgroup]:nth-child(5)) .mark { white-space: normal; padding: 0 5px }
+  .times code { font-size: 7.5pt }
+  td.bar { width: 24% }
   .mark, .tile, td.bar svg { print-color-adjust: exact; -webkit-print-color-adjust: exact }
   code, pre { font-size: 8.5pt }
   .hash code { font-size: 7.5pt }

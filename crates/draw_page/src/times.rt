@@ -7,16 +7,12 @@ ghost use Rattle.draw_page.specs.Times.{time_row_html, times_head_html, times_ht
 ghost use Rattle.draw_page.specs.Times.{some_times_html, times_table_html};
 ghost use Rattle.draw_page.specs.Times.{bar_cell_html, slack_cell_html, time_cells_html};
 
-use crate::anchor::Anchor;
 use crate::bar::{bar, reach};
-use crate::bare::bare_cell;
-use crate::elements::{
-    cell, column, head_cell, number_cell, plain, said_in, section, table, words_in,
-};
-use crate::figure::drawing;
-use crate::page::{Page, Slack, Time};
-use crate::words::{interval_words, push_ticks, time_words};
 use base_html::{Html, Tag};
+use draw_elements::{
+    Anchor, Page, Slack, Time, bare_cell, cell, column, drawing, head_cell, interval_words,
+    number_cell, plain, push_ticks, said_in, section, table, time_words, words_in,
+};
 use std::alloc::{AllocError, Global};
 
 /// The section of the times and their margins.

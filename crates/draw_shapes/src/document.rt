@@ -57,7 +57,8 @@ fn inside(alloc: Global, drawing: &Drawing) -> Result<Markup, AllocError>
         .and(&shapes(alloc, drawing.shapes.as_slice())?)
 }
 
-fn shapes(alloc: Global, shapes: &[Shape]) -> Result<Markup, AllocError>
+/// Shapes, one after another.
+pub fn shapes(alloc: Global, shapes: &[Shape]) -> Result<Markup, AllocError>
     ensures { IfOk result (λ markup.
         markup.text.items ≡ shapes_text (shapes_seen shapes.now)) }
 {
@@ -87,8 +88,9 @@ fn group(alloc: Global, words: &[u8], of: &[Figure]) -> Result<Markup, AllocErro
     ended(alloc, Markup::element(alloc, Tag::Group, &[], &inside)?)
 }
 
+/// A title, as the first thing in an element.
 #[tactic(auto, unfolding(crate::specs::Svg::title_text))]
-fn title(alloc: Global, words: &[u8]) -> Result<Markup, AllocError>
+pub fn title(alloc: Global, words: &[u8]) -> Result<Markup, AllocError>
     ensures { IfOk result (λ markup. markup.text.items ≡ title_text words.now) }
 {
     let inside = Markup::words(alloc, words)?;

@@ -11,8 +11,9 @@ mod shape;
 mod style;
 
 pub use class::{CLASSES, Class};
-pub use document::svg;
+pub use document::{shapes, svg, title};
 pub use figure::{Figure, Label, Rectangle, Stroke};
 pub use laws::each_class_is_listed;
 pub use pen::{put_line, put_rectangle, put_text};
 pub use shape::{Drawing, Shape};
+pub use style::{hatchings, put_rule};

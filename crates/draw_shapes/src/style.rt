@@ -40,9 +40,9 @@ fn put_rules(text: &mut Vec<u8>, classes: &[Class]) -> Result<(), AllocError>
     Ok(())
 }
 
-// The rule of a look.
+/// Appends the rule of a look.
 #[tactic(auto, unfolding(crate::specs::Svg::rule_text))]
-fn put_rule(text: &mut Vec<u8>, class: Class) -> Result<(), AllocError>
+pub fn put_rule(text: &mut Vec<u8>, class: Class) -> Result<(), AllocError>
     ensures { OnOk result (text.new.items ≡ text.old.items ++ rule_text class) }
 {
     text.extend_from_slice(b".")?;
@@ -52,7 +52,7 @@ fn put_rule(text: &mut Vec<u8>, class: Class) -> Result<(), AllocError>
     text.extend_from_slice(b" }\n")
 }
 
-/// The three hatchings.
+/// The three hatchings that the looks name.
 #[tactic(auto, unfolding(crate::specs::Svg::hatchings_text))]
 pub fn hatchings(alloc: Global) -> Result<Markup, AllocError>
     ensures { IfOk result (λ markup. markup.text.items ≡ hatchings_text) }

@@ -3,7 +3,7 @@ use Rattle.std.proofs.lemmas.Option.{slice_get_within, get_or_from_slice_get}
 use Rattle.std.specs.Prelude.{slice_get}
 use Rattle.model_line.specs.{declared.line.Line.Line, declared.script.Script.Script, Fits.Fits}
 use Rattle.model_timing.specs.declared.step.Step.{Step}
-use Rattle.draw_page.specs.declared.page.FailingChoice.{FailingChoice}
+use Rattle.draw_elements.specs.declared.page.FailingChoice.{FailingChoice}
 use Rattle.call_page.specs.{Choices.IsChoiceFor, Choices.IsToldStep, Lists.EachOf}
 use Rattle.call_page.specs.Drawings.{IsPlayOf}
 use Rattle.call_page.proofs.Sides.{one_at}

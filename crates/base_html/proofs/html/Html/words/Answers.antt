@@ -1,8 +1,6 @@
-use Rattle.base_html.specs.Content.{words_text}
 use Rattle.base_html.proofs.Grown.{made_of_words}
 use Rattle.base_html.proofs.html.Html.words.Goals as goal
 
 pub invariant_of-result : goal.invariant_of-result
-unfolding words_text
 invariant_of-result c =
-    record { well_formed = made_of_words _ c.args.words.now c.in_ok-words.ensures }
+    record { well_formed = made_of_words _ c.args.words.now c.in_ok-text.ensures }

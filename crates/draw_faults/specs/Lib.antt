@@ -1,0 +1,5 @@
+pub mod Matrices
+pub mod Choices
+pub mod Opens
+pub mod Sweeps
+pub mod Faults
