@@ -1,5 +1,5 @@
 -- What the fields of a source say: the signal, the channel that tells it, and how it changes.
-use Rattle.std.specs.Prelude.{◌++◌, ◌*◌, ◌-◌, ◌&&◌, ℕ, Bool, false, not, List, [], ◌∷◌, Option, None, Some}
+use Rattle.std.specs.Prelude.{◌++◌, ◌*◌, ◌/◌, ◌-◌, ◌&&◌, ◌==◌, ℕ, Bool, false, not, List, [], ◌∷◌, Option, None, Some}
 use Rattle.std.specs.Prelude.{codes, get_or, length, nat_lt, slice_get, if◌then◌else◌}
 use Rattle.std.specs.{Bool.beq, Fmt.decimal}
 use Rattle.model_line.specs.declared.line.{Channel.Channel, Line.Line}
@@ -66,3 +66,21 @@ abbrev pub course_fields : Line → TrackValues → List (List ℕ)
 course_fields line track =
     level_text (level_at track 0) ∷ decimal (length (changes_of line track))
     ∷ tick_fields line (slice_get (changes_of line track) 0)
+
+-- ---- its samples
+
+-- so many nanoseconds before tick 0, in milliseconds, to the microsecond
+abbrev pub before_text : ℕ → List ℕ
+before_text n =
+    if n / 1000 == 0 then codes "0" else codes "-" ++ milliseconds_said (n / 1000)
+
+-- The pulses that no tick sees, in a channel that changes so often between samples, and so often
+-- between ticks: each hides two changes.
+abbrev pub unseen : ℕ → ℕ → ℕ
+unseen between_samples between_ticks = (between_samples - between_ticks) / 2
+
+-- when its first sample is taken and when its last, and how many pulses no tick sees
+abbrev pub sampled_fields : Line → TrackValues → List (List ℕ)
+sampled_fields line track =
+    before_text track.sampled.before ∷ milliseconds_said (track.sampled.after / 1000)
+    ∷ decimal (unseen track.sampled.changes (length (changes_of line track))) ∷ []

@@ -5,21 +5,23 @@ use Rattle.file_map.specs.Recorders.{RecorderValues}
 use Rattle.file_script.specs.Printed.{records_text}
 use Rattle.file_tracks.specs.{Below.below, Levels.level_text}
 use Rattle.file_tracks.specs.Tracks.{PlacedValues, TrackValues}
-use Rattle.file_sources.specs.Fields.{channel_text, config_name, course_fields, signal_fields}
+use Rattle.file_sources.specs.Fields.{channel_text, config_name, course_fields, sampled_fields}
+use Rattle.file_sources.specs.Fields.{signal_fields}
 
 abbrev pub header_record : List (List ℕ)
 header_record =
     codes "recorder" ∷ codes "terminal" ∷ codes "signal" ∷ codes "from" ∷ codes "channel"
     ∷ codes "inverted" ∷ codes "first_level" ∷ codes "changes" ∷ codes "first_change_tick"
-    ∷ codes "first_change_ms" ∷ []
+    ∷ codes "first_change_ms" ∷ codes "first_sample_ms" ∷ codes "last_sample_ms" ∷ codes "unseen" ∷ []
 
--- a source: its recorder, the signal that it tells, its channel, and what it tells at the ticks
+-- a source: its recorder, the signal that it tells, its channel, what it tells at the ticks, and its
+-- samples
 abbrev pub source_record : Line → List RecorderValues → PlacedValues → TrackValues → List (List ℕ)
 source_record line recorders p track =
     config_name (slice_get recorders p.recorder) ∷ []
     ++ signal_fields line p.source.signal
     ++ (channel_text p.source.channel ∷ level_text p.source.inverted ∷ [])
-    ++ course_fields line track
+    ++ (course_fields line track ++ sampled_fields line track)
 
 -- the source at a place, and its track
 abbrev pub record_of : Line → List RecorderValues → Option PlacedValues → Option TrackValues

@@ -1,16 +1,20 @@
 //! What the fields of a source say.
 
-ghost use Rattle.std.specs.Prelude.{◌≡◌, ◌∷◌, [], IfOk, map, slice_get};
+ghost use Rattle.std.specs.Prelude.{◌≡◌, ◌∷◌, ◌/◌, [], IfOk, map, slice_get};
+ghost use Rattle.std.specs.Fmt.{decimal};
+ghost use Rattle.draw_grid.specs.Numbers.{milliseconds_said};
 ghost use Rattle.model_line.specs.declared.script.What.TheVariants.{Element};
 ghost use Rattle.file_map.specs.declared.source.Signal.TheVariants.{Shown};
 ghost use Rattle.file_map.specs.{Recorders.recorder_values, Sources.channel_said};
 ghost use Rattle.file_sources.specs.Fields.{channel_text as text_of_channel};
 ghost use Rattle.file_sources.specs.Fields.{config_name as name_of_config};
-ghost use Rattle.file_sources.specs.Fields.{tick_fields as fields_of_tick};
+ghost use Rattle.file_sources.specs.Fields.{before_text as text_before, tick_fields as fields_of_tick};
+ghost use Rattle.file_sources.specs.Fields.{unseen as pulses_unseen};
 ghost use Rattle.file_sources.specs.Fields.{loss_fields as fields_of_loss, signal_fields as fields_of_signal};
 
 use draw_grid::milliseconds;
 use file_map::{ChannelName, Recorder, Signal};
+use file_tracks::Sampled;
 use itoa::Buffer;
 use model_line::{Line, Memory, Place, What};
 use model_names::{element_word, name_of_terminal};
@@ -117,5 +121,46 @@ pub fn tick_fields(alloc: Global, line: &Line, tick: Option<u32>) -> Result<Tick
     Ok(TickFields {
         tick: Vec::from_slice(alloc, Buffer::new().format(t).as_bytes())?,
         time: milliseconds(alloc, t as u64 * line.tick_us as u64)?,
+    })
+}
+
+// So many nanoseconds before tick 0.
+fn before_text(alloc: Global, n: u64) -> Result<Vec<u8>, Memory>
+    ensures { IfOk result (λ v. v.items ≡ text_before n) }
+{
+    if n / 1000 == 0 {
+        return Ok(Vec::from_slice(alloc, b"0")?);
+    }
+    let time = milliseconds(alloc, n / 1000)?;
+    let mut text = Vec::new(alloc);
+    text.extend_from_slice(b"-")?;
+    text.extend_from_slice(time.as_slice())?;
+    Ok(text)
+}
+
+/// The samples of a channel: when the first is taken and when the last, and how many pulses no tick
+/// sees.
+#[derive(Drop)]
+pub struct SampledFields {
+    pub first: Vec<u8>,
+    pub last: Vec<u8>,
+    pub unseen: Vec<u8>,
+}
+
+/// The fields of the samples of a channel that changes so often between ticks.
+pub fn sampled_fields(
+    alloc: Global,
+    sampled: Sampled,
+    between_ticks: u64,
+) -> Result<SampledFields, Memory>
+    ensures { IfOk result (λ f. f.first.items ∷ f.last.items ∷ f.unseen.items ∷ []
+        ≡ text_before sampled.before ∷ milliseconds_said (sampled.after / 1000)
+        ∷ decimal (pulses_unseen sampled.changes between_ticks) ∷ []) }
+{
+    let unseen = sampled.changes.saturating_sub(between_ticks) / 2;
+    Ok(SampledFields {
+        first: before_text(alloc, sampled.before)?,
+        last: milliseconds(alloc, sampled.after / 1000)?,
+        unseen: Vec::from_slice(alloc, Buffer::new().format(unseen).as_bytes())?,
     })
 }

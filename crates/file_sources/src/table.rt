@@ -5,12 +5,14 @@ ghost use Rattle.csv.specs.Writing.{default_writer, row_text};
 ghost use Rattle.file_map.specs.Recorders.{recorder_values};
 ghost use Rattle.file_script.specs.Printed.{records_text};
 ghost use Rattle.file_tracks.specs.Tracks.{placed_values, track_values};
+ghost use Rattle.file_sources.specs.Fields.{course_fields, sampled_fields as sampled_said};
 ghost use Rattle.file_sources.specs.Rows.{header_record, record_at, record_of, source_record};
 ghost use Rattle.file_sources.specs.Rows.{sources_text as text_of_sources};
 
 use crate::changes::{changes_of, level_at};
 use crate::fields::{
-    SignalFields, TickFields, channel_text, config_name, signal_fields, tick_fields,
+    SampledFields, SignalFields, TickFields, channel_text, config_name, sampled_fields,
+    signal_fields, tick_fields,
 };
 use base_records::push_record;
 use file_map::Recorder;
@@ -28,6 +30,15 @@ pub struct Sources<'a> {
     pub tracks: &'a [Track],
 }
 
+// The texts of how a source changes, and of its samples.
+#[derive(Drop)]
+struct Course {
+    first_level: Vec<u8>,
+    changes: Vec<u8>,
+    first: TickFields,
+    sampled: SampledFields,
+}
+
 // The texts of a record.
 #[derive(Drop)]
 struct Row {
@@ -35,9 +46,7 @@ struct Row {
     signal: SignalFields,
     channel: Vec<u8>,
     inverted: Vec<u8>,
-    first_level: Vec<u8>,
-    changes: Vec<u8>,
-    first: TickFields,
+    course: Course,
 }
 
 fn push_header(alloc: Global, text: &mut Vec<u8>) -> Result<(), Memory>
@@ -58,6 +67,9 @@ fn push_header(alloc: Global, text: &mut Vec<u8>) -> Result<(), Memory>
             b"changes",
             b"first_change_tick",
             b"first_change_ms",
+            b"first_sample_ms",
+            b"last_sample_ms",
+            b"unseen",
         ],
     )
 }
@@ -66,9 +78,12 @@ fn push_row(alloc: Global, text: &mut Vec<u8>, row: &Row) -> Result<(), Memory>
     ensures { OnOk result (text.new.items ≡ text.old.items ++ row_text default_writer
         (row.now.recorder.items ∷ row.now.signal.terminal.items ∷ row.now.signal.signal.items
         ∷ row.now.signal.from.items ∷ row.now.channel.items ∷ row.now.inverted.items
-        ∷ row.now.first_level.items ∷ row.now.changes.items ∷ row.now.first.tick.items
-        ∷ row.now.first.time.items ∷ [])) }
+        ∷ row.now.course.first_level.items ∷ row.now.course.changes.items
+        ∷ row.now.course.first.tick.items ∷ row.now.course.first.time.items
+        ∷ row.now.course.sampled.first.items ∷ row.now.course.sampled.last.items
+        ∷ row.now.course.sampled.unseen.items ∷ [])) }
 {
+    let course = &row.course;
     push_record(
         alloc,
         text,
@@ -79,12 +94,32 @@ fn push_row(alloc: Global, text: &mut Vec<u8>, row: &Row) -> Result<(), Memory>
             row.signal.from.as_slice(),
             row.channel.as_slice(),
             row.inverted.as_slice(),
-            row.first_level.as_slice(),
-            row.changes.as_slice(),
-            row.first.tick.as_slice(),
-            row.first.time.as_slice(),
+            course.first_level.as_slice(),
+            course.changes.as_slice(),
+            course.first.tick.as_slice(),
+            course.first.time.as_slice(),
+            course.sampled.first.as_slice(),
+            course.sampled.last.as_slice(),
+            course.sampled.unseen.as_slice(),
         ],
     )
+}
+
+// The texts of how a source changes, and of its samples.
+fn course_of(alloc: Global, line: &Line, track: &Track) -> Result<Course, Memory>
+    ensures { IfOk result (λ f. f.first_level.items ∷ f.changes.items ∷ f.first.tick.items
+        ∷ f.first.time.items ∷ f.sampled.first.items ∷ f.sampled.last.items
+        ∷ f.sampled.unseen.items ∷ []
+        ≡ course_fields line.now (track_values track.now)
+        ++ sampled_said line.now (track_values track.now)) }
+{
+    let changes = changes_of(alloc, line, track)?;
+    Ok(Course {
+        first_level: Vec::from_slice(alloc, level_text(level_at(track, 0)))?,
+        changes: Vec::from_slice(alloc, Buffer::new().format(changes.len()).as_bytes())?,
+        first: tick_fields(alloc, line, changes.get(0).copied())?,
+        sampled: sampled_fields(alloc, track.sampled, changes.len() as u64)?,
+    })
 }
 
 // The texts of the record of a source.
@@ -96,20 +131,20 @@ fn row_of(
 ) -> Result<Row, Memory>
     ensures { IfOk result (λ row. row.recorder.items ∷ row.signal.terminal.items
         ∷ row.signal.signal.items ∷ row.signal.from.items ∷ row.channel.items ∷ row.inverted.items
-        ∷ row.first_level.items ∷ row.changes.items ∷ row.first.tick.items ∷ row.first.time.items ∷ []
+        ∷ row.course.first_level.items ∷ row.course.changes.items ∷ row.course.first.tick.items
+        ∷ row.course.first.time.items ∷ row.course.sampled.first.items
+        ∷ row.course.sampled.last.items ∷ row.course.sampled.unseen.items ∷ []
         ≡ source_record table.now.line.now (map recorder_values table.now.recorders.now)
         (placed_values placed.now) (track_values track.now)) }
 {
     let source = placed.source;
-    let changes = changes_of(alloc, table.line, track)?;
+    let course = course_of(alloc, table.line, track)?;
     Ok(Row {
         recorder: Vec::from_slice(alloc, config_name(table.recorders, placed.recorder))?,
         signal: signal_fields(alloc, table.line, source.signal)?,
         channel: channel_text(alloc, &source.channel)?,
         inverted: Vec::from_slice(alloc, level_text(source.inverted))?,
-        first_level: Vec::from_slice(alloc, level_text(level_at(track, 0)))?,
-        changes: Vec::from_slice(alloc, Buffer::new().format(changes.len()).as_bytes())?,
-        first: tick_fields(alloc, table.line, changes.get(0).copied())?,
+        course,
     })
 }
 

@@ -3,3 +3,4 @@ pub mod Channels
 pub mod Tracks
 pub mod Levels
 pub mod Told
+pub mod Sampled

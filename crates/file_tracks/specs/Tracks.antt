@@ -8,8 +8,8 @@ use Rattle.file_comtrade.specs.declared.ticks.Ticks.{Ticks}
 use Rattle.file_map.specs.declared.source.Signal.{Signal}
 use Rattle.file_map.specs.{Recorders.RecorderValues, Sources.SourceValues, Sources.source_values}
 use Rattle.file_tracks.specs.declared.placed.{Placed.Placed, RecordBytes.RecordBytes}
-use Rattle.file_tracks.specs.declared.track.Track.{Track}
-use Rattle.file_tracks.specs.Channels.{AreLevels, IsRefused}
+use Rattle.file_tracks.specs.declared.{samples.Sampled.Sampled, track.Track.Track}
+use Rattle.file_tracks.specs.{Channels.AreLevels, Channels.IsRefused, Sampled.IsSampled}
 
 -- ---- sources and where they are read
 
@@ -59,13 +59,14 @@ placed_from line i (r ∷ rs) (bytes ∷ files) =
 
 -- ---- what they tell
 
--- the levels of a signal that a source tells
+-- the levels of a signal that a source tells, and what its samples are beside that
 pub record TrackValues : Type 0 where
   pub signal : Signal
   pub levels : List Bool
+  pub sampled : Sampled
 
 abbrev pub track_values : Track → TrackValues
-track_values t = record { signal = t.signal; levels = t.levels.items }
+track_values t = record { signal = t.signal; levels = t.levels.items; sampled = t.sampled }
 
 -- the other level of each, where the source is inverted
 abbrev pub turned : Bool → List Bool → List Bool
@@ -77,6 +78,7 @@ pub record IsTrack (p : PlacedValues) (track : TrackValues) : Type 0 where
   pub levels : List Bool
   pub are : AreLevels p.files p.source.channel p.ticks levels
   pub turns : track.levels ≡ turned p.source.inverted levels
+  pub sampled : IsSampled p.files p.source.channel p.ticks track.sampled
 
 -- the tracks with that of a source behind them
 pub record Grows (p : PlacedValues) (old new : List TrackValues) : Type 0 where

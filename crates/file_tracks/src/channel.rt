@@ -5,7 +5,9 @@ ghost use Rattle.file_comtrade.specs.{Config.values_of, Named.IsInside, Views.te
 ghost use Rattle.file_comtrade.specs.Record.{files_of, IsChannel};
 ghost use Rattle.file_map.specs.Sources.{channel_said};
 ghost use Rattle.file_tracks.specs.Channels.{numbered, picked, AreLevels, IsRefused};
+ghost use Rattle.file_tracks.specs.Sampled.{IsSampled};
 
+use crate::samples::{Sampled, by_samples};
 use file_comtrade::{
     Config, Files, Named, RecordFault, Ticks, channel_named, levels_at, read_config, read_samples,
     samples_at, times_of,
@@ -49,18 +51,26 @@ fn index_of(config: &Config, channel: &ChannelName) -> Result<u32, RecordFault>
     }
 }
 
+/// What a channel says: its level at each tick, and what its samples are beside that.
+#[derive(Debug, Drop)]
+pub struct ChannelLevels {
+    pub at_ticks: Vec<bool>,
+    pub sampled: Sampled,
+}
+
 /// The levels, at each tick, of the one digital channel that is named.
 pub fn channel_levels(
     alloc: Global,
     files: Files,
     channel: &ChannelName,
     ticks: Ticks,
-) -> Result<Vec<bool>, RecordFault>
+) -> Result<ChannelLevels, RecordFault>
     requires start { ticks.start < 2 ^ 100 }
     requires ticks { 0 < ticks.count }
     requires tick { 0 < ticks.tick }
     ensures { MatchResult result
-        (λ v. AreLevels (files_of files.entry) (channel_said channel.now) ticks v.items)
+        (λ v. AreLevels (files_of files.entry) (channel_said channel.now) ticks v.at_ticks.items
+        × IsSampled (files_of files.entry) (channel_said channel.now) ticks v.sampled)
         (λ f. IsRefused (files_of files.entry) (channel_said channel.now) ticks f) }
 {
     let config = read_config(alloc, files.config, files.dates)?;
@@ -70,5 +80,15 @@ pub fn channel_levels(
     let times = times_of(alloc, samples.as_slice())?;
     let at = samples_at(alloc, config.first, times.as_slice(), ticks)?;
     let levels = levels_at(alloc, samples.as_slice(), 0, at.as_slice())?;
-    Ok(levels)
+    let sampled = by_samples(
+        config.first,
+        times.as_slice(),
+        samples.as_slice(),
+        ticks,
+        at.as_slice(),
+    );
+    Ok(ChannelLevels {
+        at_ticks: levels,
+        sampled,
+    })
 }

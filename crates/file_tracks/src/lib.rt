@@ -8,12 +8,14 @@ mod channel;
 mod level;
 mod placed;
 mod placing;
+mod samples;
 mod told;
 mod track;
 
-pub use channel::channel_levels;
+pub use channel::{ChannelLevels, channel_levels};
 pub use level::{is_on, level_text};
 pub use placed::{Placed, RecordBytes};
 pub use placing::place;
+pub use samples::Sampled;
 pub use told::first_untold;
 pub use track::{Track, TrackFault, read_tracks};

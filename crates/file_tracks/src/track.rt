@@ -7,15 +7,17 @@ ghost use Rattle.file_tracks.specs.Channels.{IsRefused};
 
 use crate::channel::channel_levels;
 use crate::placed::Placed;
+use crate::samples::Sampled;
 use file_comtrade::RecordFault;
 use file_map::Signal;
 use std::alloc::{AllocError, Global};
 
-/// The levels of a signal that a source tells: one for each tick.
+/// The levels of a signal that a source tells, one for each tick, and what its samples are beside that.
 #[derive(Debug, Drop)]
 pub struct Track {
     pub signal: Signal,
     pub levels: Vec<bool>,
+    pub sampled: Sampled,
 }
 
 /// The place of the first source that cannot be read, and why.
@@ -55,11 +57,12 @@ fn read_track(alloc: Global, placed: &Placed) -> Result<Track, RecordFault>
         placed.now.ticks f) }
 {
     let source = placed.source;
-    let levels = channel_levels(alloc, placed.files, &source.channel, placed.ticks)?;
-    let levels = turned(alloc, source.inverted, levels)?;
+    let told = channel_levels(alloc, placed.files, &source.channel, placed.ticks)?;
+    let levels = turned(alloc, source.inverted, told.at_ticks)?;
     Ok(Track {
         signal: source.signal,
         levels,
+        sampled: told.sampled,
     })
 }
 

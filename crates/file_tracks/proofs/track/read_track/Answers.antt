@@ -4,7 +4,8 @@ use Rattle.file_tracks.proofs.track.read_track.Goals as goal
 pub returns : goal.returns
 returns c = record {
   signal = refl;
-  levels = c.in_ok-levels.levels.items;
-  are = c.in_ok-levels.ensures;
-  turns = c.in_ok-levels-2.ensures;
+  levels = c.in_ok-told.told.at_ticks.items;
+  are = c.in_ok-told.ensures.0;
+  turns = c.in_ok-levels.ensures;
+  sampled = c.in_ok-told.ensures.1;
 }

@@ -1,0 +1,11 @@
+pub mod Fields
+pub mod Numbers
+pub mod ConfigBack
+pub mod DataBack
+pub mod Lists
+pub mod Levels
+pub mod Rows
+pub mod Ids
+pub mod Whole
+pub mod Telling
+pub mod Recording

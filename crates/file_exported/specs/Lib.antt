@@ -1,0 +1,4 @@
+pub mod Channels
+pub mod ReadBack
+pub mod Told
+pub mod Recorded
