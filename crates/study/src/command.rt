@@ -4,10 +4,10 @@ use clap::{Arg, ArgAction, Command};
 use std::alloc::{AllocError, Global};
 
 // The version of the program.
-const VERSION: &str = "0.13.0";
+const VERSION: &str = "0.14.0";
 
 /// The program and its version, and what proved it, as `rt version` says it: what a page says.
-pub const PROGRAM: &[u8] = b"study 0.13.0";
+pub const PROGRAM: &[u8] = b"study 0.14.0";
 
 pub const KIT: &[u8] = b"rattle-kit-13f logic dac8208d650f15bf";
 
