@@ -3,17 +3,16 @@
 ghost use Rattle.std.specs.Prelude.{◌≡◌, ◌<◌, IfOk, MatchOption};
 ghost use Rattle.net_gates.specs.NetOf.{IsNetOf};
 ghost use Rattle.model_timing.specs.Candidates.{candidate_count as count_of};
-ghost use Rattle.judge_match.specs.Candidates.{IsFirstGiving, IsLowest, IsNone64};
+ghost use Rattle.judge_match.specs.Candidates.{IsFirstGiving};
 ghost use Rattle.judge_match.specs.{Match.NoneGives, Seen.AreSeen};
 
-use crate::block::{giving_lanes, number_in};
+use crate::block::giving_lanes;
 use crate::recorded::seen_tracks;
 use crate::seen::Seen;
 use model_line::laws::parameters_are_numbered;
 use model_line::{Line, Memory, Script};
-use model_timing::candidate_count;
+use model_timing::{candidate_count, candidate_in};
 use net_gates::Net;
-use run_signal::{Lanes64, Signal};
 use std::alloc::Global;
 
 /// The number of the first candidate that gives what was seen. Candidates are run in blocks of 64.
@@ -36,22 +35,11 @@ pub fn first_giving(
     let mut first = 0;
     'next_block: while first < count {
         let lanes = giving_lanes(alloc, line, net, script, first, &recorded)?;
-        if let Some(lane) = first_lane(lanes) {
-            return Ok(Some(number_in(count, first, lane)));
+        let lane = lanes.first();
+        if lane < 64 {
+            return Ok(Some(candidate_in(line, first, lane)));
         }
         first += 64;
     }
     Ok(None)
-}
-
-// The first of these lanes.
-fn first_lane(lanes: Lanes64) -> Option<u32>
-    ensures { MatchOption result (IsNone64 lanes) (λ lane. IsLowest lanes lane) }
-{
-    for lane in 0..64 {
-        if lanes.must(lane) {
-            return Some(lane);
-        }
-    }
-    None
 }

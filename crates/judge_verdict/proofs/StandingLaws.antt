@@ -1,14 +1,17 @@
 -- How obligations stand after more candidates.
 use Rattle.std.proofs.Common.{◌≡◌, ◌≢◌, ℕ, ◌+◌, ◌-◌, ◌<◌, ◌≤◌, refl, subst, arith, ⊎_elim}
 use Rattle.std.proofs.lemmas.Bool.{cases_lt}
+use Rattle.std.specs.Prelude.{IsTrue, IsFalse}
+use Rattle.run_signal.specs.Bits.{bit_on}
 use Rattle.model_line.specs.{declared.line.Line.Line, declared.script.Script.Script}
 use Rattle.model_logic.specs.Histories.{PairHistory}
 use Rattle.model_timing.specs.Candidates.{candidate, candidate_count}
 use Rattle.judge_verdict.specs.declared.standing.Standing.TheVariants.{Held, Failing, Open}
-use Rattle.judge_verdict.specs.Candidates.{candidate_in, TellFailing, IsLowest, IsNone64}
+use Rattle.model_timing.specs.Blocks.{candidate_in}
+use Rattle.model_timing.specs.BlockLaws.{candidate_exists, candidate_at, candidate_before}
+use Rattle.judge_verdict.specs.Candidates.{TellFailing}
 use Rattle.judge_verdict.specs.Standings.{StandsFailing, StandsOpen, IsStanding}
 use Rattle.judge_verdict.specs.{declared.standing.Standing.Standing, Verdicts.PassesAt}
-use Rattle.judge_verdict.proofs.BlockLaws.{candidate_exists, candidate_at, candidate_before}
 
 module _ (line : Line) (script : Script) (k : ℕ) (w : PairHistory) where
   -- after all candidates
@@ -38,29 +41,29 @@ module _ (line : Line) (script : Script) (k : ℕ) (w : PairHistory) where
         subst (λ (n : ℕ). PassesAt line script k (candidate line n))
         (candidate_at line first lane i is there) (passes lane refl)
 
-    pub stands_failing : (lane : ℕ) → IsLowest bits lane
+    pub stands_failing : (lane : ℕ) → lane < 64 → IsTrue (bit_on bits lane)
+        → ((l : ℕ) → l < 64 → l < lane → IsFalse (bit_on bits l))
         → StandsFailing line script k w (candidate_in line first lane)
-    stands_failing lane lowest = record {
+    stands_failing lane small on lower = record {
       not_held = open_yet.not_held;
       first = record {
         below = candidate_exists line first lane;
-        fails = tell.fails lane lowest.inside lowest.on;
+        fails = tell.fails lane small on;
         earlier = λ i before.
             let there = candidate_exists line first lane in
             ⊎_elim (λ low. open_yet.passes i low (omega arith))
             (λ late.
             let ahead = candidate_before line first lane i before late in
-            let inside = lowest.inside in
-            let lower : i - first < lane = omega arith in
-            let small : i - first < 64 = omega arith in
-            passes_in (i - first) i small (omega arith) (omega arith)
+            let less : i - first < lane = omega arith in
+            passes_in (i - first) i (omega arith) (omega arith) (omega arith)
             (λ l same.
-            tell.passes l (omega arith) (lowest.lower l (omega arith))))
+            tell.passes l (omega arith) (lower l (omega arith) (omega arith))))
             (cases_lt i first);
       };
     }
 
-    pub stands_open : IsNone64 bits → StandsOpen line script k w (first + 64)
+    pub stands_open : ((l : ℕ) → l < 64 → IsFalse (bit_on bits l))
+        → StandsOpen line script k w (first + 64)
     stands_open none = record {
       not_held = open_yet.not_held;
       passes = λ i low there.

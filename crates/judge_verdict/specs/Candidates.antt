@@ -1,31 +1,14 @@
--- Candidates in blocks of 64, one in each lane.
-use Rattle.std.specs.Prelude.{◌≡◌, ◌+◌, ◌-◌, ◌<◌, ℕ, Bool, List, IsTrue, IsFalse, slice_index}
-use Rattle.std.specs.Prelude.{nat_lt, if◌then◌else◌}
+-- What is told of the candidates of a block, one in each lane.
+use Rattle.std.specs.Prelude.{◌<◌, ℕ, Bool, List, IsTrue, IsFalse}
 use Rattle.model_history.specs.Rails.{rails_at}
 use Rattle.run_signal.specs.{Bits.bit_rails, Bits.bit_on, Lanes.in_lane}
 use Rattle.run_channel.specs.SentKeys.{SentKeys}
-use Rattle.model_line.specs.Parameters.{param_count, terminal_count}
+use Rattle.model_line.specs.Parameters.{terminal_count}
 use Rattle.model_line.specs.{declared.line.Line.Line, declared.script.Script.Script}
 use Rattle.model_timing.specs.Choice.{timing_choice}
-use Rattle.model_timing.specs.Candidates.{candidate, candidate_count, candidate_value}
+use Rattle.model_timing.specs.{Blocks.candidate_in, Candidates.candidate}
 use Rattle.run_simulator.specs.{Runs.IsExactAt, Ticks.AreSent, Tracks.tracks_history}
-use Rattle.judge_verdict.specs.{OneEach.OneEach, Verdicts.PassesAt, Verdicts.FailsAt}
-
--- the number of the candidate in a lane of the block that begins with candidate `first`; the lanes
--- past the last candidate repeat it
-abbrev pub candidate_in : Line → ℕ → ℕ → ℕ
-candidate_in line first lane =
-    if nat_lt (first + lane) (candidate_count line) then first + lane else candidate_count line - 1
-
--- in each lane the span is the parameter's number in the lane's candidate
-abbrev pub IsBlockSpan : Line → ℕ → ℕ → List ℕ → Type 0
-IsBlockSpan line first param span = (lane : ℕ) → lane < 64
-    → slice_index span lane ≡ candidate_value line (candidate_in line first lane) param
-
--- a span for each parameter
-abbrev pub AreBlockSpans : Line → ℕ → List (List ℕ) → Type 0
-AreBlockSpans line first spans =
-    OneEach (λ param span. IsBlockSpan line first param span) (param_count line) spans
+use Rattle.judge_verdict.specs.{Verdicts.PassesAt, Verdicts.FailsAt}
 
 -- in each lane the keys and the trips are the history at the lane's candidate
 pub record IsBlockRun (line : Line) (script : Script) (first : ℕ) (keys trips : List (SentKeys ℕ))
@@ -50,13 +33,3 @@ pub record TellFailing (line : Line) (script : Script) (first k bits : ℕ) : Ty
       → FailsAt line script k (candidate line (candidate_in line first lane))
   pub passes : (lane : ℕ) → lane < 64 → IsFalse (bit_on bits lane)
       → PassesAt line script k (candidate line (candidate_in line first lane))
-
--- the lowest bit that is set
-pub record IsLowest (bits lane : ℕ) : Type 0 where
-  pub inside : lane < 64
-  pub on : IsTrue (bit_on bits lane)
-  pub lower : (l : ℕ) → l < lane → IsFalse (bit_on bits l)
-
--- no bit of 64 is set
-abbrev pub IsNone64 : ℕ → Type 0
-IsNone64 bits = (l : ℕ) → l < 64 → IsFalse (bit_on bits l)

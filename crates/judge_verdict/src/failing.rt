@@ -1,13 +1,12 @@
 //! Which candidates of a block fail an obligation.
 
-ghost use Rattle.std.specs.Prelude.{◌≡◌, ◌<◌, ◌≤◌, ℕ, length, MatchOption};
+ghost use Rattle.std.specs.Prelude.{◌≡◌, ◌<◌, ◌≤◌, ℕ, length};
 ghost use Rattle.model_history.specs.Elements.{some_below};
 ghost use Rattle.model_line.specs.Parameters.{terminal_count};
 ghost use Rattle.model_logic.specs.Histories.{MeetsBy};
 ghost use Rattle.run_signal.specs.Bits.{bit_on};
 ghost use Rattle.run_simulator.specs.Ticks.{AreSent};
 ghost use Rattle.judge_verdict.specs.Candidates.{IsBlockRun, trips_in, TellsFailing, TellFailing};
-ghost use Rattle.judge_verdict.specs.Candidates.{IsLowest, IsNone64};
 
 use model_line::{Kind, Line, Script};
 use model_logic::laws::{
@@ -62,16 +61,4 @@ fn tripped(trip: &Track<Lanes64>, ticks: u32) -> Lanes64
         t = trip.stays_until(t).min(ticks);
     }
     lanes
-}
-
-/// The first of these lanes.
-pub fn first_lane(lanes: Lanes64) -> Option<u32>
-    ensures { MatchOption result (IsNone64 lanes) (λ lane. IsLowest lanes lane) }
-{
-    for lane in 0..64 {
-        if lanes.must(lane) {
-            return Some(lane);
-        }
-    }
-    None
 }

@@ -11,13 +11,13 @@ ghost use Rattle.judge_verdict.specs.Candidates.{IsBlockRun};
 ghost use Rattle.judge_verdict.specs.Standings.{IsStanding, AllStand, IsOfLine, verdict_as};
 ghost use Rattle.judge_verdict.specs.declared.standing.Standing.{Standing};
 
-use crate::block::{number_in, run_block};
-use crate::failing::{failing, first_lane};
+use crate::block::run_block;
+use crate::failing::failing;
 use crate::verdict::Verdict;
 use judge_interval::{PairWaves, Rule, judge};
 use model_line::laws::parameters_are_numbered;
 use model_line::{Line, Memory, Script};
-use model_timing::{candidate, candidate_count};
+use model_timing::{candidate, candidate_count, candidate_in};
 use net_gates::Net;
 use run_signal::Lanes64;
 use run_simulator::Tracks;
@@ -172,10 +172,14 @@ fn settled(
     match standing {
         Standing::Held => Standing::Held,
         Standing::Failing(number) => Standing::Failing(number),
-        Standing::Open => match first_lane(failing(line, script, tracks, terminal)) {
-            Some(lane) => Standing::Failing(number_in(line, first, lane)),
-            None => Standing::Open,
-        },
+        Standing::Open => {
+            let lane = failing(line, script, tracks, terminal).first();
+            if lane < 64 {
+                Standing::Failing(candidate_in(line, first, lane))
+            } else {
+                Standing::Open
+            }
+        }
     }
 }
 

@@ -1,3 +1,4 @@
+pub mod BlockSpanLaws
 pub mod CandidatesInside
 pub mod ChoiceInside
 pub mod ChoiceSteps

@@ -4,5 +4,7 @@ pub mod LatestStepLaws
 pub mod StepOrderLaws
 pub mod Inside
 pub mod Candidates
+pub mod Blocks
+pub mod BlockLaws
 pub mod Choice
 pub mod Laws

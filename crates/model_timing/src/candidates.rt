@@ -22,9 +22,9 @@ pub fn candidate_count(line: &Line) -> u32
     2 + 2 * free_count(line.params.as_slice())
 }
 
-/// The number of a parameter in a candidate.
+// The number of a parameter in a candidate.
 #[tactic(auto, unfolding(crate::specs::Candidates::candidate_value))]
-pub fn candidate_value(line: &Line, index: u32, param: u32) -> Tick
+fn candidate_value(line: &Line, index: u32, param: u32) -> Tick
     requires candidate { index < count_of_candidates line.now }
     requires param { param < param_count line.now }
     ensures { result ≡ value_of_candidate line.now index param }
@@ -73,7 +73,8 @@ fn is_number(line: &Line, i: u32, param: u32) -> bool
     line.least(param) < line.greatest(param) && free_count(&line.params[..param as usize]) + 1 == i
 }
 
-fn free_count(params: &[Param]) -> u32
+/// How many of the parameters are free.
+pub fn free_count(params: &[Param]) -> u32
     requires { length params.now ≤ 100 }
     ensures count { result ≡ count_by is_free_param params.now }
     ensures few { result ≤ 100 }

@@ -1,7 +1,7 @@
-use Rattle.std.proofs.Common.{◌≡◌, ℕ, List, sym, subst}
+use Rattle.std.proofs.Common.{sym, subst}
 use Rattle.model_timing.specs.{Choice.timing_choice, Candidates.candidate}
 use Rattle.model_line.specs.Parameters.{param_count}
-use Rattle.judge_match.specs.Candidates.{candidate_in, AreBlockSpans}
+use Rattle.model_timing.specs.Blocks.{candidate_in, AreBlockSpans}
 use Rattle.judge_match.proofs.BlockLaws.{block_point, block_delayed, giving_told}
 use Rattle.judge_match.proofs.block.giving_lanes.Goals as goal
 

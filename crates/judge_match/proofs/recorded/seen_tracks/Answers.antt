@@ -1,4 +1,4 @@
-use Rattle.std.proofs.Common.{◌≡◌, ℕ, List, ◌∙◌, ap}
+use Rattle.std.proofs.Common.{List, ◌∙◌, ap}
 use Rattle.run_signal.specs.declared.tern.Tern.{Tern}
 use Rattle.cert_check.specs.Claims.{pairs_of}
 use Rattle.judge_match.proofs.recorded.seen_tracks.Goals as goal

@@ -1,9 +1,9 @@
-use Rattle.std.proofs.Common.{◌≡◌, ◌<◌, ◌≤◌, ℕ, List, [], Some, length, get_or, sym, ◌∙◌, ap, subst, arith}
+use Rattle.std.proofs.Common.{◌≡◌, ◌<◌, ℕ, List, [], length, get_or, sym, ◌∙◌, ap, subst, arith}
 use Rattle.std.proofs.lemmas.Option.{slice_get_within}
 use Rattle.run_signal.specs.declared.tern.Tern.{Tern}
 use Rattle.run_channel.specs.SentKeys.{SentKeys}
 use Rattle.run_signal.specs.declared.level.Level.{Level}
-use Rattle.run_simulator.specs.{PlayedTracks.is_on, Ticks.HasKeys}
+use Rattle.run_simulator.specs.{Ticks.HasKeys}
 use Rattle.run_waves.specs.Waves.{wave_at}
 use Rattle.cert_check.specs.Claims.{pairs_of}
 use Rattle.judge_match.proofs.RecordedLaws.{sent_more, shown_more}

@@ -8,8 +8,9 @@ use Rattle.model_line.specs.Parameters.{terminal_count}
 use Rattle.run_signal.specs.Bits.{bit_on, bit_rails}
 use Rattle.model_timing.specs.{Choice.timing_choice, Candidates.candidate}
 use Rattle.run_simulator.specs.Tracks.{pair_of, tracks_history}
-use Rattle.judge_verdict.specs.Candidates.{candidate_in, TellsFailing}
-use Rattle.judge_verdict.proofs.{BlockLaws.candidate_exists, FailingLaws.same_meets}
+use Rattle.model_timing.specs.{Blocks.candidate_in, BlockLaws.candidate_exists}
+use Rattle.judge_verdict.specs.Candidates.{TellsFailing}
+use Rattle.judge_verdict.proofs.FailingLaws.{same_meets}
 use Rattle.judge_verdict.proofs.failing.failing.Goals as goal
 
 -- the history in a lane

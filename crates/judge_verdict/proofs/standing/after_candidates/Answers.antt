@@ -2,7 +2,7 @@ use Rattle.std.proofs.Common.{List, Some, sym, ◌∙◌, ap, subst, arith}
 use Rattle.std.specs.Prelude.{slice_get}
 use Rattle.model_timing.specs.Candidates.{candidate_count}
 use Rattle.judge_verdict.specs.{declared.standing.Standing.Standing, Standings.AllStand}
-use Rattle.judge_verdict.proofs.BlockLaws.{few_candidates}
+use Rattle.model_timing.specs.BlockLaws.{few_candidates}
 use Rattle.judge_verdict.proofs.StandingLaws.{stands_on, stands_at_end}
 use Rattle.judge_verdict.proofs.standing.after_candidates.Goals as goal
 
