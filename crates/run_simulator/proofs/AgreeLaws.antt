@@ -9,7 +9,7 @@ use Rattle.run_signal.specs.declared.level.Level.TheVariants.{Off, On}
 use Rattle.run_channel.specs.{SentKeys.SentKeys, Tracks.StaysUntil}
 use Rattle.model_line.specs.{declared.script.Script.Script, declared.line.Line.Line}
 use Rattle.model_line.specs.Parameters.{terminal_count}
-use Rattle.model_logic.specs.PairMean.{PairWorld, PairSignals}
+use Rattle.model_logic.specs.PairMean.{PairSignals}
 use Rattle.model_logic.specs.Choice.{Box, Choice, LeastFromOne, pair_world_of}
 use Rattle.model_logic.specs.Histories.{PairHistory, IsSameHistory, must_history}
 use Rattle.model_logic.specs.{Laws.LineLaws, Logic.key_tree, Solution.the_keys}

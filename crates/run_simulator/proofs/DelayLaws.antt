@@ -1,11 +1,12 @@
 -- What arrives stays the same while the keys at both ends of the window do.
 use Rattle.std.proofs.Common.{◌≡◌, ℕ, zero, suc, ◌+◌, ◌-◌, ◌<◌, ◌≤◌, Bool, sym, ◌∙◌, ap, arith}
-use Rattle.std.proofs.Common.{⊎_elim, ◌⊎◌}
+use Rattle.std.proofs.Common.{⊎_elim, ◌⊎◌, subst}
 use Rattle.std.proofs.lemmas.Bool.{cases_lt}
 use Rattle.std.proofs.lemmas.Bool.Decides.{Decides-like, same_from_decides}
 use Rattle.model_history.specs.Rails.{Rails, Ends, rails_delayed, must_of, may_of}
 use Rattle.model_history.specs.{Comes.Comes, Comes.AllCome, Comes.SomeComes, Laws.HistoryLaws}
 use Rattle.run_simulator.specs.Quiet.{Keeps, EndKeeps, ArrivalKeeps}
+use Rattle.run_simulator.specs.Lasts.{ArrivesAs, EndLasts, IsHeldAs, RawLasts}
 use Rattle.run_simulator.proofs.QuietLaws.{keeps_fewer}
 
 -- what c ticks ago was at t is so at the next tick
@@ -132,12 +133,18 @@ module _ (laws : HistoryLaws) (key : ℕ → Rails) (e : Ends) (t : ℕ)
       (on_some (rail may_of) e t (of_rail may_of e.least least)
       (of_rail may_of e.greatest greatest)) (laws.delays.may key (λ _. e) t)))
 
-module _ (laws : HistoryLaws) (key : ℕ → Rails) (t n : ℕ) where
+-- what was sent c ticks ago stays the same for n ticks, up to each under its premise
+abbrev pub EndKeepsIf : (ℕ → Type 0) → (ℕ → Rails) → ℕ → ℕ → ℕ → Type 0
+EndKeepsIf Held key c t n =
+    (j : ℕ) → j < n → Held j → (t < c → t + j < c) × (c ≤ t → key (t + j - c) ≡ key (t - c))
+
+module _ (laws : HistoryLaws) (Held : ℕ → Type 0) (less : (j : ℕ) → Held (suc j) → Held j)
+    (key : ℕ → Rails) (t n : ℕ) where
   -- one tick on, within the stretch
-  steps_on : (c j : ℕ) → EndKeeps key c t n → suc j < n → Keeps key t (suc j)
+  steps_on : (c j : ℕ) → EndKeepsIf Held key c t n → suc j < n → Held (suc j)
       → StepsOn key c (t + j)
   steps_on c j end lt held =
-      let now = end j (omega arith) (keeps_fewer key t j (suc j) (omega arith) held) in
+      let now = end j (omega arith) (less j held) in
       let next = end (suc j) lt held in
       let same : t + suc j ≡ suc (t + j) = omega arith in
       let early : t + j < c → t < c = λ h. omega arith in
@@ -150,56 +157,85 @@ module _ (laws : HistoryLaws) (key : ℕ → Rails) (t n : ℕ) where
             ap (λ (r : ℕ). key (r - c)) (sym same) ∙ next.1 (late h) ∙ sym (now.1 (late h));
       }
 
-  pub arrivals_keep : (e : Ends) → EndKeeps key e.least t n → EndKeeps key e.greatest t n
-      → ArrivalKeeps key e t n
-  arrivals_keep e least greatest zero lt held =
+  pub arrivals_keep_if : (e : Ends) → EndKeepsIf Held key e.least t n
+      → EndKeepsIf Held key e.greatest t n → (j : ℕ) → j < n → Held j
+      → rails_delayed key e (t + j) ≡ rails_delayed key e t
+  arrivals_keep_if e least greatest zero lt held =
       let same : t + 0 ≡ t = omega arith in ap (rails_delayed key e) same
-  arrivals_keep e least greatest (suc j) lt held =
+  arrivals_keep_if e least greatest (suc j) lt held =
       let same : t + suc j ≡ suc (t + j) = omega arith in
       ap (rails_delayed key e) same
       ∙ delayed_still laws key e (t + j) (steps_on e.least j least lt held)
       (steps_on e.greatest j greatest lt held)
-      ∙ arrivals_keep e least greatest j (omega arith)
-      (keeps_fewer key t j (suc j) (omega arith) held)
+      ∙ arrivals_keep_if e least greatest j (omega arith) (less j held)
+
+-- while the key is held
+pub arrivals_keep : (laws : HistoryLaws) (key : ℕ → Rails) (t n : ℕ) (e : Ends)
+    → EndKeeps key e.least t n → EndKeeps key e.greatest t n → ArrivalKeeps key e t n
+arrivals_keep laws key t n e least greatest =
+    arrivals_keep_if laws (λ j. Keeps key t j)
+    (λ j held. keeps_fewer key t j (suc j) (omega arith) held) key t n e least greatest
+
+held_fewer : (key : ℕ → Rails) (b t m n : ℕ) → m ≤ n → IsHeldAs key b t n → IsHeldAs key b t m
+held_fewer key b t m n le held r low high = held r low (omega arith)
+
+-- while the key is held as far as it arrives
+pub arrives_as : (laws : HistoryLaws) (key : ℕ → Rails) (b t n : ℕ) (e : Ends)
+    → e.least ≤ e.greatest → EndLasts key b e.least t n → EndLasts key b e.greatest t n
+    → ArrivesAs key e b t n
+arrives_as laws key b t n e order least greatest =
+    arrivals_keep_if laws (λ j. IsHeldAs key b t (suc j - e.least))
+    (λ j held. held_fewer key b t (suc j - e.least) (suc (suc j) - e.least) (omega arith) held)
+    key t n e least
+    (λ j lt held. greatest j lt
+    (held_fewer key b t (suc j - e.greatest) (suc j - e.least) (omega (arith, order)) held))
 
 -- the key was one value from tick t - c on, and to the last tick or to where the stretch ends
-pub end_keeps : (key : ℕ → Rails) (c t end n : ℕ) → 1 ≤ c → c ≤ t → end ≤ suc t
+pub end_lasts : (key : ℕ → Rails) (c t end n : ℕ) → 1 ≤ c → c ≤ t → end ≤ t
     → ((r : ℕ) → t - c ≤ r → r < end → key r ≡ key (t - c))
-    → (suc t ≤ end) ⊎ (n + (t - c) ≤ end) → EndKeeps key c t n
-end_keeps key c t end n some past most known which j lt held =
+    → (t ≤ end) ⊎ (n + (t - c) ≤ end) → EndLasts key (t - 1) c t n
+end_lasts key c t end n some past most known which j lt held =
     let inside : t + j - c < end → key (t + j - c) ≡ key (t - c) =
     λ low. known (t + j - c) (omega arith) low in (
       λ early. absurd (omega arith),
       λ _. ⊎_elim
           (λ to_last. ⊎_elim inside
           (λ high. held (t + j - c) (omega arith) (omega arith)
-          ∙ known t (omega arith) (omega arith))
+          ∙ known (t - 1) (omega arith) (omega arith))
           (cases_lt (t + j - c) end))
           (λ far. inside (omega arith))
           which,
     )
 
 -- the key is sent later
-pub early_keeps : (key : ℕ → Rails) (c t n : ℕ) → t + n ≤ c → EndKeeps key c t n
-early_keeps key c t n far j lt held =
+pub early_lasts : (key : ℕ → Rails) (b c t n : ℕ) → t + n ≤ c → EndLasts key b c t n
+early_lasts key b c t n far j lt held =
     (λ early. omega arith, λ past. absurd (omega arith))
 
 -- the rails of the ticks so far are those of the key
-pub known_rails : (u key : ℕ → Rails) (c t end : ℕ) → end ≤ suc t → c ≤ t
-    → ((r : ℕ) → r < suc t → u r ≡ key r)
+pub known_rails : (u key : ℕ → Rails) (c t end : ℕ) → end ≤ t → c ≤ t → 1 ≤ c
+    → ((r : ℕ) → r < t → u r ≡ key r)
     → ((r : ℕ) → t - c ≤ r → r < end → u r ≡ u (t - c))
     → (r : ℕ) → t - c ≤ r → r < end → key r ≡ key (t - c)
-known_rails u key c t end most past tells stays r low high =
+known_rails u key c t end most past some tells stays r low high =
     sym (tells r (omega arith)) ∙ stays r low high ∙ tells (t - c) (omega arith)
 
-pub arrival_fewer : (key : ℕ → Rails) (e : Ends) (t m n : ℕ) → m ≤ n → ArrivalKeeps key e t n
-    → ArrivalKeeps key e t m
-arrival_fewer key e t m n le keeps j lt held = keeps j (omega arith) held
+pub arrives_fewer : (key : ℕ → Rails) (e : Ends) (b t m n : ℕ) → m ≤ n → ArrivesAs key e b t n
+    → ArrivesAs key e b t m
+arrives_fewer key e b t m n le keeps j lt held = keeps j (omega arith) held
 
-pub end_fewer : (key : ℕ → Rails) (c t m n : ℕ) → m ≤ n → EndKeeps key c t n → EndKeeps key c t m
-end_fewer key c t m n le keeps j lt held = keeps j (omega arith) held
+pub end_fewer : (key : ℕ → Rails) (b c t m n : ℕ) → m ≤ n → EndLasts key b c t n
+    → EndLasts key b c t m
+end_fewer key b c t m n le keeps j lt held = keeps j (omega arith) held
 
--- one tick alone stays the same
-pub arrival_one : (key : ℕ → Rails) (e : Ends) (t : ℕ) → ArrivalKeeps key e t 1
-arrival_one key e t j lt held =
-    let same : t + j ≡ t = omega arith in ap (rails_delayed key e) same
+-- of a delay that has this span until a tick
+pub raw_lasts : (key : ℕ → Rails) (delay : ℕ → Ends) (e : Ends) (b t until m n : ℕ)
+    → ((r : ℕ) → t ≤ r → r < until → e ≡ delay r) → t < until
+    → n ≤ m → t + n ≤ until → 1 ≤ e.least → ArrivesAs key e b t m → RawLasts key delay b t n
+raw_lasts key delay e b t until m n is early less over later arrives = record {
+  later = λ some. subst (λ (x : Ends). 1 ≤ x.least) (is t (omega arith) early) later;
+  still = λ r low high.
+      sym (is r low (omega (arith, high, over))) ∙ is t (omega arith) early;
+  arrives = subst (λ (x : Ends). ArrivesAs key x b t n) (is t (omega arith) early)
+      (arrives_fewer key e b t n m less arrives);
+}

@@ -1,5 +1,5 @@
 -- What a net is given from outside, from a tick on.
-use Rattle.std.proofs.Common.{◌≡◌, ℕ, ◌+◌, ◌<◌, ◌≤◌, List, length, Some, sym, ◌∙◌, ap}
+use Rattle.std.proofs.Common.{◌≡◌, ℕ, ◌<◌, ◌≤◌, List, Some, sym, ◌∙◌, ap}
 use Rattle.std.proofs.Common.{arith, subst, ⊎_elim, length-set}
 use Rattle.std.proofs.lemmas.Option.{slice_get-map, slice_get_within, get_or_from_slice_get}
 use Rattle.std.specs.Prelude.{slice_get, slice_set, option_map}
@@ -8,12 +8,13 @@ use Rattle.model_line.specs.Parameters.{terminal_count, channel_count, param_cou
 use Rattle.model_line.specs.Channels.{from_of}
 use Rattle.model_line.specs.{declared.script.SeenSpan.SeenSpan, declared.line.Line.Line}
 use Rattle.model_line.specs.{declared.line.Channel.Channel, declared.script.Script.Script}
-use Rattle.model_logic.specs.Choice.{pair_world_of}
+use Rattle.model_logic.specs.{Choice.pair_world_of, PairMean.PairWorld}
 use Rattle.model_timing.specs.declared.step.Step.{Step}
-use Rattle.run_simulator.specs.Inputs.{AreDelays, DelaysHold, IsWorldAt, CanReceive}
+use Rattle.run_simulator.specs.Inputs.{AreDelays, AreDelaysFrom, AreDelaysOf, AreSet, AreSoonest, CanReceive}
+use Rattle.run_simulator.specs.Inputs.{DelaysStand, IsWorldAt}
 use Rattle.run_simulator.specs.Shown.{ShowTheSame, ShownSpans, AreShown, not_over}
-use Rattle.run_simulator.specs.{declared.inputs.Delay.Delay, LaneBox.ends_at, LaneBox.lane_box}
-use Rattle.run_simulator.specs.{LaneBox.lane_world, ListLaws.exists_at, Quiet.Keeps}
+use Rattle.run_simulator.specs.{declared.delays.Delay.Delay, LaneBox.ends_at, LaneBox.lane_box}
+use Rattle.run_simulator.specs.{LaneBox.lane_world}
 use Rattle.run_simulator.specs.Runs.{AreDelayed}
 use Rattle.run_simulator.proofs.Lists.{at_set}
 
@@ -69,62 +70,83 @@ module _ (all : List SeenSpan) (shown : ShownSpans) where
     };
   }
 
-module _ {S : Type 0} (ends : S → ℕ → Ends) (spans : List S) (steps : List (Step S))
+module _ {S : Type 0} (lanes : ℕ) (ends : S → ℕ → Ends) (spans : List S) (steps : List (Step S))
     (delays : List (Delay S)) where
-  pub held_none : DelaysHold ends spans steps delays 0 0
-  held_none c d at lane r low high = absurd (omega arith)
+  -- nothing before it is looked up
+  pub stand_none : ((c : ℕ) (d : Delay S) → slice_get delays c ≡ Some d → d.until ≡ 0)
+      → DelaysStand lanes ends spans steps 0 delays
+  stand_none over c d at = let none : d.until ≡ 0 = over c d at in record {
+    holds = λ lane r low high. absurd (omega (arith, none, high));
+    soonest = λ early. absurd (omega (arith, none, early));
+  }
 
-  pub held_later : (t s until : ℕ) → t ≤ s → DelaysHold ends spans steps delays t until
-      → DelaysHold ends spans steps delays s until
-  held_later t s until le held c d at lane r low high = held c d at lane r (omega arith) high
+  pub stand_later : (t s : ℕ) → t ≤ s → DelaysStand lanes ends spans steps t delays
+      → DelaysStand lanes ends spans steps s delays
+  stand_later t s le stand c d at = let before = stand c d at in record {
+    holds = λ lane r low high. before.holds lane r (omega arith) high;
+    soonest = λ early. before.soonest (omega arith);
+  }
 
-module _ {S : Type 0} (ends : S → ℕ → Ends) (line : Line) (spans : List S) (steps : List (Step S))
-  where
-    module _ (lane : ℕ) (delays : List (Delay S)) (t until : ℕ) (are : AreDelays line delays)
-        (held : DelaysHold ends spans steps delays t until) where
-      -- the span of a channel's delay
-      span_at : (c r : ℕ) (d : Delay S) → slice_get delays c ≡ Some d → t ≤ r → r < until
-          → ends d.span lane ≡ ends_at ends lane spans steps (delay_param line c) r
-      span_at c r d at low high =
-          held c d at lane r low high
-          ∙ ap (λ (p : ℕ). ends_at ends lane spans steps p r) (are.param c d at)
+  pub soonest_now : (t : ℕ) → DelaysStand lanes ends spans steps t delays → AreSet t delays
+      → AreSoonest lanes ends delays
+  soonest_now t stand set c d at = (stand c d at).soonest (set c d at)
 
-      pub world_at : (script : Script) (shown : ShownSpans)
-          → AreShown script.spans.items shown t until → t < until
-          → IsWorldAt ends lane shown.present delays (lane_world ends line script spans steps lane) t
-      unfolding pair_world_of lane_box
-      world_at script shown given early =
-          let now = given.shown t (omega arith) early in
-          record {
-            seen = now.seen;
-            lost = now.lost;
-            channels = record {
-              from = are.from;
-              delay = λ c d at. span_at c t d at (omega arith) early;
-            };
-          }
+module _ {S : Type 0} (lanes : ℕ) (ends : S → ℕ → Ends) (line : Line) (spans : List S)
+    (steps : List (Step S)) (delays : List (Delay S)) (t : ℕ) (are : AreDelays line delays)
+    (stand : DelaysStand lanes ends spans steps t delays) (set : AreSet t delays) where
+  module _ (lane : ℕ) where
+    -- the span of a channel's delay
+    span_at : (c r : ℕ) (d : Delay S) → slice_get delays c ≡ Some d → t ≤ r → r < d.until
+        → ends d.span lane ≡ ends_at ends lane spans steps (delay_param line c) r
+    span_at c r d at low high =
+        (stand c d at).holds lane r low high
+        ∙ ap (λ (p : ℕ). ends_at ends lane spans steps p r) (are.param c d at)
 
-      pub delay_keeps : (n : ℕ) → 1 ≤ n → t + n ≤ until → (c : ℕ) → c < channel_count line
-          → Keeps (λ r. ends_at ends lane spans steps (delay_param line c) r) t n
-      delay_keeps n some over c lt r low high =
-          let there : c < length delays = subst (λ (m : ℕ). c < m) (sym are.count) lt in
-          let (d, at) = exists_at delays c there in
-          sym (span_at c r d at low (omega arith)) ∙ span_at c t d at (omega arith) (omega arith)
+    pub delays_from : (script : Script)
+        → AreDelaysFrom ends lane delays (lane_world ends line script spans steps lane) t
+    unfolding pair_world_of lane_box
+    delays_from script = record {
+      from = are.from;
+      delay = λ c d at r low high. span_at c r d at low high;
+    }
 
-    pub can_receive : (lanes : ℕ) (delays : List (Delay S)) (t until : ℕ) → AreDelays line delays
-        → DelaysHold ends spans steps delays t until → t < until → t < line.horizon
-        → AreDelayed lanes ends line spans steps → CanReceive lanes ends line delays
-    unfolding lane_box
-    can_receive lanes delays t until are held early inside delayed =
-        let channel : (c : ℕ) (d : Delay S) → slice_get delays c ≡ Some d → c < channel_count line =
-        λ c d at. subst (λ (m : ℕ). c < m) are.count (slice_get_within delays c d at) in
+    pub world_at : (script : Script) (shown : ShownSpans) (until : ℕ)
+        → AreShown script.spans.items shown t until → t < until
+        → IsWorldAt ends lane shown.present delays (lane_world ends line script spans steps lane) t
+    unfolding pair_world_of lane_box
+    world_at script shown until given early =
+        let now = given.shown t (omega arith) early in
         record {
-          count = are.count;
-          from = λ c d at.
-              subst (λ (k : ℕ). k < terminal_count line) (sym (are.from c d at))
-              (line.pairs_once.from c (channel c d at));
-          later = λ c d at lane below.
-              subst (λ (e : Ends). 1 ≤ e.least)
-              (sym (span_at lane delays t until are held c t d at (omega arith) early))
-              (delayed lane below c t (channel c d at) inside);
+          seen = now.seen;
+          lost = now.lost;
+          channels = record {
+            from = are.from;
+            delay = λ c d at. span_at c t d at (omega arith) (set c d at);
+          };
         }
+
+  pub can_receive : t < line.horizon → AreDelayed lanes ends line spans steps
+      → CanReceive lanes ends line delays
+  unfolding lane_box
+  can_receive inside delayed =
+      let channel : (c : ℕ) (d : Delay S) → slice_get delays c ≡ Some d → c < channel_count line =
+      λ c d at. subst (λ (m : ℕ). c < m) are.count (slice_get_within delays c d at) in
+      record {
+        count = are.count;
+        from = λ c d at.
+            subst (λ (k : ℕ). k < terminal_count line) (sym (are.from c d at))
+            (line.pairs_once.from c (channel c d at));
+        later = λ c d at lane below.
+            subst (λ (e : Ends). 1 ≤ e.least)
+            (sym (span_at lane c t d at (omega arith) (set c d at)))
+            (delayed lane below c t (channel c d at) inside);
+      }
+
+-- the delays at the tick
+pub delays_now : {S : Type 0} (ends : S → ℕ → Ends) (lane : ℕ) (delays : List (Delay S))
+    (w : PairWorld) (t : ℕ) → AreSet t delays → AreDelaysFrom ends lane delays w t
+    → AreDelaysOf ends lane delays w t
+delays_now ends lane delays w t set from = record {
+  from = from.from;
+  delay = λ c d at. from.delay c d at t (omega arith) (set c d at);
+}

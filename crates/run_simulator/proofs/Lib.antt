@@ -1,4 +1,6 @@
 pub mod LagLaws
+pub mod HearLaws
+pub mod ShownByLaws
 pub mod ReaderLaws
 pub mod TraceLaws
 pub mod WaitLaws

@@ -1,18 +1,19 @@
 -- Gates that have a mark.
 use Rattle.std.proofs.Common.{◌≡◌, ◌≢◌, ℕ, ◌+◌, ◌-◌, ◌*◌, ◌/◌, ◌%◌, ◌^◌, ◌<◌, ◌≤◌, List, get_or, length}
 use Rattle.std.proofs.Common.{Some, refl, sym, ◌∙◌, ap, subst, arith, inl, inr, ⊎_elim, w64}
-use Rattle.std.proofs.Common.{length-set, bit_and, bit_or, min, [], ◌∷◌, zero, suc, ◌⊎◌, replicate}
+use Rattle.std.proofs.Common.{length-set, bit_and, bit_or, min, max, [], ◌∷◌, zero, suc}
 use Rattle.std.proofs.lemmas.Bool.{cases_eq, cases_lt}
-use Rattle.std.proofs.lemmas.List.{get_or-set_same, get_or-set_other, get_or_read, get_or-replicate}
+use Rattle.std.proofs.lemmas.List.{get_or-set_same, get_or-set_other, get_or_read}
+use Rattle.std.proofs.lemmas.Nat.{mul-add-lt, mul-le}
 use Rattle.std.proofs.lemmas.Option.{slice_get_within}
-use Rattle.std.proofs.lemmas.Nat.Bits.{bit_at_and, bit_at-lt, bit_at-zero, ones_shl, bit_at_ones}
+use Rattle.std.proofs.lemmas.Nat.Bits.{bit_at_and, bit_at_or, bit_at-lt, bit_at-zero, ones_shl}
 use Rattle.std.proofs.lemmas.Nat.Bits.{bit_at_mask_inside, bit_at_mask_below, bit_at-trailing_zeros}
 use Rattle.std.proofs.lemmas.Nat.Bits.{bit_at_set_same, bit_at_set_other, bit_at_clear_other}
 use Rattle.std.specs.Prelude.{slice_get, slice_set}
 use Rattle.std.specs.Int.{bit_at, bit_not, trailing_zeros}
-use Rattle.run_simulator.specs.Marks.{AreMarked, AreWatched, IsMarked, IsWatched, MarksStay}
+use Rattle.run_simulator.specs.Marks.{AreMarked, HasRoom, IsMarked, IsPlanned, MarksStay}
 use Rattle.run_simulator.specs.declared.marks.Marks.{Marks}
-use Rattle.run_simulator.proofs.Lists.{at_set, one_value}
+use Rattle.run_simulator.proofs.Lists.{at_set}
 
 -- ---- one word written
 
@@ -169,133 +170,242 @@ not_marked words i none marked =
     ap (λ (x : ℕ). bit_at x (i % 64)) (none_marked words none (i / 64)) ∙ bit_at-zero (i % 64) in
     absurd (omega (arith, zero, marked))
 
--- words of ones
-pub all_marked : (n i : ℕ) → i < 64 * n → IsMarked i (replicate n (2 ^ 64 - 1))
-all_marked n i lt =
-    let place : i / 64 < n = omega (arith, lt) in
-    let within : i % 64 < 64 = omega arith in
-    ap (λ (x : ℕ). bit_at x (i % 64)) (get_or-replicate n (i / 64) (2 ^ 64 - 1) 0 place)
-    ∙ bit_at_ones 64 (i % 64) within
+-- ---- an agenda
+
+-- there is a bit for the gate at the tick
+pub plan_room : (width horizon due gate length : ℕ) → due < horizon → gate < 64 * width
+    → horizon * width ≤ length → 64 * (due * width) + gate < 64 * length
+plan_room width horizon due gate length early inside room =
+    let place : gate / 64 < width = omega (arith, inside) in
+    let lt = mul-add-lt due width (gate / 64) horizon early place in
+    omega (arith, lt, room)
+
+pub plan_fits : (width due : ℕ) → due < 4000 → width ≤ 9 → due * width < 36001
+plan_fits width due early few =
+    let le : due * width ≤ 4000 * 9 = mul-le due width 4000 9 (omega arith) few in
+    omega (arith, le)
+
+-- the gate's bit at a tick, by its word
+pub agenda_word : (width t i : ℕ) → (64 * (t * width) + i) / 64 ≡ t * width + i / 64
+agenda_word width t i = omega arith
+
+pub agenda_bit : (width t i : ℕ) → (64 * (t * width) + i) % 64 ≡ i % 64
+agenda_bit width t i = omega arith
+
+max_one : (a b : ℕ) → a < 2 → b ≡ 1 → max a b ≡ 1
+max_one a b small one = omega (arith, small, one)
+
+max_first : (a b : ℕ) → a ≡ 1 → b < 2 → max a b ≡ 1
+max_first a b one small = omega (arith, small, one)
+
+-- a word joined with another has the bits of both
+pub joined_first : (words : List ℕ) (k old more : ℕ) → k < length words → old ≡ get_or words k old
+    → MarksStay words (slice_set words k (bit_or old more))
+joined_first words k old more place read i marked =
+    let is : get_or words k 0 ≡ old = sym (get_or_read words k old place read 0) in
+    let set : List ℕ = slice_set words k (bit_or old more) in
+    ⊎_elim
+    (λ here.
+    ap (λ (q : ℕ). bit_at (get_or set q 0) (i % 64)) here
+    ∙ ap (λ (x : ℕ). bit_at x (i % 64)) (get_or-set_same words k (bit_or old more) 0 place)
+    ∙ bit_at_or old more (i % 64)
+    ∙ max_first (bit_at old (i % 64)) (bit_at more (i % 64))
+    (ap (λ (x : ℕ). bit_at x (i % 64)) (sym is)
+    ∙ ap (λ (q : ℕ). bit_at (get_or words q 0) (i % 64)) (sym here) ∙ marked)
+    (bit_at-lt more (i % 64)))
+    (λ other.
+    ap (λ (x : ℕ). bit_at x (i % 64)) (get_or-set_other words k (i / 64) (bit_or old more) 0 other)
+    ∙ marked)
+    (cases_eq (i / 64) k)
+
+pub joined_more : (words : List ℕ) (k old more i : ℕ) → k < length words → i / 64 ≡ k
+    → bit_at more (i % 64) ≡ 1 → IsMarked i (slice_set words k (bit_or old more))
+joined_more words k old more i place here on =
+    let set : List ℕ = slice_set words k (bit_or old more) in
+    ap (λ (q : ℕ). bit_at (get_or set q 0) (i % 64)) here
+    ∙ ap (λ (x : ℕ). bit_at x (i % 64)) (get_or-set_same words k (bit_or old more) 0 place)
+    ∙ bit_at_or old more (i % 64)
+    ∙ max_one (bit_at old (i % 64)) (bit_at more (i % 64)) (bit_at-lt old (i % 64)) on
+
+-- a gate's bit of the word at its tick
+pub planned_bit : (agenda : List ℕ) (width t i k place word : ℕ) → place ≡ t * width + k
+    → place < length agenda → word ≡ get_or agenda place word → i / 64 ≡ k
+    → IsMarked (64 * (t * width) + i) agenda → bit_at word (i % 64) ≡ 1
+planned_bit agenda width t i k place word is inside read here on =
+    let same : place ≡ (64 * (t * width) + i) / 64 =
+    is ∙ ap (λ (n : ℕ). t * width + n) (sym here) ∙ sym (agenda_word width t i) in
+    ap (λ (x : ℕ). bit_at x (i % 64)) (get_or_read agenda place word inside read 0)
+    ∙ ap (λ (q : ℕ). bit_at (get_or agenda q 0) (i % 64)) same
+    ∙ ap (λ (b : ℕ). bit_at (get_or agenda ((64 * (t * width) + i) / 64) 0) b)
+    (sym (agenda_bit width t i))
+    ∙ on
 
 -- ---- due ticks with marks
+
+-- what is on the agenda stays on it
+pub agenda_on : (old new : Marks) (i due : ℕ)
+    → length new.words.items ≡ length old.words.items → new.horizon ≡ old.horizon
+    → MarksStay old.agenda.items new.agenda.items → MarksStay old.ticks.items new.ticks.items
+    → IsPlanned old i due → IsPlanned new i due
+agenda_on old new i due same horizon agenda ticks planned =
+    ⊎_elim
+    (λ over. inl (omega (arith, over, horizon)))
+    (λ on. inr (
+      subst (λ (n : ℕ). IsMarked (64 * (due * n) + i) new.agenda.items) (sym same)
+          (agenda (64 * (due * length old.words.items) + i) on.0),
+      ticks due on.1,
+    ))
+    planned
+
+pub room_on : (old new : Marks) → length new.words.items ≡ length old.words.items
+    → length new.agenda.items ≡ length old.agenda.items
+    → length new.ticks.items ≡ length old.ticks.items → new.horizon ≡ old.horizon → HasRoom old
+    → HasRoom new
+room_on old new words agenda ticks horizon room =
+    let whole : old.horizon * length old.words.items ≤ length old.agenda.items = room.agenda in
+    let bits : old.horizon ≤ 64 * length old.ticks.items = room.ticks in
+    let few : length old.words.items ≤ 9 = room.few in
+    let short : old.horizon ≤ 4000 = room.short in
+    record {
+      agenda = subst (λ (n : ℕ). new.horizon * n ≤ length new.agenda.items) (sym words)
+          (subst (λ (h : ℕ). h * length old.words.items ≤ length new.agenda.items) (sym horizon)
+          (omega (arith, whole, agenda)));
+      ticks = omega (arith, bits, ticks, horizon);
+      few = omega (arith, few, words);
+      short = omega (arith, short, horizon);
+    }
 
 -- a gate that is due at another tick from now on
 pub settled : (dues : List ℕ) (old new : Marks) (gate due : ℕ)
     → length new.words.items ≡ length old.words.items
-    → length new.timers.items ≡ length old.timers.items
+    → length new.agenda.items ≡ length old.agenda.items
+    → length new.ticks.items ≡ length old.ticks.items → new.horizon ≡ old.horizon
     → ((i : ℕ) → i ≢ gate → IsMarked i old.words.items → IsMarked i new.words.items)
-    → ((i : ℕ) → i ≢ gate → IsMarked i old.timers.items → IsMarked i new.timers.items)
-    → (4000 ≤ due) ⊎ IsMarked gate new.timers.items
-    → new.least ≤ old.least → new.least ≤ due → AreMarked dues old
+    → MarksStay old.agenda.items new.agenda.items → MarksStay old.ticks.items new.ticks.items
+    → IsPlanned new gate due → new.least ≤ old.least → new.least ≤ due → AreMarked dues old
     → AreMarked (slice_set dues gate due) new
-settled dues old new gate due same even others kept now less this marked =
+settled dues old new gate due same even bits horizon others agenda ticks now less this marked =
     let long : length (slice_set dues gate due) ≡ length dues = length-set dues gate due in
     record {
+      room = room_on old new same even bits horizon marked.room;
       wide = let wide = marked.wide in omega (arith, wide, same, long);
-      room = let room = marked.room in omega (arith, room, even, long);
-      small = let small = marked.small in omega (arith, small, less);
-      listed = λ i d at.
+      planned = λ i d at.
           ⊎_elim
-          (λ p. inr (subst (λ (x : ℕ). (4000 ≤ x) ⊎ IsMarked i new.timers.items) p.1
-          (subst (λ (k : ℕ). (4000 ≤ due) ⊎ IsMarked k new.timers.items) (sym p.0) now)))
+          (λ p. inr (subst (λ (x : ℕ). IsPlanned new i x) p.1
+          (subst (λ (k : ℕ). IsPlanned new k due) (sym p.0) now)))
           (λ p. ⊎_elim (λ m. inl (others i p.0 m))
-          (λ rest. inr (⊎_elim inl (λ m. inr (kept i p.0 m)) rest))
-          (marked.listed i d p.1))
+          (λ rest. inr (agenda_on old new i d same horizon agenda ticks rest))
+          (marked.planned i d p.1))
           (at_set dues gate due i d at);
-      watched = λ i d lt at.
+      watched = λ i d at.
           ⊎_elim
           (λ p. let is : due ≡ d = p.1 in inr (omega (arith, is, this)))
           (λ p. ⊎_elim (λ m. inl (others i p.0 m)) (λ late. inr (omega (arith, late, less)))
-          (marked.watched i d (omega (arith, lt, long)) p.1))
+          (marked.watched i d p.1))
           (at_set dues gate due i d at);
     }
 
 -- a gate that is due at once
 pub woken : (dues after : List ℕ) (old new : Marks) (gate : ℕ) → after ≡ slice_set dues gate 0
-    → length new.words.items ≡ length old.words.items → new.timers.items ≡ old.timers.items
+    → length new.words.items ≡ length old.words.items → new.agenda.items ≡ old.agenda.items
+    → new.ticks.items ≡ old.ticks.items → new.horizon ≡ old.horizon
     → IsMarked gate new.words.items → MarksStay old.words.items new.words.items
     → new.least ≡ old.least → AreMarked dues old → AreMarked after new
-woken dues after old new gate is same even here stay least marked =
+woken dues after old new gate is same even bits horizon here stay least marked =
     let long : length (slice_set dues gate 0) ≡ length dues = length-set dues gate 0 in
+    let agenda : MarksStay old.agenda.items new.agenda.items =
+    λ i m. subst (λ (l : List ℕ). IsMarked i l) (sym even) m in
+    let ticks : MarksStay old.ticks.items new.ticks.items =
+    λ i m. subst (λ (l : List ℕ). IsMarked i l) (sym bits) m in
     subst (λ (l : List ℕ). AreMarked l new) (sym is) (record {
+      room = room_on old new same (ap length even) (ap length bits) horizon marked.room;
       wide = let wide = marked.wide in omega (arith, wide, same, long);
-      room = let room = marked.room in
-          let count : length new.timers.items ≡ length old.timers.items = ap length even in
-          omega (arith, room, count, long);
-      small = let small = marked.small in omega (arith, small, least);
-      listed = λ i d at.
+      planned = λ i d at.
           ⊎_elim
           (λ p. inl (subst (λ (k : ℕ). IsMarked k new.words.items) (sym p.0) here))
           (λ p. ⊎_elim (λ m. inl (stay i m))
-          (λ rest. inr (⊎_elim inl
-          (λ m. inr (subst (λ (l : List ℕ). IsMarked i l) (sym even) m)) rest))
-          (marked.listed i d p.1))
+          (λ rest. inr (agenda_on old new i d same horizon agenda ticks rest))
+          (marked.planned i d p.1))
           (at_set dues gate 0 i d at);
-      watched = λ i d lt at.
+      watched = λ i d at.
           ⊎_elim
           (λ p. inl (subst (λ (k : ℕ). IsMarked k new.words.items) (sym p.0) here))
           (λ p. ⊎_elim (λ m. inl (stay i m)) (λ late. inr (omega (arith, late, least)))
-          (marked.watched i d (omega (arith, lt, long)) p.1))
+          (marked.watched i d p.1))
           (at_set dues gate 0 i d at);
     })
 
--- a gate that is watched still is
-watched_still : (old new : List ℕ) (least less i due : ℕ) → MarksStay old new → less ≤ least
-    → IsWatched old least i due → IsWatched new less i due
-watched_still old new least less i due stay le watched =
-    ⊎_elim (λ m. inl (stay i m)) (λ late. inr (omega (arith, late, le))) watched
+-- those that are due at the tick have a mark
+pub all_woken : (dues : List ℕ) (old new : Marks) (t : ℕ) → t < old.horizon
+    → length new.words.items ≡ length old.words.items → new.agenda.items ≡ old.agenda.items
+    → new.ticks.items ≡ old.ticks.items → new.horizon ≡ old.horizon → new.least ≡ t + 1
+    → MarksStay old.words.items new.words.items
+    → ((i : ℕ) → i < 64 * length old.words.items
+    → IsMarked (64 * (t * length old.words.items) + i) old.agenda.items
+    → IsMarked i new.words.items)
+    → t ≤ old.least → AreMarked dues old → AreMarked dues new
+all_woken dues old new t early same even bits horizon least stay came reached marked =
+    let agenda : MarksStay old.agenda.items new.agenda.items =
+    λ i m. subst (λ (l : List ℕ). IsMarked i l) (sym even) m in
+    let ticks : MarksStay old.ticks.items new.ticks.items =
+    λ i m. subst (λ (l : List ℕ). IsMarked i l) (sym bits) m in
+    let wide : length dues ≤ 64 * length old.words.items = marked.wide in
+    record {
+      room = room_on old new same (ap length even) (ap length bits) horizon marked.room;
+      wide = omega (arith, wide, same);
+      planned = λ i d at. ⊎_elim (λ m. inl (stay i m))
+          (λ rest. inr (agenda_on old new i d same horizon agenda ticks rest)) (marked.planned i d at);
+      watched = λ i d at.
+          let inside : i < length dues = slice_get_within dues i d at in
+          ⊎_elim (λ m. inl (stay i m))
+          (λ late. ⊎_elim (λ m. inl (stay i m))
+          (λ rest. ⊎_elim
+          (λ over. inr (omega (arith, over, early, least)))
+          (λ on. ⊎_elim
+          (λ now. inl (came i (omega (arith, inside, wide))
+          (subst (λ (x : ℕ). IsMarked (64 * (x * length old.words.items) + i) old.agenda.items) now
+          on.0)))
+          (λ other. inr (omega (arith, late, other, reached, least)))
+          (cases_eq d t))
+          rest)
+          (marked.planned i d at))
+          (marked.watched i d at);
+    }
 
--- gates up to another one of which none is a timer that runs
-pub watched_past : (dues : List ℕ) (marks : Marks) (n next : ℕ)
-    → ((i : ℕ) → n ≤ i → i < next → IsMarked i marks.timers.items → ⊥)
-    → AreWatched dues n marks → AreWatched dues next marks
-watched_past dues marks n next passed are = record {
-  wide = are.wide;
-  room = are.room;
-  small = are.small;
-  listed = are.listed;
-  watched = λ i due lt at.
+-- where no gate has a mark, none is due before the first tick of the agenda
+pub next_later : (dues : List ℕ) (marks : Marks) (t next i due : ℕ) → t < marks.least
+    → next ≤ marks.horizon → ((k : ℕ) → IsMarked k marks.words.items → ⊥)
+    → ((k : ℕ) → t + 1 ≤ k → k < next → IsMarked k marks.ticks.items → ⊥)
+    → AreMarked dues marks → slice_get dues i ≡ Some due → next ≤ due
+next_later dues marks t next i due later limit none passed marked at =
+    ⊎_elim (λ m. absurd (none i m))
+    (λ late. ⊎_elim (λ m. absurd (none i m))
+    (λ rest. ⊎_elim
+    (λ over. omega (arith, over, limit))
+    (λ on. ⊎_elim
+    (λ low. absurd (passed due (omega (arith, late, later)) low on.1))
+    (λ ge. ge)
+    (cases_lt due next))
+    rest)
+    (marked.planned i due at))
+    (marked.watched i due at)
+
+pub least_raised : (dues : List ℕ) (old new : Marks) → new.words.items ≡ old.words.items
+    → new.agenda.items ≡ old.agenda.items → new.ticks.items ≡ old.ticks.items
+    → new.horizon ≡ old.horizon
+    → ((i due : ℕ) → slice_get dues i ≡ Some due → new.least ≤ due) → AreMarked dues old
+    → AreMarked dues new
+least_raised dues old new words even bits horizon late marked = record {
+  room = room_on old new (ap length words) (ap length even) (ap length bits) horizon marked.room;
+  wide = let wide : length dues ≤ 64 * length old.words.items = marked.wide in
+      let same : length new.words.items ≡ length old.words.items = ap length words in
+      omega (arith, wide, same);
+  planned = λ i d at.
       ⊎_elim
-      (λ low. are.watched i due low at)
-      (λ ge. ⊎_elim inl
-      (λ rest. ⊎_elim
-      (λ late. let small = are.small in inr (omega (arith, late, small)))
-      (λ m. absurd (passed i ge lt m)) rest)
-      (are.listed i due at))
-      (cases_lt i n);
+      (λ m. inl (subst (λ (l : List ℕ). IsMarked i l) (sym words) m))
+      (λ rest. inr (agenda_on old new i d (ap length words) horizon
+      (λ k m. subst (λ (l : List ℕ). IsMarked k l) (sym even) m)
+      (λ k m. subst (λ (l : List ℕ). IsMarked k l) (sym bits) m) rest))
+      (marked.planned i d at);
+  watched = λ i d at. inr (late i d at);
 }
-
--- one gate more
-pub watched_more : (dues : List ℕ) (old new : Marks) (n due : ℕ)
-    → new.timers.items ≡ old.timers.items → length new.words.items ≡ length old.words.items
-    → MarksStay old.words.items new.words.items → new.least ≤ old.least
-    → IsWatched new.words.items new.least n due → slice_get dues n ≡ Some due
-    → AreWatched dues n old → AreWatched dues (n + 1) new
-watched_more dues old new n due even same stay less now here are = record {
-  wide = let wide = are.wide in omega (arith, wide, same);
-  room = let room = are.room in
-      let count : length new.timers.items ≡ length old.timers.items = ap length even in
-      omega (arith, room, count);
-  small = let small = are.small in omega (arith, small, less);
-  listed = λ i d at.
-      ⊎_elim (λ m. inl (stay i m))
-      (λ rest. inr (⊎_elim inl (λ m. inr (subst (λ (l : List ℕ). IsMarked i l) (sym even) m)) rest))
-      (are.listed i d at);
-  watched = λ i d lt at.
-      ⊎_elim
-      (λ low. watched_still old.words.items new.words.items old.least new.least i d stay less
-      (are.watched i d low at))
-      (λ ge. let same : n ≡ i = omega (arith, lt, ge) in
-      subst (λ (j : ℕ). IsWatched new.words.items new.least j d) same
-      (subst (λ (x : ℕ). IsWatched new.words.items new.least n x)
-      (one_value dues n i due d same here at) now))
-      (cases_lt i n);
-}
-
--- no gate is due before the tick
-pub all_later : (dues : List ℕ) (marks : Marks) (i due : ℕ)
-    → ((k : ℕ) → IsMarked k marks.words.items → ⊥) → AreMarked dues marks
-    → slice_get dues i ≡ Some due → marks.least ≤ due
-all_later dues marks i due none marked at =
-    ⊎_elim (λ m. absurd (none i m)) (λ late. late)
-    (marked.watched i due (slice_get_within dues i due at) at)

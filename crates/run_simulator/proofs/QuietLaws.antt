@@ -2,9 +2,9 @@
 use Rattle.std.proofs.Common.{◌≡◌, ℕ, zero, suc, ◌+◌, ◌<◌, ◌≤◌, List, length, refl, sym, ◌∙◌, ap}
 use Rattle.std.proofs.Common.{arith, ⊎_elim, subst}
 use Rattle.std.proofs.lemmas.Bool.{cases_lt}
+use Rattle.std.specs.Prelude.{slice_get, Some}
 use Rattle.model_history.specs.Rails.{Rails, Ends, both, rails_not, rails_and, rails_or}
 use Rattle.model_history.specs.Rails.{rails_delayed}
-use Rattle.model_history.specs.Rails.{rails_timed}
 use Rattle.run_timers.specs.Stretches.{ElementsInAStretch}
 use Rattle.model_line.specs.{declared.line.Line.Line, Parameters.channel_count}
 use Rattle.model_logic.specs.PairMean.{PairWorld, PairSignals}
@@ -12,7 +12,7 @@ use Rattle.net_gates.specs.declared.gate.Gate.TheVariants.{Const, Seen, Loss, Ra
 use Rattle.net_gates.specs.declared.gate.Gate.TheVariants.{Timer, Seal}
 use Rattle.net_gates.specs.Laws.{AreGates, HasArguments}
 use Rattle.net_gates.specs.{declared.gate.Gate.Gate, Named.NamedFrom, Named.GateNames}
-use Rattle.run_simulator.specs.Quiet.{Keeps, SourcesKeep, AreGatePairs, TimerKeeps}
+use Rattle.run_simulator.specs.Quiet.{Keeps, SourcesKeep, AreGatePairs, TimerKeeps, ArrivalKeeps}
 use Rattle.run_simulator.specs.{GatePairs.GateSignals, GatePairs.kind_pair, ListLaws.exists_at}
 
 pub keeps_none : {A : Type 0} (u : ℕ → A) (t : ℕ) → Keeps u t 0
@@ -46,22 +46,39 @@ timer_fewer w u t m n (Or a b) le keeps = keeps
 timer_fewer w u t m n (Timer a p d) le keeps = λ j lt held. keeps j (omega arith) held
 timer_fewer w u t m n (Seal a b) le keeps = keeps
 
-pub timer_one : (w : PairWorld) (u : GateSignals) (t : ℕ) (g : Gate) → TimerKeeps w u t 1 g
-timer_one w u t (Const v) = tt
-timer_one w u t (Seen p) = tt
-timer_one w u t (Loss c) = tt
-timer_one w u t (Raw c) = tt
-timer_one w u t (Not a) = tt
-timer_one w u t (And a b) = tt
-timer_one w u t (Or a b) = tt
-timer_one w u t (Timer a p d) = λ j lt held.
-    let same : t + j ≡ t = omega arith in ap (rails_timed (u a.0) (w.time p) (w.time d)) same
-timer_one w u t (Seal a b) = tt
+-- what the gate rests on beside its arguments is quiet from tick t on for n ticks, while the key that
+-- it hears is held
+abbrev pub GateQuiet : PairWorld → PairSignals → GateSignals → ℕ → ℕ → Gate → Type 0
+GateQuiet w keys u t n (Const v) = Unit {0}
+GateQuiet w keys u t n (Seen p) = Keeps (w.seen p) t n
+GateQuiet w keys u t n (Loss c) = Keeps (w.lost c) t n
+GateQuiet w keys u t n (Raw c) =
+    Keeps (w.delay c) t n × ArrivalKeeps (keys (w.from c)) (w.delay c t) t n
+GateQuiet w keys u t n (Not a) = Unit {0}
+GateQuiet w keys u t n (And a b) = Unit {0}
+GateQuiet w keys u t n (Or a b) = Unit {0}
+GateQuiet w keys u t n (Timer a p d) = TimerKeeps w u t n (Timer a p d)
+GateQuiet w keys u t n (Seal a b) = Unit {0}
+
+source_quiet : (line : Line) (w : PairWorld) (keys : PairSignals) (u : GateSignals) (t n : ℕ)
+    (gates : List Gate) → SourcesKeep w keys u (channel_count line) gates t n → (g : Gate)
+    → GateNames line g → TimerKeeps w u t n g → GateQuiet w keys u t n g
+source_quiet line w keys u t n gates sources (Const v) names timer = tt
+source_quiet line w keys u t n gates sources (Seen p) names timer = sources.seen p
+source_quiet line w keys u t n gates sources (Loss c) names timer = sources.lost c
+source_quiet line w keys u t n gates sources (Raw c) names timer =
+    (sources.delays c names, sources.arrivals c names)
+source_quiet line w keys u t n gates sources (Not a) names timer = tt
+source_quiet line w keys u t n gates sources (And a b) names timer = tt
+source_quiet line w keys u t n gates sources (Or a b) names timer = tt
+source_quiet line w keys u t n gates sources (Timer a p d) names timer = timer
+source_quiet line w keys u t n gates sources (Seal a b) names timer = tt
 
 module _ (stretch : ElementsInAStretch) (line : Line) (w : PairWorld) (keys : PairSignals)
     (u : GateSignals) (t n : ℕ) (gates : List Gate) (laws : AreGates gates) (named : NamedFrom line 0 gates)
     (are : AreGatePairs w keys u (channel_count line) line.horizon gates)
-    (sources : SourcesKeep w keys u (channel_count line) gates t n) (fits : t + n ≤ line.horizon)
+    (quiet : (i : ℕ) (g : Gate) → slice_get gates i ≡ Some g → GateQuiet w keys u t n g)
+    (fits : t + n ≤ line.horizon)
   where
     -- the first so many gates keep their values for m ticks
     abbrev GatesKeep : ℕ → ℕ → Type 0
@@ -69,21 +86,22 @@ module _ (stretch : ElementsInAStretch) (line : Line) (w : PairWorld) (keys : Pa
 
     -- a gate keeps its value up to tick t + j, if all gates do before it, and its arguments at it
     one_gate : (j : ℕ) → j < n → GatesKeep j (length gates) → (i : ℕ) → GatesKeep (suc j) i
-        → (g : Gate) → HasArguments i g → GateNames line g → TimerKeeps w u t n g
+        → (g : Gate) → HasArguments i g → GateNames line g
+        → GateQuiet w keys u t n g
         → kind_pair w keys u g (t + j) ≡ kind_pair w keys u g t
     one_gate j lt all i args (Const v) has names timer = refl
     one_gate j lt all i args (Seen p) has names timer =
-        ap both (keeps_at (w.seen p) t n j (sources.seen p) lt)
+        ap both (keeps_at (w.seen p) t n j timer lt)
     one_gate j lt all i args (Loss c) has names timer =
-        ap both (keeps_at (w.lost c) t n j (sources.lost c) lt)
+        ap both (keeps_at (w.lost c) t n j timer lt)
     one_gate j lt all i args (Raw c) has names timer =
         let held : Keeps (keys (w.from c)) t j = λ r low high.
         are.keys_are c r names (omega arith)
         ∙ all (are.key_gate c) (are.there c names) r low high
         ∙ sym (are.keys_are c t names (omega arith)) in
         ap (λ (e : Ends). rails_delayed (keys (w.from c)) e (t + j))
-        (keeps_at (w.delay c) t n j (sources.delays c names) lt)
-        ∙ sources.arrivals c names j lt held
+        (keeps_at (w.delay c) t n j timer.0 lt)
+        ∙ timer.1 j lt held
     one_gate j lt all i args (Not a) has names timer =
         ap rails_not (keeps_at (u a.0) t (suc j) j (args a.0 has) (omega arith))
     one_gate j lt all i args (And a b) has names timer =
@@ -115,7 +133,7 @@ module _ (stretch : ElementsInAStretch) (line : Line) (w : PairWorld) (keys : Pa
         let now : u count (t + j) ≡ u count t =
         are.told (t + j) count g at
         ∙ one_gate j lt all count before g (laws.earlier count g at)
-        (named.each count g (omega arith) at) (sources.timers count g at)
+        (named.each count g (omega arith) at) (quiet count g at)
         ∙ sym (are.told t count g at) in
         subst (λ (k : ℕ). Keeps (u k) t (suc j)) (sym e)
         (keeps_more (u count) t j (all count (omega arith)) now))
@@ -128,5 +146,16 @@ module _ (stretch : ElementsInAStretch) (line : Line) (w : PairWorld) (keys : Pa
         one_tick m (omega arith) (λ k below. ticks_keep m (omega arith) k below) (length gates)
         (omega arith) i inside
 
-    pub gates_keep : (i : ℕ) → i < length gates → Keeps (u i) t n
-    gates_keep i inside = ticks_keep n (omega arith) i inside
+    pub quiet_gates_keep : (i : ℕ) → i < length gates → Keeps (u i) t n
+    quiet_gates_keep i inside = ticks_keep n (omega arith) i inside
+
+pub gates_keep : (stretch : ElementsInAStretch) (line : Line) (w : PairWorld) (keys : PairSignals)
+    (u : GateSignals) (t n : ℕ) (gates : List Gate) → AreGates gates → NamedFrom line 0 gates
+    → AreGatePairs w keys u (channel_count line) line.horizon gates
+    → SourcesKeep w keys u (channel_count line) gates t n → t + n ≤ line.horizon
+    → (i : ℕ) → i < length gates → Keeps (u i) t n
+gates_keep stretch line w keys u t n gates laws named are sources fits =
+    quiet_gates_keep stretch line w keys u t n gates laws named are
+    (λ i g at. source_quiet line w keys u t n gates sources g (named.each i g (omega arith) at)
+    (sources.timers i g at))
+    fits

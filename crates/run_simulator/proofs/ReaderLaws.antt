@@ -7,7 +7,7 @@ use Rattle.std.specs.Prelude.{slice_get, slice_set, get_or}
 use Rattle.net_gates.specs.declared.gate.Gate.{Gate}
 use Rattle.run_simulator.specs.declared.readers.Readers.{Readers}
 use Rattle.run_simulator.specs.Readers.{AreLowered, AreAwake, AreBelow, StandsIn, IsListed}
-use Rattle.run_simulator.specs.Readers.{IsConstant, IsGiven, IsRaw, ReadsOne, ReadsTwo}
+use Rattle.run_simulator.specs.Readers.{Hears, ReadsNone, ReadsOne, ReadsTwo}
 use Rattle.run_simulator.specs.Readers.{ListGates, ReadersSoFar}
 use Rattle.run_simulator.specs.{Readers.ListsGrow, ListLaws.at_push}
 use Rattle.net_gates.specs.declared.gate.Gate.TheVariants.{Const, Seen, Loss, Raw, Not, And, Or}
@@ -82,71 +82,55 @@ stands_here i old new is =
 
 pub lists_same : (readers : Readers) → ListsGrow readers readers
 lists_same readers = record {
+  gates_are = refl;
+  channels_are = refl;
   read = λ i a list at before. before list at;
-  given = λ i stands. stands;
-  raw = λ i stands. stands;
+  heard = λ i c list at before. before list at;
 }
 
-pub listed_on : (i : ℕ) (gate : Gate) (old new : Readers) → length new.of_gates.items
-    ≡ length old.of_gates.items → ListsGrow old new → IsListed i gate old → IsListed i gate new
-listed_on i gate old new same grow listed = record {
+pub listed_on : (i : ℕ) (gate : Gate) (old new : Readers) → ListsGrow old new
+    → IsListed i gate old → IsListed i gate new
+listed_on i gate old new grow listed = record {
   read = λ a list has at. grow.read i a list at (λ list' at'. listed.read a list' has at');
-  given = λ is. grow.given i (listed.given is);
-  raw = λ is. grow.raw i (listed.raw is);
+  heard = λ c list hears at. grow.heard i c list at (λ list' at'. listed.heard c list' hears at');
 }
 
 -- a gate that is listed where its kind is to be
-pub listed_constant : (i : ℕ) (gate : Gate) (readers : Readers) → IsConstant gate
+pub listed_none : (i : ℕ) (gate : Gate) (readers : Readers) → ReadsNone gate
     → IsListed i gate readers
-listed_constant i (Const v) readers is = record {
-  read = λ a list has at. absurd has;
-  given = λ is. absurd is;
-  raw = λ is. absurd is;
-}
-listed_constant i (Seen p) readers is = absurd is
-listed_constant i (Loss k) readers is = absurd is
-listed_constant i (Raw k) readers is = absurd is
-listed_constant i (Not x) readers is = absurd is
-listed_constant i (And x y) readers is = absurd is
-listed_constant i (Or x y) readers is = absurd is
-listed_constant i (Timer x p d) readers is = absurd is
-listed_constant i (Seal x y) readers is = absurd is
+listed_none i (Const v) readers is =
+    record { read = λ a list has. absurd has; heard = λ c list hears. absurd hears }
+listed_none i (Seen p) readers is =
+    record { read = λ a list has. absurd has; heard = λ c list hears. absurd hears }
+listed_none i (Loss k) readers is =
+    record { read = λ a list has. absurd has; heard = λ c list hears. absurd hears }
+listed_none i (Raw k) readers is = absurd is
+listed_none i (Not x) readers is = absurd is
+listed_none i (And x y) readers is = absurd is
+listed_none i (Or x y) readers is = absurd is
+listed_none i (Timer x p d) readers is = absurd is
+listed_none i (Seal x y) readers is = absurd is
 
-pub listed_given : (i : ℕ) (gate : Gate) (readers : Readers) → IsGiven gate
-    → StandsIn i readers.given.items → IsListed i gate readers
-listed_given i (Const v) readers is stands = absurd is
-listed_given i (Seen p) readers is stands = record {
-  read = λ a list has at. absurd has;
-  given = λ _. stands;
-  raw = λ is. absurd is;
-}
-listed_given i (Loss k) readers is stands = record {
-  read = λ a list has at. absurd has;
-  given = λ _. stands;
-  raw = λ is. absurd is;
-}
-listed_given i (Raw k) readers is stands = absurd is
-listed_given i (Not x) readers is stands = absurd is
-listed_given i (And x y) readers is stands = absurd is
-listed_given i (Or x y) readers is stands = absurd is
-listed_given i (Timer x p d) readers is stands = absurd is
-listed_given i (Seal x y) readers is stands = absurd is
+-- the gate stands in the list of channel c
+abbrev pub IsHeardIn : ℕ → ℕ → Readers → Type 0
+IsHeardIn i c readers =
+    (list : _) → slice_get readers.of_channels.items c ≡ Some list → StandsIn i list.items
 
-pub listed_raw : (i : ℕ) (gate : Gate) (readers : Readers) → IsRaw gate
-    → StandsIn i readers.raws.items → IsListed i gate readers
-listed_raw i (Const v) readers is stands = absurd is
-listed_raw i (Seen p) readers is stands = absurd is
-listed_raw i (Loss k) readers is stands = absurd is
-listed_raw i (Raw k) readers is stands = record {
-  read = λ a list has at. absurd has;
-  given = λ is. absurd is;
-  raw = λ _. stands;
+pub listed_raw : (i c : ℕ) (gate : Gate) (readers : Readers) → Hears c gate
+    → IsHeardIn i c readers → IsListed i gate readers
+listed_raw i c (Const v) readers is heard = absurd is
+listed_raw i c (Seen p) readers is heard = absurd is
+listed_raw i c (Loss k) readers is heard = absurd is
+listed_raw i c (Raw k) readers is heard = record {
+  read = λ a list has. absurd has;
+  heard = λ x list hears.
+      subst (λ (y : ℕ). IsHeardIn i y readers) (sym is ∙ hears) heard list;
 }
-listed_raw i (Not x) readers is stands = absurd is
-listed_raw i (And x y) readers is stands = absurd is
-listed_raw i (Or x y) readers is stands = absurd is
-listed_raw i (Timer x p d) readers is stands = absurd is
-listed_raw i (Seal x y) readers is stands = absurd is
+listed_raw i c (Not x) readers is heard = absurd is
+listed_raw i c (And x y) readers is heard = absurd is
+listed_raw i c (Or x y) readers is heard = absurd is
+listed_raw i c (Timer x p d) readers is heard = absurd is
+listed_raw i c (Seal x y) readers is heard = absurd is
 
 -- the gate stands in the list of gate a
 abbrev pub IsListedIn : ℕ → ℕ → Readers → Type 0
@@ -165,15 +149,13 @@ listed_one i a (Loss k) readers is listed = absurd is
 listed_one i a (Raw k) readers is listed = absurd is
 listed_one i a (Not x) readers is listed = record {
   read = λ b list has at. listed_at i a b readers (sym is ∙ has) listed list at;
-  given = λ is. absurd is;
-  raw = λ is. absurd is;
+  heard = λ k list hears. absurd hears;
 }
 listed_one i a (And x y) readers is listed = absurd is
 listed_one i a (Or x y) readers is listed = absurd is
 listed_one i a (Timer x p d) readers is listed = record {
   read = λ b list has at. listed_at i a b readers (sym is ∙ has) listed list at;
-  given = λ is. absurd is;
-  raw = λ is. absurd is;
+  heard = λ k list hears. absurd hears;
 }
 listed_one i a (Seal x y) readers is listed = absurd is
 
@@ -188,46 +170,44 @@ listed_two i a b (And x y) readers is first second = record {
   read = λ c list has at.
       ⊎_elim (λ e. listed_at i a c readers (sym is.0 ∙ e) first list at)
       (λ e. listed_at i b c readers (sym is.1 ∙ e) second list at) has;
-  given = λ is. absurd is;
-  raw = λ is. absurd is;
+  heard = λ k list hears. absurd hears;
 }
 listed_two i a b (Or x y) readers is first second = record {
   read = λ c list has at.
       ⊎_elim (λ e. listed_at i a c readers (sym is.0 ∙ e) first list at)
       (λ e. listed_at i b c readers (sym is.1 ∙ e) second list at) has;
-  given = λ is. absurd is;
-  raw = λ is. absurd is;
+  heard = λ k list hears. absurd hears;
 }
 listed_two i a b (Timer x p d) readers is first second = absurd is
 listed_two i a b (Seal x y) readers is first second = record {
   read = λ c list has at.
       ⊎_elim (λ e. listed_at i a c readers (sym is.0 ∙ e) first list at)
       (λ e. listed_at i b c readers (sym is.1 ∙ e) second list at) has;
-  given = λ is. absurd is;
-  raw = λ is. absurd is;
+  heard = λ k list hears. absurd hears;
 }
 
-pub grow_on : (first middle last : Readers)
-    → length middle.of_gates.items ≡ length first.of_gates.items
-    → length last.of_gates.items ≡ length middle.of_gates.items
-    → ListsGrow first middle → ListsGrow middle last → ListsGrow first last
-grow_on first middle last one two grow more = record {
+pub grow_on : (first middle last : Readers) → ListsGrow first middle → ListsGrow middle last
+    → ListsGrow first last
+grow_on first middle last grow more = record {
+  gates_are = more.gates_are ∙ grow.gates_are;
+  channels_are = more.channels_are ∙ grow.channels_are;
   read = λ i a list at before.
       more.read i a list at (λ list' at'. grow.read i a list' at' before);
-  given = λ i stands. more.given i (grow.given i stands);
-  raw = λ i stands. more.raw i (grow.raw i stands);
+  heard = λ i c list at before.
+      more.heard i c list at (λ list' at'. grow.heard i c list' at' before);
 }
 
 -- one gate more that is listed
-pub listed_more : (gates : List Gate) (i : ℕ) (gate : Gate) (old new : Readers)
-    → slice_get gates i ≡ Some gate → ListGates (length gates) new
-    → length new.of_gates.items ≡ length old.of_gates.items → ListsGrow old new
-    → IsListed i gate new → ReadersSoFar gates i old → ReadersSoFar gates (i + 1) new
-listed_more gates i gate old new ga lists same grow listed before = record {
+pub listed_more : (gates : List Gate) (channels i : ℕ) (gate : Gate) (old new : Readers)
+    → slice_get gates i ≡ Some gate → ListGates (length gates) new → ListsGrow old new
+    → IsListed i gate new → ReadersSoFar gates channels i old
+    → ReadersSoFar gates channels (i + 1) new
+listed_more gates channels i gate old new ga lists grow listed before = record {
   of_gates = lists;
+  channels_are = grow.channels_are ∙ before.channels_are;
   listed = λ k g lt at.
       ⊎_elim
-      (λ low. listed_on k g old new same grow (before.listed k g low at))
+      (λ low. listed_on k g old new grow (before.listed k g low at))
       (λ ge. let here : i ≡ k = omega arith in
       subst (λ (j : ℕ). IsListed j g new) here
       (subst (λ (h : Gate). IsListed i h new) (one_value gates i k gate g here ga at) listed))

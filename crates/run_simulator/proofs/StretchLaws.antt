@@ -1,5 +1,5 @@
 -- A stretch of ticks of a line's net.
-use Rattle.std.proofs.Common.{◌≡◌, ℕ, ◌+◌, ◌-◌, ◌<◌, ◌≤◌, List, length, Some, sym, ◌∙◌, ap, arith}
+use Rattle.std.proofs.Common.{◌≡◌, ℕ, ◌+◌, ◌<◌, ◌≤◌, List, length, Some, sym, ◌∙◌, arith}
 use Rattle.std.proofs.Common.{subst}
 use Rattle.std.specs.Prelude.{slice_get}
 use Rattle.model_history.specs.Rails.{Rails, Ends}
@@ -10,19 +10,16 @@ use Rattle.model_logic.specs.Choice.{Box, LeastFromOne, pair_world_of}
 use Rattle.model_logic.specs.PairMean.{PairWorld, PairSignals}
 use Rattle.model_logic.specs.{Logic.key_tree, Solution.the_keys, Laws.LineLaws}
 use Rattle.net_gates.specs.declared.gate.Gate.{Gate}
+use Rattle.net_gates.specs.declared.gate.Gate.TheVariants as gate
 use Rattle.net_gates.specs.NetOf.{NetOf, IsNetOf, AreGatesOf, key_of, id_at}
 use Rattle.net_gates.specs.{declared.gate.GateId.GateId, NetLaws.GatesStandForTheirTrees}
+use Rattle.net_gates.specs.Named.{GateNames}
 use Rattle.model_timing.specs.declared.step.Step.{Step}
-use Rattle.run_simulator.specs.declared.inputs.Delay.{Delay}
-use Rattle.run_simulator.specs.Quiet.{Keeps, ArrivalKeeps, TimerKeeps, AreGatePairs}
+use Rattle.run_simulator.specs.{Quiet.Keeps, Quiet.AreGatePairs, Lasts.Lasts, Readers.Hears}
 use Rattle.run_simulator.specs.{GatePairs.GateSignals, GatePairs.line_pairs, LaneBox.lane_box}
-use Rattle.run_simulator.specs.{LaneBox.lane_world, Inputs.AreDelays, Inputs.DelaysHold}
-use Rattle.run_simulator.specs.{Ticks.ValuesAgree, Shown.ShownSpans, Shown.AreShown}
-use Rattle.run_simulator.proofs.{GatePairLaws.gate_pairs-kind, GivenLaws.delay_keeps}
-use Rattle.run_simulator.proofs.{InputLaws.script_fewer, QuietLaws.gates_keep, RunLaws.key_pair}
-
-pub keeps_one : {A : Type 0} (u : ℕ → A) (t : ℕ) → Keeps u t 1
-keeps_one u t r low high = let e : r ≡ t = omega arith in ap u e
+use Rattle.run_simulator.specs.{LaneBox.lane_world, Tracks.line_lane, Ticks.ValuesAgree}
+use Rattle.run_simulator.proofs.{GatePairLaws.gate_pairs-kind, LagLaws.lasts_quiet}
+use Rattle.run_simulator.proofs.{QuietLaws.quiet_gates_keep, RunLaws.key_pair}
 
 -- what a column has of some gates is what they have through the stretch
 pub held_values : {V : Type 0} (rails : V → ℕ → Rails) (lane : ℕ) (u : GateSignals) (t n len : ℕ)
@@ -32,6 +29,20 @@ pub held_values : {V : Type 0} (rails : V → ℕ → Rails) (lane : ℕ) (u : G
     → (r : ℕ) → t ≤ r → r < t + n → u (id_at ids k) r ≡ rails x lane
 held_values rails lane u t n len column ids are agree keeps k x lt at r low high =
     keeps (id_at ids k) (are k lt) r low high ∙ sym (agree (id_at ids k) x at)
+
+-- the channel that a gate hears is one of the line's
+pub hears_channel : (line : Line) (c : ℕ) (g : Gate) → GateNames line g → Hears c g
+    → c < channel_count line
+hears_channel line c (gate.Const v) names hears = absurd hears
+hears_channel line c (gate.Seen p) names hears = absurd hears
+hears_channel line c (gate.Loss d) names hears = absurd hears
+hears_channel line c (gate.Raw d) names hears =
+    subst (λ (k : ℕ). k < channel_count line) hears names
+hears_channel line c (gate.Not x) names hears = absurd hears
+hears_channel line c (gate.And x y) names hears = absurd hears
+hears_channel line c (gate.Or x y) names hears = absurd hears
+hears_channel line c (gate.Timer x p d) names hears = absurd hears
+hears_channel line c (gate.Seal x y) names hears = absurd hears
 
 module _ {S : Type 0} (laws : LineLaws) (trees : GatesStandForTheirTrees)
     (stretch : ElementsInAStretch) (ends : S → ℕ → Ends) (line : Line) (script : Script)
@@ -70,25 +81,24 @@ module _ {S : Type 0} (laws : LineLaws) (trees : GatesStandForTheirTrees)
       (subst (λ (n : ℕ). k < n) of_line.terminals kn) lt)
 
   -- every gate keeps its value through the stretch
-  pub stretch_keeps : (shown : ShownSpans) (delays : List (Delay S)) (t until n : ℕ)
-      → AreDelays line delays → AreShown script.spans.items shown t until
-      → DelaysHold ends spans steps delays t until
-      → 1 ≤ n → t + n ≤ until → t + n ≤ line.horizon
-      → ((c : ℕ) → c < length delays
-      → ArrivalKeeps (keys (world.from c)) (world.delay c t) t n)
-      → ((i : ℕ) (g : Gate) → slice_get net.gates i ≡ Some g → TimerKeeps world pairs t n g)
+  pub stretch_keeps : (t n : ℕ) → t + n ≤ line.horizon
+      → ((i : ℕ) (g : Gate) → slice_get net.gates i ≡ Some g
+      → Lasts (line_lane ends line script spans steps net lane) t t n g)
       → (i : ℕ) → i < length net.gates → Keeps (pairs i) t n
-  unfolding pair_world_of lane_box
-  stretch_keeps shown delays t until n are given held some over fits arrivals timers i inside =
-      let keeps = script_fewer script.spans.items t n (until - t) (omega arith) given.keeps in
-      gates_keep stretch line world keys pairs t n net.gates of_line.laws.gates of_line.named
+  stretch_keeps t n fits lasts =
+      quiet_gates_keep stretch line world keys pairs t n net.gates of_line.laws.gates of_line.named
       are_pairs
-      (record {
-        seen = keeps.seen;
-        lost = keeps.lost;
-        delays = λ c lt. delay_keeps ends line spans steps lane delays t until are held n some over
-            c lt;
-        arrivals = λ c lt. arrivals c (subst (λ (m : ℕ). c < m) (sym are.count) lt);
-        timers = timers;
-      })
-      fits i inside
+      (λ i g at. lasts_quiet (line_lane ends line script spans steps net lane) t n g (lasts i g at))
+      fits
+
+  -- so does every key that is heard
+  pub heard_keeps : (t n : ℕ) → t + n ≤ line.horizon
+      → ((i : ℕ) → i < length net.gates → Keeps (pairs i) t n)
+      → (i : ℕ) (g : Gate) (c : ℕ) → slice_get net.gates i ≡ Some g → Hears c g
+      → Keeps (keys (world.from c)) t n
+  heard_keeps t n fits keeps i g c at hears r low high =
+      let inside : c < channel_count line =
+      hears_channel line c g (of_line.named.each i g (omega arith) at) hears in
+      are_pairs.keys_are c r inside (omega (arith, high, fits))
+      ∙ keeps (are_pairs.key_gate c) (are_pairs.there c inside) r low high
+      ∙ sym (are_pairs.keys_are c t inside (omega (arith, low, high, fits)))

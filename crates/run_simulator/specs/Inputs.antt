@@ -7,7 +7,7 @@ use Rattle.model_line.specs.{declared.line.Line.Line, declared.script.Place.Plac
 use Rattle.model_line.specs.{declared.script.SeenSpan.SeenSpan, Channels.from_of}
 use Rattle.model_logic.specs.PairMean.{PairWorld}
 use Rattle.model_timing.specs.declared.step.Step.{Step}
-use Rattle.run_simulator.specs.{declared.inputs.Delay.Delay, LaneBox.ends_at}
+use Rattle.run_simulator.specs.{declared.delays.Delay.Delay, LaneBox.ends_at}
 
 -- a delay for each channel of the line, with who sends and with its parameter
 pub record AreDelays {S : Type 0} (line : Line) (delays : List (Delay S)) : Type 0 where
@@ -23,11 +23,34 @@ abbrev pub DelayHolds : {S : Type 0} → (S → ℕ → Ends) → List S → Lis
 DelayHolds ends spans steps delay t until =
     (lane r : ℕ) → t ≤ r → r < until → ends delay.span lane ≡ ends_at ends lane spans steps delay.param r
 
+-- a delay's number of ticks before which nothing arrives: at least 1, and no more than a delay of any
+-- lane, where each is at least 1
+pub record IsSoonest {S : Type 0} (lanes : ℕ) (ends : S → ℕ → Ends) (delay : Delay S) : Type 0 where
+  pub some : 1 ≤ delay.soonest
+  pub limited : delay.soonest ≤ 4000
+  pub before : (lane : ℕ) → lane < lanes → 1 ≤ (ends delay.span lane).least
+      → delay.soonest ≤ (ends delay.span lane).least
+
+-- so it is of each delay
+abbrev pub AreSoonest : {S : Type 0} → ℕ → (S → ℕ → Ends) → List (Delay S) → Type 0
+AreSoonest lanes ends delays =
+    (c : ℕ) (d : Delay _) → slice_get delays c ≡ Some d → IsSoonest lanes ends d
+
+-- from tick t on the delay has its parameter's span until it may be another one
+pub record DelayStands {S : Type 0} (lanes : ℕ) (ends : S → ℕ → Ends) (spans : List S)
+    (steps : List (Step S)) (t : ℕ) (delay : Delay S) : Type 0 where
+  pub holds : DelayHolds ends spans steps delay t delay.until
+  pub soonest : t < delay.until → IsSoonest lanes ends delay
+
 -- so it is of each channel's delay
-abbrev pub DelaysHold : {S : Type 0} → (S → ℕ → Ends) → List S → List (Step S)
-    → List (Delay S) → ℕ → ℕ → Type 0
-DelaysHold ends spans steps delays t until =
-    (c : ℕ) (d : Delay _) → slice_get delays c ≡ Some d → DelayHolds ends spans steps d t until
+abbrev pub DelaysStand : {S : Type 0} → ℕ → (S → ℕ → Ends) → List S → List (Step S) → ℕ
+    → List (Delay S) → Type 0
+DelaysStand lanes ends spans steps t delays =
+    (c : ℕ) (d : Delay _) → slice_get delays c ≡ Some d → DelayStands lanes ends spans steps t d
+
+-- none of the delays is over at tick t
+abbrev pub AreSet : {S : Type 0} → ℕ → List (Delay S) → Type 0
+AreSet t delays = (c : ℕ) (d : Delay _) → slice_get delays c ≡ Some d → t < d.until
 
 -- in a lane, at tick t, the delays are those of the world
 pub record AreDelaysOf {S : Type 0} (ends : S → ℕ → Ends) (lane : ℕ) (delays : List (Delay S))
@@ -35,6 +58,13 @@ pub record AreDelaysOf {S : Type 0} (ends : S → ℕ → Ends) (lane : ℕ) (de
   pub from : (c : ℕ) (d : Delay S) → slice_get delays c ≡ Some d → d.from ≡ w.from c
   pub delay : (c : ℕ) (d : Delay S) → slice_get delays c ≡ Some d
       → ends d.span lane ≡ w.delay c t
+
+-- from tick t on they are, each until it may be another one
+pub record AreDelaysFrom {S : Type 0} (ends : S → ℕ → Ends) (lane : ℕ) (delays : List (Delay S))
+    (w : PairWorld) (t : ℕ) : Type 0 where
+  pub from : (c : ℕ) (d : Delay S) → slice_get delays c ≡ Some d → d.from ≡ w.from c
+  pub delay : (c : ℕ) (d : Delay S) → slice_get delays c ≡ Some d
+      → (r : ℕ) → t ≤ r → r < d.until → ends d.span lane ≡ w.delay c r
 
 -- and so is what the present spans show and lose
 pub record IsWorldAt {S : Type 0} (ends : S → ℕ → Ends) (lane : ℕ) (present : List SeenSpan)

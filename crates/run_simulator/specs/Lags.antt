@@ -1,17 +1,19 @@
 -- What a run that evaluates only the gates behind a change holds before and after a tick.
-use Rattle.std.specs.Prelude.{◌≡◌, ◌<◌, ◌≤◌, ◌-◌, ℕ, suc, Bool, false, List, Some, slice_get}
+use Rattle.std.specs.Prelude.{◌≡◌, ◌<◌, ◌≤◌, ◌-◌, ℕ, suc, List, Some, Vec, length, slice_get}
+use Rattle.std.specs.declared.alloc.Global.{Global}
 use Rattle.model_history.specs.{Rails.Rails, Rails.Ends, Recorded.first_ticks}
-use Rattle.run_channel.specs.SentKeys.{SentKeys}
-use Rattle.model_line.specs.declared.script.Place.{Place}
-use Rattle.model_logic.specs.PairMean.{PairWorld, PairSignals}
-use Rattle.net_gates.specs.{declared.gate.Gate.Gate}
+use Rattle.model_line.specs.{declared.script.SeenSpan.SeenSpan, Parameters.channel_count}
+use Rattle.model_logic.specs.PairMean.{PairWorld}
+use Rattle.net_gates.specs.{declared.gate.Gate.Gate, Named.NamedFrom, NetOf.NetOf, NetOf.IsNet}
 use Rattle.net_gates.specs.declared.gate.Gate.TheVariants as gate
 use Rattle.run_simulator.specs.{declared.cell.Cell.Cell, declared.since.Since.Since}
+use Rattle.run_simulator.specs.{declared.gates.Gates.Gates, declared.moment.Moment.Moment}
+use Rattle.run_simulator.specs.{declared.readers.Readers.Readers, Readers.ReadersHold}
 use Rattle.run_simulator.specs.CellStands.{TimerStands, SealStands}
-use Rattle.run_simulator.specs.Ticks.{AreTold, KeysSent}
-use Rattle.run_simulator.specs.{GatePairs.GateSignals, Quiet.TimerKeeps}
-use Rattle.run_simulator.specs.{Inputs.IsWorldAt, declared.inputs.Delay.Delay}
-use Rattle.model_line.specs.declared.script.SeenSpan.{SeenSpan}
+use Rattle.run_simulator.specs.Ticks.{AreTold, HaveCells, KeysSent}
+use Rattle.run_simulator.specs.{GatePairs.GateSignals, Lanes.LanePairs, Lasts.Lasts}
+use Rattle.run_simulator.specs.{Inputs.AreDelaysFrom, Inputs.AreSet, Moments.CanHear}
+use Rattle.run_simulator.specs.{Marks.AreMarked, Shown.IsShown}
 
 -- a timer's cell stands for its input's first ticks; what it has not taken yet up to tick t, and
 -- the last tick that it has, are one value
@@ -65,91 +67,93 @@ IsNoTimer (gate.Seal a b) = Unit {0}
 abbrev pub IsSame : GateSignals → ℕ → ℕ → ℕ → Type 0
 IsSame u t n a = a < n → 1 ≤ t → u a t ≡ u a (t - 1)
 
--- nothing has changed that the gate rests on, beside its own timer: what is given has not turned,
--- and its arguments among the first n gates are the same. What arrives is always looked at.
-abbrev pub GateRests : GateSignals → ℕ → ℕ → Bool → Gate → Type 0
-GateRests u t n turned (gate.Const v) = Unit {0}
-GateRests u t n turned (gate.Seen p) = turned ≡ false
-GateRests u t n turned (gate.Loss c) = turned ≡ false
-GateRests u t n turned (gate.Raw c) = ⊥
-GateRests u t n turned (gate.Not a) = IsSame u t n a.0
-GateRests u t n turned (gate.And a b) = IsSame u t n a.0 × IsSame u t n b.0
-GateRests u t n turned (gate.Or a b) = IsSame u t n a.0 × IsSame u t n b.0
-GateRests u t n turned (gate.Timer a p d) = IsSame u t n a.0
-GateRests u t n turned (gate.Seal a b) = IsSame u t n a.0 × IsSame u t n b.0
-
--- unless what is given turned, it is at tick t as at the tick before
-pub record GivenRests (w : PairWorld) (t : ℕ) (turned : Bool) : Type 0 where
-  pub seen : (p : Place) → 1 ≤ t → turned ≡ false → w.seen p t ≡ w.seen p (t - 1)
-  pub lost : (c : ℕ) → 1 ≤ t → turned ≡ false → w.lost c t ≡ w.lost c (t - 1)
+-- of the gate's arguments, those among the first n gates have the pair of the tick before
+abbrev pub ArgsRest : GateSignals → ℕ → ℕ → Gate → Type 0
+ArgsRest u t n (gate.Const v) = Unit {0}
+ArgsRest u t n (gate.Seen p) = Unit {0}
+ArgsRest u t n (gate.Loss c) = Unit {0}
+ArgsRest u t n (gate.Raw c) = Unit {0}
+ArgsRest u t n (gate.Not a) = IsSame u t n a.0
+ArgsRest u t n (gate.And a b) = IsSame u t n a.0 × IsSame u t n b.0
+ArgsRest u t n (gate.Or a b) = IsSame u t n a.0 × IsSame u t n b.0
+ArgsRest u t n (gate.Timer a p d) = IsSame u t n a.0
+ArgsRest u t n (gate.Seal a b) = IsSame u t n a.0 × IsSame u t n b.0
 
 -- in a lane, before tick t: one gate, its cell, when it is due, and its last value
 pub record GateWaits {C V S : Type 0} (stands_for : C → S → S → ℕ → List Rails → Type 0)
-    (ends : S → ℕ → Ends) (rails : V → ℕ → Rails) (lane : ℕ) (w : PairWorld) (keys : PairSignals)
-    (u : GateSignals) (t i : ℕ) (gate : Gate) (cell : Cell C V S) (since : Since V) (due : ℕ)
-    (value : V) : Type 0 where
-  pub lags : Lags stands_for ends rails lane w u t gate cell since
-  pub last : 1 ≤ t → rails value lane ≡ u i (t - 1)
-  pub timer : TimerKeeps w u (t - 1) (due - (t - 1)) gate
-
--- in a lane, at tick t: what is given and sent, and that the pairs are told
-pub record IsGivenAt {S V : Type 0} (ends : S → ℕ → Ends) (rails : V → ℕ → Rails) (lane : ℕ)
-    (w : PairWorld) (keys : PairSignals) (u : GateSignals) (t : ℕ) (turned : Bool)
-    (present : List SeenSpan) (delays : List (Delay S)) (tracks : List (SentKeys V)) (gates : List Gate) : Type 0 where
-  pub world : IsWorldAt ends lane present delays w t
-  pub sent : KeysSent rails lane keys t tracks
-  pub told : (r : ℕ) → AreTold w keys u r gates
-  pub given : GivenRests w t turned
+    (ends : S → ℕ → Ends) (rails : V → ℕ → Rails) (lane : ℕ) (p : LanePairs) (t i : ℕ)
+    (gate : Gate) (cell : Cell C V S) (since : Since V) (due : ℕ) (value : V) : Type 0 where
+  pub lags : Lags stands_for ends rails lane p.world p.pairs t gate cell since
+  pub last : 1 ≤ t → rails value lane ≡ p.pairs i (t - 1)
+  pub lasts : Lasts p (t - 1) (t - 1) (due - (t - 1)) gate
 
 -- so it is of each gate
 abbrev pub AllWait : {C S V : Type 0} → (C → S → S → ℕ → List Rails → Type 0) → (S → ℕ → Ends)
-    → (V → ℕ → Rails) → ℕ → PairWorld → PairSignals → GateSignals → ℕ → List Gate → List (Cell C V S)
-    → List (Since V) → List ℕ → List V → Type 0
-AllWait stands_for ends rails lane w keys u t gates cells sinces dues column =
+    → (V → ℕ → Rails) → ℕ → LanePairs → ℕ → List Gate → Gates C V S S → Type 0
+AllWait stands_for ends rails lane p t gates kept =
     (i : ℕ) (g : Gate) (cell : Cell _ _ _) (since : Since _) (due : ℕ) (value : _)
-    → slice_get gates i ≡ Some g → slice_get cells i ≡ Some cell
-    → slice_get sinces i ≡ Some since → slice_get dues i ≡ Some due
-    → slice_get column i ≡ Some value
-    → GateWaits stands_for ends rails lane w keys u t i g cell since due value
-
--- before tick t, in a lane: the pairs are told at each tick, the keys were sent, what is given
--- rests unless it turned, and each gate waits
-pub record IsSteady {C S V : Type 0} (stands_for : C → S → S → ℕ → List Rails → Type 0)
-    (ends : S → ℕ → Ends) (rails : V → ℕ → Rails) (lane : ℕ) (w : PairWorld) (keys : PairSignals)
-    (u : GateSignals) (t : ℕ) (turned : Bool) (gates : List Gate) (tracks : List (SentKeys V))
-    (cells : List (Cell C V S)) (sinces : List (Since V)) (dues : List ℕ) (column : List V)
-    : Type 0 where
-  pub told : (r : ℕ) → AreTold w keys u r gates
-  pub sent : KeysSent rails lane keys t tracks
-  pub given : GivenRests w t turned
-  pub wait : AllWait stands_for ends rails lane w keys u t gates cells sinces dues column
+    → slice_get gates i ≡ Some g → slice_get kept.cells.items i ≡ Some cell
+    → slice_get kept.sinces.items i ≡ Some since → slice_get kept.dues.items i ≡ Some due
+    → slice_get kept.column.items i ≡ Some value
+    → GateWaits stands_for ends rails lane p t i g cell since due value
 
 -- each gate's cell may lag behind tick t
 abbrev pub AllLag : {C S V : Type 0} → (C → S → S → ℕ → List Rails → Type 0) → (S → ℕ → Ends)
-    → (V → ℕ → Rails) → ℕ → PairWorld → GateSignals → ℕ → List Gate → List (Cell C V S)
-    → List (Since V) → Type 0
-AllLag stands_for ends rails lane w u t gates cells sinces =
+    → (V → ℕ → Rails) → ℕ → LanePairs → ℕ → List Gate → Gates C V S S → Type 0
+AllLag stands_for ends rails lane p t gates kept =
     (i : ℕ) (g : Gate) (cell : Cell _ _ _) (since : Since _) → slice_get gates i ≡ Some g
-    → slice_get cells i ≡ Some cell → slice_get sinces i ≡ Some since
-    → Lags stands_for ends rails lane w u t g cell since
+    → slice_get kept.cells.items i ≡ Some cell → slice_get kept.sinces.items i ≡ Some since
+    → Lags stands_for ends rails lane p.world p.pairs t g cell since
+
+-- in a lane, at a tick: the lists show what the world does, the delays are its own, the keys were
+-- sent, and the pairs are told
+pub record IsGivenAt {S V : Type 0} (ends : S → ℕ → Ends) (rails : V → ℕ → Rails) (lane : ℕ)
+    (p : LanePairs) (gates : List Gate) (shown : List (Vec SeenSpan Global)) (moment : Moment V S S)
+    : Type 0 where
+  pub shows : (i : ℕ) (g : Gate) (list : Vec SeenSpan Global) → slice_get gates i ≡ Some g
+      → slice_get shown i ≡ Some list → IsShown list.items p.world g
+  pub delays : AreDelaysFrom ends lane moment.delays.now p.world moment.t
+  pub sent : KeysSent rails lane p.keys moment.t moment.sent.now
+  pub told : (r : ℕ) → AreTold p.world p.keys p.pairs r gates
 
 -- within tick t, in a lane: the first n gates took it, the others wait
 pub record IsTraced {C S V : Type 0} (stands_for : C → S → S → ℕ → List Rails → Type 0)
-    (ends : S → ℕ → Ends) (rails : V → ℕ → Rails) (lane : ℕ) (w : PairWorld) (keys : PairSignals)
-    (u : GateSignals) (t n : ℕ) (turned : Bool) (gates : List Gate) (cells : List (Cell C V S))
-    (sinces : List (Since V)) (dues : List ℕ) (column : List V) : Type 0 where
-  pub values : (i : ℕ) (x : V) → i < n → slice_get column i ≡ Some x → rails x lane ≡ u i t
+    (ends : S → ℕ → Ends) (rails : V → ℕ → Rails) (lane : ℕ) (p : LanePairs) (t n : ℕ)
+    (gates : List Gate) (kept : Gates C V S S) : Type 0 where
+  pub values : (i : ℕ) (x : V) → i < n → slice_get kept.column.items i ≡ Some x
+      → rails x lane ≡ p.pairs i t
   pub lags : (i : ℕ) (g : Gate) (cell : Cell C V S) (since : Since V) → i < n
-      → slice_get gates i ≡ Some g → slice_get cells i ≡ Some cell
-      → slice_get sinces i ≡ Some since → Lags stands_for ends rails lane w u (suc t) g cell since
+      → slice_get gates i ≡ Some g → slice_get kept.cells.items i ≡ Some cell
+      → slice_get kept.sinces.items i ≡ Some since
+      → Lags stands_for ends rails lane p.world p.pairs (suc t) g cell since
   pub rests : (i : ℕ) (g : Gate) (due : ℕ) → n ≤ i → slice_get gates i ≡ Some g
-      → slice_get dues i ≡ Some due → t < due → GateRests u t n turned g
+      → slice_get kept.dues.items i ≡ Some due → t < due → ArgsRest p.pairs t n g
   pub wait : (i : ℕ) (g : Gate) (cell : Cell C V S) (since : Since V) (due : ℕ) (value : V)
-      → n ≤ i → slice_get gates i ≡ Some g → slice_get cells i ≡ Some cell
-      → slice_get sinces i ≡ Some since → slice_get dues i ≡ Some due
-      → slice_get column i ≡ Some value
-      → GateWaits stands_for ends rails lane w keys u t i g cell since due value
+      → n ≤ i → slice_get gates i ≡ Some g → slice_get kept.cells.items i ≡ Some cell
+      → slice_get kept.sinces.items i ≡ Some since → slice_get kept.dues.items i ≡ Some due
+      → slice_get kept.column.items i ≡ Some value
+      → GateWaits stands_for ends rails lane p t i g cell since due value
 
--- at the first tick each gate is due
+-- at the first tick each gate from number n on is due
 abbrev pub AreFreshDues : ℕ → ℕ → List ℕ → Type 0
 AreFreshDues t n dues = t ≡ 0 → (i due : ℕ) → n ≤ i → slice_get dues i ≡ Some due → due ≡ 0
+
+-- within tick t, before gate n: there is one of each list for each gate, and each is marked or due
+-- later
+pub record AreAtGate {C V S : Type 0} (net : NetOf) (t n : ℕ) (kept : Gates C V S S) : Type 0 where
+  pub cells : HaveCells net.gates kept.cells.items
+  pub sinces : length kept.sinces.items ≡ length net.gates
+  pub dues : length kept.dues.items ≡ length net.gates
+  pub column : length kept.column.items ≡ length net.gates
+  pub marks : AreMarked kept.dues.items kept.marks
+  pub fresh : AreFreshDues t n kept.dues.items
+
+-- the net is the line's, its readers are listed, each gate has its spans, and the tick can be heard
+pub record CanTrace {V S : Type 0} (lanes : ℕ) (ends : S → ℕ → Ends) (net : NetOf)
+    (readers : Readers) (shown : List (Vec SeenSpan Global)) (moment : Moment V S S) : Type 0 where
+  pub laws : IsNet net
+  pub named : NamedFrom moment.line.now 0 net.gates
+  pub readers_hold : ReadersHold net.gates (channel_count moment.line.now) readers
+  pub shown_each : length shown ≡ length net.gates
+  pub hear : CanHear lanes ends moment
+  pub set : AreSet moment.t moment.delays.now

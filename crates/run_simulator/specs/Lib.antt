@@ -9,10 +9,14 @@ pub mod Played
 pub mod ListLaws
 pub mod LaneLaws
 pub mod Quiet
+pub mod Lanes
+pub mod Lasts
 pub mod Shown
 pub mod Inputs
+pub mod Moments
 pub mod Lags
 pub mod Readers
+pub mod Hears
 pub mod Marks
 pub mod Tracks
 pub mod PlayedTracks

@@ -1,5 +1,5 @@
--- Which gates have a mark, a bit for each, 64 to a word.
-use Rattle.std.specs.Prelude.{◌≡◌, ◌<◌, ◌≤◌, ◌⊎◌, ◌*◌, ◌/◌, ◌%◌, ℕ, List, Some, length, slice_get}
+-- Which gates have a mark, a bit for each, 64 to a word, and which are due at a tick.
+use Rattle.std.specs.Prelude.{◌≡◌, ◌≤◌, ◌⊎◌, ◌+◌, ◌*◌, ◌/◌, ◌%◌, ℕ, List, Some, length, slice_get}
 use Rattle.std.specs.Prelude.{slice_index}
 use Rattle.std.specs.Int.{bit_at}
 use Rattle.run_simulator.specs.declared.marks.Marks.{Marks}
@@ -12,25 +12,38 @@ IsMarked i words = bit_at (slice_index words (i / 64)) (i % 64) ≡ 1
 abbrev pub MarksStay : List ℕ → List ℕ → Type 0
 MarksStay old new = (i : ℕ) → IsMarked i old → IsMarked i new
 
--- gate i has a mark, or is not due before the tick
-abbrev pub IsWatched : List ℕ → ℕ → ℕ → ℕ → Type 0
-IsWatched words least i due = IsMarked i words ⊎ (least ≤ due)
+-- the gate is among those that are due at the tick, and the tick among those at which some are
+abbrev pub IsOnAgenda : Marks → ℕ → ℕ → Type 0
+IsOnAgenda marks i due =
+    IsMarked (64 * (due * length marks.words.items) + i) marks.agenda.items
+    × IsMarked due marks.ticks.items
 
--- gate i has a mark, or is not due before tick 4000, or is listed as a timer that runs
-abbrev pub IsListedTimer : Marks → ℕ → ℕ → Type 0
-IsListedTimer marks i due =
-    IsMarked i marks.words.items ⊎ ((4000 ≤ due) ⊎ IsMarked i marks.timers.items)
+-- so it is, or the tick is not before the horizon
+abbrev pub IsPlanned : Marks → ℕ → ℕ → Type 0
+IsPlanned marks i due = (marks.horizon ≤ due) ⊎ IsOnAgenda marks i due
 
--- there are two bits for each gate, each that may become due is listed, and each of the first n is
--- watched
-pub record AreWatched (dues : List ℕ) (n : ℕ) (marks : Marks) : Type 0 where
+-- there are bits for each tick before the horizon, and for each gate at it
+pub record HasRoom (marks : Marks) : Type 0 where
+  pub agenda : marks.horizon * length marks.words.items ≤ length marks.agenda.items
+  pub ticks : marks.horizon ≤ 64 * length marks.ticks.items
+  pub few : length marks.words.items ≤ 9
+  pub short : marks.horizon ≤ 4000
+
+-- nothing that was planned is dropped, and all else is as it was
+pub record PlansGrow (old new : Marks) : Type 0 where
+  pub words : new.words.items ≡ old.words.items
+  pub agenda_room : length new.agenda.items ≡ length old.agenda.items
+  pub agenda : MarksStay old.agenda.items new.agenda.items
+  pub ticks_room : length new.ticks.items ≡ length old.ticks.items
+  pub ticks : MarksStay old.ticks.items new.ticks.items
+  pub horizon : new.horizon ≡ old.horizon
+  pub least : new.least ≡ old.least
+
+-- each gate has a mark, or is planned for the tick at which it is due, which is not before the least
+pub record AreMarked (dues : List ℕ) (marks : Marks) : Type 0 where
+  pub room : HasRoom marks
   pub wide : length dues ≤ 64 * length marks.words.items
-  pub room : length dues ≤ 64 * length marks.timers.items
-  pub small : marks.least ≤ 4000
-  pub listed : (i due : ℕ) → slice_get dues i ≡ Some due → IsListedTimer marks i due
-  pub watched : (i due : ℕ) → i < n → slice_get dues i ≡ Some due
-      → IsWatched marks.words.items marks.least i due
-
--- each gate is watched
-abbrev pub AreMarked : List ℕ → Marks → Type 0
-AreMarked dues marks = AreWatched dues (length dues) marks
+  pub planned : (i due : ℕ) → slice_get dues i ≡ Some due
+      → IsMarked i marks.words.items ⊎ IsPlanned marks i due
+  pub watched : (i due : ℕ) → slice_get dues i ≡ Some due
+      → IsMarked i marks.words.items ⊎ (marks.least ≤ due)

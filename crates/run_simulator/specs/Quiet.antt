@@ -1,8 +1,6 @@
 -- Stretches of ticks through which nothing changes.
 use Rattle.std.specs.Prelude.{◌≡◌, ◌<◌, ◌≤◌, ◌+◌, ◌-◌, ℕ, suc, List, Some, length, slice_get}
 use Rattle.model_history.specs.Rails.{Rails, Ends, rails_delayed, rails_timed}
-use Rattle.model_history.specs.Recorded.{first_ticks}
-use Rattle.run_signal.specs.Lanes.{in_lane}
 use Rattle.model_line.specs.Seen.{shows, loses, is_seen, is_lost}
 use Rattle.model_line.specs.{declared.script.Place.Place, declared.script.SeenSpan.SeenSpan}
 use Rattle.model_logic.specs.PairMean.{PairWorld, PairSignals}
@@ -48,12 +46,6 @@ abbrev pub EndKeeps : (ℕ → Rails) → ℕ → ℕ → ℕ → Type 0
 EndKeeps key c t n =
     (j : ℕ) → j < n → Keeps key t j
     → (t < c → t + j < c) × (c ≤ t → key (t + j - c) ≡ key (t - c))
-
--- so it is of a key with these values up to tick t, in each lane
-abbrev pub EndStays : {V : Type 0} → ℕ → (V → ℕ → Rails) → List V → ℕ → ℕ → ℕ → Type 0
-EndStays lanes rails values t c n =
-    (lane : ℕ) (u : ℕ → Rails) → lane < lanes → in_lane rails lane values ≡ first_ticks u (suc t)
-    → EndKeeps u c t n
 
 -- a timer's answer stays the same for as long as its input does
 abbrev pub TimerKeeps : PairWorld → GateSignals → ℕ → ℕ → Gate → Type 0

@@ -1,5 +1,5 @@
--- Which gates are to be looked at where one changes, where what is given turns, and at each tick.
-use Rattle.std.specs.Prelude.{◌≡◌, ◌<◌, ◌⊎◌, ℕ, List, Some, length, slice_get}
+-- Which gates are to be looked at where one changes, and where a key does.
+use Rattle.std.specs.Prelude.{◌≡◌, ◌<◌, ◌≤◌, ◌⊎◌, ℕ, List, Some, length, slice_get}
 use Rattle.model_history.specs.Rails.{Rails}
 use Rattle.net_gates.specs.declared.gate.Gate.{Gate}
 use Rattle.net_gates.specs.declared.gate.Gate.TheVariants.{Const, Seen, Loss, Raw, Not, And, Or}
@@ -18,17 +18,17 @@ HasArgument a (Or x y) = (x.0 ≡ a) ⊎ (y.0 ≡ a)
 HasArgument a (Timer x p d) = x.0 ≡ a
 HasArgument a (Seal x y) = (x.0 ≡ a) ⊎ (y.0 ≡ a)
 
--- the gate is a constant
-abbrev pub IsConstant : Gate → Type 0
-IsConstant (Const v) = Unit {0}
-IsConstant (Seen p) = ⊥
-IsConstant (Loss c) = ⊥
-IsConstant (Raw c) = ⊥
-IsConstant (Not x) = ⊥
-IsConstant (And x y) = ⊥
-IsConstant (Or x y) = ⊥
-IsConstant (Timer x p d) = ⊥
-IsConstant (Seal x y) = ⊥
+-- the gate reads no gate and hears no channel: it is constant, shown or lost
+abbrev pub ReadsNone : Gate → Type 0
+ReadsNone (Const v) = Unit {0}
+ReadsNone (Seen p) = Unit {0}
+ReadsNone (Loss c) = Unit {0}
+ReadsNone (Raw c) = ⊥
+ReadsNone (Not x) = ⊥
+ReadsNone (And x y) = ⊥
+ReadsNone (Or x y) = ⊥
+ReadsNone (Timer x p d) = ⊥
+ReadsNone (Seal x y) = ⊥
 
 -- the gate has gate a as its one argument
 abbrev pub ReadsOne : ℕ → Gate → Type 0
@@ -54,29 +54,17 @@ ReadsTwo a b (Or x y) = (x.0 ≡ a) × (y.0 ≡ b)
 ReadsTwo a b (Timer x p d) = ⊥
 ReadsTwo a b (Seal x y) = (x.0 ≡ a) × (y.0 ≡ b)
 
--- the gate is what a script shows or loses
-abbrev pub IsGiven : Gate → Type 0
-IsGiven (Const v) = ⊥
-IsGiven (Seen p) = Unit {0}
-IsGiven (Loss c) = Unit {0}
-IsGiven (Raw c) = ⊥
-IsGiven (Not x) = ⊥
-IsGiven (And x y) = ⊥
-IsGiven (Or x y) = ⊥
-IsGiven (Timer x p d) = ⊥
-IsGiven (Seal x y) = ⊥
-
--- the gate is what arrives over a channel
-abbrev pub IsRaw : Gate → Type 0
-IsRaw (Const v) = ⊥
-IsRaw (Seen p) = ⊥
-IsRaw (Loss c) = ⊥
-IsRaw (Raw c) = Unit {0}
-IsRaw (Not x) = ⊥
-IsRaw (And x y) = ⊥
-IsRaw (Or x y) = ⊥
-IsRaw (Timer x p d) = ⊥
-IsRaw (Seal x y) = ⊥
+-- the gate is what arrives over channel c
+abbrev pub Hears : ℕ → Gate → Type 0
+Hears c (Const v) = ⊥
+Hears c (Seen p) = ⊥
+Hears c (Loss d) = ⊥
+Hears c (Raw d) = d ≡ c
+Hears c (Not x) = ⊥
+Hears c (And x y) = ⊥
+Hears c (Or x y) = ⊥
+Hears c (Timer x p d) = ⊥
+Hears c (Seal x y) = ⊥
 
 -- the number stands in the list
 abbrev pub StandsIn : ℕ → List ℕ → Type 0
@@ -91,34 +79,39 @@ pub record ListGates (n : ℕ) (readers : Readers) : Type 0 where
   pub count : length readers.of_gates.items ≡ n
   pub inside : (a : ℕ) (list : _) → slice_get readers.of_gates.items a ≡ Some list
       → AreBelow n list.items
-  pub given_inside : AreBelow n readers.given.items
-  pub raws_inside : AreBelow n readers.raws.items
+  pub heard_inside : (c : ℕ) (list : _) → slice_get readers.of_channels.items c ≡ Some list
+      → AreBelow n list.items
 
--- each gate stands in the lists of those that it reads
+-- each gate stands in the lists of those that it reads, and of the channel that it hears
 pub record IsListed (i : ℕ) (gate : Gate) (readers : Readers) : Type 0 where
   pub read : (a : ℕ) (list : _) → HasArgument a gate
       → slice_get readers.of_gates.items a ≡ Some list → StandsIn i list.items
-  pub given : IsGiven gate → StandsIn i readers.given.items
-  pub raw : IsRaw gate → StandsIn i readers.raws.items
+  pub heard : (c : ℕ) (list : _) → Hears c gate
+      → slice_get readers.of_channels.items c ≡ Some list → StandsIn i list.items
 
--- so it is of each of the gates
-pub record ReadersHold (gates : List Gate) (readers : Readers) : Type 0 where
+-- so it is of the first n of the gates
+pub record ReadersSoFar (gates : List Gate) (channels n : ℕ) (readers : Readers) : Type 0 where
   pub of_gates : ListGates (length gates) readers
-  pub listed : (i : ℕ) (gate : Gate) → slice_get gates i ≡ Some gate → IsListed i gate readers
-
--- so it is of the first n of them
-pub record ReadersSoFar (gates : List Gate) (n : ℕ) (readers : Readers) : Type 0 where
-  pub of_gates : ListGates (length gates) readers
+  pub channels_are : length readers.of_channels.items ≡ channels
   pub listed : (i : ℕ) (gate : Gate) → i < n → slice_get gates i ≡ Some gate
       → IsListed i gate readers
 
--- whatever stood in the lists still does
+-- so it is of each of the gates, and there is a list for each channel
+pub record ReadersHold (gates : List Gate) (channels : ℕ) (readers : Readers) : Type 0 where
+  pub of_gates : ListGates (length gates) readers
+  pub channels_are : length readers.of_channels.items ≡ channels
+  pub listed : (i : ℕ) (gate : Gate) → slice_get gates i ≡ Some gate → IsListed i gate readers
+
+-- whatever stood in the lists still does, and there are as many
 pub record ListsGrow (old new : Readers) : Type 0 where
+  pub gates_are : length new.of_gates.items ≡ length old.of_gates.items
+  pub channels_are : length new.of_channels.items ≡ length old.of_channels.items
   pub read : (i a : ℕ) (list : _) → slice_get new.of_gates.items a ≡ Some list
       → ((list' : _) → slice_get old.of_gates.items a ≡ Some list' → StandsIn i list'.items)
       → StandsIn i list.items
-  pub given : (i : ℕ) → StandsIn i old.given.items → StandsIn i new.given.items
-  pub raw : (i : ℕ) → StandsIn i old.raws.items → StandsIn i new.raws.items
+  pub heard : (i c : ℕ) (list : _) → slice_get new.of_channels.items c ≡ Some list
+      → ((list' : _) → slice_get old.of_channels.items c ≡ Some list' → StandsIn i list'.items)
+      → StandsIn i list.items
 
 -- each due tick is the old one or 0
 abbrev pub AreLowered : List ℕ → List ℕ → Type 0
@@ -140,3 +133,9 @@ abbrev pub IsTold : {V : Type 0} → ℕ → (V → ℕ → Rails) → ℕ → R
 IsTold lanes rails gate readers value last dues =
     AreReadersAwake gate readers dues
     ⊎ ((lane : ℕ) → lane < lanes → rails value lane ≡ rails last lane)
+
+-- no due tick is later than the old one
+abbrev pub AreHastened : List ℕ → List ℕ → Type 0
+AreHastened old new =
+    (i due : ℕ) → slice_get new i ≡ Some due
+    → (before : ℕ) → slice_get old i ≡ Some before → due ≤ before

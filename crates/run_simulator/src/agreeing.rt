@@ -18,7 +18,7 @@ ghost use Rattle.run_simulator.specs.{LaneBox.lane_box, PlayedTracks.played, Tic
 use crate::kept::Kept;
 use crate::start::fresh_kept;
 use crate::stretch::take_stretch;
-use crate::tracks::{Tracks, look_again, next_pause};
+use crate::tracks::Tracks;
 use model_history::laws::history_laws;
 use model_line::{Line, Memory, Script};
 use model_logic::laws::line_laws;
@@ -74,7 +74,7 @@ fn take_agreeing<V: Timed + Carried>(
     recorded: &Tracks<Level>,
 ) -> V
     requires can { CanRun V.LANES V.ends line.now net.now spans.now steps.now }
-    requires kept { CanTake V.ends line.now net.now spans.now steps.now 0 kept.old }
+    requires kept { CanTake V.LANES V.ends line.now net.now spans.now steps.now 0 kept.old }
     requires keys { AreSent (terminal_count line.now) line.now.horizon line.now.horizon
         recorded.now.keys.items }
     requires trips { AreSent (terminal_count line.now) line.now.horizon line.now.horizon
@@ -89,14 +89,11 @@ fn take_agreeing<V: Timed + Carried>(
     history_laws();
     let mut lanes = V::known(true);
     let mut t = 0;
-    let mut next_look = 0;
-    let mut pause = 0;
     while t < line.horizon {
         if !some_left(lanes) {
             return lanes;
         }
-        let ahead = next_look <= t;
-        let stays = take_stretch::<V>(net, line, spans, steps, kept, t, ahead);
+        let stays = take_stretch::<V>(net, line, spans, steps, kept, t);
         let end = t + stays;
         let keys = agreeing_tracks(line, kept.keys.as_slice(), recorded.keys.as_slice(), t, end);
         let trips = agreeing_tracks(
@@ -108,8 +105,6 @@ fn take_agreeing<V: Timed + Carried>(
         );
         lanes = lanes.and(keys).and(trips);
         t = end;
-        pause = next_pause(pause, ahead, stays);
-        next_look = look_again(next_look, ahead, pause, t);
     }
     lanes
 }

@@ -2,44 +2,38 @@
 
 ghost use Rattle.std.specs.Prelude.{◌≡◌, ℕ, suc, ◌<◌, ◌≤◌, length, Some, slice_get};
 ghost use Rattle.model_history.specs.Rails.{rails_delayed};
-ghost use Rattle.model_line.specs.Parameters.{terminal_count, channel_count};
+ghost use Rattle.model_line.specs.Parameters.{channel_count};
 ghost use Rattle.model_logic.specs.PairMean.{PairWorld, PairSignals};
 ghost use Rattle.net_gates.specs.{Laws.HasArguments, Named.GateNames};
 ghost use Rattle.run_simulator.specs.GatePairs.{GateSignals, kind_pair};
-ghost use Rattle.run_simulator.specs.Inputs.{AreDelaysOf, CanReceive, IsWorldAt};
-ghost use Rattle.run_simulator.specs.Ticks.{ValuesAgree, KeysSent, AreSent};
+ghost use Rattle.run_simulator.specs.{Inputs.AreDelaysOf, Moments.CanHear, Shown.IsShownAt};
+ghost use Rattle.run_simulator.specs.Ticks.{ValuesAgree, KeysSent};
 ghost use Rattle.run_simulator.specs.{CellStands.HasCell, CellStands.CellStands, Quiet.TimerKeeps};
 
 use crate::cell::{Cell, seal_answer, timer_answer, timer_stays};
-use crate::inputs::Delay;
 use crate::lesser::lesser;
+use crate::moment::Moment;
 use model_history::laws::history_laws;
 use model_history::recorded_laws::recorded_ticks_suffice;
-use model_line::{Line, SeenSpan, lost_in, shown_in};
+use model_line::{SeenSpan, lost_in, shown_in};
 use net_gates::{Gate, GateId};
-use run_channel::{Carried, Track};
-use run_signal::Signal;
+use run_channel::Carried;
 use run_timers::{SealCell, Timed, elements_stay_in_a_stretch};
 
 // What is received of a channel at the next tick, lost or not.
-fn raw_answer<V: Carried>(
-    line: &Line,
-    delays: &[Delay<V::Span>],
-    sent: &[Track<V>],
-    channel: u32,
-    t: u32,
-) -> V
-    requires exists { channel < channel_count line.now }
-    requires tick { t < line.now.horizon }
-    requires delays { CanReceive V.LANES V.ends line.now delays.now }
-    requires sent { AreSent (terminal_count line.now) line.now.horizon t sent.now }
+fn raw_answer<V: Carried>(moment: &Moment<'_, V, V::Span>, channel: u32) -> V
+    requires exists { channel < channel_count moment.now.line.now }
+    requires moment { CanHear V.LANES V.ends moment.now }
     ensures { (lane : ℕ) (w : PairWorld) (keys : PairSignals) → lane < V.LANES →
-        AreDelaysOf V.ends lane delays.now w t → KeysSent V.rails lane keys t sent.now →
-        V.rails result lane ≡ rails_delayed (keys (w.from channel)) (w.delay channel t) t }
+        AreDelaysOf V.ends lane moment.now.delays.now w moment.now.t →
+        KeysSent V.rails lane keys moment.now.t moment.now.sent.now →
+        V.rails result lane
+        ≡ rails_delayed (keys (w.from channel)) (w.delay channel moment.now.t) moment.now.t }
 {
     history_laws();
-    let delay = &delays[channel as usize];
-    sent[delay.from as usize].received(&delay.span)
+    let delay = &moment.delays[channel as usize];
+    let key = &moment.sent[delay.from as usize];
+    key.received(&delay.span)
 }
 
 // The value of an argument at this tick.
@@ -69,9 +63,6 @@ pub fn gate_stays<V: Timed>(
         CellStands V.stands_for V.ends V.rails lane (w lane) (u lane) t gate.now cell.now) →
         (lane : ℕ) → lane < V.LANES → TimerKeeps (w lane) (u lane) t result gate.now }
 {
-    if limit == 1 {
-        return 1;
-    }
     elements_stay_in_a_stretch();
     match *gate {
         Gate::Timer(x, _, _) => lesser(limit, timer_stays::<V>(cell, argument(earlier, x))),
@@ -79,40 +70,38 @@ pub fn gate_stays<V: Timed>(
     }
 }
 
-/// What a gate answers at the next tick, over the values of the earlier gates at that tick.
+/// What a gate answers at the next tick, over the values of the earlier gates at that tick. The
+/// spans show and lose at it what the gate is of.
 pub fn answer<V: Timed + Carried>(
     gate: &Gate,
     cell: &mut Cell<V::Cells, SealCell<V>, V::Span>,
     earlier: &[V],
-    line: &Line,
-    present: &[SeenSpan],
-    delays: &[Delay<V::Span>],
-    sent: &[Track<V>],
-    t: u32,
+    spans: &[SeenSpan],
+    moment: &Moment<'_, V, V::Span>,
 ) -> V
-    requires names { GateNames line.now gate.now }
+    requires names { GateNames moment.now.line.now gate.now }
     requires arguments { HasArguments (length earlier.now) gate.now }
     requires cell { HasCell gate.now cell.old }
-    requires tick { t < line.now.horizon }
-    requires delays { CanReceive V.LANES V.ends line.now delays.now }
-    requires sent { AreSent (terminal_count line.now) line.now.horizon t sent.now }
+    requires moment { CanHear V.LANES V.ends moment.now }
     ensures shape { HasCell gate.now cell.new }
     ensures stands { (lane : ℕ) (w : PairWorld) (u : GateSignals) → lane < V.LANES →
-        ValuesAgree V.rails lane u t earlier.now →
-        CellStands V.stands_for V.ends V.rails lane w u t gate.now cell.old →
-        CellStands V.stands_for V.ends V.rails lane w u (suc t) gate.now cell.new }
+        ValuesAgree V.rails lane u moment.now.t earlier.now →
+        CellStands V.stands_for V.ends V.rails lane w u moment.now.t gate.now cell.old →
+        CellStands V.stands_for V.ends V.rails lane w u (suc moment.now.t) gate.now cell.new }
     ensures answers { (lane : ℕ) (w : PairWorld) (keys : PairSignals) (u : GateSignals) →
-        lane < V.LANES → IsWorldAt V.ends lane present.now delays.now w t →
-        KeysSent V.rails lane keys t sent.now → ValuesAgree V.rails lane u t earlier.now →
-        CellStands V.stands_for V.ends V.rails lane w u t gate.now cell.old →
-        V.rails result lane ≡ kind_pair w keys u gate.now t }
+        lane < V.LANES → IsShownAt spans.now w moment.now.t gate.now →
+        AreDelaysOf V.ends lane moment.now.delays.now w moment.now.t →
+        KeysSent V.rails lane keys moment.now.t moment.now.sent.now →
+        ValuesAgree V.rails lane u moment.now.t earlier.now →
+        CellStands V.stands_for V.ends V.rails lane w u moment.now.t gate.now cell.old →
+        V.rails result lane ≡ kind_pair w keys u gate.now moment.now.t }
 {
     recorded_ticks_suffice();
     match *gate {
         Gate::Const(value) => V::known(value),
-        Gate::Seen(place) => V::known(shown_in(present, place, t)),
-        Gate::Loss(channel) => V::known(lost_in(present, channel, t)),
-        Gate::Raw(channel) => raw_answer::<V>(line, delays, sent, channel, t),
+        Gate::Seen(place) => V::known(shown_in(spans, place, moment.t)),
+        Gate::Loss(channel) => V::known(lost_in(spans, channel, moment.t)),
+        Gate::Raw(channel) => raw_answer::<V>(moment, channel),
         Gate::Not(x) => argument(earlier, x).not(),
         Gate::And(x, y) => argument(earlier, x).and(argument(earlier, y)),
         Gate::Or(x, y) => argument(earlier, x).or(argument(earlier, y)),

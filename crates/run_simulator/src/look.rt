@@ -1,29 +1,30 @@
 //! One gate at a tick: it is evaluated, or left as it is.
 
-ghost use Rattle.std.specs.Prelude.{◌≡◌, ℕ, suc, ◌<◌, ◌≤◌, ◌-◌, length, IsTrue};
-ghost use Rattle.model_line.specs.Parameters.{terminal_count};
-ghost use Rattle.model_logic.specs.PairMean.{PairWorld, PairSignals};
+ghost use Rattle.std.specs.Prelude.{◌≡◌, ℕ, suc, ◌<◌, ◌≤◌, ◌-◌, length, IsTrue, IsFalse};
 ghost use Rattle.net_gates.specs.{Laws.HasArguments, Named.GateNames};
 ghost use Rattle.run_simulator.specs.GatePairs.{GateSignals, kind_pair};
-ghost use Rattle.run_simulator.specs.Inputs.{CanReceive, IsWorldAt};
-ghost use Rattle.run_simulator.specs.Ticks.{ValuesAgree, KeysSent, AreSent};
-ghost use Rattle.run_simulator.specs.{CellStands.HasCell, Quiet.TimerKeeps};
-ghost use Rattle.run_simulator.specs.Lags.{Lags, IsInputAt, IsNoTimer};
+ghost use Rattle.run_simulator.specs.{Inputs.AreDelaysFrom, Inputs.AreSet, Moments.CanHear};
+ghost use Rattle.run_simulator.specs.{Shown.IsShown, Ticks.ValuesAgree, Ticks.KeysSent};
+ghost use Rattle.run_simulator.specs.CellStands.{HasCell};
+ghost use Rattle.run_simulator.specs.{Lags.Lags, Lags.IsInputAt, Lags.IsNoTimer, Lasts.Lasts};
+ghost use Rattle.run_simulator.specs.Lanes.{LanePairs};
 
 use crate::answer::{answer, gate_stays};
+use crate::arrivals::arrives_until;
 use crate::cell::Cell;
-use crate::inputs::Delay;
+use crate::moment::Moment;
+use crate::shown::all_stay;
 use crate::since::{Since, catch_up};
-use model_history::recorded_laws::recorded_ticks_suffice;
-use model_line::{Line, SeenSpan};
+use model_line::SeenSpan;
 use net_gates::Gate;
-use run_channel::{Carried, Track};
+use run_channel::Carried;
 use run_signal::Signal;
-use run_timers::{SealCell, Timed, elements_stay_in_a_stretch};
+use run_timers::{SealCell, Timed};
 
 // Whether a gate is no timer.
 fn is_no_timer(gate: &Gate) -> bool
-    ensures { IsTrue result → IsNoTimer gate.now }
+    ensures none { IsTrue result → IsNoTimer gate.now }
+    ensures one { IsFalse result → IsNoTimer gate.now → ⊥ }
 {
     match *gate {
         Gate::Const(_) => true,
@@ -50,48 +51,79 @@ fn input_of<V: Signal>(gate: &Gate, earlier: &[V]) -> V
     }
 }
 
-/// Evaluates a gate, whose cell may lag behind the tick.
+// Until when a gate that is no timer stays as it is, while its arguments do and so does the key that
+// it hears.
+fn rests_until<V: Carried>(gate: &Gate, spans: &[SeenSpan], moment: &Moment<'_, V, V::Span>) -> u32
+    requires names { GateNames moment.now.line.now gate.now }
+    requires moment { CanHear V.LANES V.ends moment.now }
+    requires set { AreSet moment.now.t moment.now.delays.now }
+    ensures later { moment.now.t < result }
+    ensures limited { result ≤ 8000 }
+    ensures lasts { (lane : ℕ) (p : LanePairs) → lane < V.LANES → IsNoTimer gate.now →
+        IsShown spans.now p.world gate.now →
+        AreDelaysFrom V.ends lane moment.now.delays.now p.world moment.now.t →
+        KeysSent V.rails lane p.keys moment.now.t moment.now.sent.now →
+        Lasts p (moment.now.t - 1) moment.now.t (result - moment.now.t) gate.now }
+{
+    match *gate {
+        Gate::Seen(_) => moment.t + all_stay(spans, moment.t),
+        Gate::Loss(_) => moment.t + all_stay(spans, moment.t),
+        Gate::Raw(channel) => arrives_until::<V>(moment, channel),
+        Gate::Const(_) => 4000,
+        Gate::Not(_) => 4000,
+        Gate::And(_, _) => 4000,
+        Gate::Or(_, _) => 4000,
+        Gate::Timer(_, _, _) => 4000,
+        Gate::Seal(_, _) => 4000,
+    }
+}
+
+/// Evaluates a gate, whose cell may lag behind the tick, and sets the tick at which it is due.
 pub fn look<V: Timed + Carried>(
     gate: &Gate,
     cell: &mut Cell<V::Cells, SealCell<V>, V::Span>,
     since: &mut Since<V>,
     due: &mut u32,
     earlier: &[V],
-    line: &Line,
-    present: &[SeenSpan],
-    delays: &[Delay<V::Span>],
-    sent: &[Track<V>],
-    t: u32,
+    spans: &[SeenSpan],
+    moment: &Moment<'_, V, V::Span>,
 ) -> V
-    requires names { GateNames line.now gate.now }
+    requires names { GateNames moment.now.line.now gate.now }
     requires arguments { HasArguments (length earlier.now) gate.now }
     requires cell { HasCell gate.now cell.old }
-    requires early { t < 4000 }
-    requires tick { t < line.now.horizon }
-    requires delays { CanReceive V.LANES V.ends line.now delays.now }
-    requires sent { AreSent (terminal_count line.now) line.now.horizon t sent.now }
+    requires moment { CanHear V.LANES V.ends moment.now }
+    requires set { AreSet moment.now.t moment.now.delays.now }
     ensures shape { HasCell gate.now cell.new }
-    ensures later { t < due.new }
-    ensures stands { (lane : ℕ) (w : PairWorld) (u : GateSignals) → lane < V.LANES →
-        ValuesAgree V.rails lane u t earlier.now →
-        Lags V.stands_for V.ends V.rails lane w u t gate.now cell.old since.old →
-        Lags V.stands_for V.ends V.rails lane w u (suc t) gate.now cell.new since.new }
-    ensures answers { (lane : ℕ) (w : PairWorld) (keys : PairSignals) (u : GateSignals) →
-        lane < V.LANES → IsWorldAt V.ends lane present.now delays.now w t →
-        KeysSent V.rails lane keys t sent.now → ValuesAgree V.rails lane u t earlier.now →
-        Lags V.stands_for V.ends V.rails lane w u t gate.now cell.old since.old →
-        V.rails result lane ≡ kind_pair w keys u gate.now t }
-    ensures timers { (w : ℕ → PairWorld) (u : ℕ → GateSignals) →
-        ((lane : ℕ) → lane < V.LANES → ValuesAgree V.rails lane (u lane) t earlier.now) →
-        ((lane : ℕ) → lane < V.LANES →
-        Lags V.stands_for V.ends V.rails lane (w lane) (u lane) t gate.now cell.old since.old) →
+    ensures later { moment.now.t < due.new }
+    ensures stands { (lane : ℕ) (p : LanePairs) → lane < V.LANES →
+        ValuesAgree V.rails lane p.pairs moment.now.t earlier.now →
+        Lags V.stands_for V.ends V.rails lane p.world p.pairs moment.now.t gate.now cell.old
+        since.old →
+        Lags V.stands_for V.ends V.rails lane p.world p.pairs (suc moment.now.t) gate.now cell.new
+        since.new }
+    ensures answers { (lane : ℕ) (p : LanePairs) → lane < V.LANES →
+        IsShown spans.now p.world gate.now →
+        AreDelaysFrom V.ends lane moment.now.delays.now p.world moment.now.t →
+        KeysSent V.rails lane p.keys moment.now.t moment.now.sent.now →
+        ValuesAgree V.rails lane p.pairs moment.now.t earlier.now →
+        Lags V.stands_for V.ends V.rails lane p.world p.pairs moment.now.t gate.now cell.old
+        since.old →
+        V.rails result lane ≡ kind_pair p.world p.keys p.pairs gate.now moment.now.t }
+    ensures lasts { (p : ℕ → LanePairs) → ((lane : ℕ) → lane < V.LANES →
+        IsShown spans.now (p lane).world gate.now
+        × AreDelaysFrom V.ends lane moment.now.delays.now (p lane).world moment.now.t
+        × KeysSent V.rails lane (p lane).keys moment.now.t moment.now.sent.now
+        × ValuesAgree V.rails lane (p lane).pairs moment.now.t earlier.now
+        × Lags V.stands_for V.ends V.rails lane (p lane).world (p lane).pairs moment.now.t gate.now
+        cell.old since.old) →
         (lane : ℕ) → lane < V.LANES →
-        TimerKeeps (w lane) (u lane) t (due.new - t) gate.now }
+        Lasts (p lane) (moment.now.t - 1) moment.now.t (due.new - moment.now.t) gate.now }
 {
     if is_no_timer(gate) {
-        *due = 4000;
-        return answer::<V>(gate, cell, earlier, line, present, delays, sent, t);
+        *due = rests_until::<V>(gate, spans, moment);
+        return answer::<V>(gate, cell, earlier, spans, moment);
     }
+    let t = moment.t;
     catch_up::<V>(gate, cell, *since, t);
     let stays = gate_stays::<V>(gate, cell, earlier, 4000 - t);
     *due = t + stays;
@@ -99,5 +131,5 @@ pub fn look<V: Timed + Carried>(
         fed: t + 1,
         input: input_of(gate, earlier),
     };
-    answer::<V>(gate, cell, earlier, line, present, delays, sent, t)
+    answer::<V>(gate, cell, earlier, spans, moment)
 }

@@ -126,8 +126,8 @@ fn next_begins(ordered: &[SeenSpan], begun: usize, t: u32) -> u32
     }
 }
 
-// For how many ticks from this one on, up to 4,000, each of them is there or is not.
-fn all_stay(spans: &[SeenSpan], t: u32) -> u32
+/// For how many ticks from this one on, up to 4,000, each of them is there or is not.
+pub fn all_stay(spans: &[SeenSpan], t: u32) -> u32
     ensures some { 1 ≤ result }
     ensures limited { result ≤ 4000 }
     ensures keep { AllKeep t result spans.now }

@@ -1,16 +1,20 @@
 //! What a run from change to change keeps before the first tick.
 
-ghost use Rattle.std.specs.Prelude.{◌≡◌, length, List, IfOk};
+ghost use Rattle.std.specs.Prelude.{◌≡◌, ℕ, ◌<◌, length, List, IfOk};
 ghost use Rattle.model_line.specs.Parameters.{param_count};
+ghost use Rattle.model_logic.specs.declared.time.Time.{Time};
 ghost use Rattle.net_gates.specs.NetOf.{IsNetOf};
 ghost use Rattle.model_timing.specs.declared.step.Step.{Step};
-ghost use Rattle.run_simulator.specs.Tracks.{CanTake, IsKeptOf};
+ghost use Rattle.run_simulator.specs.{Tracks.CanTake, Tracks.IsKeptOf, Lanes.LanePairs};
+ghost use Rattle.run_simulator.specs.{Lags.AreAtGate, Lags.AllWait, LaneBox.time_ends};
 
+use crate::delays::fresh_delays;
 use crate::fresh::{fresh_cells, fresh_list, fresh_tracks};
-use crate::inputs::fresh_inputs;
+use crate::gates::Gates;
 use crate::kept::Kept;
 use crate::marks::fresh_marks;
 use crate::readers::fresh_readers;
+use crate::shown_by::fresh_shown;
 use crate::since::Since;
 use model_line::{Line, Memory, Script};
 use model_logic::laws::line_laws;
@@ -30,12 +34,43 @@ pub fn fresh_kept<V: Timed + Carried>(
     requires of_line { IsNetOf line.now net.now }
     requires spans { length spans.now ≡ param_count line.now }
     ensures can { IfOk result (λ kept. (steps : List (Step V.Span)) →
-        CanTake V.ends line.now net.now spans.now steps 0 kept) }
+        CanTake V.LANES V.ends line.now net.now spans.now steps 0 kept) }
     ensures stands { IfOk result (λ kept. (steps : List (Step V.Span)) →
         IsKeptOf V.LANES V.stands_for V.ends V.rails line.now script.now spans.now steps net.now
         0 kept) }
 {
     line_laws();
+    let gates = fresh_gates::<V>(alloc, net, line, spans)?;
+    let readers = fresh_readers(alloc, net, line)?;
+    let shown = fresh_shown(alloc, net, script)?;
+    let delays = fresh_delays::<V>(alloc, line, spans)?;
+    let keys = fresh_tracks::<V>(alloc, net.key_gates().len() as u32, line.horizon)?;
+    let trips = fresh_tracks::<V>(alloc, net.trip_gates().len() as u32, line.horizon)?;
+    Ok(Kept {
+        gates,
+        readers,
+        shown,
+        delays,
+        keys,
+        trips,
+    })
+}
+
+// What is kept of the gates before tick 0.
+fn fresh_gates<V: Timed + Carried>(
+    alloc: Global,
+    net: &Net,
+    line: &Line,
+    spans: &[V::Span],
+) -> Result<Gates<V::Cells, V, V::Span>, Memory>
+    requires of_line { IsNetOf line.now net.now }
+    requires spans { length spans.now ≡ param_count line.now }
+    ensures gates { IfOk result (λ gates. AreAtGate net.now 0 0 gates) }
+    ensures horizon { IfOk result (λ gates. gates.marks.horizon ≡ line.now.horizon) }
+    ensures wait { IfOk result (λ gates. (lane : ℕ) (p : LanePairs) → lane < V.LANES →
+        ((x : Time) → p.world.time x ≡ time_ends V.ends lane spans.now x) →
+        AllWait V.stands_for V.ends V.rails lane p 0 net.now.gates gates) }
+{
     let cells = fresh_cells::<V>(alloc, net, line, spans)?;
     let since = Since {
         fed: 0,
@@ -44,21 +79,13 @@ pub fn fresh_kept<V: Timed + Carried>(
     let count = net.len();
     let sinces = fresh_list(alloc, count, since)?;
     let dues = fresh_list(alloc, count, 0u32)?;
-    let marks = fresh_marks(alloc, count)?;
+    let marks = fresh_marks(alloc, count, line.horizon)?;
     let column = fresh_list(alloc, count, V::known(false))?;
-    let readers = fresh_readers(alloc, net)?;
-    let inputs = fresh_inputs::<V>(alloc, line, script, spans)?;
-    let keys = fresh_tracks::<V>(alloc, net.key_gates().len() as u32, line.horizon)?;
-    let trips = fresh_tracks::<V>(alloc, net.trip_gates().len() as u32, line.horizon)?;
-    Ok(Kept {
+    Ok(Gates {
         cells,
         sinces,
         dues,
         marks,
         column,
-        readers,
-        inputs,
-        keys,
-        trips,
     })
 }

@@ -6,6 +6,7 @@ ghost use Rattle.run_simulator.specs.{GatePairs.line_pairs, Ticks.ValuesTold, Ru
 
 use crate::fresh::{fresh_cells, fresh_tracks};
 use crate::inputs::{fresh_inputs, turn};
+use crate::moment::Moment;
 use crate::send::send_all;
 use crate::walk::walk;
 use crate::within::extend_within;
@@ -46,16 +47,18 @@ pub fn run_ticks<V: Timed + Carried>(
     let mut values: Vec<V> = Vec::with_capacity(alloc, line.horizon as usize * width)?;
     for t in 0..line.horizon {
         turn::<V>(line, spans, steps, &mut inputs, t);
+        let moment = Moment {
+            line,
+            delays: inputs.delays.as_slice(),
+            sent: sent.as_slice(),
+            t,
+        };
         walk::<V>(
             net,
             &mut cells,
             &mut column,
-            line,
             inputs.shown.present(),
-            &inputs.delays,
-            sent.as_slice(),
-            t,
-            1,
+            &moment,
         );
         send_all(
             net.key_gates(),

@@ -81,8 +81,8 @@ fn take_all<V: Timed + Carried>(
     kept: &mut Kept<V::Cells, V, V::Span>,
 )
     requires can { CanRun V.LANES V.ends line.now net.now spans.now steps.now }
-    requires kept { CanTake V.ends line.now net.now spans.now steps.now 0 kept.old }
-    ensures kept { CanTake V.ends line.now net.now spans.now steps.now line.now.horizon kept.new }
+    requires kept { CanTake V.LANES V.ends line.now net.now spans.now steps.now 0 kept.old }
+    ensures kept { CanTake V.LANES V.ends line.now net.now spans.now steps.now line.now.horizon kept.new }
     ensures stands { (script : Script) →
         IsKeptOf V.LANES V.stands_for V.ends V.rails line.now script spans.now steps.now net.now
         0 kept.old →
@@ -90,36 +90,7 @@ fn take_all<V: Timed + Carried>(
         line.now.horizon kept.new }
 {
     let mut t = 0;
-    let mut next_look = 0;
-    let mut pause = 0;
     while t < line.horizon {
-        let ahead = next_look <= t;
-        let stays = take_stretch::<V>(net, line, spans, steps, kept, t, ahead);
-        t += stays;
-        pause = next_pause(pause, ahead, stays);
-        next_look = look_again(next_look, ahead, pause, t);
+        t += take_stretch::<V>(net, line, spans, steps, kept, t);
     }
-}
-
-/// Each look ahead in turn that finds nothing makes the pause before the next one longer.
-pub fn next_pause(pause: u32, ahead: bool, stays: u32) -> u32
-    requires { pause ≤ 15 }
-    ensures { result ≤ 15 }
-{
-    if !ahead {
-        return pause;
-    }
-    if stays == 1 {
-        (2 * pause + 1).min(15)
-    } else {
-        0
-    }
-}
-
-/// From which tick on it is worth looking ahead.
-pub fn look_again(next_look: u32, ahead: bool, pause: u32, t: u32) -> u32
-    requires early { t ≤ 4000 }
-    requires short { pause ≤ 15 }
-{
-    if ahead { t + pause / 2 } else { next_look }
 }

@@ -1,4 +1,3 @@
-use Rattle.std.proofs.Common.{◌≡◌, ℕ}
 use Rattle.run_simulator.specs.{LaneBox.lane_box}
 use Rattle.run_simulator.proofs.AgreeLaws.{only_told}
 use Rattle.run_simulator.proofs.agreeing.agreeing_lanes.Goals as goal

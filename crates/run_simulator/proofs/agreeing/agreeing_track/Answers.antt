@@ -1,5 +1,5 @@
-use Rattle.std.proofs.Common.{ℕ, ◌≤◌, arith}
-use Rattle.model_history.specs.Rails.{Rails, rails_at}
+use Rattle.std.proofs.Common.{◌≤◌, arith}
+use Rattle.model_history.specs.Rails.{rails_at}
 use Rattle.run_signal.specs.{Lanes.in_lane, Levels.level_rails}
 use Rattle.run_simulator.specs.LaneLaws.{lane_at}
 use Rattle.run_simulator.proofs.AgreeLaws.{none_yet, ticks_more}

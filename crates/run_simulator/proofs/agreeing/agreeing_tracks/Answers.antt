@@ -1,11 +1,10 @@
-use Rattle.std.proofs.Common.{◌≡◌, ◌<◌, ◌≤◌, ℕ, Some, length, ap, subst, arith, sym, ◌∙◌}
+use Rattle.std.proofs.Common.{◌≡◌, Some, length, ap, arith, sym}
 use Rattle.std.proofs.lemmas.Option.{slice_get_read}
-use Rattle.std.specs.Prelude.{◌↔◌, IsTrue, slice_get}
+use Rattle.std.specs.Prelude.{slice_get}
 use Rattle.model_line.specs.Parameters.{terminal_count}
-use Rattle.model_history.specs.Rails.{Rails, rails_at}
+use Rattle.model_history.specs.Rails.{rails_at}
 use Rattle.run_signal.specs.{Lanes.in_lane, Levels.level_rails}
-use Rattle.run_channel.specs.SentKeys.{SentKeys}
-use Rattle.run_simulator.specs.Agreeing.{own_pairs, AllAgreeIn}
+use Rattle.run_simulator.specs.Agreeing.{own_pairs}
 use Rattle.run_simulator.specs.Tracks.{pair_of}
 use Rattle.run_simulator.proofs.AgreeLaws.{no_track, tracks_more}
 use Rattle.run_simulator.proofs.agreeing.agreeing_tracks.Goals as goal

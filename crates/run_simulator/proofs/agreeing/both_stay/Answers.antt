@@ -1,4 +1,4 @@
-use Rattle.std.proofs.Common.{◌≡◌, ℕ, ap, arith}
+use Rattle.std.proofs.Common.{arith}
 use Rattle.model_history.specs.Rails.{rails_at}
 use Rattle.run_signal.specs.{Lanes.in_lane, Levels.level_rails}
 use Rattle.run_simulator.proofs.AgreeLaws.{stays_once, stays_less}

@@ -1,14 +1,12 @@
 use Rattle.std.proofs.Common.{◌≡◌, ◌+◌, ◌<◌, ◌≤◌, ℕ, List, length, arith, subst, sym, ◌∙◌}
-use Rattle.std.specs.Prelude.{◌↔◌, IsTrue, slice_get}
-use Rattle.model_history.specs.Rails.{Rails}
+use Rattle.std.specs.Prelude.{◌↔◌, IsTrue}
 use Rattle.run_signal.specs.declared.level.Level.{Level}
 use Rattle.run_channel.specs.SentKeys.{SentKeys}
 use Rattle.model_line.specs.Parameters.{terminal_count}
-use Rattle.model_line.specs.declared.script.Script.{Script}
 use Rattle.model_logic.specs.PairMean.{PairWorld, PairSignals}
 use Rattle.model_logic.specs.{Logic.key_tree, Solution.the_keys}
 use Rattle.run_simulator.specs.Agreeing.{AllAgreeIn, LaneAgrees, own_pairs}
-use Rattle.run_simulator.specs.Tracks.{CanTake, IsKeptOf, trips_of}
+use Rattle.run_simulator.specs.Tracks.{trips_of}
 use Rattle.run_simulator.specs.{GatePairs.GateSignals, GatePairs.line_pairs, LaneBox.lane_box}
 use Rattle.run_simulator.specs.{LaneBox.lane_world, Ticks.AreSent}
 use Rattle.run_simulator.proofs.AgreeLaws.{before_none, before_more, none_left}
@@ -18,7 +16,6 @@ use Rattle.run_simulator.proofs.agreeing.take_agreeing.Goals as goal
 pub loop-t-init : goal.loop-t-init
 loop-t-init g c = record {
   fits = omega arith;
-  short = omega arith;
   kept = c.requires.kept;
   stands = λ script given. given;
   agree = λ script given lane inside.
@@ -70,7 +67,6 @@ loop-t-preserved g c =
     let of_line = c.requires.can.of_line in
     record {
       fits = c.take_stretch-stays.ensures.fits;
-      short = c.next_pause-pause.ensures;
       kept = c.take_stretch-stays.ensures.kept;
       stands = λ script given.
           c.take_stretch-stays.ensures.stands script (c.loop-t.invariant.stands script given);

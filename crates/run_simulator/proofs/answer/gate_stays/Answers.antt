@@ -1,12 +1,8 @@
 use Rattle.std.proofs.Common.{sym, subst}
 use Rattle.model_history.specs.Recorded.{first_ticks}
 use Rattle.run_simulator.specs.{CellStands.CellStands, Quiet.TimerKeeps}
-use Rattle.run_simulator.proofs.{QuietLaws.timer_fewer, QuietLaws.timer_one, TickLaws.timer_keeps}
+use Rattle.run_simulator.proofs.{QuietLaws.timer_fewer, TickLaws.timer_keeps}
 use Rattle.run_simulator.proofs.answer.gate_stays.Goals as goal
-
-pub returns-then-limit-eq1-clause-keeps : goal.returns-then-limit-eq1-clause-keeps
-returns-then-limit-eq1-clause-keeps g c = λ w u t agree stands lane inside.
-    timer_one (w lane) (u lane) t c.args.gate.now
 
 pub returns-in-Timer-clause-keeps : goal.returns-in-Timer-clause-keeps
 returns-in-Timer-clause-keeps g c = λ w u t agree stands lane inside.

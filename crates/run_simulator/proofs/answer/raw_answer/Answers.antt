@@ -1,5 +1,5 @@
-use Rattle.std.proofs.Common.{◌≡◌, ℕ, Some, refl, sym, ◌∙◌, ap, length}
-use Rattle.std.proofs.lemmas.Option.{slice_get_read}
+use Rattle.std.proofs.Common.{◌≡◌, ℕ, Some, refl, ◌∙◌, ap, length, get_or, arith}
+use Rattle.std.proofs.lemmas.Option.{slice_get-get_or}
 use Rattle.std.specs.Prelude.{slice_get}
 use Rattle.model_history.specs.Rails.{rails_delayed}
 use Rattle.run_signal.specs.Lanes.{in_lane}
@@ -8,23 +8,24 @@ use Rattle.run_simulator.proofs.answer.raw_answer.Goals as goal
 
 pub returns : goal.returns
 returns g c = λ lane w keys inside of have.
-    let delays = c.args.delays.now in
-    let t = c.args.t in
-    let d = c.index-delays-channel.result in
-    let s = c.index-sent-delay.result in
-    let at : slice_get delays c.args.channel ≡ Some d =
-    slice_get_read delays _ c.args.channel d (sym c.requires.delays.count) c.requires.exists
-    c.index-delays-channel.is in
-    let there = c.requires.delays.from c.args.channel d at in
-    let f : slice_get c.args.sent.now d.from ≡ Some s =
-    slice_get_read c.args.sent.now _ d.from s (sym c.requires.sent.count) there
-    c.index-sent-delay.is in
+    let moment = c.args.moment.now in
+    let t = moment.t in
+    let can = c.requires.moment in
+    let d = get_or moment.delays.now c.args.channel c.index-moment-channel.result in
+    let s = get_or moment.sent.now d.from c.index-moment-delay.result in
+    let at : slice_get moment.delays.now c.args.channel ≡ Some d =
+    slice_get-get_or moment.delays.now c.args.channel c.index-moment-channel.result
+    (omega (arith, can.delays.count, c.requires.exists)) in
+    let there = can.delays.from c.args.channel d at in
+    let f : slice_get moment.sent.now d.from ≡ Some s =
+    slice_get-get_or moment.sent.now d.from c.index-moment-delay.result
+    (omega (arith, there, can.sent.count)) in
     let delay = of.delay c.args.channel d at in
     c.received.ensures lane inside
     ∙ received-is c.history_laws.ensures (in_lane g.V.Signal.rails lane s.keys) (keys d.from) t
     (length s.keys) (g.V.Signal.ends d.span lane) (g.V.Signal.ends d.span lane)
-    (have d.from s f) (c.requires.sent.each d.from s f).0 refl
-    (c.requires.delays.later c.args.channel d at lane inside)
+    (have d.from s f) (can.sent.each d.from s f).0 refl
+    (can.delays.later c.args.channel d at lane inside)
     ∙ ap (λ (k : ℕ). rails_delayed (keys k) (g.V.Signal.ends d.span lane) t)
     (of.from c.args.channel d at)
     ∙ ap (λ e. rails_delayed (keys (w.from c.args.channel)) e t) delay

@@ -1,19 +1,15 @@
-use Rattle.std.proofs.Common.{◌≡◌, ℕ, ◌<◌, ◌≤◌, true, false, IsTrue, arith, ap, sym, ◌∙◌, subst}
+use Rattle.std.proofs.Common.{◌≡◌, ℕ, ◌-◌, ◌<◌, ◌≤◌, true, false, IsTrue, arith, ap, sym, ◌∙◌, subst}
 use Rattle.std.proofs.Common.{inl, inr, ⊎_elim}
 use Rattle.std.proofs.lemmas.Bool.{cases_lt}
 use Rattle.model_history.specs.Rails.{Ends, must_of}
 use Rattle.run_signal.specs.Bits.{bit_on}
-use Rattle.run_simulator.specs.Quiet.{ArrivalKeeps, EndKeeps, EndStays}
-use Rattle.run_simulator.proofs.DelayLaws.{arrivals_keep, arrival_fewer, arrival_one, end_fewer}
+use Rattle.run_simulator.specs.Lasts.{ArrivesAs, EndLasts, EndStays}
+use Rattle.run_simulator.proofs.DelayLaws.{arrives_as, arrives_fewer, end_fewer}
 use Rattle.run_simulator.proofs.arrivals.arrival_stays.Goals as goal
-
-pub returns-then-limit-eq1-clause-keeps : goal.returns-then-limit-eq1-clause-keeps
-returns-then-limit-eq1-clause-keeps g c = λ lane u inside is.
-    arrival_one u (g.V.Signal.ends c.args.delay.now lane) c.args.t
 
 pub next_span-init : goal.next_span-init
 next_span-init g c = record {
-  some = c.requires.limit;
+  some = omega arith;
   limited = omega arith;
   last = λ some. absurd (omega arith);
   few = λ some. absurd (omega arith);
@@ -34,7 +30,7 @@ next_span-preserved g c =
     let n = c.sooner-stays.result in
     let below_m : m ≤ c.next_span.stays = c.sooner-first.ensures.limited in
     let below_n : n ≤ m = c.sooner-stays.ensures.limited in
-    let limit : c.next_span.stays ≤ c.args.limit = c.next_span.invariant.limited in
+    let limit : c.next_span.stays ≤ 4000 = c.next_span.invariant.limited in
     let ends = g.V.Signal.ends c.args.delay.now in
     let lanes : c.LANES-lanes.result ≡ g.V.Signal.LANES = c.LANES-lanes.ensures in
     let inside : lane < g.V.Signal.LANES = subst (λ k. lane < k) lanes c.next_span-test.true in
@@ -58,14 +54,15 @@ next_span-preserved g c =
       passed = c.first-lane.ensures.off;
       keeps = λ k at low off u is.
           ⊎_elim
-          (λ before. arrival_fewer u (ends k) t n c.next_span.stays (omega arith)
+          (λ before. arrives_fewer u (ends k) (t - 1) t n c.next_span.stays (omega arith)
           (c.next_span.invariant.keeps k at low before u is))
-          (λ on. subst (λ (e : Ends). ArrivalKeeps u e t n)
+          (λ on. subst (λ (e : Ends). ArrivesAs u e (t - 1) t n)
           (sym (c.alike-alike.ensures.alike k at on))
-          (arrivals_keep c.history_laws.ensures u t n (ends lane)
-          (subst (λ d. EndKeeps u d t n) c.least-least.ensures.least
-          (end_fewer u a t n m below_n (first k u at is)))
-          (subst (λ d. EndKeeps u d t n) c.greatest-greatest.ensures.greatest
+          (arrives_as c.history_laws.ensures u (t - 1) t n (ends lane)
+          (c.least-least.ensures.in_order lane inside).ordered
+          (subst (λ d. EndLasts u (t - 1) d t n) c.least-least.ensures.least
+          (end_fewer u (t - 1) a t n m below_n (first k u at is)))
+          (subst (λ d. EndLasts u (t - 1) d t n) c.greatest-greatest.ensures.greatest
           (second k u at is))))
           ((c.without-left.ensures k low).0 off);
     }

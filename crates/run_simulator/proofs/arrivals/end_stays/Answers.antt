@@ -1,12 +1,12 @@
-use Rattle.std.proofs.Common.{◌≡◌, suc, ◌<◌, ◌≤◌, ◌-◌, length, ◌∙◌, ap, arith, inl, inr}
+use Rattle.std.proofs.Common.{◌≡◌, ◌<◌, ◌≤◌, ◌-◌, length, ◌∙◌, ap, arith, inl, inr}
 use Rattle.model_history.specs.Rails.{rails_at}
 use Rattle.run_signal.specs.Lanes.{in_lane}
-use Rattle.run_simulator.proofs.DelayLaws.{end_keeps, early_keeps, known_rails}
+use Rattle.run_simulator.proofs.DelayLaws.{end_lasts, early_lasts, known_rails}
 use Rattle.run_simulator.proofs.arrivals.end_stays.Goals as goal
 
 pub returns-then-t-c-clause-keeps : goal.returns-then-t-c-clause-keeps
 returns-then-t-c-clause-keeps g c = λ lane u inside is.
-    early_keeps u c.args.c c.args.t (c.args.c - c.args.t) (omega arith)
+    early_lasts u (c.args.t - 1) c.args.c c.args.t (c.args.c - c.args.t) (omega arith)
 
 pub returns-then-end-t-clause-keeps : goal.returns-then-end-t-clause-keeps
 returns-then-end-t-clause-keeps g c = λ lane u inside is.
@@ -14,13 +14,13 @@ returns-then-end-t-clause-keeps g c = λ lane u inside is.
     let d = c.args.c in
     let end = c.stays_until-end.result in
     let v = rails_at (in_lane g.V.Signal.rails lane c.args.key.now.keys) in
-    let long : length c.args.key.now.keys ≡ suc t = c.requires.known in
+    let long : length c.args.key.now.keys ≡ t = c.requires.known in
     let limit : end ≤ length c.args.key.now.keys = c.stays_until-end.ensures.limited in
-    let most : end ≤ suc t = omega (arith, long, limit) in
+    let most : end ≤ t = omega (arith, long, limit) in
     let past : d ≤ t = omega arith in
-    end_keeps u d t end 4000 c.requires.later past most
-    (known_rails v u d t end most past
-    (λ r lt. ap (λ l. rails_at l r) is ∙ c.history_laws.ensures.recordings.rails u (suc t) r lt)
+    end_lasts u d t end 4000 c.requires.later past most
+    (known_rails v u d t end most past c.requires.later
+    (λ r lt. ap (λ l. rails_at l r) is ∙ c.history_laws.ensures.recordings.rails u t r lt)
     (c.stays_until-end.ensures.stays lane inside).same)
     (inl (omega arith))
 
@@ -30,13 +30,13 @@ returns-else-end-t-clause-keeps g c = λ lane u inside is.
     let d = c.args.c in
     let end = c.stays_until-end.result in
     let v = rails_at (in_lane g.V.Signal.rails lane c.args.key.now.keys) in
-    let long : length c.args.key.now.keys ≡ suc t = c.requires.known in
+    let long : length c.args.key.now.keys ≡ t = c.requires.known in
     let limit : end ≤ length c.args.key.now.keys = c.stays_until-end.ensures.limited in
-    let most : end ≤ suc t = omega (arith, long, limit) in
+    let most : end ≤ t = omega (arith, long, limit) in
     let past : d ≤ t = omega arith in
     let later : t - d < end = c.stays_until-end.ensures.later in
-    end_keeps u d t end (end - (t - d)) c.requires.later past most
-    (known_rails v u d t end most past
-    (λ r lt. ap (λ l. rails_at l r) is ∙ c.history_laws.ensures.recordings.rails u (suc t) r lt)
+    end_lasts u d t end (end - (t - d)) c.requires.later past most
+    (known_rails v u d t end most past c.requires.later
+    (λ r lt. ap (λ l. rails_at l r) is ∙ c.history_laws.ensures.recordings.rails u t r lt)
     (c.stays_until-end.ensures.stays lane inside).same)
     (inr (omega arith))

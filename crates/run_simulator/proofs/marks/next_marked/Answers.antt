@@ -31,7 +31,7 @@ loop-gate-preserved c =
     let limit : bit ≤ 64 = c.lowest_from-bit.ensures.limited in
     let full : bit ≡ 64 = omega arith in
     let from : c.args.from ≤ gate = c.loop-gate.invariant.later in
-    let few : c.args.end ≤ 512 = c.requires.few in
+    let few : c.args.end ≤ 4000 = c.requires.few in
     let before : gate < c.args.end = c.loop-gate-test.true in
     record {
       later = omega (arith, from);

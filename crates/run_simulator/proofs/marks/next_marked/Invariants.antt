@@ -5,7 +5,7 @@ use Rattle.run_simulator.proofs.marks.next_marked.Given as goal
 abbrev pub invariant-loop-gate : goal.invariant-loop-gate
 invariant-loop-gate l = record {
   later : l.from ≤ l.gate;
-  few : l.gate ≤ 576;
+  few : l.gate ≤ 4064;
   passed : (i : ℕ) → l.from ≤ i → i < l.gate → IsMarked i l.words → ⊥;
 }
 

@@ -24,8 +24,7 @@ returns-clause-lists c =
           (c.requires.lists.inside x old at)))
           (λ p. c.requires.lists.inside a list p.1)
           (at_set lists x new a list there);
-      given_inside = c.requires.lists.given_inside;
-      raws_inside = c.requires.lists.raws_inside;
+      heard_inside = c.requires.lists.heard_inside;
     }
 
 pub returns-clause-grow : goal.returns-clause-grow
@@ -38,6 +37,8 @@ returns-clause-grow c =
     let at : slice_get lists x ≡ Some old =
     slice_get_read lists n x old refl c.requires.argument c.index_mut.ensures.value in
     record {
+      gates_are = length-set lists x new;
+      channels_are = refl;
       read = λ j a list there before.
           ⊎_elim
           (λ p. subst (λ l. StandsIn j l.items) p.1
@@ -45,8 +46,7 @@ returns-clause-grow c =
           (before old (subst (λ (k : ℕ). slice_get lists k ≡ Some old) (sym p.0) at))))
           (λ p. before list p.1)
           (at_set lists x new a list there);
-      given = λ j stands. stands;
-      raw = λ j stands. stands;
+      heard = λ j k list there before. before list there;
     }
 
 pub returns-clause-listed : goal.returns-clause-listed

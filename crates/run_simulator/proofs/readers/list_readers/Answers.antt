@@ -1,15 +1,10 @@
-use Rattle.std.proofs.Common.{◌∙◌}
 use Rattle.run_simulator.proofs.ReaderLaws.{listed_two, grow_on}
 use Rattle.run_simulator.proofs.readers.list_readers.Goals as goal
-
-pub returns-clause-count : goal.returns-clause-count
-returns-clause-count c = c.in_ok-list_in-2.ensures.count ∙ c.in_ok-list_in.ensures.count
 
 pub returns-clause-grow : goal.returns-clause-grow
 returns-clause-grow c =
     grow_on c.args.readers.now c.list_in.new.readers c.list_in-2.new.readers
-    c.in_ok-list_in.ensures.count c.in_ok-list_in-2.ensures.count c.in_ok-list_in.ensures.grow
-    c.in_ok-list_in-2.ensures.grow
+    c.in_ok-list_in.ensures.grow c.in_ok-list_in-2.ensures.grow
 
 pub returns-clause-listed : goal.returns-clause-listed
 returns-clause-listed c =

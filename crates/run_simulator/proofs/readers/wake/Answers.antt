@@ -12,6 +12,7 @@ loop-gate-init c = record {
   awake = λ j y lt. absurd (omega arith);
   marks = c.requires.marks;
   least = refl;
+  horizon = refl;
 }
 
 pub wake_one-requires-clause-inside : goal.wake_one-requires-clause-inside
@@ -33,6 +34,7 @@ loop-gate-preserved c =
           (zero_now dues new _ is);
       marks = c.wake_one.ensures.marks;
       least = c.wake_one.ensures.least ∙ c.loop-gate.invariant.least;
+      horizon = c.wake_one.ensures.horizon ∙ c.loop-gate.invariant.horizon;
     }
 
 pub returns-clause-awake : goal.returns-clause-awake

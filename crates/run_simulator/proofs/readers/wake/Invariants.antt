@@ -12,4 +12,5 @@ invariant-loop-gate l = record {
       l.gate-index;
   marks : AreMarked l.dues.items l.marks;
   least : l.marks.least ≡ l.initial.marks.least;
+  horizon : l.marks.horizon ≡ l.initial.marks.horizon;
 }

@@ -7,5 +7,5 @@ mark-requires c = let wide = c.requires.marks.wide in let inside = c.requires.in
 
 pub returns-clause-marks : goal.returns-clause-marks
 returns-clause-marks c =
-    woken c.args.dues.now.items _ c.args.marks.now _ c.args.gate refl c.mark.ensures.count refl
+    woken c.args.dues.now.items _ c.args.marks.now _ c.args.gate refl c.mark.ensures.count refl refl refl
     c.mark.ensures.marked c.mark.ensures.stay refl c.requires.marks

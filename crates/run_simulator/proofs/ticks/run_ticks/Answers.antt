@@ -10,9 +10,9 @@ use Rattle.run_simulator.specs.{GatePairs.GateSignals, GatePairs.line_pairs, Lan
 use Rattle.run_simulator.specs.{LaneBox.lane_world, Ticks.IsReady, Ticks.AreTold, Ticks.AreSent}
 use Rattle.run_simulator.specs.{Ticks.KeysSent, Ticks.ValuesAgree, Ticks.ValuesTold}
 use Rattle.run_simulator.specs.Ticks.{LaneStands}
-use Rattle.run_simulator.specs.{Inputs.DelaysHold, Inputs.CanReceive, Inputs.IsWorldAt}
+use Rattle.run_simulator.specs.{Inputs.CanReceive, Inputs.IsWorldAt}
 use Rattle.run_simulator.specs.Shown.{AreShown}
-use Rattle.run_simulator.proofs.GivenLaws.{held_none, held_later, shown_none, shown_later}
+use Rattle.run_simulator.proofs.GivenLaws.{stand_none, stand_later, shown_none, shown_later}
 use Rattle.run_simulator.proofs.GivenLaws.{can_receive}
 use Rattle.run_simulator.proofs.GivenLaws.{world_at}
 use Rattle.run_simulator.proofs.SendLaws.{none_sent, fresh_sent, one_tick_sent}
@@ -41,10 +41,8 @@ loop-t-init g c =
       column_room = omega (arith, column, width);
       values_room = omega (arith, whole);
       delays = c.in_ok-inputs.ensures.delays;
-      held = subst (DelaysHold g.V.Signal.ends c.args.spans.now c.args.steps.now
-          c.in_ok-inputs.inputs.delays.items 0) (sym c.in_ok-inputs.ensures.over)
-          (held_none g.V.Signal.ends c.args.spans.now c.args.steps.now
-          c.in_ok-inputs.inputs.delays.items);
+      stand = stand_none g.V.Signal.LANES g.V.Signal.ends c.args.spans.now c.args.steps.now
+          c.in_ok-inputs.inputs.delays.items c.in_ok-inputs.ensures.fresh;
       shown = subst (AreShown c.args.script.now.spans.items c.in_ok-inputs.inputs.shown 0)
           (sym c.in_ok-inputs.ensures.over)
           (shown_none c.args.script.now.spans.items c.in_ok-inputs.inputs.shown
@@ -67,21 +65,26 @@ loop-t-init g c =
           };
     }
 
-pub walk-requires-clause-delays : goal.walk-requires-clause-delays
-walk-requires-clause-delays g c =
+pub walk-requires-clause-moment : goal.walk-requires-clause-moment
+walk-requires-clause-moment g c =
     let line = c.args.line.now in
-    let inputs = c.turn.new.inputs in
-    subst (CanReceive g.V.Signal.LANES g.V.Signal.ends line) (sym c.deref.ensures.value)
-    (can_receive g.V.Signal.ends line c.args.spans.now c.args.steps.now g.V.Signal.LANES
-    inputs.delays.items c.loop-t.t inputs.until c.turn.ensures.delays c.turn.ensures.held
-    c.turn.ensures.later c.loop-t-test.true c.requires.delayed)
+    record {
+      tick = c.loop-t-test.true;
+      delays = subst (CanReceive g.V.Signal.LANES g.V.Signal.ends line)
+          (sym c.as_slice.ensures.value)
+          (can_receive g.V.Signal.LANES g.V.Signal.ends line c.args.spans.now c.args.steps.now
+          c.turn.new.inputs.delays.items c.loop-t.t c.turn.ensures.delays c.turn.ensures.stand
+          c.turn.ensures.set c.loop-t-test.true c.requires.delayed);
+      sent = subst (λ l. AreSent (terminal_count line) line.horizon c.loop-t.t l)
+          (sym c.as_slice-in-loop-t.ensures.value) c.loop-t.invariant.sent;
+    }
 
 pub send_all-requires-clause-gates : goal.send_all-requires-clause-gates
 send_all-requires-clause-gates g c =
     let net = c.args.net.now in
-    let wide : length c.as_slice-in-loop-t.result.now ≡ length net.gates =
-    ap length c.as_slice-in-loop-t.ensures.value ∙ c.walk.ensures.count in
-    subst (λ ids. AreGatesOf ids (length c.as_slice-in-loop-t.result.now))
+    let wide : length c.as_slice-in-loop-t-2.result.now ≡ length net.gates =
+    ap length c.as_slice-in-loop-t-2.ensures.value ∙ c.walk.ensures.count in
+    subst (λ ids. AreGatesOf ids (length c.as_slice-in-loop-t-2.result.now))
     (sym c.key_gates-in-loop-t.ensures)
     (subst (λ (n : ℕ). AreGatesOf net.keys n) (sym wide) c.requires.of_line.laws.keys)
 
@@ -103,7 +106,7 @@ loop-t-preserved g c =
     let long : length values ≡ t * n = c.loop-t.invariant.count in
     let wide : length column ≡ n = c.walk.ensures.count in
     let pushed : c.extend_within.new.list.items ≡ values ++ column =
-    c.extend_within.ensures.items ∙ ap (λ l. values ++ l) c.as_slice-in-loop-t-2.ensures.value in
+    c.extend_within.ensures.items ∙ ap (λ l. values ++ l) c.as_slice-in-loop-t-3.ensures.value in
     let longer : length values + length column ≡ (t + 1) * n = omega (arith, long, wide) in
     let room : line.horizon * n ≤ vec_capacity c.loop-t.values = c.loop-t.invariant.values_room in
     let more : vec_capacity c.loop-t.values ≤ vec_capacity c.extend_within.new.list =
@@ -113,8 +116,8 @@ loop-t-preserved g c =
       column_room = c.walk.ensures.room;
       values_room = omega (arith, room, more);
       delays = c.turn.ensures.delays;
-      held = held_later ends spans steps inputs.delays.items t (t + 1) inputs.until (omega arith)
-          c.turn.ensures.held;
+      stand = stand_later g.V.Signal.LANES ends spans steps inputs.delays.items t (t + 1) (omega arith)
+          c.turn.ensures.stand;
       shown = shown_later script.spans.items inputs.shown t (t + 1) inputs.until (omega arith)
           (c.turn.ensures.shown script.spans.items c.loop-t.invariant.shown);
       cells = c.walk.ensures.cells;
@@ -131,24 +134,24 @@ loop-t-preserved g c =
           let told : AreTold w keys u t net.gates =
           λ i gate at. gate_pairs-kind c.gates_stand_for_their_trees.ensures.kinds w keys net.gates
           i gate t c.requires.of_line.laws.gates at in
-          let sent : KeysSent rails lane keys t c.as_slice.result.now =
-          subst (KeysSent rails lane keys t) (sym c.as_slice.ensures.value) before.keys_sent in
+          let sent : KeysSent rails lane keys t c.as_slice-in-loop-t.result.now =
+          subst (KeysSent rails lane keys t) (sym c.as_slice-in-loop-t.ensures.value) before.keys_sent in
           let ready : IsReady g.V.Timed.stands_for ends rails lane w keys u t net.gates
-          c.as_slice.result.now c.loop-t.cells.items =
+          c.as_slice-in-loop-t.result.now c.loop-t.cells.items =
           record { told = told; sent = sent; stand = before.cells_stand } in
-          let world : IsWorldAt ends lane c.present.result.now c.deref.result.now w t =
-          subst (λ l. IsWorldAt ends lane l c.deref.result.now w t)
+          let world : IsWorldAt ends lane c.present.result.now c.as_slice.result.now w t =
+          subst (λ l. IsWorldAt ends lane l c.as_slice.result.now w t)
           (sym c.present.ensures)
           (subst (λ l. IsWorldAt ends lane inputs.shown.present l w t)
-          (sym c.deref.ensures.value)
-          (world_at ends line spans steps lane inputs.delays.items t inputs.until
-          c.turn.ensures.delays c.turn.ensures.held script inputs.shown
-          (c.turn.ensures.shown script.spans.items c.loop-t.invariant.shown)
+          (sym c.as_slice.ensures.value)
+          (world_at g.V.Signal.LANES ends line spans steps inputs.delays.items t
+          c.turn.ensures.delays c.turn.ensures.stand c.turn.ensures.set lane script inputs.shown
+          inputs.until (c.turn.ensures.shown script.spans.items c.loop-t.invariant.shown)
           c.turn.ensures.later)) in
           let agree : ValuesAgree rails lane u t column =
           c.walk.ensures.answers lane w keys u inside world ready in
-          let agree' : ValuesAgree rails lane u t c.as_slice-in-loop-t.result.now =
-          subst (ValuesAgree rails lane u t) (sym c.as_slice-in-loop-t.ensures.value) agree in
+          let agree' : ValuesAgree rails lane u t c.as_slice-in-loop-t-2.result.now =
+          subst (ValuesAgree rails lane u t) (sym c.as_slice-in-loop-t-2.ensures.value) agree in
           let are_keys : (k : ℕ) → k < length net.keys → u (key_of net k) t ≡ keys k t =
           λ k kn. key_pair c.line_laws.ensures c.gates_stand_for_their_trees.ensures line script
           box (c.requires.delayed lane inside) net c.requires.of_line k t
@@ -161,7 +164,7 @@ loop-t-preserved g c =
                 subst (λ (m : ℕ). KeysSent rails lane keys m c.send_all.new.tracks.items) (sym next)
                 (c.send_all.ensures.keys lane keys inside
                 (one_tick_sent rails lane keys u t (t + 1) net.keys c.key_gates-in-loop-t.result.now
-                c.as_slice-in-loop-t.result.now refl c.key_gates-in-loop-t.ensures agree' are_keys)
+                c.as_slice-in-loop-t-2.result.now refl c.key_gates-in-loop-t.ensures agree' are_keys)
                 before.keys_sent);
             cells_stand = c.walk.ensures.stands lane w keys u inside world ready;
             told = subst (ValuesTold rails lane u n) (sym pushed)
@@ -174,8 +177,8 @@ extend_within-requires g c =
     let n = length c.args.net.now.gates in
     let long : length c.loop-t.values.items ≡ c.loop-t.t * n = c.loop-t.invariant.count in
     let wide : length c.walk.new.column.items ≡ n = c.walk.ensures.count in
-    let same : length c.as_slice-in-loop-t-2.result.now ≡ length c.walk.new.column.items =
-    ap length c.as_slice-in-loop-t-2.ensures.value in
+    let same : length c.as_slice-in-loop-t-3.result.now ≡ length c.walk.new.column.items =
+    ap length c.as_slice-in-loop-t-3.ensures.value in
     let room : c.args.line.now.horizon * n ≤ vec_capacity c.loop-t.values =
     c.loop-t.invariant.values_room in
     let fits : c.loop-t.t * n + n ≤ c.args.line.now.horizon * n =

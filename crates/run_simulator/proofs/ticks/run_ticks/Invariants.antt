@@ -2,7 +2,7 @@ use Rattle.std.proofs.Common.{◌≡◌, ℕ, ◌<◌, ◌≤◌, ◌*◌, lengt
 use Rattle.std.specs.Prelude.{vec_capacity}
 use Rattle.model_line.specs.Parameters.{terminal_count}
 use Rattle.model_logic.specs.{Logic.key_tree, Solution.the_keys}
-use Rattle.run_simulator.specs.Inputs.{AreDelays, DelaysHold}
+use Rattle.run_simulator.specs.Inputs.{AreDelays, DelaysStand}
 use Rattle.run_simulator.specs.{Shown.AreShown, LaneBox.lane_box, LaneBox.lane_world}
 use Rattle.run_simulator.specs.{GatePairs.line_pairs, Ticks.HaveCells, Ticks.AreSent}
 use Rattle.run_simulator.specs.Ticks.{LaneStands}
@@ -18,7 +18,7 @@ invariant-loop-t g l =
       column_room : length gates ≤ vec_capacity l.column;
       values_room : l.line.horizon * length gates ≤ vec_capacity l.values;
       delays : AreDelays l.line l.inputs.delays.items;
-      held : DelaysHold g.V.Signal.ends l.spans l.steps l.inputs.delays.items l.t l.inputs.until;
+      stand : DelaysStand g.V.Signal.LANES g.V.Signal.ends l.spans l.steps l.t l.inputs.delays.items;
       shown : AreShown l.script.spans.items l.inputs.shown l.t l.inputs.until;
       cells : HaveCells gates l.cells.items;
       sent : AreSent (terminal_count l.line) l.line.horizon l.t l.sent.items;

@@ -1,7 +1,7 @@
-use Rattle.std.proofs.Common.{◌≡◌, ℕ, ◌<◌, length, sym, ◌∙◌, subst}
+use Rattle.std.proofs.Common.{ℕ, ◌<◌, length, sym, ◌∙◌, subst}
 use Rattle.model_logic.specs.PairMean.{PairWorld, PairSignals}
 use Rattle.model_logic.specs.{Logic.key_tree, Solution.the_keys, Choice.pair_world_of}
-use Rattle.run_simulator.specs.Tracks.{tracks_history, trips_of, LineTracked}
+use Rattle.run_simulator.specs.Tracks.{tracks_history, trips_of}
 use Rattle.run_simulator.specs.{GatePairs.GateSignals, GatePairs.line_pairs, LaneBox.lane_box}
 use Rattle.run_simulator.specs.{LaneBox.lane_world}
 use Rattle.run_simulator.proofs.PointLaws.{exact_at}
@@ -24,8 +24,7 @@ returns-clause-history g c = λ lane inside.
     let key : ℕ → PairSignals = λ l. the_keys (w l) (key_tree line) in
     let u : ℕ → GateSignals = λ l. line_pairs line script (lane_box ends line spans steps l) net in
     let kept = c.take_all.new.kept in
-    let stands : LineTracked g.V.Timed.stands_for ends rails line script spans steps net lane h
-    kept =
+    let stands =
     (c.take_all.ensures.stands script (c.in_ok-kept.ensures.stands steps)).tracked lane inside in
     kept_history c.line_laws.ensures c.gates_stand_for_their_trees.ensures line script (lane_box ends line spans steps lane) (c.requires.delayed lane inside)
     net of_line

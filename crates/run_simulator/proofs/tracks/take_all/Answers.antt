@@ -4,15 +4,14 @@ use Rattle.run_simulator.proofs.tracks.take_all.Goals as goal
 
 pub loop-t-init : goal.loop-t-init
 loop-t-init g c =
-    record { fits = omega arith; short = omega arith; kept = c.requires.kept; stands = λ script given. given }
+    record { fits = omega arith; kept = c.requires.kept; stands = λ script given. given }
 
 pub loop-t-preserved : goal.loop-t-preserved
 loop-t-preserved g c = record {
-  fits = c.take_stretch-stays.ensures.fits;
-  short = c.next_pause-pause.ensures;
-  kept = c.take_stretch-stays.ensures.kept;
+  fits = c.take_stretch-t.ensures.fits;
+  kept = c.take_stretch-t.ensures.kept;
   stands = λ script given.
-      c.take_stretch-stays.ensures.stands script (c.loop-t.invariant.stands script given);
+      c.take_stretch-t.ensures.stands script (c.loop-t.invariant.stands script given);
 }
 
 pub returns : goal.returns
@@ -21,7 +20,7 @@ returns g c =
     let fits : c.loop-t.t ≤ h = c.loop-t.invariant.fits in
     let last : c.loop-t.t ≡ h = omega (arith, fits, c.loop-t-test.false) in
     record {
-      kept = subst (λ (m : ℕ). CanTake g.V.Signal.ends c.args.line.now c.args.net.now
+      kept = subst (λ (m : ℕ). CanTake g.V.Signal.LANES g.V.Signal.ends c.args.line.now c.args.net.now
           c.args.spans.now c.args.steps.now m c.loop-t.kept) last c.loop-t.invariant.kept;
       stands = λ script given.
           subst (λ (m : ℕ). IsKeptOf g.V.Signal.LANES g.V.Timed.stands_for g.V.Signal.ends

@@ -6,8 +6,7 @@ use Rattle.run_simulator.proofs.tracks.take_all.Given as goal
 abbrev pub invariant-loop-t : goal.invariant-loop-t
 invariant-loop-t g l = record {
   fits : l.t ≤ l.line.horizon;
-  short : l.pause ≤ 15;
-  kept : CanTake g.V.Signal.ends l.line l.net l.spans l.steps l.t l.kept;
+  kept : CanTake g.V.Signal.LANES g.V.Signal.ends l.line l.net l.spans l.steps l.t l.kept;
   stands : (script : Script)
       → IsKeptOf g.V.Signal.LANES g.V.Timed.stands_for g.V.Signal.ends g.V.Signal.rails l.line script
       l.spans l.steps l.net 0 l.initial.kept

@@ -1,11 +1,10 @@
 use Rattle.std.proofs.Common.{◌≡◌, ℕ, ◌<◌, ◌≤◌, ◌+◌, ◌++◌, ◌∷◌, [], Some, refl, sym, ◌∙◌, ap, arith}
-use Rattle.std.proofs.Common.{length, length-append, subst, below_more}
+use Rattle.std.proofs.Common.{length, length-append, subst}
 use Rattle.std.proofs.lemmas.Option.{slice_get_within, slice_get_read}
 use Rattle.std.specs.Prelude.{slice_get, vec_capacity}
-use Rattle.run_simulator.specs.{Ticks.ValuesAgree, Quiet.TimerKeeps}
+use Rattle.run_simulator.specs.Ticks.{ValuesAgree}
 use Rattle.run_simulator.proofs.WalkLaws.{have_more, walked_more, walked_none, agree_none}
-use Rattle.run_simulator.proofs.{Lists.one_value, QuietLaws.timer_fewer}
-use Rattle.net_gates.specs.declared.gate.Gate.{Gate}
+use Rattle.run_simulator.proofs.ShownByLaws.{world_shows}
 use Rattle.run_simulator.proofs.walk.walk.Goals as goal
 
 pub loop-i-init : goal.loop-i-init
@@ -15,40 +14,31 @@ loop-i-init g c = record {
   count = ap length c.clear.ensures.items;
   cells = c.requires.cells;
   walked = λ lane w keys u inside world ready. (
-    agree_none g.V.Signal.rails lane u c.args.t c.clear.new.self.items c.clear.ensures.items,
-    walked_none g.V.Timed.stands_for g.V.Signal.ends g.V.Signal.rails lane w keys u c.args.t
+    agree_none g.V.Signal.rails lane u c.args.moment.now.t c.clear.new.self.items c.clear.ensures.items,
+    walked_none g.V.Timed.stands_for g.V.Signal.ends g.V.Signal.rails lane w keys u c.args.moment.now.t
         c.args.net.now.gates c.args.cells.now.items ready.stand,
   );
-  some = c.requires.limit;
-  limited = omega arith;
-  timers = λ w keys u ready lane i gate inside lt. absurd (omega arith);
 }
 
 pub loop-i-preserved : goal.loop-i-preserved
 loop-i-preserved g c =
-    let t = c.args.t in
+    let t = c.args.moment.now.t in
     let i = c.loop-i.i in
     let column = c.loop-i.column.items in
     let gates = c.args.net.now.gates in
     let cells = c.loop-i.cells.items in
     let x = c.answer-value.result in
-    let n = c.gate_stays-stays.result in
     let rails = g.V.Signal.rails in
     let pushed : c.push_reserved.new.self.items ≡ column ++ x ∷ [] = c.push_reserved.ensures.items in
     let old_room : length gates ≤ vec_capacity c.loop-i.column = c.loop-i.invariant.room in
     let same_room : vec_capacity c.push_reserved.new.self ≡ vec_capacity c.loop-i.column =
     c.push_reserved.ensures.capacity in
-    let here = c.gate-gate.result.now in
-    let gate_is = c.gate-gate.ensures.is in
+    let here = c.gate.result.now in
+    let gate_is = c.gate.ensures.is in
     let inside : i < length gates = slice_get_within gates i here gate_is in
     let old : slice_get cells i ≡ Some c.index_mut.result.now =
     slice_get_read cells (length gates) i c.index_mut.result.now
     (sym c.loop-i.invariant.cells.count) inside c.index_mut.ensures.value in
-    let read : slice_get cells i ≡ Some c.index.result.now =
-    slice_get_read cells (length gates) i c.index.result.now
-    (sym c.loop-i.invariant.cells.count) inside c.index.ensures in
-    let less : n ≤ c.loop-i.stays = c.gate_stays-stays.ensures.limited in
-    let limit : c.loop-i.stays ≤ c.args.limit = c.loop-i.invariant.limited in
     record {
       room = omega arith;
       count = ap length pushed ∙ length-append column (x ∷ [])
@@ -57,32 +47,16 @@ loop-i-preserved g c =
           c.loop-i.invariant.cells c.answer-value.ensures.shape;
       walked = λ lane w keys u inside world ready.
           let before = c.loop-i.invariant.walked lane w keys u inside world ready in
-          let agree : ValuesAgree rails lane u t c.as_slice-in-loop-i.result.now =
-          subst (ValuesAgree rails lane u t) (sym c.as_slice-in-loop-i.ensures.value) before.0 in
+          let agree : ValuesAgree rails lane u t c.as_slice.result.now =
+          subst (ValuesAgree rails lane u t) (sym c.as_slice.ensures.value) before.0 in
           let more = walked_more g.V.Timed.stands_for g.V.Signal.ends rails lane w keys u t gates
           i (i + 1) here c.index_mut.result.now c.answer-value.new.cell x column
           cells refl gate_is old c.loop-i.invariant.count ready.told before
           (λ h. c.answer-value.ensures.stands lane w u inside agree h)
-          (λ h. c.answer-value.ensures.answers lane w keys u inside world ready.sent agree h) in
+          (λ h. c.answer-value.ensures.answers lane w keys u inside
+          (world_shows c.args.present.now w t world.seen world.lost here) world.channels ready.sent
+          agree h) in
           (subst (ValuesAgree rails lane u t) (sym pushed) more.0, more.1);
-      some = c.gate_stays-stays.ensures.some;
-      limited = omega arith;
-      timers = λ w keys u ready lane j gate inside below at.
-          below_more
-          (λ k. (h : Gate) → slice_get gates k ≡ Some h → TimerKeeps (w lane) (u lane) t n h) i
-          (λ k low h ha. timer_fewer (w lane) (u lane) t n c.loop-i.stays h less
-          (c.loop-i.invariant.timers w keys u ready lane k h inside low ha))
-          (λ h ha. subst (λ k. TimerKeeps (w lane) (u lane) t n k)
-          (one_value gates i i here h refl gate_is ha)
-          (c.gate_stays-stays.ensures.keeps w u t
-          (λ l il. subst (ValuesAgree rails l (u l) t) (sym c.as_slice.ensures.value)
-          (let p = ready l il in
-          c.loop-i.invariant.walked l (w l) (keys l) (u l) il p.0 p.1).0)
-          (λ l il. (let p = ready l il in
-          c.loop-i.invariant.walked l (w l) (keys l) (u l) il p.0 p.1).1.left i here
-          c.index.result.now (omega arith) gate_is read)
-          lane inside))
-          j below gate at;
     }
 
 pub returns-clause-stands : goal.returns-clause-stands
@@ -97,12 +71,3 @@ returns-clause-stands g c = λ lane w keys u inside world ready i gate cell ga c
 pub returns-clause-answers : goal.returns-clause-answers
 returns-clause-answers g c = λ lane w keys u inside world ready.
     (c.loop-i.invariant.walked lane w keys u inside world ready).0
-
-pub returns-clause-timers : goal.returns-clause-timers
-returns-clause-timers g c = λ w keys u ready lane i gate inside at.
-    let within : i < length c.args.net.now.gates =
-    slice_get_within c.args.net.now.gates i gate at in
-    let len : c.len-i-end.result ≡ length c.args.net.now.gates = c.len-i-end.ensures.len in
-    let over : c.len-i-end.result ≤ c.loop-i.i = c.loop-i-test.false in
-    c.loop-i.invariant.timers w keys u ready lane i gate inside
-    (omega (arith, within, len, over)) at

@@ -1,9 +1,0 @@
-use Rattle.run_simulator.proofs.ReaderLaws.{lists_same, listed_constant}
-use Rattle.run_simulator.proofs.readers.list_constant.Goals as goal
-
-pub returns-clause-grow : goal.returns-clause-grow
-returns-clause-grow c = lists_same c.args.readers.now
-
-pub returns-clause-listed : goal.returns-clause-listed
-returns-clause-listed c =
-    listed_constant c.args.i c.args.gate.now c.args.readers.now c.requires.is

@@ -1,0 +1,36 @@
+-- Keys that change, and the gates that hear them.
+use Rattle.std.specs.Prelude.{◌≡◌, ◌<◌, ◌≤◌, ◌+◌, ◌-◌, ◌⊎◌, ℕ, List, Some, length, slice_get}
+use Rattle.model_history.specs.Rails.{Rails}
+use Rattle.run_channel.specs.SentKeys.{SentKeys}
+use Rattle.net_gates.specs.NetOf.{NetOf, key_of}
+use Rattle.run_simulator.specs.declared.delays.Delay.{Delay}
+use Rattle.run_simulator.specs.declared.readers.Readers.{Readers}
+
+-- a key was sent, and the value is the last one in each lane
+pub record IsLastKey {V : Type 0} (lanes : ℕ) (rails : V → ℕ → Rails) (keys : List V) (value : V)
+    : Type 0 where
+  pub some : 1 ≤ length keys
+  pub same : (last : V) → slice_get keys (length keys - 1) ≡ Some last
+      → (lane : ℕ) → lane < lanes → rails last lane ≡ rails value lane
+
+-- each gate of the list is due at a tick, if not before
+abbrev pub AreSoon : ℕ → List ℕ → List ℕ → Type 0
+AreSoon first list dues =
+    (k i due : ℕ) → slice_get list k ≡ Some i → slice_get dues i ≡ Some due → due ≤ first
+
+-- over a channel with this delay: the key is the last one that was sent, or those that hear it are
+-- due when it first arrives
+abbrev pub IsHeard : {V S : Type 0} → ℕ → (V → ℕ → Rails) → NetOf → Readers → List V → ℕ → Delay S
+    → List (SentKeys V) → ℕ → List ℕ → Type 0
+IsHeard lanes rails net readers column c delay sent t dues =
+    ((s : SentKeys _) (x : _) → slice_get sent delay.from ≡ Some s
+    → slice_get column (key_of net delay.from) ≡ Some x → IsLastKey lanes rails s.keys x)
+    ⊎ ((list : _) → slice_get readers.of_channels.items c ≡ Some list
+    → AreSoon (t + delay.soonest) list.items dues)
+
+-- so it is of the first n channels
+abbrev pub AreHeard : {V S : Type 0} → ℕ → (V → ℕ → Rails) → NetOf → Readers → List V → ℕ
+    → List (Delay S) → List (SentKeys V) → ℕ → List ℕ → Type 0
+AreHeard lanes rails net readers column n delays sent t dues =
+    (c : ℕ) (d : Delay _) → c < n → slice_get delays c ≡ Some d
+    → IsHeard lanes rails net readers column c d sent t dues
