@@ -9,26 +9,29 @@ use crate::widest::widest;
 use model_line::{Line, Memory};
 use std::alloc::Global;
 
-/// Whether each parameter is the widest of one of the parts.
+/// Whether each parameter is split: it is the widest of the box, or of one of the parts whose halves
+/// are among them.
 pub fn wide_in(alloc: Global, line: &Line, parts: &[Line]) -> Result<Vec<bool>, Memory>
     ensures { IfOk result (λ wide. length wide.items ≡ param_count line.now) }
 {
     let mut wide = Vec::new(alloc);
     wide.resize(line.param_count() as usize, false)?;
-    for part in parts {
-        if let Some(param) = widest(part) {
-            mark(&mut wide, param);
-        }
+    mark(&mut wide, line);
+    let split = (parts.len() / 2).saturating_sub(1);
+    for part in &parts[..split] {
+        mark(&mut wide, part);
     }
     Ok(wide)
 }
 
-// The parameter is marked, where there is one of this number.
-fn mark(wide: &mut [bool], param: u32)
+// The widest parameter of a part is marked, where it has one.
+fn mark(wide: &mut [bool], part: &Line)
     ensures { length wide.new ≡ length wide.old }
 {
-    if let Some(marked) = wide.get_mut(param as usize) {
-        *marked = true;
+    if let Some(param) = widest(part) {
+        if let Some(marked) = wide.get_mut(param as usize) {
+            *marked = true;
+        }
     }
 }
 
