@@ -1,3 +1,4 @@
 pub mod Digits
+pub mod Fetched
 pub mod FileLaws
 pub mod Pieces

@@ -120,9 +120,9 @@ pub fn fetch<S: Store>(
         if count > limit as usize - all.len() {
             return Err(FetchFault::TooLong);
         }
-        if all.extend_from_slice(&piece[..count]).is_err() {
+        let Ok(()) = all.extend_from_slice(&piece[..count]) else {
             return Err(FetchFault::Memory);
-        }
+        };
     }
     unreachable!()
 }

@@ -1,7 +1,10 @@
 -- The command `split`: the parts of the declared box in which each obligation is decided.
-use Rattle.std.specs.Prelude.{◌≡◌, ◌++◌, ℕ, List, map}
+use Rattle.std.specs.Prelude.{◌≡◌, ◌++◌, ℕ, Bool, List, map}
 use Rattle.model_line.specs.{declared.line.Line.Line, declared.script.Script.Script}
+use Rattle.judge_split.specs.declared.node.Outcome.{Outcome}
+use Rattle.cert_check.specs.Counts.{is_no, is_undecided}
 use Rattle.cert_split_text.specs.{Grammar.SplitResult, Text.part_text, Text.split_text}
+use Rattle.cert_split_text.specs.Piece.{written_as}
 use Rattle.cert_split_check.specs.Counts.{verdict_of, all_verdicts}
 use Rattle.cert_own.specs.Searched.{AllSearched, AreSearched}
 use Rattle.call_commands.specs.{Answers.Answers, Verdicts.IsFoundOf, Verdicts.verdicts_status}
@@ -19,6 +22,13 @@ abbrev pub split_answer : Line → List Script → ℕ → Answers
 split_answer line scripts n = IsSplitOf line scripts n
 
 -- ---- the text as it is made
+
+-- whether what is found comes to a no, and whether it is left undecided
+unfoldable pub comes_to_no : Outcome → Bool
+comes_to_no outcome = is_no (verdict_of (written_as outcome))
+
+unfoldable pub is_left_open : Outcome → Bool
+is_left_open outcome = is_undecided (verdict_of (written_as outcome))
 
 -- a text has more by the part of what is searched of a script, and what is found is told
 pub record HasSplits (line : Line) (n : ℕ) (script : Script) (old new : List ℕ) (told : Found)

@@ -6,10 +6,8 @@ ghost use Rattle.net_gates.specs.NetOf.{IsNetOf};
 ghost use Rattle.judge_verdict.specs.OneEach.{OneEach};
 ghost use Rattle.judge_split.specs.Found.{IsFound};
 ghost use Rattle.cert_split_text.specs.Piece.{ArePrintable, written_as};
-ghost use Rattle.cert_check.specs.Counts.{is_no as no_verdict};
-ghost use Rattle.cert_check.specs.Counts.{is_undecided as undecided_verdict};
 ghost use Rattle.cert_split_check.specs.Counts.{verdict_of};
-ghost use Rattle.call_commands.specs.Split.{HasSplits, split_answer};
+ghost use Rattle.call_commands.specs.Split.{HasSplits, split_answer, comes_to_no, is_left_open};
 ghost use Rattle.call_commands.specs.{Answers.Says, Study.IsStudy, Verdicts.IsFoundOf};
 
 use crate::found::{Found, NOTHING};
@@ -105,21 +103,20 @@ fn found_of(outcomes: &[Outcome]) -> Found
 }
 
 fn some_no(outcomes: &[Outcome]) -> bool
-    ensures { result
-        ≡ list_any (λ outcome. no_verdict (verdict_of (written_as outcome))) outcomes.now }
+    ensures { result ≡ list_any comes_to_no outcomes.now }
 {
     outcomes.iter().any(|outcome| is_no(outcome))
 }
 
 fn some_undecided(outcomes: &[Outcome]) -> bool
-    ensures { result
-        ≡ list_any (λ outcome. undecided_verdict (verdict_of (written_as outcome))) outcomes.now }
+    ensures { result ≡ list_any is_left_open outcomes.now }
 {
     outcomes.iter().any(|outcome| is_undecided(outcome))
 }
 
+#[tactic(auto, unfolding(crate::specs::Split::comes_to_no))]
 fn is_no(outcome: &Outcome) -> bool
-    ensures { result ≡ no_verdict (verdict_of (written_as outcome.now)) }
+    ensures { result ≡ comes_to_no outcome.now }
 {
     match outcome {
         Outcome::Tree(_) => false,
@@ -127,8 +124,9 @@ fn is_no(outcome: &Outcome) -> bool
     }
 }
 
+#[tactic(auto, unfolding(crate::specs::Split::is_left_open))]
 fn is_undecided(outcome: &Outcome) -> bool
-    ensures { result ≡ undecided_verdict (verdict_of (written_as outcome.now)) }
+    ensures { result ≡ is_left_open outcome.now }
 {
     match outcome {
         Outcome::Tree(nodes) => !is_yes_tree(nodes.as_slice()),

@@ -90,13 +90,21 @@ hatching_text name turn pale stripe =
     element_text tag.Pattern (hatching_attributes name turn) (stripes_text pale stripe)
     ++ end_of_line
 
+-- the hatching of keys, that of trips and that of what the logic makes
+unfoldable pub key_hatching : List ℕ
+key_hatching = hatching_text (codes "key-open") (codes "rotate(45)") class.KeyPale class.KeyHatch
+
+unfoldable pub trip_hatching : List ℕ
+trip_hatching =
+    hatching_text (codes "trip-open") (codes "rotate(135)") class.TripPale class.TripHatch
+
+unfoldable pub logic_hatching : List ℕ
+logic_hatching =
+    hatching_text (codes "logic-open") (codes "rotate(90)") class.LogicPale class.LogicHatch
+
 unfoldable pub hatchings_text : List ℕ
 hatchings_text =
-    element_text tag.Defs []
-    (hatching_text (codes "key-open") (codes "rotate(45)") class.KeyPale class.KeyHatch
-    ++ hatching_text (codes "trip-open") (codes "rotate(135)") class.TripPale class.TripHatch
-    ++ hatching_text (codes "logic-open") (codes "rotate(90)") class.LogicPale class.LogicHatch)
-    ++ end_of_line
+    element_text tag.Defs [] (key_hatching ++ trip_hatching ++ logic_hatching) ++ end_of_line
 
 -- ---- the whole
 

@@ -4,6 +4,7 @@ ghost use Rattle.std.specs.Prelude.{◌≡◌, ◌++◌, IfOk, OnOk};
 ghost use Rattle.std.specs.List.{flat_map};
 ghost use Rattle.draw_shapes.specs.Svg.{rule_text, rules_text};
 ghost use Rattle.draw_shapes.specs.Svg.{hatching_text, hatchings_text, sheet_text, stripes_text};
+ghost use Rattle.draw_shapes.specs.Svg.{key_hatching, trip_hatching, logic_hatching};
 ghost use Rattle.draw_shapes.specs.{Svg.figure_text, Seen.rectangle};
 
 use crate::class::{CLASSES, Class};
@@ -57,29 +58,49 @@ pub fn put_rule(text: &mut Vec<u8>, class: Class) -> Result<(), AllocError>
 pub fn hatchings(alloc: Global) -> Result<Markup, AllocError>
     ensures { IfOk result (λ markup. markup.text.items ≡ hatchings_text) }
 {
-    let key = hatching(
+    let all = key_hatching(alloc)?
+        .and(&trip_hatching(alloc)?)?
+        .and(&logic_hatching(alloc)?)?;
+    ended(alloc, Markup::element(alloc, Tag::Defs, &[], &all)?)
+}
+
+#[tactic(auto, unfolding(crate::specs::Svg::key_hatching))]
+fn key_hatching(alloc: Global) -> Result<Markup, AllocError>
+    ensures { IfOk result (λ markup. markup.text.items ≡ key_hatching) }
+{
+    hatching(
         alloc,
         b"key-open",
         b"rotate(45)",
         Class::KeyPale,
         Class::KeyHatch,
-    )?;
-    let trip = hatching(
+    )
+}
+
+#[tactic(auto, unfolding(crate::specs::Svg::trip_hatching))]
+fn trip_hatching(alloc: Global) -> Result<Markup, AllocError>
+    ensures { IfOk result (λ markup. markup.text.items ≡ trip_hatching) }
+{
+    hatching(
         alloc,
         b"trip-open",
         b"rotate(135)",
         Class::TripPale,
         Class::TripHatch,
-    )?;
-    let logic = hatching(
+    )
+}
+
+#[tactic(auto, unfolding(crate::specs::Svg::logic_hatching))]
+fn logic_hatching(alloc: Global) -> Result<Markup, AllocError>
+    ensures { IfOk result (λ markup. markup.text.items ≡ logic_hatching) }
+{
+    hatching(
         alloc,
         b"logic-open",
         b"rotate(90)",
         Class::LogicPale,
         Class::LogicHatch,
-    )?;
-    let all = key.and(&trip)?.and(&logic)?;
-    ended(alloc, Markup::element(alloc, Tag::Defs, &[], &all)?)
+    )
 }
 
 // A hatching: stripes over a pale ground.

@@ -94,11 +94,17 @@ abbrev pub stamp_of : List ℕ → Option (Option ℕ)
 stamp_of [] = Some None
 stamp_of (b ∷ bs) = option_map (λ n. Some n) (whole_of (b ∷ bs))
 
--- the number, the stamp and a field for each channel
+-- the number and the stamp, where there is a field for each channel
+unfoldable pub numbers_in : Shape → ℕ → List (List ℕ) → Said (ℕ × Option ℕ)
+numbers_in s k fields = do
+  many ← passes_or (length fields == 2 + s.analog + s.digital) (fault.Fields (k + 1))
+  number ← ok_or (natural_of (get_or fields 0 [])) (fault.Number (k + 1))
+  stamp ← ok_or (stamp_of (get_or fields 1 [])) (fault.Stamp (k + 1))
+  Ok (number, stamp)
+
+-- the sample of a line
 unfoldable pub raw_in_line : Shape → List ℕ → ℕ → List ℕ → Said RawSample
 raw_in_line s chosen k line = do
-  many ← passes_or (length (fields_of line) == 2 + s.analog + s.digital) (fault.Fields (k + 1))
-  number ← ok_or (natural_of (get_or (fields_of line) 0 [])) (fault.Number (k + 1))
-  stamp ← ok_or (stamp_of (get_or (fields_of line) 1 [])) (fault.Stamp (k + 1))
+  numbers ← numbers_in s k (fields_of line)
   levels ← steps (level_after s chosen (fields_of line) k) [] (length chosen)
-  Ok (record { number = number; stamp = stamp; levels = levels })
+  Ok (record { number = numbers.0; stamp = numbers.1; levels = levels })

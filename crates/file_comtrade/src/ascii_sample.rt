@@ -1,7 +1,8 @@
 //! One sample of ASCII data.
 
 ghost use Rattle.std.specs.Prelude.{◌≡◌, ◌<◌, [], length};
-ghost use Rattle.file_comtrade.specs.RawSample.{level_named, level_field, level_after, stamp_of, raw_in_line};
+ghost use Rattle.file_comtrade.specs.RawSample.{level_named, level_field, level_after, stamp_of};
+ghost use Rattle.file_comtrade.specs.RawSample.{numbers_in, raw_in_line};
 ghost use Rattle.file_comtrade.specs.{Steps.steps, Views.texts, Views.raw_of, DataGives.Gives};
 
 use crate::fault::DataFault;
@@ -90,6 +91,23 @@ fn stamp_of(text: &[u8]) -> Option<Option<u64>>
     }
 }
 
+// The number and the stamp of a sample, where there is a field for each channel.
+#[tactic(auto, unfolding(crate::specs::RawSample::numbers_in))]
+fn numbers_in(shape: Shape, k: u32, fields: &[&[u8]]) -> Result<(u32, Option<u64>), DataFault>
+    ensures { result ≡ numbers_in shape k (texts fields.now) }
+{
+    if fields.len() != 2 + shape.analog as usize + shape.digital as usize {
+        return Err(DataFault::Fields(k as usize + 1));
+    }
+    let Some(number) = natural(fields[0]) else {
+        return Err(DataFault::Number(k as usize + 1));
+    };
+    let Some(stamp) = stamp_of(fields[1]) else {
+        return Err(DataFault::Stamp(k as usize + 1));
+    };
+    Ok((number, stamp))
+}
+
 #[tactic(auto, unfolding(crate::specs::RawSample::raw_in_line))]
 pub fn raw_in_line(
     alloc: Global,
@@ -101,15 +119,7 @@ pub fn raw_in_line(
     ensures { Gives raw_of result (raw_in_line shape chosen.now k line.now) }
 {
     let fields = fields(alloc, line)?;
-    if fields.len() != 2 + shape.analog as usize + shape.digital as usize {
-        return Err(DataFault::Fields(k as usize + 1));
-    }
-    let Some(number) = natural(fields[0]) else {
-        return Err(DataFault::Number(k as usize + 1));
-    };
-    let Some(stamp) = stamp_of(fields[1]) else {
-        return Err(DataFault::Stamp(k as usize + 1));
-    };
+    let (number, stamp) = numbers_in(shape, k, fields.as_slice())?;
     let levels = levels_in_fields(alloc, shape, chosen, fields.as_slice(), k)?;
     Ok(RawSample {
         number,

@@ -13,7 +13,7 @@ use Rattle.base_records.specs.Gives.{◌>>=◌}
 use Rattle.run_rows.specs.PlayRows.{level_word}
 use Rattle.file_comtrade.specs.Data.{SampleValues, follows, is_done, last_in, not_before, raw_at}
 use Rattle.file_comtrade.specs.Data.{sample_after, samples_in, shape_of}
-use Rattle.file_comtrade.specs.RawSample.{Said, level_after, level_named, raw_in_line}
+use Rattle.file_comtrade.specs.RawSample.{Said, level_after, level_named, numbers_in, raw_in_line}
 use Rattle.file_comtrade.specs.Steps.{steps}
 use Rattle.file_comtrade.specs.Text.{fields_of}
 use Rattle.file_comtrade.specs.Times.{below_2_64}
@@ -57,7 +57,7 @@ pub raw_back : (c k n stamp : ℕ) (line : List ℕ) (levels : List Bool)
     → n < 2 ^ 32 → stamp < 2 ^ 64
     → raw_in_line (text_shape (length levels)) (c ∷ []) k line
     ≡ Ok (record { number = n; stamp = Some stamp; levels = get_or levels c false ∷ [] })
-unfolding raw_in_line
+unfolding raw_in_line numbers_in
 raw_back c k n stamp line levels fields within small low =
     let words : List (List ℕ) = map level_word levels in
     let long = words_long levels in

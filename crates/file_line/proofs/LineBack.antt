@@ -9,7 +9,7 @@ use Rattle.model_logic.specs.Laws.{LineLaws}
 use Rattle.file_line.specs.Keys.{document_of, all_known, number_at, text_at, array_at}
 use Rattle.file_line.specs.Lines.{LineValues, line_values, scheme_named, scheme_of, zone1_trip_of}
 use Rattle.file_line.specs.Lines.{head_of, two_or_three, terminal_items, channel_items}
-use Rattle.file_line.specs.LineFiles.{top_keys, line_in, line_of}
+use Rattle.file_line.specs.LineFiles.{top_keys, tables_in, line_in, line_of}
 use Rattle.toml.specs.Data.{Members}
 use Rattle.file_line.specs.Canonical.{terminal_members, tables_from, terminals_data}
 use Rattle.file_line.specs.Canonical.{channels_data, scheme_text, canonical_in}
@@ -75,7 +75,7 @@ module _ (laws : LineLaws) (version unit : ℕ) (line : Line) where
   pub line_back :
       nat_le 1 version && nat_le version 2 ≡ true → units_per_tick version line.tick_us ≡ unit
       → 0 < unit → line_in (canonical_in version unit line) ≡ Ok (line_values line)
-  unfolding line_in
+  unfolding line_in tables_in
   line_back range units some =
       let terminals : terminals_at unit
       (items_of (terminals_data unit line)) (read_terminals line 0)

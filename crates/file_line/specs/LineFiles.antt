@@ -45,18 +45,23 @@ all_joined ts cs (pair ∷ pairs) = do
 unfoldable pub whole : List Terminal → List Channel → Result (Unit {0}) LineFault
 whole ts cs = all_joined ts cs (pairs_of (length ts))
 
+-- the line with its terminals and channels, of which the head has none
+unfoldable pub tables_in : ℕ → Members → LineValues → Result LineValues LineFault
+tables_in unit ms head = do
+  terminals ← terminal_items ms
+  channels ← channel_items ms
+  with_terminals ← terminals_at unit terminals head
+  with_channels ← channels_at unit channels with_terminals
+  _ ← whole with_channels.terminals with_channels.channels
+  Ok with_channels
+
 -- the line of a document
 unfoldable pub line_in : Members → Result LineValues LineFault
 line_in ms = do
   version ← number_at [] (codes "version") 1 2 ms
   _ ← all_known [] top_keys ms
   head ← head_of ms
-  terminals ← terminal_items ms
-  channels ← channel_items ms
-  with_terminals ← terminals_at (units_per_tick version head.tick_us) terminals head
-  with_channels ← channels_at (units_per_tick version head.tick_us) channels with_terminals
-  _ ← whole with_channels.terminals with_channels.channels
-  Ok with_channels
+  tables_in (units_per_tick version head.tick_us) ms head
 
 -- the line of a file
 unfoldable pub line_of : List ℕ → Result LineValues LineFault

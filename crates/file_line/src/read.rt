@@ -1,10 +1,11 @@
 //! Reading a line file.
 
-ghost use Rattle.std.specs.Prelude.{◌<◌, Ok, IfOk};
+ghost use Rattle.std.specs.Prelude.{◌≡◌, ◌<◌, ◌≤◌, [], Ok, IfOk, OnOk};
 ghost use Rattle.toml.specs.View.{table_view};
 ghost use Rattle.model_line.specs.Making.{MakesLine};
 ghost use Rattle.file_line.specs.Lines.{line_values, values_of};
-ghost use Rattle.file_line.specs.{Reading.Gives, LineFiles.line_in, LineFiles.line_of};
+ghost use Rattle.file_line.specs.Reading.{Gives, Becomes};
+ghost use Rattle.file_line.specs.LineFiles.{tables_in, line_in, line_of};
 
 use crate::channel::channels;
 use crate::draft::Draft;
@@ -30,6 +31,28 @@ const TOP_KEYS: &[&str] = &[
     "channel",
 ];
 
+// The tables of the terminals and channels, read into a line that has its head alone.
+#[tactic(auto, unfolding(crate::specs::LineFiles::tables_in))]
+fn read_tables(unit: u32, table: &Table, line: &mut Draft) -> Result<(), LineFault>
+    requires some { 0 < unit }
+    requires few { unit ≤ 1000000 }
+    requires no_terminal { line.old.terminals.items ≡ [] }
+    requires no_channel { line.old.channels.items ≡ [] }
+    requires no_interval { line.old.intervals.items ≡ [] }
+    ensures values { Becomes result (values_of line.new)
+        (tables_in unit (table_view table.now) (values_of line.old)) }
+    ensures makes { OnOk result (MakesLine line.new.tick_us line.new.horizon line.new.scheme
+        line.new.terminals.items line.new.channels.items line.new.intervals.items) }
+{
+    settings_are_counted();
+    let terminal_values = terminal_tables(table)?;
+    let channel_values = channel_tables(table)?;
+    terminals(unit, terminal_values, line)?;
+    channels(unit, channel_values, line)?;
+    all_joined(&line.terminals, &line.channels)?;
+    Ok(())
+}
+
 #[tactic(auto, unfolding(crate::specs::LineFiles::line_in))]
 fn read_table(alloc: Global, table: &Table) -> Result<Draft, LineFault>
     ensures values { Gives values_of result (line_in (table_view table.now)) }
@@ -37,16 +60,10 @@ fn read_table(alloc: Global, table: &Table) -> Result<Draft, LineFault>
         (λ d. MakesLine d.tick_us d.horizon d.scheme d.terminals.items d.channels.items
         d.intervals.items) }
 {
-    settings_are_counted();
     let version = number(Path::root(), "version", 1, 2, table)?;
     only(Path::root(), TOP_KEYS, table)?;
     let mut line = head(alloc, table)?;
-    let terminal_values = terminal_tables(table)?;
-    let channel_values = channel_tables(table)?;
-    let unit = units(version, line.tick_us);
-    terminals(unit, terminal_values, &mut line)?;
-    channels(unit, channel_values, &mut line)?;
-    all_joined(&line.terminals, &line.channels)?;
+    read_tables(units(version, line.tick_us), table, &mut line)?;
     Ok(line)
 }
 

@@ -50,6 +50,23 @@ pub fn are_bounds(
     if bounds.len() != param_count(scheme, terminals, channels) || !are_intervals(bounds) {
         return false;
     }
+    delays_from_one(scheme, terminals, channels, bounds)
+}
+
+// Whether each delay of a channel is one tick at least.
+fn delays_from_one(
+    scheme: Scheme,
+    terminals: &[Terminal],
+    channels: &[Channel],
+    bounds: &[Bounds],
+) -> bool
+    requires terminals { length terminals.now ≤ 3 }
+    requires channels { length channels.now ≤ 6 }
+    requires one_each { length bounds.now
+        ≡ length (line_settings scheme terminals.now channels.now) }
+    ensures { IsTrue result
+        ↔ LeastDelaysFromOne scheme terminals.now channels.now (least_ends bounds.now) }
+{
     for c in 0..channels.len() {
         if bounds[delay_index(scheme, terminals, channels, c)].least < 1 {
             return false;

@@ -37,8 +37,7 @@ fn key(net: &mut NetBuilder, line: &Line, terminal: u32, local: &Local) -> Resul
 {
     let carry = terminal_time(line, terminal, Setting::BlockCarry);
     let behind = and_not(net, line, local.rv, local.z2)?;
-    let key = net.timer(behind, Time::Zero, carry)?;
-    Ok(key)
+    net.timer(behind, Time::Zero, carry)
 }
 
 // Zone 2 after the coordination delay, where nothing blocks it.
@@ -53,6 +52,5 @@ fn pilot(net: &mut NetBuilder, line: &Line, terminal: u32, local: &Local) -> Res
     let coordination = terminal_time(line, terminal, Setting::BlockCoord);
     let coordinated = net.timer(local.z2, coordination, Time::Zero)?;
     let blocked = any_received(net, line, terminal)?;
-    let pilot = and_not(net, line, coordinated, blocked)?;
-    Ok(pilot)
+    and_not(net, line, coordinated, blocked)
 }

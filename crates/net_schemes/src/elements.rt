@@ -73,8 +73,7 @@ fn seen_timed(
             let owner = Owner::Terminal(terminal);
             let pickup = time_of(line, owner, pickup);
             let dropout = time_of(line, owner, dropout);
-            let timed = net.timer(seen, pickup, dropout)?;
-            Ok(timed)
+            net.timer(seen, pickup, dropout)
         }
         None => Ok(seen),
     }
@@ -96,10 +95,8 @@ fn reversal_guard(
     if is_terminal_guarded(line, terminal) {
         let pickup = terminal_time(line, terminal, Setting::ReversalPickup);
         let dropout = terminal_time(line, terminal, Setting::ReversalDropout);
-        let held_back = net.timer(reverse, pickup, dropout)?;
-        Ok(held_back)
+        net.timer(reverse, pickup, dropout)
     } else {
-        let never = net.constant(false)?;
-        Ok(never)
+        net.constant(false)
     }
 }

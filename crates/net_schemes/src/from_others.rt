@@ -8,7 +8,7 @@ ghost use Rattle.model_logic.specs.Received.{any_received as any_received_tree};
 ghost use Rattle.model_logic.specs.Received.{all_received as all_received_tree};
 ghost use Rattle.net_gates.specs.{Formulas.Stands, Growing.HasRoom, Growing.Extends};
 
-use crate::joining::{join_before, or_never};
+use crate::joining::{and_not, join_before, or_never};
 use crate::times::channel_to;
 use model_line::{Line, Memory};
 use model_logic::Join;
@@ -29,9 +29,7 @@ pub fn received(
     let channel = channel_to(line, terminal, from);
     let raw = net.raw(channel)?;
     let lost = net.loss(channel)?;
-    let there = net.not(lost)?;
-    let received = net.and(raw, there)?;
-    Ok(received)
+    and_not(net, line, raw, lost)
 }
 
 /// Whether a terminal receives the signal of some other.
@@ -42,8 +40,7 @@ pub fn any_received(net: &mut NetBuilder, line: &Line, terminal: u32) -> Result<
     ensures adds { Extends line.now net.old net.new 16 }
     ensures made { IfOk result (λ id. Stands net.new id.0 (any_received_tree line.now terminal)) }
 {
-    let any = others_received(net, line, terminal, Join::Or)?;
-    Ok(any)
+    others_received(net, line, terminal, Join::Or)
 }
 
 /// Whether a terminal receives the signal of each other.
@@ -54,8 +51,7 @@ pub fn all_received(net: &mut NetBuilder, line: &Line, terminal: u32) -> Result<
     ensures adds { Extends line.now net.old net.new 16 }
     ensures made { IfOk result (λ id. Stands net.new id.0 (all_received_tree line.now terminal)) }
 {
-    let all = others_received(net, line, terminal, Join::And)?;
-    Ok(all)
+    others_received(net, line, terminal, Join::And)
 }
 
 // What a terminal receives from all others, joined in line order.

@@ -28,13 +28,10 @@ pub fn join_before(
 {
     match before {
         None => Ok(next),
-        Some(before) => {
-            let joined = match join {
-                Join::And => net.and(before, next)?,
-                Join::Or => net.or(before, next)?,
-            };
-            Ok(joined)
-        }
+        Some(before) => match join {
+            Join::And => net.and(before, next),
+            Join::Or => net.or(before, next),
+        },
     }
 }
 
@@ -53,8 +50,7 @@ pub fn and_not(
         (And (formula_of net.old left.0) (Not (formula_of net.old right.0)))) }
 {
     let without = net.not(right)?;
-    let both = net.and(left, without)?;
-    Ok(both)
+    net.and(left, without)
 }
 
 /// The gate, or one that is never on.
@@ -66,10 +62,7 @@ pub fn or_never(net: &mut NetBuilder, line: &Line, gate: Option<GateId>) -> Resu
         (unwrap_or (option_map (λ a. formula_of net.old a.0) gate) (Const false))) }
 {
     match gate {
-        None => {
-            let never = net.constant(false)?;
-            Ok(never)
-        }
+        None => net.constant(false),
         Some(gate) => Ok(gate),
     }
 }

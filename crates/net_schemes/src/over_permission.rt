@@ -53,8 +53,7 @@ fn key(
         (permissive_key line.now terminal (formula_of net.old perm.0))) }
 {
     let ahead = and_not(net, line, local.z2, local.rg)?;
-    let key = net.or(ahead, echo)?;
-    Ok(key)
+    net.or(ahead, echo)
 }
 
 // Zone 2 with the permission unless the reversal guard holds it back, or the trip of a weak end.
@@ -76,6 +75,5 @@ fn pilot(
 {
     let permitted = net.and(local.z2, perm)?;
     let ahead = and_not(net, line, permitted, local.rg)?;
-    let pilot = net.or(ahead, weak_trip)?;
-    Ok(pilot)
+    net.or(ahead, weak_trip)
 }

@@ -17,8 +17,7 @@ pub fn pott(net: &mut NetBuilder, line: &Line, terminal: u32, local: &Local) -> 
     ensures { MakesOutputs Scheme.Pott line.now terminal net.old net.new result }
 {
     let perm = all_received(net, line, terminal)?;
-    let out = permissive(net, line, terminal, local, perm)?;
-    Ok(out)
+    permissive(net, line, terminal, local, perm)
 }
 
 /// What a terminal of a PUTT line sends and trips on.

@@ -23,8 +23,7 @@ pub fn dcub(net: &mut NetBuilder, line: &Line, terminal: u32, local: &Local) -> 
     ensures { MakesOutputs Scheme.Dcub line.now terminal net.old net.new result }
 {
     let perm = all_open(net, line, terminal)?;
-    let out = permissive(net, line, terminal, local, perm)?;
-    Ok(out)
+    permissive(net, line, terminal, local, perm)
 }
 
 // Whether each other terminal permits.

@@ -12,6 +12,7 @@ ghost use Rattle.net_schemes.specs.LocalGates.{AreLocal};
 ghost use Rattle.net_schemes.specs.Echoes.{AreEchoes, CanMakeOver};
 
 use crate::elements::Local;
+use crate::joining::and_not;
 use crate::times::terminal_time;
 use model_line::{Line, Memory, Setting};
 use model_logic::{Time, is_terminal_weak};
@@ -62,8 +63,7 @@ fn quiet(net: &mut NetBuilder, line: &Line, terminal: u32, local: &Local) -> Res
     let block = terminal_time(line, terminal, Setting::EchoBlock);
     let fault = net.or(local.z2, local.rv)?;
     let blocked = net.timer(fault, Time::Zero, block)?;
-    let quiet = net.not(blocked)?;
-    Ok(quiet)
+    net.not(blocked)
 }
 
 #[tactic(auto, unfolding(model_logic::specs::Permissive::echo_wanted))]
@@ -83,11 +83,9 @@ fn wanted(
         let pickup = terminal_time(line, terminal, Setting::EchoPickup);
         let quiet = quiet(net, line, terminal, local)?;
         let permitted = net.and(perm, quiet)?;
-        let wanted = net.timer(permitted, pickup, Time::Zero)?;
-        Ok(wanted)
+        net.timer(permitted, pickup, Time::Zero)
     } else {
-        let never = net.constant(false)?;
-        Ok(never)
+        net.constant(false)
     }
 }
 
@@ -111,12 +109,9 @@ fn pulse(
     if is_terminal_weak(line, terminal) {
         let length = terminal_time(line, terminal, Setting::EchoPulse);
         let over = net.timer(want, length, Time::Zero)?;
-        let still = net.not(over)?;
-        let echo = net.and(want, still)?;
-        Ok(echo)
+        and_not(net, line, want, over)
     } else {
-        let never = net.constant(false)?;
-        Ok(never)
+        net.constant(false)
     }
 }
 
@@ -137,10 +132,8 @@ fn weak_trip(
         (weak_infeed_trip_tree line.now terminal (formula_of net.old perm.0))) }
 {
     if is_terminal_weak(line, terminal) {
-        let trip = net.and(want, local.uv)?;
-        Ok(trip)
+        net.and(want, local.uv)
     } else {
-        let never = net.constant(false)?;
-        Ok(never)
+        net.constant(false)
     }
 }

@@ -32,8 +32,7 @@ pub fn open_from(
     let unblocked = unblocked(net, line, terminal, from, late)?;
     let received = received(net, line, terminal, from)?;
     let permits = net.or(received, unblocked)?;
-    let open = and_not(net, line, permits, locked_out)?;
-    Ok(open)
+    and_not(net, line, permits, locked_out)
 }
 
 // The channel has been lost for as long as the window.
@@ -45,8 +44,7 @@ fn late(net: &mut NetBuilder, line: &Line, terminal: u32, from: u32) -> Result<G
 {
     let window = channel_time(line, terminal, from, Setting::UnblockWindow);
     let lost = net.loss(channel_to(line, terminal, from))?;
-    let late = net.timer(lost, window, Time::Zero)?;
-    Ok(late)
+    net.timer(lost, window, Time::Zero)
 }
 
 // The channel is lost, and its window is open.
@@ -66,8 +64,7 @@ fn unblocked(
     let pickup = channel_time(line, terminal, from, Setting::UnblockPickup);
     let lost = net.loss(channel_to(line, terminal, from))?;
     let unblocked = net.timer(lost, pickup, Time::Zero)?;
-    let open = and_not(net, line, unblocked, late)?;
-    Ok(open)
+    and_not(net, line, unblocked, late)
 }
 
 // The guard tone is heard: no signal comes, and the channel is not lost.
@@ -82,8 +79,7 @@ fn guard_seen(net: &mut NetBuilder, line: &Line, terminal: u32, from: u32) -> Re
     let raw = net.raw(channel)?;
     let silent = net.not(raw)?;
     let lost = net.loss(channel)?;
-    let guard = and_not(net, line, silent, lost)?;
-    Ok(guard)
+    and_not(net, line, silent, lost)
 }
 
 // The window closed, and the guard tone has not been back for the restoring time since.
@@ -105,6 +101,5 @@ fn locked_out(
     let guard = guard_seen(net, line, terminal, from)?;
     let restored = net.timer(guard, restore, Time::Zero)?;
     let gone = net.not(restored)?;
-    let locked = net.seal(late, gone)?;
-    Ok(locked)
+    net.seal(late, gone)
 }

@@ -6,3 +6,4 @@ mod ValueLaws
 mod MaskLaws
 mod UnderLaws
 mod GivenLaws
+mod DelayLaws

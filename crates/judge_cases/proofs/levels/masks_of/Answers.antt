@@ -11,6 +11,7 @@ use Rattle.run_cases.specs.declared.mask.Mask.{Mask}
 use Rattle.judge_boxes.specs.declared.terns.Terns64.{Terns64}
 use Rattle.judge_boxes.specs.Terns.{terns_rails}
 use Rattle.judge_cases.specs.declared.view.View.{View}
+use Rattle.judge_cases.specs.Views.{AreCases}
 use Rattle.judge_cases.specs.Puts.{PutIn, assumed_of, assumed_below}
 use Rattle.judge_cases.proofs.BelowLaws.{below_none, below_here, below_other, below_all, cases_of}
 use Rattle.judge_cases.proofs.OneGate.{one_gate}
@@ -114,3 +115,16 @@ returns-clause-put c =
           assumed_timers line c.same_trees_are_equal.ensures (assumed_of (slice_get views lane))
           (cases_of line views c.requires.views lane);
     }
+
+pub put_view-requires-clause-cases : goal.put_view-requires-clause-cases
+put_view-requires-clause-cases c =
+    let line = c.args.line.now in
+    let views = c.args.views.now in
+    let lane : ℕ = c.loop-lane.lane in
+    let view : View = c.index-views-lane.result in
+    let here : slice_get views lane ≡ Some view =
+    slice_get_read views (length views) lane view refl c.loop-lane-test.true c.index-views-lane.is in
+    let assumed : c.deref-in-loop-lane.result.now ≡ view.assumed.items =
+    c.deref-in-loop-lane.ensures.value
+    ∙ ap (λ (v : View). v.assumed.items) (sym c.index-views-lane.is) in
+    subst (AreCases line) (sym assumed) (c.requires.views.each lane view here).cases

@@ -10,6 +10,12 @@ same_view : (views : List View) (i : ℕ) (x y : View) → slice_get views i ≡
     → slice_get views i ≡ Some y → x ≡ y
 same_view views i x y e f = cc
 
+pub is_shown-requires-clause-view : goal.is_shown-requires-clause-view
+is_shown-requires-clause-view c =
+    c.requires.views.each c.loop-i.i c.index-views-i.result
+    (slice_get_read c.args.views.now (length c.args.views.now) c.loop-i.i c.index-views-i.result refl
+    c.loop-i-test.true c.index-views-i.is)
+
 pub loop-i-preserved : goal.loop-i-preserved
 loop-i-preserved c =
     let line = c.args.line.now in

@@ -1,4 +1,5 @@
-use Rattle.std.proofs.Common.{◌≡◌, ℕ, ◌+◌, ◌++◌, ◌∷◌, [], sym, ◌∙◌, ap, length, length-append}
+use Rattle.std.proofs.Common.{◌≡◌, ℕ, ◌+◌, ◌++◌, ◌∷◌, [], sym, ◌∙◌, ap, arith, length}
+use Rattle.std.proofs.Common.{length-append}
 use Rattle.std.specs.Prelude.{slice_get}
 use Rattle.run_cases.specs.CellStands.{HasCell, CellStands}
 use Rattle.run_cases.proofs.WalkLaws.{one_more}
@@ -25,3 +26,7 @@ loop-i-preserved g c =
           (c.fresh_cell.ensures.stands lane w u inside times) j gate cell ga
           (ap (λ l. slice_get l j) (sym pushed) ∙ ca);
     }
+
+pub fresh_cell-requires-clause-names : goal.fresh_cell-requires-clause-names
+fresh_cell-requires-clause-names g c =
+    c.requires.names.each c.loop-i.i c.gate.result.now (omega arith) c.gate.ensures.is

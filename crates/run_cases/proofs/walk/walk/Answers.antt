@@ -28,6 +28,10 @@ loop-i-init g c = record {
   );
 }
 
+pub answer-own-requires-clause-names : goal.answer-own-requires-clause-names
+answer-own-requires-clause-names g c =
+    c.requires.names.each c.loop-i.i c.gate-gate.result.now (omega arith) c.gate-gate.ensures.is
+
 pub loop-i-preserved : goal.loop-i-preserved
 loop-i-preserved g c =
     let t = c.args.t in

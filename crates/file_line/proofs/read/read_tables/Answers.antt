@@ -2,19 +2,18 @@ use Rattle.std.proofs.Common.{◌≤◌, length, ap, sym, ◌∙◌, arith}
 use Rattle.file_line.specs.Lines.{values_of}
 use Rattle.file_line.proofs.LineLaws.{start_kept, terminals_kept, between, channels_kept}
 use Rattle.file_line.proofs.LineLaws.{makes_line}
-use Rattle.file_line.proofs.read.read_table.Goals as goal
+use Rattle.file_line.proofs.read.read_tables.Goals as goal
 
 pub returns-clause-makes : goal.returns-clause-makes
 returns-clause-makes c =
-    let line0 = c.in_ok-line.line in
+    let line0 = c.args.line.now in
     let line1 = c.terminals.new.line in
     let line2 = c.channels.new.line in
-    let empty = c.in_ok-line.ensures.empty in
-    let some = c.units-unit.ensures.within.0 in
-    let head = start_kept (values_of line0) empty.0 empty.2 in
+    let some = c.requires.some in
+    let head = start_kept (values_of line0) c.requires.no_terminal c.requires.no_interval in
     let ended = terminals_kept _ _ (values_of line0) (values_of line1) some
     c.in_ok-terminals.ensures.values head in
-    let none = c.in_ok-terminals.ensures.channels ∙ empty.1 in
+    let none = c.in_ok-terminals.ensures.channels ∙ c.requires.no_channel in
     let whole = channels_kept _ _ (values_of line1) (values_of line2) some
     c.in_ok-channels.ensures.values (between (values_of line1) ended none) in
     let joined =
@@ -22,7 +21,7 @@ returns-clause-makes c =
     let few : (2 ≤ length line2.terminals.items) × (length line2.terminals.items ≤ 3) =
     (let same = ap length c.in_ok-channels.ensures.terminals in
     let count = c.in_ok-terminals.ensures.count in
-    let nothing = ap length empty.0 in
+    let nothing = ap length c.requires.no_terminal in
     let values = c.in_ok-terminal_values.ensures.count in
     (omega arith, omega arith)) in
     makes_line c.settings_are_counted.ensures (values_of line2) c.in_ok-all_joined.field-0 whole (sym joined)

@@ -1,6 +1,6 @@
 use Rattle.std.proofs.Common.{ℕ, ◌<◌, ◌≤◌, get_or}
 use Rattle.model_line.specs.{Intervals.delay_number_of, Making.least_ends}
-use Rattle.model_line.proofs.bounds.are_bounds.Given as goal
+use Rattle.model_line.proofs.bounds.delays_from_one.Given as goal
 
 abbrev pub invariant-loop-c : goal.invariant-loop-c
 invariant-loop-c l =
