@@ -20,5 +20,5 @@ pub fn compile(alloc: Global, line: &Line) -> Result<Net, Memory>
         keys.push(ends.key)?;
         trips.push(ends.trip)?;
     }
-    net.finish(alloc, keys, trips)
+    net.finish(alloc, line.channels.len() as u32, keys, trips)
 }

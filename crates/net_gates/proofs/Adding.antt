@@ -1,7 +1,7 @@
 -- A gate that is added keeps the laws.
-use Rattle.std.proofs.Common.{◌≡◌, ◌≢◌, ◌||◌, ◌⊎◌, ℕ, zero, suc, ◌<◌, Bool, true, false, List, []}
-use Rattle.std.proofs.Common.{◌∷◌, ◌++◌, length, Some, cond, refl, sym, ap, ◌∙◌, subst, arith, inl}
-use Rattle.std.proofs.Common.{inr, ⊎_elim, length-append}
+use Rattle.std.proofs.Common.{◌≡◌, ◌≢◌, ◌||◌, ℕ, zero, suc, ◌<◌, Bool, true, false, List, []}
+use Rattle.std.proofs.Common.{◌∷◌, ◌++◌, length, Some, cond, refl, sym, ap, ◌∙◌, subst, arith}
+use Rattle.std.proofs.Common.{⊎_elim, length-append}
 use Rattle.std.proofs.Math.Seq.{take-append_seam, take-length}
 use Rattle.std.specs.Prelude.{slice_get}
 use Rattle.std.specs.List.{list_any}
@@ -10,22 +10,8 @@ use Rattle.net_gates.specs.{declared.gate.Gate.Gate, Laws.HasArguments, Laws.Are
 use Rattle.net_gates.specs.{Growing.Grows}
 use Rattle.net_gates.specs.{Growing.Adds, Named.GateNames, Named.KeepsNames}
 use Rattle.net_gates.proofs.Standing.{grows_from}
+use Rattle.net_gates.proofs.Lists.{at_push, last_push}
 use Rattle.net_gates.proofs.Equal.{gate_eq, gate_eq-same, gate_eq-refl}
-
-module _ {X : Type 0} where
-  -- an element of a list with one more
-  at_push : (xs : List X) (x y : X) (i : ℕ) → slice_get (xs ++ x ∷ []) i ≡ Some y
-      → (slice_get xs i ≡ Some y) ⊎ ((i ≡ length xs) × (y ≡ x))
-  at_push [] x y zero e = let same : x ≡ y = cc in inr (refl, sym same)
-  at_push [] x y (suc i) e = absurd (cc)
-  at_push (z ∷ xs) x y zero e = inl e
-  at_push (z ∷ xs) x y (suc i) e =
-      ⊎_elim inl (λ p. let n : suc i ≡ length (z ∷ xs) = omega (arith, p.0) in inr (n, p.1))
-      (at_push xs x y i e)
-
-  last_push : (xs : List X) (x : X) → slice_get (xs ++ x ∷ []) (length xs) ≡ Some x
-  last_push [] x = refl
-  last_push (z ∷ xs) x = last_push xs x
 
 -- a gate that a set contains is at some number of it, and one that it does not is at none
 found : (g : Gate) (ks : List Gate) → list_any (gate_eq g) ks ≡ true

@@ -1,16 +1,14 @@
 -- What gates name of a line, as they grow.
-use Rattle.std.proofs.Common.{◌≡◌, ℕ, zero, suc, List, [], ◌∷◌, ◌++◌, length, Some, refl, sym, ◌∙◌}
-use Rattle.std.proofs.Common.{arith, ⊎_elim}
-use Rattle.std.proofs.lemmas.Option.{slice_get_within}
-use Rattle.std.proofs.lemmas.Bool.{cases_lt}
+use Rattle.std.proofs.Common.{◌≡◌, ℕ, zero, suc, List, [], ◌∷◌, ◌++◌, Some, refl}
+use Rattle.std.proofs.Common.{arith}
 use Rattle.std.specs.Prelude.{slice_get}
 use Rattle.model_line.specs.declared.line.Line.{Line}
 use Rattle.model_logic.specs.{Tree.Tree, Names.Names}
 use Rattle.net_gates.specs.declared.gate.Gate.TheVariants.{Const, Seen, Loss, Raw, Not, And, Or}
 use Rattle.net_gates.specs.declared.gate.Gate.TheVariants.{Timer, Seal}
 use Rattle.net_gates.specs.Formulas.{tree_at, tree_with, formulas_after, formula_of}
-use Rattle.net_gates.specs.Named.{GateNames, NamedFrom, KeepsNames}
-use Rattle.net_gates.specs.{declared.gate.Gate.Gate, Growing.Grows}
+use Rattle.net_gates.specs.Named.{GateNames, NamedFrom}
+use Rattle.net_gates.specs.{declared.gate.Gate.Gate}
 
 with_names : (line : Line) (trees : ℕ → Tree) (g : Gate) → ((i : ℕ) → Names line (trees i))
     → GateNames line g → Names line (tree_with trees g)

@@ -4,3 +4,5 @@ pub mod Named
 pub mod Growing
 pub mod NetOf
 pub mod NetLaws
+pub mod Readers
+pub mod Listing

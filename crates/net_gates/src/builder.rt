@@ -3,9 +3,11 @@
 ghost use Rattle.std.specs.Prelude.{◌≡◌, ◌<◌, ◌≤◌, [], length, IfOk};
 ghost use Rattle.net_gates.specs.{Growing.HasRoom, Growing.Makes, Laws.HasArguments};
 ghost use Rattle.net_gates.specs.{Laws.AreGates, NetOf.AreGatesOf, NetOf.IsNet};
+ghost use Rattle.net_gates.specs.Readers.{HearBelow};
 
 use crate::gate::{Gate, GateId};
 use crate::net::Net;
+use crate::readers::readers_of;
 use indexmap::IndexSet;
 use model_line::{Memory, Place};
 use model_logic::Time;
@@ -134,8 +136,15 @@ impl NetBuilder {
     }
 
     /// The net of these gates, with the gates of each terminal's key and trip, in the order of the
-    /// terminals.
-    pub fn finish(self, alloc: Global, keys: Vec<GateId>, trips: Vec<GateId>) -> Result<Net, Memory>
+    /// terminals. They hear no channel from `channels` on.
+    pub fn finish(
+        self,
+        alloc: Global,
+        channels: u32,
+        keys: Vec<GateId>,
+        trips: Vec<GateId>,
+    ) -> Result<Net, Memory>
+        requires heard { HearBelow channels self }
         requires same { length trips.items ≡ length keys.items }
         requires keys { AreGatesOf keys.items (length self) }
         requires trips { AreGatesOf trips.items (length self) }
@@ -145,7 +154,8 @@ impl NetBuilder {
     {
         let mut gates = Vec::new(alloc);
         gates.extend_from_slice(self.gates.as_slice())?;
-        Ok(Net::new(gates, keys, trips))
+        let readers = readers_of(alloc, &gates, channels)?;
+        Ok(Net::new(gates, keys, trips, readers))
     }
 
     fn add(&mut self, gate: Gate) -> Result<GateId, Memory>

@@ -9,6 +9,7 @@ mod builder;
 mod gate;
 pub mod laws;
 mod net;
+mod readers;
 
 pub use builder::NetBuilder;
 pub use gate::{Gate, GateId};

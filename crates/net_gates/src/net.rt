@@ -3,8 +3,11 @@
 ghost use Rattle.std.specs.Prelude.{◌≡◌, ◌<◌, ◌≤◌, Some, length, slice_get};
 ghost use Rattle.net_gates.specs.Formulas.{formula_of, kind_over};
 ghost use Rattle.net_gates.specs.NetOf.{IsNet, key_of, trip_of};
+ghost use Rattle.net_gates.specs.Listing.{ReadersHold};
+ghost use Rattle.net_gates.specs.Readers.{AreBelow, HasAllHearers, HasAllReaders};
 
 use crate::gate::{Gate, GateId};
+use crate::readers::Readers;
 use std::marker::Model;
 
 /// Gates in order, and the gates of each terminal's key and trip in the order of the terminals.
@@ -13,10 +16,12 @@ pub struct Net {
     gates: Vec<Gate>,
     keys: Vec<GateId>,
     trips: Vec<GateId>,
+    readers: Readers,
 }
 
 impl Model for Net {
     ghost use Rattle.net_gates.specs.NetOf.{NetOf, IsNet};
+    ghost use Rattle.net_gates.specs.Listing.{ReadersHold};
 
     ghost Value = { NetOf };
 
@@ -30,15 +35,26 @@ impl Model for Net {
       gates = n.gates.items;
       keys = n.keys.items;
       trips = n.trips.items;
-    }) };
+    }) × ReadersHold n.gates.items n.readers };
 }
 
 impl Net {
-    pub(crate) fn new(gates: Vec<Gate>, keys: Vec<GateId>, trips: Vec<GateId>) -> Net
-        requires { IsNet (record { gates = gates.items; keys = keys.items; trips = trips.items }) }
+    pub(crate) fn new(
+        gates: Vec<Gate>,
+        keys: Vec<GateId>,
+        trips: Vec<GateId>,
+        readers: Readers,
+    ) -> Net
+        requires laws { IsNet (record { gates = gates.items; keys = keys.items; trips = trips.items }) }
+        requires readers { ReadersHold gates.items readers }
         ensures { result ≡ record { gates = gates.items; keys = keys.items; trips = trips.items } }
     {
-        Net { gates, keys, trips }
+        Net {
+            gates,
+            keys,
+            trips,
+            readers,
+        }
     }
 
     /// How many gates there are.
@@ -89,5 +105,24 @@ impl Net {
         ensures exists { result.0 < length self.now.gates }
     {
         self.trips[terminal as usize]
+    }
+    /// The gates that have this one as an argument: each of them, and maybe others.
+    pub fn readers(&self, id: GateId) -> &[u32]
+        requires { id.0 < length self.now.gates }
+        ensures inside { AreBelow (length self.now.gates) result.now }
+        ensures all { HasAllReaders id.0 self.now.gates result.now }
+    {
+        &self.readers.of_gates[id.0 as usize]
+    }
+
+    /// The gates of what arrives over this channel: each of them, and maybe others.
+    pub fn hearers(&self, channel: u32) -> &[u32]
+        ensures inside { AreBelow (length self.now.gates) result.now }
+        ensures all { HasAllHearers channel self.now.gates result.now }
+    {
+        match self.readers.of_channels.get(channel as usize) {
+            Some(list) => list,
+            None => &[],
+        }
     }
 }

@@ -1,6 +1,7 @@
-use Rattle.std.proofs.Common.{◌≡◌, ◌+◌, ◌++◌, ◌∷◌, [], suc, sym, subst, arith}
-use Rattle.model_line.specs.Parameters.{terminal_count}
+use Rattle.std.proofs.Common.{◌≡◌, ◌+◌, ◌<◌, ◌++◌, ◌∷◌, [], suc, sym, subst, arith}
+use Rattle.model_line.specs.Parameters.{channel_count, terminal_count}
 use Rattle.net_gates.specs.NetOf.{NetOf, IsNet, IsNetOf}
+use Rattle.net_gates.specs.NetLaws.{hear_channels}
 use Rattle.net_compile.proofs.Ends.{HaveEnds, have_more, net_of_line, both_ok}
 use Rattle.net_compile.proofs.whole_line.compile.Goals as goal
 
@@ -15,6 +16,13 @@ loop-terminal-preserved c =
     c.loop-terminal.terminal c.loop-terminal.invariant c.in_ok-ends.ensures.adds
     c.in_ok-ends.ensures.made in
     rw (c.in_ok-push.ensures.items, c.in_ok-push-2.ensures.items, ← next) more
+
+pub finish-requires-clause-heard : goal.finish-requires-clause-heard
+finish-requires-clause-heard c = λ i k gate at hears.
+    let below : k < channel_count c.args.line.now =
+    hear_channels c.args.line.now c.loop-terminal.net c.loop-terminal.invariant.named i k gate at
+    hears in
+    omega (arith, below)
 
 pub returns : goal.returns
 returns c =

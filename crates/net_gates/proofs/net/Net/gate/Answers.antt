@@ -7,7 +7,7 @@ use Rattle.net_gates.proofs.net.Net.gate.Goals as goal
 
 pub returns-clause-stands : goal.returns-clause-stands
 returns-clause-stands c =
-    let net : IsNet c.args.self.now = subst IsNet c.self.view_is c.self.invariant in
+    let net : IsNet c.args.self.now = subst IsNet c.self.view_is c.self.invariant.0 in
     let within : c.args.id.0 < length c.self.inside.gates.items =
     subst (λ (n : NetOf). c.args.id.0 < length n.gates) (sym c.self.view_is) c.requires in
     let at : slice_get c.args.self.now.gates c.args.id.0 ≡ Some c.index.result.now =

@@ -5,7 +5,7 @@ use Rattle.net_gates.proofs.net.Net.trip_gate.Goals as goal
 
 pub returns-clause-exists : goal.returns-clause-exists
 returns-clause-exists c =
-    let net : IsNet c.args.self.now = subst IsNet c.self.view_is c.self.invariant in
+    let net : IsNet c.args.self.now = subst IsNet c.self.view_is c.self.invariant.0 in
     let same : length c.args.self.now.trips ≡ length c.args.self.now.keys = net.same in
     let lt : c.args.terminal < length c.args.self.now.trips = omega (arith, c.requires, same) in
     let h : trip_of c.args.self.now c.args.terminal < length c.args.self.now.gates =
