@@ -9,20 +9,19 @@ ghost use Rattle.run_timers.specs.Vectors.{numbers_in};
 ghost use Rattle.run_timers.specs.Vectors.{steady_in};
 
 use crate::Timed;
-use crate::vectors::{lasting, least_of, left_over, runs_after, splat, steady_for, ticks_of};
+use crate::vectors::{lasting, least_steady, take_left, take_runs, ticks_of};
 use model_history::laws::history_laws;
 use run_signal::{Lanes64, Signal, Ticks64};
 use std::marker::Model;
-use std::simd::prelude::*;
 
-/// The timed cells of 64 lanes, side by side in four vectors. Contracts see the four numbers of
+/// The timed cells of 64 lanes, side by side in four arrays. Contracts see the four numbers of
 /// each lane.
 #[derive(Drop)]
 pub struct LaneCells {
-    pickup: u16x64,
-    dropout: u16x64,
-    run: u16x64,
-    left: u16x64,
+    pickup: [u16; 64],
+    dropout: [u16; 64],
+    run: [u16; 64],
+    left: [u16; 64],
 }
 
 impl Model for LaneCells {
@@ -43,8 +42,8 @@ impl LaneCells {
         LaneCells {
             pickup: ticks_of(pickup),
             dropout: ticks_of(dropout),
-            run: splat(0),
-            left: splat(0),
+            run: [0; 64],
+            left: [0; 64],
         }
     }
 
@@ -57,7 +56,7 @@ impl LaneCells {
             bit_on result lane ≡ nat_lt 0 (slice_index self.new.left lane) }
     {
         self.skip(input, 1);
-        lasting(self.left)
+        lasting(&self.left)
     }
 
     /// Takes so many ticks with this input.
@@ -68,8 +67,14 @@ impl LaneCells {
             ≡ numbers_after count (numbers_in self.old lane) (bit_on input lane) }
     {
         let count = count as u16;
-        self.run = runs_after(self.pickup, self.run, input, count);
-        self.left = left_over(self.pickup, self.dropout, self.run, self.left, count);
+        take_runs(&mut self.run, &self.pickup, input, count);
+        take_left(
+            &mut self.left,
+            &self.pickup,
+            &self.dropout,
+            &self.run,
+            count,
+        );
     }
 
     /// For how many ticks with this input the answers of all lanes stay the same, up to 4,000.
@@ -81,7 +86,7 @@ impl LaneCells {
         ensures limited { result ≤ 4000 }
         ensures bounded { AreBoundedInEachLane self.now }
     {
-        least_of(steady_for(self.pickup, self.run, self.left, input))
+        least_steady(&self.pickup, &self.run, &self.left, input) as u32
     }
 }
 

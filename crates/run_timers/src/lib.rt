@@ -8,6 +8,7 @@ ghost use Rattle.run_timers.specs.Ahead.{IsSteadyFor, next_rails};
 
 use run_signal::Signal;
 
+mod lane;
 mod lanes;
 mod laws;
 mod level;

@@ -5,16 +5,13 @@ use Rattle.run_timers.proofs.lanes.LaneCells.ahead.Goals as goal
 
 pub returns-clause-under : goal.returns-clause-under
 returns-clause-under c = λ lane inside.
-    subst (λ (v : CellVectors). c.least_of.result ≤ steady_in v lane (bit_on c.args.input lane))
-    c.self.view_is
-    (subst (λ n. c.least_of.result ≤ n) (c.steady_for.ensures lane inside)
-    (c.least_of.ensures.under lane inside))
+    subst (λ (v : CellVectors). c.least_steady.result ≤ steady_in v lane (bit_on c.args.input lane))
+    c.self.view_is (c.least_steady.ensures.under lane inside)
 
 pub returns-clause-met : goal.returns-clause-met
 returns-clause-met c = λ less.
-    let (lane, inside, is) = c.least_of.ensures.met less in (
+    let (lane, inside, is) = c.least_steady.ensures.met less in (
       lane,
       inside,
-      is ∙ c.steady_for.ensures lane inside
-          ∙ ap (λ (v : CellVectors). steady_in v lane (bit_on c.args.input lane)) c.self.view_is,
+      is ∙ ap (λ (v : CellVectors). steady_in v lane (bit_on c.args.input lane)) c.self.view_is,
     )

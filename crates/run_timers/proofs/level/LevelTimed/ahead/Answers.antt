@@ -1,6 +1,7 @@
 use Rattle.std.proofs.Common.{◌≡◌, ◌<◌, ◌∙◌, ap, arith, inl}
 use Rattle.model_history.specs.Rails.{single}
-use Rattle.run_signal.specs.Levels.{level_rails, one_rail}
+use Rattle.run_signal.specs.Levels.{level_rails}
+use Rattle.run_signal.specs.LevelLaws.{one_rail}
 use Rattle.run_timers.specs.Counts.{steady_of}
 use Rattle.run_timers.proofs.RailsLaws.{rails_steady}
 use Rattle.run_timers.proofs.level.LevelTimed.ahead.Goals as goal

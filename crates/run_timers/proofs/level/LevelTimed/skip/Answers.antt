@@ -1,6 +1,7 @@
 use Rattle.std.proofs.Common.{◌∙◌}
 use Rattle.model_history.specs.Rails.{single}
-use Rattle.run_signal.specs.Levels.{level_rails, level_sound, one_rail}
+use Rattle.run_signal.specs.Levels.{level_rails}
+use Rattle.run_signal.specs.LevelLaws.{level_sound, one_rail}
 use Rattle.run_timers.proofs.RailsLaws.{rails_skipped}
 use Rattle.run_timers.proofs.level.LevelTimed.skip.Goals as goal
 

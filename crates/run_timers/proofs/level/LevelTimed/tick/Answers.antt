@@ -1,6 +1,7 @@
 use Rattle.std.proofs.Common.{◌∙◌, ap, arith, ◌≤◌}
 use Rattle.model_history.specs.Rails.{both, single}
-use Rattle.run_signal.specs.Levels.{level_rails, level_sound, one_rail}
+use Rattle.run_signal.specs.Levels.{level_rails}
+use Rattle.run_signal.specs.LevelLaws.{level_sound, one_rail}
 use Rattle.run_timers.proofs.RailsLaws.{rails_skipped, rails_answer}
 use Rattle.run_timers.proofs.level.LevelTimed.tick.Goals as goal
 

@@ -1,4 +1,5 @@
-use Rattle.run_signal.specs.Terns.{tern_rails, tern_sound}
+use Rattle.run_signal.specs.Terns.{tern_rails}
+use Rattle.run_signal.specs.TernLaws.{tern_sound}
 use Rattle.run_timers.proofs.RailsLaws.{rails_skipped}
 use Rattle.run_timers.proofs.tern.TernTimed.skip.Goals as goal
 

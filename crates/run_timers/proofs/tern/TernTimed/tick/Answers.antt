@@ -1,7 +1,8 @@
 use Rattle.std.proofs.Common.{◌≡◌, ◌∙◌, ap, arith, subst, sym, ◌≤◌, Bool}
 use Rattle.std.specs.Prelude.{nat_lt}
 use Rattle.model_history.specs.Rails.{Rails, IsSound}
-use Rattle.run_signal.specs.Terns.{tern_rails, tern_sound}
+use Rattle.run_signal.specs.Terns.{tern_rails}
+use Rattle.run_signal.specs.TernLaws.{tern_sound}
 use Rattle.run_timers.proofs.RailsLaws.{answer_of, rails_skipped, rails_answer, answer_sound}
 use Rattle.run_timers.proofs.tern.TernTimed.tick.Goals as goal
 
