@@ -6,7 +6,8 @@ use Rattle.std.proofs.lemmas.List.{get_or-map}
 use Rattle.model_history.specs.{Comes.Comes, Rails.Rails, Rails.both, Rails.rails_at}
 use Rattle.std.specs.Prelude.{false, zero, suc, [], ◌∷◌, IsTrue}
 use Rattle.run_channel.specs.Sent.{sent_must, sent_may}
-use Rattle.run_signal.specs.{declared.tern.Tern.Tern, Terns.tern_sound, Lanes.in_lane}
+use Rattle.run_signal.specs.{declared.tern.Tern.Tern, Lanes.in_lane}
+use Rattle.run_signal.specs.{TernLaws.tern_sound}
 
 -- the rails of what was sent at a tick
 pub rails_at-in_lane : {V : Type 0} (rails : V → ℕ → Rails) (lane : ℕ) (sent : List V) (r : ℕ)

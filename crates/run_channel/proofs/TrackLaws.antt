@@ -63,6 +63,33 @@ module _ {V : Type 0} (lanes : ℕ) (rails : V → ℕ → Rails) where
       (slice_get-map (λ (v : V). rails v lane) values n
       ∙ ap (option_map (λ (v : V). rails v lane)) at)
 
+  -- until the tick after, and one tick more with the same value
+  pub stays_once : (values : List V) (t lane : ℕ) → t < length values
+      → StaysUntil (rails_at (in_lane rails lane values)) t (length values) (t + 1)
+  stays_once values t lane inside = record {
+    later = omega arith;
+    limited = omega (arith, inside);
+    same = λ r low high.
+        let here : r ≡ t = omega (arith, low, high) in
+        ap (λ (k : ℕ). rails_at (in_lane rails lane values) k) here;
+  }
+
+  pub stays_more : (values : List V) (x y : V) (t end lane : ℕ) → slice_get values t ≡ Some x
+      → slice_get values end ≡ Some y → rails y lane ≡ rails x lane
+      → StaysUntil (rails_at (in_lane rails lane values)) t (length values) end
+      → StaysUntil (rails_at (in_lane rails lane values)) t (length values) (end + 1)
+  stays_more values x y t end lane first last same stays = record {
+    later = let later : t < end = stays.later in omega (arith, later);
+    limited = let inside : end < length values = slice_get_within values end y last in
+        omega (arith, inside);
+    same = λ r low high.
+        ⊎_elim (λ early. stays.same r low early)
+        (λ late. let here : r ≡ end = omega (arith, late, high) in
+        ap (λ (k : ℕ). rails_at (in_lane rails lane values) k) here
+        ∙ rails_read values end y lane last ∙ same ∙ sym (rails_read values t x lane first))
+        (cases_lt r end);
+  }
+
   -- its rails at a tick of a longer list
   rails_pushed : (values : List V) (value : V) (lane r : ℕ) → r < length values
       → rails_at (in_lane rails lane (values ++ value ∷ [])) r

@@ -16,6 +16,9 @@ use run_signal::Signal;
 use std::alloc::Global;
 use std::marker::Model;
 
+// How many ticks are looked at one by one.
+const FEW: u32 = 8;
+
 /// The values of a key or a trip from tick 0 on, with room up to a horizon. Contracts see both.
 #[derive(Drop)]
 pub struct Track<V: Signal> {
@@ -80,8 +83,8 @@ impl<V: Signal> Track<V> {
     }
 
     /// Until when the values are those of this tick: the next change, or where the track ends. It
-    /// takes one look where the next tick brings another value, and else as many as the number of
-    /// changes has binary digits.
+    /// looks at the next few ticks, and if none of them brings another value, at as many changes as
+    /// their number has binary digits.
     pub fn stays_until(&self, t: u32) -> u32
         requires { t < length self.now.keys }
         ensures later { t < result }
@@ -90,8 +93,9 @@ impl<V: Signal> Track<V> {
             StaysUntil (rails_at (in_lane V.rails lane self.now.keys)) t
             (length self.now.keys) result }
     {
-        if changes_next(&self.values, t) {
-            return t + 1;
+        let soon = same_until(&self.values, t);
+        if soon < t + FEW {
+            return soon;
         }
         next_after(&self.changes, t, self.values.len() as u32)
     }
@@ -161,13 +165,25 @@ fn changes_to<V: Signal>(values: &[V], value: V) -> bool
     !values[count - 1].same(value)
 }
 
-// Whether there is a next tick, and its value may differ from that of this one.
-fn changes_next<V: Signal>(values: &[V], t: u32) -> bool
-    requires { t < length values.now }
-    ensures { IsTrue result → t + 1 < length values.now }
+// Until when the values are those of this tick, as far as the next few ticks tell.
+fn same_until<V: Signal>(values: &[V], t: u32) -> u32
+    requires inside { t < length values.now }
+    requires short { length values.now ≤ 4000 }
+    ensures later { t < result }
+    ensures limited { result ≤ length values.now }
+    ensures stays { (lane : ℕ) → lane < V.LANES →
+        StaysUntil (rails_at (in_lane V.rails lane values.now)) t (length values.now) result }
 {
-    let next = t as usize + 1;
-    next < values.len() && !values[next].same(values[t as usize])
+    let value = values[t as usize];
+    let last = (t + FEW).min(values.len() as u32);
+    let mut end = t + 1;
+    while end < last {
+        if !values[end as usize].same(value) {
+            return end;
+        }
+        end += 1;
+    }
+    end
 }
 
 // Appends a value so many times to a list with room for them.
