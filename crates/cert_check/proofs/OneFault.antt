@@ -2,7 +2,8 @@
 use Rattle.std.proofs.Common.{◌≡◌, ◌≢◌, ℕ, suc, Bool, List, get_or, refl, sym}
 use Rattle.std.proofs.Common.{◌∙◌, ap, arith, subst}
 use Rattle.model_history.specs.Rails.{Rails}
-use Rattle.run_signal.specs.{declared.tern.Tern.Tern, Terns.tern_once}
+use Rattle.run_signal.specs.{declared.tern.Tern.Tern}
+use Rattle.run_signal.specs.{TernLaws.tern_once}
 use Rattle.model_line.specs.declared.script.Kind.TheVariants.{Internal, External}
 use Rattle.model_line.specs.Parameters.{param_count, terminal_count}
 use Rattle.model_line.specs.declared.script.Kind.{Kind}

@@ -11,6 +11,7 @@ ghost use Rattle.cert_check.specs.{Firsts.IsFirstFailing, Verdicts.IsFirstUncove
 
 use crate::claim::Uncovered;
 use crate::gate::nth;
+use model_history::rails_laws::covering_is_an_order;
 use model_line::Line;
 use net_gates::Net;
 use run_signal::covers;
@@ -52,6 +53,10 @@ pub fn first_uncovered_tick(wide: &Runs, narrow: &Runs) -> Option<u32>
         (λ t. IsFirstFailing (λ r. RailsCover (wave_at wide.now r) (wave_at narrow.now r))
         (length wide.now) t) }
 {
+    covering_is_an_order();
+    if wide.is_like(narrow) {
+        return None;
+    }
     let mut wides = wide.cursor();
     let mut narrows = narrow.cursor();
     let mut t = 0;

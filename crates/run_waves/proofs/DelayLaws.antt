@@ -7,7 +7,8 @@ use Rattle.std.specs.Prelude.{◌↔◌, Option, Some, None, is_some, not, IsTru
 use Rattle.model_history.specs.Rails.{Rails, Ends, IsSound, rails_delayed, must_of, may_of}
 use Rattle.model_history.specs.{Comes.AllCome, Comes.SomeComes, Laws.DelaysAreTheirFacts}
 use Rattle.run_signal.specs.Spans.{ends_of}
-use Rattle.run_signal.specs.{declared.tern.Tern.Tern, Terns.tern_sound}
+use Rattle.run_signal.specs.{declared.tern.Tern.Tern}
+use Rattle.run_signal.specs.{TernLaws.tern_sound}
 use Rattle.run_waves.specs.{Waves.wave_at, Waves.ArrivesAlike, FirstTick.IsFirstOn}
 
 pub wave_sound : (wave : List Tern) (r : ℕ) → IsSound (wave_at wave r)

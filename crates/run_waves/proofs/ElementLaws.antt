@@ -1,6 +1,9 @@
 -- Elements over a wave of which a stretch has one value.
 use Rattle.std.proofs.Common.{◌≡◌, ℕ, zero, suc, ◌+◌, ◌-◌, ◌<◌, ◌≤◌, [], ◌∷◌, ◌++◌, length, refl}
-use Rattle.std.proofs.Common.{sym, ◌∙◌, ap, arith}
+use Rattle.std.proofs.Common.{sym, ◌∙◌, ap, arith, Bool}
+use Rattle.std.proofs.lemmas.Bool.Decides.{same_from_decides}
+use Rattle.std.specs.Prelude.{IsTrue, ◌↔◌}
+use Rattle.model_history.specs.Elements.{timed, IsTimed}
 use Rattle.model_history.specs.Rails.{Rails, Ends, rails_at, rails_timed, rails_sealed}
 use Rattle.model_history.specs.{Laws.HistoryLaws, Recorded.first_ticks}
 use Rattle.run_timers.specs.Seals.{last_seal, SealStandsFor}
@@ -36,6 +39,36 @@ module _ (laws : HistoryLaws) where
       ∙ ap (λ (z : Rails). rails_sealed (rails_at (first_ticks u n ++ u n ∷ []))
       (rails_at (first_ticks v n ++ z ∷ [])) (length (first_ticks u n))) (sym is_y)
       ∙ laws.recorded.sealed u v n
+
+  -- with no pickup and no dropout an element is its input
+  is_timed_now : (u : ℕ → Bool) (p d t : ℕ) → p ≡ 0 → d ≡ 0 → IsTrue (u t) ↔ IsTimed u p d t
+  is_timed_now u p d t no_pickup no_dropout = (
+    λ on. record {
+      s = t;
+      past = omega arith;
+      lasts = omega arith;
+      holds = record {
+        late = omega arith;
+        on = λ r low high. let same : r ≡ t = omega arith in ap u same ∙ on;
+      };
+    },
+    λ timed. (let lasts : t ≤ timed.s + d = timed.lasts in
+        let past : timed.s ≤ t = timed.past in
+        timed.holds.on t (omega arith) (omega arith)),
+  )
+
+  timed_now : (u : ℕ → Bool) (p d t : ℕ) → p ≡ 0 → d ≡ 0 → u t ≡ timed u p d t
+  timed_now u p d t no_pickup no_dropout =
+      same_from_decides (u t) (timed u p d t) (is_timed_now u p d t no_pickup no_dropout)
+      (laws.elements.timed u p d t)
+
+  pub rails_timed_now : (u : ℕ → Rails) (p d : Ends) (t : ℕ) → p.least ≤ p.greatest
+      → d.least ≤ d.greatest → p.greatest ≡ 0 → d.greatest ≡ 0 → u t ≡ rails_timed u p d t
+  rails_timed_now u p d t pickups dropouts no_pickup no_dropout =
+      let must = timed_now (λ r. (u r).must) p.greatest d.least t no_pickup (omega arith) in
+      let may = timed_now (λ r. (u r).may) p.least d.greatest t (omega arith) no_dropout in
+      ap (λ (b : Bool). record { must = b; may = (u t).may }) must
+      ∙ ap (λ (b : Bool). record { must = (rails_timed u p d t).must; may = b }) may
 
 module _ (laws : HistoryLaws) (stretch : ElementsInAStretch) where
   -- what a seal keeps is the answer at the last tick of the stretch

@@ -7,7 +7,7 @@ use Rattle.std.proofs.lemmas.List.Sums.{position_or_len_is, fails_before_first}
 use Rattle.std.specs.Prelude.{nat_lt, IsTrue, IsFalse, IfSome}
 use Rattle.std.specs.List.{position_or_len}
 use Rattle.model_history.specs.Recorded.{first_ticks}
-use Rattle.model_history.specs.FirstTicks.{length-first_ticks, get_or-first_ticks}
+use Rattle.model_history.specs.FirstTickLaws.{length-first_ticks, get_or-first_ticks}
 use Rattle.run_waves.specs.FirstTick.{first_on, IsFirstOn}
 
 module _ (u : ℕ → Bool) (n : ℕ) where

@@ -6,3 +6,5 @@ pub mod LongestRuns
 pub mod TextLaws
 pub mod OneLine
 pub mod FirstTicks
+pub mod GateLaws
+pub mod ReadLaws

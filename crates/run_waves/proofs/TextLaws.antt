@@ -21,7 +21,7 @@ use Rattle.run_waves.proofs.RunLaws.{levels_round, new_levels, length-levels, so
 use Rattle.run_waves.proofs.RunLaws.{end_from, one_run_more, length-runs_from}
 
 -- one item more
-items_more : (runs : List Run) (run : Run)
+pub items_more : (runs : List Run) (run : Run)
     → items_text (runs ++ run ∷ []) ≡ items_text runs ++ (gap (length runs) ++ item_text run)
 items_more [] run = refl
 items_more (first ∷ []) run = refl
@@ -54,7 +54,7 @@ abbrev AllOthers : List ℕ → Type 0
 AllOthers [] = Unit {0}
 AllOthers (byte ∷ bytes) = (is_other byte ≡ true) × AllOthers bytes
 
-both_true : (a b : Bool) → (a && b) ≡ true → (a ≡ true) × (b ≡ true)
+pub both_true : (a b : Bool) → (a && b) ≡ true → (a ≡ true) × (b ≡ true)
 both_true true b h = (refl, h)
 both_true false b h = cc
 

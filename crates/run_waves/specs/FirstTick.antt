@@ -1,25 +1,12 @@
 -- The first tick at which a signal is on.
-use Rattle.std.specs.Prelude.{◌≡◌, ◌<◌, ◌≤◌, ◌∷◌, ◌++◌, ℕ, zero, suc, Bool, true, false, List, []}
-use Rattle.std.specs.Prelude.{Option, Some, None, refl}
+use Rattle.std.specs.Prelude.{◌≡◌, ◌<◌, ◌≤◌, ℕ, Bool, true, false}
+use Rattle.std.specs.Prelude.{Option, Some, None}
 use Rattle.std.specs.List.{position}
-use Rattle.std.proofs.Common.{◌∙◌, ap, arith}
 use Rattle.model_history.specs.Recorded.{first_ticks}
 
 -- the place of the first `true` among the values at the first n ticks, if there is one
 abbrev pub first_on : (ℕ → Bool) → ℕ → Option ℕ
 first_on u n = position (λ on. on) (first_ticks u n)
-
-first_ticks-same : (u v : ℕ → Bool) (n : ℕ) → ((t : ℕ) → t < n → u t ≡ v t)
-    → first_ticks u n ≡ first_ticks v n
-first_ticks-same u v zero same = refl
-first_ticks-same u v (suc n) same =
-    ap (λ (xs : List Bool). xs ++ u n ∷ []) (first_ticks-same u v n (λ t lt. same t (omega arith)))
-    ∙ ap (λ (b : Bool). first_ticks v n ++ b ∷ []) (same n (omega arith))
-
--- it rests on the ticks below n alone
-pub first_on-same : (u v : ℕ → Bool) (n : ℕ) → ((t : ℕ) → t < n → u t ≡ v t)
-    → first_on u n ≡ first_on v n
-first_on-same u v n same = ap (position (λ on. on)) (first_ticks-same u v n same)
 
 -- none of the ticks from `from` on before `end` is on
 abbrev pub IsOffFrom : (ℕ → Bool) → ℕ → ℕ → Type 0

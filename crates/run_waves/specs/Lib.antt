@@ -2,3 +2,4 @@ pub mod Waves
 pub mod Text
 pub mod WaveLaws
 pub mod FirstTick
+pub mod FirstTickLaws

@@ -1,6 +1,6 @@
 -- Waves tick by tick, and as runs.
 use Rattle.std.specs.Prelude.{◌≡◌, ◌≢◌, ℕ, ◌+◌, ◌-◌, ◌<◌, ◌≤◌, List, [], ◌∷◌, length, replicate}
-use Rattle.std.specs.Prelude.{Bool, map, slice_get, get_or, Some}
+use Rattle.std.specs.Prelude.{Bool, map, slice_get, get_or, Some, ◌⊎◌}
 use Rattle.std.specs.List.{flat_map}
 use Rattle.model_history.specs.Rails.{Rails, rails_at}
 use Rattle.run_signal.specs.{declared.tern.Tern.Tern, Terns.tern_rails}
@@ -86,3 +86,23 @@ Tells answers rail = (x : Tern) (on : Bool) → answers x on → on ≡ rail (te
 abbrev pub Combines : (Tern → Tern → Tern → Type 0) → (Rails → Rails → Rails) → Type 0
 Combines answers op =
     (x y z : Tern) → answers x y z → tern_rails z ≡ op (tern_rails x) (tern_rails y)
+
+-- a value decides alone what the operation answers
+abbrev pub Decides : (Rails → Rails → Rails) → Tern → Type 0
+Decides op level = (x : Rails) → (op (tern_rails level) x ≡ tern_rails level)
+    × (op x (tern_rails level) ≡ tern_rails level)
+
+-- at tick k both runs go on, or one that decides alone does
+abbrev pub IsDecided : Stretch → Stretch → Tern → ℕ → Type 0
+IsDecided first second decides k =
+    ((k < first.end) × (k < second.end))
+    ⊎ (((k < first.end) × (first.level ≡ decides)) ⊎ ((k < second.end) × (second.level ≡ decides)))
+
+-- a value leaves the answer to the other argument
+abbrev pub Leaves : (Rails → Rails → Rails) → Tern → Type 0
+Leaves op level = (x : Rails) → (op (tern_rails level) x ≡ x) × (op x (tern_rails level) ≡ x)
+
+-- so many answers in each lane, one at least, are like the first
+pub record StaysSteady (lanes : ℕ) (answer : ℕ → ℕ → Rails) (n : ℕ) : Type 0 where
+  pub some : 1 ≤ n
+  pub same : (lane k : ℕ) → lane < lanes → k < n → answer lane k ≡ answer lane 0

@@ -3,7 +3,8 @@
 
 ghost use Rattle.std.specs.Prelude.{◌≡◌, ℕ, ◌<◌, ◌≤◌, List, [], ◌∷◌, ◌++◌, length, replicate, IfOk};
 ghost use Rattle.model_history.specs.Rails.{Rails, rails_timed, rails_sealed, rails_at};
-ghost use Rattle.run_waves.specs.Waves.{wave_at, IsWaveOf};
+ghost use Rattle.run_timers.specs.Ahead.{next_rails};
+ghost use Rattle.run_waves.specs.Waves.{wave_at, IsWaveOf, StaysSteady};
 
 use crate::runs::Runs;
 use model_history::laws::history_laws;
@@ -18,6 +19,19 @@ pub fn timer(alloc: Global, a: &Runs, pickup: Within, dropout: Within) -> Result
     ensures { IfOk result (λ wave.
         IsWaveOf wave (length a.now) (λ t. rails_timed (wave_at a.now) pickup dropout t)) }
 {
+    if pickup.greatest() == 0 && dropout.greatest() == 0 {
+        history_laws();
+        let wave = a.copy(alloc)?;
+        return Ok(wave);
+    }
+    timer_of_some(alloc, a, pickup, dropout)
+}
+
+// The same by cells, whatever the times.
+fn timer_of_some(alloc: Global, a: &Runs, pickup: Within, dropout: Within) -> Result<Runs, Memory>
+    ensures { IfOk result (λ wave.
+        IsWaveOf wave (length a.now) (λ t. rails_timed (wave_at a.now) pickup dropout t)) }
+{
     history_laws();
     elements_stay_in_a_stretch();
     let mut wave = Runs::new(alloc);
@@ -26,12 +40,30 @@ pub fn timer(alloc: Global, a: &Runs, pickup: Within, dropout: Within) -> Result
     'stretches: while wave.len() < a.len() {
         let t = wave.len();
         let input = inputs.stretch(t);
-        let steady = Tern::ahead(&cells, input.level);
-        let count = steady.min(input.end - t);
+        let count = steady_within::<Tern>(&cells, input.level, input.end - t);
         let answer = first_answer::<Tern>(&mut cells, input.level, count);
         wave.push(answer, count)?;
     }
     Ok(wave)
+}
+
+// For how many ticks with this input, at most so many, the answers stay the same.
+fn steady_within<V: Timed>(cells: &V::Cells, input: V, most: u32) -> u32
+    requires { 1 ≤ most }
+    ensures within { result ≤ most }
+    ensures steady { (pickup dropout : V.Span) (inputs : ℕ → List Rails) →
+        ((lane : ℕ) → lane < V.LANES →
+        V.stands_for cells.now pickup dropout lane (inputs lane)) →
+        StaysSteady V.LANES
+        (λ lane k. next_rails (V.ends pickup lane) (V.ends dropout lane)
+        (inputs lane) (V.rails input lane) k)
+        result }
+{
+    if most == 1 {
+        return 1;
+    }
+    let steady = V::ahead(cells, input);
+    steady.min(most)
 }
 
 // Takes so many ticks with this input, and answers the timed element at the first of them.

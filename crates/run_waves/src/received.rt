@@ -2,15 +2,15 @@
 #![tactic(auto)]
 
 ghost use Rattle.std.specs.Prelude.{◌≡◌, ◌↔◌, ◌+◌, ◌<◌, ◌≤◌, ◌++◌, ℕ, List, IsTrue, length, IfOk};
-ghost use Rattle.model_history.specs.{Comes.AllCome, Comes.SomeComes, Rails.rails_delayed};
+ghost use Rattle.model_history.specs.{Comes.AllCome, Comes.SomeComes, Rails.rails_delayed, Rails.single};
 ghost use Rattle.run_signal.specs.{declared.tern.Tern.Tern, Spans.ends_of, Terns.tern_rails};
 ghost use Rattle.run_waves.specs.Waves.{wave_at, IsWaveOf, IsSameUntil, ArrivesAlike};
 
 use crate::cursor::Cursor;
 use crate::first::first_from;
-use crate::runs::Runs;
+use crate::runs::{Runs, Stretch};
 use model_history::delay_laws::{
-    delays_are_their_facts, delays_read_earlier_ticks, delays_stay_sound,
+    delays_are_their_facts, delays_read_earlier_ticks, delays_stay_sound, one_delay_reads_one_tick,
 };
 use model_line::Memory;
 use run_signal::{Signal, Tern, Within};
@@ -19,6 +19,58 @@ use std::alloc::Global;
 /// What is received of a key at each tick, where what arrives at a tick was delayed by a number of
 /// ticks within the span.
 pub fn raw(alloc: Global, key: &Runs, delay: Within) -> Result<Runs, Memory>
+    requires { 1 ≤ delay.least }
+    ensures { IfOk result (λ wave.
+        IsWaveOf wave (length key.now) (λ t. rails_delayed (wave_at key.now) delay t)) }
+{
+    let least = delay.least();
+    let greatest = delay.greatest();
+    if least == greatest {
+        raw_of_one(alloc, key, least)
+    } else {
+        raw_of_some(alloc, key, delay)
+    }
+}
+
+// What is received of a key after one delay: its runs, so many ticks later.
+fn raw_of_one(alloc: Global, key: &Runs, delay: u32) -> Result<Runs, Memory>
+    requires { delay ≤ 4000 }
+    ensures { IfOk result (λ wave.
+        IsWaveOf wave (length key.now) (λ t. rails_delayed (wave_at key.now) (single delay) t)) }
+{
+    let mut wave = Runs::new(alloc);
+    let mut keys = key.cursor();
+    'stretches: while wave.len() < key.len() {
+        let t = wave.len();
+        let run = arrived(&mut keys, delay, t);
+        wave.push(run.level, run.end.min(key.len()) - t)?;
+    }
+    Ok(wave)
+}
+
+// What arrives at a tick after one delay, and until when it does.
+fn arrived(key: &mut Cursor<'_>, delay: u32, t: u32) -> Stretch
+    requires known { t < length key.old + delay }
+    requires limited { delay ≤ 4000 }
+    ensures key { key.new ≡ key.old }
+    ensures later { t < result.end }
+    ensures same { (k : ℕ) → t ≤ k → k < result.end →
+        rails_delayed (wave_at key.old) (single delay) k ≡ tern_rails result.level }
+{
+    one_delay_reads_one_tick();
+    if t < delay {
+        let level = Tern::known(false);
+        return Stretch { level, end: delay };
+    }
+    let run = key.stretch(t - delay);
+    Stretch {
+        level: run.level,
+        end: run.end + delay,
+    }
+}
+
+// What is received of a key after delays within a span.
+fn raw_of_some(alloc: Global, key: &Runs, delay: Within) -> Result<Runs, Memory>
     requires { 1 ≤ delay.least }
     ensures { IfOk result (λ wave.
         IsWaveOf wave (length key.now) (λ t. rails_delayed (wave_at key.now) delay t)) }

@@ -2,7 +2,7 @@
 #![tactic(auto)]
 
 ghost use Rattle.std.specs.Prelude.{◌≡◌, ◌+◌, ◌-◌, ◌<◌, ◌≤◌, [], ◌++◌, length, replicate};
-ghost use Rattle.std.specs.Prelude.{slice_get, Some, IfOk, MatchResult};
+ghost use Rattle.std.specs.Prelude.{slice_get, Some, IfOk, IsTrue, MatchResult};
 ghost use Rattle.run_signal.specs.Terns.{tern_rails};
 ghost use Rattle.run_waves.specs.Waves.{wave_at, AreApart, AreRunsOf, levels_of, runs_from};
 
@@ -104,6 +104,13 @@ impl Runs {
         self.stretches.as_slice()
     }
 
+    /// Whether both waves have the same runs.
+    pub fn is_like(&self, other: &Runs) -> bool
+        ensures { IsTrue result → self.now ≡ other.now }
+    {
+        are_like(&self.stretches, &other.stretches)
+    }
+
     /// An equal wave.
     pub fn copy(&self, alloc: Global) -> Result<Runs, Memory>
         ensures { IfOk result (λ wave. wave ≡ self.now) }
@@ -134,4 +141,19 @@ fn push_stretch(stretches: &mut Vec<Stretch>, level: Tern, end: u32) -> Result<(
     }
     stretches.push(Stretch { level, end })?;
     Ok(())
+}
+
+// Whether the runs are the same.
+fn are_like(some: &[Stretch], others: &[Stretch]) -> bool
+    ensures { IsTrue result → some.now ≡ others.now }
+{
+    if some.len() != others.len() {
+        return false;
+    }
+    for i in 0..some.len() {
+        if some[i].end != others[i].end || some[i].level != others[i].level {
+            return false;
+        }
+    }
+    true
 }

@@ -2,13 +2,14 @@
 #![tactic(auto)]
 
 ghost use Rattle.std.specs.Prelude.{◌≡◌, ◌≤◌, ◌<◌, ◌+◌, ◌++◌, List, length, take, drop, Some, IfOk};
-ghost use Rattle.std.specs.Prelude.{OnOk, MatchOption};
+ghost use Rattle.std.specs.Prelude.{OnOk, MatchOption, IsFalse, ◌↔◌};
 ghost use Rattle.run_signal.specs.declared.tern.Tern.{Tern};
 ghost use Rattle.run_waves.specs.declared.runs.Run.{Run};
 ghost use Rattle.run_waves.specs.Waves.{AreApart, AreRunsOf, levels_of, runs_from};
 ghost use Rattle.run_waves.specs.Text.{tern_word as word_of_tern, item_text, items_text};
 ghost use Rattle.run_waves.specs.Text.{runs_text, gap, IsTextOf, level_in, run_in};
 
+use crate::laws::texts_tell_waves;
 use crate::runs::{Run, Runs, Stretch};
 use base_lines::find_byte;
 use base_store::number;
@@ -78,39 +79,56 @@ pub fn read_runs(alloc: Global, text: &[u8], horizon: u32) -> Result<Option<Runs
         ((wave : List Tern) → ¬ IsTextOf text.now horizon wave)
         (λ wave. IsTextOf text.now horizon wave)) }
 {
+    texts_tell_waves();
     let Some(wave) = read_items(alloc, text, horizon)? else {
         return Ok(None);
     };
-    let printed = print_runs(alloc, &wave)?;
-    if wave.len() == horizon && printed.as_slice() == text {
+    if wave.len() == horizon {
         Ok(Some(wave))
     } else {
         Ok(None)
     }
 }
 
-// The wave of these items: if they are the items of a wave's runs, it is that wave.
+// The wave of which this is the one text, if it has at most so many ticks. None only where it is the
+// text of no wave of so many.
 fn read_items(alloc: Global, text: &[u8], horizon: u32) -> Result<Option<Runs>, Memory>
     requires some { 1 ≤ horizon }
     requires limited { horizon ≤ 4000 }
-    ensures { IfOk result (λ read. (runs : List Run) → AreRunsOf runs horizon →
-        items_text runs ≡ text.now → read ≡ Some (levels_of runs)) }
+    ensures { IfOk result (λ read. MatchOption read
+        ((runs : List Run) → AreRunsOf runs horizon → ¬ (items_text runs ≡ text.now))
+        (λ wave. runs_text wave ≡ text.now)) }
 {
     let mut wave = Runs::new(alloc);
+    let mut last = None;
     let mut rest = text;
     'items: loop {
         let end = find_byte(rest, b' ');
         let Some(run) = first_run(rest, end) else {
             return Ok(None);
         };
-        if run.ticks < 1 || run.ticks > horizon - wave.len() {
+        if goes_on(last, run) || run.ticks > horizon - wave.len() {
             return Ok(None);
         }
         wave.push(run.level, run.ticks)?;
         if end == rest.len() {
             return Ok(Some(wave));
         }
+        last = Some(run.level);
         rest = after_item(rest, end);
+    }
+}
+
+// Whether a run has no ticks, or the value of the run before it.
+fn goes_on(last: Option<Tern>, run: Run) -> bool
+    ensures { IsFalse result ↔ ((1 ≤ run.ticks) × ¬ (last ≡ Some run.level)) }
+{
+    if run.ticks < 1 {
+        return true;
+    }
+    match last {
+        Some(level) => level == run.level,
+        None => false,
     }
 }
 

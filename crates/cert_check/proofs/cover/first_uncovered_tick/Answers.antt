@@ -1,9 +1,16 @@
-use Rattle.std.proofs.Common.{ℕ, length, ap, sym, ◌∙◌, arith}
+use Rattle.std.proofs.Common.{ℕ, List, length, ap, sym, ◌∙◌, arith, subst, refl}
 use Rattle.model_history.specs.Rails.{RailsCover}
-use Rattle.run_signal.specs.Terns.{tern_rails}
+use Rattle.run_signal.specs.{declared.tern.Tern.Tern, Terns.tern_rails}
 use Rattle.run_waves.specs.Waves.{wave_at}
 use Rattle.cert_check.proofs.Firsts.{along, stretch_more, not_both, cover_same}
 use Rattle.cert_check.proofs.cover.first_uncovered_tick.Goals as goal
+
+pub returns-then-is_like : goal.returns-then-is_like
+returns-then-is_like c = λ t within.
+    let P : List Tern → Type 0 =
+    λ w. RailsCover (wave_at c.args.wide.now t) (wave_at w t) in
+    subst P (c.if-is_like.ensures refl)
+    (c.covering_is_an_order.ensures.itself (wave_at c.args.wide.now t))
 
 pub stretch-first-requires : goal.stretch-first-requires
 stretch-first-requires c =

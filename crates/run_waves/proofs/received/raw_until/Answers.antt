@@ -5,7 +5,8 @@ use denote.Enum.Bare.{same_true, same_false}
 use Rattle.model_history.specs.{Rails.Rails, Rails.Ends, Rails.rails_delayed}
 use Rattle.model_history.specs.Laws.{DelaysReadEarlierTicks}
 use Rattle.run_signal.specs.contracts.tern.Tern.{the_type}
-use Rattle.run_signal.specs.Terns.{tern_rails, tern_once}
+use Rattle.run_signal.specs.Terns.{tern_rails}
+use Rattle.run_signal.specs.TernLaws.{tern_once}
 use Rattle.run_signal.specs.declared.tern.Tern.{Tern}
 use Rattle.run_waves.specs.Waves.{wave_at}
 use Rattle.run_waves.proofs.{WaveLaws.wave_at-front}

@@ -1,17 +1,22 @@
-use Rattle.std.proofs.Common.{◌≡◌, ◌≤◌, ◌+◌, ◌++◌, List, ℕ, Some, length, sym, drop, ◌∙◌, ap, arith}
+use Rattle.std.proofs.Common.{◌≡◌, ◌≤◌, ◌+◌, ◌++◌, List, ℕ, Some, None, length, true, false, refl, sym, drop, ◌∙◌, ap, arith}
 use Rattle.std.proofs.Common.{subst, length-append}
 use Rattle.std.proofs.lemmas.List.{length-replicate}
 use Rattle.run_signal.specs.declared.tern.Tern.{Tern}
-use Rattle.run_waves.specs.{declared.runs.Run.Run, Waves.ticks_of}
-use Rattle.run_waves.proofs.TextLaws.{ReadsOn, reads_first, reads_run, reads_none, reads_last}
+use Rattle.run_waves.specs.{declared.runs.Run.Run, Waves.ticks_of, Text.runs_text}
+use Rattle.run_waves.proofs.TextLaws.{ReadsOn, reads_first, reads_run, reads_none}
 use Rattle.run_waves.proofs.TextLaws.{reads_more}
+use Rattle.run_waves.proofs.ReadLaws.{HasRead, has_read_none, no_run_joins, whole_is_read}
+use Rattle.run_waves.proofs.ReadLaws.{more_is_read}
 use Rattle.run_waves.proofs.text.read_items.Goals as goal
-use Rattle.run_waves.proofs.text.read_items.Goals.{then-run-lt1-via-then-run-lt1}
-use Rattle.run_waves.proofs.text.read_items.Goals.{then-run-lt1-via-else-run-lt1+then-run-horizon}
+use Rattle.run_waves.proofs.text.read_items.Goals.{then-goes_on-via-then-goes_on}
+use Rattle.run_waves.proofs.text.read_items.Goals.{then-goes_on-via-else-goes_on+then-run-horizon}
 
 pub items-init : goal.items-init
 items-init c = record {
   short = omega (arith, ap length c.new-wave.ensures);
+  has_read =
+      (let P : List Tern → Type 0 = λ w. HasRead c.args.text.now w None c.args.text.now in
+      subst P (sym c.new-wave.ensures) (has_read_none c.args.text.now));
   reads = λ runs are text.
       let P : List Tern → Type 0 = λ w. ReadsOn runs c.args.horizon w c.args.text.now in
       subst P (sym c.new-wave.ensures)
@@ -24,28 +29,34 @@ returns-in_default c = λ runs are text.
     c.requires.limited c.find_byte-end.ensures.place (c.items.invariant.reads runs are text)
     c.in_default.ensures)
 
-pub returns-then-run-lt1 : goal.returns-then-run-lt1
-returns-then-run-lt1 c = λ runs are text.
+pub returns-then-goes_on : goal.returns-then-goes_on
+returns-then-goes_on c = λ runs are text.
     let r = c.items.invariant.reads runs are text in
     let next = reads_run runs c.args.horizon c.items.wave c.items.rest.now c.find_byte-end.result
     c.requires.limited c.find_byte-end.ensures.place r c.in-Some.run' c.in-Some.ensures in
     let ticks : c.in-Some.run'.ticks ≡ r.next.ticks = ap (λ (run : Run). run.ticks) next in
     let some : 1 ≤ r.next.ticks = r.some in
     let room : length c.items.wave + r.next.ticks ≤ c.args.horizon = r.room in
-    elim c.then-run-lt1.branch [
-      | then-run-lt1-via-then-run-lt1 w ↦ absurd (omega arith)
-      | then-run-lt1-via-else-run-lt1+then-run-horizon w ↦ absurd (omega arith)
+    elim c.then-goes_on.branch [
+      | then-goes_on-via-then-goes_on w ↦
+          (let no : true ≡ false = w.if-goes_on.ensures.1 (
+            omega arith,
+            (λ same.
+                no_run_joins runs c.args.horizon c.args.text.now c.items.wave c.items.last
+                c.items.rest.now are r c.items.invariant.has_read
+                (same ∙ ap (λ (run : Run). Some run.level) next)),
+          ) in
+          absurd cc)
+      | then-goes_on-via-else-goes_on+then-run-horizon w ↦ absurd (omega arith)
     ]
 
 pub returns-then-end-rest : goal.returns-then-end-rest
-returns-then-end-rest c = λ runs are text.
-    let r = c.items.invariant.reads runs are text in
-    let next = reads_run runs c.args.horizon c.items.wave c.items.rest.now c.find_byte-end.result
-    c.requires.limited c.find_byte-end.ensures.place r c.in-Some.run' c.in-Some.ensures in
-    let whole = reads_last runs c.args.horizon c.items.wave c.items.rest.now c.find_byte-end.result
-    c.requires.limited c.find_byte-end.ensures.place r c.if-end-rest.true in
-    ap (λ (w : List Tern). Some w)
-    (c.in_ok-push.ensures ∙ ap (λ (run : Run). c.items.wave ++ ticks_of run) next ∙ sym whole)
+returns-then-end-rest c =
+    let apart = c.if-goes_on.ensures.0 refl in
+    ap runs_text c.in_ok-push.ensures
+    ∙ whole_is_read c.args.text.now c.items.wave c.items.last c.items.rest.now
+    c.find_byte-end.result c.in-Some.run' c.items.invariant.has_read c.in-Some.ensures apart.0
+    apart.1 c.if-end-rest.true
 
 pub items-preserved : goal.items-preserved
 items-preserved c =
@@ -58,6 +69,16 @@ items-preserved c =
         length-append c.items.wave (ticks_of run),
         length-replicate run.ticks run.level,
       );
+      has_read =
+          (let apart = c.if-goes_on.ensures.0 refl in
+          let left : List ℕ = drop (c.find_byte-end.result + 1) c.items.rest.now in
+          let more = more_is_read c.args.text.now c.items.wave c.items.last c.items.rest.now
+          c.find_byte-end.result run c.items.invariant.has_read c.in-Some.ensures apart.0 apart.1
+          c.find_byte-end.ensures.place c.find_byte-end.ensures.inside c.if-end-rest.false in
+          let P : List Tern → Type 0 = λ w. HasRead c.args.text.now w (Some run.level) left in
+          let Q : List ℕ → Type 0 =
+          λ t. HasRead c.args.text.now c.push.new.self (Some run.level) t in
+          subst Q (sym c.after_item-rest.ensures) (subst P (sym grown) more));
       reads = λ runs are text.
           let r = c.items.invariant.reads runs are text in
           let next = reads_run runs c.args.horizon c.items.wave c.items.rest.now

@@ -1,12 +1,13 @@
 use Rattle.std.proofs.Common.{◌≡◌, ◌≤◌, List, length}
 use Rattle.run_waves.specs.{declared.runs.Run.Run, Waves.AreRunsOf, Text.items_text}
-use Rattle.run_waves.proofs.TextLaws.{ReadsOn}
+use Rattle.run_waves.proofs.{TextLaws.ReadsOn, ReadLaws.HasRead}
 use Rattle.run_waves.proofs.text.read_items.Given as goal
 
--- of any wave with this text the first runs are read
+-- the first runs are read, and of any wave with this text they are the first
 abbrev pub invariant-items : goal.invariant-items
 invariant-items l = record {
   short : length l.wave ≤ l.horizon;
+  has_read : HasRead l.text l.wave l.last l.rest;
   reads : (runs : List Run) → AreRunsOf runs l.horizon → items_text runs ≡ l.text
       → ReadsOn runs l.horizon l.wave l.rest;
 }

@@ -1,7 +1,7 @@
 use Rattle.std.proofs.Common.{◌≡◌, ◌-◌, ◌≤◌, length}
 use Rattle.model_history.specs.Rails.{rails_delayed}
 use Rattle.run_waves.specs.Waves.{wave_at, IsWaveOf}
-use Rattle.run_waves.proofs.received.raw.Given as goal
+use Rattle.run_waves.proofs.received.raw_of_some.Given as goal
 
 abbrev pub invariant-stretches : goal.invariant-stretches
 invariant-stretches l = record {

@@ -1,7 +1,7 @@
 use Rattle.std.proofs.Common.{◌≡◌, ◌-◌, ◌≤◌, length}
 use Rattle.model_history.specs.Rails.{Rails}
-use Rattle.run_waves.specs.Waves.{wave_at, IsWaveOf, Combines}
-use Rattle.run_waves.proofs.gates.combined.Given as goal
+use Rattle.run_waves.specs.Waves.{wave_at, IsWaveOf, Combines, Decides}
+use Rattle.run_waves.proofs.gates.merged.Given as goal
 
 abbrev pub invariant-stretches : goal.invariant-stretches
 invariant-stretches g l = record {
@@ -9,6 +9,7 @@ invariant-stretches g l = record {
   seconds : l.seconds ≡ l.b;
   short : length l.wave ≤ length l.a;
   values : (rails : Rails → Rails → Rails) → Combines (goal.F-post g l.op) rails
+      → Decides rails l.decides
       → IsWaveOf l.wave (length l.wave) (λ t. rails (wave_at l.a t) (wave_at l.b t));
 }
 

@@ -3,7 +3,7 @@ use Rattle.model_history.specs.Rails.{Rails, rails_delayed}
 use Rattle.run_signal.specs.declared.tern.Tern.{Tern}
 use Rattle.run_waves.specs.Waves.{wave_at}
 use Rattle.run_waves.proofs.WaveLaws.{ticks_more, longer}
-use Rattle.run_waves.proofs.received.raw.Goals as goal
+use Rattle.run_waves.proofs.received.raw_of_some.Goals as goal
 
 pub steady_until-requires-clause-one : goal.steady_until-requires-clause-one
 steady_until-requires-clause-one c =
