@@ -6,8 +6,9 @@ use Rattle.model_line.specs.declared.script.Kind.TheVariants.{Internal, External
 use Rattle.model_line.specs.{declared.line.Line.Line, declared.script.Script.Script}
 use Rattle.model_line.specs.{declared.script.Kind.Kind, Parameters.terminal_count}
 use Rattle.model_logic.specs.Histories.{History, MeetsBy, Meets, IsSameHistory}
+use Rattle.judge_interval.specs.Rules.{counted_ticks}
 use Rattle.model_logic.specs.{Laws.TheRuleIsTested, Rule.is_held}
-use Rattle.judge_verdict.specs.Candidates.{TellsFailing}
+use Rattle.judge_verdict.specs.Candidates.{TellsFailing, looked_at}
 
 on_off : (b : Bool) → b ≡ true → b ≡ false → ⊥
 on_off b on off = let same : true ≡ false = sym on ∙ off in cc
@@ -48,18 +49,37 @@ external_tells tested deadline horizon trip failing is =
     (MeetsBy External deadline horizon trip) (is ∙ sym (not_not (some_below trip horizon)))
     (tested.held External deadline horizon (λ t. both (trip t)))
 
--- histories that are the same meet the same obligations
-meets_by : (kind : Kind) (deadline horizon : ℕ) (a b : ℕ → Bool) → deadline < horizon
-    → ((t : ℕ) → t < horizon → a t ≡ b t) → MeetsBy kind deadline horizon a
-    → MeetsBy kind deadline horizon b
-meets_by Internal deadline horizon a b early same (t, past, on) =
+-- an obligation looks at some ticks alone
+meets_by : (kind : Kind) (deadline horizon : ℕ) (a b : ℕ → Bool)
+    → ((t : ℕ) → t < counted_ticks kind deadline horizon → a t ≡ b t)
+    → MeetsBy kind deadline horizon a → MeetsBy kind deadline horizon b
+meets_by Internal deadline horizon a b same (t, past, on) =
     (t, past, sym (same t (omega arith)) ∙ on)
-meets_by External deadline horizon a b early same never =
-    λ t lt. sym (same t lt) ∙ never t lt
+meets_by External deadline horizon a b same never = λ t lt. sym (same t lt) ∙ never t lt
+
+-- histories that are the same meet the same obligations
+counted_inside : (kind : Kind) (deadline horizon t : ℕ) → deadline < horizon
+    → t < counted_ticks kind deadline horizon → t < horizon
+counted_inside Internal deadline horizon t early lt = omega (arith, early, lt)
+counted_inside External deadline horizon t early lt = lt
 
 pub same_meets : (line : Line) (script : Script) (k : ℕ) (g h : History)
     → script.deadline < line.horizon → k < terminal_count line → IsSameHistory line g h
     → Meets line script k g → Meets line script k h
 same_meets line script k g h early there same met =
-    meets_by script.kind script.deadline line.horizon (g.trip k) (h.trip k) early
-    (λ t lt. same.trips k t there lt) met
+    meets_by script.kind script.deadline line.horizon (g.trip k) (h.trip k)
+    (λ t lt. same.trips k t there
+    (counted_inside script.kind script.deadline line.horizon t early lt)) met
+
+-- so what is told of trips is told of a history that has them at these ticks
+pub tells_as : (line : Line) (script : Script) (k : ℕ) (h : History) (trip : ℕ → Bool)
+    (failing : Bool) → ((t : ℕ) → t < looked_at line script → trip t ≡ h.trip k t)
+    → TellsFailing failing (MeetsBy script.kind script.deadline line.horizon trip)
+    → TellsFailing failing (Meets line script k h)
+tells_as line script k h trip failing same told = record {
+  fails = λ on met. told.fails on
+      (meets_by script.kind script.deadline line.horizon (h.trip k) trip
+      (λ t lt. sym (same t lt)) met);
+  passes = λ off. meets_by script.kind script.deadline line.horizon trip (h.trip k) same
+      (told.passes off);
+}

@@ -5,6 +5,7 @@ ghost use Rattle.net_gates.specs.NetOf.{IsNetOf};
 ghost use Rattle.model_timing.specs.Candidates.{candidate_count as count_of};
 ghost use Rattle.judge_verdict.specs.Candidates.{IsBlockRun};
 
+use crate::failing::looked_ticks;
 use model_line::laws::parameters_are_numbered;
 use model_line::{Line, Memory, Script};
 use model_logic::laws::each_line_has_a_choice_inside;
@@ -13,10 +14,10 @@ use model_timing::{
 };
 use net_gates::Net;
 use run_signal::{Lanes64, Ticks64};
-use run_simulator::{Tracks, run_tracks};
+use run_simulator::{Tracks, run_tracks_until};
 use std::alloc::Global;
 
-/// Runs the candidates of a block.
+/// Runs the candidates of a block through the ticks that an obligation of the script looks at.
 pub fn run_block(
     alloc: Global,
     line: &Line,
@@ -26,8 +27,8 @@ pub fn run_block(
 ) -> Result<Tracks<Lanes64>, Memory>
     requires of_line { IsNetOf line.now net.now }
     requires first { first < count_of line.now }
-    ensures { IfOk result (λ tracks.
-        IsBlockRun line.now script.now first tracks.keys.items tracks.trips.items) }
+    requires deadline { script.now.deadline < line.now.horizon }
+    ensures { IfOk result (λ tracks. IsBlockRun line.now script.now first tracks.trips.items) }
 {
     candidates_are_inside();
     timings_inside_are_choices_inside();
@@ -35,6 +36,7 @@ pub fn run_block(
     parameters_are_numbered();
     let spans = candidate_spans(alloc, line, first)?;
     let steps: [Step<Ticks64>; 0] = [];
-    let tracks = run_tracks::<Lanes64>(alloc, net, line, script, &spans, &steps)?;
+    let until = looked_ticks(line, script);
+    let tracks = run_tracks_until::<Lanes64>(alloc, net, line, script, &spans, &steps, until)?;
     Ok(tracks)
 }

@@ -5,8 +5,9 @@ ghost use Rattle.model_history.specs.Elements.{some_below};
 ghost use Rattle.model_line.specs.Parameters.{terminal_count};
 ghost use Rattle.model_logic.specs.Histories.{MeetsBy};
 ghost use Rattle.run_signal.specs.Bits.{bit_on};
-ghost use Rattle.run_simulator.specs.Ticks.{AreSent};
-ghost use Rattle.judge_verdict.specs.Candidates.{IsBlockRun, trips_in, TellsFailing, TellFailing};
+ghost use Rattle.run_simulator.specs.Until.{ReachTick};
+ghost use Rattle.judge_verdict.specs.Candidates.{IsBlockRun, looked_at, trips_in, TellsFailing};
+ghost use Rattle.judge_verdict.specs.Candidates.{TellFailing};
 
 use model_line::{Kind, Line, Script};
 use model_logic::laws::{
@@ -17,14 +18,25 @@ use run_channel::Track;
 use run_signal::{Lanes64, Signal};
 use run_simulator::Tracks;
 
+/// How many ticks an obligation of the script looks at: those up to the deadline, or all.
+pub fn looked_ticks(line: &Line, script: &Script) -> u32
+    requires deadline { script.now.deadline < line.now.horizon }
+    ensures is { result ≡ looked_at line.now script.now }
+    ensures inside { result ≤ line.now.horizon }
+{
+    match script.kind {
+        Kind::Internal => script.deadline + 1,
+        Kind::External => line.horizon,
+    }
+}
+
 /// The lanes whose candidates fail the obligation of a terminal.
 pub fn failing(line: &Line, script: &Script, tracks: &Tracks<Lanes64>, terminal: u32) -> Lanes64
     requires terminal { terminal < terminal_count line.now }
     requires deadline { script.now.deadline < line.now.horizon }
-    requires trips { AreSent (terminal_count line.now) line.now.horizon line.now.horizon
+    requires trips { ReachTick (terminal_count line.now) (looked_at line.now script.now)
         tracks.now.trips.items }
-    ensures { (first : ℕ) →
-        IsBlockRun line.now script.now first tracks.now.keys.items tracks.now.trips.items →
+    ensures { (first : ℕ) → IsBlockRun line.now script.now first tracks.now.trips.items →
         TellFailing line.now script.now first terminal result }
 {
     each_choice_has_one_history();
@@ -37,14 +49,15 @@ pub fn failing(line: &Line, script: &Script, tracks: &Tracks<Lanes64>, terminal:
 // The lanes in which the trips of a terminal do not meet its obligation.
 fn failing_trips(line: &Line, script: &Script, trip: &Track<Lanes64>) -> Lanes64
     requires deadline { script.now.deadline < line.now.horizon }
-    requires horizon { length trip.now.keys ≡ line.now.horizon }
+    requires reach { looked_at line.now script.now ≤ length trip.now.keys }
     ensures { (lane : ℕ) → lane < 64 → TellsFailing (bit_on result lane)
         (MeetsBy script.now.kind script.now.deadline line.now.horizon (trips_in trip.now lane)) }
 {
     the_rule_is_tested();
+    let lanes = tripped(trip, looked_ticks(line, script));
     match script.kind {
-        Kind::Internal => tripped(trip, script.deadline + 1).not(),
-        Kind::External => tripped(trip, line.horizon),
+        Kind::Internal => lanes.not(),
+        Kind::External => lanes,
     }
 }
 

@@ -130,8 +130,7 @@ fn after_block(
     requires deadline { script.now.deadline < line.now.horizon }
     requires terminals { length standings.now ≡ terminal_count line.now }
     requires first { first < count_of line.now }
-    requires run { IsBlockRun line.now script.now first
-        tracks.now.keys.items tracks.now.trips.items }
+    requires run { IsBlockRun line.now script.now first tracks.now.trips.items }
     ensures count { IfOk result (λ after. length after.items ≡ terminal_count line.now) }
     ensures stand { IfOk result (λ after. (w : PairHistory) →
         AllStand line.now script.now w first standings.now →
@@ -164,8 +163,7 @@ fn settled(
     requires terminal { terminal < terminal_count line.now }
     requires deadline { script.now.deadline < line.now.horizon }
     requires first { first < count_of line.now }
-    requires run { IsBlockRun line.now script.now first
-        tracks.now.keys.items tracks.now.trips.items }
+    requires run { IsBlockRun line.now script.now first tracks.now.trips.items }
     ensures { (w : PairHistory) → IsStanding line.now script.now terminal w first standing →
         IsStanding line.now script.now terminal w (first + 64) result }
 {

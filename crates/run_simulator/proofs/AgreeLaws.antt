@@ -19,8 +19,8 @@ use Rattle.run_simulator.specs.Agreeing.{recorded_pairs}
 use Rattle.run_simulator.specs.Runs.{IsPoint, IsExactAt}
 use Rattle.run_simulator.specs.{GatePairs.line_pairs, PlayedTracks.played, Tracks.trips_of}
 use Rattle.run_simulator.specs.Tracks.{pair_of}
-use Rattle.run_simulator.proofs.PointLaws.{exact_at, delays_from_one}
-use Rattle.run_simulator.proofs.TrackLaws.{kept_history}
+use Rattle.run_simulator.proofs.PointLaws.{delays_from_one}
+use Rattle.run_simulator.proofs.UntilLaws.{solved_history, solved_exact}
 
 -- ---- a lane of a conjunction
 
@@ -228,16 +228,10 @@ module _ (laws : LineLaws) (gates : GatesStandForTheirTrees) (line : Line) (scri
     (box : Box) (d : LeastFromOne line box) (net : NetOf) (of_line : IsNetOf line net)
     (choice : Choice) (point : IsPoint line box choice) (keys trips : List (SentKeys Level)) where
   abbrev own : PairHistory
-  own = record {
-    key = the_keys (pair_world_of line script box) (key_tree line);
-    trip = trips_of net (line_pairs line script box net);
-  }
+  own = solved_history line script box net
 
   exact : IsExactAt line script choice own
-  exact =
-      exact_at laws line script box d choice point own
-      (kept_history laws gates line script box d net of_line own (λ k t kn lt. refl)
-      (λ k t kn lt. refl)).is
+  exact = solved_exact laws gates line script box d net of_line choice point
 
   abbrev Agrees : Type 0
   Agrees = AgreeBefore (terminal_count line) own.key own.trip keys trips line.horizon

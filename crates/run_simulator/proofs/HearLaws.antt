@@ -7,27 +7,17 @@ use Rattle.model_history.specs.Rails.{Rails, Ends, rails_at}
 use Rattle.model_history.specs.{Recorded.first_ticks, Laws.HistoryLaws}
 use Rattle.run_channel.specs.SentKeys.{SentKeys}
 use Rattle.net_gates.specs.declared.gate.Gate.{Gate}
-use Rattle.net_gates.specs.NetOf.{NetOf, key_of}
+use Rattle.net_gates.specs.{NetOf.NetOf, NetOf.key_of, Readers.Hears}
 use Rattle.run_simulator.specs.declared.delays.Delay.{Delay}
-use Rattle.run_simulator.specs.declared.readers.Readers.{Readers}
-use Rattle.run_simulator.specs.Hears.{AreHeard, AreSoon, IsHeard, IsLastKey}
+use Rattle.run_simulator.specs.Hears.{AreHeard, IsHeard, IsLastKey}
 use Rattle.run_simulator.specs.Inputs.{AreDelaysFrom, AreSet, AreSoonest}
-use Rattle.run_simulator.specs.Readers.{AreHastened, Hears, ReadersHold}
+use Rattle.run_simulator.specs.Readers.{AreHastened}
 use Rattle.run_simulator.specs.Ticks.{AreSent, KeysSent, ValuesAgree}
 use Rattle.run_simulator.specs.{Lanes.LanePairs, LaneLaws.lane_at, ListLaws.exists_at}
 use Rattle.run_simulator.proofs.LagLaws.{HearsNo}
 use Rattle.run_simulator.proofs.Lists.{at_set, one_value}
 
--- due ticks that were made earlier still are
-pub soon_on : (first : ℕ) (list old new : List ℕ) → length old ≡ length new → AreHastened old new
-    → AreSoon first list old → AreSoon first list new
-soon_on first list old new same hastened soon k i due at da =
-    let inside : i < length new = slice_get_within new i due da in
-    let (before, ba) = exists_at old i (omega (arith, inside, same)) in
-    let less : due ≤ before = hastened i due da before ba in
-    let early : before ≤ first = soon k i before at ba in
-    omega (arith, less, early)
-
+-- a due tick that was made earlier still is
 pub soon_kept : (first i : ℕ) (old new : List ℕ) → length old ≡ length new → AreHastened old new
     → ((due : ℕ) → slice_get old i ≡ Some due → due ≤ first)
     → (due : ℕ) → slice_get new i ≡ Some due → due ≤ first
@@ -65,28 +55,29 @@ hastened_on first middle last same one two i due da before ba =
     let lower : between ≤ before = one i between ma before ba in
     omega (arith, less, lower)
 
-pub heard_on : {V S : Type 0} (lanes : ℕ) (rails : V → ℕ → Rails) (net : NetOf) (readers : Readers)
+pub heard_on : {V S : Type 0} (lanes : ℕ) (rails : V → ℕ → Rails) (net : NetOf)
     (column : List V) (c : ℕ) (d : Delay S) (sent : List (SentKeys V)) (t : ℕ) (old new : List ℕ)
     → length old ≡ length new → AreHastened old new
-    → IsHeard lanes rails net readers column c d sent t old
-    → IsHeard lanes rails net readers column c d sent t new
-heard_on lanes rails net readers column c d sent t old new same hastened heard =
+    → IsHeard lanes rails net column c d sent t old
+    → IsHeard lanes rails net column c d sent t new
+heard_on lanes rails net column c d sent t old new same hastened heard =
     ⊎_elim inl
-    (λ soon. inr (λ list at. soon_on (t + d.soonest) list.items old new same hastened (soon list at)))
+    (λ soon. inr (λ i due gate at hears da. soon_kept (t + d.soonest) i old new same hastened
+    (λ before ba. soon i before gate at hears ba) due da))
     heard
 
 -- a gate hears no key that changes, or it is due when that first arrives
 module _ {V S : Type 0} (history : HistoryLaws) (lanes : ℕ) (ends : S → ℕ → Ends)
-    (rails : V → ℕ → Rails) (net : NetOf) (readers : Readers) (column : List V)
+    (rails : V → ℕ → Rails) (net : NetOf) (column : List V)
     (delays : List (Delay S)) (sent : List (SentKeys V)) (t n horizon channels : ℕ) (dues : List ℕ)
-    (hold : ReadersHold net.gates channels readers) (count : length delays ≡ channels)
+    (count : length delays ≡ channels)
     (tracks : AreSent n horizon t sent) (terminals : length net.keys ≡ n)
     (of_terminals : (c : ℕ) (d : Delay S) → slice_get delays c ≡ Some d → d.from < n)
     (inside_column : (k : ℕ) → k < length net.keys → key_of net k < length column)
     (soonest : AreSoonest lanes ends delays) (set : AreSet t delays)
     (later : (c : ℕ) (d : Delay S) → slice_get delays c ≡ Some d → (lane : ℕ) → lane < lanes
     → 1 ≤ (ends d.span lane).least)
-    (heard : AreHeard lanes rails net readers column (length delays) delays sent t dues) where
+    (heard : AreHeard lanes rails net column (length delays) delays sent t dues) where
   module _ (lane : ℕ) (below : lane < lanes) (p : LanePairs)
       (from : AreDelaysFrom ends lane delays p.world t) (have : KeysSent rails lane p.keys t sent)
       (agree : ValuesAgree rails lane p.pairs t column)
@@ -121,10 +112,7 @@ module _ {V S : Type 0} (history : HistoryLaws) (lanes : ℕ) (ends : S → ℕ 
         (λ last. inl (subst (λ (k : ℕ). p.keys k t ≡ p.keys k (t - 1)) (from.from c d at)
         (key_same d.from s x kn sa xa (last s x sa xa))))
         (λ soon.
-        let (list, la) = exists_at readers.of_channels.items c
-        (omega (arith, low, hold.channels_are)) in
-        let (k, ka) = (hold.listed i g ga).heard c list hears la in
-        let early : due ≤ t + d.soonest = soon list la k i due ka da in
+        let early : due ≤ t + d.soonest = soon i due g ga hears da in
         let first : d.soonest ≤ (ends d.span lane).least =
         (soonest c d at).before lane below (later c d at lane below) in
         let until : t < d.until = set c d at in

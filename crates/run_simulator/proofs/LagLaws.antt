@@ -4,7 +4,8 @@ use Rattle.std.proofs.Common.{◌∙◌, ap, subst, arith, ⊎_elim, inl, inr, �
 use Rattle.std.proofs.lemmas.Bool.{cases_lt}
 use Rattle.model_history.specs.Rails.{Rails, Ends, both, rails_not, rails_and, rails_or}
 use Rattle.model_history.specs.Rails.{rails_delayed, rails_timed, rails_sealed, rails_at}
-use Rattle.model_history.specs.{Recorded.first_ticks, FirstTicks.length-first_ticks}
+use Rattle.model_history.specs.{Recorded.first_ticks}
+use Rattle.model_history.specs.{FirstTickLaws.length-first_ticks}
 use Rattle.model_history.specs.Laws.{RecordedTicksSuffice}
 use Rattle.run_timers.specs.{Stretches.ElementsInAStretch, Seals.last_seal}
 use Rattle.model_logic.specs.{PairMean.PairWorld}
@@ -18,8 +19,7 @@ use Rattle.run_simulator.specs.CellStands.{SealStands, CellStands, TimerStands}
 use Rattle.run_simulator.specs.Lags.{Lags, IsInputAt, IsNoTimer, IsSame, ArgsRest}
 use Rattle.run_simulator.specs.{Lanes.LanePairs, Lasts.Lasts, Lasts.RawLasts}
 use Rattle.run_simulator.proofs.QuietLaws.{GateQuiet}
-use Rattle.run_simulator.specs.Readers.{HasArgument, Hears}
-use Rattle.net_gates.specs.Laws.{HasArguments}
+use Rattle.net_gates.specs.{Laws.HasArguments, Readers.HasArgument, Readers.Hears}
 
 -- a gate that is not due is not at the first tick
 pub at_least_one : (t due : ℕ) → t < due → (t ≡ 0 → due ≡ 0) → 1 ≤ t

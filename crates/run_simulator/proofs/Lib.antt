@@ -1,6 +1,7 @@
 pub mod LagLaws
 pub mod HearLaws
 pub mod ShownByLaws
+pub mod ShownListLaws
 pub mod ReaderLaws
 pub mod TraceLaws
 pub mod WaitLaws
@@ -22,5 +23,6 @@ pub mod TrackLaws
 pub mod ValueLaws
 pub mod RunLaws
 pub mod PointLaws
+pub mod UntilLaws
 pub mod PlayLaws
 pub mod AgreeLaws

@@ -1,5 +1,5 @@
 -- Gates that have a mark.
-use Rattle.std.proofs.Common.{◌≡◌, ◌≢◌, ℕ, ◌+◌, ◌-◌, ◌*◌, ◌/◌, ◌%◌, ◌^◌, ◌<◌, ◌≤◌, List, get_or, length}
+use Rattle.std.proofs.Common.{◌≡◌, ◌≢◌, ℕ, ◌+◌, ◌-◌, ◌*◌, ◌/◌, ◌%◌, ◌^◌, ◌<◌, ◌≤◌, ◌⊎◌, List, get_or, length}
 use Rattle.std.proofs.Common.{Some, refl, sym, ◌∙◌, ap, subst, arith, inl, inr, ⊎_elim, w64}
 use Rattle.std.proofs.Common.{length-set, bit_and, bit_or, min, max, [], ◌∷◌, zero, suc}
 use Rattle.std.proofs.lemmas.Bool.{cases_eq, cases_lt}
@@ -172,25 +172,40 @@ not_marked words i none marked =
 
 -- ---- an agenda
 
--- there is a bit for the gate at the tick
-pub plan_room : (width horizon due gate length : ℕ) → due < horizon → gate < 64 * width
-    → horizon * width ≤ length → 64 * (due * width) + gate < 64 * length
-plan_room width horizon due gate length early inside room =
+-- there is a bit for the gate in the row
+pub plan_room : (width row gate length : ℕ) → row < 512 → gate < 64 * width
+    → 512 * width ≤ length → 64 * (row * width) + gate < 64 * length
+plan_room width row gate length early inside room =
     let place : gate / 64 < width = omega (arith, inside) in
-    let lt = mul-add-lt due width (gate / 64) horizon early place in
+    let lt = mul-add-lt row width (gate / 64) 512 early place in
     omega (arith, lt, room)
 
-pub plan_fits : (width due : ℕ) → due < 4000 → width ≤ 9 → due * width < 36001
-plan_fits width due early few =
-    let le : due * width ≤ 4000 * 9 = mul-le due width 4000 9 (omega arith) few in
+pub plan_fits : (width row : ℕ) → row < 512 → width ≤ 9 → row * width < 4609
+plan_fits width row early few =
+    let le : row * width ≤ 512 * 9 = mul-le row width 512 9 (omega arith) few in
     omega (arith, le)
 
--- the gate's bit at a tick, by its word
-pub agenda_word : (width t i : ℕ) → (64 * (t * width) + i) / 64 ≡ t * width + i / 64
-agenda_word width t i = omega arith
+-- the gate's bit of a row, by its word
+pub agenda_word : (width row i : ℕ) → (64 * (row * width) + i) / 64 ≡ row * width + i / 64
+agenda_word width row i = omega arith
 
-pub agenda_bit : (width t i : ℕ) → (64 * (t * width) + i) % 64 ≡ i % 64
-agenda_bit width t i = omega arith
+pub agenda_bit : (width row i : ℕ) → (64 * (row * width) + i) % 64 ≡ i % 64
+agenda_bit width row i = omega arith
+
+-- a word of another row stands before the row or behind it
+pub other_row : (width row other k : ℕ) → other ≢ row → k < width
+    → (other * width + k < row * width) ⊎ (row * width + width ≤ other * width + k)
+other_row width row other k ne inside =
+    ⊎_elim
+    (λ low. let lt = mul-add-lt other width k row low inside in inl (omega (arith, lt)))
+    (λ ge. let more : row + 1 ≤ other = omega (arith, ge, ne) in
+    let le = mul-le (row + 1) width other width more (omega arith) in inr (omega (arith, le)))
+    (cases_lt other row)
+
+-- what has a mark in words that are the same at the gate's word has it still
+pub marked_same : (old new : List ℕ) (i : ℕ) → get_or new (i / 64) 0 ≡ get_or old (i / 64) 0
+    → IsMarked i old → IsMarked i new
+marked_same old new i same on = ap (λ (x : ℕ). bit_at x (i % 64)) same ∙ on
 
 max_one : (a b : ℕ) → a < 2 → b ≡ 1 → max a b ≡ 1
 max_one a b small one = omega (arith, small, one)
@@ -245,34 +260,56 @@ planned_bit agenda width t i k place word is inside read here on =
 -- what is on the agenda stays on it
 pub agenda_on : (old new : Marks) (i due : ℕ)
     → length new.words.items ≡ length old.words.items → new.horizon ≡ old.horizon
+    → new.next ≡ old.next
     → MarksStay old.agenda.items new.agenda.items → MarksStay old.ticks.items new.ticks.items
     → IsPlanned old i due → IsPlanned new i due
-agenda_on old new i due same horizon agenda ticks planned =
+agenda_on old new i due same horizon next agenda ticks planned =
     ⊎_elim
     (λ over. inl (omega (arith, over, horizon)))
-    (λ on. inr (
-      subst (λ (n : ℕ). IsMarked (64 * (due * n) + i) new.agenda.items) (sym same)
-          (agenda (64 * (due * length old.words.items) + i) on.0),
-      ticks due on.1,
-    ))
+    (λ p.
+    let ahead : old.next ≤ p.tick = p.ahead in
+    let near : p.tick < old.next + 512 = p.near in
+    inr (record {
+      tick = p.tick;
+      ahead = omega (arith, ahead, next);
+      near = omega (arith, near, next);
+      early = p.early;
+      on = (
+        subst (λ (n : ℕ). IsMarked (64 * (p.tick % 512 * n) + i) new.agenda.items) (sym same)
+            (agenda (64 * (p.tick % 512 * length old.words.items) + i) p.on.0),
+        ticks p.tick p.on.1,
+      );
+    }))
     planned
+
+-- a gate without a mark is not due before the next tick
+pub watched : (dues : List ℕ) (marks : Marks) (i due : ℕ) → slice_get dues i ≡ Some due
+    → AreMarked dues marks → IsMarked i marks.words.items ⊎ (marks.next ≤ due)
+watched dues marks i due at marked =
+    let reached : marks.next ≤ marks.horizon = marked.room.reached in
+    ⊎_elim inl
+    (λ rest. inr (⊎_elim
+    (λ over. omega (arith, over, reached))
+    (λ p. let ahead : marks.next ≤ p.tick = p.ahead in let early : p.tick ≤ due = p.early in
+    omega (arith, ahead, early))
+    rest))
+    (marked.planned i due at)
 
 pub room_on : (old new : Marks) → length new.words.items ≡ length old.words.items
     → length new.agenda.items ≡ length old.agenda.items
-    → length new.ticks.items ≡ length old.ticks.items → new.horizon ≡ old.horizon → HasRoom old
-    → HasRoom new
-room_on old new words agenda ticks horizon room =
-    let whole : old.horizon * length old.words.items ≤ length old.agenda.items = room.agenda in
+    → length new.ticks.items ≡ length old.ticks.items → new.horizon ≡ old.horizon
+    → new.next ≤ old.horizon → HasRoom old → HasRoom new
+room_on old new words agenda ticks horizon next room =
+    let whole : 512 * length old.words.items ≤ length old.agenda.items = room.agenda in
     let bits : old.horizon ≤ 64 * length old.ticks.items = room.ticks in
     let few : length old.words.items ≤ 9 = room.few in
     let short : old.horizon ≤ 4000 = room.short in
     record {
-      agenda = subst (λ (n : ℕ). new.horizon * n ≤ length new.agenda.items) (sym words)
-          (subst (λ (h : ℕ). h * length old.words.items ≤ length new.agenda.items) (sym horizon)
-          (omega (arith, whole, agenda)));
+      agenda = omega (arith, whole, agenda, words);
       ticks = omega (arith, bits, ticks, horizon);
       few = omega (arith, few, words);
       short = omega (arith, short, horizon);
+      reached = omega (arith, next, horizon);
     }
 
 -- a gate that is due at another tick from now on
@@ -280,28 +317,23 @@ pub settled : (dues : List ℕ) (old new : Marks) (gate due : ℕ)
     → length new.words.items ≡ length old.words.items
     → length new.agenda.items ≡ length old.agenda.items
     → length new.ticks.items ≡ length old.ticks.items → new.horizon ≡ old.horizon
+    → new.next ≡ old.next
     → ((i : ℕ) → i ≢ gate → IsMarked i old.words.items → IsMarked i new.words.items)
     → MarksStay old.agenda.items new.agenda.items → MarksStay old.ticks.items new.ticks.items
-    → IsPlanned new gate due → new.least ≤ old.least → new.least ≤ due → AreMarked dues old
-    → AreMarked (slice_set dues gate due) new
-settled dues old new gate due same even bits horizon others agenda ticks now less this marked =
+    → IsPlanned new gate due → AreMarked dues old → AreMarked (slice_set dues gate due) new
+settled dues old new gate due same even bits horizon next others agenda ticks now marked =
     let long : length (slice_set dues gate due) ≡ length dues = length-set dues gate due in
+    let reached : old.next ≤ old.horizon = marked.room.reached in
     record {
-      room = room_on old new same even bits horizon marked.room;
+      room = room_on old new same even bits horizon (omega (arith, next, reached)) marked.room;
       wide = let wide = marked.wide in omega (arith, wide, same, long);
       planned = λ i d at.
           ⊎_elim
           (λ p. inr (subst (λ (x : ℕ). IsPlanned new i x) p.1
           (subst (λ (k : ℕ). IsPlanned new k due) (sym p.0) now)))
           (λ p. ⊎_elim (λ m. inl (others i p.0 m))
-          (λ rest. inr (agenda_on old new i d same horizon agenda ticks rest))
+          (λ rest. inr (agenda_on old new i d same horizon next agenda ticks rest))
           (marked.planned i d p.1))
-          (at_set dues gate due i d at);
-      watched = λ i d at.
-          ⊎_elim
-          (λ p. let is : due ≡ d = p.1 in inr (omega (arith, is, this)))
-          (λ p. ⊎_elim (λ m. inl (others i p.0 m)) (λ late. inr (omega (arith, late, less)))
-          (marked.watched i d p.1))
           (at_set dues gate due i d at);
     }
 
@@ -310,102 +342,135 @@ pub woken : (dues after : List ℕ) (old new : Marks) (gate : ℕ) → after ≡
     → length new.words.items ≡ length old.words.items → new.agenda.items ≡ old.agenda.items
     → new.ticks.items ≡ old.ticks.items → new.horizon ≡ old.horizon
     → IsMarked gate new.words.items → MarksStay old.words.items new.words.items
-    → new.least ≡ old.least → AreMarked dues old → AreMarked after new
-woken dues after old new gate is same even bits horizon here stay least marked =
+    → new.next ≡ old.next → AreMarked dues old → AreMarked after new
+woken dues after old new gate is same even bits horizon here stay next marked =
     let long : length (slice_set dues gate 0) ≡ length dues = length-set dues gate 0 in
+    let reached : old.next ≤ old.horizon = marked.room.reached in
     let agenda : MarksStay old.agenda.items new.agenda.items =
     λ i m. subst (λ (l : List ℕ). IsMarked i l) (sym even) m in
     let ticks : MarksStay old.ticks.items new.ticks.items =
     λ i m. subst (λ (l : List ℕ). IsMarked i l) (sym bits) m in
     subst (λ (l : List ℕ). AreMarked l new) (sym is) (record {
-      room = room_on old new same (ap length even) (ap length bits) horizon marked.room;
+      room = room_on old new same (ap length even) (ap length bits) horizon
+          (omega (arith, next, reached)) marked.room;
       wide = let wide = marked.wide in omega (arith, wide, same, long);
       planned = λ i d at.
           ⊎_elim
           (λ p. inl (subst (λ (k : ℕ). IsMarked k new.words.items) (sym p.0) here))
           (λ p. ⊎_elim (λ m. inl (stay i m))
-          (λ rest. inr (agenda_on old new i d same horizon agenda ticks rest))
+          (λ rest. inr (agenda_on old new i d same horizon next agenda ticks rest))
           (marked.planned i d p.1))
-          (at_set dues gate 0 i d at);
-      watched = λ i d at.
-          ⊎_elim
-          (λ p. inl (subst (λ (k : ℕ). IsMarked k new.words.items) (sym p.0) here))
-          (λ p. ⊎_elim (λ m. inl (stay i m)) (λ late. inr (omega (arith, late, least)))
-          (marked.watched i d p.1))
           (at_set dues gate 0 i d at);
     })
 
--- those that are due at the tick have a mark
-pub all_woken : (dues : List ℕ) (old new : Marks) (t : ℕ) → t < old.horizon
-    → length new.words.items ≡ length old.words.items → new.agenda.items ≡ old.agenda.items
-    → new.ticks.items ≡ old.ticks.items → new.horizon ≡ old.horizon → new.least ≡ t + 1
+-- two ticks of the ring have rows of their own
+pub rows_differ : (t tick : ℕ) → t ≤ tick → tick < t + 512 → tick ≢ t → tick % 512 ≢ t % 512
+rows_differ t tick ahead near other same = omega (arith, ahead, near, other, same)
+
+-- those that are due at the tick have a mark, and the rows of the others are as they were
+pub all_woken : (dues : List ℕ) (old new : Marks) (t : ℕ) → t < old.horizon → t ≡ old.next
+    → length new.words.items ≡ length old.words.items
+    → length new.agenda.items ≡ length old.agenda.items
+    → new.ticks.items ≡ old.ticks.items → new.horizon ≡ old.horizon → new.next ≡ t + 1
     → MarksStay old.words.items new.words.items
     → ((i : ℕ) → i < 64 * length old.words.items
-    → IsMarked (64 * (t * length old.words.items) + i) old.agenda.items
+    → IsMarked (64 * (t % 512 * length old.words.items) + i) old.agenda.items
     → IsMarked i new.words.items)
-    → t ≤ old.least → AreMarked dues old → AreMarked dues new
-all_woken dues old new t early same even bits horizon least stay came reached marked =
-    let agenda : MarksStay old.agenda.items new.agenda.items =
-    λ i m. subst (λ (l : List ℕ). IsMarked i l) (sym even) m in
+    → ((row i : ℕ) → row ≢ t % 512 → i < 64 * length old.words.items
+    → IsMarked (64 * (row * length old.words.items) + i) old.agenda.items
+    → IsMarked (64 * (row * length old.words.items) + i) new.agenda.items)
+    → AreMarked dues old → AreMarked dues new
+all_woken dues old new t early reached same even bits horizon next stay came others marked =
     let ticks : MarksStay old.ticks.items new.ticks.items =
     λ i m. subst (λ (l : List ℕ). IsMarked i l) (sym bits) m in
     let wide : length dues ≤ 64 * length old.words.items = marked.wide in
     record {
-      room = room_on old new same (ap length even) (ap length bits) horizon marked.room;
+      room = room_on old new same even (ap length bits) horizon (omega (arith, next, early))
+          marked.room;
       wide = omega (arith, wide, same);
-      planned = λ i d at. ⊎_elim (λ m. inl (stay i m))
-          (λ rest. inr (agenda_on old new i d same horizon agenda ticks rest)) (marked.planned i d at);
-      watched = λ i d at.
-          let inside : i < length dues = slice_get_within dues i d at in
+      planned = λ i d at.
+          let within : i < length dues = slice_get_within dues i d at in
+          let inside : i < 64 * length old.words.items = omega (arith, within, wide) in
           ⊎_elim (λ m. inl (stay i m))
-          (λ late. ⊎_elim (λ m. inl (stay i m))
           (λ rest. ⊎_elim
-          (λ over. inr (omega (arith, over, early, least)))
-          (λ on. ⊎_elim
-          (λ now. inl (came i (omega (arith, inside, wide))
-          (subst (λ (x : ℕ). IsMarked (64 * (x * length old.words.items) + i) old.agenda.items) now
-          on.0)))
-          (λ other. inr (omega (arith, late, other, reached, least)))
-          (cases_eq d t))
+          (λ over. inr (inl (omega (arith, over, horizon))))
+          (λ p.
+          let ahead : old.next ≤ p.tick = p.ahead in
+          let near : p.tick < old.next + 512 = p.near in
+          ⊎_elim
+          (λ now. inl (came i inside
+          (subst (λ (x : ℕ). IsMarked (64 * (x % 512 * length old.words.items) + i)
+          old.agenda.items) now p.on.0)))
+          (λ other. inr (inr (record {
+            tick = p.tick;
+            ahead = omega (arith, ahead, reached, other, next);
+            near = omega (arith, near, reached, next);
+            early = p.early;
+            on = (
+              subst (λ (n : ℕ). IsMarked (64 * (p.tick % 512 * n) + i) new.agenda.items) (sym same)
+                  (others (p.tick % 512) i
+                  (rows_differ t p.tick (omega (arith, ahead, reached))
+                  (omega (arith, near, reached)) other)
+                  inside p.on.0),
+              ticks p.tick p.on.1,
+            );
+          })))
+          (cases_eq p.tick t))
           rest)
-          (marked.planned i d at))
-          (marked.watched i d at);
+          (marked.planned i d at);
     }
 
--- where no gate has a mark, none is due before the first tick of the agenda
-pub next_later : (dues : List ℕ) (marks : Marks) (t next i due : ℕ) → t < marks.least
-    → next ≤ marks.horizon → ((k : ℕ) → IsMarked k marks.words.items → ⊥)
-    → ((k : ℕ) → t + 1 ≤ k → k < next → IsMarked k marks.ticks.items → ⊥)
+-- where no gate has a mark, none is planned before the first tick of the agenda
+pub next_later : (dues : List ℕ) (marks : Marks) (next i due : ℕ) → next ≤ marks.horizon
+    → ((k : ℕ) → IsMarked k marks.words.items → ⊥)
+    → ((k : ℕ) → marks.next ≤ k → k < next → IsMarked k marks.ticks.items → ⊥)
     → AreMarked dues marks → slice_get dues i ≡ Some due → next ≤ due
-next_later dues marks t next i due later limit none passed marked at =
+next_later dues marks next i due limit none passed marked at =
     ⊎_elim (λ m. absurd (none i m))
-    (λ late. ⊎_elim (λ m. absurd (none i m))
     (λ rest. ⊎_elim
     (λ over. omega (arith, over, limit))
-    (λ on. ⊎_elim
-    (λ low. absurd (passed due (omega (arith, late, later)) low on.1))
-    (λ ge. ge)
-    (cases_lt due next))
+    (λ p. let early : p.tick ≤ due = p.early in
+    ⊎_elim
+    (λ low. absurd (passed p.tick p.ahead low p.on.1))
+    (λ ge. omega (arith, ge, early))
+    (cases_lt p.tick next))
     rest)
-    (marked.planned i due at))
-    (marked.watched i due at)
+    (marked.planned i due at)
 
-pub least_raised : (dues : List ℕ) (old new : Marks) → new.words.items ≡ old.words.items
+-- the next tick is a later one, before which none of the agenda is passed over
+pub next_raised : (dues : List ℕ) (old new : Marks) → new.words.items ≡ old.words.items
     → new.agenda.items ≡ old.agenda.items → new.ticks.items ≡ old.ticks.items
-    → new.horizon ≡ old.horizon
-    → ((i due : ℕ) → slice_get dues i ≡ Some due → new.least ≤ due) → AreMarked dues old
-    → AreMarked dues new
-least_raised dues old new words even bits horizon late marked = record {
-  room = room_on old new (ap length words) (ap length even) (ap length bits) horizon marked.room;
-  wide = let wide : length dues ≤ 64 * length old.words.items = marked.wide in
-      let same : length new.words.items ≡ length old.words.items = ap length words in
-      omega (arith, wide, same);
-  planned = λ i d at.
-      ⊎_elim
-      (λ m. inl (subst (λ (l : List ℕ). IsMarked i l) (sym words) m))
-      (λ rest. inr (agenda_on old new i d (ap length words) horizon
-      (λ k m. subst (λ (l : List ℕ). IsMarked k l) (sym even) m)
-      (λ k m. subst (λ (l : List ℕ). IsMarked k l) (sym bits) m) rest))
-      (marked.planned i d at);
-  watched = λ i d at. inr (late i d at);
-}
+    → new.horizon ≡ old.horizon → old.next ≤ new.next → new.next ≤ old.horizon
+    → ((k : ℕ) → old.next ≤ k → k < new.next → IsMarked k old.ticks.items → ⊥)
+    → AreMarked dues old → AreMarked dues new
+next_raised dues old new words even bits horizon later limit passed marked =
+    let same : length new.words.items ≡ length old.words.items = ap length words in
+    let wide : length dues ≤ 64 * length old.words.items = marked.wide in
+    record {
+      room = room_on old new same (ap length even) (ap length bits) horizon limit marked.room;
+      wide = omega (arith, wide, same);
+      planned = λ i d at.
+          ⊎_elim
+          (λ m. inl (subst (λ (l : List ℕ). IsMarked i l) (sym words) m))
+          (λ rest. inr (⊎_elim
+          (λ over. inl (omega (arith, over, horizon)))
+          (λ p.
+          let near : p.tick < old.next + 512 = p.near in
+          ⊎_elim
+          (λ low. absurd (passed p.tick p.ahead low p.on.1))
+          (λ ge. inr (record {
+            tick = p.tick;
+            ahead = ge;
+            near = omega (arith, near, later);
+            early = p.early;
+            on = (
+              subst (λ (n : ℕ). IsMarked (64 * (p.tick % 512 * n) + i) new.agenda.items) (sym same)
+                  (subst (λ (l : List ℕ). IsMarked (64 * (p.tick % 512 * length old.words.items) + i)
+                  l) (sym even) p.on.0),
+              subst (λ (l : List ℕ). IsMarked p.tick l) (sym bits) p.on.1,
+            );
+          }))
+          (cases_lt p.tick new.next))
+          rest))
+          (marked.planned i d at);
+    }

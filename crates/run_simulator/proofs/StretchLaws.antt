@@ -10,12 +10,11 @@ use Rattle.model_logic.specs.Choice.{Box, LeastFromOne, pair_world_of}
 use Rattle.model_logic.specs.PairMean.{PairWorld, PairSignals}
 use Rattle.model_logic.specs.{Logic.key_tree, Solution.the_keys, Laws.LineLaws}
 use Rattle.net_gates.specs.declared.gate.Gate.{Gate}
-use Rattle.net_gates.specs.declared.gate.Gate.TheVariants as gate
 use Rattle.net_gates.specs.NetOf.{NetOf, IsNetOf, AreGatesOf, key_of, id_at}
 use Rattle.net_gates.specs.{declared.gate.GateId.GateId, NetLaws.GatesStandForTheirTrees}
-use Rattle.net_gates.specs.Named.{GateNames}
 use Rattle.model_timing.specs.declared.step.Step.{Step}
-use Rattle.run_simulator.specs.{Quiet.Keeps, Quiet.AreGatePairs, Lasts.Lasts, Readers.Hears}
+use Rattle.net_gates.specs.{NetLaws.hears_channel, Readers.Hears}
+use Rattle.run_simulator.specs.{Quiet.Keeps, Quiet.AreGatePairs, Lasts.Lasts}
 use Rattle.run_simulator.specs.{GatePairs.GateSignals, GatePairs.line_pairs, LaneBox.lane_box}
 use Rattle.run_simulator.specs.{LaneBox.lane_world, Tracks.line_lane, Ticks.ValuesAgree}
 use Rattle.run_simulator.proofs.{GatePairLaws.gate_pairs-kind, LagLaws.lasts_quiet}
@@ -29,20 +28,6 @@ pub held_values : {V : Type 0} (rails : V → ℕ → Rails) (lane : ℕ) (u : G
     → (r : ℕ) → t ≤ r → r < t + n → u (id_at ids k) r ≡ rails x lane
 held_values rails lane u t n len column ids are agree keeps k x lt at r low high =
     keeps (id_at ids k) (are k lt) r low high ∙ sym (agree (id_at ids k) x at)
-
--- the channel that a gate hears is one of the line's
-pub hears_channel : (line : Line) (c : ℕ) (g : Gate) → GateNames line g → Hears c g
-    → c < channel_count line
-hears_channel line c (gate.Const v) names hears = absurd hears
-hears_channel line c (gate.Seen p) names hears = absurd hears
-hears_channel line c (gate.Loss d) names hears = absurd hears
-hears_channel line c (gate.Raw d) names hears =
-    subst (λ (k : ℕ). k < channel_count line) hears names
-hears_channel line c (gate.Not x) names hears = absurd hears
-hears_channel line c (gate.And x y) names hears = absurd hears
-hears_channel line c (gate.Or x y) names hears = absurd hears
-hears_channel line c (gate.Timer x p d) names hears = absurd hears
-hears_channel line c (gate.Seal x y) names hears = absurd hears
 
 module _ {S : Type 0} (laws : LineLaws) (trees : GatesStandForTheirTrees)
     (stretch : ElementsInAStretch) (ends : S → ℕ → Ends) (line : Line) (script : Script)

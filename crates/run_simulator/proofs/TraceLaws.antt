@@ -14,10 +14,9 @@ use Rattle.run_simulator.specs.{declared.gates.Gates.Gates, Ticks.ValuesAgree, T
 use Rattle.run_simulator.specs.{GatePairs.GateSignals, Lanes.LanePairs, Lasts.Lasts}
 use Rattle.run_simulator.specs.ListLaws.{exists_at}
 use Rattle.run_simulator.specs.Lags.{AllWait, AreFreshDues, ArgsRest, GateWaits, IsTraced, Lags}
-use Rattle.run_simulator.specs.Readers.{ReadersHold, AreLowered, IsTold}
-use Rattle.run_simulator.specs.declared.readers.Readers.{Readers}
+use Rattle.run_simulator.specs.Readers.{AreLowered, IsTold}
 use Rattle.run_simulator.specs.Marks.{AreMarked, IsMarked}
-use Rattle.run_simulator.proofs.Lists.{at_set, one_value}
+use Rattle.run_simulator.proofs.{Lists.at_set, Lists.one_value, MarkLaws.watched}
 use Rattle.run_simulator.proofs.LagLaws.{ArgsSame, args_same, at_least_one, lasts_none, rest_pair}
 use Rattle.run_simulator.proofs.LagLaws.{rest_lags, rest_lasts, rests_more, rests_none}
 
@@ -223,47 +222,41 @@ module _ {C S V : Type 0} (stands_for : C → S → S → ℕ → List Rails →
       → length kept.cells.items ≡ length gates → length kept.sinces.items ≡ length gates
       → length kept.dues.items ≡ length gates → length kept.column.items ≡ length gates
       → AreMarked kept.dues.items kept.marks → AreFreshDues t i kept.dues.items
-      → t < kept.marks.least → i ≤ n → n ≤ length gates
+      → kept.marks.next ≡ t + 1 → i ≤ n → n ≤ length gates
       → ((k : ℕ) → i ≤ k → k < n → IsMarked k kept.marks.words.items → ⊥)
       → ((r : ℕ) → AreTold p.world p.keys p.pairs r gates) → Traced i kept
       → Traced n kept × LastBetween i n kept.dues.items
-  traced_past stretch recorded i n kept laws lc ls ld lv marked fresh least from to passed told
+  traced_past stretch recorded i n kept laws lc ls ld lv marked fresh next from to passed told
       traced =
       let e : i + (n - i) ≡ n = omega (arith, from) in
       subst (λ (m : ℕ). Traced m kept × LastBetween i m kept.dues.items) e
       (traced_on stretch recorded kept lc ls ld lv laws told i fresh (n - i)
       (omega (arith, e, to))
       (λ k due low lt at. ⊎_elim (λ m. absurd (passed k low (omega (arith, lt, e)) m))
-      (λ late. omega (arith, late, least))
-      (marked.watched k due at))
+      (λ late. omega (arith, late, next))
+      (watched kept.dues.items kept.marks k due at marked))
       traced)
 
   -- one gate more that was evaluated
-  pub traced_more : (readers : Readers) (channels i lanes : ℕ) (kept new : Gates C V S S)
+  pub traced_more : (i lanes : ℕ) (kept new : Gates C V S S)
       (gate : Gate) (cell : Cell C V S) (since : Since V) (due : ℕ) (last value : V) → lane < lanes
-      → ReadersHold gates channels readers → length (slice_set kept.dues.items i due) ≡ length gates
+      → length (slice_set kept.dues.items i due) ≡ length gates
       → new.cells.items ≡ slice_set kept.cells.items i cell
       → new.sinces.items ≡ slice_set kept.sinces.items i since
       → new.column.items ≡ slice_set kept.column.items i value
       → AreLowered (slice_set kept.dues.items i due) new.dues.items
-      → IsTold lanes rails i readers value last new.dues.items
+      → IsTold lanes rails i gates value last new.dues.items
       → slice_get gates i ≡ Some gate → (1 ≤ t → rails last lane ≡ p.pairs i (t - 1))
       → rails value lane ≡ p.pairs i t
       → Lags stands_for ends rails lane p.world p.pairs (suc t) gate cell since
       → Traced i kept → Traced (i + 1) new
-  traced_more readers channels i lanes kept new gate cell since due last value inside hold long
+  traced_more i lanes kept new gate cell since due last value inside long
       is_cells is_sinces is_column lowered told ga before now lags traced =
       let u : GateSignals = p.pairs in
       let cells : List (Cell C V S) = kept.cells.items in
       let sinces : List (Since V) = kept.sinces.items in
       let column : List V = kept.column.items in
       let dues : List ℕ = kept.dues.items in
-      let within : i < length gates = slice_get_within gates i gate ga in
-      let (list, la) = exists_at readers.of_gates.items i (omega (
-        arith,
-        within,
-        hold.of_gates.count,
-      )) in
       let cell_at : (k : ℕ) (c : Cell C V S) → slice_get new.cells.items k ≡ Some c
       → slice_get (slice_set cells i cell) k ≡ Some c =
       λ k c at. subst (λ (l : List (Cell C V S)). slice_get l k ≡ Some c) is_cells at in
@@ -301,8 +294,8 @@ module _ {C S V : Type 0} (stands_for : C → S → S → ℕ → List Rails →
             (λ same_due.
             rests_more u t i g
             (λ has some. ⊎_elim
-            (λ awake. let (j, at) = (hold.listed k g gat).read i list has la in
-            let none : d ≡ 0 = awake list la j k d at dat in absurd (omega (arith, late, none)))
+            (λ awake. let none : d ≡ 0 = awake k d g gat has dat in
+            absurd (omega (arith, late, none)))
             (λ same. sym now ∙ same lane inside ∙ before some) told)
             (traced.rests k g d (omega arith) gat
             (set_other dues i due k d (λ e. omega arith) same_due) late))

@@ -10,11 +10,11 @@ use Rattle.run_timers.specs.Stretches.{ElementsInAStretch}
 use Rattle.model_logic.specs.{PairMean.PairWorld, PairMean.PairSignals}
 use Rattle.net_gates.specs.declared.gate.Gate.TheVariants.{Const, Seen, Loss, Raw, Not, And, Or}
 use Rattle.net_gates.specs.declared.gate.Gate.TheVariants.{Timer, Seal}
-use Rattle.net_gates.specs.Laws.{AreGates, HasArguments}
+use Rattle.net_gates.specs.{Laws.AreGates, Laws.HasArguments, Readers.Hears}
 use Rattle.net_gates.specs.declared.gate.Gate.{Gate}
 use Rattle.run_simulator.specs.{declared.cell.Cell.Cell, declared.since.Since.Since}
 use Rattle.run_simulator.specs.{declared.gates.Gates.Gates, Lanes.LanePairs, Lasts.Lasts}
-use Rattle.run_simulator.specs.{GatePairs.GateSignals, Quiet.Keeps, Readers.Hears}
+use Rattle.run_simulator.specs.{GatePairs.GateSignals, Quiet.Keeps}
 use Rattle.run_simulator.specs.{Ticks.ValuesAgree, Ticks.AllStand}
 use Rattle.run_simulator.specs.{CellStands.CellStands, CellStands.TimerStands}
 use Rattle.run_simulator.specs.Lags.{Lags, AllLag, AllWait}

@@ -52,6 +52,10 @@ DelaysStand lanes ends spans steps t delays =
 abbrev pub AreSet : {S : Type 0} → ℕ → List (Delay S) → Type 0
 AreSet t delays = (c : ℕ) (d : Delay _) → slice_get delays c ≡ Some d → t < d.until
 
+-- none of them is over before a tick
+abbrev pub AreSetUntil : {S : Type 0} → ℕ → List (Delay S) → Type 0
+AreSetUntil until delays = (c : ℕ) (d : Delay _) → slice_get delays c ≡ Some d → until ≤ d.until
+
 -- in a lane, at tick t, the delays are those of the world
 pub record AreDelaysOf {S : Type 0} (ends : S → ℕ → Ends) (lane : ℕ) (delays : List (Delay S))
     (w : PairWorld) (t : ℕ) : Type 0 where

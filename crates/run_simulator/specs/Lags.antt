@@ -1,19 +1,18 @@
 -- What a run that evaluates only the gates behind a change holds before and after a tick.
-use Rattle.std.specs.Prelude.{◌≡◌, ◌<◌, ◌≤◌, ◌-◌, ℕ, suc, List, Some, Vec, length, slice_get}
-use Rattle.std.specs.declared.alloc.Global.{Global}
+use Rattle.std.specs.Prelude.{◌≡◌, ◌<◌, ◌≤◌, ◌-◌, ℕ, suc, List, Some, length, slice_get}
 use Rattle.model_history.specs.{Rails.Rails, Rails.Ends, Recorded.first_ticks}
-use Rattle.model_line.specs.{declared.script.SeenSpan.SeenSpan, Parameters.channel_count}
 use Rattle.model_logic.specs.PairMean.{PairWorld}
 use Rattle.net_gates.specs.{declared.gate.Gate.Gate, Named.NamedFrom, NetOf.NetOf, NetOf.IsNet}
 use Rattle.net_gates.specs.declared.gate.Gate.TheVariants as gate
 use Rattle.run_simulator.specs.{declared.cell.Cell.Cell, declared.since.Since.Since}
 use Rattle.run_simulator.specs.{declared.gates.Gates.Gates, declared.moment.Moment.Moment}
-use Rattle.run_simulator.specs.{declared.readers.Readers.Readers, Readers.ReadersHold}
 use Rattle.run_simulator.specs.CellStands.{TimerStands, SealStands}
 use Rattle.run_simulator.specs.Ticks.{AreTold, HaveCells, KeysSent}
 use Rattle.run_simulator.specs.{GatePairs.GateSignals, Lanes.LanePairs, Lasts.Lasts}
 use Rattle.run_simulator.specs.{Inputs.AreDelaysFrom, Inputs.AreSet, Moments.CanHear}
 use Rattle.run_simulator.specs.{Marks.AreMarked, Shown.IsShown}
+use Rattle.run_simulator.specs.{declared.shown_by.ShownBy.ShownBy, ShownBy.HasSpansOf}
+use Rattle.run_simulator.specs.ShownBy.{shown_of}
 
 -- a timer's cell stands for its input's first ticks; what it has not taken yet up to tick t, and
 -- the last tick that it has, are one value
@@ -108,10 +107,9 @@ AllLag stands_for ends rails lane p t gates kept =
 -- in a lane, at a tick: the lists show what the world does, the delays are its own, the keys were
 -- sent, and the pairs are told
 pub record IsGivenAt {S V : Type 0} (ends : S → ℕ → Ends) (rails : V → ℕ → Rails) (lane : ℕ)
-    (p : LanePairs) (gates : List Gate) (shown : List (Vec SeenSpan Global)) (moment : Moment V S S)
-    : Type 0 where
-  pub shows : (i : ℕ) (g : Gate) (list : Vec SeenSpan Global) → slice_get gates i ≡ Some g
-      → slice_get shown i ≡ Some list → IsShown list.items p.world g
+    (p : LanePairs) (gates : List Gate) (shown : ShownBy) (moment : Moment V S S) : Type 0 where
+  pub shows : (i : ℕ) (g : Gate) → slice_get gates i ≡ Some g
+      → IsShown (shown_of shown i) p.world g
   pub delays : AreDelaysFrom ends lane moment.delays.now p.world moment.t
   pub sent : KeysSent rails lane p.keys moment.t moment.sent.now
   pub told : (r : ℕ) → AreTold p.world p.keys p.pairs r gates
@@ -148,12 +146,11 @@ pub record AreAtGate {C V S : Type 0} (net : NetOf) (t n : ℕ) (kept : Gates C 
   pub marks : AreMarked kept.dues.items kept.marks
   pub fresh : AreFreshDues t n kept.dues.items
 
--- the net is the line's, its readers are listed, each gate has its spans, and the tick can be heard
+-- the net is the line's, each gate has its spans, and the tick can be heard
 pub record CanTrace {V S : Type 0} (lanes : ℕ) (ends : S → ℕ → Ends) (net : NetOf)
-    (readers : Readers) (shown : List (Vec SeenSpan Global)) (moment : Moment V S S) : Type 0 where
+    (shown : ShownBy) (moment : Moment V S S) : Type 0 where
   pub laws : IsNet net
   pub named : NamedFrom moment.line.now 0 net.gates
-  pub readers_hold : ReadersHold net.gates (channel_count moment.line.now) readers
-  pub shown_each : length shown ≡ length net.gates
+  pub shown_each : HasSpansOf (length net.gates) shown
   pub hear : CanHear lanes ends moment
   pub set : AreSet moment.t moment.delays.now

@@ -12,6 +12,7 @@ pub mod Quiet
 pub mod Lanes
 pub mod Lasts
 pub mod Shown
+pub mod ShownBy
 pub mod Inputs
 pub mod Moments
 pub mod Lags
@@ -20,4 +21,5 @@ pub mod Hears
 pub mod Marks
 pub mod Tracks
 pub mod PlayedTracks
+pub mod Until
 pub mod Agreeing

@@ -1,117 +1,7 @@
 -- Which gates are to be looked at where one changes, and where a key does.
-use Rattle.std.specs.Prelude.{◌≡◌, ◌<◌, ◌≤◌, ◌⊎◌, ℕ, List, Some, length, slice_get}
+use Rattle.std.specs.Prelude.{◌≡◌, ◌<◌, ◌≤◌, ◌⊎◌, ℕ, List, Some, slice_get}
 use Rattle.model_history.specs.Rails.{Rails}
-use Rattle.net_gates.specs.declared.gate.Gate.{Gate}
-use Rattle.net_gates.specs.declared.gate.Gate.TheVariants.{Const, Seen, Loss, Raw, Not, And, Or}
-use Rattle.net_gates.specs.declared.gate.Gate.TheVariants.{Timer, Seal}
-use Rattle.run_simulator.specs.declared.readers.Readers.{Readers}
-
--- gate a is an argument of the gate
-abbrev pub HasArgument : ℕ → Gate → Type 0
-HasArgument a (Const v) = ⊥
-HasArgument a (Seen p) = ⊥
-HasArgument a (Loss c) = ⊥
-HasArgument a (Raw c) = ⊥
-HasArgument a (Not x) = x.0 ≡ a
-HasArgument a (And x y) = (x.0 ≡ a) ⊎ (y.0 ≡ a)
-HasArgument a (Or x y) = (x.0 ≡ a) ⊎ (y.0 ≡ a)
-HasArgument a (Timer x p d) = x.0 ≡ a
-HasArgument a (Seal x y) = (x.0 ≡ a) ⊎ (y.0 ≡ a)
-
--- the gate reads no gate and hears no channel: it is constant, shown or lost
-abbrev pub ReadsNone : Gate → Type 0
-ReadsNone (Const v) = Unit {0}
-ReadsNone (Seen p) = Unit {0}
-ReadsNone (Loss c) = Unit {0}
-ReadsNone (Raw c) = ⊥
-ReadsNone (Not x) = ⊥
-ReadsNone (And x y) = ⊥
-ReadsNone (Or x y) = ⊥
-ReadsNone (Timer x p d) = ⊥
-ReadsNone (Seal x y) = ⊥
-
--- the gate has gate a as its one argument
-abbrev pub ReadsOne : ℕ → Gate → Type 0
-ReadsOne a (Const v) = ⊥
-ReadsOne a (Seen p) = ⊥
-ReadsOne a (Loss c) = ⊥
-ReadsOne a (Raw c) = ⊥
-ReadsOne a (Not x) = x.0 ≡ a
-ReadsOne a (And x y) = ⊥
-ReadsOne a (Or x y) = ⊥
-ReadsOne a (Timer x p d) = x.0 ≡ a
-ReadsOne a (Seal x y) = ⊥
-
--- the gate has gates a and b as its two arguments
-abbrev pub ReadsTwo : ℕ → ℕ → Gate → Type 0
-ReadsTwo a b (Const v) = ⊥
-ReadsTwo a b (Seen p) = ⊥
-ReadsTwo a b (Loss c) = ⊥
-ReadsTwo a b (Raw c) = ⊥
-ReadsTwo a b (Not x) = ⊥
-ReadsTwo a b (And x y) = (x.0 ≡ a) × (y.0 ≡ b)
-ReadsTwo a b (Or x y) = (x.0 ≡ a) × (y.0 ≡ b)
-ReadsTwo a b (Timer x p d) = ⊥
-ReadsTwo a b (Seal x y) = (x.0 ≡ a) × (y.0 ≡ b)
-
--- the gate is what arrives over channel c
-abbrev pub Hears : ℕ → Gate → Type 0
-Hears c (Const v) = ⊥
-Hears c (Seen p) = ⊥
-Hears c (Loss d) = ⊥
-Hears c (Raw d) = d ≡ c
-Hears c (Not x) = ⊥
-Hears c (And x y) = ⊥
-Hears c (Or x y) = ⊥
-Hears c (Timer x p d) = ⊥
-Hears c (Seal x y) = ⊥
-
--- the number stands in the list
-abbrev pub StandsIn : ℕ → List ℕ → Type 0
-StandsIn i list = (k : ℕ) × (slice_get list k ≡ Some i)
-
--- each number of the list is below n
-abbrev pub AreBelow : ℕ → List ℕ → Type 0
-AreBelow n list = (k i : ℕ) → slice_get list k ≡ Some i → i < n
-
--- there is a list for each gate, and all lists are of gates
-pub record ListGates (n : ℕ) (readers : Readers) : Type 0 where
-  pub count : length readers.of_gates.items ≡ n
-  pub inside : (a : ℕ) (list : _) → slice_get readers.of_gates.items a ≡ Some list
-      → AreBelow n list.items
-  pub heard_inside : (c : ℕ) (list : _) → slice_get readers.of_channels.items c ≡ Some list
-      → AreBelow n list.items
-
--- each gate stands in the lists of those that it reads, and of the channel that it hears
-pub record IsListed (i : ℕ) (gate : Gate) (readers : Readers) : Type 0 where
-  pub read : (a : ℕ) (list : _) → HasArgument a gate
-      → slice_get readers.of_gates.items a ≡ Some list → StandsIn i list.items
-  pub heard : (c : ℕ) (list : _) → Hears c gate
-      → slice_get readers.of_channels.items c ≡ Some list → StandsIn i list.items
-
--- so it is of the first n of the gates
-pub record ReadersSoFar (gates : List Gate) (channels n : ℕ) (readers : Readers) : Type 0 where
-  pub of_gates : ListGates (length gates) readers
-  pub channels_are : length readers.of_channels.items ≡ channels
-  pub listed : (i : ℕ) (gate : Gate) → i < n → slice_get gates i ≡ Some gate
-      → IsListed i gate readers
-
--- so it is of each of the gates, and there is a list for each channel
-pub record ReadersHold (gates : List Gate) (channels : ℕ) (readers : Readers) : Type 0 where
-  pub of_gates : ListGates (length gates) readers
-  pub channels_are : length readers.of_channels.items ≡ channels
-  pub listed : (i : ℕ) (gate : Gate) → slice_get gates i ≡ Some gate → IsListed i gate readers
-
--- whatever stood in the lists still does, and there are as many
-pub record ListsGrow (old new : Readers) : Type 0 where
-  pub gates_are : length new.of_gates.items ≡ length old.of_gates.items
-  pub channels_are : length new.of_channels.items ≡ length old.of_channels.items
-  pub read : (i a : ℕ) (list : _) → slice_get new.of_gates.items a ≡ Some list
-      → ((list' : _) → slice_get old.of_gates.items a ≡ Some list' → StandsIn i list'.items)
-      → StandsIn i list.items
-  pub heard : (i c : ℕ) (list : _) → slice_get new.of_channels.items c ≡ Some list
-      → ((list' : _) → slice_get old.of_channels.items c ≡ Some list' → StandsIn i list'.items)
-      → StandsIn i list.items
+use Rattle.net_gates.specs.{declared.gate.Gate.Gate, Readers.HasArgument}
 
 -- each due tick is the old one or 0
 abbrev pub AreLowered : List ℕ → List ℕ → Type 0
@@ -123,15 +13,16 @@ abbrev pub AreAwake : List ℕ → List ℕ → Type 0
 AreAwake list dues =
     (k i due : ℕ) → slice_get list k ≡ Some i → slice_get dues i ≡ Some due → due ≡ 0
 
--- so is each gate that reads this one
-abbrev pub AreReadersAwake : ℕ → Readers → List ℕ → Type 0
-AreReadersAwake gate readers dues =
-    (list : _) → slice_get readers.of_gates.items gate ≡ Some list → AreAwake list.items dues
+-- so is each gate that has this one as an argument
+abbrev pub AreReadersAwake : ℕ → List Gate → List ℕ → Type 0
+AreReadersAwake a gates dues =
+    (i due : ℕ) (gate : Gate) → slice_get gates i ≡ Some gate → HasArgument a gate
+    → slice_get dues i ≡ Some due → due ≡ 0
 
 -- they are, or the value is the last one in each lane
-abbrev pub IsTold : {V : Type 0} → ℕ → (V → ℕ → Rails) → ℕ → Readers → V → V → List ℕ → Type 0
-IsTold lanes rails gate readers value last dues =
-    AreReadersAwake gate readers dues
+abbrev pub IsTold : {V : Type 0} → ℕ → (V → ℕ → Rails) → ℕ → List Gate → V → V → List ℕ → Type 0
+IsTold lanes rails a gates value last dues =
+    AreReadersAwake a gates dues
     ⊎ ((lane : ℕ) → lane < lanes → rails value lane ≡ rails last lane)
 
 -- no due tick is later than the old one

@@ -1,21 +1,18 @@
 -- What a run by stretches holds before a tick, and what it gives.
-use Rattle.std.specs.Prelude.{◌≡◌, ◌<◌, ◌≤◌, ℕ, false, List, Option, Some, None, Vec, slice_get, length}
-use Rattle.std.specs.declared.alloc.Global.{Global}
-use Rattle.std.specs.List.{filter}
+use Rattle.std.specs.Prelude.{◌≡◌, ◌<◌, ℕ, false, List, Option, Some, None, slice_get, length}
 use Rattle.model_history.specs.Rails.{Rails, Ends, rails_at, both}
 use Rattle.run_signal.specs.Lanes.{in_lane}
 use Rattle.run_channel.specs.SentKeys.{SentKeys}
 use Rattle.model_line.specs.{declared.script.Script.Script, declared.line.Line.Line}
-use Rattle.model_line.specs.{declared.script.SeenSpan.SeenSpan, Parameters.channel_count}
 use Rattle.model_logic.specs.PairMean.{PairSignals}
 use Rattle.model_logic.specs.{Logic.key_tree, Solution.the_keys, Histories.PairHistory}
-use Rattle.net_gates.specs.{declared.gate.Gate.Gate, NetOf.NetOf, NetOf.trip_of}
+use Rattle.net_gates.specs.NetOf.{NetOf, trip_of}
 use Rattle.model_timing.specs.declared.step.Step.{Step}
 use Rattle.run_simulator.specs.GatePairs.{GateSignals, line_pairs}
 use Rattle.run_simulator.specs.{LaneBox.lane_box, LaneBox.lane_world, Lanes.LanePairs}
 use Rattle.run_simulator.specs.{Ticks.KeysSent, Ticks.AreSent, Lags.AllWait, Lags.AreAtGate}
-use Rattle.run_simulator.specs.{Readers.ReadersHold, Inputs.AreDelays, Inputs.DelaysStand}
-use Rattle.run_simulator.specs.{declared.kept.Kept.Kept, Shown.is_shown_by}
+use Rattle.run_simulator.specs.{Inputs.AreDelays, Inputs.AreSetUntil, Inputs.DelaysStand}
+use Rattle.run_simulator.specs.{declared.kept.Kept.Kept, ShownBy.AreShownBy, ShownBy.HasSpansOf}
 
 -- a line and its script over a lane's box, with the pairs of the interval history
 abbrev pub line_lane : {S : Type 0} → (S → ℕ → Ends) → Line → Script → List S → List (Step S)
@@ -45,27 +42,21 @@ pub record LaneTracked {C S V : Type 0} (stands_for : C → S → S → ℕ → 
 pub record CanTake {C S V : Type 0} (lanes : ℕ) (ends : S → ℕ → Ends) (line : Line) (net : NetOf)
     (spans : List S) (steps : List (Step S)) (t : ℕ) (kept : Kept C V S S) : Type 0 where
   pub gates : AreAtGate net t 0 kept.gates
-  pub reached : t ≤ kept.gates.marks.least
+  pub reached : t ≡ kept.gates.marks.next
   pub horizon : kept.gates.marks.horizon ≡ line.horizon
-  pub readers : ReadersHold net.gates (channel_count line) kept.readers
-  pub shown : length kept.shown.items ≡ length net.gates
-  pub delays : AreDelays line kept.delays.items
-  pub stand : DelaysStand lanes ends spans steps t kept.delays.items
+  pub shown : HasSpansOf (length net.gates) kept.shown
+  pub delays : AreDelays line kept.delays.list.items
+  pub stand : DelaysStand lanes ends spans steps t kept.delays.list.items
+  pub until : AreSetUntil kept.delays.until kept.delays.list.items
   pub keys : AreSent (length net.keys) line.horizon t kept.keys.items
   pub trips : AreSent (length net.trips) line.horizon t kept.trips.items
-
--- each gate has the spans of the script that are of it
-abbrev pub AreShownBy : Script → List Gate → List (Vec SeenSpan Global) → Type 0
-AreShownBy script gates shown =
-    (i : ℕ) (list : Vec SeenSpan Global) (gate : Gate) → slice_get shown i ≡ Some list
-    → slice_get gates i ≡ Some gate → list.items ≡ filter (is_shown_by gate) script.spans.items
 
 -- it is kept of a run over the script: what the script shows of each gate, and in each lane the
 -- ticks before
 pub record IsKeptOf {C S V : Type 0} (lanes : ℕ) (stands_for : C → S → S → ℕ → List Rails → Type 0)
     (ends : S → ℕ → Ends) (rails : V → ℕ → Rails) (line : Line) (script : Script) (spans : List S)
     (steps : List (Step S)) (net : NetOf) (t : ℕ) (kept : Kept C V S S) : Type 0 where
-  pub shown : AreShownBy script net.gates kept.shown.items
+  pub shown : AreShownBy script net.gates kept.shown
   pub tracked : (lane : ℕ) → lane < lanes
       → LaneTracked stands_for ends rails lane (line_lane ends line script spans steps net lane) net
       t kept

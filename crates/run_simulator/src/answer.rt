@@ -109,3 +109,36 @@ pub fn answer<V: Timed + Carried>(
         Gate::Seal(x, y) => seal_answer::<V>(cell, argument(earlier, x), argument(earlier, y)),
     }
 }
+
+/// The same answer, with no call for the kinds of gates that are the most.
+pub fn short_answer<V: Timed + Carried>(
+    gate: &Gate,
+    cell: &mut Cell<V::Cells, SealCell<V>, V::Span>,
+    earlier: &[V],
+    spans: &[SeenSpan],
+    moment: &Moment<'_, V, V::Span>,
+) -> V
+    requires names { GateNames moment.now.line.now gate.now }
+    requires arguments { HasArguments (length earlier.now) gate.now }
+    requires cell { HasCell gate.now cell.old }
+    requires moment { CanHear V.LANES V.ends moment.now }
+    ensures shape { HasCell gate.now cell.new }
+    ensures stands { (lane : ℕ) (w : PairWorld) (u : GateSignals) → lane < V.LANES →
+        ValuesAgree V.rails lane u moment.now.t earlier.now →
+        CellStands V.stands_for V.ends V.rails lane w u moment.now.t gate.now cell.old →
+        CellStands V.stands_for V.ends V.rails lane w u (suc moment.now.t) gate.now cell.new }
+    ensures answers { (lane : ℕ) (w : PairWorld) (keys : PairSignals) (u : GateSignals) →
+        lane < V.LANES → IsShownAt spans.now w moment.now.t gate.now →
+        AreDelaysOf V.ends lane moment.now.delays.now w moment.now.t →
+        KeysSent V.rails lane keys moment.now.t moment.now.sent.now →
+        ValuesAgree V.rails lane u moment.now.t earlier.now →
+        CellStands V.stands_for V.ends V.rails lane w u moment.now.t gate.now cell.old →
+        V.rails result lane ≡ kind_pair w keys u gate.now moment.now.t }
+{
+    match *gate {
+        Gate::Not(x) => argument(earlier, x).not(),
+        Gate::And(x, y) => argument(earlier, x).and(argument(earlier, y)),
+        Gate::Or(x, y) => argument(earlier, x).or(argument(earlier, y)),
+        _ => answer::<V>(gate, cell, earlier, spans, moment),
+    }
+}

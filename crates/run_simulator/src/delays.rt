@@ -5,7 +5,8 @@ ghost use Rattle.std.specs.Prelude.{slice_get, Some};
 ghost use Rattle.model_line.specs.{Channels.from_of, Parameters.channel_count, Parameters.param_count};
 ghost use Rattle.model_line.specs.Parameters.{delay_param};
 ghost use Rattle.model_timing.specs.Timing.{ascend};
-ghost use Rattle.run_simulator.specs.Inputs.{AreDelays, AreSet, DelayStands, DelaysStand};
+ghost use Rattle.run_simulator.specs.Inputs.{AreDelays, AreSet, AreSetUntil, DelayStands};
+ghost use Rattle.run_simulator.specs.Inputs.{DelaysStand};
 ghost use Rattle.run_simulator.specs.declared.delays.Delay.{Delay};
 
 use crate::lesser::lesser;
@@ -23,6 +24,13 @@ pub struct Delay<P: Copy> {
     pub param: u32,
     pub span: P,
     pub soonest: u32,
+    pub until: u32,
+}
+
+/// The delay of each channel, and a tick before which none of them is over.
+#[derive(Drop)]
+pub struct Delays<P: Copy> {
+    pub list: Vec<Delay<P>>,
     pub until: u32,
 }
 
@@ -62,6 +70,43 @@ fn own_delay<V: Signal>(line: &Line, spans: &[V::Span], channel: usize) -> Delay
         soonest: 1,
         until: 0,
     }
+}
+
+/// Sets each delay that is over to its span at the tick, where one may be.
+pub fn renew_delays<V: Signal>(
+    line: &Line,
+    spans: &[V::Span],
+    steps: &[Step<V::Span>],
+    delays: &mut Delays<V::Span>,
+    t: u32,
+)
+    requires spans { length spans.now ≡ param_count line.now }
+    requires ascending { IsTrue (ascend steps.now) }
+    requires early { t < 4000 }
+    requires delays { AreDelays line.now delays.old.list.items }
+    requires stand { DelaysStand V.LANES V.ends spans.now steps.now t delays.old.list.items }
+    requires until { AreSetUntil delays.old.until delays.old.list.items }
+    ensures delays { AreDelays line.now delays.new.list.items }
+    ensures stand { DelaysStand V.LANES V.ends spans.now steps.now t delays.new.list.items }
+    ensures set { AreSet t delays.new.list.items }
+    ensures until { AreSetUntil delays.new.until delays.new.list.items }
+{
+    if t < delays.until {
+        return;
+    }
+    set_delays::<V>(line, spans, steps, &mut delays.list, t);
+    delays.until = first_over(&delays.list);
+}
+
+// A tick before which none of the delays is over.
+fn first_over<P: Copy>(delays: &[Delay<P>]) -> u32
+    ensures { AreSetUntil result delays.now }
+{
+    let mut until = 4000;
+    for channel in 0..delays.len() {
+        until = lesser(until, delays[channel].until);
+    }
+    until
 }
 
 /// Sets each delay that is over to its span at the tick.

@@ -40,5 +40,5 @@ mod within;
 
 pub use agreeing::agreeing_lanes;
 pub use run_net::run;
-pub use tracks::{Tracks, run_tracks};
+pub use tracks::{Tracks, run_tracks, run_tracks_until};
 pub use waves::Waves;

@@ -9,7 +9,7 @@ ghost use Rattle.run_simulator.specs.CellStands.{HasCell};
 ghost use Rattle.run_simulator.specs.{Lags.Lags, Lags.IsInputAt, Lags.IsNoTimer, Lasts.Lasts};
 ghost use Rattle.run_simulator.specs.Lanes.{LanePairs};
 
-use crate::answer::{answer, gate_stays};
+use crate::answer::{answer, gate_stays, short_answer};
 use crate::arrivals::arrives_until;
 use crate::cell::Cell;
 use crate::moment::Moment;
@@ -120,8 +120,10 @@ pub fn look<V: Timed + Carried>(
         Lasts (p lane) (moment.now.t - 1) moment.now.t (due.new - moment.now.t) gate.now }
 {
     if is_no_timer(gate) {
-        *due = rests_until::<V>(gate, spans, moment);
-        return answer::<V>(gate, cell, earlier, spans, moment);
+        let until = rests_until::<V>(gate, spans, moment);
+        let value = short_answer::<V>(gate, cell, earlier, spans, moment);
+        *due = until;
+        return value;
     }
     let t = moment.t;
     catch_up::<V>(gate, cell, *since, t);

@@ -9,16 +9,19 @@ use crate::fresh::fresh_list;
 use model_line::Memory;
 use std::alloc::Global;
 
-/// A bit for each gate that is to be looked at, 64 to a word in the order of the net; for each tick
-/// before the horizon such words of those that are due at it; a bit for each such tick; and a tick
-/// before which no gate without a mark is due.
+// How many ticks from the next one on have a row of the agenda.
+const RING: u32 = 512;
+
+/// A bit for each gate that is to be looked at, 64 to a word in the order of the net; a ring of rows
+/// of such words, a row for each tick from the next one on, of those that are due at it; a bit for
+/// each tick before the horizon at which some are; and the next tick to be taken.
 #[derive(Drop)]
 pub struct Marks {
     pub words: Vec<u64>,
     pub agenda: Vec<u64>,
     pub ticks: Vec<u64>,
     pub horizon: u32,
-    pub least: u32,
+    pub next: u32,
 }
 
 /// Marks of so many gates, all of which are to be looked at at tick 0. All memory is taken here.
@@ -26,12 +29,13 @@ pub fn fresh_marks(alloc: Global, count: u32, horizon: u32) -> Result<Marks, Mem
     requires few { count ≤ 512 }
     requires short { horizon ≤ 4000 }
     ensures horizon { IfOk result (λ marks. marks.horizon ≡ horizon) }
+    ensures next { IfOk result (λ marks. marks.next ≡ 0) }
     ensures marks { IfOk result (λ marks. (dues : List ℕ) → length dues ≡ count →
         AreMarked dues marks) }
 {
     let width = count / 64 + 1;
     let mut words = fresh_list(alloc, width, 0u64)?;
-    let agenda = fresh_list(alloc, horizon * width, 0u64)?;
+    let agenda = fresh_list(alloc, RING * width, 0u64)?;
     let ticks = fresh_list(alloc, horizon / 64 + 1, 0u64)?;
     for gate in 0..count {
         mark(&mut words, gate);
@@ -41,7 +45,7 @@ pub fn fresh_marks(alloc: Global, count: u32, horizon: u32) -> Result<Marks, Mem
         agenda,
         ticks,
         horizon,
-        least: 0,
+        next: 0,
     })
 }
 
@@ -68,29 +72,32 @@ fn unmark(words: &mut Vec<u64>, gate: u32)
 pub fn settle(marks: &mut Marks, gate: u32, due: u32)
     requires wide { gate < 64 * length marks.old.words.items }
     requires room { HasRoom marks.old }
+    requires later { marks.old.next ≤ due }
     ensures horizon { marks.new.horizon ≡ marks.old.horizon }
+    ensures next { marks.new.next ≡ marks.old.next }
     ensures marks { (dues : List ℕ) → AreMarked dues marks.old →
         AreMarked (slice_set dues gate due) marks.new }
-    ensures later { (t : ℕ) → t < marks.old.least → t < due → t < marks.new.least }
 {
     unmark(&mut marks.words, gate);
     plan(marks, gate, due);
-    marks.least = marks.least.min(due);
 }
 
-/// A gate is due at this tick too, which is not before the others.
+/// A gate is due at this tick too. Beyond the ring it is planned for the last tick of the ring, where
+/// it is looked at once for nothing.
 pub fn plan(marks: &mut Marks, gate: u32, due: u32)
     requires wide { gate < 64 * length marks.old.words.items }
     requires room { HasRoom marks.old }
+    requires later { marks.old.next ≤ due }
     ensures planned { IsPlanned marks.new gate due }
     ensures more { PlansGrow marks.old marks.new }
 {
     if due >= marks.horizon {
         return;
     }
+    let tick = due.min(marks.next + (RING - 1));
     let width = marks.words.len() as u32;
-    mark(&mut marks.agenda, 64 * (due * width) + gate);
-    mark(&mut marks.ticks, due);
+    mark(&mut marks.agenda, 64 * (tick % RING * width) + gate);
+    mark(&mut marks.ticks, tick);
 }
 
 /// The first gate with a mark from this one on; the end if there is none before it.
@@ -128,40 +135,42 @@ fn lowest_from(word: u64, from: u32) -> u32
     rest.trailing_zeros()
 }
 
-/// Marks the gates that are due at the tick.
+/// Marks the gates that are due at the tick, which is the next one, and clears its row.
 pub fn wake_due(marks: &mut Marks, t: u32)
     requires tick { t < marks.old.horizon }
     requires room { HasRoom marks.old }
+    requires reached { t ≡ marks.old.next }
     ensures horizon { marks.new.horizon ≡ marks.old.horizon }
-    ensures later { t < marks.new.least }
-    ensures marks { (dues : List ℕ) → t ≤ marks.old.least → AreMarked dues marks.old →
-        AreMarked dues marks.new }
+    ensures next { marks.new.next ≡ t + 1 }
+    ensures marks { (dues : List ℕ) → AreMarked dues marks.old → AreMarked dues marks.new }
 {
     let width = marks.words.len();
+    let row = (t % RING) as usize * width;
     for k in 0..width {
-        let due = marks.agenda[t as usize * width + k];
+        let due = marks.agenda[row + k];
         marks.words[k] |= due;
+        marks.agenda[row + k] = 0;
     }
-    marks.least = t + 1;
+    marks.next = t + 1;
 }
 
 /// For how many ticks from this one on no gate is due, up to the horizon; if one may be at the next
 /// tick, 1.
 pub fn quiet_ticks(marks: &mut Marks, t: u32) -> u32
     requires tick { t < marks.old.horizon }
-    requires later { t < marks.old.least }
+    requires next { marks.old.next ≡ t + 1 }
     requires room { HasRoom marks.old }
     ensures horizon { marks.new.horizon ≡ marks.old.horizon }
     ensures some { 1 ≤ result }
     ensures fits { t + result ≤ marks.old.horizon }
-    ensures reached { t + result ≤ marks.new.least }
+    ensures reached { t + result ≡ marks.new.next }
     ensures marks { (dues : List ℕ) → AreMarked dues marks.old → AreMarked dues marks.new }
     ensures later { 1 < result → (dues : List ℕ) → AreMarked dues marks.old → (i due : ℕ) →
         slice_get dues i ≡ Some due → result ≤ due - t }
 {
     let next = next_marked(&marks.ticks, t + 1, marks.horizon);
     if have_none(&marks.words) {
-        marks.least = next;
+        marks.next = next;
         return next - t;
     }
     1

@@ -1,58 +1,95 @@
 //! The spans of a script, gate by gate.
 
-ghost use Rattle.std.specs.Prelude.{◌≡◌, ℕ, IfOk, length, slice_get, Some};
+ghost use Rattle.std.specs.Prelude.{◌≡◌, ◌+◌, ◌++◌, ◌<◌, IfOk, length};
 ghost use Rattle.std.specs.List.{filter};
 ghost use Rattle.model_line.specs.Seen.{is_of_place as place_of, is_of_loss as loss_of};
-ghost use Rattle.net_gates.specs.declared.gate.Gate.{Gate as GateOf};
+ghost use Rattle.model_line.specs.declared.script.SeenSpan.{SeenSpan};
 ghost use Rattle.run_simulator.specs.Shown.{is_shown_by};
+ghost use Rattle.run_simulator.specs.ShownBy.{AreShownBy, AreStarts, HasSpansOf, shown_of};
 
 use model_line::{Memory, Place, Script, SeenSpan, What};
 use net_gates::{Gate, GateId, Net};
 use std::alloc::Global;
 
-/// For each gate the spans that it shows: those of its place, or of the loss of its channel. All
-/// memory is taken here.
-pub fn fresh_shown(alloc: Global, net: &Net, script: &Script) -> Result<Vec<Vec<SeenSpan>>, Memory>
-    ensures count { IfOk result (λ shown. length shown.items ≡ length net.now.gates) }
-    ensures shown { IfOk result (λ shown. (i : ℕ) (list : _) (gate : GateOf) →
-        slice_get shown.items i ≡ Some list → slice_get net.now.gates i ≡ Some gate →
-        list.items ≡ filter (is_shown_by gate) script.now.spans.items) }
+/// For each gate the spans that it shows: those of its place, or of the loss of its channel.
+#[derive(Drop)]
+pub struct ShownBy {
+    // Gate after gate.
+    spans: Vec<SeenSpan>,
+    // Where those of each gate begin, and the end.
+    starts: Vec<usize>,
+}
+
+impl ShownBy {
+    /// The spans that a gate shows.
+    pub fn of(&self, gate: u32) -> &[SeenSpan]
+        requires inside { gate + 1 < length self.now.starts.items }
+        requires starts { AreStarts self.now.spans.items self.now.starts.items }
+        ensures { result.now ≡ shown_of self.now gate }
+    {
+        let from = self.starts[gate as usize];
+        let to = self.starts[gate as usize + 1];
+        &self.spans[from..to]
+    }
+}
+
+/// The spans that each gate of a net shows. All memory is taken here.
+pub fn fresh_shown(alloc: Global, net: &Net, script: &Script) -> Result<ShownBy, Memory>
+    ensures each { IfOk result (λ shown. HasSpansOf (length net.now.gates) shown) }
+    ensures shown { IfOk result (λ shown. AreShownBy script.now net.now.gates shown) }
 {
-    let mut shown = Vec::with_capacity(alloc, net.len() as usize)?;
+    let mut spans = Vec::with_capacity(alloc, script.spans.len())?;
+    let mut starts = Vec::with_capacity(alloc, net.len() as usize + 1)?;
+    starts.push(0)?;
     for i in 0..net.len() {
-        shown.push(spans_of(alloc, net.gate(GateId(i)), &script.spans)?)?;
+        list_shown(net.gate(GateId(i)), &script.spans, &mut spans)?;
+        starts.push(spans.len())?;
     }
-    Ok(shown)
+    Ok(ShownBy { spans, starts })
 }
 
-// The spans that a gate shows.
-fn spans_of(alloc: Global, gate: &Gate, spans: &[SeenSpan]) -> Result<Vec<SeenSpan>, Memory>
-    ensures { IfOk result (λ list. list.items ≡ filter (is_shown_by gate.now) spans.now) }
-{
-    let mut list = Vec::new(alloc);
-    for span in spans {
-        if is_shown(gate, span) {
-            list.push(*span)?;
-        }
-    }
-    Ok(list)
-}
-
-// Whether a gate shows a span.
-fn is_shown(gate: &Gate, span: &SeenSpan) -> bool
-    ensures { result ≡ is_shown_by gate.now span.now }
+// Appends the spans that a gate shows.
+fn list_shown(gate: &Gate, all: &[SeenSpan], spans: &mut Vec<SeenSpan>) -> Result<(), Memory>
+    ensures { IfOk result (λ _.
+        spans.new.items ≡ spans.old.items ++ filter (is_shown_by gate.now) all.now) }
 {
     match *gate {
-        Gate::Const(_) => false,
-        Gate::Seen(place) => is_of_place(span, place),
-        Gate::Loss(channel) => is_of_loss(span, channel),
-        Gate::Raw(_) => false,
-        Gate::Not(_) => false,
-        Gate::And(_, _) => false,
-        Gate::Or(_, _) => false,
-        Gate::Timer(_, _, _) => false,
-        Gate::Seal(_, _) => false,
+        Gate::Const(_) => Ok(()),
+        Gate::Seen(place) => list_of_place(place, all, spans),
+        Gate::Loss(channel) => list_of_loss(channel, all, spans),
+        Gate::Raw(_) => Ok(()),
+        Gate::Not(_) => Ok(()),
+        Gate::And(_, _) => Ok(()),
+        Gate::Or(_, _) => Ok(()),
+        Gate::Timer(_, _, _) => Ok(()),
+        Gate::Seal(_, _) => Ok(()),
     }
+}
+
+// Appends the spans of a place.
+fn list_of_place(place: Place, all: &[SeenSpan], spans: &mut Vec<SeenSpan>) -> Result<(), Memory>
+    ensures { IfOk result (λ _. spans.new.items
+        ≡ spans.old.items ++ filter (λ (s : SeenSpan). place_of place s.what) all.now) }
+{
+    for span in all {
+        if is_of_place(span, place) {
+            spans.push(*span)?;
+        }
+    }
+    Ok(())
+}
+
+// Appends the spans of the loss of a channel.
+fn list_of_loss(channel: u32, all: &[SeenSpan], spans: &mut Vec<SeenSpan>) -> Result<(), Memory>
+    ensures { IfOk result (λ _. spans.new.items
+        ≡ spans.old.items ++ filter (λ (s : SeenSpan). loss_of channel s.what) all.now) }
+{
+    for span in all {
+        if is_of_loss(span, channel) {
+            spans.push(*span)?;
+        }
+    }
+    Ok(())
 }
 
 fn is_of_place(span: &SeenSpan, place: Place) -> bool

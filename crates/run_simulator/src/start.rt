@@ -8,12 +8,11 @@ ghost use Rattle.model_timing.specs.declared.step.Step.{Step};
 ghost use Rattle.run_simulator.specs.{Tracks.CanTake, Tracks.IsKeptOf, Lanes.LanePairs};
 ghost use Rattle.run_simulator.specs.{Lags.AreAtGate, Lags.AllWait, LaneBox.time_ends};
 
-use crate::delays::fresh_delays;
+use crate::delays::{Delays, fresh_delays};
 use crate::fresh::{fresh_cells, fresh_list, fresh_tracks};
 use crate::gates::Gates;
 use crate::kept::Kept;
 use crate::marks::fresh_marks;
-use crate::readers::fresh_readers;
 use crate::shown_by::fresh_shown;
 use crate::since::Since;
 use model_line::{Line, Memory, Script};
@@ -41,16 +40,17 @@ pub fn fresh_kept<V: Timed + Carried>(
 {
     line_laws();
     let gates = fresh_gates::<V>(alloc, net, line, spans)?;
-    let readers = fresh_readers(alloc, net, line)?;
     let shown = fresh_shown(alloc, net, script)?;
     let delays = fresh_delays::<V>(alloc, line, spans)?;
     let keys = fresh_tracks::<V>(alloc, net.key_gates().len() as u32, line.horizon)?;
     let trips = fresh_tracks::<V>(alloc, net.trip_gates().len() as u32, line.horizon)?;
     Ok(Kept {
         gates,
-        readers,
         shown,
-        delays,
+        delays: Delays {
+            list: delays,
+            until: 0,
+        },
         keys,
         trips,
     })
@@ -67,6 +67,7 @@ fn fresh_gates<V: Timed + Carried>(
     requires spans { length spans.now ≡ param_count line.now }
     ensures gates { IfOk result (λ gates. AreAtGate net.now 0 0 gates) }
     ensures horizon { IfOk result (λ gates. gates.marks.horizon ≡ line.now.horizon) }
+    ensures next { IfOk result (λ gates. gates.marks.next ≡ 0) }
     ensures wait { IfOk result (λ gates. (lane : ℕ) (p : LanePairs) → lane < V.LANES →
         ((x : Time) → p.world.time x ≡ time_ends V.ends lane spans.now x) →
         AllWait V.stands_for V.ends V.rails lane p 0 net.now.gates gates) }

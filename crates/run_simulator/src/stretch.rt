@@ -5,7 +5,7 @@ ghost use Rattle.model_line.specs.declared.script.Script.{Script};
 ghost use Rattle.run_simulator.specs.Tracks.{CanTake, IsKeptOf};
 ghost use Rattle.run_simulator.specs.{Runs.CanRun};
 
-use crate::delays::set_delays;
+use crate::delays::renew_delays;
 use crate::hear::hear;
 use crate::kept::Kept;
 use crate::marks::quiet_ticks;
@@ -49,23 +49,16 @@ pub fn take_stretch<V: Timed + Carried>(
     gates_stand_for_their_trees();
     elements_stay_in_a_stretch();
     recorded_ticks_suffice();
-    set_delays::<V>(line, spans, steps, &mut kept.delays, t);
+    renew_delays::<V>(line, spans, steps, &mut kept.delays, t);
     let moment = Moment {
         line,
-        delays: kept.delays.as_slice(),
+        delays: kept.delays.list.as_slice(),
         sent: kept.keys.as_slice(),
         t,
     };
-    trace::<V>(
-        net,
-        &kept.readers,
-        kept.shown.as_slice(),
-        &moment,
-        &mut kept.gates,
-    );
+    trace::<V>(net, &kept.shown, &moment, &mut kept.gates);
     hear::<V>(
         net,
-        &kept.readers,
         kept.gates.column.as_slice(),
         &moment,
         &mut kept.gates.dues,

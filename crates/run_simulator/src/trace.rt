@@ -10,9 +10,9 @@ use crate::gates::Gates;
 use crate::look::look;
 use crate::marks::{next_marked, settle, wake_due};
 use crate::moment::Moment;
-use crate::readers::{Readers, tell};
+use crate::readers::tell;
+use crate::shown_by::ShownBy;
 use model_history::recorded_laws::recorded_ticks_suffice;
-use model_line::SeenSpan;
 use net_gates::{GateId, Net};
 use run_channel::Carried;
 use run_timers::{Timed, elements_stay_in_a_stretch};
@@ -20,17 +20,16 @@ use run_timers::{Timed, elements_stay_in_a_stretch};
 /// Takes one tick: the column, which has the values of the tick before, gets those of this one.
 pub fn trace<V: Timed + Carried>(
     net: &Net,
-    readers: &Readers,
-    shown: &[Vec<SeenSpan>],
+    shown: &ShownBy,
     moment: &Moment<'_, V, V::Span>,
     gates: &mut Gates<V::Cells, V, V::Span>,
 )
-    requires can { CanTrace V.LANES V.ends net.now readers.now shown.now moment.now }
+    requires can { CanTrace V.LANES V.ends net.now shown.now moment.now }
     requires gates { AreAtGate net.now moment.now.t 0 gates.old }
     requires horizon { gates.old.marks.horizon ≡ moment.now.line.now.horizon }
-    requires reached { moment.now.t ≤ gates.old.marks.least }
+    requires reached { moment.now.t ≡ gates.old.marks.next }
     ensures gates { AreAtGate net.now moment.now.t (length net.now.gates) gates.new }
-    ensures later { moment.now.t < gates.new.marks.least }
+    ensures next { gates.new.marks.next ≡ moment.now.t + 1 }
     ensures horizon { gates.new.marks.horizon ≡ gates.old.marks.horizon }
     ensures answers { (lane : ℕ) (p : LanePairs) → lane < V.LANES →
         IsGivenAt V.ends V.rails lane p net.now.gates shown.now moment.now →
@@ -48,22 +47,21 @@ pub fn trace<V: Timed + Carried>(
         Lasts (p lane) (moment.now.t - 1) moment.now.t (due - moment.now.t) g }
 {
     wake_due(&mut gates.marks, moment.t);
-    trace_all::<V>(net, readers, shown, moment, gates);
+    trace_all::<V>(net, shown, moment, gates);
 }
 
 // Goes over all gates in the order of the net.
 fn trace_all<V: Timed + Carried>(
     net: &Net,
-    readers: &Readers,
-    shown: &[Vec<SeenSpan>],
+    shown: &ShownBy,
     moment: &Moment<'_, V, V::Span>,
     gates: &mut Gates<V::Cells, V, V::Span>,
 )
-    requires can { CanTrace V.LANES V.ends net.now readers.now shown.now moment.now }
+    requires can { CanTrace V.LANES V.ends net.now shown.now moment.now }
     requires gates { AreAtGate net.now moment.now.t 0 gates.old }
-    requires later { moment.now.t < gates.old.marks.least }
+    requires next { gates.old.marks.next ≡ moment.now.t + 1 }
     ensures gates { AreAtGate net.now moment.now.t (length net.now.gates) gates.new }
-    ensures later { moment.now.t < gates.new.marks.least }
+    ensures next { gates.new.marks.next ≡ moment.now.t + 1 }
     ensures horizon { gates.new.marks.horizon ≡ gates.old.marks.horizon }
     ensures takes { (lane : ℕ) (p : LanePairs) → lane < V.LANES →
         IsGivenAt V.ends V.rails lane p net.now.gates shown.now moment.now →
@@ -80,7 +78,7 @@ fn trace_all<V: Timed + Carried>(
 {
     let mut i = 0;
     while i < net.len() {
-        i = take_next::<V>(net, readers, shown, moment, gates, i);
+        i = take_next::<V>(net, shown, moment, gates, i);
     }
 }
 
@@ -88,20 +86,19 @@ fn trace_all<V: Timed + Carried>(
 // one. Answers behind which gate.
 fn take_next<V: Timed + Carried>(
     net: &Net,
-    readers: &Readers,
-    shown: &[Vec<SeenSpan>],
+    shown: &ShownBy,
     moment: &Moment<'_, V, V::Span>,
     gates: &mut Gates<V::Cells, V, V::Span>,
     i: u32,
 ) -> u32
     requires inside { i < length net.now.gates }
-    requires can { CanTrace V.LANES V.ends net.now readers.now shown.now moment.now }
+    requires can { CanTrace V.LANES V.ends net.now shown.now moment.now }
     requires gates { AreAtGate net.now moment.now.t i gates.old }
-    requires later { moment.now.t < gates.old.marks.least }
+    requires next { gates.old.marks.next ≡ moment.now.t + 1 }
     ensures further { i < result }
     ensures inside { result ≤ length net.now.gates }
     ensures gates { AreAtGate net.now moment.now.t result gates.new }
-    ensures later { moment.now.t < gates.new.marks.least }
+    ensures next { gates.new.marks.next ≡ moment.now.t + 1 }
     ensures horizon { gates.new.marks.horizon ≡ gates.old.marks.horizon }
     ensures others { (k due : ℕ) → k < i → slice_get gates.new.dues.items k ≡ Some due →
         (due ≡ 0) ⊎ (slice_get gates.old.dues.items k ≡ Some due) }
@@ -123,25 +120,24 @@ fn take_next<V: Timed + Carried>(
     if next == net.len() {
         return next;
     }
-    evaluate::<V>(net, readers, shown, moment, gates, next);
+    evaluate::<V>(net, shown, moment, gates, next);
     next + 1
 }
 
 // Evaluates a gate, and makes those due that read it, if it changes.
 fn evaluate<V: Timed + Carried>(
     net: &Net,
-    readers: &Readers,
-    shown: &[Vec<SeenSpan>],
+    shown: &ShownBy,
     moment: &Moment<'_, V, V::Span>,
     gates: &mut Gates<V::Cells, V, V::Span>,
     i: u32,
 )
     requires inside { i < length net.now.gates }
-    requires can { CanTrace V.LANES V.ends net.now readers.now shown.now moment.now }
+    requires can { CanTrace V.LANES V.ends net.now shown.now moment.now }
     requires gates { AreAtGate net.now moment.now.t i gates.old }
-    requires later { moment.now.t < gates.old.marks.least }
+    requires next { gates.old.marks.next ≡ moment.now.t + 1 }
     ensures gates { AreAtGate net.now moment.now.t (i + 1) gates.new }
-    ensures later { moment.now.t < gates.new.marks.least }
+    ensures next { gates.new.marks.next ≡ moment.now.t + 1 }
     ensures horizon { gates.new.marks.horizon ≡ gates.old.marks.horizon }
     ensures others { (k due : ℕ) → k < i → slice_get gates.new.dues.items k ≡ Some due →
         (due ≡ 0) ⊎ (slice_get gates.old.dues.items k ≡ Some due) }
@@ -165,11 +161,11 @@ fn evaluate<V: Timed + Carried>(
         &mut gates.sinces[k],
         &mut gates.dues[k],
         &gates.column[..k],
-        &shown[k],
+        shown.of(i),
         moment,
     );
     let due = gates.dues[k];
     settle(&mut gates.marks, i, due);
     gates.column[k] = value;
-    tell::<V>(readers, i, value, last, &mut gates.dues, &mut gates.marks);
+    tell::<V>(net, i, value, last, &mut gates.dues, &mut gates.marks);
 }

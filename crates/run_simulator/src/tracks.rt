@@ -8,6 +8,7 @@ ghost use Rattle.model_timing.specs.Timing.{ascend};
 ghost use Rattle.run_simulator.specs.Runs.{CanRun, AreDelayed, IsTheHistory, IsPoint, IsExactAt};
 ghost use Rattle.run_simulator.specs.Tracks.{CanTake, IsKeptOf, tracks_history};
 ghost use Rattle.run_simulator.specs.{LaneBox.lane_box, Ticks.AreSent};
+ghost use Rattle.run_simulator.specs.Until.{AreExactBelow, ReachTick};
 
 use crate::kept::Kept;
 use crate::start::fresh_kept;
@@ -65,32 +66,73 @@ pub fn run_tracks<V: Timed + Carried>(
     gates_stand_for_their_trees();
     history_laws();
     let mut kept = fresh_kept::<V>(alloc, net, line, script, spans)?;
-    take_all::<V>(net, line, spans, steps, &mut kept);
+    take_until::<V>(net, line, spans, steps, &mut kept, line.horizon);
     Ok(Tracks {
         keys: kept.keys,
         trips: kept.trips,
     })
 }
 
-// Takes all ticks up to the horizon.
-fn take_all<V: Timed + Carried>(
+/// Runs as `run_tracks` does, at least up to a tick: keys and trips at the ticks below it.
+pub fn run_tracks_until<V: Timed + Carried>(
+    alloc: Global,
+    net: &Net,
+    line: &Line,
+    script: &Script,
+    spans: &[V::Span],
+    steps: &[Step<V::Span>],
+    until: u32,
+) -> Result<Tracks<V>, Memory>
+    requires of_line { IsNetOf line.now net.now }
+    requires spans { length spans.now ≡ param_count line.now }
+    requires ascending { IsTrue (ascend steps.now) }
+    requires delayed { AreDelayed V.LANES V.ends line.now spans.now steps.now }
+    requires inside { until ≤ line.now.horizon }
+    // There is a value for each terminal and each tick below.
+    ensures keys { IfOk result (λ tracks. ReachTick (length net.now.keys) until tracks.keys.items) }
+    ensures trips { IfOk result (λ tracks.
+        ReachTick (length net.now.trips) until tracks.trips.items) }
+    // Where a lane's box holds one choice alone, at these ticks they are each history at it.
+    ensures exact { IfOk result (λ tracks. (lane : ℕ) (choice : Choice) → lane < V.LANES →
+        IsPoint line.now (lane_box V.ends line.now spans.now steps.now lane) choice →
+        AreExactBelow line.now script.now choice until
+        (tracks_history V.rails lane tracks.keys.items tracks.trips.items)) }
+{
+    line_laws();
+    gates_stand_for_their_trees();
+    history_laws();
+    let mut kept = fresh_kept::<V>(alloc, net, line, script, spans)?;
+    take_until::<V>(net, line, spans, steps, &mut kept, until);
+    Ok(Tracks {
+        keys: kept.keys,
+        trips: kept.trips,
+    })
+}
+
+// Takes ticks until this one is reached, and answers the tick that comes next.
+fn take_until<V: Timed + Carried>(
     net: &Net,
     line: &Line,
     spans: &[V::Span],
     steps: &[Step<V::Span>],
     kept: &mut Kept<V::Cells, V, V::Span>,
-)
+    until: u32,
+) -> u32
     requires can { CanRun V.LANES V.ends line.now net.now spans.now steps.now }
     requires kept { CanTake V.LANES V.ends line.now net.now spans.now steps.now 0 kept.old }
-    ensures kept { CanTake V.LANES V.ends line.now net.now spans.now steps.now line.now.horizon kept.new }
+    requires inside { until ≤ line.now.horizon }
+    ensures reached { until ≤ result }
+    ensures fits { result ≤ line.now.horizon }
+    ensures kept { CanTake V.LANES V.ends line.now net.now spans.now steps.now result kept.new }
     ensures stands { (script : Script) →
         IsKeptOf V.LANES V.stands_for V.ends V.rails line.now script spans.now steps.now net.now
         0 kept.old →
         IsKeptOf V.LANES V.stands_for V.ends V.rails line.now script spans.now steps.now net.now
-        line.now.horizon kept.new }
+        result kept.new }
 {
     let mut t = 0;
-    while t < line.horizon {
+    while t < until {
         t += take_stretch::<V>(net, line, spans, steps, kept, t);
     }
+    t
 }

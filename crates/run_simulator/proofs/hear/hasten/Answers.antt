@@ -11,7 +11,7 @@ loop-gate-init c = record {
   hastened = hastened_none c.args.dues.now.items;
   soon = λ j y lt. absurd (omega arith);
   marks = c.requires.marks;
-  least = c.requires.least;
+  next = c.requires.next;
   horizon = refl;
 }
 
@@ -35,7 +35,7 @@ loop-gate-preserved c =
           c.hasten_one.ensures.hastened (c.loop-gate.invariant.soon j y lt at))
           c.hasten_one.ensures.soon;
       marks = c.hasten_one.ensures.marks;
-      least = c.hasten_one.ensures.least;
+      next = c.hasten_one.ensures.next;
       horizon = c.hasten_one.ensures.horizon ∙ c.loop-gate.invariant.horizon;
     }
 

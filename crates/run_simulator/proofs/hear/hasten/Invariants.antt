@@ -1,4 +1,4 @@
-use Rattle.std.proofs.Common.{◌≡◌, ℕ, ◌<◌, ◌≤◌, Some, length}
+use Rattle.std.proofs.Common.{◌≡◌, ℕ, ◌+◌, ◌≤◌, Some, length}
 use Rattle.std.specs.Prelude.{slice_get}
 use Rattle.run_simulator.specs.{Marks.AreMarked, Readers.AreHastened}
 use Rattle.run_simulator.proofs.Loops.{FirstHave}
@@ -11,6 +11,6 @@ invariant-loop-gate l = record {
   soon : FirstHave (λ (i : ℕ). (due : ℕ) → slice_get l.dues.items i ≡ Some due → due ≤ l.first)
       l.gates l.gate-index;
   marks : AreMarked l.dues.items l.marks;
-  least : l.t < l.marks.least;
+  next : l.marks.next ≡ l.t + 1;
   horizon : l.marks.horizon ≡ l.initial.marks.horizon;
 }

@@ -9,7 +9,7 @@ pub loop-channel-init : goal.loop-channel-init
 loop-channel-init g c = record {
   dues = c.requires.dues;
   marks = c.requires.marks;
-  later = c.requires.later;
+  next = c.requires.next;
   horizon = refl;
   hastened = hastened_none c.args.dues.now.items;
   heard = λ k d lt. absurd (omega arith);
@@ -25,18 +25,18 @@ loop-channel-preserved g c =
     record {
       dues = c.hear_one.ensures.count ∙ inv.dues;
       marks = c.hear_one.ensures.marks;
-      later = c.hear_one.ensures.later;
+      next = c.hear_one.ensures.next;
       horizon = c.hear_one.ensures.horizon ∙ inv.horizon;
       hastened = hastened_on c.args.dues.now.items old new same inv.hastened
           c.hear_one.ensures.hastened;
       heard = λ k d lt at.
           ⊎_elim
-          (λ low. heard_on g.V.Signal.LANES g.V.Signal.rails c.args.net.now c.args.readers.now
+          (λ low. heard_on g.V.Signal.LANES g.V.Signal.rails c.args.net.now
           c.args.column.now k d c.args.moment.now.sent.now c.args.moment.now.t old new same
           c.hear_one.ensures.hastened (inv.heard k d low at))
           (λ ge. let here : i ≡ k = omega arith in
           subst (λ (j : ℕ). IsHeard g.V.Signal.LANES g.V.Signal.rails c.args.net.now
-          c.args.readers.now c.args.column.now j d c.args.moment.now.sent.now c.args.moment.now.t new)
+          c.args.column.now j d c.args.moment.now.sent.now c.args.moment.now.t new)
           here
           (c.hear_one.ensures.heard d
           (subst (λ (j : ℕ). slice_get c.args.moment.now.delays.now j ≡ Some d) (sym here) at)))

@@ -1,4 +1,4 @@
-use Rattle.std.proofs.Common.{◌≡◌, ◌<◌, length}
+use Rattle.std.proofs.Common.{◌≡◌, ◌+◌, length}
 use Rattle.run_simulator.specs.Hears.{AreHeard}
 use Rattle.run_simulator.specs.{Marks.AreMarked, Readers.AreHastened}
 use Rattle.run_simulator.proofs.hear.hear.Given as goal
@@ -7,9 +7,9 @@ abbrev pub invariant-loop-channel : goal.invariant-loop-channel
 invariant-loop-channel g l = record {
   dues : length l.dues.items ≡ length l.net.gates;
   marks : AreMarked l.dues.items l.marks;
-  later : l.moment.t < l.marks.least;
+  next : l.marks.next ≡ l.moment.t + 1;
   horizon : l.marks.horizon ≡ l.initial.marks.horizon;
   hastened : AreHastened l.initial.dues.items l.dues.items;
-  heard : AreHeard g.V.Signal.LANES g.V.Signal.rails l.net l.readers l.column l.channel
+  heard : AreHeard g.V.Signal.LANES g.V.Signal.rails l.net l.column l.channel
       l.moment.delays.now l.moment.sent.now l.moment.t l.dues.items;
 }

@@ -9,15 +9,15 @@ returns-clause-stands g c = λ lane p inside agree lags.
     let t = c.args.moment.now.t in
     let next : t + 1 ≡ suc t = omega arith in
     lags_now g.V.Timed.stands_for g.V.Signal.ends g.V.Signal.rails lane p.world p.pairs t
-    c.args.gate.now c.answer-2.new.cell (record { fed = t + 1; input = c.input_of.result }) next
+    c.args.gate.now c.answer.new.cell (record { fed = t + 1; input = c.input_of.result }) next
     (c.input_of.ensures lane p.pairs t inside agree)
-    (c.answer-2.ensures.stands lane p.world p.pairs inside agree
+    (c.answer.ensures.stands lane p.world p.pairs inside agree
     (c.catch_up.ensures.stands lane p.world p.pairs inside lags))
 
 pub returns-clause-answers : goal.returns-clause-answers
 returns-clause-answers g c = λ lane p inside shown from sent agree lags.
     let moment = c.args.moment.now in
-    c.answer-2.ensures.answers lane p.world p.keys p.pairs inside (shown moment.t)
+    c.answer.ensures.answers lane p.world p.keys p.pairs inside (shown moment.t)
     (delays_now g.V.Signal.ends lane moment.delays.now p.world moment.t c.requires.set from) sent agree
     (c.catch_up.ensures.stands lane p.world p.pairs inside lags)
 
@@ -37,8 +37,8 @@ returns-then-is_no_timer-clause-stands g c = λ lane p inside agree lags.
     let t = c.args.moment.now.t in
     let none : IsNoTimer c.args.gate.now = c.if-is_no_timer.ensures.none refl in
     no_timer_lags g.V.Timed.stands_for g.V.Signal.ends g.V.Signal.rails lane p.world p.pairs (suc t)
-    c.args.gate.now c.answer.new.cell c.args.since.now none
-    (c.answer.ensures.stands lane p.world p.pairs inside agree
+    c.args.gate.now c.short_answer-value.new.cell c.args.since.now none
+    (c.short_answer-value.ensures.stands lane p.world p.pairs inside agree
     (no_timer_stands g.V.Timed.stands_for g.V.Signal.ends g.V.Signal.rails lane p.world p.pairs t
     c.args.gate.now c.args.cell.now c.args.since.now none lags))
 
@@ -46,7 +46,7 @@ pub returns-then-is_no_timer-clause-answers : goal.returns-then-is_no_timer-clau
 returns-then-is_no_timer-clause-answers g c = λ lane p inside shown from sent agree lags.
     let moment = c.args.moment.now in
     let none : IsNoTimer c.args.gate.now = c.if-is_no_timer.ensures.none refl in
-    c.answer.ensures.answers lane p.world p.keys p.pairs inside (shown moment.t)
+    c.short_answer-value.ensures.answers lane p.world p.keys p.pairs inside (shown moment.t)
     (delays_now g.V.Signal.ends lane moment.delays.now p.world moment.t c.requires.set from) sent agree
     (no_timer_stands g.V.Timed.stands_for g.V.Signal.ends g.V.Signal.rails lane p.world p.pairs
     moment.t c.args.gate.now c.args.cell.now c.args.since.now none lags)
@@ -55,4 +55,4 @@ pub returns-then-is_no_timer-clause-lasts : goal.returns-then-is_no_timer-clause
 returns-then-is_no_timer-clause-lasts g c = λ p all lane inside.
     let none : IsNoTimer c.args.gate.now = c.if-is_no_timer.ensures.none refl in
     let q = all lane inside in
-    c.rests_until.ensures.lasts lane (p lane) inside none q.0 q.1 q.2
+    c.rests_until-until.ensures.lasts lane (p lane) inside none q.0 q.1 q.2

@@ -12,5 +12,5 @@ returns-then-due-marks-clause-more c = record {
   ticks_room = refl;
   ticks = λ i m. m;
   horizon = refl;
-  least = refl;
+  next = refl;
 }

@@ -10,13 +10,14 @@ plan-requires-clause-wide c =
 
 pub plan-requires-clause-room : goal.plan-requires-clause-room
 plan-requires-clause-room c =
-    room_on c.args.marks.now _ c.unmark.ensures.count refl refl refl c.requires.room
+    room_on c.args.marks.now _ c.unmark.ensures.count refl refl refl c.requires.room.reached
+    c.requires.room
 
 pub returns-clause-marks : goal.returns-clause-marks
 returns-clause-marks c = λ dues marked.
     let more = c.plan.ensures.more in
     settled dues c.args.marks.now _ c.args.gate c.args.due
     (ap length more.words ∙ c.unmark.ensures.count) more.agenda_room more.ticks_room more.horizon
+    more.next
     (λ i other m. subst (λ l. IsMarked i l) (sym more.words) (c.unmark.ensures.others i other m))
-    more.agenda more.ticks c.plan.ensures.planned
-    (let least = more.least in omega (arith, least)) (omega arith) marked
+    more.agenda more.ticks c.plan.ensures.planned marked

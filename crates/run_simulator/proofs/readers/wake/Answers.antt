@@ -11,7 +11,7 @@ loop-gate-init c = record {
   lowered = λ i due at. inr at;
   awake = λ j y lt. absurd (omega arith);
   marks = c.requires.marks;
-  least = refl;
+  next = refl;
   horizon = refl;
 }
 
@@ -33,7 +33,7 @@ loop-gate-preserved c =
           (λ j y lt at. zero_kept dues new _ y is (c.loop-gate.invariant.awake j y lt at))
           (zero_now dues new _ is);
       marks = c.wake_one.ensures.marks;
-      least = c.wake_one.ensures.least ∙ c.loop-gate.invariant.least;
+      next = c.wake_one.ensures.next ∙ c.loop-gate.invariant.next;
       horizon = c.wake_one.ensures.horizon ∙ c.loop-gate.invariant.horizon;
     }
 

@@ -11,6 +11,6 @@ invariant-loop-gate l = record {
   awake : FirstHave (λ (i : ℕ). (due : ℕ) → slice_get l.dues.items i ≡ Some due → due ≡ 0) l.gates
       l.gate-index;
   marks : AreMarked l.dues.items l.marks;
-  least : l.marks.least ≡ l.initial.marks.least;
+  next : l.marks.next ≡ l.initial.marks.next;
   horizon : l.marks.horizon ≡ l.initial.marks.horizon;
 }

@@ -1,4 +1,4 @@
-use Rattle.std.proofs.Common.{ℕ, length, refl, ap, arith, subst}
+use Rattle.std.proofs.Common.{ℕ, length, refl, ap, arith, sym, subst}
 use Rattle.model_logic.specs.{Choice.pair_world_of}
 use Rattle.run_simulator.specs.{LaneBox.lane_box, Tracks.line_lane, Tracks.trips_of, Ticks.AreSent}
 use Rattle.run_simulator.specs.Lanes.{LanePairs}
@@ -12,13 +12,13 @@ returns-clause-can g c = λ steps.
     let trips = c.in_ok-trips.trips.items in
     record {
       gates = c.in_ok-gates.ensures.gates;
-      reached = omega arith;
+      reached = sym c.in_ok-gates.ensures.next;
       horizon = c.in_ok-gates.ensures.horizon;
-      readers = c.in_ok-readers.ensures;
-      shown = c.in_ok-shown.ensures.count;
+      shown = c.in_ok-shown.ensures.each;
       delays = c.in_ok-delays.ensures.delays;
       stand = stand_none g.V.Signal.LANES g.V.Signal.ends c.args.spans.now steps
           c.in_ok-delays.delays.items c.in_ok-delays.ensures.over;
+      until = λ x d at. omega arith;
       keys = subst (λ (m : ℕ). AreSent m h 0 keys) (ap length c.key_gates.ensures)
           (fresh_sent (length c.key_gates.result.now) h keys c.in_ok-keys.ensures);
       trips = subst (λ (m : ℕ). AreSent m h 0 trips) (ap length c.trip_gates.ensures)

@@ -6,18 +6,19 @@ use Rattle.std.specs.Prelude.{slice_get}
 use Rattle.model_line.specs.Parameters.{terminal_count, channel_count}
 use Rattle.model_logic.specs.Choice.{pair_world_of}
 use Rattle.net_gates.specs.NetOf.{id_at, key_of}
+use Rattle.net_gates.specs.{NetLaws.hears_channel, Readers.Hears}
 use Rattle.net_gates.specs.declared.gate.Gate.{Gate}
 use Rattle.run_simulator.specs.Inputs.{AreDelaysFrom, AreSet, AreSoonest, CanReceive}
-use Rattle.run_simulator.specs.Lags.{IsGivenAt}
+use Rattle.run_simulator.specs.{Lags.IsGivenAt, ShownBy.shown_of}
 use Rattle.run_simulator.specs.{Moments.CanHear, declared.moment.Moment.Moment}
 use Rattle.run_simulator.specs.{Lanes.LanePairs, Lasts.Lasts, ListLaws.exists_at, Quiet.Keeps}
-use Rattle.run_simulator.specs.{LaneBox.lane_box, Readers.Hears, Tracks.line_lane, Tracks.trips_of}
+use Rattle.run_simulator.specs.{LaneBox.lane_box, Tracks.line_lane, Tracks.trips_of}
 use Rattle.run_simulator.specs.Ticks.{AreSent, KeysSent, ValuesAgree}
 use Rattle.run_simulator.proofs.GivenLaws.{can_receive, delays_from, soonest_now, stand_later}
 use Rattle.run_simulator.proofs.{HearLaws.hears_no, ShownByLaws.filter_shows}
 use Rattle.run_simulator.proofs.{GatePairLaws.gate_pairs-kind, WaitLaws.all_wait}
 use Rattle.run_simulator.proofs.LagLaws.{lasts_as, lasts_fewer, lasts_one}
-use Rattle.run_simulator.proofs.StretchLaws.{held_values, heard_keeps, hears_channel, key_is}
+use Rattle.run_simulator.proofs.StretchLaws.{held_values, heard_keeps, key_is}
 use Rattle.run_simulator.proofs.StretchLaws.{stretch_keeps}
 use Rattle.run_simulator.proofs.stretch.take_stretch.Goals as goal
 
@@ -27,25 +28,24 @@ trace-requires-clause-can g c =
     let line = c.args.line.now in
     let net = c.args.net.now in
     let of_line = c.requires.can.of_line in
-    let delays = c.set_delays.new.delays.items in
+    let delays = c.renew_delays.new.delays.list.items in
     record {
       laws = of_line.laws;
       named = of_line.named;
-      readers_hold = c.requires.kept.readers;
-      shown_each = ap length c.as_slice-3.ensures.value ∙ c.requires.kept.shown;
+      shown_each = c.requires.kept.shown;
       hear = record {
         tick = c.requires.tick;
         delays = subst (CanReceive g.V.Signal.LANES g.V.Signal.ends line)
             (sym c.as_slice.ensures.value)
             (can_receive g.V.Signal.LANES g.V.Signal.ends line c.args.spans.now c.args.steps.now
-            delays t c.set_delays.ensures.delays c.set_delays.ensures.stand c.set_delays.ensures.set
+            delays t c.renew_delays.ensures.delays c.renew_delays.ensures.stand c.renew_delays.ensures.set
             c.requires.tick c.requires.can.delayed);
         sent = subst (λ l. AreSent (terminal_count line) line.horizon t l)
             (sym c.as_slice-2.ensures.value)
             (subst (λ (m : ℕ). AreSent m line.horizon t c.args.kept.now.keys.items)
             of_line.terminals c.requires.kept.keys);
       };
-      set = subst (AreSet t) (sym c.as_slice.ensures.value) c.set_delays.ensures.set;
+      set = subst (AreSet t) (sym c.as_slice.ensures.value) c.renew_delays.ensures.set;
     }
 
 pub hear-requires-clause-moment : goal.hear-requires-clause-moment
@@ -54,8 +54,8 @@ hear-requires-clause-moment g c = record {
   delays = subst (CanReceive g.V.Signal.LANES g.V.Signal.ends c.args.line.now)
       (sym c.as_slice.ensures.value)
       (can_receive g.V.Signal.LANES g.V.Signal.ends c.args.line.now c.args.spans.now c.args.steps.now
-      c.set_delays.new.delays.items c.args.t c.set_delays.ensures.delays c.set_delays.ensures.stand
-      c.set_delays.ensures.set c.requires.tick c.requires.can.delayed);
+      c.renew_delays.new.delays.list.items c.args.t c.renew_delays.ensures.delays c.renew_delays.ensures.stand
+      c.renew_delays.ensures.set c.requires.tick c.requires.can.delayed);
   sent = subst (λ l. AreSent (terminal_count c.args.line.now) c.args.line.now.horizon c.args.t l)
       (sym c.as_slice-2.ensures.value)
       (subst (λ (m : ℕ). AreSent m c.args.line.now.horizon c.args.t c.args.kept.now.keys.items)
@@ -66,7 +66,7 @@ pub hear-requires-clause-soonest : goal.hear-requires-clause-soonest
 hear-requires-clause-soonest g c =
     subst (AreSoonest g.V.Signal.LANES g.V.Signal.ends) (sym c.as_slice.ensures.value)
     (soonest_now g.V.Signal.LANES g.V.Signal.ends c.args.spans.now c.args.steps.now
-    c.set_delays.new.delays.items c.args.t c.set_delays.ensures.stand c.set_delays.ensures.set)
+    c.renew_delays.new.delays.list.items c.args.t c.renew_delays.ensures.stand c.renew_delays.ensures.set)
 
 pub quiet_ticks-stays-requires-clause-tick : goal.quiet_ticks-stays-requires-clause-tick
 quiet_ticks-stays-requires-clause-tick g c =
@@ -131,11 +131,11 @@ returns-clause-kept g c =
       reached = c.quiet_ticks-stays.ensures.reached;
       horizon = c.quiet_ticks-stays.ensures.horizon ∙ c.hear.ensures.horizon
           ∙ c.trace.ensures.horizon ∙ c.requires.kept.horizon;
-      readers = c.requires.kept.readers;
       shown = c.requires.kept.shown;
-      delays = c.set_delays.ensures.delays;
+      delays = c.renew_delays.ensures.delays;
       stand = stand_later g.V.Signal.LANES g.V.Signal.ends c.args.spans.now c.args.steps.now
-          c.set_delays.new.delays.items t (t + n) (omega arith) c.set_delays.ensures.stand;
+          c.renew_delays.new.delays.list.items t (t + n) (omega arith) c.renew_delays.ensures.stand;
+      until = c.renew_delays.ensures.until;
       keys = subst (λ (m : ℕ). AreSent m h (t + n) c.send_all.new.tracks.items)
           (ap length c.key_gates.ensures) c.send_all.ensures.count;
       trips = subst (λ (m : ℕ). AreSent m h (t + n) c.send_all-2.new.tracks.items)
@@ -156,7 +156,7 @@ returns-clause-stands g c = λ script before.
     let lanes = g.V.Signal.LANES in
     let n = c.quiet_ticks-stays.result in
     let old = c.args.kept.now in
-    let delays = c.set_delays.new.delays.items in
+    let delays = c.renew_delays.new.delays.list.items in
     let traced = c.trace.new.gates in
     let column = traced.column.items in
     let dues = c.hear.new.dues.items in
@@ -168,14 +168,13 @@ returns-clause-stands g c = λ script before.
     } in
     let p : ℕ → LanePairs = λ l. line_lane ends line script spans steps net l in
     let given : (l : ℕ) → l < lanes
-    → IsGivenAt ends rails l (p l) net.gates c.as_slice-3.result.now moment =
+    → IsGivenAt ends rails l (p l) net.gates old.shown moment =
     λ l il. record {
-      shows = λ i h list ha la. filter_shows ends line script spans steps l list.items h
-          (before.shown i list h (subst (λ x. slice_get x i ≡ Some list) c.as_slice-3.ensures.value la)
-          ha);
+      shows = λ i h ha. filter_shows ends line script spans steps l (shown_of old.shown i) h
+          (before.shown i h ha);
       delays = subst (λ x. AreDelaysFrom ends l x (p l).world t) (sym c.as_slice.ensures.value)
-          (delays_from lanes ends line spans steps delays t c.set_delays.ensures.delays
-          c.set_delays.ensures.stand c.set_delays.ensures.set l script);
+          (delays_from lanes ends line spans steps delays t c.renew_delays.ensures.delays
+          c.renew_delays.ensures.stand c.renew_delays.ensures.set l script);
       sent = subst (KeysSent rails l (p l).keys t) (sym c.as_slice-2.ensures.value)
           (before.tracked l il).keys_kept;
       told = λ r i h at. gate_pairs-kind c.gates_stand_for_their_trees.ensures.kinds (p l).world
@@ -184,8 +183,8 @@ returns-clause-stands g c = λ script before.
     let can : CanHear lanes ends moment = record {
       tick = c.requires.tick;
       delays = subst (CanReceive lanes ends line) (sym c.as_slice.ensures.value)
-          (can_receive lanes ends line spans steps delays t c.set_delays.ensures.delays
-          c.set_delays.ensures.stand c.set_delays.ensures.set c.requires.tick c.requires.can.delayed);
+          (can_receive lanes ends line spans steps delays t c.renew_delays.ensures.delays
+          c.renew_delays.ensures.stand c.renew_delays.ensures.set c.requires.tick c.requires.can.delayed);
       sent = subst (λ l. AreSent (terminal_count line) line.horizon t l)
           (sym c.as_slice-2.ensures.value)
           (subst (λ (m : ℕ). AreSent m line.horizon t old.keys.items) of_line.terminals
@@ -193,10 +192,10 @@ returns-clause-stands g c = λ script before.
     } in
     let soonest : AreSoonest lanes ends c.as_slice.result.now =
     subst (AreSoonest lanes ends) (sym c.as_slice.ensures.value)
-    (soonest_now lanes ends spans steps delays t c.set_delays.ensures.stand
-    c.set_delays.ensures.set) in
+    (soonest_now lanes ends spans steps delays t c.renew_delays.ensures.stand
+    c.renew_delays.ensures.set) in
     let set : AreSet t c.as_slice.result.now =
-    subst (AreSet t) (sym c.as_slice.ensures.value) c.set_delays.ensures.set in
+    subst (AreSet t) (sym c.as_slice.ensures.value) c.renew_delays.ensures.set in
     let fits : t + n ≤ line.horizon =
     omega (
       arith,
@@ -233,18 +232,18 @@ returns-clause-stands g c = λ script before.
           (omega (arith, within, c.trace.ensures.gates.dues)) in
           let less : due ≤ first = c.hear.ensures.hastened i due da first fa in
           lasts_as (p lane) (t - 1) t t (due - t) h
-          (hears_no c.history_laws.ensures lanes ends rails net old.readers c.as_slice-4.result.now
+          (hears_no c.history_laws.ensures lanes ends rails net c.as_slice-3.result.now
           c.as_slice.result.now c.as_slice-2.result.now t (terminal_count line) line.horizon
-          (channel_count line) dues c.requires.kept.readers can.delays.count
+          (channel_count line) dues can.delays.count
           can.sent of_line.terminals
           can.delays.from
           (λ k kn. subst (λ (m : ℕ). key_of net k < m)
-          (sym (ap length c.as_slice-4.ensures.value ∙ c.trace.ensures.gates.column))
+          (sym (ap length c.as_slice-3.ensures.value ∙ c.trace.ensures.gates.column))
           (of_line.laws.keys k kn))
           soonest set
           can.delays.later c.hear.ensures.heard lane inside (p lane)
           (given lane inside).delays (given lane inside).sent
-          (subst (ValuesAgree rails lane (p lane).pairs t) (sym c.as_slice-4.ensures.value) agree)
+          (subst (ValuesAgree rails lane (p lane).pairs t) (sym c.as_slice-3.ensures.value) agree)
           (λ k kn. is k t kn c.requires.tick) i due h ha da (named i h ha))
           (lasts_fewer (p lane) (t - 1) t (due - t) (first - t) h (omega (arith, less))
           (traced_lasts i h first ha fa)) in
@@ -270,8 +269,8 @@ returns-clause-stands g c = λ script before.
                 let kn' : k < length net.keys =
                 subst (λ ids. k < length ids) c.key_gates.ensures kn in
                 let at' : slice_get column (id_at net.keys k) ≡ Some x =
-                subst (λ l. slice_get l (id_at net.keys k) ≡ Some x) c.as_slice-5.ensures.value
-                (subst (λ ids. slice_get c.as_slice-5.result.now (id_at ids k) ≡ Some x)
+                subst (λ l. slice_get l (id_at net.keys k) ≡ Some x) c.as_slice-4.ensures.value
+                (subst (λ ids. slice_get c.as_slice-4.result.now (id_at ids k) ≡ Some x)
                 c.key_gates.ensures at) in
                 is k r kn' (omega (arith, high, fits))
                 ∙ held_values rails lane (p lane).pairs t n (length net.gates) column net.keys
@@ -282,8 +281,8 @@ returns-clause-stands g c = λ script before.
                 let kn' : k < length net.trips =
                 subst (λ ids. k < length ids) c.trip_gates.ensures kn in
                 let at' : slice_get column (id_at net.trips k) ≡ Some x =
-                subst (λ l. slice_get l (id_at net.trips k) ≡ Some x) c.as_slice-6.ensures.value
-                (subst (λ ids. slice_get c.as_slice-6.result.now (id_at ids k) ≡ Some x)
+                subst (λ l. slice_get l (id_at net.trips k) ≡ Some x) c.as_slice-5.ensures.value
+                (subst (λ ids. slice_get c.as_slice-5.result.now (id_at ids k) ≡ Some x)
                 c.trip_gates.ensures at) in
                 held_values rails lane (p lane).pairs t n (length net.gates) column net.trips
                 of_line.laws.trips agree keeps k x kn' at' r low high)

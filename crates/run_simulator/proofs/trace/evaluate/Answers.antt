@@ -16,6 +16,13 @@ pub look-value-requires-clause-names : goal.look-value-requires-clause-names
 look-value-requires-clause-names g c =
     c.requires.can.named.each c.args.i c.gate.result.now (omega arith) c.gate.ensures.is
 
+pub of-requires-clause-inside : goal.of-requires-clause-inside
+of-requires-clause-inside g c =
+    omega (arith, c.requires.inside, c.requires.can.shown_each.count)
+
+pub of-requires-clause-starts : goal.of-requires-clause-starts
+of-requires-clause-starts g c = c.requires.can.shown_each.starts
+
 pub settle-requires-clause-wide : goal.settle-requires-clause-wide
 settle-requires-clause-wide g c =
     let wide = c.requires.gates.marks.wide in
@@ -32,18 +39,18 @@ tell-requires-clause-marks g c =
     (c.index-due.ensures ∙ get_or-set_same dues i new due inside)
     (c.settle.ensures.marks dues c.requires.gates.marks)
 
-pub returns-clause-later : goal.returns-clause-later
-returns-clause-later g c =
-    let t = c.args.moment.now.t in
+pub settle-requires-clause-later : goal.settle-requires-clause-later
+settle-requires-clause-later g c =
     let i = c.args.i in
     let dues = c.args.gates.now.dues.items in
     let new = c.look-value.new.due in
     let due = c.index-due.result.now in
     let inside : i < length dues = omega (arith, c.requires.inside, c.requires.gates.dues) in
-    subst (λ (m : ℕ). t < m) (sym c.tell.ensures.least)
-    (c.settle.ensures.later t c.requires.later
-    (subst (λ (x : ℕ). t < x) (sym (c.index-due.ensures ∙ get_or-set_same dues i new due inside))
-    c.look-value.ensures.later))
+    let is : due ≡ new = c.index-due.ensures ∙ get_or-set_same dues i new due inside in
+    omega (arith, c.requires.next, c.look-value.ensures.later, is)
+
+pub returns-clause-next : goal.returns-clause-next
+returns-clause-next g c = c.tell.ensures.next ∙ c.settle.ensures.next ∙ c.requires.next
 
 pub returns-clause-gates : goal.returns-clause-gates
 returns-clause-gates g c =
@@ -90,7 +97,6 @@ returns-clause-takes g c = λ lane p inside given traced.
     let last = c.index-last.result.now in
     let value = c.look-value.result in
     let new = c.look-value.new.due in
-    let list = c.index-shown-k.result in
     let ga : slice_get gates i ≡ Some gate = c.gate.ensures.is in
     let ca : slice_get cells i ≡ Some cell =
     slice_get_read cells (length gates) i cell (sym c.requires.gates.cells.count) c.requires.inside
@@ -104,12 +110,8 @@ returns-clause-takes g c = λ lane p inside given traced.
     let va : slice_get column i ≡ Some last =
     slice_get_read column (length gates) i last (sym c.requires.gates.column) c.requires.inside
     c.index-last.ensures in
-    let la : slice_get c.args.shown.now i ≡ Some list =
-    slice_get_read c.args.shown.now (length gates) i list (sym c.requires.can.shown_each)
-    c.requires.inside c.index-shown-k.is in
-    let shows : IsShown c.deref-2.result.now p.world gate =
-    subst (λ x. IsShown x p.world gate) (sym c.deref-2.ensures.value)
-    (given.shows i gate list ga la) in
+    let shows : IsShown c.of.result.now p.world gate =
+    subst (λ x. IsShown x p.world gate) (sym c.of.ensures) (given.shows i gate ga) in
     let agree : ValuesAgree rails lane p.pairs t (take i c.deref.result.now) =
     subst (λ l. ValuesAgree rails lane p.pairs t (take i l)) (sym c.deref.ensures.value)
     (traced_agree g.V.Timed.stands_for ends rails lane p t gates i kept traced) in
@@ -117,9 +119,9 @@ returns-clause-takes g c = λ lane p inside given traced.
     let now : rails value lane ≡ p.pairs i t =
     c.look-value.ensures.answers lane p inside shows given.delays given.sent agree waits.lags
     ∙ sym (given.told t i gate ga) in
-    traced_more g.V.Timed.stands_for ends rails lane p t gates c.args.readers.now _ i
+    traced_more g.V.Timed.stands_for ends rails lane p t gates i
     g.V.Signal.LANES kept _ gate c.look-value.new.cell
-    c.look-value.new.since new last value inside c.requires.can.readers_hold
+    c.look-value.new.since new last value inside
     (length-set dues i new ∙ c.requires.gates.dues) refl refl refl c.tell.ensures.lowered
     c.tell.ensures.told ga waits.last now
     (c.look-value.ensures.stands lane p inside agree waits.lags) traced
@@ -141,7 +143,6 @@ returns-clause-lasts g c = λ p all lane h d inside ha dat.
     let due = c.index_mut-3.result.now in
     let last = c.index-last.result.now in
     let new = c.look-value.new.due in
-    let list = c.index-shown-k.result in
     let ga : slice_get gates i ≡ Some gate = c.gate.ensures.is in
     let ca : slice_get cells i ≡ Some cell =
     slice_get_read cells (length gates) i cell (sym c.requires.gates.cells.count) c.requires.inside
@@ -155,9 +156,6 @@ returns-clause-lasts g c = λ p all lane h d inside ha dat.
     let va : slice_get column i ≡ Some last =
     slice_get_read column (length gates) i last (sym c.requires.gates.column) c.requires.inside
     c.index-last.ensures in
-    let la : slice_get c.args.shown.now i ≡ Some list =
-    slice_get_read c.args.shown.now (length gates) i list (sym c.requires.can.shown_each)
-    c.requires.inside c.index-shown-k.is in
     ⊎_elim
     (λ none. lowered_lasts (p lane) (t - 1) t d h none)
     (λ same.
@@ -165,8 +163,7 @@ returns-clause-lasts g c = λ p all lane h d inside ha dat.
     (subst (λ (x : Gate). Lasts (p lane) (t - 1) t (new - t) x) (one_value gates i i gate h refl ga ha)
     (c.look-value.ensures.lasts p
     (λ l il. let q = all l il in (
-      subst (λ x. IsShown x (p l).world gate) (sym c.deref-2.ensures.value)
-          (q.0.shows i gate list ga la),
+      subst (λ x. IsShown x (p l).world gate) (sym c.of.ensures) (q.0.shows i gate ga),
       q.0.delays,
       q.0.sent,
       subst (λ x. ValuesAgree rails l (p l).pairs t (take i x)) (sym c.deref.ensures.value)

@@ -37,7 +37,7 @@ returns-then-next-len-clause-takes g c = λ lane p inside given traced.
     (traced_past g.V.Timed.stands_for g.V.Signal.ends g.V.Signal.rails lane p c.args.moment.now.t
     net.gates c.elements_stay_in_a_stretch.ensures c.recorded_ticks_suffice.ensures c.args.i next
     c.args.gates.now c.requires.can.laws.gates at.cells.count at.sinces at.dues at.column at.marks
-    at.fresh c.requires.later c.next_marked-next.ensures.later limit
+    at.fresh c.requires.next c.next_marked-next.ensures.later limit
     (λ k low lt m. c.next_marked-next.ensures.passed k low lt
     (subst (IsMarked k) (sym c.deref.ensures.value) m))
     given.told traced).0
@@ -54,7 +54,7 @@ returns-then-next-len-clause-lasts g c = λ p ready lane k h d inside low lt ha 
     c.args.moment.now.t
     net.gates c.elements_stay_in_a_stretch.ensures c.recorded_ticks_suffice.ensures c.args.i next
     c.args.gates.now c.requires.can.laws.gates at.cells.count at.sinces at.dues at.column at.marks
-    at.fresh c.requires.later c.next_marked-next.ensures.later limit
+    at.fresh c.requires.next c.next_marked-next.ensures.later limit
     (λ k low lt m. c.next_marked-next.ensures.passed k low lt
     (subst (IsMarked k) (sym c.deref.ensures.value) m))
     q.0.told q.1).1 k h d low lt ha dat
@@ -88,7 +88,7 @@ returns-clause-takes g c = λ lane p inside given traced.
     (traced_past g.V.Timed.stands_for g.V.Signal.ends g.V.Signal.rails lane p c.args.moment.now.t
     net.gates c.elements_stay_in_a_stretch.ensures c.recorded_ticks_suffice.ensures c.args.i next
     c.args.gates.now c.requires.can.laws.gates at.cells.count at.sinces at.dues at.column at.marks
-    at.fresh c.requires.later c.next_marked-next.ensures.later limit
+    at.fresh c.requires.next c.next_marked-next.ensures.later limit
     (λ k low lt m. c.next_marked-next.ensures.passed k low lt
     (subst (IsMarked k) (sym c.deref.ensures.value) m))
     given.told traced).0
@@ -106,7 +106,7 @@ returns-clause-lasts g c = λ p ready lane k h d inside low lt ha dat.
     traced_past g.V.Timed.stands_for g.V.Signal.ends g.V.Signal.rails l (p l) t
     net.gates c.elements_stay_in_a_stretch.ensures c.recorded_ticks_suffice.ensures c.args.i next
     c.args.gates.now c.requires.can.laws.gates at.cells.count at.sinces at.dues at.column at.marks
-    at.fresh c.requires.later c.next_marked-next.ensures.later limit
+    at.fresh c.requires.next c.next_marked-next.ensures.later limit
     (λ k low lt m. c.next_marked-next.ensures.passed k low lt
     (subst (IsMarked k) (sym c.deref.ensures.value) m))
     q.0.told q.1 in

@@ -11,7 +11,7 @@ trace_all-requires-clause-gates g c =
       sinces = at.sinces;
       dues = at.dues;
       column = at.column;
-      marks = c.wake_due.ensures.marks c.args.gates.now.dues.items c.requires.reached at.marks;
+      marks = c.wake_due.ensures.marks c.args.gates.now.dues.items at.marks;
       fresh = at.fresh;
     }
 

@@ -9,7 +9,7 @@ pub loop-i-init : goal.loop-i-init
 loop-i-init g c = record {
   inside = omega arith;
   at_gate = c.requires.gates;
-  later = c.requires.later;
+  next = c.requires.next;
   horizon = refl;
   traced = λ lane p inside given before. before;
   lasts = λ p ready lane i gate due inside lt. absurd (omega arith);
@@ -23,7 +23,7 @@ loop-i-preserved g c =
     record {
       inside = c.take_next-i.ensures.inside;
       at_gate = c.take_next-i.ensures.gates;
-      later = c.take_next-i.ensures.later;
+      next = c.take_next-i.ensures.next;
       horizon = c.take_next-i.ensures.horizon ∙ inv.horizon;
       traced = λ lane p il given before.
           c.take_next-i.ensures.takes lane p il given (inv.traced lane p il given before);

@@ -1,4 +1,4 @@
-use Rattle.std.proofs.Common.{◌≡◌, ℕ, ◌<◌, ◌≤◌, ◌-◌, length}
+use Rattle.std.proofs.Common.{◌≡◌, ℕ, ◌<◌, ◌≤◌, ◌+◌, ◌-◌, length}
 use Rattle.std.specs.Prelude.{slice_get, Some}
 use Rattle.net_gates.specs.declared.gate.Gate.{Gate}
 use Rattle.run_simulator.specs.{Lanes.LanePairs, Lasts.Lasts}
@@ -14,7 +14,7 @@ invariant-loop-i g l =
     record {
       inside : l.i ≤ length gates;
       at_gate : AreAtGate l.net t l.i l.gates;
-      later : t < l.gates.marks.least;
+      next : l.gates.marks.next ≡ t + 1;
       horizon : l.gates.marks.horizon ≡ l.initial.gates.marks.horizon;
       traced : (lane : ℕ) (p : LanePairs) → lane < g.V.Signal.LANES
           → IsGivenAt ends rails lane p gates l.shown l.moment

@@ -1,7 +1,7 @@
 use Rattle.std.proofs.Common.{◌-◌, ◌≤◌}
 use Rattle.model_line.specs.declared.script.Script.{Script}
 use Rattle.run_simulator.specs.Tracks.{CanTake, IsKeptOf}
-use Rattle.run_simulator.proofs.tracks.take_all.Given as goal
+use Rattle.run_simulator.proofs.tracks.take_until.Given as goal
 
 abbrev pub invariant-loop-t : goal.invariant-loop-t
 invariant-loop-t g l = record {
@@ -15,4 +15,4 @@ invariant-loop-t g l = record {
 }
 
 abbrev pub decreases-loop-t : goal.decreases-loop-t
-decreases-loop-t g l = l.line.horizon - l.t
+decreases-loop-t g l = l.until - l.t

@@ -1,0 +1,45 @@
+use Rattle.std.proofs.Common.{◌≡◌, ◌<◌, ◌++◌, ◌∷◌, ℕ, List, [], length, ap, arith, rules, sym, subst, ◌∙◌}
+use Rattle.std.proofs.lemmas.Option.{slice_get_within}
+use Rattle.std.specs.List.{filter}
+use Rattle.model_line.specs.declared.script.SeenSpan.{SeenSpan}
+use Rattle.run_simulator.specs.{Shown.is_shown_by, ShownBy.AreListed}
+use Rattle.run_simulator.proofs.ShownListLaws.{listed_none, listed_more}
+use Rattle.run_simulator.proofs.shown_by.fresh_shown.Goals as goal
+
+pub loop-i-init : goal.loop-i-init
+loop-i-init c =
+    let script = c.args.script.now in
+    let gates = c.args.net.now.gates in
+    let starts = c.push.new.self.items in
+    let no_starts : starts ≡ 0 ∷ [] =
+    c.in_ok-push.ensures.items ∙ ap (λ (l : List ℕ). l ++ 0 ∷ []) c.in_ok-starts.ensures.items in
+    subst (λ (l : List SeenSpan). AreListed script gates 0 l starts) (sym c.in_ok-spans.ensures.items)
+    (subst (λ (l : List ℕ). AreListed script gates 0 [] l) (sym no_starts) (listed_none script gates))
+
+pub loop-i-preserved : goal.loop-i-preserved
+loop-i-preserved c =
+    let spans = c.loop-i.spans.items in
+    let now = c.list_shown.new.spans.items in
+    let gate = c.gate.result.now in
+    let long : c.len-in-loop-i.result ≡ length now = search rules in
+    listed_more c.args.script.now c.args.net.now.gates c.loop-i.i gate c.gate.ensures.is spans
+    c.loop-i.starts.items c.loop-i.invariant now c.push-in-loop-i.new.self.items
+    (c.in_ok-list_shown.ensures
+    ∙ ap (λ (l : List SeenSpan). spans ++ filter (is_shown_by gate) l) c.deref.ensures.value)
+    (c.in_ok-push-2.ensures.items ∙ ap (λ (n : ℕ). c.loop-i.starts.items ++ n ∷ []) long)
+
+pub returns-clause-each : goal.returns-clause-each
+returns-clause-each c =
+    let done : c.loop-i.i ≡ length c.args.net.now.gates =
+    omega (arith, c.loop-i-test.false, c.len-i-end.ensures.len) in
+    record {
+      count = omega (arith, c.loop-i.invariant.count, done);
+      starts = c.loop-i.invariant.are;
+    }
+
+pub returns-clause-shown : goal.returns-clause-shown
+returns-clause-shown c = λ i gate at.
+    let within : i < length c.args.net.now.gates =
+    slice_get_within c.args.net.now.gates i gate at in
+    c.loop-i.invariant.shown i gate
+    (omega (arith, within, c.loop-i-test.false, c.len-i-end.ensures.len)) at
