@@ -1,6 +1,4 @@
-pub mod Stretches
 pub mod NumberLaws
-pub mod NameLaws
 pub mod LineLaws
 pub mod StandsLaws
 pub mod SaidLaws

@@ -7,7 +7,7 @@ use Rattle.std.specs.List.{list_all, position_or_len}
 use Rattle.model_names.specs.ParamNamesApart.{has_no}
 use Rattle.base_store.specs.{Number.is_digit, DecimalLaws.are_digits}
 use Rattle.base_lines.specs.LineLaws.{both_true}
-use Rattle.cert_settle_text.proofs.Stretches.{Unmarked}
+use Rattle.cert_split_text.specs.StretchLaws.{Unmarked}
 
 abbrev pub IsSpace : ℕ → Type 0
 IsSpace byte = byte ≡ 32

@@ -1,15 +1,13 @@
 -- What all lines say tells the results.
 use Rattle.std.proofs.Common.{◌≡◌, ℕ, List, [], ◌∷◌, ◌++◌, length, map, drop, refl, sym, ◌∙◌, ap}
-use Rattle.std.proofs.Common.{arith, append_assoc}
-use Rattle.std.proofs.lemmas.List.Elements.{All-head, All-tail}
 use Rattle.std.specs.List.{All, flat_map}
-use Rattle.model_line.specs.declared.line.Line.{Line}
+use Rattle.model_line.specs.{declared.line.Line.Line, Parameters.terminal_count}
 use Rattle.model_timing.specs.declared.step.Step.{Step}
 use Rattle.judge_cases.specs.declared.node.CaseNode.{CaseNode}
 use Rattle.cert_settle_text.specs.Grammar.{SettleResult, tree, fails, HasOneEach, Said, says_nothing}
-use Rattle.cert_settle_text.specs.Grammar.{says_step, says_no, says_node, result_said, tree_said}
+use Rattle.cert_settle_text.specs.Grammar.{says_step, says_no, says_node, result_said}
 use Rattle.cert_settle_text.specs.Grammar.{part_said}
-use Rattle.cert_settle_text.proofs.Stretches.{Unmarked, BeginsMarked, fronts_tell}
+use Rattle.cert_split_text.specs.{StretchLaws.Unmarked, ToldLaws.parts_told}
 
 -- a line that says nothing begins the lines of a script or a terminal
 abbrev IsMark : Said → Type 0
@@ -71,62 +69,9 @@ result_told (fails steps numbers) (fails others more) same =
     ap (λ (l : List (Step ℕ)). fails l numbers) parts.0
     ∙ ap (λ (l : List ℕ). fails others l) parts.1
 
-results_marked : (results : List SettleResult) (y : List Said) → BeginsMarked IsMark y
-    → BeginsMarked IsMark (flat_map tree_said results ++ y)
-results_marked [] y mark = mark
-results_marked (r ∷ results) y mark = tt
-
-results_told : (results others : List SettleResult) (x y : List Said)
-    → length results ≡ length others → BeginsMarked IsMark x → BeginsMarked IsMark y
-    → flat_map tree_said results ++ x ≡ flat_map tree_said others ++ y
-    → (results ≡ others) × (x ≡ y)
-results_told [] [] x y long from to same = (refl, same)
-results_told [] (s ∷ others) x y long from to same = absurd (omega arith)
-results_told (r ∷ results) [] x y long from to same = absurd (omega arith)
-results_told (r ∷ results) (s ∷ others) x y long from to same =
-    let more : List Said = flat_map tree_said results ++ x in
-    let then : List Said = flat_map tree_said others ++ y in
-    let lines : result_said r ++ more ≡ result_said s ++ then =
-    sym (append_assoc (result_said r) (flat_map tree_said results) x) ∙ ap (drop 1) same
-    ∙ append_assoc (result_said s) (flat_map tree_said others) y in
-    let parts = fronts_tell IsMark (result_said r) (result_said s) more then (result_unmarked r)
-    (result_unmarked s) (results_marked results x from) (results_marked others y to) lines in
-    let rest = results_told results others x y (omega arith) from to parts.1 in (
-      ap (λ (t : SettleResult). t ∷ results) (result_told r s parts.0)
-          ∙ ap (λ (l : List SettleResult). s ∷ l) rest.0,
-      rest.1,
-    )
-
-parts_marked : (parts : List (List SettleResult)) (y : List Said) → BeginsMarked IsMark y
-    → BeginsMarked IsMark (flat_map part_said parts ++ y)
-parts_marked [] y mark = mark
-parts_marked (p ∷ parts) y mark = tt
-
-parts_told : (line : Line) (parts others : List (List SettleResult)) (x y : List Said)
-    → length parts ≡ length others → All (HasOneEach line) parts → All (HasOneEach line) others
-    → BeginsMarked IsMark x → BeginsMarked IsMark y
-    → flat_map part_said parts ++ x ≡ flat_map part_said others ++ y → parts ≡ others
-parts_told line [] [] x y long a b from to same = refl
-parts_told line [] (q ∷ others) x y long a b from to same = absurd (omega arith)
-parts_told line (p ∷ parts) [] x y long a b from to same = absurd (omega arith)
-parts_told line (p ∷ parts) (q ∷ others) x y long a b from to same =
-    let more : List Said = flat_map part_said parts ++ x in
-    let then : List Said = flat_map part_said others ++ y in
-    let lines : flat_map tree_said p ++ more ≡ flat_map tree_said q ++ then =
-    sym (append_assoc (flat_map tree_said p) (flat_map part_said parts) x) ∙ ap (drop 1) same
-    ∙ append_assoc (flat_map tree_said q) (flat_map part_said others) y in
-    let first = results_told p q more then
-    ((All-head (HasOneEach line) p parts a).many ∙ sym (All-head (HasOneEach line) q others b).many)
-    (parts_marked parts x from) (parts_marked others y to) lines in
-    let rest : parts ≡ others =
-    parts_told line parts others x y (omega arith) (All-tail (HasOneEach line) p parts a)
-    (All-tail (HasOneEach line) q others b) from to first.1 in
-    ap (λ (l : List SettleResult). l ∷ parts) first.0
-    ∙ ap (λ (l : List (List SettleResult)). q ∷ l) rest
-
 pub said_tells : (line : Line) (parts others : List (List SettleResult))
     → length parts ≡ length others → All (HasOneEach line) parts → All (HasOneEach line) others
     → flat_map part_said parts ≡ flat_map part_said others → parts ≡ others
 said_tells line parts others long a b same =
-    parts_told line parts others (says_nothing ∷ []) (says_nothing ∷ []) long a b tt tt
-    (ap (λ (l : List Said). l ++ says_nothing ∷ []) same)
+    parts_told IsMark says_nothing tt result_said result_unmarked result_told (terminal_count line)
+    parts others long (λ k d there. (a k d there).many) (λ k d there. (b k d there).many) same

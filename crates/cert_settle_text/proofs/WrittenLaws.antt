@@ -36,26 +36,15 @@ use Rattle.cert_settle_text.specs.Grammar.{tree_said, part_said, IsSettleText}
 use Rattle.cert_settle_text.specs.{Known.Known, Text.nodes_text, Text.result_text, Text.trees_text}
 use Rattle.cert_settle_text.specs.{Text.part_text, Text.parts_text, Text.settle_text}
 use Rattle.cert_settle_text.specs.{Text.steps_text}
-use Rattle.cert_settle_text.proofs.NameLaws.{IsLineUpTo, name_stands, terminals_stand}
+use Rattle.cert_split_text.specs.NameLaws.{IsLineUpTo, name_stands, terminals_stand}
 use Rattle.cert_text.specs.{NameLaws.names_count, NumberLaws.numbers_whole}
+use Rattle.cert_split_text.specs.PairLaws.{stand_one, stand_headed, pairs_stand}
+use Rattle.cert_settle_text.proofs.PrintLaws.{tree_lines, trees_both}
 use Rattle.cert_settle_text.proofs.{WholeLaws.node_whole, WholeLaws.step_whole, StandsLaws.of_line}
 
 -- lines of these places, and what is left
 abbrev Stood : Line → List Place → List Said → List ℕ → List Place → List ℕ → Type 0
 Stood line places said text left rest = Lines (Stands line) opens places said text left rest
-
--- one line in front of others
-stand_one : (line : Line) (place : Place) (places : List Place) (m : Said) (more : List Said)
-    (bytes text : List ℕ) (left : List Place) (rest : List ℕ) → is_one_line bytes ≡ true
-    → Stands line place m bytes → Stood line (opens place m ++ places) more text left rest
-    → Stood line (place ∷ places) (m ∷ more) (fed bytes ++ text) left rest
-stand_one line place places m more bytes text left rest whole stands next = (
-  bytes,
-  (
-    text,
-    (record { whole = whole; is = append_assoc bytes (10 ∷ []) text }, (stands, next)),
-  ),
-)
 
 -- ---- a tree
 
@@ -113,7 +102,7 @@ branch_stands : (line : Line) (room : ℕ) (root : Root) (others : List Root) (n
     → Stood line (roots room root others ∷ later) (map says_node (n ∷ (pre ++ post)) ++ more)
     (nodes_text line (n ∷ (pre ++ post)) ++ text) left rest
 branch_stands line room root others n pre post later more text left rest may both =
-    let all = stand_one line (roots room root others) later (says_node n)
+    let all = stand_one (Stands line) opens (roots room root others) later (says_node n)
     (map says_node pre ++ (map says_node post ++ more)) (node_text line n)
     (nodes_text line pre ++ (nodes_text line post ++ text)) left rest
     (node_whole line n (of_line line room root n may)) (may, refl) both in
@@ -141,12 +130,12 @@ tree_stands : (line : Line) (room over : ℕ) (root : Root) (others : List Root)
     → Stood line (roots room root others ∷ later) (map says_node (preorder t) ++ more)
     (nodes_text line (preorder t) ++ text) left rest
 tree_stands line room over root others Yes later more text left rest low branches high count next =
-    stand_one line (roots room root others) later (says_node node.Yes) more (codes "yes") text left
+    stand_one (Stands line) opens (roots room root others) later (says_node node.Yes) more (codes "yes") text left
     rest refl (tt, refl)
     (leaf_stands line room over others later more text left rest count next)
 tree_stands line room over root others Undecided later more text left rest low branches high count
     next =
-    stand_one line (roots room root others) later (says_node node.Undecided) more
+    stand_one (Stands line) opens (roots room root others) later (says_node node.Undecided) more
     (codes "undecided") text left rest refl (tt, refl)
     (leaf_stands line room over others later more text left rest count next)
 tree_stands line room over root others (Split param mid first second) later more text left rest low
@@ -236,14 +225,14 @@ module _ (known : Known) (line : Line) (numbers : List ℕ)
       → Stood line (after_step before ∷ later) (map says_step steps ++ (says_no numbers ∷ more))
       (steps_text line steps ++ (fed (no_words numbers) ++ text)) left rest
   later_steps before [] inside up =
-      stand_one line (after_step before) later (says_no numbers) more (no_words numbers) text left
+      stand_one (Stands line) opens (after_step before) later (says_no numbers) more (no_words numbers) text left
       rest no_whole (are, refl) next
   later_steps before (s ∷ steps) inside up =
       let P : List ℕ → Type 0 = λ t. Stood line (after_step before ∷ later)
       (says_step s ∷ (map says_step steps ++ (says_no numbers ∷ more))) t left rest in
       let parts = and_parts (comes_before before s) (ascend (s ∷ steps)) up in
       let here = All-head (IsStepInside line) s steps inside in
-      let all = stand_one line (after_step before) later (says_step s)
+      let all = stand_one (Stands line) opens (after_step before) later (says_step s)
       (map says_step steps ++ (says_no numbers ∷ more)) (step_text line s)
       (steps_text line steps ++ (fed (no_words numbers) ++ text)) left rest
       (step_whole known line s here) (here, (parts.0, refl))
@@ -255,13 +244,13 @@ module _ (known : Known) (line : Line) (numbers : List ℕ)
       → Stood line (result_over box ∷ later) (map says_step steps ++ (says_no numbers ∷ more))
       (steps_text line steps ++ (fed (no_words numbers) ++ text)) left rest
   timing_stands box [] inside up =
-      stand_one line (result_over box) later (says_no numbers) more (no_words numbers) text left
+      stand_one (Stands line) opens (result_over box) later (says_no numbers) more (no_words numbers) text left
       rest no_whole (are, refl) next
   timing_stands box (s ∷ steps) inside up =
       let P : List ℕ → Type 0 = λ t. Stood line (result_over box ∷ later)
       (says_step s ∷ (map says_step steps ++ (says_no numbers ∷ more))) t left rest in
       let here = All-head (IsStepInside line) s steps inside in
-      let all = stand_one line (result_over box) later (says_step s)
+      let all = stand_one (Stands line) opens (result_over box) later (says_step s)
       (map says_step steps ++ (says_no numbers ∷ more)) (step_text line s)
       (steps_text line steps ++ (fed (no_words numbers) ++ text)) left rest
       (step_whole known line s here) (here, (tt, refl))
@@ -294,39 +283,17 @@ module _ (known : Known) (line : Line) where
       (timing_stands known line numbers is.are later more text left rest next
       (declared_box line) steps is.inside is.ascending))
 
-  trees_stand : (names : List (List ℕ)) (results : List SettleResult) (later : List Place)
-      (more : List Said) (text : List ℕ) (left : List Place) (rest : List ℕ)
-      → length results ≡ length names → All (IsLineUpTo 16) names → All (IsSettleResult line) results
-      → Stood line later more text left rest
-      → Stood line (flat_map (tree_places line) names ++ later) (flat_map tree_said results ++ more)
-      (trees_text line names results ++ text) left rest
-  trees_stand [] [] later more text left rest long plain each next = next
-  trees_stand [] (r ∷ results) later more text left rest long plain each next =
-      absurd (omega arith)
-  trees_stand (name ∷ names) [] later more text left rest long plain each next =
-      absurd (omega arith)
-  trees_stand (name ∷ names) (r ∷ results) later more text left rest long plain each next =
-      let places : List Place = flat_map (tree_places line) names ++ later in
-      let said : List Said = flat_map tree_said results in
-      let trees : List ℕ = trees_text line names results in
-      let then = trees_stand names results later more text left rest (omega arith)
-      (All-tail (IsLineUpTo 16) name names plain) (All-tail (IsSettleResult line) r results each) next in
-      let own = result_stands r places (said ++ more) (trees ++ text) left rest
-      (All-head (IsSettleResult line) r results each) then in
-      let all = stand_one line (fixed (tree_text name)) (result_over (declared_box line) ∷ places)
-      says_nothing (result_said r ++ (said ++ more)) (tree_text name)
-      (result_text line r ++ (trees ++ text)) left rest
-      (whole_append (codes "tree ") name refl (All-head (IsLineUpTo 16) name names plain).whole) (refl, refl) own in
-      let P : List Said → Type 0 = λ l. Stood line
-      (fixed (tree_text name) ∷ (result_over (declared_box line) ∷ places)) (says_nothing ∷ l)
-      (fed (tree_text name) ++ (result_text line r ++ (trees ++ text))) left rest in
-      let Q : List ℕ → Type 0 = λ t. Stood line
-      (fixed (tree_text name) ∷ (result_over (declared_box line) ∷ places))
-      (says_nothing ∷ ((result_said r ++ said) ++ more)) t left rest in
-      subst Q (sym (append_assoc (fed (tree_text name)) (result_text line r ++ trees) text
-      ∙ ap (λ (l : List ℕ). fed (tree_text name) ++ l)
-      (append_assoc (result_text line r) trees text)))
-      (subst P (sym (append_assoc (result_said r) said more)) all)
+  tree_stands_named : (name : List ℕ) (r : SettleResult) (later : List Place) (more : List Said)
+      (text : List ℕ) (left : List Place) (rest : List ℕ) → IsLineUpTo 16 name
+      → IsSettleResult line r → Stood line later more text left rest
+      → Stood line (tree_places line name ++ later) (tree_said r ++ more)
+      (tree_lines line name r ++ text) left rest
+  tree_stands_named name r later more text left rest plain is next =
+      stand_headed (Stands line) opens (fixed (tree_text name))
+      (result_over (declared_box line) ∷ later) says_nothing (result_said r ++ more)
+      (tree_text name) (result_text line r) text left rest
+      (whole_append (codes "tree ") name refl plain.whole) (refl, refl)
+      (result_stands r later more text left rest is next)
 
   -- ---- scripts
 
@@ -337,58 +304,32 @@ module _ (known : Known) (line : Line) where
       (part_text line script results ++ text) left rest
   part_stands script results later more text left rest fits each next =
       let names : List (List ℕ) = terminal_names line in
-      let trees : List ℕ = trees_text line names results in
-      let places : List Place = part_places line script ++ later in
-      let all = stand_one line (fixed (script_text script.name))
+      stand_headed (Stands line) opens (fixed (script_text script.name))
       (flat_map (tree_places line) names ++ later) says_nothing
-      (flat_map tree_said results ++ more) (script_text script.name) (trees ++ text) left rest
+      (flat_map tree_said results ++ more) (script_text script.name)
+      (trees_text line names results) text left rest
       (whole_append (codes "script ") script.name refl (name_stands script.name fits.plain_name).whole)
-      (refl, refl) (trees_stand names results later more text left rest
-      (each.many ∙ sym (names_count line)) (terminals_stand line) each.each next) in
-      let Q : List ℕ → Type 0 = λ t. Stood line places (part_said results ++ more) t left rest in
-      subst Q (sym (append_assoc (fed (script_text script.name)) trees text)) all
-
-  parts_stand : (scripts : List Script) (parts : List (List SettleResult)) (later : List Place)
-      (more : List Said) (text : List ℕ) (left : List Place) (rest : List ℕ)
-      → length parts ≡ length scripts → All (Fits line) scripts → All (HasOneEach line) parts
-      → Stood line later more text left rest
-      → Stood line (flat_map (part_places line) scripts ++ later) (flat_map part_said parts ++ more)
-      (parts_text line scripts parts ++ text) left rest
-  parts_stand [] [] later more text left rest long fits each next = next
-  parts_stand [] (r ∷ parts) later more text left rest long fits each next = absurd (omega arith)
-  parts_stand (s ∷ scripts) [] later more text left rest long fits each next =
-      absurd (omega arith)
-  parts_stand (s ∷ scripts) (r ∷ parts) later more text left rest long fits each next =
-      let places : List Place = flat_map (part_places line) scripts in
-      let said : List Said = flat_map part_said parts in
-      let others : List ℕ = parts_text line scripts parts in
-      let all = part_stands s r (places ++ later) (said ++ more) (others ++ text) left rest
-      (All-head (Fits line) s scripts fits) (All-head (HasOneEach line) r parts each)
-      (parts_stand scripts parts later more text left rest (omega arith)
-      (All-tail (Fits line) s scripts fits) (All-tail (HasOneEach line) r parts each) next) in
-      let P : List Place → Type 0 = λ p. Stood line p (part_said r ++ (said ++ more))
-      (part_text line s r ++ (others ++ text)) left rest in
-      let Q : List Said → Type 0 = λ l. Stood line ((part_places line s ++ places) ++ later) l
-      (part_text line s r ++ (others ++ text)) left rest in
-      let R : List ℕ → Type 0 = λ t. Stood line ((part_places line s ++ places) ++ later)
-      ((part_said r ++ said) ++ more) t left rest in
-      subst R (sym (append_assoc (part_text line s r) others text))
-      (subst Q (sym (append_assoc (part_said r) said more))
-      (subst P (sym (append_assoc (part_places line s) places later)) all))
+      (refl, refl)
+      (pairs_stand (Stands line) opens (tree_lines line) (trees_text line) refl (trees_both line)
+      (tree_places line) tree_said (IsLineUpTo 16) (IsSettleResult line) tree_stands_named names results
+      later more text left rest (each.many ∙ sym (names_count line)) (terminals_stand line) each.each
+      next)
 
   pub text_is_settle_text : (scripts : List Script) (parts : List (List SettleResult))
       → length parts ≡ length scripts → All (Fits line) scripts → All (HasOneEach line) parts
       → IsSettleText line scripts parts (settle_text line scripts parts)
   text_is_settle_text scripts parts long fits each =
       let last : Stood line (fixed end_text ∷ []) (says_nothing ∷ []) (fed end_text) [] [] =
-      stand_one line (fixed end_text) [] says_nothing [] end_text [] [] [] refl (refl, refl) (refl, refl) in
+      stand_one (Stands line) opens (fixed end_text) [] says_nothing [] end_text [] [] [] refl (refl, refl) (refl, refl) in
       record {
         many = long;
         each = each;
-        lines = stand_one line (fixed head_text)
+        lines = stand_one (Stands line) opens (fixed head_text)
             (flat_map (part_places line) scripts ++ fixed end_text ∷ []) says_nothing
             (flat_map part_said parts ++ says_nothing ∷ []) head_text
             (parts_text line scripts parts ++ fed end_text) [] [] refl (refl, refl)
-            (parts_stand scripts parts (fixed end_text ∷ []) (says_nothing ∷ []) (fed end_text) [] []
-            long fits each last);
+            (pairs_stand (Stands line) opens (part_text line) (parts_text line) refl
+            (λ x xs y ys. refl) (part_places line) part_said (Fits line) (HasOneEach line) part_stands
+            scripts parts (fixed end_text ∷ []) (says_nothing ∷ []) (fed end_text) [] [] long fits
+            each last);
       }

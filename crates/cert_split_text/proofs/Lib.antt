@@ -1,6 +1,5 @@
 pub mod FewLines
 pub mod FoundLaws
-pub mod NameLaws
 pub mod NodeLaws
 pub mod NumberLaws
 pub mod PrintLaws
@@ -8,7 +7,6 @@ pub mod ReadLaws
 pub mod SaidLaws
 pub mod SizeLaws
 pub mod StandsLaws
-pub mod Stretches
 pub mod TreeLaws
 pub mod WholeLaws
 pub mod WrittenLaws

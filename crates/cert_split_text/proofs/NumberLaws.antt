@@ -4,7 +4,7 @@ use Rattle.std.proofs.lemmas.Fmt.{decimal_injective}
 use Rattle.std.specs.List.{list_all}
 use Rattle.base_store.specs.{Number.is_digit, DecimalLaws.are_digits}
 use Rattle.base_lines.specs.LineLaws.{both_true}
-use Rattle.cert_split_text.proofs.Stretches.{Unmarked}
+use Rattle.cert_split_text.specs.StretchLaws.{Unmarked}
 
 abbrev pub IsSpace : ℕ → Type 0
 IsSpace byte = byte ≡ 32

@@ -20,7 +20,7 @@ use Rattle.cert_split_text.specs.Grammar.{node_text}
 use Rattle.cert_split_text.specs.Grammar.{tree_text, head_text, deepest}
 use Rattle.cert_split_text.specs.{Known.Known, Text.nodes_text, Text.result_text, Text.trees_text}
 use Rattle.cert_split_text.specs.{Text.part_text, Text.parts_text, Text.split_text}
-use Rattle.cert_split_text.proofs.NameLaws.{IsLineUpTo, name_stands, terminals_stand, param_stands}
+use Rattle.cert_split_text.specs.NameLaws.{IsLineUpTo, name_stands, terminals_stand, param_stands}
 use Rattle.cert_text.specs.NameLaws.{names_count}
 use Rattle.cert_split_text.proofs.WrittenLaws.{IsLow, low_declared, low_lower, low_upper}
 

@@ -15,7 +15,7 @@ use Rattle.cert_split_text.specs.Grammar.{Said}
 use Rattle.cert_split_text.specs.Grammar.{says_nothing, says_fails, says_node, MayStand, IsResult}
 use Rattle.cert_split_text.specs.Grammar.{node_text, split_line}
 use Rattle.cert_split_text.proofs.NumberLaws.{IsSpace, no_space, one_number}
-use Rattle.cert_split_text.proofs.Stretches.{backs_tell}
+use Rattle.cert_split_text.specs.StretchLaws.{backs_tell}
 
 -- ---- nodes
 

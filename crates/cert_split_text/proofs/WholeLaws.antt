@@ -7,7 +7,7 @@ use Rattle.base_lines.specs.Lines.{is_one_line}
 use Rattle.base_lines.specs.NamedLaws.{named_whole, decimal_whole}
 use Rattle.judge_split.specs.declared.node.Node.TheVariants as node
 use Rattle.cert_split_text.specs.Grammar.{node_text}
-use Rattle.cert_split_text.proofs.NameLaws.{param_stands}
+use Rattle.cert_split_text.specs.NameLaws.{param_stands}
 
 pub split_whole : (line : Line) (param mid : ℕ) → mid < 2 ^ 32
     → is_one_line (node_text line (node.Split param mid)) ≡ true

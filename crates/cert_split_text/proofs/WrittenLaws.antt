@@ -5,7 +5,6 @@ use Rattle.std.proofs.Common.{append_assoc}
 use Rattle.std.proofs.Math.Nat.{le-max_left, le-max_right}
 use Rattle.std.proofs.lemmas.List.{map-append}
 use Rattle.std.proofs.lemmas.List.Concat.{flat_map-append}
-use Rattle.std.proofs.lemmas.List.Elements.{All-head, All-tail}
 use Rattle.std.specs.Prelude.{codes}
 use Rattle.std.specs.List.{All, flat_map}
 use Rattle.model_history.specs.Rails.{Ends}
@@ -18,7 +17,7 @@ use Rattle.judge_split.specs.declared.node.Node.{Node}
 use Rattle.judge_split.specs.declared.node.Node.TheVariants as node
 use Rattle.judge_split.specs.Trees.{SplitTree, Yes, Undecided, Split, preorder, height}
 use Rattle.judge_split.specs.Leaves.{Splits, lower_half, upper_half}
-use Rattle.base_lines.specs.{Lines.Lines, Lines.is_one_line, NamedLaws.whole_append}
+use Rattle.base_lines.specs.{Lines.Lines, NamedLaws.whole_append}
 use Rattle.cert_split_text.specs.Grammar.{SplitResult, tree, fails, IsSplitResult, HasOneEach}
 use Rattle.cert_split_text.specs.Grammar.{deepest}
 use Rattle.cert_split_text.specs.Grammar.{Place, fixed, result_over, node_over, Stands, opens, Said}
@@ -28,26 +27,15 @@ use Rattle.cert_split_text.specs.Grammar.{result_said}
 use Rattle.cert_split_text.specs.Grammar.{tree_said, part_said, IsSplitText}
 use Rattle.cert_split_text.specs.{Known.Known, Text.nodes_text, Text.result_text, Text.trees_text}
 use Rattle.cert_split_text.specs.{Text.part_text, Text.parts_text, Text.split_text}
-use Rattle.cert_split_text.proofs.NameLaws.{IsLineUpTo, name_stands, terminals_stand}
+use Rattle.cert_split_text.specs.NameLaws.{IsLineUpTo, name_stands, terminals_stand}
 use Rattle.cert_text.specs.{NameLaws.names_count, NumberLaws.numbers_whole}
+use Rattle.cert_split_text.specs.PairLaws.{stand_one, stand_headed, pairs_stand}
+use Rattle.cert_split_text.proofs.PrintLaws.{tree_lines, trees_both}
 use Rattle.cert_split_text.proofs.WholeLaws.{split_whole}
 
 -- lines of these places, and what is left
 abbrev Stood : Line → List Place → List Said → List ℕ → List Place → List ℕ → Type 0
 Stood line places said text left rest = Lines (Stands line) opens places said text left rest
-
--- one line in front of others
-stand_one : (line : Line) (place : Place) (places : List Place) (m : Said) (more : List Said)
-    (bytes text : List ℕ) (left : List Place) (rest : List ℕ) → is_one_line bytes ≡ true
-    → Stands line place m bytes → Stood line (opens place m ++ places) more text left rest
-    → Stood line (place ∷ places) (m ∷ more) (fed bytes ++ text) left rest
-stand_one line place places m more bytes text left rest whole stands next = (
-  bytes,
-  (
-    text,
-    (record { whole = whole; is = append_assoc bytes (10 ∷ []) text }, (stands, next)),
-  ),
-)
 
 -- ---- a tree
 
@@ -101,10 +89,10 @@ tree_stands : (line : Line) (n : ℕ) (box : Box) (t : SplitTree) (later : List 
     → Stood line (node_over n box ∷ later) (map says_node (preorder t) ++ more)
     (nodes_text line (preorder t) ++ text) left rest
 tree_stands line n box Yes later more text left rest low splits high next =
-    stand_one line (node_over n box) later (says_node node.Yes) more (codes "yes") text left rest
+    stand_one (Stands line) opens (node_over n box) later (says_node node.Yes) more (codes "yes") text left rest
     refl (tt, refl) next
 tree_stands line n box Undecided later more text left rest low splits high next =
-    stand_one line (node_over n box) later (says_node node.Undecided) more (codes "undecided") text
+    stand_one (Stands line) opens (node_over n box) later (says_node node.Undecided) more (codes "undecided") text
     left rest refl (tt, refl) next
 tree_stands line n box (Split param mid first second) later more text left rest low splits high
     next =
@@ -126,7 +114,7 @@ tree_stands line n box (Split param mid first second) later more text left rest 
     let both = tree_stands line (n - 1) lower first (node_over (n - 1) upper ∷ later)
     (map says_node post ++ more) (nodes_text line post ++ text) left rest
     (low_lower line box param mid small low) splits.1.0 first_high then in
-    let all = stand_one line (node_over n box) later (says_node root)
+    let all = stand_one (Stands line) opens (node_over n box) later (says_node root)
     (map says_node pre ++ (map says_node post ++ more)) (node_text line root)
     (nodes_text line pre ++ (nodes_text line post ++ text)) left rest
     (split_whole line param mid little)
@@ -166,44 +154,22 @@ module _ (known : Known) (line : Line) where
       subst P (sym is.are) (root_stands line (declared_box line) is.tree later more text left rest
       (low_declared known line) is.splits is.low next)
   result_stands (fails numbers) later more text left rest is next =
-      stand_one line (result_over (declared_box line)) later (says_fails numbers) more
+      stand_one (Stands line) opens (result_over (declared_box line)) later (says_fails numbers) more
       (no_words numbers) text left rest
       (whole_append (codes "no") (numbers_text numbers) refl (numbers_whole numbers is.small))
       (is, refl) next
 
-  trees_stand : (names : List (List ℕ)) (results : List SplitResult) (later : List Place)
-      (more : List Said) (text : List ℕ) (left : List Place) (rest : List ℕ)
-      → length results ≡ length names → All (IsLineUpTo 16) names → All (IsSplitResult line) results
-      → Stood line later more text left rest
-      → Stood line (flat_map (tree_places line) names ++ later) (flat_map tree_said results ++ more)
-      (trees_text line names results ++ text) left rest
-  trees_stand [] [] later more text left rest long plain each next = next
-  trees_stand [] (r ∷ results) later more text left rest long plain each next =
-      absurd (omega arith)
-  trees_stand (name ∷ names) [] later more text left rest long plain each next =
-      absurd (omega arith)
-  trees_stand (name ∷ names) (r ∷ results) later more text left rest long plain each next =
-      let places : List Place = flat_map (tree_places line) names ++ later in
-      let said : List Said = flat_map tree_said results in
-      let trees : List ℕ = trees_text line names results in
-      let then = trees_stand names results later more text left rest (omega arith)
-      (All-tail (IsLineUpTo 16) name names plain) (All-tail (IsSplitResult line) r results each) next in
-      let own = result_stands r places (said ++ more) (trees ++ text) left rest
-      (All-head (IsSplitResult line) r results each) then in
-      let all = stand_one line (fixed (tree_text name)) (result_over (declared_box line) ∷ places)
-      says_nothing (result_said r ++ (said ++ more)) (tree_text name)
-      (result_text line r ++ (trees ++ text)) left rest
-      (whole_append (codes "tree ") name refl (All-head (IsLineUpTo 16) name names plain).whole) (refl, refl) own in
-      let P : List Said → Type 0 = λ l. Stood line
-      (fixed (tree_text name) ∷ (result_over (declared_box line) ∷ places)) (says_nothing ∷ l)
-      (fed (tree_text name) ++ (result_text line r ++ (trees ++ text))) left rest in
-      let Q : List ℕ → Type 0 = λ t. Stood line
-      (fixed (tree_text name) ∷ (result_over (declared_box line) ∷ places))
-      (says_nothing ∷ ((result_said r ++ said) ++ more)) t left rest in
-      subst Q (sym (append_assoc (fed (tree_text name)) (result_text line r ++ trees) text
-      ∙ ap (λ (l : List ℕ). fed (tree_text name) ++ l)
-      (append_assoc (result_text line r) trees text)))
-      (subst P (sym (append_assoc (result_said r) said more)) all)
+  tree_stands_named : (name : List ℕ) (r : SplitResult) (later : List Place) (more : List Said)
+      (text : List ℕ) (left : List Place) (rest : List ℕ) → IsLineUpTo 16 name
+      → IsSplitResult line r → Stood line later more text left rest
+      → Stood line (tree_places line name ++ later) (tree_said r ++ more)
+      (tree_lines line name r ++ text) left rest
+  tree_stands_named name r later more text left rest plain is next =
+      stand_headed (Stands line) opens (fixed (tree_text name))
+      (result_over (declared_box line) ∷ later) says_nothing (result_said r ++ more)
+      (tree_text name) (result_text line r) text left rest
+      (whole_append (codes "tree ") name refl plain.whole) (refl, refl)
+      (result_stands r later more text left rest is next)
 
   -- ---- scripts
 
@@ -214,58 +180,32 @@ module _ (known : Known) (line : Line) where
       (part_text line script results ++ text) left rest
   part_stands script results later more text left rest fits each next =
       let names : List (List ℕ) = terminal_names line in
-      let trees : List ℕ = trees_text line names results in
-      let places : List Place = part_places line script ++ later in
-      let all = stand_one line (fixed (script_text script.name))
+      stand_headed (Stands line) opens (fixed (script_text script.name))
       (flat_map (tree_places line) names ++ later) says_nothing
-      (flat_map tree_said results ++ more) (script_text script.name) (trees ++ text) left rest
+      (flat_map tree_said results ++ more) (script_text script.name)
+      (trees_text line names results) text left rest
       (whole_append (codes "script ") script.name refl (name_stands script.name fits.plain_name).whole)
-      (refl, refl) (trees_stand names results later more text left rest
-      (each.many ∙ sym (names_count line)) (terminals_stand line) each.each next) in
-      let Q : List ℕ → Type 0 = λ t. Stood line places (part_said results ++ more) t left rest in
-      subst Q (sym (append_assoc (fed (script_text script.name)) trees text)) all
-
-  parts_stand : (scripts : List Script) (parts : List (List SplitResult)) (later : List Place)
-      (more : List Said) (text : List ℕ) (left : List Place) (rest : List ℕ)
-      → length parts ≡ length scripts → All (Fits line) scripts → All (HasOneEach line) parts
-      → Stood line later more text left rest
-      → Stood line (flat_map (part_places line) scripts ++ later) (flat_map part_said parts ++ more)
-      (parts_text line scripts parts ++ text) left rest
-  parts_stand [] [] later more text left rest long fits each next = next
-  parts_stand [] (r ∷ parts) later more text left rest long fits each next = absurd (omega arith)
-  parts_stand (s ∷ scripts) [] later more text left rest long fits each next =
-      absurd (omega arith)
-  parts_stand (s ∷ scripts) (r ∷ parts) later more text left rest long fits each next =
-      let places : List Place = flat_map (part_places line) scripts in
-      let said : List Said = flat_map part_said parts in
-      let others : List ℕ = parts_text line scripts parts in
-      let all = part_stands s r (places ++ later) (said ++ more) (others ++ text) left rest
-      (All-head (Fits line) s scripts fits) (All-head (HasOneEach line) r parts each)
-      (parts_stand scripts parts later more text left rest (omega arith)
-      (All-tail (Fits line) s scripts fits) (All-tail (HasOneEach line) r parts each) next) in
-      let P : List Place → Type 0 = λ p. Stood line p (part_said r ++ (said ++ more))
-      (part_text line s r ++ (others ++ text)) left rest in
-      let Q : List Said → Type 0 = λ l. Stood line ((part_places line s ++ places) ++ later) l
-      (part_text line s r ++ (others ++ text)) left rest in
-      let R : List ℕ → Type 0 = λ t. Stood line ((part_places line s ++ places) ++ later)
-      ((part_said r ++ said) ++ more) t left rest in
-      subst R (sym (append_assoc (part_text line s r) others text))
-      (subst Q (sym (append_assoc (part_said r) said more))
-      (subst P (sym (append_assoc (part_places line s) places later)) all))
+      (refl, refl)
+      (pairs_stand (Stands line) opens (tree_lines line) (trees_text line) refl (trees_both line)
+      (tree_places line) tree_said (IsLineUpTo 16) (IsSplitResult line) tree_stands_named names results
+      later more text left rest (each.many ∙ sym (names_count line)) (terminals_stand line) each.each
+      next)
 
   pub text_is_split_text : (scripts : List Script) (parts : List (List SplitResult))
       → length parts ≡ length scripts → All (Fits line) scripts → All (HasOneEach line) parts
       → IsSplitText line scripts parts (split_text line scripts parts)
   text_is_split_text scripts parts long fits each =
       let last : Stood line (fixed end_text ∷ []) (says_nothing ∷ []) (fed end_text) [] [] =
-      stand_one line (fixed end_text) [] says_nothing [] end_text [] [] [] refl (refl, refl) (refl, refl) in
+      stand_one (Stands line) opens (fixed end_text) [] says_nothing [] end_text [] [] [] refl (refl, refl) (refl, refl) in
       record {
         many = long;
         each = each;
-        lines = stand_one line (fixed head_text)
+        lines = stand_one (Stands line) opens (fixed head_text)
             (flat_map (part_places line) scripts ++ fixed end_text ∷ []) says_nothing
             (flat_map part_said parts ++ says_nothing ∷ []) head_text
             (parts_text line scripts parts ++ fed end_text) [] [] refl (refl, refl)
-            (parts_stand scripts parts (fixed end_text ∷ []) (says_nothing ∷ []) (fed end_text) [] []
-            long fits each last);
+            (pairs_stand (Stands line) opens (part_text line) (parts_text line) refl
+            (λ x xs y ys. refl) (part_places line) part_said (Fits line) (HasOneEach line) part_stands
+            scripts parts (fixed end_text ∷ []) (says_nothing ∷ []) (fed end_text) [] [] long fits
+            each last);
       }

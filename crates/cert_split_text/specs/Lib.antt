@@ -3,3 +3,7 @@ pub mod Grammar
 pub mod Text
 pub mod Piece
 pub mod Reading
+pub mod NameLaws
+pub mod StretchLaws
+pub mod ToldLaws
+pub mod PairLaws

@@ -1,4 +1,4 @@
-use Rattle.std.proofs.Common.{◌≡◌, ◌++◌, ◌<◌, ℕ, List, [], length, map, take, get_or, sym, ◌∙◌, ap}
+use Rattle.std.proofs.Common.{◌≡◌, ◌++◌, ◌<◌, ℕ, List, [], length, map, take, get_or, sym, ◌∙◌, ap, refl}
 use Rattle.std.proofs.Common.{arith}
 use Rattle.std.proofs.lemmas.List.{length-map}
 use Rattle.model_line.specs.Parameters.{terminal_count}
@@ -7,7 +7,8 @@ use Rattle.cert_settle_text.specs.declared.claim.TreeClaim.{TreeClaim}
 use Rattle.cert_settle_text.specs.{Grammar.tree_text, Text.result_text, Text.trees_text}
 use Rattle.cert_settle_text.specs.{Reading.result_in}
 use Rattle.cert_settle_text.specs.Grammar.{IsSettleResult}
-use Rattle.cert_settle_text.proofs.PrintLaws.{one_more_tree, all_trees, tree_added, all_mapped}
+use Rattle.cert_split_text.specs.PairLaws.{pairs_more, pairs_all, two_added}
+use Rattle.cert_settle_text.proofs.PrintLaws.{tree_lines, trees_both, all_mapped}
 use Rattle.cert_text.specs.NameLaws.{names_count}
 use Rattle.cert_settle_text.proofs.piece.settle_piece.Goals as goal
 
@@ -34,11 +35,13 @@ loop-k-preserved c =
     c.in_ok-push_result.ensures
     ∙ ap (λ (o : TreeClaim). c.push_named-in-loop-k.new.text.items ++ result_text line (result_in o))
     c.index-results-k.is in
-    tree_added line script trees now c.push_named-in-loop-k.new.text.items
-    c.push_result.new.text.items (get_or names k []) (result_in (get_or results k claim))
+    two_added script trees now c.push_named-in-loop-k.new.text.items
+    c.push_result.new.text.items (fed (tree_text (get_or names k [])))
+    (result_text line (result_in (get_or results k claim)))
     c.loop-k.invariant named added
     ∙ ap (λ (l : List ℕ). script ++ l)
-    (sym (one_more_tree line (λ o. result_in o) names results k [] claim inside within))
+    (sym (pairs_more (tree_lines line) (trees_text line) refl (trees_both line)
+    (λ o. result_in o) names results k [] claim inside within))
 
 pub returns : goal.returns
 returns c =
@@ -57,7 +60,7 @@ returns c =
     ) in
     c.loop-k.invariant
     ∙ ap (λ (l : List ℕ). script ++ l)
-    (all_trees line (λ o. result_in o) (terminal_names line) results c.loop-k.k
+    (pairs_all (trees_text line) (λ o. result_in o) (terminal_names line) results c.loop-k.k
     (omega (arith, names_count line, done)) (omega (arith, done, many)))
 
 pub push_result-requires : goal.push_result-requires

@@ -1,11 +1,12 @@
-use Rattle.std.proofs.Common.{◌≡◌, ◌++◌, ◌<◌, ℕ, List, [], length, map, take, get_or, sym, ◌∙◌, ap}
+use Rattle.std.proofs.Common.{◌≡◌, ◌++◌, ◌<◌, ℕ, List, [], length, map, take, get_or, sym, ◌∙◌, ap, refl}
 use Rattle.std.proofs.Common.{arith}
 use Rattle.model_line.specs.Parameters.{terminal_count}
 use Rattle.cert_text.specs.{Grammar.script_text, Grammar.terminal_names, Text.fed}
 use Rattle.judge_split.specs.declared.node.Outcome.{Outcome}
 use Rattle.cert_split_text.specs.{Grammar.tree_text, Text.result_text, Text.trees_text}
 use Rattle.cert_split_text.specs.{Piece.written_as}
-use Rattle.cert_split_text.proofs.PrintLaws.{one_more_tree, all_trees, tree_added}
+use Rattle.cert_split_text.specs.PairLaws.{pairs_more, pairs_all, two_added}
+use Rattle.cert_split_text.proofs.PrintLaws.{tree_lines, trees_both}
 use Rattle.cert_text.specs.NameLaws.{names_count}
 use Rattle.cert_split_text.proofs.piece.split_piece.Goals as goal
 
@@ -30,11 +31,13 @@ loop-k-preserved c =
     c.in_ok-push_outcome.ensures
     ∙ ap (λ (o : Outcome). c.push_named-in-loop-k.new.text.items ++ result_text line (written_as o))
     c.index-searches-k.is in
-    tree_added line script trees now c.push_named-in-loop-k.new.text.items
-    c.push_outcome.new.text.items (get_or names k []) (written_as (get_or searches k outcome))
+    two_added script trees now c.push_named-in-loop-k.new.text.items
+    c.push_outcome.new.text.items (fed (tree_text (get_or names k [])))
+    (result_text line (written_as (get_or searches k outcome)))
     c.loop-k.invariant named added
     ∙ ap (λ (l : List ℕ). script ++ l)
-    (sym (one_more_tree line (λ o. written_as o) names searches k [] outcome inside within))
+    (sym (pairs_more (tree_lines line) (trees_text line) refl (trees_both line)
+    (λ o. written_as o) names searches k [] outcome inside within))
 
 pub returns : goal.returns
 returns c =
@@ -51,5 +54,5 @@ returns c =
     ) in
     c.loop-k.invariant
     ∙ ap (λ (l : List ℕ). script ++ l)
-    (all_trees line (λ o. written_as o) (terminal_names line) searches c.loop-k.k
+    (pairs_all (trees_text line) (λ o. written_as o) (terminal_names line) searches c.loop-k.k
     (omega (arith, names_count line, done)) (omega (arith, done, c.requires.many)))
