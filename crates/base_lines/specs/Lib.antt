@@ -3,7 +3,7 @@ pub mod Named
 pub mod LineLaws
 pub mod NamedLaws
 pub mod Reading
-pub mod OneReading
+pub mod ReadingLaws
 pub mod Grammar
 pub mod ReadLaws
 pub mod AnswerLaws

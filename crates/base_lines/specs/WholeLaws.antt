@@ -3,7 +3,7 @@ use Rattle.std.proofs.Common.{◌≡◌, ℕ, List, [], ◌∷◌, refl, ap, dro
 use Rattle.std.proofs.lemmas.List.{append_cancel_right}
 use Rattle.base_lines.specs.Grammar.{Grammar, Parts, IsText, LeavesText, all_said, text_places}
 use Rattle.base_lines.specs.Grammar.{text_said}
-use Rattle.base_lines.specs.OneReading.{same_reading, same_text, same_number, not_whole}
+use Rattle.base_lines.specs.ReadingLaws.{same_reading, same_text, same_number, not_whole}
 
 -- a line says one thing at a place
 abbrev pub SaysOneThing : Grammar → Type 0

@@ -3,7 +3,7 @@
 //!
 //! `specs/Lines.antt` has a text as a list of places, each with what can stand there and what it
 //! opens; `specs/Grammar.antt` has a text of several items, between a first and a last line. The laws
-//! that every such text has stand beside them (`LineLaws`, `Reading`, `OneReading`, `WholeLaws`), since
+//! that every such text has stand beside them (`LineLaws`, `Reading`, `ReadingLaws`, `WholeLaws`), since
 //! they range over relations, of which no clause can speak.
 #![tactic(auto)]
 

@@ -8,7 +8,8 @@ use Rattle.std.proofs.lemmas.Option.{same_Some, slice_get_within}
 use Rattle.std.specs.Prelude.{IsTrue, slice_get}
 use Rattle.std.specs.List.{All, concat}
 use Rattle.model_history.specs.Rails.{Ends, IsSound, Rails, RailsCover}
-use Rattle.run_signal.specs.Terns.{rails_told, tern_sound, tern_with}
+use Rattle.run_signal.specs.Terns.{tern_with}
+use Rattle.run_signal.specs.TernLaws.{rails_told, tern_sound}
 use Rattle.run_signal.specs.declared.tern.Tern.{Tern}
 use Rattle.model_line.specs.declared.script.Kind.TheVariants.{Internal, External}
 use Rattle.model_line.specs.Parameters.{declared_ends, param_count, terminal_count}

@@ -5,7 +5,8 @@ use Rattle.std.proofs.lemmas.Option.{get_or_from_slice_get, slice_get-get_or, sl
 use Rattle.std.proofs.lemmas.Option.{slice_get_within}
 use Rattle.std.specs.Prelude.{slice_get, option_map}
 use Rattle.model_history.specs.Rails.{Rails, IsSound, both}
-use Rattle.run_signal.specs.Terns.{tern_rails, tern_with, tern_once, rails_told}
+use Rattle.run_signal.specs.Terns.{tern_rails, tern_with}
+use Rattle.run_signal.specs.TernLaws.{tern_once, rails_told}
 use Rattle.run_signal.specs.{declared.tern.Tern.Tern, declared.tern.Tern.TheVariants.Zero}
 use Rattle.model_line.specs.{declared.line.Line.Line, declared.script.Script.Script}
 use Rattle.model_line.specs.{Intervals.leasts, Parameters.terminal_count}

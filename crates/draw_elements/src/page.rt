@@ -29,7 +29,7 @@ pub struct Page {
     pub files: Vec<FileText>,
     /// Of what does not stand on the page, as the settled trees.
     pub digests: Vec<Digest>,
-    /// The program and its version, as `study 0.15.0`.
+    /// The program and its version, as `study --version` says them.
     pub program: Vec<u8>,
     /// What proved it, as `rt version` says it.
     pub kit: Vec<u8>,

@@ -5,6 +5,7 @@ pub mod Data
 pub mod DataGives
 pub mod Gives
 pub mod Levels
+pub mod LevelLaws
 pub mod Named
 pub mod Number
 pub mod Options

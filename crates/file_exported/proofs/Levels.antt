@@ -10,7 +10,8 @@ use Rattle.std.specs.List.{range_with_len, slice_get}
 use Rattle.std.specs.Prelude.{slice_index}
 use Rattle.base_records.specs.Gives.{Fails}
 use Rattle.file_comtrade.specs.Config.{ConfigValues, config_of}
-use Rattle.file_comtrade.specs.{Data.SampleValues, Data.samples_of, Levels.NeverFalls, Levels.holds_once}
+use Rattle.file_comtrade.specs.{Data.SampleValues, Data.samples_of, Levels.NeverFalls}
+use Rattle.file_comtrade.specs.{LevelLaws.holds_once}
 use Rattle.file_comtrade.specs.{Levels.level_in, Ticks.Holds, Ticks.IsCovered, Ticks.instant_of}
 use Rattle.file_comtrade.specs.DataGives as data_gives
 use Rattle.file_comtrade.specs.Gives as config_gives

@@ -11,8 +11,8 @@ use Rattle.std.specs.List.{list_any}
 use Rattle.toml.specs.{Data.string, Data.table, Data.Members, Data.get_member, View.items_of}
 use Rattle.model_line.specs.Settings.{time_key, receiver_settings, channel_settings}
 use Rattle.model_line.specs.Settings.{settings_of_terminals}
-use Rattle.model_line.specs.FirstPositions.{is_some-position, position_from-first, none_before}
-use Rattle.model_line.specs.FirstPositions.{list_any-take_none}
+use Rattle.model_line.specs.FirstPositionLaws.{is_some-position, position_from-first, none_before}
+use Rattle.model_line.specs.FirstPositionLaws.{list_any-take_none}
 use Rattle.model_line.specs.ParamNames.{name_at, key_path}
 use Rattle.model_line.specs.Intervals.{leasts, delay_number_of}
 use Rattle.model_line.specs.{declared.line.Scheme.TheVariants.Dcub, declared.line.Scheme.Scheme}

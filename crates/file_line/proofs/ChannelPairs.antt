@@ -13,7 +13,7 @@ use Rattle.std.proofs.lemmas.Map.Steps.{length-le_from_distinct_below}
 use Rattle.std.specs.List.{list_any, position_from, IsDistinct}
 use Rattle.model_line.specs.Channels.{is_pair, from_of, to_of, IsChannel, AreChannelsBelow}
 use Rattle.model_line.specs.declared.line.Channel.{Channel}
-use Rattle.model_line.specs.FirstPositions.{position_from-append_none}
+use Rattle.model_line.specs.FirstPositionLaws.{position_from-append_none}
 use borrow.Author.Count.{below_more}
 
 -- the first place stays the first when the list grows

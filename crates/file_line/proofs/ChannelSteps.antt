@@ -10,7 +10,8 @@ use Rattle.model_line.specs.Settings.{time_key, receiver_settings, channel_setti
 use Rattle.model_line.specs.{declared.line.Terminal.Terminal, Channels.is_pair}
 use Rattle.model_line.specs.{declared.line.Channel.Channel, declared.bounds.Bounds.Bounds}
 use Rattle.model_line.specs.{declared.line.Setting.TheVariants.Delay, declared.line.Scheme.Scheme}
-use Rattle.model_line.specs.{Making.least_ends, FirstPositions.position_within}
+use Rattle.model_line.specs.{Making.least_ends}
+use Rattle.model_line.specs.{FirstPositionLaws.position_within}
 use Rattle.file_line.specs.Keys.{all_known, table_in, text_at}
 use Rattle.file_line.specs.ChannelTables.{channel_keys, terminal_called, sender}
 use Rattle.file_line.specs.ChannelTables.{receiver, from_at, to_at, ends_at}

@@ -18,7 +18,8 @@ use Rattle.model_line.specs.Terminals.{names_of, has_flags, has_no_flag}
 use Rattle.model_line.specs.declared.line.Setting.{Setting}
 use Rattle.model_line.specs.{declared.line.Terminal.Terminal, declared.line.Line.Line}
 use Rattle.model_line.specs.{declared.line.Scheme.Scheme, declared.line.Owner.Owner}
-use Rattle.model_line.specs.{PlainNames.is_plain_name, FirstPositions.list_any-take_none}
+use Rattle.model_line.specs.{PlainNames.is_plain_name}
+use Rattle.model_line.specs.{FirstPositionLaws.list_any-take_none}
 use Rattle.model_line.specs.declared.line.Owner.TheVariants as owner
 use Rattle.model_logic.specs.Laws.{LineLaws}
 use Rattle.file_line.specs.Times.{group_key, required_times}

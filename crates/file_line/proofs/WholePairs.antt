@@ -11,7 +11,7 @@ use Rattle.std.specs.Set.{is_member}
 use Rattle.std.specs.List.{list_any, IsDistinct}
 use Rattle.model_line.specs.Channels.{is_pair, from_of, to_of, IsChannel, AreChannels}
 use Rattle.model_line.specs.Channels.{AreChannelsBelow, AreFoundBelow, channels_are}
-use Rattle.model_line.specs.FirstPositions.{is_some-position}
+use Rattle.model_line.specs.FirstPositionLaws.{is_some-position}
 use Rattle.model_line.specs.{declared.line.Terminal.Terminal, declared.line.Channel.Channel}
 use Rattle.file_line.specs.LineFiles.{two_pairs, three_pairs, pair_joined, all_joined, whole}
 use Rattle.file_line.proofs.Binds.{bind_ok, taken_ok}

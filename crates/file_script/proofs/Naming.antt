@@ -10,7 +10,7 @@ use Rattle.std.proofs.lemmas.Slice.Eq.{bytes_eq-Decides}
 use Rattle.std.specs.Prelude.{nat_le, slice_get}
 use Rattle.std.specs.List.{list_all, position_from}
 use Rattle.std.specs.Str.{bytes_eq}
-use Rattle.model_line.specs.FirstPositions.{position_from-first, none_before, list_any-take_none}
+use Rattle.model_line.specs.FirstPositionLaws.{position_from-first, none_before, list_any-take_none}
 use Rattle.model_line.specs.PlainNames.{is_plain_byte, is_plain_name}
 use Rattle.model_line.specs.Terminals.{are_plain_names, NamesDiffer}
 use Rattle.model_line.specs.Channels.{AreChannels, is_pair, from_of, to_of}

@@ -10,7 +10,7 @@ use Rattle.run_timers.specs.{Ahead.next_rails, Ahead.IsSteadyFor, Vectors.CellVe
 use Rattle.judge_boxes.specs.declared.terns.Terns64.{Terns64}
 use Rattle.judge_boxes.specs.Cells.{one_rail, StandForKnown, StandFor}
 use Rattle.judge_boxes.specs.{Spans.SpanLists, Spans.span_ends, Terns.terns_rails}
-use Rattle.judge_boxes.specs.{Terns.terns_sound}
+use Rattle.judge_boxes.specs.{TernLaws.terns_sound}
 use Rattle.judge_boxes.proofs.RailLaws.{sound_more, rail-more, by_rails, lesser_steady, next_rail}
 use Rattle.judge_boxes.proofs.RailLaws.{must_reads, may_reads}
 

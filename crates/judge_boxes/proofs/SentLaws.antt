@@ -8,7 +8,8 @@ use Rattle.model_history.specs.Elements.{every_below, some_below, delayed}
 use Rattle.model_history.specs.Rails.{Rails, IsSound, both, rails_at, rails_delayed}
 use Rattle.model_history.specs.Laws.{DelaysStaySound}
 use Rattle.run_signal.specs.{Bits.bit_on, Lanes.in_lane, Spans.ends_of}
-use Rattle.judge_boxes.specs.{declared.terns.Terns64.Terns64, Terns.terns_rails, Terns.terns_sound}
+use Rattle.judge_boxes.specs.{declared.terns.Terns64.Terns64, Terns.terns_rails}
+use Rattle.judge_boxes.specs.{TernLaws.terns_sound}
 use Rattle.judge_boxes.proofs.RailLaws.{may_alone}
 
 -- whether the delays from the least one up to but without c all bring a key that is on

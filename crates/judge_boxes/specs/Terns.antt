@@ -1,6 +1,6 @@
 -- The rails of a value in each of 64 lanes.
-use Rattle.std.specs.Prelude.{◌||◌, ℕ, Bool, true, false, refl}
-use Rattle.model_history.specs.Rails.{Rails, IsSound}
+use Rattle.std.specs.Prelude.{◌||◌, ℕ}
+use Rattle.model_history.specs.Rails.{Rails}
 use Rattle.run_signal.specs.Bits.{bit_on}
 use Rattle.judge_boxes.specs.declared.terns.Terns64.{Terns64}
 
@@ -10,11 +10,3 @@ terns_rails x lane = record {
   must = bit_on x.must lane;
   may = bit_on x.must lane || bit_on x.may lane;
 }
-
-first_of_both : (a b : Bool) → IsSound (record { must = a; may = a || b })
-first_of_both true b on = refl
-first_of_both false b on = absurd (cc)
-
--- what must be may be
-pub terns_sound : (x : Terns64) (lane : ℕ) → IsSound (terns_rails x lane)
-terns_sound x lane = first_of_both (bit_on x.must lane) (bit_on x.may lane)

@@ -25,7 +25,8 @@ impl Terns64 {
 }
 
 impl Signal for Terns64 {
-    ghost use Rattle.judge_boxes.specs.{Terns.terns_rails, Terns.terns_sound, Spans.span_ends};
+    ghost use Rattle.judge_boxes.specs.{Terns.terns_rails, Spans.span_ends};
+    ghost use Rattle.judge_boxes.specs.{TernLaws.terns_sound};
 
     type Span = Spans64;
 

@@ -2,7 +2,8 @@
 use Rattle.std.proofs.Common.{◌≡◌, ℕ, Bool, List, length, ◌∙◌, ap, arith}
 use Rattle.model_history.specs.Rails.{Rails}
 use Rattle.run_signal.specs.declared.tern.Tern.{Tern}
-use Rattle.run_waves.specs.{FirstTick.first_on, FirstTick.first_on-same}
+use Rattle.run_waves.specs.{FirstTick.first_on}
+use Rattle.run_waves.specs.{FirstTickLaws.first_on-same}
 use Rattle.run_waves.specs.{Waves.wave_at, Waves.IsWaveOf}
 
 -- the first tick of a wave on a rail is that of its values

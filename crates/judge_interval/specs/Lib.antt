@@ -1,3 +1,4 @@
 pub mod PairWavesOf
 pub mod Rules
+pub mod RuleLaws
 pub mod Spans

@@ -1,11 +1,8 @@
 -- The rule that is answered, and the deadlines that it asks for.
-use Rattle.std.specs.Prelude.{◌≡◌, ◌<◌, ℕ, suc, Bool, not, if◌then◌else◌}
-use Rattle.std.proofs.Common.{◌∙◌, ap}
-use Rattle.model_history.specs.{Elements.some_below, Rails.Rails}
+use Rattle.std.specs.Prelude.{◌<◌, ℕ, suc, Bool, not, if◌then◌else◌}
 use Rattle.model_line.specs.declared.script.Kind.TheVariants.{Internal, External}
 use Rattle.model_line.specs.declared.script.Kind.{Kind}
 use Rattle.model_logic.specs.Rule as of_line
-use Rattle.model_logic.specs.Rule.{rule_by}
 use Rattle.judge_interval.specs.declared.rule.Rule.{Rule}
 use Rattle.judge_interval.specs.declared.rule.Rule.TheVariants.{Held, Broken, Unknown}
 
@@ -31,18 +28,3 @@ rule_from Internal must may =
     if must then of_line.Held else (if not may then of_line.Broken else of_line.Unknown)
 rule_from External must may =
     if not may then of_line.Held else (if must then of_line.Broken else of_line.Unknown)
-
--- by the two rails it is the rule of the model
-pub rule_by_rails : (kind : Kind) (deadline horizon : ℕ) (trip : ℕ → Rails) (must may : Bool)
-    → must ≡ some_below (λ t. (trip t).must) (counted_ticks kind deadline horizon)
-    → may ≡ some_below (λ t. (trip t).may) (counted_ticks kind deadline horizon)
-    → rule_from kind must may ≡ rule_by kind deadline horizon trip
-unfolding rule_by
-rule_by_rails Internal deadline horizon trip must may is_must is_may =
-    ap (λ (b : Bool). rule_from Internal b may) is_must
-    ∙ ap (rule_from Internal
-    (some_below (λ t. (trip t).must) (counted_ticks Internal deadline horizon))) is_may
-rule_by_rails External deadline horizon trip must may is_must is_may =
-    ap (λ (b : Bool). rule_from External b may) is_must
-    ∙ ap (rule_from External
-    (some_below (λ t. (trip t).must) (counted_ticks External deadline horizon))) is_may

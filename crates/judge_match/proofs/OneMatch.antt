@@ -2,7 +2,8 @@
 use Rattle.std.proofs.Common.{◌≡◌, ℕ, ◌<◌, Bool, true, false, refl, sym, ◌∙◌, ap, subst, arith}
 use Rattle.std.proofs.Common.{⊎_elim}
 use Rattle.std.proofs.lemmas.Bool.{cases_lt}
-use Rattle.run_signal.specs.{declared.tern.Tern.Tern, Terns.tern_once}
+use Rattle.run_signal.specs.{declared.tern.Tern.Tern}
+use Rattle.run_signal.specs.{TernLaws.tern_once}
 use Rattle.model_line.specs.{declared.line.Line.Line, declared.script.Script.Script}
 use Rattle.model_timing.specs.Candidates.{candidate}
 use Rattle.cert_check.specs.Firsts.{IsFirstFailing}

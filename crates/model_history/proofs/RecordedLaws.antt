@@ -2,7 +2,8 @@
 use Rattle.std.proofs.Common.{◌≡◌, ℕ, zero, suc, ◌<◌, Bool, false, List, [], ◌∷◌, ◌++◌, length}
 use Rattle.std.proofs.Common.{refl, arith, ◌∙◌, ap}
 use Rattle.model_history.specs.Elements.{SameUpTo}
-use Rattle.model_history.specs.{Recorded.at, Recorded.first_ticks, FirstTicks.get_or-first_ticks}
+use Rattle.model_history.specs.{Recorded.at, Recorded.first_ticks}
+use Rattle.model_history.specs.{FirstTickLaws.get_or-first_ticks}
 
 -- the ticks that a list was recorded from are the list
 pub first_ticks-cons : (u : ℕ → Bool) (n : ℕ) →

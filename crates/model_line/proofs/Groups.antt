@@ -4,8 +4,8 @@ use Rattle.std.proofs.Common.{Some, None, sym, ap, ◌∙◌, arith, length-appe
 use Rattle.std.proofs.lemmas.List.{drop_more}
 use Rattle.std.specs.Prelude.{option_map, is_some}
 use Rattle.std.specs.List.{flat_map, position_from}
-use Rattle.model_line.specs.FirstPositions.{is_some-position, position_from-later, position_within}
-use Rattle.model_line.specs.FirstPositions.{position_from-append_some, position_from-append_none}
+use Rattle.model_line.specs.FirstPositionLaws.{is_some-position, position_from-later, position_within}
+use Rattle.model_line.specs.FirstPositionLaws.{position_from-append_some, position_from-append_none}
 
 -- the next list, and then those after it
 next_group :

@@ -1,6 +1,6 @@
 pub mod Channels
 pub mod DelayLaws
-pub mod FirstPositions
+pub mod FirstPositionLaws
 pub mod Fits
 pub mod Intervals
 pub mod Making

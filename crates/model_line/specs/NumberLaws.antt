@@ -8,14 +8,14 @@ use Rattle.model_line.specs.Settings.{OwnedSetting, owned_by, settings_of_termin
 use Rattle.model_line.specs.Settings.{settings_of_channels, channel_settings, line_settings}
 use Rattle.model_line.specs.Settings.{is_owned_setting, same_owner, same_setting, setting_number}
 use Rattle.model_line.specs.Parameters.{param_number, param_count}
-use Rattle.model_line.specs.FirstPositions.{is_some-position, list_any-append_left}
-use Rattle.model_line.specs.FirstPositions.{list_any-append_right}
+use Rattle.model_line.specs.FirstPositionLaws.{is_some-position, list_any-append_left}
+use Rattle.model_line.specs.FirstPositionLaws.{list_any-append_right}
 use Rattle.model_line.specs.declared.line.Setting.TheVariants.{Delay}
 use Rattle.model_line.specs.{declared.line.Line.Line, declared.line.Scheme.TheVariants.Pott}
 use Rattle.model_line.specs.{declared.line.Channel.Channel, declared.line.Scheme.Scheme}
 use Rattle.model_line.specs.{declared.line.Owner.Owner, declared.line.Setting.Setting}
 use Rattle.model_line.specs.declared.line.Owner.TheVariants as owner
-pub use Rattle.model_line.specs.FirstPositions.{position_within}
+pub use Rattle.model_line.specs.FirstPositionLaws.{position_within}
 
 pub same_owner-refl : (o : Owner) → same_owner o o ≡ true
 same_owner-refl (owner.Terminal k) = eq-eqb k k refl

@@ -8,8 +8,8 @@ use Rattle.model_line.specs.Settings.{OwnedSetting, owned_by, settings_of_termin
 use Rattle.model_line.specs.Settings.{settings_of_channels, terminal_settings, channel_settings}
 use Rattle.model_line.specs.Settings.{line_settings, is_owned_setting, same_owner, same_setting}
 use Rattle.model_line.specs.Settings.{setting_number, setting_place}
-use Rattle.model_line.specs.FirstPositions.{list_any-append_false, position_from-append_none}
-use Rattle.model_line.specs.FirstPositions.{position_from-none_behind, position_from-later}
+use Rattle.model_line.specs.FirstPositionLaws.{list_any-append_false, position_from-append_none}
+use Rattle.model_line.specs.FirstPositionLaws.{position_from-none_behind, position_from-later}
 use Rattle.model_line.specs.NumberLaws.{same_owner-refl, length-owned_by}
 use Rattle.model_line.specs.Parameters.{param_number}
 use Rattle.model_line.specs.{declared.line.Line.Line, declared.line.Scheme.Scheme}

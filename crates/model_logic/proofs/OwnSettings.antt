@@ -7,8 +7,8 @@ use Rattle.std.specs.Prelude.{unwrap_or, is_some}
 use Rattle.std.specs.List.{list_any}
 use Rattle.model_line.specs.Settings.{settings_of_terminals, channel_settings, terminal_settings}
 use Rattle.model_line.specs.Settings.{groups_with, all_of, same_setting, setting_place}
-use Rattle.model_line.specs.FirstPositions.{is_some-position, list_any-append_left}
-use Rattle.model_line.specs.FirstPositions.{list_any-append_right}
+use Rattle.model_line.specs.FirstPositionLaws.{is_some-position, list_any-append_left}
+use Rattle.model_line.specs.FirstPositionLaws.{list_any-append_right}
 use Rattle.model_line.specs.Parameters.{param_number, terminal_count}
 use Rattle.model_line.specs.PositionLaws.{terminal_number, channel_number_of}
 use Rattle.model_line.specs.{declared.line.Line.Line, declared.line.Terminal.Terminal}

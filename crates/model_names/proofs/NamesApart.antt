@@ -15,8 +15,8 @@ use Rattle.std.specs.Str.{bytes_eq}
 use Rattle.model_line.specs.PlainNames.{is_plain_byte, is_plain_name}
 use Rattle.model_line.specs.ParamNames.{name_at, pair_name, setting_text, dotted, terminal_names}
 use Rattle.model_line.specs.ParamNames.{channel_names}
-use Rattle.model_line.specs.FirstPositions.{position_from-first, position_from-none, none_before}
-use Rattle.model_line.specs.FirstPositions.{list_any-take_none}
+use Rattle.model_line.specs.FirstPositionLaws.{position_from-first, position_from-none, none_before}
+use Rattle.model_line.specs.FirstPositionLaws.{list_any-take_none}
 use Rattle.model_line.specs.Channels.{is_pair, from_of, to_of}
 use Rattle.model_line.specs.Settings.{terminal_settings, channel_settings}
 use Rattle.model_line.specs.ParamNameLaws.{name_at-get, names_of_line}

@@ -10,8 +10,8 @@ use denote.Enum.Bare.{same_true}
 use Rattle.model_line.specs.Settings.{OwnedSetting, line_settings, settings_of_terminals}
 use Rattle.model_line.specs.Settings.{terminal_settings, groups_with, all_of, is_owned_setting}
 use Rattle.model_line.specs.Settings.{same_setting, same_owner, setting_place}
-use Rattle.model_line.specs.FirstPositions.{is_some-position, list_any-append_left}
-use Rattle.model_line.specs.FirstPositions.{list_any-append_right}
+use Rattle.model_line.specs.FirstPositionLaws.{is_some-position, list_any-append_left}
+use Rattle.model_line.specs.FirstPositionLaws.{list_any-append_right}
 use Rattle.model_line.specs.Parameters.{param_number, terminal_count}
 use Rattle.model_line.specs.{contracts.line.Setting.the_type, declared.line.Line.Line}
 use Rattle.model_line.specs.{declared.line.Terminal.Terminal, declared.line.Owner.Owner}

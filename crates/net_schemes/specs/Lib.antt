@@ -1,4 +1,5 @@
 pub mod Echoes
 pub mod Gathering
+pub mod GatheringLaws
 pub mod LocalGates
 pub mod Outputs

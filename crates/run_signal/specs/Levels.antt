@@ -1,19 +1,9 @@
 -- The rails of a level.
-use Rattle.std.specs.Prelude.{◌≡◌, true, false, refl}
-use Rattle.model_history.specs.Rails.{Rails, IsSound, both}
+use Rattle.std.specs.Prelude.{true, false}
+use Rattle.model_history.specs.Rails.{Rails, both}
 use Rattle.run_signal.specs.declared.level.Level.{Level}
 use Rattle.run_signal.specs.declared.level.Level.TheVariants.{Off, On}
 
 abbrev pub level_rails : Level → Rails
 level_rails Off = both false
 level_rails On = both true
-
--- what must be may be
-pub level_sound : (x : Level) → IsSound (level_rails x)
-level_sound Off on = on
-level_sound On on = on
-
--- both rails are the same
-pub one_rail : (x : Level) → (level_rails x).must ≡ (level_rails x).may
-one_rail Off = refl
-one_rail On = refl

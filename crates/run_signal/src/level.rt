@@ -14,7 +14,8 @@ pub enum Level {
 
 impl Signal for Level {
     ghost use Rattle.model_history.specs.Rails.{single};
-    ghost use Rattle.run_signal.specs.Levels.{level_rails, level_sound};
+    ghost use Rattle.run_signal.specs.Levels.{level_rails};
+    ghost use Rattle.run_signal.specs.LevelLaws.{level_sound};
 
     type Span = Tick;
 

@@ -35,7 +35,8 @@ impl Tern {
 }
 
 impl Signal for Tern {
-    ghost use Rattle.run_signal.specs.Terns.{tern_rails, tern_sound};
+    ghost use Rattle.run_signal.specs.Terns.{tern_rails};
+    ghost use Rattle.run_signal.specs.TernLaws.{tern_sound};
 
     type Span = Within;
 

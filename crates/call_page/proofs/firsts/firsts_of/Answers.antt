@@ -3,7 +3,8 @@ use Rattle.std.specs.Prelude.{slice_get}
 use Rattle.model_history.specs.Rails.{Rails, must_of, may_of}
 use Rattle.model_line.specs.{declared.line.Line.Line, declared.script.Script.Script}
 use Rattle.judge_interval.specs.PairWavesOf.{pair_at}
-use Rattle.run_waves.specs.FirstTick.{first_on, first_on-same}
+use Rattle.run_waves.specs.FirstTick.{first_on}
+use Rattle.run_waves.specs.FirstTickLaws.{first_on-same}
 use Rattle.run_simulator.specs.ListLaws.{exists_at}
 use Rattle.call_page.proofs.firsts.firsts_of.Goals as goal
 

@@ -1,4 +1,4 @@
-use Rattle.file_comtrade.specs.Levels.{holds_once}
+use Rattle.file_comtrade.specs.LevelLaws.{holds_once}
 use Rattle.file_comtrade.proofs.laws.one_sample_holds.Goals as goal
 
 pub returns : goal.returns

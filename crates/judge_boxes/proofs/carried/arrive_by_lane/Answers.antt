@@ -2,7 +2,8 @@ use Rattle.std.proofs.Common.{◌≡◌, ◌≢◌, ◌<◌, ℕ, length, ◌∙
 use Rattle.model_history.specs.Rails.{Rails, Ends, IsSound, both, must_of, may_of, rails_at}
 use Rattle.model_history.specs.Rails.{rails_delayed}
 use Rattle.run_signal.specs.{Bits.bit_rails, Lanes.in_lane, Spans.ends_of}
-use Rattle.judge_boxes.specs.{Spans.span_ends, Terns.terns_rails, Terns.terns_sound}
+use Rattle.judge_boxes.specs.{Spans.span_ends, Terns.terns_rails}
+use Rattle.judge_boxes.specs.{TernLaws.terns_sound}
 use Rattle.judge_boxes.proofs.SentLaws.{by_bits}
 use Rattle.judge_boxes.proofs.carried.arrive_by_lane.Goals as goal
 

@@ -2,7 +2,8 @@ use Rattle.std.proofs.Common.{◌≡◌, ◌≤◌, ℕ, sym, ◌∙◌, ap, ari
 use Rattle.model_history.specs.{Elements.some_below, Rails.Rails}
 use Rattle.model_logic.specs.Rule.{rule_by}
 use Rattle.judge_interval.specs.PairWavesOf.{pair_at, pair_history}
-use Rattle.judge_interval.specs.Rules.{rule_named, counted_ticks, rule_by_rails}
+use Rattle.judge_interval.specs.Rules.{rule_named, counted_ticks}
+use Rattle.judge_interval.specs.RuleLaws.{rule_by_rails}
 use Rattle.judge_interval.proofs.rule.judge.Goals as goal
 
 pub returns-clause-rule : goal.returns-clause-rule

@@ -2,7 +2,7 @@ use Rattle.std.proofs.Common.{◌≡◌, ◌&&◌, ◌==◌, ◌+◌, true, fals
 use Rattle.std.proofs.Common.{ap, ◌∙◌, arith, eq-eqb}
 use Rattle.std.proofs.Math.Seq.{take-length}
 use Rattle.std.specs.List.{list_any}
-use Rattle.model_line.specs.FirstPositions.{position_from-first, position_from-none}
+use Rattle.model_line.specs.FirstPositionLaws.{position_from-first, position_from-none}
 use Rattle.model_line.specs.{declared.line.Channel.Channel, Channels.is_pair}
 use Rattle.model_line.proofs.channels.find_channel.Goals as goal
 
