@@ -1,6 +1,5 @@
 -- The first tick at which a signal is on rests on the ticks below a bound alone.
-use Rattle.std.specs.Prelude.{◌≡◌, ◌<◌, ◌∷◌, ◌++◌, ℕ, zero, suc, Bool, List}
-use Rattle.std.specs.Prelude.{refl}
+use Rattle.std.specs.Prelude.{◌≡◌, ◌<◌, ◌∷◌, ◌++◌, ℕ, zero, suc, Bool, List, [], refl}
 use Rattle.std.specs.List.{position}
 use Rattle.std.proofs.Common.{◌∙◌, ap, arith}
 use Rattle.model_history.specs.Recorded.{first_ticks}
