@@ -55,7 +55,7 @@ pub fn all_received(net: &mut NetBuilder, line: &Line, terminal: u32) -> Result<
 }
 
 // What a terminal receives from all others, joined in line order.
-#[tactic(auto, unfolding(model_logic::specs::Received::all_others), using(crate::specs::Gathering::gate_kept))]
+#[tactic(auto, unfolding(model_logic::specs::Received::all_others), using(crate::specs::GatheringLaws::gate_kept))]
 fn others_received(
     net: &mut NetBuilder,
     line: &Line,

@@ -27,7 +27,7 @@ pub fn dcub(net: &mut NetBuilder, line: &Line, terminal: u32, local: &Local) -> 
 }
 
 // Whether each other terminal permits.
-#[tactic(auto, unfolding(model_logic::specs::Unblocking::all_open, model_logic::specs::Received::all_others), using(crate::specs::Gathering::gate_kept))]
+#[tactic(auto, unfolding(model_logic::specs::Unblocking::all_open, model_logic::specs::Received::all_others), using(crate::specs::GatheringLaws::gate_kept))]
 fn all_open(net: &mut NetBuilder, line: &Line, terminal: u32) -> Result<GateId, Memory>
     requires exists { terminal < terminal_count line.now }
     requires room { HasRoom net.old 67 }
