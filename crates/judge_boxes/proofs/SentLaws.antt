@@ -1,9 +1,11 @@
 -- What is received, delay by delay.
 use Rattle.std.proofs.Common.{◌≡◌, ◌≤◌, ◌<◌, ◌+◌, ◌||◌, ◌&&◌, ℕ, zero, suc, Bool, true, false, List}
 use Rattle.std.proofs.Common.{[], ◌∷◌, length, get_or, refl, sym, ◌∙◌, ap, arith}
+use Rattle.std.proofs.Common.{Some}
 use Rattle.std.proofs.lemmas.List.{get_or-map}
+use Rattle.std.proofs.lemmas.Option.{slice_get_within, get_or_from_slice_get}
 use Rattle.std.proofs.lemmas.Bool.{lt-ltb, le-ltb, lt-leb, le-leb}
-use Rattle.std.specs.Prelude.{nat_lt, nat_le}
+use Rattle.std.specs.Prelude.{nat_lt, nat_le, slice_get}
 use Rattle.model_history.specs.Elements.{every_below, some_below, delayed}
 use Rattle.model_history.specs.Rails.{Rails, IsSound, both, rails_at, rails_delayed}
 use Rattle.model_history.specs.Laws.{DelaysStaySound}
@@ -56,9 +58,15 @@ some_more u least t c low =
     ∙ ap (some_from u least t) (sym next)
 
 -- the rails of what was sent
-pub sent_at : (sent : List Terns64) (lane r : ℕ) (d : Terns64) → r < length sent
+sent_at : (sent : List Terns64) (lane r : ℕ) (d : Terns64) → r < length sent
     → rails_at (in_lane terns_rails lane sent) r ≡ terns_rails (get_or sent r d) lane
 sent_at sent lane r d h = get_or-map (λ v. terns_rails v lane) sent r d (both false) h
+
+pub sent_is : (sent : List Terns64) (lane r : ℕ) (x : Terns64) → slice_get sent r ≡ Some x
+    → rails_at (in_lane terns_rails lane sent) r ≡ terns_rails x lane
+sent_is sent lane r x at =
+    sent_at sent lane r x (slice_get_within sent r x at)
+    ∙ ap (λ v. terns_rails v lane) (get_or_from_slice_get sent r x x at)
 
 sent_sound : (sent : List Terns64) (lane r : ℕ)
     → IsSound (rails_at (in_lane terns_rails lane sent) r)

@@ -9,11 +9,11 @@ ghost use Rattle.judge_boxes.specs.{Spans.span_ends, Sent.must_before, Sent.may_
 use crate::spans::Spans64;
 use crate::terns::Terns64;
 use model_history::delay_laws::{delays_stay_sound, one_delay_reads_one_tick};
-use run_channel::Carried;
+use run_channel::{Carried, Track};
 use run_signal::{Lanes64, Signal};
 
 impl Carried for Terns64 {
-    fn arrive(sent: &[Terns64], delay: &Spans64) -> Terns64 {
+    fn arrive(sent: &Track<Terns64>, delay: &Spans64) -> Terns64 {
         if delay.is_alike() {
             arrive_alike(sent, delay.least_in(0), delay.greatest_in(0))
         } else {
@@ -23,14 +23,14 @@ impl Carried for Terns64 {
 }
 
 // What is received where each lane has this span: one look at a key for each delay in it.
-fn arrive_alike(sent: &[Terns64], least: u32, greatest: u32) -> Terns64
+fn arrive_alike(sent: &Track<Terns64>, least: u32, greatest: u32) -> Terns64
     requires later { 1 ≤ least }
     requires ordered { least ≤ greatest }
     requires limited { greatest ≤ 4000 }
     ensures { (lane : ℕ) → lane < 64 →
         terns_rails result lane
-        ≡ rails_delayed (rails_at (in_lane terns_rails lane sent.now)) (ends_of least greatest)
-        (length sent.now) }
+        ≡ rails_delayed (rails_at (in_lane terns_rails lane sent.now.keys)) (ends_of least greatest)
+        (length sent.now.keys) }
 {
     delays_stay_sound();
     let mut must = Lanes64::known(true);
@@ -44,29 +44,28 @@ fn arrive_alike(sent: &[Terns64], least: u32, greatest: u32) -> Terns64
 }
 
 // The key so many ticks ago; off where there is none.
-fn key_before(sent: &[Terns64], c: u32) -> Terns64
+fn key_before(sent: &Track<Terns64>, c: u32) -> Terns64
     requires { 1 ≤ c }
     ensures must { (lane : ℕ) → lane < 64 →
-        (terns_rails result lane).must ≡ must_before sent.now lane c }
+        (terns_rails result lane).must ≡ must_before sent.now.keys lane c }
     ensures may { (lane : ℕ) → lane < 64 →
-        (terns_rails result lane).may ≡ may_before sent.now lane c }
+        (terns_rails result lane).may ≡ may_before sent.now.keys lane c }
 {
     one_delay_reads_one_tick();
-    let c = c as usize;
     if c <= sent.len() {
-        sent[sent.len() - c]
+        sent.at(sent.len() - c)
     } else {
         Terns64::known(false)
     }
 }
 
 // What is received where each lane has its own span.
-fn arrive_by_lane(sent: &[Terns64], delay: &Spans64) -> Terns64
+fn arrive_by_lane(sent: &Track<Terns64>, delay: &Spans64) -> Terns64
     requires later { (lane : ℕ) → lane < 64 → 1 ≤ (span_ends delay.now lane).least }
     ensures { (lane : ℕ) → lane < 64 →
         terns_rails result lane
-        ≡ rails_delayed (rails_at (in_lane terns_rails lane sent.now)) (span_ends delay.now lane)
-        (length sent.now) }
+        ≡ rails_delayed (rails_at (in_lane terns_rails lane sent.now.keys)) (span_ends delay.now lane)
+        (length sent.now.keys) }
 {
     let mut must = Lanes64::known(false);
     let mut may = Lanes64::known(false);

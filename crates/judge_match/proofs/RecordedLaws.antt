@@ -21,31 +21,29 @@ rails_of x = level_rails x
 abbrev on : List Level → ℕ → Bool
 on levels t = (rails_at (in_lane (λ x _. level_rails x) 0 levels) t).must
 
-module _ (levels new : List Level) (x : Level) (n : ℕ) (is : new ≡ levels ++ replicate n x) where
-  pub long : length new ≡ length levels + n
-  long =
-      ap length is ∙ length-append levels (replicate n x)
-      ∙ ap (λ (k : ℕ). length levels + k) (length-replicate n x)
+module _ (levels new : List Level) (x : Level) (n : ℕ)
+    (is : in_lane (λ y _. level_rails y) 0 new
+    ≡ in_lane (λ y _. level_rails y) 0 levels ++ replicate n (level_rails x)) where
+  on_is : (t : ℕ) → on new t
+      ≡ (rails_at (in_lane (λ y _. level_rails y) 0 levels ++ replicate n (level_rails x)) t).must
+  on_is t = ap (λ (l : List Rails). (rails_at l t).must) is
 
   pub on_before : (t : ℕ) → t < length levels → on new t ≡ on levels t
   on_before t lt =
       let count = length-map levels rails_of in
-      ap (λ (l : List Level). on l t) is
-      ∙ ap (λ (l : List Rails). (rails_at l t).must) (map-append rails_of levels (replicate n x))
-      ∙ ap must_of (get_or_append_left (map rails_of levels) (map rails_of (replicate n x))
-      (both false) t (omega arith))
+      on_is t
+      ∙ ap must_of (get_or_append_left (map rails_of levels) (replicate n (level_rails x))
+      (both false) t (omega (arith, count, lt)))
 
   pub on_after : (t : ℕ) → length levels ≤ t → t < length levels + n
       → on new t ≡ (level_rails x).must
   on_after t low high =
-      let less : t - length levels < n = omega arith in
-      let inside : t < length new = omega (arith, long) in
-      ap must_of
-      (get_or-map rails_of new t x (both false) inside
-      ∙ ap rails_of
-      (ap (λ (l : List Level). get_or l t x) is
-      ∙ get_or-append_right levels (replicate n x) (length levels) t x refl low
-      ∙ get_or-replicate n (t - length levels) x x less))
+      let less : t - length levels < n = omega (arith, low, high) in
+      on_is t
+      ∙ ap must_of
+      (get_or-append_right (map rails_of levels) (replicate n (level_rails x)) (length levels) t
+      (both false) (length-map levels rails_of) low
+      ∙ get_or-replicate n (t - length levels) (level_rails x) (both false) less)
 
 -- ---- one track more
 

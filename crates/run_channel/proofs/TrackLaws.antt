@@ -3,20 +3,18 @@ use Rattle.std.proofs.Common.{◌≡◌, ◌⊎◌, ℕ, zero, suc, ◌+◌, ◌
 use Rattle.std.proofs.Common.{length, Some, refl, sym, ◌∙◌, ap, arith, inl, inr, ⊎_elim, subst}
 use Rattle.std.proofs.Common.{length-append, replicate, append_assoc, leb, leb-true, get_or}
 use Rattle.std.proofs.lemmas.List.{append-nil, replicate_more, length-replicate}
+use Rattle.std.proofs.lemmas.List.{replicate-append-replicate, get_or_append_left, map-append}
+use Rattle.std.proofs.lemmas.List.{get_or-append_right, get_or-replicate}
 use Rattle.std.proofs.lemmas.List.Sorted.{IsPartitionedBy-leb}
 use Rattle.std.proofs.lemmas.Bool.{cases_lt, leb-false}
 use Rattle.std.proofs.lemmas.Option.{slice_get-map, get_or_from_slice_get, slice_get-get_or}
 use Rattle.std.proofs.lemmas.Option.{slice_get_within}
 use Rattle.std.specs.List.Sorted.{IsPartitionedBy, IsPartitionPoint}
-use Rattle.std.specs.Prelude.{slice_get, option_map, true, false, Bool, not, IsTrue, IsFalse}
+use Rattle.std.specs.Prelude.{slice_get, option_map, map, true, false}
 use Rattle.model_history.specs.Rails.{Rails, Ends, rails_at, both}
 use Rattle.run_signal.specs.Lanes.{in_lane}
 use Rattle.run_channel.specs.Tracks.{IsOneOf, AreAscending, ChangeAt, IsTrack, IsLast, IsNextAfter}
-use Rattle.run_channel.specs.Tracks.{StaysUntil, IsSteadySince}
-
-pub denied : (b : Bool) → IsFalse (not b) → IsTrue b
-denied true h = refl
-denied false h = absurd (cc)
+use Rattle.run_channel.specs.Tracks.{StaysUntil, IsSteadySince, IsHeld, all_values}
 
 -- an element of a list with one more
 pub get_pushed : {X : Type 0} (xs : List X) (x y : X) (i : ℕ) → slice_get xs i ≡ Some y
@@ -54,6 +52,65 @@ ascending_more numbers n up below i j a b order at_i at_j =
     (λ q. let e : a ≡ n = p.1 in let f : b ≡ n = q.1 in omega arith)
     (at_push numbers n b j at_j))
     (at_push numbers n a i at_i)
+
+-- ---- the values before the last change, and the last one
+
+map_replicate : {A B : Type 0} (f : A → B) (n : ℕ) (x : A)
+    → map f (replicate n x) ≡ replicate n (f x)
+map_replicate f zero x = refl
+map_replicate f (suc n) x =
+    let e : suc n ≡ n + 1 = omega arith in
+    ap (λ (k : ℕ). map f (replicate k x)) e
+    ∙ ap (map f) (sym (replicate_more n x))
+    ∙ map-append f (replicate n x) (x ∷ [])
+    ∙ ap (λ (l : List _). l ++ f x ∷ []) (map_replicate f n x)
+    ∙ replicate_more n (f x)
+    ∙ ap (λ (k : ℕ). replicate k (f x)) (sym e)
+
+module _ {V : Type 0} (values : List V) (last : V) (len : ℕ) where
+  pub all_long : length values ≤ len - 1 → length (all_values values last len) ≡ len
+  all_long before =
+      let long : length (all_values values last len)
+      ≡ length values + length (replicate (len - length values) last) =
+      length-append values (replicate (len - length values) last) in
+      let left : length (replicate (len - length values) last) ≡ len - length values =
+      length-replicate (len - length values) last in
+      omega (arith, long, left, before)
+
+  pub read_before : (t : ℕ) (x : V) → slice_get values t ≡ Some x
+      → slice_get (all_values values last len) t ≡ Some x
+  read_before t x at =
+      let inside : t < length values = slice_get_within values t x at in
+      let long : length (all_values values last len)
+      ≡ length values + length (replicate (len - length values) last) =
+      length-append values (replicate (len - length values) last) in
+      slice_get-get_or (all_values values last len) t x (omega (arith, inside, long))
+      ∙ ap Some (get_or_append_left values (replicate (len - length values) last) x t inside
+      ∙ get_or_from_slice_get values t x x at)
+
+  pub read_after : (t : ℕ) → length values ≤ t → t < len
+      → slice_get (all_values values last len) t ≡ Some last
+  read_after t past inside =
+      let long : length (all_values values last len)
+      ≡ length values + length (replicate (len - length values) last) =
+      length-append values (replicate (len - length values) last) in
+      let left : length (replicate (len - length values) last) ≡ len - length values =
+      length-replicate (len - length values) last in
+      slice_get-get_or (all_values values last len) t last (omega (arith, long, left, past, inside))
+      ∙ ap Some (get_or-append_right values (replicate (len - length values) last)
+      (length values) t last refl past
+      ∙ get_or-replicate (len - length values) (t - length values) last last
+      (omega (arith, past, inside)))
+
+  -- many more of the last value
+  pub all_more : (count : ℕ) → length values ≤ len
+      → all_values values last (len + count) ≡ all_values values last len ++ replicate count last
+  all_more count few =
+      let e : len + count - length values ≡ (len - length values) + count = omega (arith, few) in
+      ap (λ (n : ℕ). values ++ replicate n last) e
+      ∙ ap (λ (l : List V). values ++ l)
+      (sym (replicate-append-replicate (len - length values) count last))
+      ∙ sym (append_assoc values (replicate (len - length values) last) (replicate count last))
 
 module _ {V : Type 0} (lanes : ℕ) (rails : V → ℕ → Rails) where
   pub rails_read : (values : List V) (n : ℕ) (x : V) (lane : ℕ) → slice_get values n ≡ Some x
@@ -356,6 +413,140 @@ module _ {V : Type 0} (lanes : ℕ) (rails : V → ℕ → Rails) where
       subst (λ (l : List V). IsTrack lanes rails l more noted cmore horizon) (same ∙ sym is)
       (filled (values ++ value ∷ []) value more noted cmore horizon n first
       (last_pushed values value) (omega (arith, long, fits))).0
+
+  -- ---- a track as it is held
+
+  -- until where the last change was it is as the values before
+  same_before : (values : List V) (last : V) (len lane r : ℕ) → r < length values
+      → rails_at (in_lane rails lane (all_values values last len)) r
+      ≡ rails_at (in_lane rails lane values) r
+  same_before values last len lane r lt =
+      let x : V = get_or values r last in
+      let at : slice_get values r ≡ Some x = slice_get-get_or values r last lt in
+      rails_read (all_values values last len) r x lane (read_before values last len r x at)
+      ∙ sym (rails_read values r x lane at)
+
+  pub stays_before : (values : List V) (last : V) (len t end lane : ℕ)
+      → length values ≤ len - 1
+      → StaysUntil (rails_at (in_lane rails lane values)) t (length values) end
+      → StaysUntil (rails_at (in_lane rails lane (all_values values last len))) t
+      (length (all_values values last len)) end
+  stays_before values last len t end lane before stays =
+      let long : length (all_values values last len) ≡ len = all_long values last len before in
+      let later : t < end = stays.later in
+      let limited : end ≤ length values = stays.limited in
+      record {
+        later = later;
+        limited = omega (arith, long, limited, before);
+        same = λ r low high.
+            same_before values last len lane r (omega arith)
+            ∙ stays.same r low high
+            ∙ sym (same_before values last len lane t (omega arith));
+      }
+
+  -- from the last change on it stays
+  pub stays_last : (values : List V) (last : V) (len t lane : ℕ) → length values ≤ len - 1
+      → length values ≤ t → t < len
+      → StaysUntil (rails_at (in_lane rails lane (all_values values last len))) t
+      (length (all_values values last len)) len
+  stays_last values last len t lane before past inside =
+      let long : length (all_values values last len) ≡ len = all_long values last len before in
+      record {
+        later = inside;
+        limited = omega (arith, long);
+        same = λ r low high.
+            rails_read (all_values values last len) r last lane
+            (read_after values last len r (omega arith) high)
+            ∙ sym (rails_read (all_values values last len) t last lane
+            (read_after values last len t past inside));
+      }
+
+  pub held_none : (last : V) (room croom horizon : ℕ) → horizon ≤ room → horizon ≤ croom
+      → horizon ≤ 4000 → IsHeld lanes rails [] last 0 room [] croom horizon
+  held_none last room croom horizon r cr short = record {
+    before = omega arith;
+    track = track_none room croom horizon r cr short;
+  }
+
+  -- it goes on with the last value
+  pub held_on : (values : List V) (last : V) (len room : ℕ) (changes : List ℕ)
+      (croom horizon count : ℕ) → 1 ≤ len → 1 ≤ count → len + count ≤ horizon
+      → IsHeld lanes rails values last len room changes croom horizon
+      → IsHeld lanes rails values last (len + count) room changes croom horizon
+  held_on values last len room changes croom horizon count begun some fits held =
+      let keys : List V = all_values values last len in
+      let before : length values ≤ len - 1 = held.before in
+      let long : length keys ≡ len = all_long values last len before in
+      let next : count ≡ suc (count - 1) = omega arith in
+      let is_last : IsLast lanes rails keys last = record {
+        n = len - 1;
+        count = omega (arith, long);
+        same = λ lane inside.
+            rails_read keys (len - 1) last lane
+            (read_after values last len (len - 1) before (omega arith));
+      } in
+      record {
+        before = omega (arith, before);
+        track =
+            track_filled keys (all_values values last (len + count)) last room room changes changes
+            croom croom horizon (count - 1) held.track (omega (arith, long, fits))
+            (all_more values last len count (omega (arith, before))
+            ∙ ap (λ (n : ℕ). keys ++ replicate n last) next)
+            (omega arith) (omega arith) (inl (refl, is_last));
+      }
+
+  pub sent_on : (values : List V) (last value : V) (len count lane : ℕ)
+      → length values ≤ len - 1 → rails last lane ≡ rails value lane
+      → in_lane rails lane (all_values values last (len + count))
+      ≡ in_lane rails lane (all_values values last len) ++ replicate count (rails value lane)
+  sent_on values last value len count lane before same =
+      ap (in_lane rails lane) (all_more values last len count (omega (arith, before)))
+      ∙ map-append (λ v. rails v lane) (all_values values last len) (replicate count last)
+      ∙ ap (λ (l : List Rails). in_lane rails lane (all_values values last len) ++ l)
+      (map_replicate (λ v. rails v lane) count last
+      ∙ ap (replicate count) same)
+
+  -- it turns to another value; the ticks before are written
+  all_turned : (keys : List V) (value : V) (len count : ℕ) → length keys ≡ len
+      → all_values keys value (len + count) ≡ keys ++ replicate count value
+  all_turned keys value len count long =
+      let left : len + count - length keys ≡ count = omega (arith, long) in
+      ap (λ (n : ℕ). keys ++ replicate n value) left
+
+  pub held_turned : (values keys : List V) (last value : V) (len room more : ℕ)
+      (changes noted : List ℕ) (croom cmore horizon count : ℕ) → 1 ≤ count
+      → len + count ≤ horizon → keys ≡ all_values values last len → room ≤ more
+      → noted ≡ changes ++ len ∷ [] → croom ≤ cmore
+      → IsHeld lanes rails values last len room changes croom horizon
+      → IsHeld lanes rails keys value (len + count) more noted cmore horizon
+  held_turned values keys last value len room more changes noted croom cmore horizon count some
+      fits is wider changed cwider held =
+      let long : length keys ≡ len = ap length is ∙ all_long values last len held.before in
+      let old : IsTrack lanes rails keys room changes croom horizon =
+      subst (λ (l : List V). IsTrack lanes rails l room changes croom horizon) (sym is) held.track in
+      let next : count ≡ suc (count - 1) = omega arith in
+      record {
+        before = omega (arith, long);
+        track =
+            track_filled keys (all_values keys value (len + count)) value room more changes noted
+            croom cmore horizon (count - 1) old (omega (arith, long, fits))
+            (all_turned keys value len count long
+            ∙ ap (λ (n : ℕ). keys ++ replicate n value) next)
+            wider cwider
+            (inr (changed ∙ ap (λ (n : ℕ). changes ++ n ∷ []) (sym long)));
+      }
+
+  pub sent_turned : (values keys : List V) (last value : V) (len count lane : ℕ)
+      → length values ≤ len - 1 → keys ≡ all_values values last len
+      → in_lane rails lane (all_values keys value (len + count))
+      ≡ in_lane rails lane (all_values values last len) ++ replicate count (rails value lane)
+  sent_turned values keys last value len count lane before is =
+      let long : length keys ≡ len = ap length is ∙ all_long values last len before in
+      ap (in_lane rails lane) (all_turned keys value len count long)
+      ∙ map-append (λ v. rails v lane) keys (replicate count value)
+      ∙ ap (λ (l : List Rails). in_lane rails lane keys ++ l)
+      (map_replicate (λ v. rails v lane) count value)
+      ∙ ap (λ (l : List V). in_lane rails lane l ++ replicate count (rails value lane)) is
 
 -- ---- the first change after a tick
 

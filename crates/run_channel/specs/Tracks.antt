@@ -1,5 +1,6 @@
 -- The values of a key or a trip, with the ticks at which they change.
-use Rattle.std.specs.Prelude.{◌≡◌, ◌<◌, ◌≤◌, ◌+◌, ◌-◌, ◌⊎◌, ℕ, suc, List, Some, length, slice_get}
+use Rattle.std.specs.Prelude.{◌≡◌, ◌<◌, ◌≤◌, ◌+◌, ◌-◌, ◌⊎◌, ◌++◌, ℕ, suc, List, Some, length}
+use Rattle.std.specs.Prelude.{slice_get, replicate}
 use Rattle.model_history.specs.Rails.{Rails, Ends, rails_at}
 use Rattle.run_signal.specs.Lanes.{in_lane}
 
@@ -31,6 +32,16 @@ pub record IsTrack {V : Type 0} (lanes : ℕ) (rails : V → ℕ → Rails)
   pub inside : (i c : ℕ) → slice_get changes i ≡ Some c → c < length values
   pub ascending : AreAscending changes
   pub told : ChangeAt lanes rails changes values
+
+-- these values, and then the last one for the other ticks of so many
+abbrev pub all_values : {V : Type 0} → List V → V → ℕ → List V
+all_values values last len = values ++ replicate (len - length values) last
+
+-- a track as it is held: the values before the last change, and the last one
+pub record IsHeld {V : Type 0} (lanes : ℕ) (rails : V → ℕ → Rails) (values : List V) (last : V)
+    (len room : ℕ) (changes : List ℕ) (changes_room horizon : ℕ) : Type 0 where
+  pub before : length values ≤ len - 1
+  pub track : IsTrack lanes rails (all_values values last len) room changes changes_room horizon
 
 -- the last of the values is this one in each lane
 pub record IsLast {V : Type 0} (lanes : ℕ) (rails : V → ℕ → Rails) (values : List V) (value : V)

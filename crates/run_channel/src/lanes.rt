@@ -5,17 +5,17 @@ ghost use Rattle.std.specs.Prelude.{◌≡◌, ◌<◌, ◌≤◌, ℕ, length, 
 ghost use Rattle.model_history.specs.Rails.{single, rails_at, rails_delayed};
 ghost use Rattle.run_signal.specs.{Bits.bit_on, Bits.bit_rails, Lanes.in_lane};
 
-use crate::Carried;
+use crate::{Carried, Track};
 use model_history::delay_laws::one_delay_reads_one_tick;
 use run_signal::{Lanes64, Signal, Ticks64};
 
 impl Carried for Lanes64 {
-    fn arrive(sent: &[Lanes64], delay: &Ticks64) -> Lanes64 {
+    fn arrive(sent: &Track<Lanes64>, delay: &Ticks64) -> Lanes64 {
         let mut received = Lanes64::known(false);
         let mut left = Lanes64::known(true);
         let mut lane = 0;
         'next_delay: while lane < 64 {
-            let c = Lanes64::least(delay, lane) as usize;
+            let c = Lanes64::least(delay, lane);
             let alike = Lanes64::alike(delay, lane);
             received = chosen(alike, key_before(sent, c), received);
             left = left.without(alike);
@@ -26,15 +26,15 @@ impl Carried for Lanes64 {
 }
 
 // The key so many ticks ago; off where there is none.
-fn key_before(sent: &[Lanes64], c: usize) -> Lanes64
+fn key_before(sent: &Track<Lanes64>, c: u32) -> Lanes64
     requires { 1 ≤ c }
     ensures { (lane : ℕ) → lane < 64 →
         bit_rails result lane
-        ≡ rails_delayed (rails_at (in_lane bit_rails lane sent.now)) (single c) (length sent.now) }
+        ≡ rails_delayed (rails_at (in_lane bit_rails lane sent.now.keys)) (single c) (length sent.now.keys) }
 {
     one_delay_reads_one_tick();
     if c <= sent.len() {
-        sent[sent.len() - c]
+        sent.at(sent.len() - c)
     } else {
         Lanes64::known(false)
     }

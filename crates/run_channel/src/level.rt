@@ -1,16 +1,16 @@
 //! What is received of a key that is known.
 #![tactic(auto)]
 
-use crate::Carried;
+use crate::{Carried, Track};
 use model_history::delay_laws::one_delay_reads_one_tick;
 use run_signal::{Level, Tick};
 
 impl Carried for Level {
-    fn arrive(sent: &[Level], delay: &Tick) -> Level {
+    fn arrive(sent: &Track<Level>, delay: &Tick) -> Level {
         one_delay_reads_one_tick();
-        let c = delay.value() as usize;
+        let c = delay.value();
         if c <= sent.len() {
-            sent[sent.len() - c]
+            sent.at(sent.len() - c)
         } else {
             Level::Off
         }

@@ -24,11 +24,11 @@ pub use track::Track;
 pub trait Carried: Signal {
     /// What is received at the tick after those at which these keys were sent, from tick 0 on,
     /// where what arrives at it was delayed by a number of ticks within this span.
-    fn arrive(sent: &[Self], delay: &Self::Span) -> Self
+    fn arrive(sent: &Track<Self>, delay: &Self::Span) -> Self
         requires later { (lane : ℕ) → lane < Self.LANES → 1 ≤ (Self.ends delay.now lane).least }
-        requires room { length sent.now < 4000 }
+        requires room { length sent.now.keys < 4000 }
         ensures { (lane : ℕ) → lane < Self.LANES →
             Self.rails result lane
-            ≡ rails_delayed (rails_at (in_lane Self.rails lane sent.now))
-            (Self.ends delay.now lane) (length sent.now) };
+            ≡ rails_delayed (rails_at (in_lane Self.rails lane sent.now.keys))
+            (Self.ends delay.now lane) (length sent.now.keys) };
 }

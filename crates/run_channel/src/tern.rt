@@ -6,16 +6,16 @@ ghost use Rattle.model_history.specs.Comes.{AllCome, SomeComes};
 ghost use Rattle.run_signal.specs.Spans.{ends_of};
 ghost use Rattle.run_channel.specs.Sent.{sent_must, sent_may};
 
-use crate::Carried;
+use crate::{Carried, Track};
 use model_history::delay_laws::{delays_are_their_facts, delays_stay_sound};
 use run_signal::{Signal, Tern, Within};
 
 impl Carried for Tern {
-    fn arrive(sent: &[Tern], delay: &Within) -> Tern {
+    fn arrive(sent: &Track<Tern>, delay: &Within) -> Tern {
         delays_are_their_facts();
         delays_stay_sound();
-        let least = delay.least() as usize;
-        let greatest = delay.greatest() as usize;
+        let least = delay.least();
+        let greatest = delay.greatest();
         Tern::from_rails(
             must_come(sent, least, greatest),
             may_come(sent, least, greatest),
@@ -24,14 +24,14 @@ impl Carried for Tern {
 }
 
 // Whether the key must have been on at every delay.
-fn must_come(sent: &[Tern], least: usize, greatest: usize) -> bool
+fn must_come(sent: &Track<Tern>, least: u32, greatest: u32) -> bool
     requires later { 1 ≤ least }
     requires limited { greatest ≤ 4000 }
     ensures { IsTrue result
-        ↔ AllCome (sent_must sent.now) (ends_of least greatest) (length sent.now) }
+        ↔ AllCome (sent_must sent.now.keys) (ends_of least greatest) (length sent.now.keys) }
 {
     for c in least..greatest + 1 {
-        if c > sent.len() || !sent[sent.len() - c].must(0) {
+        if c > sent.len() || !sent.at(sent.len() - c).must(0) {
             return false;
         }
     }
@@ -39,14 +39,14 @@ fn must_come(sent: &[Tern], least: usize, greatest: usize) -> bool
 }
 
 // Whether the key may have been on at some delay.
-fn may_come(sent: &[Tern], least: usize, greatest: usize) -> bool
+fn may_come(sent: &Track<Tern>, least: u32, greatest: u32) -> bool
     requires later { 1 ≤ least }
     requires limited { greatest ≤ 4000 }
     ensures { IsTrue result
-        ↔ SomeComes (sent_may sent.now) (ends_of least greatest) (length sent.now) }
+        ↔ SomeComes (sent_may sent.now.keys) (ends_of least greatest) (length sent.now.keys) }
 {
     for c in least..greatest + 1 {
-        if c <= sent.len() && sent[sent.len() - c].may(0) {
+        if c <= sent.len() && sent.at(sent.len() - c).may(0) {
             return true;
         }
     }

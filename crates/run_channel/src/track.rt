@@ -1,12 +1,12 @@
 //! The values of a signal, tick by tick, and the ticks at which they change.
 #![tactic(auto)]
 
-ghost use Rattle.std.specs.Prelude.{◌≡◌, ℕ, ◌<◌, ◌≤◌, ◌+◌, [], ◌∷◌, ◌++◌, length, IfOk, Some};
-ghost use Rattle.std.specs.Prelude.{slice_get, replicate, vec_capacity, IsTrue, IsFalse, ◌⊎◌};
+ghost use Rattle.std.specs.Prelude.{◌≡◌, ℕ, ◌<◌, ◌≤◌, ◌+◌, [], ◌++◌, length, IfOk, Some};
+ghost use Rattle.std.specs.Prelude.{slice_get, replicate, vec_capacity, IsTrue};
 ghost use Rattle.model_history.specs.Rails.{rails_at, rails_delayed};
 ghost use Rattle.run_signal.specs.Lanes.{in_lane};
 ghost use Rattle.run_channel.specs.SentKeys.{SentKeys};
-ghost use Rattle.run_channel.specs.Tracks.{IsLast, IsNextAfter, StaysUntil, AreAscending};
+ghost use Rattle.run_channel.specs.Tracks.{IsNextAfter, StaysUntil, AreAscending};
 ghost use Rattle.run_channel.specs.Tracks.{IsSteadySince};
 
 use crate::Carried;
@@ -19,10 +19,15 @@ use std::marker::Model;
 // How many ticks are looked at one by one.
 const FEW: u32 = 8;
 
-/// The values of a key or a trip from tick 0 on, with room up to a horizon. Contracts see both.
+/// The values of a key or a trip from tick 0 on, with room up to a horizon. Contracts see both. To
+/// go on with the same value costs nothing: the ticks since a change are written at the next one.
 #[derive(Drop)]
 pub struct Track<V: Signal> {
+    // Those before the last change, and the one from it on.
     values: Vec<V>,
+    last: V,
+    // How many ticks there are.
+    len: u32,
     // The ticks at which the value may differ from the one before, in order.
     changes: Vec<u32>,
     horizon: u32,
@@ -30,14 +35,17 @@ pub struct Track<V: Signal> {
 
 impl<V: Signal> Model for Track<V> {
     ghost use Rattle.std.specs.Prelude.{vec_capacity};
-    ghost use Rattle.run_channel.specs.{SentKeys.SentKeys, Tracks.IsTrack};
+    ghost use Rattle.run_channel.specs.{SentKeys.SentKeys, Tracks.IsHeld, Tracks.all_values};
 
     ghost Value = { SentKeys V };
 
-    ghost view = { λ a. record { keys = a.values.items; horizon = a.horizon } };
+    ghost view = { λ a. record {
+      keys = all_values a.values.items a.last a.len;
+      horizon = a.horizon;
+    } };
 
-    ghost invariant = { λ a. IsTrack V.LANES V.rails a.values.items (vec_capacity a.values)
-        a.changes.items (vec_capacity a.changes) a.horizon };
+    ghost invariant = { λ a. IsHeld V.LANES V.rails a.values.items a.last a.len
+        (vec_capacity a.values) a.changes.items (vec_capacity a.changes) a.horizon };
 }
 
 impl<V: Signal> Track<V> {
@@ -50,6 +58,8 @@ impl<V: Signal> Track<V> {
         let changes = Vec::with_capacity(alloc, horizon as usize)?;
         Ok(Track {
             values,
+            last: V::known(false),
+            len: 0,
             changes,
             horizon,
         })
@@ -60,7 +70,7 @@ impl<V: Signal> Track<V> {
         ensures length { result ≡ length self.now.keys }
         ensures limited { length self.now.keys ≤ 4000 }
     {
-        self.values.len() as u32
+        self.len
     }
 
     /// The value at a tick.
@@ -68,18 +78,32 @@ impl<V: Signal> Track<V> {
         requires { t < length self.now.keys }
         ensures { slice_get self.now.keys t ≡ Some result }
     {
-        self.values[t as usize]
+        let t = t as usize;
+        if t < self.values.len() {
+            return self.values[t];
+        }
+        self.last
     }
 
-    /// Appends so many ticks with this value.
+    /// Appends so many ticks with this value, or with one that is the same in each lane.
     pub fn push(&mut self, value: V, count: u32)
         requires some { 1 ≤ count }
         requires room { length self.old.keys + count ≤ self.old.horizon }
-        ensures keys { self.new.keys ≡ self.old.keys ++ replicate count value }
+        ensures keys { (lane : ℕ) → lane < V.LANES →
+            in_lane V.rails lane self.new.keys
+            ≡ in_lane V.rails lane self.old.keys ++ replicate count (V.rails value lane) }
+        ensures length { length self.new.keys ≡ length self.old.keys + count }
         ensures horizon { self.new.horizon ≡ self.old.horizon }
     {
-        note_change(&self.values, &mut self.changes, value);
-        fill_within(&mut self.values, value, count);
+        if goes_on::<V>(self.len, self.last, value) {
+            self.len += count;
+            return;
+        }
+        let more = self.len - self.values.len() as u32;
+        fill_within(&mut self.values, self.last, more);
+        self.changes.push_reserved(self.len);
+        self.last = value;
+        self.len += count;
     }
 
     /// Until when the values are those of this tick: the next change, or where the track ends. It
@@ -93,11 +117,14 @@ impl<V: Signal> Track<V> {
             StaysUntil (rails_at (in_lane V.rails lane self.now.keys)) t
             (length self.now.keys) result }
     {
+        if t as usize >= self.values.len() {
+            return self.len;
+        }
         let soon = same_until(&self.values, t);
         if soon < t + FEW {
             return soon;
         }
-        next_after(&self.changes, t, self.values.len() as u32)
+        next_after(&self.changes, t, self.len)
     }
 }
 
@@ -115,7 +142,7 @@ impl<V: Carried> Track<V> {
         if self.is_steady(delay) {
             return self.at(self.len() - 1);
         }
-        V::arrive(&self.values, delay)
+        V::arrive(self, delay)
     }
 
     // Whether there is one lane, and the key is the same since the greatest delay before the next
@@ -132,7 +159,7 @@ impl<V: Carried> Track<V> {
             return false;
         }
         let greatest = V::greatest(delay, 0);
-        let t = self.values.len() as u32;
+        let t = self.len;
         if t < greatest {
             return false;
         }
@@ -140,29 +167,13 @@ impl<V: Carried> Track<V> {
     }
 }
 
-// Notes the tick after these values if the value may differ from the last of them.
-fn note_change<V: Signal>(values: &[V], changes: &mut Vec<u32>, value: V)
-    requires short { length values.now < 4000 }
-    requires room { length changes.old.items < vec_capacity changes.old }
-    ensures noted { ((changes.new.items ≡ changes.old.items)
-        × IsLast V.LANES V.rails values.now value)
-        ⊎ (changes.new.items ≡ changes.old.items ++ length values.now ∷ []) }
-    ensures room { vec_capacity changes.old ≤ vec_capacity changes.new }
+// Whether there are ticks before, and the last of them has this value in each lane.
+fn goes_on<V: Signal>(len: u32, last: V, value: V) -> bool
+    ensures some { IsTrue result → 1 ≤ len }
+    ensures same { IsTrue result → (lane : ℕ) → lane < V.LANES →
+        V.rails last lane ≡ V.rails value lane }
 {
-    if changes_to(values, value) {
-        changes.push_reserved(values.len() as u32);
-    }
-}
-
-// Whether the value may differ from the last of these.
-fn changes_to<V: Signal>(values: &[V], value: V) -> bool
-    ensures { IsFalse result → IsLast V.LANES V.rails values.now value }
-{
-    let count = values.len();
-    if count == 0 {
-        return true;
-    }
-    !values[count - 1].same(value)
+    len > 0 && last.same(value)
 }
 
 // Until when the values are those of this tick, as far as the next few ticks tell.
@@ -192,10 +203,6 @@ fn fill_within<V: Copy>(list: &mut Vec<V>, value: V, count: u32)
     ensures items { list.new.items ≡ list.old.items ++ replicate count value }
     ensures room { vec_capacity list.old ≤ vec_capacity list.new }
 {
-    if count == 1 {
-        list.push_reserved(value);
-        return;
-    }
     let len = list.len() + count as usize;
     list.resize(len, value).unwrap();
 }

@@ -10,14 +10,14 @@ use Rattle.run_channel.specs.{SentKeys.SentKeys, Tracks.StaysUntil}
 use Rattle.model_line.specs.{declared.script.Script.Script, declared.line.Line.Line}
 use Rattle.model_line.specs.Parameters.{terminal_count}
 use Rattle.model_logic.specs.PairMean.{PairSignals}
-use Rattle.model_logic.specs.Choice.{Box, Choice, LeastFromOne, pair_world_of}
+use Rattle.model_logic.specs.Choice.{Box, Choice, LeastFromOne}
 use Rattle.model_logic.specs.Histories.{PairHistory, IsSameHistory, must_history}
-use Rattle.model_logic.specs.{Laws.LineLaws, Logic.key_tree, Solution.the_keys}
+use Rattle.model_logic.specs.{Laws.LineLaws}
 use Rattle.net_gates.specs.{NetLaws.GatesStandForTheirTrees, NetOf.NetOf, NetOf.IsNetOf}
 use Rattle.run_simulator.specs.Agreeing.{AgreeIn, AgreeBefore, AllAgreeIn, IsOnlyHistory}
 use Rattle.run_simulator.specs.Agreeing.{recorded_pairs}
 use Rattle.run_simulator.specs.Runs.{IsPoint, IsExactAt}
-use Rattle.run_simulator.specs.{GatePairs.line_pairs, PlayedTracks.played, Tracks.trips_of}
+use Rattle.run_simulator.specs.{PlayedTracks.played}
 use Rattle.run_simulator.specs.Tracks.{pair_of}
 use Rattle.run_simulator.proofs.PointLaws.{delays_from_one}
 use Rattle.run_simulator.proofs.UntilLaws.{solved_history, solved_exact}

@@ -1,6 +1,11 @@
 -- What arrives stays the same while the keys at both ends of the window do.
 use Rattle.std.proofs.Common.{◌≡◌, ℕ, zero, suc, ◌+◌, ◌-◌, ◌<◌, ◌≤◌, Bool, sym, ◌∙◌, ap, arith}
-use Rattle.std.proofs.Common.{⊎_elim, ◌⊎◌, subst}
+use Rattle.std.proofs.Common.{⊎_elim, ◌⊎◌, subst, Some, length, get_or}
+use Rattle.std.specs.Prelude.{slice_get}
+use Rattle.std.proofs.lemmas.Option.{slice_get-get_or}
+use Rattle.model_line.specs.Parameters.{channel_count, terminal_count}
+use Rattle.run_simulator.specs.{declared.moment.Moment.Moment, declared.delays.Delay.Delay}
+use Rattle.run_simulator.specs.Moments.{CanHear}
 use Rattle.std.proofs.lemmas.Bool.{cases_lt}
 use Rattle.std.proofs.lemmas.Bool.Decides.{Decides-like, same_from_decides}
 use Rattle.model_history.specs.Rails.{Rails, Ends, rails_delayed, must_of, may_of}
@@ -8,6 +13,18 @@ use Rattle.model_history.specs.{Comes.Comes, Comes.AllCome, Comes.SomeComes, Law
 use Rattle.run_simulator.specs.Quiet.{Keeps, EndKeeps, ArrivalKeeps}
 use Rattle.run_simulator.specs.Lasts.{ArrivesAs, EndLasts, IsHeldAs, RawLasts}
 use Rattle.run_simulator.proofs.QuietLaws.{keeps_fewer}
+
+-- a channel's delay is of a terminal that has a key
+pub sender_inside : {V S : Type 0} (lanes : ℕ) (ends : S → ℕ → Ends) (moment : Moment V S S)
+    (channel : ℕ) (x : Delay S) → CanHear lanes ends moment
+    → channel < channel_count moment.line.now
+    → (get_or moment.delays.now channel x).from < length moment.sent.now
+sender_inside lanes ends moment channel x can exists =
+    let d : Delay _ = get_or moment.delays.now channel x in
+    let at : slice_get moment.delays.now channel ≡ Some d =
+    slice_get-get_or moment.delays.now channel x (omega (arith, can.delays.count, exists)) in
+    let there : d.from < terminal_count moment.line.now = can.delays.from channel d at in
+    omega (arith, there, can.sent.count)
 
 -- what c ticks ago was at t is so at the next tick
 pub record StepsOn {A : Type 0} (u : ℕ → A) (c t : ℕ) : Type 0 where

@@ -1,9 +1,8 @@
 -- Keys that are sent, and what is received of them.
-use Rattle.std.proofs.Common.{◌≡◌, ℕ, suc, ◌+◌, ◌≤◌, List, [], ◌∷◌, ◌++◌, length, ◌∙◌, ap, ⊎_elim}
-use Rattle.std.proofs.Common.{arith, ◌<◌, length-append, Some, subst, replicate, zero, sym, refl}
+use Rattle.std.proofs.Common.{◌≡◌, ℕ, ◌+◌, ◌≤◌, List, [], ◌∷◌, ◌++◌, length, ◌∙◌, ap, ⊎_elim}
+use Rattle.std.proofs.Common.{arith, ◌<◌, length-append, Some, subst, replicate, sym}
 use Rattle.std.proofs.lemmas.Option.{slice_get-get_or, slice_get-map, get_or_from_slice_get}
-use Rattle.std.proofs.lemmas.List.{map-append, length-replicate, replicate_more}
-use Rattle.std.specs.Prelude.{slice_get, option_map, map, get_or}
+use Rattle.std.specs.Prelude.{slice_get, option_map, get_or}
 use Rattle.run_timers.specs.Stretches.{ElementsInAStretch}
 use Rattle.net_gates.specs.declared.gate.GateId.{GateId}
 use Rattle.run_simulator.specs.Ticks.{HasKeys, ValuesAgree, AreFresh, AreSent, KeysSent, HasSent}
@@ -51,18 +50,6 @@ received-is laws l keys t n c e is len same some =
     ∙ laws.delays_earlier.rails (rails_at (first_ticks keys t)) keys (λ _. e) t
     (λ r early late. laws.recordings.rails keys t r (omega arith))
 
-pub map_replicate : {A B : Type 0} (f : A → B) (n : ℕ) (x : A)
-    → map f (replicate n x) ≡ replicate n (f x)
-map_replicate f zero x = refl
-map_replicate f (suc n) x =
-    let e : suc n ≡ n + 1 = omega arith in
-    ap (λ (k : ℕ). map f (replicate k x)) e
-    ∙ ap (map f) (sym (replicate_more n x))
-    ∙ map-append f (replicate n x) (x ∷ [])
-    ∙ ap (λ (l : List _). l ++ f x ∷ []) (map_replicate f n x)
-    ∙ replicate_more n (f x)
-    ∙ ap (λ (k : ℕ). replicate k (f x)) (sym e)
-
 -- the number of a gate in a list
 pub number_read : (gates : List GateId) (k : ℕ) (d : GateId) → k < length gates
     → id_at gates k ≡ (get_or gates k d).0
@@ -71,25 +58,22 @@ number_read gates k d lt =
     (slice_get-map (λ (id : GateId). id.0) gates k
     ∙ ap (option_map (λ (id : GateId). id.0)) (slice_get-get_or gates k d lt))
 
--- so many more keys, all of one value
-pub sent_for : {V : Type 0} → ElementsInAStretch → (rails : V → ℕ → Rails) (lane : ℕ) (keys : PairSignals) (t n k : ℕ)
-    (old new : SentKeys V) (x : V) → new.keys ≡ old.keys ++ replicate n x
+-- so many more keys, all with the rails of one value
+pub sent_for : {V : Type 0} → ElementsInAStretch → (rails : V → ℕ → Rails) (lane : ℕ)
+    (keys : PairSignals) (t n k : ℕ) (old new : SentKeys V) (x : V)
+    → in_lane rails lane new.keys ≡ in_lane rails lane old.keys ++ replicate n (rails x lane)
     → ((r : ℕ) → t ≤ r → r < t + n → keys k r ≡ rails x lane)
     → HasSent rails lane keys t k old → HasSent rails lane keys (t + n) k new
 sent_for stretch rails lane keys t n k old new x pushed stays h =
-    ap (in_lane rails lane) pushed
-    ∙ map-append (λ v. rails v lane) old.keys (replicate n x)
-    ∙ ap (λ (l : List Rails). l ++ in_lane rails lane (replicate n x)) h
-    ∙ ap (λ (l : List Rails). first_ticks (keys k) t ++ l) (map_replicate (λ v. rails v lane) n x)
+    pushed
+    ∙ ap (λ (l : List Rails). l ++ replicate n (rails x lane)) h
     ∙ stretch.recorded (keys k) (rails x lane) t n stays
 
-pub keys_for : {V : Type 0} (horizon t n k : ℕ) (old new : SentKeys V) (x : V)
-    → new.keys ≡ old.keys ++ replicate n x → new.horizon ≡ old.horizon
+pub keys_for : {V : Type 0} (horizon t n k : ℕ) (old new : SentKeys V)
+    → length new.keys ≡ length old.keys + n → new.horizon ≡ old.horizon
     → HasKeys horizon t k old → HasKeys horizon (t + n) k new
-keys_for horizon t n k old new x pushed same h = (
-  ap length pushed ∙ length-append old.keys (replicate n x)
-      ∙ ap (λ (m : ℕ). m + length (replicate n x)) h.0
-      ∙ ap (λ (m : ℕ). t + m) (length-replicate n x),
+keys_for horizon t n k old new long same h = (
+  long ∙ ap (λ (m : ℕ). m + n) h.0,
   same ∙ h.1,
 )
 

@@ -57,7 +57,7 @@ pub fn fresh_cells<V: Timed>(
 {
     let mut cells = Vec::with_capacity(alloc, net.len() as usize)?;
     for i in 0..net.len() {
-        cells.push(fresh_cell::<V>(net.gate(GateId(i)), line, spans))?;
+        cells.push_reserved(fresh_cell::<V>(net.gate(GateId(i)), line, spans));
     }
     Ok(cells)
 }

@@ -4,7 +4,8 @@ ghost use Rattle.std.specs.Prelude.{◌≡◌, ◌+◌, ◌++◌, ◌<◌, IfOk,
 ghost use Rattle.std.specs.List.{filter};
 ghost use Rattle.model_line.specs.Seen.{is_of_place as place_of, is_of_loss as loss_of};
 ghost use Rattle.model_line.specs.declared.script.SeenSpan.{SeenSpan};
-ghost use Rattle.run_simulator.specs.Shown.{is_shown_by};
+ghost use Rattle.model_logic.specs.PairMean.{PairWorld};
+ghost use Rattle.run_simulator.specs.Shown.{IsShown, is_shown_by};
 ghost use Rattle.run_simulator.specs.ShownBy.{AreShownBy, AreStarts, HasSpansOf, shown_of};
 
 use model_line::{Memory, Place, Script, SeenSpan, What};
@@ -33,6 +34,26 @@ impl ShownBy {
     }
 }
 
+/// The spans that a gate shows; none is looked for where its kind shows none.
+pub fn spans_of<'a>(gate: &Gate, shown: &'a ShownBy, i: u32) -> &'a [SeenSpan]
+    requires inside { i + 1 < length shown.now.starts.items }
+    requires starts { AreStarts shown.now.spans.items shown.now.starts.items }
+    ensures { (w : PairWorld) → IsShown (shown_of shown.now i) w gate.now →
+        IsShown result.now w gate.now }
+{
+    match *gate {
+        Gate::Const(_) => &[],
+        Gate::Seen(_) => shown.of(i),
+        Gate::Loss(_) => shown.of(i),
+        Gate::Raw(_) => &[],
+        Gate::Not(_) => &[],
+        Gate::And(_, _) => &[],
+        Gate::Or(_, _) => &[],
+        Gate::Timer(_, _, _) => &[],
+        Gate::Seal(_, _) => &[],
+    }
+}
+
 /// The spans that each gate of a net shows. All memory is taken here.
 pub fn fresh_shown(alloc: Global, net: &Net, script: &Script) -> Result<ShownBy, Memory>
     ensures each { IfOk result (λ shown. HasSpansOf (length net.now.gates) shown) }
@@ -40,10 +61,10 @@ pub fn fresh_shown(alloc: Global, net: &Net, script: &Script) -> Result<ShownBy,
 {
     let mut spans = Vec::with_capacity(alloc, script.spans.len())?;
     let mut starts = Vec::with_capacity(alloc, net.len() as usize + 1)?;
-    starts.push(0)?;
+    starts.push_reserved(0);
     for i in 0..net.len() {
         list_shown(net.gate(GateId(i)), &script.spans, &mut spans)?;
-        starts.push(spans.len())?;
+        starts.push_reserved(spans.len());
     }
     Ok(ShownBy { spans, starts })
 }

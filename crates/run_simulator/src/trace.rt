@@ -11,7 +11,7 @@ use crate::look::look;
 use crate::marks::{next_marked, settle, wake_due};
 use crate::moment::Moment;
 use crate::readers::tell;
-use crate::shown_by::ShownBy;
+use crate::shown_by::{ShownBy, spans_of};
 use model_history::recorded_laws::recorded_ticks_suffice;
 use net_gates::{GateId, Net};
 use run_channel::Carried;
@@ -154,14 +154,15 @@ fn evaluate<V: Timed + Carried>(
         Lasts (p lane) (moment.now.t - 1) moment.now.t (due - moment.now.t) g }
 {
     let k = i as usize;
+    let gate = net.gate(GateId(i));
     let last = gates.column[k];
     let value = look::<V>(
-        net.gate(GateId(i)),
+        gate,
         &mut gates.cells[k],
         &mut gates.sinces[k],
         &mut gates.dues[k],
         &gates.column[..k],
-        shown.of(i),
+        spans_of(gate, shown, i),
         moment,
     );
     let due = gates.dues[k];

@@ -7,7 +7,7 @@ use Rattle.judge_boxes.proofs.carried.arrive_alike.Goals as goal
 
 pub loop-c-init : goal.loop-c-init
 loop-c-init c =
-    let sent = c.args.sent.now in
+    let sent = c.args.sent.now.keys in
     record {
       must = λ lane inside.
           ap must_of (c.known-must.ensures lane inside)
@@ -21,7 +21,7 @@ loop-c-init c =
 
 pub loop-c-preserved : goal.loop-c-preserved
 loop-c-preserved c =
-    let sent = c.args.sent.now in
+    let sent = c.args.sent.now.keys in
     let n : ℕ = c.loop-c.c in
     let low : c.args.least ≤ n = c.loop-c.auto.c in
     record {
@@ -45,6 +45,6 @@ loop-c-preserved c =
 pub returns : goal.returns
 returns c = λ lane inside.
     let end : c.loop-c.c ≡ c.args.greatest + 1 = omega arith in
-    all_received c.delays_stay_sound.ensures c.args.sent.now lane c.args.least c.args.greatest
+    all_received c.delays_stay_sound.ensures c.args.sent.now.keys lane c.args.least c.args.greatest
     c.loop-c.c c.loop-c.must c.loop-c.may c.requires.ordered end
     (c.loop-c.invariant.must lane inside) (c.loop-c.invariant.may lane inside)

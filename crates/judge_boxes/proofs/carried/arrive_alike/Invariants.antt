@@ -9,7 +9,7 @@ use Rattle.judge_boxes.proofs.carried.arrive_alike.Given as goal
 abbrev pub invariant-loop-c : goal.invariant-loop-c
 invariant-loop-c l = record {
   must : (lane : ℕ) → lane < 64 → bit_on l.must lane
-      ≡ all_from (λ r. (rails_at (in_lane terns_rails lane l.sent) r).must) l.least (length l.sent) l.c;
+      ≡ all_from (λ r. (rails_at (in_lane terns_rails lane l.sent.keys) r).must) l.least (length l.sent.keys) l.c;
   may : (lane : ℕ) → lane < 64 → bit_on l.may lane
-      ≡ some_from (λ r. (rails_at (in_lane terns_rails lane l.sent) r).may) l.least (length l.sent) l.c;
+      ≡ some_from (λ r. (rails_at (in_lane terns_rails lane l.sent.keys) r).may) l.least (length l.sent.keys) l.c;
 }

@@ -9,7 +9,7 @@ use Rattle.judge_boxes.proofs.carried.arrive_by_lane.Goals as goal
 
 pub loop-lane-preserved : goal.loop-lane-preserved
 loop-lane-preserved c =
-    let sent = c.args.sent.now in
+    let sent = c.args.sent.now.keys in
     let delay = c.args.delay.now in
     let i : ℕ = c.loop-lane.lane in
     let inside : i < 64 = c.loop-lane-test.true in
@@ -42,8 +42,8 @@ loop-lane-preserved c =
 pub returns : goal.returns
 returns c = λ lane inside.
     let before : lane < c.loop-lane.lane = omega arith in
-    let whole : Rails = rails_delayed (rails_at (in_lane terns_rails lane c.args.sent.now))
-    (span_ends c.args.delay.now lane) (length c.args.sent.now) in
+    let whole : Rails = rails_delayed (rails_at (in_lane terns_rails lane c.args.sent.now.keys))
+    (span_ends c.args.delay.now lane) (length c.args.sent.now.keys) in
     by_bits c.loop-lane.must c.loop-lane.may lane whole
     (ap must_of (c.loop-lane.invariant.must lane before))
     (ap must_of (c.loop-lane.invariant.may lane before))

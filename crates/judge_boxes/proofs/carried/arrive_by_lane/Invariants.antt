@@ -7,8 +7,8 @@ use Rattle.judge_boxes.proofs.carried.arrive_by_lane.Given as goal
 -- the lanes so far have what is received in them
 abbrev pub invariant-loop-lane : goal.invariant-loop-lane
 invariant-loop-lane l =
-    let whole : ℕ → Rails = λ k. rails_delayed (rails_at (in_lane terns_rails k l.sent))
-    (span_ends l.delay k) (length l.sent) in
+    let whole : ℕ → Rails = λ k. rails_delayed (rails_at (in_lane terns_rails k l.sent.keys))
+    (span_ends l.delay k) (length l.sent.keys) in
     record {
       must : (k : ℕ) → k < l.lane → bit_rails l.must k ≡ both (whole k).must;
       may : (k : ℕ) → k < l.lane → bit_rails l.may k ≡ both (whole k).may;

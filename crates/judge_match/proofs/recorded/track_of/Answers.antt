@@ -2,10 +2,10 @@ use Rattle.std.proofs.Common.{◌≡◌, ◌+◌, ◌-◌, ◌<◌, ◌++◌, �
 use Rattle.std.proofs.Common.{arith, ⊎_elim}
 use Rattle.std.proofs.lemmas.Bool.{cases_lt}
 use Rattle.model_history.specs.Rails.{must_of}
-use Rattle.run_signal.specs.declared.level.Level.{Level}
+use Rattle.run_signal.specs.{declared.level.Level.Level, Levels.level_rails, Lanes.in_lane}
 use Rattle.run_signal.specs.declared.tern.Tern.{Tern}
 use Rattle.run_waves.specs.Waves.{wave_at}
-use Rattle.judge_match.proofs.RecordedLaws.{long, on_before, on_after}
+use Rattle.judge_match.proofs.RecordedLaws.{on_before, on_after}
 use Rattle.judge_match.proofs.recorded.track_of.Goals as goal
 
 pub stretches-preserved : goal.stretches-preserved
@@ -13,9 +13,11 @@ stretches-preserved c =
     let old : List Level = c.stretches.track.keys in
     let new : List Level = c.push.new.self.keys in
     let n : ℕ = c.stretch-seen.result.end - c.len-t.result in
-    let is : new ≡ old ++ replicate n c.known.result = c.push.ensures.keys in
+    let is : in_lane (λ y _. level_rails y) 0 new
+    ≡ in_lane (λ y _. level_rails y) 0 old ++ replicate n (level_rails c.known.result) =
+    c.push.ensures.keys 0 (omega arith) in
     let first : c.len-t.result ≡ length old = c.len-t.ensures.length in
-    let count : length new ≡ length old + n = long old new c.known.result n is in
+    let count : length new ≡ length old + n = c.push.ensures.length in
     let runs : c.stretches.runs ≡ c.args.wave.now = c.stretches.invariant.runs in
     record {
       runs = c.stretch-seen.ensures.same ∙ runs;

@@ -71,11 +71,12 @@ loop-k-preserved g c =
       count = length-set tracks k new ∙ c.loop-k.invariant.count;
       long =
           part_more (HasKeys c.args.horizon (t + n)) (HasKeys c.args.horizon t) k s new tracks at
-          (keys_for c.args.horizon t n k s new x c.push.ensures.keys c.push.ensures.horizon)
+          (keys_for c.args.horizon t n k s new c.push.ensures.length c.push.ensures.horizon)
           c.loop-k.invariant.long;
       sent = λ lane keys inside stays have.
           part_more (HasSent rails lane keys (t + n)) (HasSent rails lane keys t) k s new tracks at
-          (sent_for c.elements_stay_in_a_stretch.ensures rails lane keys t n k s new x c.push.ensures.keys
+          (sent_for c.elements_stay_in_a_stretch.ensures rails lane keys t n k s new x
+          (c.push.ensures.keys lane inside)
           (stays k x c.loop-k-test.true key))
           (c.loop-k.invariant.sent lane keys inside stays have);
     }

@@ -1,10 +1,22 @@
-use Rattle.std.proofs.Common.{◌≡◌, ℕ, Some, refl, ◌∙◌, ap, length, get_or, arith}
+use Rattle.std.proofs.Common.{◌≡◌, rules, ℕ, Some, refl, ◌∙◌, ap, length, get_or, arith}
 use Rattle.std.proofs.lemmas.Option.{slice_get-get_or}
 use Rattle.std.specs.Prelude.{slice_get}
 use Rattle.model_history.specs.Rails.{rails_delayed}
 use Rattle.run_signal.specs.Lanes.{in_lane}
-use Rattle.run_simulator.proofs.SendLaws.{received-is}
+use Rattle.run_simulator.proofs.{SendLaws.received-is, DelayLaws.sender_inside}
 use Rattle.run_simulator.proofs.answer.raw_answer.Goals as goal
+
+pub bounds-moment-delay : goal.bounds-moment-delay
+bounds-moment-delay g c =
+    sender_inside g.V.Signal.LANES g.V.Signal.ends c.args.moment.now c.args.channel
+    c.index-moment-channel.result c.requires.moment c.requires.exists
+
+pub offset_bounds-moment-delay : goal.offset_bounds-moment-delay
+offset_bounds-moment-delay g c =
+    let inside =
+    sender_inside g.V.Signal.LANES g.V.Signal.ends c.args.moment.now c.args.channel
+    c.index-moment-channel.result c.requires.moment c.requires.exists in
+    search (rules, inside)
 
 pub returns : goal.returns
 returns g c = λ lane w keys inside of have.

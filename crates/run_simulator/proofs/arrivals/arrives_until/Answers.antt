@@ -1,9 +1,34 @@
-use Rattle.std.proofs.Common.{◌≡◌, ℕ, suc, ◌+◌, ◌-◌, ◌<◌, ◌≤◌, Some, subst, arith, get_or}
+use Rattle.std.proofs.Common.{◌≡◌, ℕ, suc, ◌+◌, ◌-◌, ◌<◌, ◌≤◌, Some, subst, arith, get_or, rules}
 use Rattle.std.proofs.lemmas.Option.{slice_get-get_or}
 use Rattle.std.specs.Prelude.{slice_get}
 use Rattle.run_simulator.specs.Lasts.{RawLasts}
-use Rattle.run_simulator.proofs.DelayLaws.{raw_lasts}
+use Rattle.run_simulator.proofs.DelayLaws.{raw_lasts, sender_inside}
 use Rattle.run_simulator.proofs.arrivals.arrives_until.Goals as goal
+
+pub bounds-moment-delay : goal.bounds-moment-delay
+bounds-moment-delay g c =
+    sender_inside g.V.Signal.LANES g.V.Signal.ends c.args.moment.now c.args.channel
+    c.index-moment-channel.result c.requires.moment c.requires.exists
+
+pub offset_bounds-moment-delay : goal.offset_bounds-moment-delay
+offset_bounds-moment-delay g c =
+    let inside =
+    sender_inside g.V.Signal.LANES g.V.Signal.ends c.args.moment.now c.args.channel
+    c.index-moment-channel.result c.requires.moment c.requires.exists in
+    search (rules, inside)
+
+pub arrival_stays-stays-requires-clause-known : goal.arrival_stays-stays-requires-clause-known
+arrival_stays-stays-requires-clause-known g c =
+    let moment = c.args.moment.now in
+    let can = c.requires.moment in
+    let d = get_or moment.delays.now c.args.channel c.index-moment-channel.result in
+    let s = get_or moment.sent.now d.from c.index-moment-delay.result in
+    let inside =
+    sender_inside g.V.Signal.LANES g.V.Signal.ends moment c.args.channel
+    c.index-moment-channel.result can c.requires.exists in
+    let f : slice_get moment.sent.now d.from ≡ Some s =
+    slice_get-get_or moment.sent.now d.from c.index-moment-delay.result inside in
+    (can.sent.each d.from s f).0
 
 pub returns-clause-later : goal.returns-clause-later
 returns-clause-later g c =

@@ -10,10 +10,11 @@ loop-i-preserved g c =
     let cells = c.loop-i.cells.items in
     let gates = c.args.net.now.gates in
     let x = c.fresh_cell.result in
-    let pushed : c.push.new.self.items ≡ cells ++ x ∷ [] = c.in_ok-push.ensures.items in
+    let pushed : c.push_reserved.new.self.items ≡ cells ++ x ∷ [] = c.push_reserved.ensures.items in
     record {
       count = ap length pushed ∙ length-append cells (x ∷ [])
           ∙ ap (λ (n : ℕ). n + 1) c.loop-i.invariant.count;
+      room = omega (arith, c.loop-i.invariant.room, c.push_reserved.ensures.capacity);
       shape = λ j gate cell ga ca.
           one_more HasCell gates cells c.loop-i.i c.gate.result.now x c.loop-i.invariant.count
           c.gate.ensures.is c.loop-i.invariant.shape c.fresh_cell.ensures.shape j gate cell ga

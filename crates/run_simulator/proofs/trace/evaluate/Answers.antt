@@ -14,14 +14,14 @@ use Rattle.run_simulator.proofs.trace.evaluate.Goals as goal
 
 pub look-value-requires-clause-names : goal.look-value-requires-clause-names
 look-value-requires-clause-names g c =
-    c.requires.can.named.each c.args.i c.gate.result.now (omega arith) c.gate.ensures.is
+    c.requires.can.named.each c.args.i c.gate-gate.result.now (omega arith) c.gate-gate.ensures.is
 
-pub of-requires-clause-inside : goal.of-requires-clause-inside
-of-requires-clause-inside g c =
+pub spans_of-requires-clause-inside : goal.spans_of-requires-clause-inside
+spans_of-requires-clause-inside g c =
     omega (arith, c.requires.inside, c.requires.can.shown_each.count)
 
-pub of-requires-clause-starts : goal.of-requires-clause-starts
-of-requires-clause-starts g c = c.requires.can.shown_each.starts
+pub spans_of-requires-clause-starts : goal.spans_of-requires-clause-starts
+spans_of-requires-clause-starts g c = c.requires.can.shown_each.starts
 
 pub settle-requires-clause-wide : goal.settle-requires-clause-wide
 settle-requires-clause-wide g c =
@@ -60,8 +60,8 @@ returns-clause-gates g c =
     let dues = gates.dues.items in
     let due = c.look-value.new.due in
     record {
-      cells = have_more c.args.net.now.gates gates.cells.items i c.gate.result.now
-          c.look-value.new.cell c.gate.ensures.is c.requires.gates.cells c.look-value.ensures.shape;
+      cells = have_more c.args.net.now.gates gates.cells.items i c.gate-gate.result.now
+          c.look-value.new.cell c.gate-gate.ensures.is c.requires.gates.cells c.look-value.ensures.shape;
       sinces = length-set gates.sinces.items i c.look-value.new.since ∙ c.requires.gates.sinces;
       dues = c.tell.ensures.count ∙ length-set dues i due ∙ c.requires.gates.dues;
       column = length-set gates.column.items i c.look-value.result ∙ c.requires.gates.column;
@@ -90,14 +90,14 @@ returns-clause-takes g c = λ lane p inside given traced.
     let sinces = kept.sinces.items in
     let dues = kept.dues.items in
     let column = kept.column.items in
-    let gate = c.gate.result.now in
+    let gate = c.gate-gate.result.now in
     let cell = c.index_mut.result.now in
     let since = c.index_mut-2.result.now in
     let due = c.index_mut-3.result.now in
     let last = c.index-last.result.now in
     let value = c.look-value.result in
     let new = c.look-value.new.due in
-    let ga : slice_get gates i ≡ Some gate = c.gate.ensures.is in
+    let ga : slice_get gates i ≡ Some gate = c.gate-gate.ensures.is in
     let ca : slice_get cells i ≡ Some cell =
     slice_get_read cells (length gates) i cell (sym c.requires.gates.cells.count) c.requires.inside
     c.index_mut.ensures.value in
@@ -110,8 +110,8 @@ returns-clause-takes g c = λ lane p inside given traced.
     let va : slice_get column i ≡ Some last =
     slice_get_read column (length gates) i last (sym c.requires.gates.column) c.requires.inside
     c.index-last.ensures in
-    let shows : IsShown c.of.result.now p.world gate =
-    subst (λ x. IsShown x p.world gate) (sym c.of.ensures) (given.shows i gate ga) in
+    let shows : IsShown c.spans_of.result.now p.world gate =
+    c.spans_of.ensures p.world (given.shows i gate ga) in
     let agree : ValuesAgree rails lane p.pairs t (take i c.deref.result.now) =
     subst (λ l. ValuesAgree rails lane p.pairs t (take i l)) (sym c.deref.ensures.value)
     (traced_agree g.V.Timed.stands_for ends rails lane p t gates i kept traced) in
@@ -137,13 +137,13 @@ returns-clause-lasts g c = λ p all lane h d inside ha dat.
     let sinces = kept.sinces.items in
     let dues = kept.dues.items in
     let column = kept.column.items in
-    let gate = c.gate.result.now in
+    let gate = c.gate-gate.result.now in
     let cell = c.index_mut.result.now in
     let since = c.index_mut-2.result.now in
     let due = c.index_mut-3.result.now in
     let last = c.index-last.result.now in
     let new = c.look-value.new.due in
-    let ga : slice_get gates i ≡ Some gate = c.gate.ensures.is in
+    let ga : slice_get gates i ≡ Some gate = c.gate-gate.ensures.is in
     let ca : slice_get cells i ≡ Some cell =
     slice_get_read cells (length gates) i cell (sym c.requires.gates.cells.count) c.requires.inside
     c.index_mut.ensures.value in
@@ -163,7 +163,7 @@ returns-clause-lasts g c = λ p all lane h d inside ha dat.
     (subst (λ (x : Gate). Lasts (p lane) (t - 1) t (new - t) x) (one_value gates i i gate h refl ga ha)
     (c.look-value.ensures.lasts p
     (λ l il. let q = all l il in (
-      subst (λ x. IsShown x (p l).world gate) (sym c.of.ensures) (q.0.shows i gate ga),
+      c.spans_of.ensures (p l).world (q.0.shows i gate ga),
       q.0.delays,
       q.0.sent,
       subst (λ x. ValuesAgree rails l (p l).pairs t (take i x)) (sym c.deref.ensures.value)

@@ -14,5 +14,5 @@ returns-then-is_alike c = λ lane inside.
     ∙ ap (λ (n : ℕ). ends_of (span_ends delay lane).least n)
     (c.greatest_in.ensures.greatest ∙ sym (alike.greatest lane inside)) in
     c.arrive_alike.ensures lane inside
-    ∙ ap (λ (e : Ends). rails_delayed (rails_at (in_lane terns_rails lane c.args.sent.now)) e
-    (length c.args.sent.now)) ends
+    ∙ ap (λ (e : Ends). rails_delayed (rails_at (in_lane terns_rails lane c.args.sent.now.keys)) e
+    (length c.args.sent.now.keys)) ends

@@ -25,7 +25,7 @@ next_delay-init c = record {
 
 pub next_delay-preserved : goal.next_delay-preserved
 next_delay-preserved c =
-    let sent = c.args.sent.now in
+    let sent = c.args.sent.now.keys in
     let delay = c.args.delay.now in
     let left = c.next_delay.left in
     let alike = c.alike-alike.result in

@@ -10,8 +10,8 @@ invariant-next_delay l = record {
   passed : (k : ℕ) → k < 64 → k < l.lane → IsFalse (bit_on l.left k);
   received : (k : ℕ) → k < 64 → IsFalse (bit_on l.left k)
       → bit_rails l.received k
-      ≡ rails_delayed (rails_at (in_lane bit_rails k l.sent)) (single (slice_index l.delay k))
-      (length l.sent);
+      ≡ rails_delayed (rails_at (in_lane bit_rails k l.sent.keys)) (single (slice_index l.delay k))
+      (length l.sent.keys);
 }
 
 abbrev pub decreases-next_delay : goal.decreases-next_delay

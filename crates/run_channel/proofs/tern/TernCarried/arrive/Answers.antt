@@ -7,9 +7,9 @@ use Rattle.run_channel.proofs.tern.TernCarried.arrive.Goals as goal
 
 pub returns : goal.returns
 returns c = λ lane inside.
-    let t = length c.args.sent.now in
+    let t = length c.args.sent.now.keys in
     let ends : Ends = ends_of c.least-least.result c.greatest-greatest.result in
-    let u = rails_at (in_lane (λ v _. tern_rails v) lane c.args.sent.now) in
+    let u = rails_at (in_lane (λ v _. tern_rails v) lane c.args.sent.now.keys) in
     let e : ends ≡ c.args.delay.now = ap (λ (n : ℕ).
     ends_of n c.greatest-greatest.result) c.least-least.ensures.least
     ∙ ap (λ (n : ℕ). ends_of c.args.delay.now.least n) c.greatest-greatest.ensures.greatest in
@@ -21,6 +21,6 @@ returns c = λ lane inside.
     (c.delays_are_their_facts.ensures.may u (λ _. ends) t) ∙ ap (λ (x : Ends). (rails_delayed u x t).may) e in
     c.from_rails.ensures (λ on. may
     ∙ c.delays_stay_sound.ensures u (λ _. c.args.delay.now) t c.least-least.ensures.in_order.ordered
-    (λ r _ yes. sent_sound c.args.sent.now r yes) (sym must ∙ on))
+    (λ r _ yes. sent_sound c.args.sent.now.keys r yes) (sym must ∙ on))
     ∙ ap (λ (b : Bool). record { must = b; may = c.may_come.result }) must
     ∙ ap (λ (b : Bool). record { must = (rails_delayed u c.args.delay.now t).must; may = b }) may
