@@ -1,5 +1,5 @@
-pub mod AtTicks
 pub mod Digits
+pub mod Held
 pub mod Ids
 pub mod Later
 pub mod Steps

@@ -1,32 +1,31 @@
 //! Why a record is refused.
 
 use std::alloc::{AllocError, AllocFailed};
-use thiserror::Error;
 
 /// Why a configuration is refused. Lines are counted from 1.
-#[derive(Clone, Copy, Debug, PartialEq, Eq, Error)]
+#[derive(Clone, Copy, Debug, PartialEq, Eq)]
 pub enum ConfigFault {
-    #[error("line {0} is missing")]
+    /// The line is missing.
     Absent(usize),
-    #[error("line 1: the revision is none of 1991, 1999 and 2013")]
+    /// The revision, in line 1, is none of 1991, 1999 and 2013.
     BadRevision,
-    #[error("line 2: not the numbers of all, analog and digital channels")]
+    /// Line 2 has not the numbers of all, analog and digital channels.
     Counts,
-    #[error("line {0}: an analog channel has at least 10 fields")]
+    /// An analog channel has fewer than 10 fields.
     Analog(usize),
-    #[error("line {0}: a digital channel has 3 fields or 5")]
+    /// A digital channel has neither 3 fields nor 5.
     Digital(usize),
-    #[error("line {0}: not a number of rates, at most 64")]
+    /// Not a number of rates, at most 64.
     Rates(usize),
-    #[error("line {0}: not a rate and a last sample behind the one before")]
+    /// Not a rate and a last sample behind the one before.
     BadRate(usize),
-    #[error("line {0}: not a date and a time")]
+    /// Not a date and a time.
     Moment(usize),
-    #[error("line {0}: none of ASCII, BINARY, BINARY32 and FLOAT32")]
+    /// None of ASCII, BINARY, BINARY32 and FLOAT32.
     BadForm(usize),
-    #[error("line {0}: not a factor of the stamps")]
+    /// Not a factor of the stamps.
     Factor(usize),
-    #[error("out of memory")]
+    /// Memory ran out.
     Memory,
 }
 
@@ -53,28 +52,27 @@ impl<T: Drop> From<AllocFailed<T>> for ConfigFault {
 }
 
 /// Why data are refused. Samples are counted from 1.
-#[derive(Clone, Copy, Debug, PartialEq, Eq, Error)]
+#[derive(Clone, Copy, Debug, PartialEq, Eq)]
 pub enum DataFault {
-    #[error("sample {0} is missing")]
+    /// The sample is missing.
     Absent(usize),
-    #[error("more data than the samples")]
+    /// There are more data than the samples.
     Surplus,
-    #[error("sample {0}: not as many fields as channels")]
+    /// Not as many fields as channels.
     Fields(usize),
-    #[error("sample {0}: its number is not one above that of the sample before")]
+    /// The number is not one above that of the sample before.
     Number(usize),
-    #[error("sample {0}: its stamp is not a number")]
+    /// The stamp is not a number.
     Stamp(usize),
-    /// Channels are counted from 1, digital ones alone.
-    #[error("sample {sample}: digital channel {channel} is neither 0 nor 1")]
+    /// The level of a channel is neither 0 nor 1. Channels are counted from 1, digital ones alone.
     Level { sample: usize, channel: usize },
-    #[error("sample {0}: it has no stamp, and there is no rate")]
+    /// It has no stamp, and there is no rate.
     NoStamp(usize),
-    #[error("sample {0}: its time is 2^64 nanoseconds or more")]
+    /// The time is 2^64 nanoseconds or more.
     TooLate(usize),
-    #[error("sample {0}: its time is before that of the sample before")]
+    /// The time is before that of the sample before.
     Earlier(usize),
-    #[error("out of memory")]
+    /// Memory ran out.
     Memory,
 }
 

@@ -34,5 +34,5 @@ pub use data_reader::{Sample, read_samples};
 pub use fault::{ConfigFault, DataFault};
 pub use laws::one_sample_holds;
 pub use levels::levels_at;
-pub use record::{Files, RecordFault, read_levels};
+pub use record::{Files, RecordFault};
 pub use ticks::{TickFault, Ticks, samples_at, times_of};

@@ -1,19 +1,9 @@
-//! The levels of one digital channel at ticks, from the bytes of a record's two files.
+//! A record's two files, and why they have no levels at ticks.
 
-ghost use Rattle.std.specs.Prelude.{◌≡◌, ◌<◌, ◌^◌, MatchResult, length};
-ghost use Rattle.file_comtrade.specs.Config.{values_of};
-ghost use Rattle.file_comtrade.specs.{Named.named_in, Views.texts};
-ghost use Rattle.file_comtrade.specs.Record.{AreLevels, IsRefused, IsChannel, files_of};
-
-use crate::channel::{Named, channel_named};
-use crate::config::{Config, DateOrder};
-use crate::config_reader::read_config;
-use crate::data_reader::read_samples;
+use crate::config::DateOrder;
 use crate::fault::{ConfigFault, DataFault};
-use crate::levels::levels_at;
-use crate::ticks::{TickFault, Ticks, samples_at, times_of};
-use std::alloc::{AllocError, Global};
-use thiserror::Error;
+use crate::ticks::TickFault;
+use std::alloc::AllocError;
 
 /// The bytes of a record's two files.
 #[derive(Clone, Copy)]
@@ -25,19 +15,16 @@ pub struct Files<'a> {
 }
 
 /// Why a record has no levels at the ticks.
-#[derive(Clone, Copy, Debug, PartialEq, Eq, Error)]
+#[derive(Clone, Copy, Debug, PartialEq, Eq)]
 pub enum RecordFault {
-    #[error("{0}")]
     Config(ConfigFault),
-    #[error("no digital channel has the id")]
+    /// No digital channel has the id.
     NoChannel,
-    #[error("more than one digital channel has the id")]
+    /// More than one has it.
     ManyChannels,
-    #[error("{0}")]
     Data(DataFault),
-    #[error("{0}")]
     Ticks(TickFault),
-    #[error("out of memory")]
+    /// Memory ran out.
     Memory,
 }
 
@@ -82,41 +69,5 @@ impl From<AllocError> for RecordFault {
 
     fn from(_: AllocError) -> Self {
         RecordFault::Memory
-    }
-}
-
-/// The levels, at each tick, of the one digital channel that has this id.
-pub fn read_levels(
-    alloc: Global,
-    files: Files,
-    id: &[u8],
-    ticks: Ticks,
-) -> Result<Vec<bool>, RecordFault>
-    requires start { ticks.start < 2 ^ 100 }
-    requires ticks { 0 < ticks.count }
-    requires tick { 0 < ticks.tick }
-    ensures { MatchResult result
-        (λ v. AreLevels (files_of files.entry) id.now ticks v.items)
-        (λ f. IsRefused (files_of files.entry) id.now ticks f) }
-{
-    let config = read_config(alloc, files.config, files.dates)?;
-    let channel = channel_of(&config, id)?;
-    let chosen = [channel];
-    let samples = read_samples(alloc, &config, &chosen, files.samples)?;
-    let times = times_of(alloc, samples.as_slice())?;
-    let at = samples_at(alloc, config.first, times.as_slice(), ticks)?;
-    let levels = levels_at(alloc, samples.as_slice(), 0, at.as_slice())?;
-    Ok(levels)
-}
-
-// The index of the one channel that has the id.
-fn channel_of(config: &Config, id: &[u8]) -> Result<u32, RecordFault>
-    requires { length config.now.digital.items < 2 ^ 32 }
-    ensures { IsChannel (named_in (texts config.now.digital.items) id.now) result }
-{
-    match channel_named(config.digital.as_slice(), id) {
-        Named::Nothing => Err(RecordFault::NoChannel),
-        Named::One(i) => Ok(i as u32),
-        Named::More => Err(RecordFault::ManyChannels),
     }
 }

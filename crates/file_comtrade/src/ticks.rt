@@ -4,10 +4,10 @@ ghost use Rattle.std.specs.Prelude.{◌≡◌, ◌<◌, ◌≤◌, ◌^◌, IfOk
 ghost use Rattle.std.specs.Prelude.{length, map, slice_index};
 ghost use Rattle.file_comtrade.specs.Ticks.{Holds, IsCovered, AreAtTicks, IsFirstTick, IsLastTick};
 ghost use Rattle.file_comtrade.specs.Ticks.{IsTickFault};
+ghost use Rattle.file_comtrade.specs.declared.ticks.TickFault.TheVariants as fault;
 
 use crate::data_reader::Sample;
 use std::alloc::{AllocError, AllocFailed, Global};
-use thiserror::Error;
 
 /// The ticks of a play, in the recorder's clock.
 #[derive(Clone, Copy, Debug)]
@@ -20,12 +20,11 @@ pub struct Ticks {
 }
 
 /// Why the ticks have no samples.
-#[derive(Clone, Copy, Debug, PartialEq, Eq, Error)]
+#[derive(Clone, Copy, Debug, PartialEq, Eq)]
 pub enum TickFault {
     /// The first tick with a sample, and the last, where there is one.
-    #[error("there are samples from tick {from} on, up to {to:?}")]
     Gap { from: u128, to: Option<u128> },
-    #[error("out of memory")]
+    /// Memory ran out.
     Memory,
 }
 
@@ -62,12 +61,29 @@ pub fn samples_at(
     ensures { MatchResult result (λ v. AreAtTicks origin times.now ticks v.items)
         (λ f. IsTickFault origin times.now ticks f) }
 {
-    if !is_covered(origin, times, ticks) {
-        return Err(TickFault::Gap {
+    if is_covered(origin, times, ticks) {
+        held_at(alloc, origin, times, ticks)
+    } else {
+        Err(TickFault::Gap {
             from: first_tick(origin, times, ticks),
             to: last_tick(origin, times, ticks),
-        });
+        })
     }
+}
+
+// The sample that holds at each tick, where there is one for each.
+fn held_at(
+    alloc: Global,
+    origin: u128,
+    times: &[u64],
+    ticks: Ticks,
+) -> Result<Vec<usize>, TickFault>
+    requires start { ticks.start < 2 ^ 100 }
+    requires some { 0 < length times.now }
+    requires covered { IsCovered origin times.now ticks }
+    ensures { MatchResult result (λ v. AreAtTicks origin times.now ticks v.items)
+        (λ f. f ≡ fault.Memory) }
+{
     let mut at = Vec::new(alloc);
     for t in 0..ticks.count {
         let instant = ticks.start + u128::from(t) * u128::from(ticks.tick);

@@ -1,3 +1,4 @@
+pub mod AtTicks
 pub mod Mapped
 pub mod InOrder
 pub mod Loops

@@ -4,8 +4,8 @@ use Rattle.file_comtrade.specs.Config.{values_of}
 use Rattle.file_comtrade.specs.{Levels.levels_at, Record.times_of, SampleViews.sample_values}
 use Rattle.file_comtrade.specs.Ticks.{AreAtTicks, IsTickFault}
 use Rattle.file_comtrade.specs.declared.data_reader.Sample.{Sample}
-use Rattle.file_comtrade.proofs.AtTicks.{are_at, times_are}
 use Rattle.file_tracks.specs.Sampled.{AreSampled}
+use Rattle.file_tracks.proofs.AtTicks.{are_at, times_are}
 use Rattle.file_tracks.proofs.channel.channel_levels.Goals as goal
 
 pub returns-in_err-at : goal.returns-in_err-at

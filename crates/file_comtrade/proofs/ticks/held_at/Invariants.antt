@@ -1,6 +1,6 @@
 use Rattle.std.proofs.Common.{◌≡◌, ◌<◌, ◌-◌, ℕ, length, slice_index}
 use Rattle.file_comtrade.specs.Ticks.{Holds, instant_of}
-use Rattle.file_comtrade.proofs.ticks.samples_at.Given as goal
+use Rattle.file_comtrade.proofs.ticks.held_at.Given as goal
 
 abbrev pub invariant-loop-t : goal.invariant-loop-t
 invariant-loop-t l = record {
