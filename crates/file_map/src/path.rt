@@ -5,7 +5,6 @@ ghost use Rattle.file_map.specs.Paths.{pushed, pushed_all, under, numbered};
 ghost use Rattle.file_line.specs.Paths.{shown_byte};
 
 use itoa::Buffer;
-use std::fmt;
 use std::marker::Model;
 
 /// A place in a map, as `recorder[0].loss.east`: its first 160 bytes, each from 0x21 to 0x7E.
@@ -102,14 +101,5 @@ fn shown(byte: u8) -> u8
         byte
     } else {
         b'?'
-    }
-}
-
-impl fmt::Display for Path {
-    fn fmt<W: fmt::Write>(&self, f: &mut fmt::Formatter<W>) -> fmt::Result {
-        for byte in self.bytes() {
-            f.write_char(char::from(*byte))?;
-        }
-        Ok(())
     }
 }
