@@ -9,6 +9,7 @@ mod drawings;
 mod elements;
 mod hatching;
 mod page;
+mod parts;
 mod words;
 
 pub use anchor::{Anchor, anchor_words, faults_have_ids_of_their_own};
@@ -24,6 +25,7 @@ pub use page::{
     Case, Counts, Digest, FailingChoice, Fault, FileText, LeastMargin, Means, Page, Slack,
     Standing, Time, ToldStep, ToldTime, Undecided, Verdict,
 };
+pub use parts::{around, cell_around, classed_around, joined, number_in, row_head};
 pub use words::{
     by_words, deadline_words, interval_words, kind_words, margin_words, number_words, push_ticks,
     time_words, trip_words,
