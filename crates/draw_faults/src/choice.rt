@@ -10,8 +10,9 @@ ghost use Rattle.draw_faults.specs.Choices.{none_told_html, some_told_html, told
 
 use base_html::{Html, Tag};
 use draw_elements::{
-    Anchor, FailingChoice, Page, ToldStep, ToldTime, classed, columns, figure, head_cell,
-    interval_words, link, number_cell, plain, said_in, section, table, time_words, words_in,
+    Anchor, FailingChoice, Page, ToldStep, ToldTime, around, classed_around, columns, figure,
+    interval_words, joined, link, number_in, row_head, said_in, section, table, time_words,
+    words_in,
 };
 use std::alloc::{AllocError, Global};
 
@@ -52,28 +53,31 @@ fn choices(alloc: Global, tick_us: u32, failing: &[FailingChoice]) -> Result<Htm
 }
 
 // A choice: its heading, its times and steps, and its play.
-#[tactic(auto, unfolding(crate::specs::Choices::choice_html))]
 fn one_choice(alloc: Global, tick_us: u32, choice: &FailingChoice) -> Result<Html, AllocError>
     ensures { IfOk result (λ html. html.text.items ≡ choice_html tick_us choice.now) }
 {
-    let inside = heading(alloc, choice)?
-        .and(&some_told(alloc, tick_us, choice.told.as_slice())?)?
-        .and(&some_steps(alloc, tick_us, choice.steps.as_slice())?)?
-        .and(&rest(alloc, choice.least.as_slice())?)?
-        .and(&figure(alloc, &choice.play)?)?;
-    plain(alloc, Tag::Section, &inside)
+    let told = joined(
+        heading(alloc, choice),
+        some_told(alloc, tick_us, choice.told.as_slice()),
+    );
+    let steps = joined(told, some_steps(alloc, tick_us, choice.steps.as_slice()));
+    let all = joined(steps, rest(alloc, choice.least.as_slice()));
+    around(
+        alloc,
+        Tag::Section,
+        joined(all, figure(alloc, &choice.play)),
+    )
 }
 
 // The script, with a link to its fault, and the terminal.
-#[tactic(auto, unfolding(crate::specs::Choices::choice_heading_html))]
 fn heading(alloc: Global, choice: &FailingChoice) -> Result<Html, AllocError>
     ensures { IfOk result (λ html. html.text.items ≡ choice_heading_html choice.now) }
 {
     let to = Anchor::Fault(choice.fault as usize);
-    let inside = link(alloc, to, choice.script.as_slice())?
-        .and(&Html::words(alloc, b" at ")?)?
-        .and(&Html::words(alloc, choice.terminal.as_slice())?)?;
-    plain(alloc, Tag::Heading3, &inside)
+    let script = link(alloc, to, choice.script.as_slice());
+    let at = joined(script, Html::words(alloc, b" at "));
+    let terminal = Html::words(alloc, choice.terminal.as_slice());
+    around(alloc, Tag::Heading3, joined(at, terminal))
 }
 
 // The times that matter, if any does.
@@ -117,17 +121,14 @@ fn told_rows(alloc: Global, tick_us: u32, told: &[ToldTime]) -> Result<Html, All
     Ok(made)
 }
 
-#[tactic(auto, unfolding(crate::specs::Choices::told_row_html))]
 fn told_row(alloc: Global, tick_us: u32, time: &ToldTime) -> Result<Html, AllocError>
     ensures { IfOk result (λ html. html.text.items ≡ told_row_html tick_us time.now) }
 {
-    let name = words_in(alloc, Tag::Code, time.name.as_slice())?;
-    let here = time_words(alloc, tick_us, time.number)?;
-    let declared = interval_words(alloc, tick_us, time.low, time.high)?;
-    let cells = head_cell(alloc, b"row", &name)?
-        .and(&number_cell(alloc, b"here", here.as_slice())?)?
-        .and(&number_cell(alloc, b"declared", declared.as_slice())?)?;
-    plain(alloc, Tag::Row, &cells)
+    let name = row_head(alloc, words_in(alloc, Tag::Code, time.name.as_slice()));
+    let here = number_in(alloc, b"here", time_words(alloc, tick_us, time.number));
+    let words = interval_words(alloc, tick_us, time.low, time.high);
+    let cells = joined(joined(name, here), number_in(alloc, b"declared", words));
+    around(alloc, Tag::Row, cells)
 }
 
 // Where delays move; nothing where none does.
@@ -160,17 +161,13 @@ fn step_rows(alloc: Global, tick_us: u32, steps: &[ToldStep]) -> Result<Html, Al
     Ok(made)
 }
 
-#[tactic(auto, unfolding(crate::specs::Choices::step_row_html))]
 fn step_row(alloc: Global, tick_us: u32, step: &ToldStep) -> Result<Html, AllocError>
     ensures { IfOk result (λ html. html.text.items ≡ step_row_html tick_us step.now) }
 {
-    let name = words_in(alloc, Tag::Code, step.name.as_slice())?;
-    let from = time_words(alloc, tick_us, step.from)?;
-    let number = time_words(alloc, tick_us, step.number)?;
-    let cells = head_cell(alloc, b"row", &name)?
-        .and(&number_cell(alloc, b"from", from.as_slice())?)?
-        .and(&number_cell(alloc, b"is", number.as_slice())?)?;
-    plain(alloc, Tag::Row, &cells)
+    let name = row_head(alloc, words_in(alloc, Tag::Code, step.name.as_slice()));
+    let from = number_in(alloc, b"from", time_words(alloc, tick_us, step.from));
+    let is = number_in(alloc, b"is", time_words(alloc, tick_us, step.number));
+    around(alloc, Tag::Row, joined(joined(name, from), is))
 }
 
 // Where the other times stand.
@@ -195,16 +192,15 @@ fn all_in_the_middle(alloc: Global) -> Result<Html, AllocError>
     )
 }
 
-#[tactic(auto, unfolding(crate::specs::Choices::some_least_html))]
 fn some_least(alloc: Global, least: &[Vec<u8>]) -> Result<Html, AllocError>
     ensures { IfOk result (λ html. html.text.items ≡ some_least_html least.now) }
 {
-    let inside = Html::words(
+    let words = Html::words(
         alloc,
         b"All other times stand in the middle of their intervals, but these at their declared least:",
-    )?
-    .and(&least_names(alloc, least)?)?;
-    classed(alloc, Tag::Paragraph, b"small", &inside)
+    );
+    let inside = joined(words, least_names(alloc, least));
+    classed_around(alloc, Tag::Paragraph, b"small", inside)
 }
 
 fn least_names(alloc: Global, least: &[Vec<u8>]) -> Result<Html, AllocError>

@@ -1,8 +1,14 @@
 //! The sections of the faults.
 
-ghost use Rattle.std.specs.Prelude.{◌≡◌, IfOk};
+ghost use Rattle.std.specs.Prelude.{◌≡◌, ◌∷◌, [], ℕ, List, IfOk, codes};
 ghost use Rattle.std.specs.List.{flat_map};
-ghost use Rattle.draw_elements.specs.Elements.{numbered};
+ghost use Rattle.base_html.specs.Content.{element_text};
+ghost use Rattle.base_html.specs.declared.attribute.Key.TheVariants as key;
+ghost use Rattle.base_html.specs.declared.tag.Tag.TheVariants as tag;
+ghost use Rattle.draw_elements.specs.Badges.{badge_html};
+ghost use Rattle.draw_elements.specs.Bare.{bare_cell_html};
+ghost use Rattle.draw_elements.specs.Elements.{anchor_said, numbered};
+ghost use Rattle.draw_elements.specs.declared.anchor.Anchor.TheVariants as anchor;
 ghost use Rattle.draw_faults.specs.Faults.{about_html, end_row_html, ends_html, fault_html};
 ghost use Rattle.draw_faults.specs.Faults.{faults_html, subject_said};
 ghost use Rattle.draw_faults.specs.Faults.{answer_cells_html, limit_cells_html, swept_html, swept_item_html};
@@ -11,9 +17,9 @@ use crate::scripts::scripts;
 use crate::strip::strips;
 use base_html::{Attribute, Html, Key, Tag};
 use draw_elements::{
-    Anchor, Fault, Page, Verdict, anchor_words, badge, bare_cell, by_words, cell, columns,
-    deadline_words, figure, head_cell, kind_words, margin_words, number_cell, number_words, plain,
-    section, table, trip_words, words_in,
+    Anchor, Fault, Page, Standing, Verdict, anchor_words, around, badge, bare_cell, by_words,
+    cell_around, columns, deadline_words, figure, joined, kind_words, margin_words, number_in,
+    number_words, plain, row_head, section, table, trip_words, words_in,
 };
 use std::alloc::{AllocError, Global};
 
@@ -37,7 +43,6 @@ fn fault_sections(alloc: Global, tick_us: u32, faults: &[Fault]) -> Result<Html,
     Ok(made)
 }
 
-#[tactic(auto, unfolding(crate::specs::Faults::fault_html))]
 fn fault_section(
     alloc: Global,
     tick_us: u32,
@@ -46,12 +51,25 @@ fn fault_section(
 ) -> Result<Html, AllocError>
     ensures { IfOk result (λ html. html.text.items ≡ fault_html tick_us place fault.now) }
 {
+    let name = words_in(alloc, Tag::Heading3, fault.name.as_slice());
+    let about = joined(name, about(alloc, fault));
+    let ends = joined(about, ends(alloc, tick_us, fault.verdicts.as_slice()));
+    let swept = joined(ends, swept(alloc, tick_us, fault));
+    section_of(alloc, place, joined(swept, figure(alloc, &fault.bands)))
+}
+
+// The section of the fault of a number, with this in it.
+fn section_of(
+    alloc: Global,
+    place: usize,
+    inside: Result<Html, AllocError>,
+) -> Result<Html, AllocError>
+    ensures { (t : List ℕ) → IfOk inside (λ html. html.text.items ≡ t)
+        → IfOk result (λ html. html.text.items
+        ≡ element_text tag.Section ((key.Id, anchor_said (anchor.Fault place)) ∷ []) t) }
+{
+    let inside = inside?;
     let id = anchor_words(alloc, Anchor::Fault(place))?;
-    let inside = words_in(alloc, Tag::Heading3, fault.name.as_slice())?
-        .and(&about(alloc, fault)?)?
-        .and(&ends(alloc, tick_us, fault.verdicts.as_slice())?)?
-        .and(&swept(alloc, tick_us, fault)?)?
-        .and(&figure(alloc, &fault.bands)?)?;
     let id = Attribute {
         key: Key::Id,
         words: id.as_slice(),
@@ -99,13 +117,11 @@ fn swept_items(alloc: Global, swept: &[Vec<u8>]) -> Result<Html, AllocError>
     Ok(made)
 }
 
-#[tactic(auto, unfolding(crate::specs::Faults::swept_item_html))]
 fn swept_item(alloc: Global, one: &[u8]) -> Result<Html, AllocError>
     ensures { IfOk result (λ html. html.text.items ≡ swept_item_html one.now) }
 {
-    Html::words(alloc, b" Swept: ")?
-        .and(&Html::words(alloc, one)?)?
-        .and(&Html::words(alloc, b".")?)
+    let swept = joined(Html::words(alloc, b" Swept: "), Html::words(alloc, one));
+    joined(swept, Html::words(alloc, b"."))
 }
 
 // How the fault stands at each terminal.
@@ -139,38 +155,45 @@ fn end_rows(alloc: Global, tick_us: u32, verdicts: &[Verdict]) -> Result<Html, A
     Ok(made)
 }
 
-#[tactic(auto, unfolding(crate::specs::Faults::end_row_html))]
 fn end_row(alloc: Global, tick_us: u32, verdict: &Verdict) -> Result<Html, AllocError>
     ensures { IfOk result (λ html. html.text.items ≡ end_row_html tick_us verdict.now) }
 {
-    let cells = answer_cells(alloc, tick_us, verdict)?.and(&limit_cells(alloc, tick_us, verdict)?)?;
-    plain(alloc, Tag::Row, &cells)
+    let answer = answer_cells(alloc, tick_us, verdict);
+    around(
+        alloc,
+        Tag::Row,
+        joined(answer, limit_cells(alloc, tick_us, verdict)),
+    )
 }
 
 // The terminal, its verdict and its first trip.
-#[tactic(auto, unfolding(crate::specs::Faults::answer_cells_html))]
 fn answer_cells(alloc: Global, tick_us: u32, verdict: &Verdict) -> Result<Html, AllocError>
     ensures { IfOk result (λ html. html.text.items ≡ answer_cells_html tick_us verdict.now) }
 {
-    let name = Html::words(alloc, verdict.terminal.as_slice())?;
-    let badge = badge(alloc, verdict.standings.as_slice())?;
-    let trip = trip_words(alloc, tick_us, verdict.may, verdict.must)?;
-    head_cell(alloc, b"row", &name)?
-        .and(&bare_cell(alloc, b"state", &badge)?)?
-        .and(&number_cell(alloc, b"first trip", trip.as_slice())?)
+    let name = row_head(alloc, Html::words(alloc, verdict.terminal.as_slice()));
+    let state = joined(name, state_cell(alloc, verdict.standings.as_slice()));
+    let trip = trip_words(alloc, tick_us, verdict.may, verdict.must);
+    joined(state, number_in(alloc, b"first trip", trip))
+}
+
+fn state_cell(alloc: Global, standings: &[Standing]) -> Result<Html, AllocError>
+    ensures { IfOk result (λ html. html.text.items
+        ≡ bare_cell_html (codes "state") (badge_html standings.now)) }
+{
+    let badge = badge(alloc, standings)?;
+    bare_cell(alloc, b"state", &badge)
 }
 
 // The deadline, the margin, and by what it was settled.
-#[tactic(auto, unfolding(crate::specs::Faults::limit_cells_html))]
 fn limit_cells(alloc: Global, tick_us: u32, verdict: &Verdict) -> Result<Html, AllocError>
     ensures { IfOk result (λ html. html.text.items ≡ limit_cells_html tick_us verdict.now) }
 {
-    let deadline = deadline_words(alloc, tick_us, verdict.deadline)?;
-    let margin = margin_words(alloc, tick_us, verdict.deadline, verdict.must)?;
-    let by = Html::words(alloc, by_words(verdict.by))?;
-    number_cell(alloc, b"deadline", deadline.as_slice())?
-        .and(&number_cell(alloc, b"margin", margin.as_slice())?)?
-        .and(&cell(alloc, b"by", b"settled by", &by)?)
+    let words = deadline_words(alloc, tick_us, verdict.deadline);
+    let deadline = number_in(alloc, b"deadline", words);
+    let words = margin_words(alloc, tick_us, verdict.deadline, verdict.must);
+    let margin = joined(deadline, number_in(alloc, b"margin", words));
+    let by = Html::words(alloc, by_words(verdict.by));
+    joined(margin, cell_around(alloc, b"by", b"settled by", by))
 }
 
 // The strips and the table of all scripts; nothing of one script alone.

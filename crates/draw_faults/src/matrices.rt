@@ -9,8 +9,8 @@ ghost use Rattle.draw_faults.specs.Matrices.{three_heads_html, verdict_cells_htm
 
 use base_html::{Attribute, Html, Key, Tag};
 use draw_elements::{
-    Anchor, Fault, Page, Verdict, badge, cell, column, head_cell, kind_words, link, margin_words,
-    number_cell, plain, section, table, trip_words,
+    Anchor, Fault, Page, Verdict, around, badge, cell_around, column, joined, kind_words, link,
+    margin_words, number_in, row_head, section, table, trip_words,
 };
 use std::alloc::{AllocError, Global};
 
@@ -26,16 +26,14 @@ pub fn matrix(alloc: Global, page: &Page) -> Result<Html, AllocError>
 }
 
 // Two rows: the terminals, and below each its three columns.
-#[tactic(auto, unfolding(crate::specs::Matrices::matrix_head_html))]
 fn matrix_head(alloc: Global, terminals: &[Vec<u8>]) -> Result<Html, AllocError>
     ensures { IfOk result (λ html. html.text.items ≡ matrix_head_html terminals.now) }
 {
-    let over = corner(alloc, b"Fault")?
-        .and(&corner(alloc, b"Kind")?)?
-        .and(&terminal_heads(alloc, terminals)?)?;
-    let under = three_heads(alloc, terminals)?;
-    let rows = plain(alloc, Tag::Row, &over)?.and(&plain(alloc, Tag::Row, &under)?)?;
-    plain(alloc, Tag::TableHead, &rows)
+    let corners = joined(corner(alloc, b"Fault"), corner(alloc, b"Kind"));
+    let heads = joined(corners, terminal_heads(alloc, terminals));
+    let over = around(alloc, Tag::Row, heads);
+    let under = around(alloc, Tag::Row, three_heads(alloc, terminals));
+    around(alloc, Tag::TableHead, joined(over, under))
 }
 
 // The head of a column, beside both rows.
@@ -93,13 +91,11 @@ fn three_heads(alloc: Global, terminals: &[Vec<u8>]) -> Result<Html, AllocError>
     Ok(made)
 }
 
-#[tactic(auto, unfolding(crate::specs::Matrices::three_heads_html))]
 fn three_columns(alloc: Global) -> Result<Html, AllocError>
     ensures { IfOk result (λ html. html.text.items ≡ three_heads_html) }
 {
-    column(alloc, b"verdict")?
-        .and(&column(alloc, b"first trip")?)?
-        .and(&column(alloc, b"margin")?)
+    let two = joined(column(alloc, b"verdict"), column(alloc, b"first trip"));
+    joined(two, column(alloc, b"margin"))
 }
 
 fn fault_rows(alloc: Global, tick_us: u32, faults: &[Fault]) -> Result<Html, AllocError>
@@ -113,16 +109,15 @@ fn fault_rows(alloc: Global, tick_us: u32, faults: &[Fault]) -> Result<Html, All
     Ok(made)
 }
 
-#[tactic(auto, unfolding(crate::specs::Matrices::fault_row_html))]
 fn fault_row(alloc: Global, tick_us: u32, place: usize, fault: &Fault) -> Result<Html, AllocError>
     ensures { IfOk result (λ html. html.text.items ≡ fault_row_html tick_us place fault.now) }
 {
-    let name = link(alloc, Anchor::Fault(place), fault.name.as_slice())?;
-    let kind = Html::words(alloc, kind_words(fault.kind))?;
-    let cells = head_cell(alloc, b"row", &name)?
-        .and(&cell(alloc, b"kind", b"kind", &kind)?)?
-        .and(&verdict_cells(alloc, tick_us, fault.verdicts.as_slice())?)?;
-    plain(alloc, Tag::Row, &cells)
+    let to = Anchor::Fault(place);
+    let name = row_head(alloc, link(alloc, to, fault.name.as_slice()));
+    let kind = Html::words(alloc, kind_words(fault.kind));
+    let named = joined(name, cell_around(alloc, b"kind", b"kind", kind));
+    let verdicts = verdict_cells(alloc, tick_us, fault.verdicts.as_slice());
+    around(alloc, Tag::Row, joined(named, verdicts))
 }
 
 fn verdict_cells(alloc: Global, tick_us: u32, verdicts: &[Verdict]) -> Result<Html, AllocError>
@@ -137,14 +132,13 @@ fn verdict_cells(alloc: Global, tick_us: u32, verdicts: &[Verdict]) -> Result<Ht
 }
 
 // How a fault stands at a terminal, its first trip and its margin.
-#[tactic(auto, unfolding(crate::specs::Matrices::verdict_cells_html))]
 fn three_cells(alloc: Global, tick_us: u32, verdict: &Verdict) -> Result<Html, AllocError>
     ensures { IfOk result (λ html. html.text.items ≡ verdict_cells_html tick_us verdict.now) }
 {
-    let trip = trip_words(alloc, tick_us, verdict.may, verdict.must)?;
-    let margin = margin_words(alloc, tick_us, verdict.deadline, verdict.must)?;
-    let badge = badge(alloc, verdict.standings.as_slice())?;
-    cell(alloc, b"state", verdict.terminal.as_slice(), &badge)?
-        .and(&number_cell(alloc, b"first trip", trip.as_slice())?)?
-        .and(&number_cell(alloc, b"margin", margin.as_slice())?)
+    let badge = badge(alloc, verdict.standings.as_slice());
+    let state = cell_around(alloc, b"state", verdict.terminal.as_slice(), badge);
+    let words = trip_words(alloc, tick_us, verdict.may, verdict.must);
+    let trip = joined(state, number_in(alloc, b"first trip", words));
+    let words = margin_words(alloc, tick_us, verdict.deadline, verdict.must);
+    joined(trip, number_in(alloc, b"margin", words))
 }

@@ -7,8 +7,8 @@ ghost use Rattle.draw_faults.specs.Opens.{some_open_html};
 
 use base_html::{Html, Tag};
 use draw_elements::{
-    Anchor, Page, Undecided, columns, head_cell, link, number_cell, number_words, plain, section,
-    table, words_in,
+    Anchor, Page, Undecided, around, columns, joined, link, number_cell, number_in, number_words,
+    row_head, section, table, words_in,
 };
 use std::alloc::{AllocError, Global};
 
@@ -56,15 +56,13 @@ fn open_rows(alloc: Global, all: &[Undecided]) -> Result<Html, AllocError>
     Ok(made)
 }
 
-#[tactic(auto, unfolding(crate::specs::Opens::open_row_html))]
 fn open_row(alloc: Global, one: &Undecided) -> Result<Html, AllocError>
     ensures { IfOk result (λ html. html.text.items ≡ open_row_html one.now) }
 {
     let to = Anchor::Fault(one.fault as usize);
-    let script = link(alloc, to, one.script.as_slice())?;
-    let analyses = number_words(alloc, one.analyses as usize)?;
-    let cells = head_cell(alloc, b"row", &script)?
-        .and(&number_cell(alloc, b"terminal", one.terminal.as_slice())?)?
-        .and(&number_cell(alloc, b"analyses tried", analyses.as_slice())?)?;
-    plain(alloc, Tag::Row, &cells)
+    let script = row_head(alloc, link(alloc, to, one.script.as_slice()));
+    let terminal = number_cell(alloc, b"terminal", one.terminal.as_slice());
+    let words = number_words(alloc, one.analyses as usize);
+    let analyses = number_in(alloc, b"analyses tried", words);
+    around(alloc, Tag::Row, joined(joined(script, terminal), analyses))
 }

@@ -8,8 +8,8 @@ ghost use Rattle.draw_faults.specs.Sweeps.{standing_at, state_html, value_html, 
 
 use base_html::{Html, Tag};
 use draw_elements::{
-    Case, Standing, Verdict, cell, column, deadline_words, head_cell, number_cell, plain,
-    standing_mark, table, time_words, words_in,
+    Case, Standing, Verdict, around, cell, column, deadline_words, joined, number_in, plain,
+    row_head, standing_mark, table, time_words, words_in,
 };
 use std::alloc::{AllocError, Global};
 
@@ -31,22 +31,18 @@ pub fn scripts(
     plain(alloc, Tag::Details, &inside)
 }
 
-#[tactic(auto, unfolding(crate::specs::Sweeps::scripts_head_html))]
 fn scripts_head(alloc: Global, verdicts: &[Verdict]) -> Result<Html, AllocError>
     ensures { IfOk result (λ html. html.text.items ≡ scripts_head_html verdicts.now) }
 {
-    let cells = script_heads(alloc)?.and(&terminal_heads(alloc, verdicts)?)?;
-    let row = plain(alloc, Tag::Row, &cells)?;
-    plain(alloc, Tag::TableHead, &row)
+    let cells = joined(script_heads(alloc), terminal_heads(alloc, verdicts));
+    around(alloc, Tag::TableHead, around(alloc, Tag::Row, cells))
 }
 
-#[tactic(auto, unfolding(crate::specs::Sweeps::script_heads_html))]
 fn script_heads(alloc: Global) -> Result<Html, AllocError>
     ensures { IfOk result (λ html. html.text.items ≡ script_heads_html) }
 {
-    column(alloc, b"Script")?
-        .and(&column(alloc, b"swept times")?)?
-        .and(&column(alloc, b"deadline")?)
+    let two = joined(column(alloc, b"Script"), column(alloc, b"swept times"));
+    joined(two, column(alloc, b"deadline"))
 }
 
 fn terminal_heads(alloc: Global, verdicts: &[Verdict]) -> Result<Html, AllocError>
@@ -76,7 +72,6 @@ fn case_rows(
     Ok(made)
 }
 
-#[tactic(auto, unfolding(crate::specs::Sweeps::case_row_html))]
 fn case_row(
     alloc: Global,
     tick_us: u32,
@@ -87,19 +82,21 @@ fn case_row(
     ensures { IfOk result (λ html. html.text.items
         ≡ case_row_html tick_us verdicts.now place case.now) }
 {
-    let cells = case_cells(alloc, tick_us, case)?.and(&states(alloc, place, verdicts)?)?;
-    plain(alloc, Tag::Row, &cells)
+    let cells = case_cells(alloc, tick_us, case);
+    around(
+        alloc,
+        Tag::Row,
+        joined(cells, states(alloc, place, verdicts)),
+    )
 }
 
-#[tactic(auto, unfolding(crate::specs::Sweeps::case_cells_html))]
 fn case_cells(alloc: Global, tick_us: u32, case: &Case) -> Result<Html, AllocError>
     ensures { IfOk result (λ html. html.text.items ≡ case_cells_html tick_us case.now) }
 {
-    let name = Html::words(alloc, case.name.as_slice())?;
-    let deadline = deadline_words(alloc, tick_us, case.deadline)?;
-    head_cell(alloc, b"row", &name)?
-        .and(&values_cell(alloc, tick_us, case.swept.as_slice())?)?
-        .and(&number_cell(alloc, b"deadline", deadline.as_slice())?)
+    let name = row_head(alloc, Html::words(alloc, case.name.as_slice()));
+    let values = joined(name, values_cell(alloc, tick_us, case.swept.as_slice()));
+    let words = deadline_words(alloc, tick_us, case.deadline);
+    joined(values, number_in(alloc, b"deadline", words))
 }
 
 #[tactic(auto, unfolding(crate::specs::Sweeps::values_cell_html))]
