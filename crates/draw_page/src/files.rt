@@ -1,13 +1,17 @@
 //! The files that were judged, and the digests of all.
 
-ghost use Rattle.std.specs.Prelude.{◌≡◌, IfOk};
+ghost use Rattle.std.specs.Prelude.{◌≡◌, IfOk, codes};
+ghost use Rattle.base_html.specs.declared.tag.Tag.TheVariants as tag;
+ghost use Rattle.draw_elements.specs.Bare.{bare_cell_html};
+ghost use Rattle.draw_elements.specs.Elements.{words_in_html};
 ghost use Rattle.std.specs.List.{flat_map};
 ghost use Rattle.draw_page.specs.Filed.{digest_row_html, file_html, file_row_html, files_html};
 ghost use Rattle.draw_page.specs.Filed.{hash_row_html};
 
 use base_html::{Html, Tag};
 use draw_elements::{
-    Anchor, Digest, FileText, Page, bare_cell, columns, head_cell, plain, section, table, words_in,
+    Anchor, Digest, FileText, Page, around, bare_cell, columns, joined, row_head, section, table,
+    words_in,
 };
 use std::alloc::{AllocError, Global};
 
@@ -45,14 +49,19 @@ fn digest_rows(alloc: Global, digests: &[Digest]) -> Result<Html, AllocError>
     Ok(made)
 }
 
-#[tactic(auto, unfolding(crate::specs::Filed::hash_row_html))]
 fn hash_row(alloc: Global, name: &[u8], sha256: &[u8]) -> Result<Html, AllocError>
     ensures { IfOk result (λ html. html.text.items ≡ hash_row_html name.now sha256.now) }
 {
-    let name = Html::words(alloc, name)?;
+    let name = row_head(alloc, Html::words(alloc, name));
+    around(alloc, Tag::Row, joined(name, hash_cell(alloc, sha256)))
+}
+
+fn hash_cell(alloc: Global, sha256: &[u8]) -> Result<Html, AllocError>
+    ensures { IfOk result (λ html. html.text.items
+        ≡ bare_cell_html (codes "hash") (words_in_html tag.Code sha256.now)) }
+{
     let hash = words_in(alloc, Tag::Code, sha256)?;
-    let cells = head_cell(alloc, b"row", &name)?.and(&bare_cell(alloc, b"hash", &hash)?)?;
-    plain(alloc, Tag::Row, &cells)
+    bare_cell(alloc, b"hash", &hash)
 }
 
 fn folded(alloc: Global, files: &[FileText]) -> Result<Html, AllocError>
@@ -65,14 +74,10 @@ fn folded(alloc: Global, files: &[FileText]) -> Result<Html, AllocError>
     Ok(made)
 }
 
-#[tactic(auto, unfolding(crate::specs::Filed::file_html))]
 fn one_file(alloc: Global, file: &FileText) -> Result<Html, AllocError>
     ensures { IfOk result (λ html. html.text.items ≡ file_html file.now) }
 {
-    let inside = words_in(alloc, Tag::Summary, file.name.as_slice())?.and(&words_in(
-        alloc,
-        Tag::Preformatted,
-        file.text.as_slice(),
-    )?)?;
-    plain(alloc, Tag::Details, &inside)
+    let name = words_in(alloc, Tag::Summary, file.name.as_slice());
+    let text = words_in(alloc, Tag::Preformatted, file.text.as_slice());
+    around(alloc, Tag::Details, joined(name, text))
 }

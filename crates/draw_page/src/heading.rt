@@ -1,6 +1,8 @@
 //! The head of the page: what it is of, and the counts in large.
 
-ghost use Rattle.std.specs.Prelude.{◌≡◌, IfOk, Some};
+ghost use Rattle.std.specs.Prelude.{◌≡◌, ◌++◌, IfOk, Some, codes};
+ghost use Rattle.base_html.specs.declared.tag.Tag.TheVariants as tag;
+ghost use Rattle.draw_elements.specs.Elements.{plain_html, said_in_html};
 ghost use Rattle.draw_page.specs.Headings.{answer_links_html, contents_html, count_html};
 ghost use Rattle.draw_page.specs.Headings.{counts_html, failing_html, header_html, held_html};
 ghost use Rattle.draw_page.specs.Headings.{least_html, link_item_html, meaning_html, notes_html};
@@ -9,24 +11,32 @@ ghost use Rattle.draw_page.specs.Headings.{tile_class as class_of_tile, tile_htm
 
 use base_html::{Attribute, Html, Key, Tag};
 use draw_elements::{
-    Anchor, Counts, LeastMargin, Page, classed, link, number_words, plain, push_ticks, said_in,
-    time_words, words_in,
+    Anchor, Counts, LeastMargin, Page, around, classed_around, joined, link, number_words, plain,
+    push_ticks, said_in, time_words, words_in,
 };
 use std::alloc::{AllocError, Global};
 
 /// The head of the page.
-#[tactic(auto, unfolding(crate::specs::Headings::header_html))]
 pub fn header(alloc: Global, page: &Page) -> Result<Html, AllocError>
     ensures { IfOk result (λ html. html.text.items ≡ header_html page.now) }
 {
+    let title = words_in(alloc, Tag::Heading1, page.title.as_slice());
+    let subject = joined(title, subject(alloc, page));
+    let counts = joined(
+        subject,
+        counts(alloc, page.counts, page.tick_us, &page.least),
+    );
+    let meaning = joined(counts, meaning(alloc));
+    let notes = joined(meaning, notes(alloc, page.notes.as_slice()));
+    around(alloc, Tag::Header, joined(notes, contents(alloc)))
+}
+
+fn subject(alloc: Global, page: &Page) -> Result<Html, AllocError>
+    ensures { IfOk result (λ html. html.text.items
+        ≡ said_in_html tag.Paragraph (codes "subject") (subject_said page.now)) }
+{
     let subject = subject_words(alloc, page)?;
-    let inside = words_in(alloc, Tag::Heading1, page.title.as_slice())?
-        .and(&said_in(alloc, Tag::Paragraph, b"subject", subject.as_slice())?)?
-        .and(&counts(alloc, page.counts, page.tick_us, &page.least)?)?
-        .and(&meaning(alloc)?)?
-        .and(&notes(alloc, page.notes.as_slice())?)?
-        .and(&contents(alloc)?)?;
-    plain(alloc, Tag::Header, &inside)
+    said_in(alloc, Tag::Paragraph, b"subject", subject.as_slice())
 }
 
 // The scheme, the terminals and the ticks.
@@ -58,7 +68,6 @@ fn zone_words(trips: bool) -> &'static [u8]
 }
 
 // The counts, and the least margin.
-#[tactic(auto, unfolding(crate::specs::Headings::counts_html))]
 fn counts(
     alloc: Global,
     counts: Counts,
@@ -67,11 +76,10 @@ fn counts(
 ) -> Result<Html, AllocError>
     ensures { IfOk result (λ html. html.text.items ≡ counts_html counts tick_us least.now) }
 {
-    let inside = held(alloc, counts.held)?
-        .and(&failing(alloc, counts.fails)?)?
-        .and(&undecided(alloc, counts.undecided)?)?
-        .and(&least_tile(alloc, tick_us, least)?)?;
-    classed(alloc, Tag::Division, b"tiles", &inside)
+    let failing = joined(held(alloc, counts.held), failing(alloc, counts.fails));
+    let undecided = joined(failing, undecided(alloc, counts.undecided));
+    let all = joined(undecided, least_tile(alloc, tick_us, least));
+    classed_around(alloc, Tag::Division, b"tiles", all)
 }
 
 #[tactic(auto, unfolding(crate::specs::Headings::held_html))]
@@ -111,13 +119,13 @@ fn tile_class<'a>(class: &'a [u8], number: u32) -> &'a [u8]
     if number == 0 { b"tile none" } else { class }
 }
 
-#[tactic(auto, unfolding(crate::specs::Headings::tile_html))]
 fn tile_of(alloc: Global, class: &[u8], number: &[u8], words: &[u8]) -> Result<Html, AllocError>
     ensures { IfOk result (λ html. html.text.items
         ≡ tile_html class.now number.now words.now) }
 {
-    let inside = words_in(alloc, Tag::Strong, number)?.and(&words_in(alloc, Tag::Span, words)?)?;
-    classed(alloc, Tag::Division, class, &inside)
+    let number = words_in(alloc, Tag::Strong, number);
+    let inside = joined(number, words_in(alloc, Tag::Span, words));
+    classed_around(alloc, Tag::Division, class, inside)
 }
 
 fn least_tile(alloc: Global, tick_us: u32, least: &Option<LeastMargin>) -> Result<Html, AllocError>
@@ -167,8 +175,7 @@ fn notes(alloc: Global, notes: &[Vec<u8>]) -> Result<Html, AllocError>
 fn contents(alloc: Global) -> Result<Html, AllocError>
     ensures { IfOk result (λ html. html.text.items ≡ contents_html) }
 {
-    let items = answer_links(alloc)?.and(&other_links(alloc)?)?;
-    let list = plain(alloc, Tag::List, &items)?;
+    let list = links(alloc)?;
     let label = Attribute {
         key: Key::AriaLabel,
         words: b"Contents",
@@ -176,23 +183,30 @@ fn contents(alloc: Global) -> Result<Html, AllocError>
     Html::element(alloc, Tag::Nav, &[label], &list)
 }
 
-#[tactic(auto, unfolding(crate::specs::Headings::answer_links_html))]
+fn links(alloc: Global) -> Result<Html, AllocError>
+    ensures { IfOk result (λ html. html.text.items
+        ≡ plain_html tag.List (answer_links_html ++ other_links_html)) }
+{
+    let items = joined(answer_links(alloc), other_links(alloc));
+    around(alloc, Tag::List, items)
+}
+
 fn answer_links(alloc: Global) -> Result<Html, AllocError>
     ensures { IfOk result (λ html. html.text.items ≡ answer_links_html) }
 {
-    link_item(alloc, Anchor::Verdicts, b"Verdicts")?
-        .and(&link_item(alloc, Anchor::Failing, b"Failing choices")?)?
-        .and(&link_item(alloc, Anchor::Open, b"Open")?)
+    let verdicts = link_item(alloc, Anchor::Verdicts, b"Verdicts");
+    let failing = link_item(alloc, Anchor::Failing, b"Failing choices");
+    let open = link_item(alloc, Anchor::Open, b"Open");
+    joined(joined(verdicts, failing), open)
 }
 
-#[tactic(auto, unfolding(crate::specs::Headings::other_links_html))]
 fn other_links(alloc: Global) -> Result<Html, AllocError>
     ensures { IfOk result (λ html. html.text.items ≡ other_links_html) }
 {
-    link_item(alloc, Anchor::Times, b"Times")?
-        .and(&link_item(alloc, Anchor::Faults, b"Faults")?)?
-        .and(&link_item(alloc, Anchor::Files, b"Files")?)?
-        .and(&link_item(alloc, Anchor::Signature, b"Signature")?)
+    let times = link_item(alloc, Anchor::Times, b"Times");
+    let faults = joined(times, link_item(alloc, Anchor::Faults, b"Faults"));
+    let files = joined(faults, link_item(alloc, Anchor::Files, b"Files"));
+    joined(files, link_item(alloc, Anchor::Signature, b"Signature"))
 }
 
 #[tactic(auto, unfolding(crate::specs::Headings::link_item_html))]

@@ -2,6 +2,7 @@
 
 ghost use Rattle.std.specs.Prelude.{◌≡◌, ◌≤◌, IfOk};
 ghost use Rattle.std.specs.List.{flat_map};
+ghost use Rattle.draw_elements.specs.Elements.{column_html};
 ghost use Rattle.draw_page.specs.Times.{lost_html, margin_columns_html, no_times_html, reach_said, slack_html};
 ghost use Rattle.draw_page.specs.Times.{time_row_html, times_head_html, times_html, times_meaning};
 ghost use Rattle.draw_page.specs.Times.{some_times_html, times_table_html};
@@ -10,8 +11,8 @@ ghost use Rattle.draw_page.specs.Times.{bar_cell_html, slack_cell_html, time_cel
 use crate::bar::{bar, reach};
 use base_html::{Html, Tag};
 use draw_elements::{
-    Anchor, Page, Slack, Time, bare_cell, cell, column, drawing, head_cell, interval_words,
-    number_cell, plain, push_ticks, said_in, section, table, time_words, words_in,
+    Anchor, Page, Slack, Time, around, bare_cell, cell, column, drawing, interval_words, joined,
+    number_in, push_ticks, row_head, said_in, section, table, time_words, words_in,
 };
 use std::alloc::{AllocError, Global};
 
@@ -62,24 +63,26 @@ fn times_table(alloc: Global, tick_us: u32, times: &[Time]) -> Result<Html, Allo
     table(alloc, b"times", &head, &rows)
 }
 
-#[tactic(auto, unfolding(crate::specs::Times::times_head_html))]
 fn times_head(alloc: Global, tick_us: u32, reach: u32) -> Result<Html, AllocError>
     ensures { IfOk result (λ html. html.text.items ≡ times_head_html tick_us reach) }
 {
-    let to = reach_words(alloc, tick_us, reach)?;
-    let cells = margin_columns(alloc)?.and(&column(alloc, to.as_slice())?)?;
-    let row = plain(alloc, Tag::Row, &cells)?;
-    plain(alloc, Tag::TableHead, &row)
+    let cells = joined(margin_columns(alloc), reach_column(alloc, tick_us, reach));
+    around(alloc, Tag::TableHead, around(alloc, Tag::Row, cells))
 }
 
-#[tactic(auto, unfolding(crate::specs::Times::margin_columns_html))]
+fn reach_column(alloc: Global, tick_us: u32, reach: u32) -> Result<Html, AllocError>
+    ensures { IfOk result (λ html. html.text.items ≡ column_html (reach_said tick_us reach)) }
+{
+    let to = reach_words(alloc, tick_us, reach)?;
+    column(alloc, to.as_slice())
+}
+
 fn margin_columns(alloc: Global) -> Result<Html, AllocError>
     ensures { IfOk result (λ html. html.text.items ≡ margin_columns_html) }
 {
-    column(alloc, b"Time")?
-        .and(&column(alloc, b"declared")?)?
-        .and(&column(alloc, b"to spare below")?)?
-        .and(&column(alloc, b"to spare above")?)
+    let two = joined(column(alloc, b"Time"), column(alloc, b"declared"));
+    let three = joined(two, column(alloc, b"to spare below"));
+    joined(three, column(alloc, b"to spare above"))
 }
 
 // From where to where the bars go.
@@ -104,25 +107,27 @@ fn time_rows(alloc: Global, tick_us: u32, reach: u32, times: &[Time]) -> Result<
     Ok(made)
 }
 
-#[tactic(auto, unfolding(crate::specs::Times::time_row_html))]
 fn time_row(alloc: Global, tick_us: u32, reach: u32, time: &Time) -> Result<Html, AllocError>
     requires { 1 ≤ reach }
     ensures { IfOk result (λ html. html.text.items ≡ time_row_html tick_us reach time.now) }
 {
-    let cells = time_cells(alloc, tick_us, time)?.and(&bar_cell(alloc, tick_us, reach, time)?)?;
-    plain(alloc, Tag::Row, &cells)
+    let cells = time_cells(alloc, tick_us, time);
+    around(
+        alloc,
+        Tag::Row,
+        joined(cells, bar_cell(alloc, tick_us, reach, time)),
+    )
 }
 
-#[tactic(auto, unfolding(crate::specs::Times::time_cells_html))]
 fn time_cells(alloc: Global, tick_us: u32, time: &Time) -> Result<Html, AllocError>
     ensures { IfOk result (λ html. html.text.items ≡ time_cells_html tick_us time.now) }
 {
-    let name = words_in(alloc, Tag::Code, time.name.as_slice())?;
-    let declared = interval_words(alloc, tick_us, time.low, time.high)?;
-    head_cell(alloc, b"row", &name)?
-        .and(&number_cell(alloc, b"declared", declared.as_slice())?)?
-        .and(&slack_cell(alloc, tick_us, b"to spare below", &time.below)?)?
-        .and(&slack_cell(alloc, tick_us, b"to spare above", &time.above)?)
+    let name = row_head(alloc, words_in(alloc, Tag::Code, time.name.as_slice()));
+    let words = interval_words(alloc, tick_us, time.low, time.high);
+    let declared = joined(name, number_in(alloc, b"declared", words));
+    let below = slack_cell(alloc, tick_us, b"to spare below", &time.below);
+    let above = slack_cell(alloc, tick_us, b"to spare above", &time.above);
+    joined(joined(declared, below), above)
 }
 
 #[tactic(auto, unfolding(crate::specs::Times::bar_cell_html))]

@@ -10,7 +10,7 @@ use crate::sheet::sheet;
 use crate::signing::signing;
 use crate::times::times;
 use base_html::{Attribute, Document, Html, Key, Tag, Void};
-use draw_elements::{Page, patterns, plain, words_in};
+use draw_elements::{Page, around, joined, patterns, words_in};
 use draw_faults::{failing, faults, matrix, undecided};
 use std::alloc::{AllocError, Global};
 
@@ -32,14 +32,12 @@ pub fn page_document(alloc: Global, page: &Page) -> Result<Document, AllocError>
     Document::new(alloc, &head, &body)
 }
 
-#[tactic(auto, unfolding(crate::specs::Pages::head_html))]
 fn head(alloc: Global, page: &Page) -> Result<Html, AllocError>
     ensures { IfOk result (λ html. html.text.items ≡ head_html page.now) }
 {
-    charset(alloc)?
-        .and(&viewport(alloc)?)?
-        .and(&words_in(alloc, Tag::Title, page.title.as_slice())?)?
-        .and(&sheet(alloc)?)
+    let metas = joined(charset(alloc), viewport(alloc));
+    let title = words_in(alloc, Tag::Title, page.title.as_slice());
+    joined(joined(metas, title), sheet(alloc))
 }
 
 fn charset(alloc: Global) -> Result<Html, AllocError>
@@ -67,19 +65,17 @@ fn viewport(alloc: Global) -> Result<Html, AllocError>
 }
 
 // The hatchings, and all sections.
-#[tactic(auto, unfolding(crate::specs::Pages::body_html))]
 fn body(alloc: Global, page: &Page) -> Result<Html, AllocError>
     ensures { IfOk result (λ html. html.text.items ≡ body_html page.now) }
 {
-    let main = sections(alloc, page)?;
-    patterns(alloc)?.and(&plain(alloc, Tag::Main, &main)?)
+    let main = around(alloc, Tag::Main, sections(alloc, page));
+    joined(patterns(alloc), main)
 }
 
-#[tactic(auto, unfolding(crate::specs::Pages::main_html))]
 fn sections(alloc: Global, page: &Page) -> Result<Html, AllocError>
     ensures { IfOk result (λ html. html.text.items ≡ main_html page.now) }
 {
-    answers(alloc, page)?.and(&grounds(alloc, page)?)
+    joined(answers(alloc, page), grounds(alloc, page))
 }
 
 // What was asked, and what was found.
@@ -94,12 +90,10 @@ fn answers(alloc: Global, page: &Page) -> Result<Html, AllocError>
 }
 
 // What it rests on.
-#[tactic(auto, unfolding(crate::specs::Pages::grounds_html))]
 fn grounds(alloc: Global, page: &Page) -> Result<Html, AllocError>
     ensures { IfOk result (λ html. html.text.items ≡ grounds_html page.now) }
 {
-    times(alloc, page)?
-        .and(&faults(alloc, page)?)?
-        .and(&files(alloc, page)?)?
-        .and(&signing(alloc, page)?)
+    let faults = joined(times(alloc, page), faults(alloc, page));
+    let files = joined(faults, files(alloc, page));
+    joined(files, signing(alloc, page))
 }
