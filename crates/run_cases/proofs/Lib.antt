@@ -1,5 +1,3 @@
-mod Lists
-mod SendLaws
 mod TickLaws
 mod WalkLaws
 mod ValueLaws

@@ -10,7 +10,7 @@ use Rattle.run_simulator.specs.WavesOf.{pair_in}
 use Rattle.run_cases.specs.UnderWaves.{value_at}
 use Rattle.std.specs.Prelude.{slice_get}
 use Rattle.run_simulator.specs.{Ticks.ValuesAgree, Ticks.ValuesTold, ListLaws.exists_at}
-use Rattle.run_cases.proofs.Lists.{at_append}
+use Rattle.run_simulator.specs.ListLaws.{at_append}
 
 -- one more tick has room below the horizon
 pub tick_fits : (t h n : ℕ) → t < h → t * n + n ≤ h * n

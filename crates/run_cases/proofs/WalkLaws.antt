@@ -8,7 +8,7 @@ use Rattle.net_gates.specs.declared.gate.Gate.{Gate}
 use Rattle.run_simulator.specs.{GatePairs.GateSignals, Ticks.ValuesAgree, ListLaws.at_push}
 use Rattle.run_cases.specs.{declared.cell.Cell.Cell, CellStands.HasCell, CellStands.CellStands}
 use Rattle.run_cases.specs.Ticks.{HaveCells, CellsWalked, AllStand}
-use Rattle.run_cases.proofs.Lists.{at_set, one_value}
+use Rattle.run_simulator.specs.ListLaws.{at_set, one_value}
 
 -- one more element beside a list of gates, with what each is to have
 pub one_more : {Y : Type 0} (P : Gate → Y → Type 0) (gates : List Gate) (xs : List Y) (i : ℕ)

@@ -16,7 +16,7 @@ use Rattle.run_simulator.specs.Shown.{ShowTheSame, ShownSpans, AreShown, not_ove
 use Rattle.run_simulator.specs.{declared.delays.Delay.Delay, LaneBox.ends_at, LaneBox.lane_box}
 use Rattle.run_simulator.specs.{LaneBox.lane_world}
 use Rattle.run_simulator.specs.Runs.{AreDelayed}
-use Rattle.run_simulator.proofs.Lists.{at_set}
+use Rattle.run_simulator.specs.ListLaws.{at_set}
 
 -- who sends over a channel
 pub sender : (line : Line) (c : ℕ) (h : Channel) → slice_get line.channels.items c ≡ Some h

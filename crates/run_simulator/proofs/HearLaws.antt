@@ -15,7 +15,7 @@ use Rattle.run_simulator.specs.Readers.{AreHastened}
 use Rattle.run_simulator.specs.Ticks.{AreSent, KeysSent, ValuesAgree}
 use Rattle.run_simulator.specs.{Lanes.LanePairs, LaneLaws.lane_at, ListLaws.exists_at}
 use Rattle.run_simulator.proofs.LagLaws.{HearsNo}
-use Rattle.run_simulator.proofs.Lists.{at_set, one_value}
+use Rattle.run_simulator.specs.ListLaws.{at_set, one_value}
 
 -- a due tick that was made earlier still is
 pub soon_kept : (first i : ℕ) (old new : List ℕ) → length old ≡ length new → AreHastened old new

@@ -6,7 +6,6 @@ pub mod ReaderLaws
 pub mod TraceLaws
 pub mod WaitLaws
 pub mod MarkLaws
-pub mod Lists
 pub mod Loops
 pub mod GatePairLaws
 pub mod SearchLaws
@@ -15,7 +14,6 @@ pub mod ShownLaws
 pub mod GivenLaws
 pub mod TickLaws
 pub mod WalkLaws
-pub mod SendLaws
 pub mod DelayLaws
 pub mod QuietLaws
 pub mod StretchLaws

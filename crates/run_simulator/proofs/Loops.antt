@@ -4,7 +4,7 @@ use Rattle.std.proofs.Math.Nat.{max-le}
 use Rattle.std.proofs.lemmas.Option.{slice_get-get_or, slice_get_within}
 use Rattle.std.proofs.lemmas.Bool.{cases_lt}
 use Rattle.std.specs.Prelude.{slice_get, get_or, max}
-use Rattle.run_simulator.proofs.Lists.{one_value}
+use Rattle.run_simulator.specs.ListLaws.{one_value}
 
 -- the first n elements have it
 abbrev pub FirstHave : {X : Type 0} → (X → Type 0) → List X → ℕ → Type 0

@@ -13,7 +13,7 @@ use Rattle.std.specs.Prelude.{slice_get, slice_set}
 use Rattle.std.specs.Int.{bit_at, bit_not, trailing_zeros}
 use Rattle.run_simulator.specs.Marks.{AreMarked, HasRoom, IsMarked, IsPlanned, MarksStay}
 use Rattle.run_simulator.specs.declared.marks.Marks.{Marks}
-use Rattle.run_simulator.proofs.Lists.{at_set}
+use Rattle.run_simulator.specs.ListLaws.{at_set}
 
 -- ---- one word written
 

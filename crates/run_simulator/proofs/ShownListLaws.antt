@@ -13,7 +13,7 @@ use Rattle.net_gates.specs.declared.gate.Gate.TheVariants.{Const, Seen, Loss, Ra
 use Rattle.net_gates.specs.declared.gate.Gate.TheVariants.{Timer, Seal}
 use Rattle.run_simulator.specs.{Shown.is_shown_by, ShownBy.AreListed, ShownBy.AreStarts}
 use Rattle.run_simulator.specs.ShownBy.{spans_at}
-use Rattle.run_simulator.proofs.Lists.{one_value}
+use Rattle.run_simulator.specs.ListLaws.{one_value}
 
 -- the gate shows no span, whatever it is of
 abbrev pub ShowsNone : Gate → Type 0

@@ -16,7 +16,8 @@ use Rattle.run_simulator.specs.ListLaws.{exists_at}
 use Rattle.run_simulator.specs.Lags.{AllWait, AreFreshDues, ArgsRest, GateWaits, IsTraced, Lags}
 use Rattle.run_simulator.specs.Readers.{AreLowered, IsTold}
 use Rattle.run_simulator.specs.Marks.{AreMarked, IsMarked}
-use Rattle.run_simulator.proofs.{Lists.at_set, Lists.one_value, MarkLaws.watched}
+use Rattle.run_simulator.proofs.MarkLaws.{watched}
+use Rattle.run_simulator.specs.ListLaws.{at_set, one_value}
 use Rattle.run_simulator.proofs.LagLaws.{ArgsSame, args_same, at_least_one, lasts_none, rest_pair}
 use Rattle.run_simulator.proofs.LagLaws.{rest_lags, rest_lasts, rests_more, rests_none}
 

@@ -8,7 +8,7 @@ use Rattle.model_history.specs.Rails.{Rails}
 use Rattle.run_simulator.specs.GatePairs.{GateSignals}
 use Rattle.run_simulator.specs.WavesOf.{WavesOf, AreWaves, wave_pair, pair_in}
 use Rattle.run_simulator.specs.{Ticks.ValuesAgree, Ticks.ValuesTold, ListLaws.exists_at}
-use Rattle.run_simulator.proofs.Lists.{at_append}
+use Rattle.run_simulator.specs.ListLaws.{at_append}
 
 -- one more tick has room below the horizon
 pub tick_fits : (t h n : ℕ) → t < h → t * n + n ≤ h * n

@@ -12,7 +12,7 @@ use Rattle.run_simulator.specs.{declared.cell.Cell.Cell, CellStands.HasCell, Cel
 use Rattle.run_simulator.specs.{Ticks.ValuesAgree, Ticks.HaveCells, Ticks.AreTold}
 use Rattle.run_simulator.specs.Ticks.{CellsWalked}
 use Rattle.run_simulator.specs.{Ticks.AllStand, ListLaws.at_push}
-use Rattle.run_simulator.proofs.Lists.{at_set, one_value}
+use Rattle.run_simulator.specs.ListLaws.{at_set, one_value}
 
 -- one more element beside a list of gates, with what each is to have
 pub one_more : {Y : Type 0} (P : Gate → Y → Type 0) (gates : List Gate) (xs : List Y) (i : ℕ)

@@ -7,6 +7,7 @@ pub mod WavesOf
 pub mod Runs
 pub mod Played
 pub mod ListLaws
+pub mod SendLaws
 pub mod LaneLaws
 pub mod Quiet
 pub mod Lanes

@@ -12,7 +12,7 @@ use Rattle.run_simulator.specs.Ticks.{ValuesAgree, ValuesTold}
 use Rattle.run_cases.specs.Ticks.{IsReady, LaneStands, under_pairs, own_pairs}
 use Rattle.run_cases.specs.Given.{CanReceive, IsWorldAt, span_box, spans_at}
 use Rattle.run_cases.proofs.GivenLaws.{can_receive, world_at}
-use Rattle.run_cases.proofs.SendLaws.{none_sent, fresh_sent, one_tick_sent}
+use Rattle.run_simulator.specs.SendLaws.{none_sent, fresh_sent, one_tick_sent}
 use Rattle.run_cases.proofs.ValueLaws.{tick_fits, values_none, values_more}
 use Rattle.run_cases.proofs.UnderLaws.{gates_told}
 use Rattle.run_cases.proofs.ticks.run_ticks.Goals as goal

@@ -3,7 +3,8 @@ use Rattle.std.proofs.lemmas.Option.{slice_get-get_or}
 use Rattle.std.specs.Prelude.{slice_get}
 use Rattle.model_history.specs.Rails.{rails_delayed}
 use Rattle.run_signal.specs.Lanes.{in_lane}
-use Rattle.run_simulator.proofs.{SendLaws.received-is, DelayLaws.sender_inside}
+use Rattle.run_simulator.proofs.DelayLaws.{sender_inside}
+use Rattle.run_simulator.specs.SendLaws.{received-is}
 use Rattle.run_simulator.proofs.answer.raw_answer.Goals as goal
 
 pub bounds-moment-delay : goal.bounds-moment-delay

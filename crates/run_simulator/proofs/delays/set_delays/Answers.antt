@@ -3,7 +3,8 @@ use Rattle.std.proofs.lemmas.Option.{slice_get_read}
 use Rattle.std.specs.Prelude.{slice_get}
 use Rattle.model_line.specs.Parameters.{channel_count}
 use Rattle.run_simulator.specs.Inputs.{DelayStands}
-use Rattle.run_simulator.proofs.{GivenLaws.span_set, Lists.at_set, Loops.first_all}
+use Rattle.run_simulator.proofs.{GivenLaws.span_set, Loops.first_all}
+use Rattle.run_simulator.specs.ListLaws.{at_set}
 use Rattle.run_simulator.proofs.delays.set_delays.Goals as goal
 
 pub loop-channel-init : goal.loop-channel-init

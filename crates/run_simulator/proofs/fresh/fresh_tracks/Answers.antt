@@ -1,6 +1,6 @@
 use Rattle.std.proofs.Common.{◌+◌, sym, subst}
 use Rattle.run_simulator.specs.Ticks.{AreFresh}
-use Rattle.run_simulator.proofs.SendLaws.{fresh_more}
+use Rattle.run_simulator.specs.SendLaws.{fresh_more}
 use Rattle.run_simulator.proofs.fresh.fresh_tracks.Goals as goal
 
 pub loop-preserved : goal.loop-preserved

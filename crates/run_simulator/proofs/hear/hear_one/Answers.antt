@@ -3,7 +3,8 @@ use Rattle.std.proofs.lemmas.Option.{slice_get-get_or, slice_get_read}
 use Rattle.std.specs.Prelude.{slice_get}
 use Rattle.net_gates.specs.{Readers.AreBelow, NetOf.key_of}
 use Rattle.run_simulator.specs.Hears.{IsLastKey}
-use Rattle.run_simulator.proofs.{Lists.one_value, DelayLaws.sender_inside}
+use Rattle.run_simulator.proofs.DelayLaws.{sender_inside}
+use Rattle.run_simulator.specs.ListLaws.{one_value}
 use Rattle.run_simulator.proofs.hear.hear_one.Goals as goal
 
 pub bounds-moment-delay : goal.bounds-moment-delay

@@ -4,7 +4,8 @@ use Rattle.std.proofs.lemmas.Option.{slice_get_read, slice_get_within}
 use Rattle.std.specs.Prelude.{slice_get, get_or}
 use Rattle.net_gates.specs.NetOf.{id_at, key_of}
 use Rattle.run_simulator.specs.Hears.{IsLastKey}
-use Rattle.run_simulator.proofs.{Lists.one_value, SendLaws.number_read}
+use Rattle.run_simulator.specs.ListLaws.{one_value}
+use Rattle.run_simulator.specs.SendLaws.{number_read}
 use Rattle.run_simulator.proofs.hear.keys_stay.Goals as goal
 
 pub offset_bounds-column-gates : goal.offset_bounds-column-gates

@@ -4,8 +4,8 @@ use Rattle.std.proofs.lemmas.Option.{slice_get_read, slice_get_within}
 use Rattle.std.specs.Prelude.{slice_get, get_or}
 use Rattle.net_gates.specs.NetOf.{id_at}
 use Rattle.run_simulator.specs.Ticks.{HasKeys, HasSent}
-use Rattle.run_simulator.proofs.Lists.{part_more}
-use Rattle.run_simulator.proofs.SendLaws.{keys_for, sent_for, number_read}
+use Rattle.run_simulator.specs.ListLaws.{part_more}
+use Rattle.run_simulator.specs.SendLaws.{keys_for, sent_for, number_read}
 use Rattle.run_simulator.proofs.send.send_all.Goals as goal
 
 pub loop-k-init : goal.loop-k-init

@@ -2,7 +2,8 @@ use Rattle.std.proofs.Common.{ℕ, length, refl, ap, arith, sym, subst}
 use Rattle.model_logic.specs.{Choice.pair_world_of}
 use Rattle.run_simulator.specs.{LaneBox.lane_box, Tracks.line_lane, Tracks.trips_of, Ticks.AreSent}
 use Rattle.run_simulator.specs.Lanes.{LanePairs}
-use Rattle.run_simulator.proofs.{SendLaws.fresh_sent, SendLaws.none_sent, GivenLaws.stand_none}
+use Rattle.run_simulator.proofs.GivenLaws.{stand_none}
+use Rattle.run_simulator.specs.SendLaws.{fresh_sent, none_sent}
 use Rattle.run_simulator.proofs.start.fresh_kept.Goals as goal
 
 pub returns-clause-can : goal.returns-clause-can

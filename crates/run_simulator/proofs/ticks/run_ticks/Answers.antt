@@ -15,7 +15,7 @@ use Rattle.run_simulator.specs.Shown.{AreShown}
 use Rattle.run_simulator.proofs.GivenLaws.{stand_none, stand_later, shown_none, shown_later}
 use Rattle.run_simulator.proofs.GivenLaws.{can_receive}
 use Rattle.run_simulator.proofs.GivenLaws.{world_at}
-use Rattle.run_simulator.proofs.SendLaws.{none_sent, fresh_sent, one_tick_sent}
+use Rattle.run_simulator.specs.SendLaws.{none_sent, fresh_sent, one_tick_sent}
 use Rattle.run_simulator.proofs.ValueLaws.{tick_fits, values_none, values_more}
 use Rattle.run_simulator.proofs.{GatePairLaws.gate_pairs-kind, RunLaws.key_pair}
 use Rattle.run_simulator.proofs.ticks.run_ticks.Goals as goal

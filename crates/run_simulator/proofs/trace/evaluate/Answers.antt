@@ -7,7 +7,7 @@ use Rattle.net_gates.specs.declared.gate.Gate.{Gate}
 use Rattle.run_simulator.specs.Shown.{IsShown}
 use Rattle.run_simulator.specs.{Lasts.Lasts, Ticks.ValuesAgree, Marks.AreMarked}
 use Rattle.run_simulator.proofs.WalkLaws.{have_more}
-use Rattle.run_simulator.proofs.Lists.{one_value}
+use Rattle.run_simulator.specs.ListLaws.{one_value}
 use Rattle.run_simulator.proofs.TraceLaws.{set_here, set_other, fresh_more, fresh_lowered}
 use Rattle.run_simulator.proofs.TraceLaws.{lowered_lasts, traced_more, traced_agree}
 use Rattle.run_simulator.proofs.trace.evaluate.Goals as goal
