@@ -1,14 +1,18 @@
 -- Where no key and no trip changes there are no rows.
-use Rattle.std.specs.Prelude.{[], codes}
+use Rattle.std.specs.Prelude.{[], Some, codes, slice_get}
 use Rattle.std.proofs.Common.{◌≡◌, ◌<◌, ◌≤◌, ◌++◌, ℕ, zero, suc, Bool, true, false, List, refl, sym}
 use Rattle.std.proofs.Common.{◌∙◌, ap, arith, ⊎_elim}
 use Rattle.std.proofs.lemmas.Bool.{cases_lt}
 use Rattle.std.proofs.lemmas.List.{append-nil}
 use Rattle.model_names.specs.NamesByNumber.{terminal_name}
 use Rattle.model_line.specs.{declared.line.Line.Line, Parameters.terminal_count}
-use Rattle.model_logic.specs.Histories.{History}
+use Rattle.run_channel.specs.SentKeys.{SentKeys}
+use Rattle.run_signal.specs.declared.level.Level.{Level}
+use Rattle.run_simulator.specs.{ListLaws.exists_at, PlayedTracks.is_shown, PlayedTracks.played}
 use Rattle.run_rows.specs.PlayRows.{change_row, value_before, signal_row, each_below}
 use Rattle.run_rows.specs.PlayRows.{terminal_rows, tick_rows}
+use Rattle.run_rows.specs.StandingLaws.{AllStand, no_change}
+use Rattle.run_rows.specs.declared.standing.Pair.{Pair}
 
 no_texts : (n : ℕ) (f : ℕ → List ℕ) → ((k : ℕ) → k < n → f k ≡ []) → each_below n f ≡ []
 no_texts zero f none = refl
@@ -34,29 +38,25 @@ unchanged : (timing script : List ℕ) (t : ℕ) (terminal signal : List ℕ) (l
 unchanged timing script t terminal signal true = refl
 unchanged timing script t terminal signal false = refl
 
-before_same : (u : ℕ → Bool) (t end r : ℕ)
-    → ((s : ℕ) → t ≤ s → s < end → u s ≡ u t) → t < r → r < end → value_before u r ≡ u r
-before_same u t end zero same low high = absurd (omega arith)
-before_same u t end (suc r) same low high =
-    same r (omega arith) (omega arith) ∙ sym (same (suc r) (omega arith) high)
-
 no_row : (timing script : List ℕ) (r : ℕ) (terminal signal : List ℕ) (u : ℕ → Bool)
     → value_before u r ≡ u r → signal_row timing script r terminal signal u ≡ []
 no_row timing script r terminal signal u same =
     ap (λ (b : Bool). change_row timing script r terminal signal b (u r)) same
     ∙ unchanged timing script r terminal signal (u r)
 
--- there are none at the ticks after t through which each key and each trip stays
-pub no_rows : (timing script : List ℕ) (line : Line) (h : History) (t end r : ℕ)
-    → ((k s : ℕ) → k < terminal_count line → t ≤ s → s < end → h.key k s ≡ h.key k t)
-    → ((k s : ℕ) → k < terminal_count line → t ≤ s → s < end → h.trip k s ≡ h.trip k t)
-    → t < r → r < end → tick_rows timing script line h r ≡ []
-no_rows timing script line h t end r keys trips low high =
-    no_texts (terminal_count line) (terminal_rows timing script line h r)
+-- there are none at a tick before any of the changes that are told
+pub no_rows : (timing script : List ℕ) (line : Line) (keys trips : List (SentKeys Level)) (t r : ℕ)
+    (pairs : List Pair) → AllStand (terminal_count line) t keys trips pairs
+    → ((k : ℕ) (p : Pair) → slice_get pairs k ≡ Some p → (r < p.key.until) × (r < p.trip.until))
+    → t ≤ r → tick_rows timing script line (played keys trips) r ≡ []
+no_rows timing script line keys trips t r pairs stand before low =
+    no_texts (terminal_count line) (terminal_rows timing script line (played keys trips) r)
     (λ k there.
-    ap (λ (l : List ℕ).
-    l ++ signal_row timing script r (terminal_name line k) (codes "trip") (h.trip k))
-    (no_row timing script r (terminal_name line k) (codes "key") (h.key k)
-    (before_same (h.key k) t end r (λ s. keys k s there) low high))
-    ∙ no_row timing script r (terminal_name line k) (codes "trip") (h.trip k)
-    (before_same (h.trip k) t end r (λ s. trips k s there) low high))
+    let (p, at) = exists_at pairs k (omega (arith, stand.count)) in
+    let both = stand.each k p at in
+    let name = terminal_name line k in
+    ap (λ (l : List ℕ). l ++ signal_row timing script r name (codes "trip") (is_shown trips k))
+    (no_row timing script r name (codes "key") (is_shown keys k)
+    (no_change both.key r low (before k p at).0))
+    ∙ no_row timing script r name (codes "trip") (is_shown trips k)
+    (no_change both.trip r low (before k p at).1))

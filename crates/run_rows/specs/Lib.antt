@@ -1,2 +1,3 @@
 pub mod PlayRows
 pub mod RowLaws
+pub mod StandingLaws

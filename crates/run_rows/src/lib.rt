@@ -3,6 +3,7 @@
 
 mod play;
 mod rows;
+mod standing;
 
 pub use play::play_rows;
 pub use rows::level_word;

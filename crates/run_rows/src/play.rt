@@ -1,26 +1,27 @@
 //! The rows of a played timing.
 
-ghost use Rattle.std.specs.Prelude.{◌≡◌, ℕ, ◌<◌, ◌≤◌, ◌++◌, length, slice_get, codes, OnOk, IfOk};
-ghost use Rattle.run_signal.specs.declared.level.Level.{Level};
-ghost use Rattle.run_channel.specs.SentKeys.{SentKeys};
+ghost use Rattle.std.specs.Prelude.{◌≡◌, ◌<◌, ◌+◌, ◌++◌, OnOk, IfOk};
 ghost use Rattle.model_logic.specs.Histories.{History, IsLineHistory};
 ghost use Rattle.model_line.specs.Parameters.{terminal_count};
-ghost use Rattle.model_names.specs.NamesByNumber.{terminal_name};
 ghost use Rattle.net_gates.specs.NetOf.{IsNetOf};
 ghost use Rattle.model_timing.specs.{Inside.IsTimingInside, Choice.timing_choice};
-ghost use Rattle.run_rows.specs.PlayRows.{signal_row, tick_rows, run_rows};
+ghost use Rattle.run_rows.specs.PlayRows.{terminal_rows, tick_rows, run_rows};
+ghost use Rattle.run_rows.specs.StandingLaws.{AllStand, PairStands};
 ghost use Rattle.run_simulator.specs.Ticks.{AreSent};
-ghost use Rattle.run_simulator.specs.PlayedTracks.{is_on, played, StaysOn};
+ghost use Rattle.run_simulator.specs.PlayedTracks.{played};
 
 use crate::rows::{RowNames, push_signal};
+use crate::standing::{Pair, fresh_pairs, next_change};
 use model_line::{Line, Memory, Script};
 use model_timing::NamedTiming;
 use net_gates::Net;
-use run_channel::Track;
 use run_signal::Level;
 use run_simulator::laws::a_timing_is_one_choice;
 use run_simulator::{Tracks, run_tracks};
 use std::alloc::Global;
+
+// The rows of most runs fit into so many bytes.
+const ROOM: usize = 1024;
 
 /// The rows of one timing and script: one for each change of a terminal's key or trip, by tick,
 /// then terminal in line order, then `key` before `trip`. A row is
@@ -47,13 +48,14 @@ pub fn play_rows(
         timing: timing.name,
         script: script.name,
     };
-    let mut text = Vec::new(alloc);
-    push_run(&mut text, &names, line, &tracks)?;
+    let mut text = Vec::with_capacity(alloc, ROOM)?;
+    push_run(alloc, &mut text, &names, line, &tracks)?;
     Ok(text)
 }
 
 // Appends the rows of all ticks, which are those of the ticks at which some key or trip changes.
 fn push_run(
+    alloc: Global,
     text: &mut Vec<u8>,
     names: &RowNames,
     line: &Line,
@@ -68,30 +70,13 @@ fn push_run(
         ++ run_rows names.now.timing names.now.script line.now
         (played tracks.now.keys.items tracks.now.trips.items)) }
 {
+    let mut pairs = fresh_pairs(alloc, line.terminals.len())?;
     let mut t = 0;
     'changes: while t < line.horizon {
-        push_tick(text, names, line, tracks, t)?;
-        let keys = stay_until(&tracks.keys, t, line.horizon);
-        t = stay_until(&tracks.trips, t, keys);
+        push_tick(text, names, line, tracks, t, &mut pairs)?;
+        t = next_change(&pairs, line.horizon);
     }
     Ok(())
-}
-
-// Until when all these signals are as at this tick, up to a bound.
-fn stay_until(tracks: &[Track<Level>], t: u32, bound: u32) -> u32
-    requires tick { t < bound }
-    requires long { (k : ℕ) (track : SentKeys Level) → slice_get tracks.now k ≡ Some track →
-        t < length track.keys }
-    ensures later { t < result }
-    ensures limited { result ≤ bound }
-    ensures stay { (k : ℕ) (track : SentKeys Level) → slice_get tracks.now k ≡ Some track →
-        StaysOn track t result }
-{
-    let mut end = bound;
-    for track in tracks {
-        end = track.stays_until(t).min(end);
-    }
-    end
 }
 
 // Appends the rows of one tick, terminals in line order.
@@ -101,19 +86,24 @@ fn push_tick(
     line: &Line,
     tracks: &Tracks<Level>,
     t: u32,
+    pairs: &mut Vec<Pair>,
 ) -> Result<(), Memory>
     requires tick { t < line.now.horizon }
     requires keys { AreSent (terminal_count line.now) line.now.horizon line.now.horizon
         tracks.now.keys.items }
     requires trips { AreSent (terminal_count line.now) line.now.horizon line.now.horizon
         tracks.now.trips.items }
-    ensures { OnOk result (text.new.items
+    requires stand { AllStand (terminal_count line.now) t tracks.now.keys.items
+        tracks.now.trips.items pairs.old.items }
+    ensures rows { OnOk result (text.new.items
         ≡ text.old.items
         ++ tick_rows names.now.timing names.now.script line.now
         (played tracks.now.keys.items tracks.now.trips.items) t) }
+    ensures stand { OnOk result (AllStand (terminal_count line.now) (t + 1) tracks.now.keys.items
+        tracks.now.trips.items pairs.new.items) }
 {
     for k in 0..line.terminals.len() {
-        push_terminal(text, names, line, &tracks.keys[k], &tracks.trips[k], t, k)?;
+        push_terminal(text, names, line, tracks, t, k, &mut pairs[k])?;
     }
     Ok(())
 }
@@ -123,23 +113,35 @@ fn push_terminal(
     text: &mut Vec<u8>,
     names: &RowNames,
     line: &Line,
-    key: &Track<Level>,
-    trip: &Track<Level>,
+    tracks: &Tracks<Level>,
     t: u32,
     k: usize,
+    pair: &mut Pair,
 ) -> Result<(), Memory>
     requires terminal { k < terminal_count line.now }
-    requires key { t < length key.now.keys }
-    requires trip { t < length trip.now.keys }
-    ensures { OnOk result (text.new.items
+    requires tick { t < line.now.horizon }
+    requires keys { AreSent (terminal_count line.now) line.now.horizon line.now.horizon
+        tracks.now.keys.items }
+    requires trips { AreSent (terminal_count line.now) line.now.horizon line.now.horizon
+        tracks.now.trips.items }
+    requires stands { PairStands t tracks.now.keys.items tracks.now.trips.items k pair.old }
+    ensures rows { OnOk result (text.new.items
         ≡ text.old.items
-        ++ (signal_row names.now.timing names.now.script t (terminal_name line.now k) (codes "key")
-        (is_on key.now)
-        ++ signal_row names.now.timing names.now.script t (terminal_name line.now k) (codes "trip")
-        (is_on trip.now))) }
+        ++ terminal_rows names.now.timing names.now.script line.now
+        (played tracks.now.keys.items tracks.now.trips.items) t k) }
+    ensures stands { OnOk result (PairStands (t + 1) tracks.now.keys.items tracks.now.trips.items
+        k pair.new) }
 {
     let name = line.terminals[k].name;
-    push_signal(text, names, key, t, name, b"key")?;
-    push_signal(text, names, trip, t, name, b"trip")?;
+    push_signal(text, names, &tracks.keys[k], t, name, b"key", &mut pair.key)?;
+    push_signal(
+        text,
+        names,
+        &tracks.trips[k],
+        t,
+        name,
+        b"trip",
+        &mut pair.trip,
+    )?;
     Ok(())
 }

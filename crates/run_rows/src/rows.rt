@@ -1,11 +1,13 @@
 //! The rows of changes, as text.
 
-ghost use Rattle.std.specs.Prelude.{◌≡◌, ◌++◌, ◌<◌, map, length, OnOk};
+ghost use Rattle.std.specs.Prelude.{◌≡◌, ◌++◌, ◌<◌, ◌+◌, map, length, OnOk};
 ghost use Rattle.std.specs.List.{concat};
 ghost use Rattle.run_rows.specs.PlayRows.{level_word as word_of_level, row_fields, row_text};
-ghost use Rattle.run_rows.specs.PlayRows.{change_row, value_before, signal_row};
+ghost use Rattle.run_rows.specs.PlayRows.{change_row, signal_row};
+ghost use Rattle.run_rows.specs.StandingLaws.{Stands};
 ghost use Rattle.run_simulator.specs.PlayedTracks.{is_on};
 
+use crate::standing::Standing;
 use itoa::Buffer;
 use model_line::{Memory, Name};
 use run_channel::Track;
@@ -113,15 +115,19 @@ fn on_at(track: &Track<Level>, t: u32) -> bool
     track.at(t).must(0)
 }
 
-// Whether it was on at the tick before; off before tick 0.
-fn on_before(track: &Track<Level>, t: u32) -> bool
+// From when to when a signal that changes at a tick, or may, stands as it does there.
+fn stands_from(track: &Track<Level>, t: u32) -> Standing
     requires { t < length track.now.keys }
-    ensures { result ≡ value_before (is_on track.now) t }
+    ensures { Stands (is_on track.now) (t + 1) result }
 {
-    if t == 0 { false } else { on_at(track, t - 1) }
+    Standing {
+        level: on_at(track, t),
+        until: track.stays_until(t),
+    }
 }
 
-/// Appends the row of a signal at a tick, if it changes there.
+/// Appends the row of a signal at a tick, if it changes there. A signal that still stands costs
+/// nothing.
 pub fn push_signal(
     text: &mut Vec<u8>,
     names: &RowNames,
@@ -129,14 +135,20 @@ pub fn push_signal(
     t: u32,
     terminal: Name,
     signal: &[u8],
+    standing: &mut Standing,
 ) -> Result<(), Memory>
-    requires { t < length track.now.keys }
-    ensures { OnOk result (text.new.items
+    requires tick { t < length track.now.keys }
+    requires stands { Stands (is_on track.now) t standing.old }
+    ensures row { OnOk result (text.new.items
         ≡ text.old.items
         ++ signal_row names.now.timing names.now.script t terminal signal.now
         (is_on track.now)) }
+    ensures stands { Stands (is_on track.now) (t + 1) standing.new }
 {
-    let before = on_before(track, t);
-    let level = on_at(track, t);
-    push_change(text, names, t, terminal, signal, before, level)
+    if t < standing.until {
+        return Ok(());
+    }
+    let before = standing.level;
+    *standing = stands_from(track, t);
+    push_change(text, names, t, terminal, signal, before, standing.level)
 }

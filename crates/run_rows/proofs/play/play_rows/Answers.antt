@@ -65,6 +65,6 @@ returns c = λ h is_h.
     let to_h : IsSameHistory line only h = same h is_h in
     c.in_ok-push_run.ensures
     ∙ ap (λ (l : List ℕ). l ++ run_rows c.args.timing.now.name script.name line own)
-    c.new-text.ensures.items
+    c.in_ok-text.ensures.items
     ∙ sym (run_rows-same c.args.timing.now.name script.name line only own to_own)
     ∙ run_rows-same c.args.timing.now.name script.name line only h to_h

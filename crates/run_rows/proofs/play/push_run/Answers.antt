@@ -1,54 +1,79 @@
-use Rattle.std.proofs.Common.{◌<◌, ◌≤◌, ◌+◌, ◌++◌, ℕ, List, ◌∙◌, ap, arith}
+use Rattle.std.proofs.Common.{◌≡◌, ◌<◌, ◌≤◌, ◌+◌, ◌++◌, ℕ, List, Some, sym, ◌∙◌, ap, arith, subst}
+use Rattle.std.proofs.lemmas.List.{append-nil}
 use Rattle.std.specs.Prelude.{slice_get}
-use Rattle.run_signal.specs.declared.level.Level.{Level}
-use Rattle.run_channel.specs.SentKeys.{SentKeys}
 use Rattle.model_line.specs.Parameters.{terminal_count}
 use Rattle.run_rows.specs.PlayRows.{tick_rows}
-use Rattle.run_rows.specs.RowLaws.{texts_more}
+use Rattle.run_channel.specs.SentKeys.{SentKeys}
+use Rattle.run_signal.specs.declared.level.Level.{Level}
+use Rattle.run_rows.specs.declared.standing.Pair.{Pair}
+use Rattle.run_rows.specs.{RowLaws.texts_more, StandingLaws.AllStand, StandingLaws.all_stand_at}
 use Rattle.run_simulator.specs.PlayedTracks.{played}
 use Rattle.run_rows.proofs.QuietRows.{no_rows, no_more_texts}
-use Rattle.run_rows.proofs.TrackRows.{all_ticks, shown_stays}
 use Rattle.run_rows.proofs.play.push_run.Goals as goal
 
-pub stay_until-keys-requires-clause-long : goal.stay_until-keys-requires-clause-long
-stay_until-keys-requires-clause-long c =
-    all_ticks (terminal_count c.args.line.now) c.args.line.now.horizon c.changes.t
-    c.args.tracks.now.keys.items c.deref.result.now c.deref.ensures.value c.requires.keys
-    c.changes-test.true
+-- the ticks until which they stand are later
+stand_later : {n t : ℕ} {keys trips : List (SentKeys Level)} {pairs shown : List Pair}
+    → shown ≡ pairs → AllStand n (t + 1) keys trips pairs → (k : ℕ) (p : Pair)
+    → slice_get shown k ≡ Some p → (t < p.key.until) × (t < p.trip.until)
+stand_later same stand k p at =
+    let both = stand.each k p (ap (λ (l : List Pair). slice_get l k) (sym same) ∙ at) in
+    let key = both.key.later in
+    let trip = both.trip.later in
+    (omega (arith, key), omega (arith, trip))
 
-pub stay_until-t-requires-clause-long : goal.stay_until-t-requires-clause-long
-stay_until-t-requires-clause-long c =
-    all_ticks (terminal_count c.args.line.now) c.args.line.now.horizon c.changes.t
-    c.args.tracks.now.trips.items c.deref-in-changes.result.now c.deref-in-changes.ensures.value
-    c.requires.trips c.changes-test.true
+-- a tick before the next change is before that of each
+before : (end r : ℕ) (pairs : List Pair) → r < end
+    → ((k : ℕ) (p : Pair) → slice_get pairs k ≡ Some p
+    → (end ≤ p.key.until) × (end ≤ p.trip.until))
+    → (k : ℕ) (p : Pair) → slice_get pairs k ≡ Some p → (r < p.key.until) × (r < p.trip.until)
+before end r pairs high least k p at =
+    let key = (least k p at).0 in
+    let trip = (least k p at).1 in
+    (omega (arith, high, key), omega (arith, high, trip))
+
+pub changes-init : goal.changes-init
+changes-init c = record {
+  inside = omega arith;
+  rows = sym (append-nil c.args.text.now.items);
+  stand = subst (λ (n : ℕ). AllStand n 0 c.args.tracks.now.keys.items c.args.tracks.now.trips.items
+      c.in_ok-pairs.pairs.items)
+      (omega (arith, c.len.ensures))
+      (c.in_ok-pairs.ensures c.args.tracks.now.keys.items c.args.tracks.now.trips.items);
+}
+
+pub changes-smaller : goal.changes-smaller
+changes-smaller c =
+    let later : c.changes.t < c.next_change-t.result =
+    c.next_change-t.ensures.later c.changes.t c.changes-test.true
+    (stand_later c.deref.ensures.value c.in_ok-push_tick.ensures.stand) in
+    omega (arith, later, c.next_change-t.ensures.limited)
 
 pub changes-preserved : goal.changes-preserved
 changes-preserved c =
     let line = c.args.line.now in
-    let n = terminal_count line in
     let keys = c.args.tracks.now.keys.items in
     let trips = c.args.tracks.now.trips.items in
     let t = c.changes.t in
-    let end = c.stay_until-t.result in
-    let h = played keys trips in
-    let f : ℕ → List ℕ = tick_rows c.args.names.now.timing c.args.names.now.script line h in
-    let later : t < end = c.stay_until-t.ensures.later in
-    let limited : end ≤ c.stay_until-keys.result = c.stay_until-t.ensures.limited in
+    let end = c.next_change-t.result in
+    let pairs = c.push_tick.new.pairs.items in
+    let stand : AllStand (terminal_count line) (t + 1) keys trips pairs =
+    c.in_ok-push_tick.ensures.stand in
+    let later : t < end =
+    c.next_change-t.ensures.later t c.changes-test.true (stand_later c.deref.ensures.value stand) in
+    let least : (k : ℕ) (p : Pair) → slice_get pairs k ≡ Some p
+    → (end ≤ p.key.until) × (end ≤ p.trip.until) =
+    λ k p at. c.next_change-t.ensures.least k p
+    (ap (λ (l : List Pair). slice_get l k) c.deref.ensures.value ∙ at) in
+    let rows : ℕ → List ℕ =
+    tick_rows c.args.names.now.timing c.args.names.now.script line (played keys trips) in
     record {
-      inside = omega (arith, c.stay_until-keys.ensures.limited);
-      rows = texts_more c.args.text.now.items c.changes.text.items c.push_tick.new.text.items f t
-          c.changes.invariant.rows c.in_ok-push_tick.ensures
+      inside = c.next_change-t.ensures.limited;
+      rows = texts_more c.args.text.now.items c.changes.text.items c.push_tick.new.text.items rows t
+          c.changes.invariant.rows c.in_ok-push_tick.ensures.rows
           ∙ ap (λ (l : List ℕ). c.args.text.now.items ++ l)
-          (no_more_texts (t + 1) end f (omega arith)
+          (no_more_texts (t + 1) end rows (omega (arith, later))
           (λ r low high.
-          no_rows c.args.names.now.timing c.args.names.now.script line h t end r
-          (λ k s kn from to. shown_stays n line.horizon t end keys c.requires.keys
-          (λ j track at q below above. c.stay_until-keys.ensures.stay j track
-          (ap (λ (l : List (SentKeys Level)). slice_get l j) c.deref.ensures.value ∙ at) q below
-          (omega arith)) k s kn from to)
-          (λ k s kn from to. shown_stays n line.horizon t end trips c.requires.trips
-          (λ j track at q below above. c.stay_until-t.ensures.stay j track
-          (ap (λ (l : List (SentKeys Level)). slice_get l j) c.deref-in-changes.ensures.value ∙ at)
-          q below above) k s kn from to)
-          (omega arith) high));
+          no_rows c.args.names.now.timing c.args.names.now.script line keys trips (t + 1) r pairs
+          stand (before end r pairs high least) low));
+      stand = all_stand_at stand end (omega (arith, later)) least;
     }

@@ -1,11 +1,19 @@
-use Rattle.std.proofs.Common.{◌≡◌, ◌++◌}
-use Rattle.run_rows.specs.{PlayRows.each_below, PlayRows.terminal_rows}
-use Rattle.run_simulator.specs.PlayedTracks.{played}
+use Rattle.std.proofs.Common.{◌≡◌, ◌+◌, ◌++◌, length}
+use Rattle.model_line.specs.Parameters.{terminal_count}
+use Rattle.run_rows.specs.{PlayRows.each_below, PlayRows.terminal_rows, StandingLaws.PairStands}
+use Rattle.run_simulator.specs.{PlayedTracks.played, Ticks.PartDone}
 use Rattle.run_rows.proofs.play.push_tick.Given as goal
 
 abbrev pub invariant-loop-k : goal.invariant-loop-k
 invariant-loop-k l =
-    l.text.items
-    ≡ l.initial.text.items
-    ++ each_below l.k (terminal_rows l.names.timing l.names.script l.line
-    (played l.tracks.keys.items l.tracks.trips.items) l.t)
+    let keys = l.tracks.keys.items in
+    let trips = l.tracks.trips.items in
+    record {
+      rows : l.text.items
+          ≡ l.initial.text.items
+          ++ each_below l.k (terminal_rows l.names.timing l.names.script l.line (played keys trips)
+          l.t);
+      count : length l.pairs.items ≡ terminal_count l.line;
+      stand : PartDone (PairStands (l.t + 1) keys trips) (PairStands l.t keys trips) l.k
+          l.pairs.items;
+    }
