@@ -3,7 +3,6 @@ pub mod Counts
 pub mod Parts
 pub mod Pieces
 pub mod PlayTexts
-pub mod Puts
 pub mod Searched
 pub mod Verdicts
 pub mod Writing

@@ -14,12 +14,13 @@ use Rattle.cert_check.specs.{Counts.all_verdicts, ZipLaws.zip_append}
 use Rattle.cert_own.specs.Certified.{AreCertified, IsCertified}
 use Rattle.call_commands.specs.Certify.{IsCertifiedText, certify_answer}
 use Rattle.call_commands.specs.PartWrites.{WritesPart, WritesParts}
-use Rattle.call_commands.specs.Sinks.{SinkView, GrewByAll, WriteStops}
-use Rattle.call_commands.specs.{Answers.WritesAnswer, Verdicts.verdicts_status}
-use Rattle.call_commands.specs.{declared.found.Found.Found}
-use Rattle.call_commands.specs.{declared.done.Done.Done, declared.put.WriteStop.WriteStop}
-use Rattle.call_commands.specs.declared.put.WriteStop.TheVariants as stop
-use Rattle.call_commands.specs.SinkLaws.{grew_both, grew_none}
+use Rattle.call_answer.specs.Sinks.{SinkView, GrewByAll, WriteStops}
+use Rattle.call_commands.specs.Verdicts.{verdicts_status}
+use Rattle.call_answer.specs.Answers.{WritesAnswer}
+use Rattle.call_commands.specs.declared.found.Found.{Found}
+use Rattle.call_answer.specs.{declared.done.Done.Done, declared.put.WriteStop.WriteStop}
+use Rattle.call_answer.specs.declared.put.WriteStop.TheVariants as stop
+use Rattle.call_answer.specs.SinkLaws.{grew_both, grew_none}
 use Rattle.call_commands.proofs.Verdicts.{found_more, found_none}
 use Rattle.call_commands.proofs.Writing.{stops_more, stops_none, stops_then}
 

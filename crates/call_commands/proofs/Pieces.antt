@@ -2,9 +2,10 @@
 use Rattle.std.proofs.Common.{◌≡◌, ℕ, ◌+◌, ◌<◌, ◌≤◌, List, [], ◌∷◌, ◌++◌, length, get_or, drop}
 use Rattle.std.proofs.Common.{refl, sym, ap, ◌∙◌, subst}
 use Rattle.std.proofs.lemmas.List.{append_assoc, append-nil, drop_all, drop_more}
-use Rattle.call_commands.specs.{Play.Pieces, Sinks.SinkView, Sinks.GrewByAll, Sinks.WriteStops}
-use Rattle.call_commands.specs.{declared.put.WriteStop.WriteStop, SinkLaws.grew_both}
-use Rattle.call_commands.specs.{SinkLaws.grew_none}
+use Rattle.call_commands.specs.Play.{Pieces}
+use Rattle.call_answer.specs.{Sinks.SinkView, Sinks.GrewByAll, Sinks.WriteStops}
+use Rattle.call_answer.specs.{declared.put.WriteStop.WriteStop, SinkLaws.grew_both}
+use Rattle.call_answer.specs.SinkLaws.{grew_none}
 use Rattle.call_commands.proofs.Writing.{stops_more, stops_then}
 
 -- the pieces of the first i elements are written, and those of the others are left

@@ -8,7 +8,8 @@ use Rattle.cert_split_text.specs.Grammar.{SplitResult, head_text}
 use Rattle.cert_split_text.specs.Text.{part_text, parts_text}
 use Rattle.cert_own.specs.Searched.{AllSearched, AreSearched}
 use Rattle.cert_split_check.specs.Counts.{all_verdicts, verdict_of}
-use Rattle.call_commands.specs.{Answers.status_by, Split.HasSplits, Split.IsSplitOf}
+use Rattle.call_commands.specs.{Split.HasSplits, Split.IsSplitOf}
+use Rattle.call_answer.specs.Answers.{status_by}
 use Rattle.call_commands.specs.{Verdicts.IsFoundOf, declared.found.Found.Found}
 use Rattle.call_commands.proofs.Verdicts.{found_more, found_none, status_found}
 

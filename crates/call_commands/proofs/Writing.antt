@@ -5,10 +5,10 @@ use Rattle.std.proofs.lemmas.List.{take-append-le}
 use Rattle.std.specs.Io.KnownBytes.{Appends}
 use Rattle.base_store.specs.Sink.{GrewByPart}
 use Rattle.base_store.specs.SinkLaws.{appends_both, proper_later, proper_more, take_past}
-use Rattle.call_commands.specs.SinkLaws.{appends_none, grew_both}
-use Rattle.call_commands.specs.Sinks.{SinkView, GrewByAll, WriteStops, Writes}
-use Rattle.call_commands.specs.declared.put.WriteStop.{WriteStop}
-use Rattle.call_commands.specs.declared.put.WriteStop.TheVariants as stop
+use Rattle.call_answer.specs.SinkLaws.{appends_none, grew_both}
+use Rattle.call_answer.specs.Sinks.{SinkView, GrewByAll, WriteStops, Writes}
+use Rattle.call_answer.specs.declared.put.WriteStop.{WriteStop}
+use Rattle.call_answer.specs.declared.put.WriteStop.TheVariants as stop
 
 part_none : (a : Option (List ℕ)) (text : List ℕ) → GrewByPart a a text
 part_none a text = record { count = 0; short = omega arith; taken = appends_none a }

@@ -7,7 +7,8 @@ use Rattle.cert_own.specs.Certified.{AreCertified, IsCertified}
 use Rattle.call_bench.specs.BenchLine.{IsBenchLine}
 use Rattle.call_bench.specs.Answer.{IsBenchText}
 use Rattle.call_engine.specs.Calls.{AskedCheck, AskedVerdicts}
-use Rattle.call_commands.specs.{Answers.Answers, Answers.prints, Asked.Asks}
+use Rattle.call_commands.specs.Asked.{Asks}
+use Rattle.call_answer.specs.{Answers.Answers, Answers.prints}
 
 abbrev pub bench_answer : ℕ → Answers
 bench_answer n = prints (IsBenchText n)

@@ -6,8 +6,9 @@ use Rattle.cert_text.specs.{Grammar.Claims, Text.certificate_text}
 use Rattle.cert_check.specs.Counts.{all_verdicts}
 use Rattle.cert_own.specs.Certified.{AreCertified}
 use Rattle.call_engine.specs.Calls.{AskedVerdicts}
-use Rattle.call_commands.specs.{Answers.Answers, Asked.Asks, Verdicts.verdicts_status}
-use Rattle.call_commands.specs.{declared.done.Done.Done}
+use Rattle.call_commands.specs.{Asked.Asks, Verdicts.verdicts_status}
+use Rattle.call_answer.specs.Answers.{Answers}
+use Rattle.call_answer.specs.declared.done.Done.{Done}
 
 -- the text of what is certified of the scripts, with the status of its verdicts
 pub record IsCertifiedText (line : Line) (scripts : List Script) (s : Done) (text : List ℕ)

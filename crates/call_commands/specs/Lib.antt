@@ -1,9 +1,7 @@
-pub mod Answers
 pub mod Asked
 pub mod Bench
 pub mod Certify
 pub mod Check
-pub mod Checked
 pub mod Line
 pub mod Margin
 pub mod Match
@@ -13,8 +11,5 @@ pub mod PartWrites
 pub mod Play
 pub mod Recheck
 pub mod Report
-pub mod SinkLaws
-pub mod Sinks
 pub mod Split
-pub mod Study
 pub mod Verdicts

@@ -3,7 +3,7 @@ use Rattle.std.specs.Prelude.{◌≡◌, ℕ, false, List, Ok}
 use Rattle.toml.specs.Text.{IsDocumentText}
 use Rattle.model_line.specs.declared.line.Line.{Line}
 use Rattle.file_line.specs.{Canonical.canonical, LineFiles.line_of, Lines.line_values}
-use Rattle.call_commands.specs.Answers.{Answers, prints}
+use Rattle.call_answer.specs.Answers.{Answers, prints}
 
 -- a document of the line's canonical table of that version, which is read as the same line
 pub record IsLineText (version : ℕ) (line : Line) (text : List ℕ) : Type 0 where

@@ -2,8 +2,8 @@
 use Rattle.std.specs.Prelude.{ℕ, true, false, List}
 use Rattle.model_line.specs.{declared.line.Line.Line, declared.script.Script.Script}
 use Rattle.judge_margin.specs.Answer.{IsMarginAnswer}
-use Rattle.call_commands.specs.{Answers.Answers, declared.done.Done.Done}
-use Rattle.call_commands.specs.declared.done.Done.TheVariants as done
+use Rattle.call_answer.specs.{Answers.Answers, declared.done.Done.Done}
+use Rattle.call_answer.specs.declared.done.Done.TheVariants as done
 
 -- the line of the margin: status 0 where there is one, status 2 where there is none
 abbrev pub IsMarginText : Line → List Script → ℕ → Done → List ℕ → Type 0

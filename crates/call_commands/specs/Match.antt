@@ -2,7 +2,7 @@
 use Rattle.std.specs.Prelude.{◌≡◌, ℕ, Bool, List}
 use Rattle.model_line.specs.{declared.line.Line.Line, declared.script.Script.Script}
 use Rattle.judge_match.specs.{Answer.IsMatchAnswer, Waves.SeenValues}
-use Rattle.call_commands.specs.{Answers.Answers, Answers.status_by, declared.done.Done.Done}
+use Rattle.call_answer.specs.{Answers.Answers, Answers.status_by, declared.done.Done.Done}
 
 -- the lines of all heads, with the status that they give
 pub record IsMatched

@@ -1,6 +1,7 @@
 -- The command `migrate`.
 use Rattle.model_line.specs.declared.line.Line.{Line}
-use Rattle.call_commands.specs.{Answers.Answers, Answers.prints, Line.IsLineText}
+use Rattle.call_commands.specs.Line.{IsLineText}
+use Rattle.call_answer.specs.{Answers.Answers, Answers.prints}
 
 -- with times in microseconds
 abbrev pub migrate_answer : Line → Answers

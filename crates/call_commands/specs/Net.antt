@@ -3,7 +3,7 @@ use Rattle.std.specs.Prelude.{◌≡◌, ℕ, List}
 use Rattle.model_line.specs.declared.line.Line.{Line}
 use Rattle.net_gates.specs.NetOf.{NetOf, IsNetOf}
 use Rattle.net_compile.specs.NetText.{net_text_of}
-use Rattle.call_commands.specs.Answers.{Answers, prints}
+use Rattle.call_answer.specs.Answers.{Answers, prints}
 
 -- the text of a net of the line: its gates, and each terminal's key gate and trip gate, which stand
 -- for the line's key trees and trip trees

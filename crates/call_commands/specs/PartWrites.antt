@@ -4,8 +4,10 @@ use Rattle.model_line.specs.{declared.line.Line.Line, declared.script.Script.Scr
 use Rattle.cert_text.specs.{Grammar.Claims, Text.part_text, Text.parts_text}
 use Rattle.cert_check.specs.Counts.{all_verdicts}
 use Rattle.cert_own.specs.Certified.{AreCertified, IsCertified}
-use Rattle.call_commands.specs.{Sinks.SinkView, Sinks.Writes, Verdicts.IsFoundOf}
-use Rattle.call_commands.specs.{declared.found.Found.Found, declared.put.WriteStop.WriteStop}
+use Rattle.call_commands.specs.Verdicts.{IsFoundOf}
+use Rattle.call_answer.specs.{Sinks.SinkView, Sinks.Writes}
+use Rattle.call_commands.specs.declared.found.Found.{Found}
+use Rattle.call_answer.specs.declared.put.WriteStop.{WriteStop}
 
 -- the part of what is certified of a script is written, or a front of it, and what is found of its
 -- verdicts is told

@@ -6,7 +6,8 @@ use Rattle.model_logic.specs.Histories.{History, IsLineHistory}
 use Rattle.run_rows.specs.PlayRows.{run_rows}
 use Rattle.model_timing.specs.{Choice.timing_choice}
 use Rattle.model_timing.specs.NamedValues.{NamedValues}
-use Rattle.call_commands.specs.{Answers.Answers, Answers.prints, Asked.Asks}
+use Rattle.call_commands.specs.Asked.{Asks}
+use Rattle.call_answer.specs.{Answers.Answers, Answers.prints}
 
 abbrev pub play_header : List ℕ
 play_header = codes "timing,script,tick,terminal,signal,level\n"

@@ -7,8 +7,10 @@ use Rattle.cert_split_text.specs.{Grammar.SplitResult, Text.part_text, Text.spli
 use Rattle.cert_split_text.specs.Piece.{written_as}
 use Rattle.cert_split_check.specs.Counts.{verdict_of, all_verdicts}
 use Rattle.cert_own.specs.Searched.{AllSearched, AreSearched}
-use Rattle.call_commands.specs.{Answers.Answers, Verdicts.IsFoundOf, Verdicts.verdicts_status}
-use Rattle.call_commands.specs.{declared.done.Done.Done, declared.found.Found.Found}
+use Rattle.call_commands.specs.{Verdicts.IsFoundOf, Verdicts.verdicts_status}
+use Rattle.call_answer.specs.Answers.{Answers}
+use Rattle.call_commands.specs.declared.found.Found.{Found}
+use Rattle.call_answer.specs.declared.done.Done.{Done}
 
 -- the text of what is searched of the scripts, with the status of the verdicts it comes to
 pub record IsSplitOf (line : Line) (scripts : List Script) (n : ℕ) (s : Done) (text : List ℕ)

@@ -3,8 +3,8 @@ use Rattle.std.specs.Prelude.{◌≡◌, List}
 use Rattle.std.specs.List.{list_any}
 use Rattle.cert_text.specs.Grammar.{Verdict}
 use Rattle.cert_check.specs.Counts.{is_no, is_undecided}
-use Rattle.call_commands.specs.{Answers.status_by, declared.done.Done.Done}
-use Rattle.call_commands.specs.{declared.found.Found.Found}
+use Rattle.call_answer.specs.{Answers.status_by, declared.done.Done.Done}
+use Rattle.call_commands.specs.declared.found.Found.{Found}
 
 -- the status of these verdicts
 abbrev pub verdicts_status : List Verdict → Done

@@ -9,15 +9,13 @@ ghost use Rattle.cert_check.specs.Counts.{is_no as no_verdict};
 ghost use Rattle.cert_check.specs.Counts.{is_undecided as undecided_verdict};
 ghost use Rattle.call_commands.specs.Certify.{certify_answer, certify_asks};
 ghost use Rattle.call_commands.specs.PartWrites.{WritesPart, WritesParts};
-ghost use Rattle.call_commands.specs.{Answers.WritesAnswer, Sinks.sink_view, Study.IsStudy};
+ghost use Rattle.call_answer.specs.{Answers.WritesAnswer, Sinks.sink_view, Study.IsStudy};
 ghost use Rattle.call_commands.specs.Verdicts.{IsFoundOf};
 
-use crate::done::Done;
 use crate::found::{Found, NOTHING};
 use crate::laws::a_certificate_is_made_of_parts;
-use crate::put::{WriteStop, put_text};
-use crate::study::Study;
 use base_store::Sink;
+use call_answer::{Done, Study, WriteStop, put_text};
 use call_engine::Engine;
 use cert_own::answers_are_certified;
 use judge_verdict::{CERT_END, CERT_HEAD, Verdict, cert_piece};

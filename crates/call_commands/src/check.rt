@@ -2,14 +2,14 @@
 ghost use Rattle.std.specs.Prelude.{◌≡◌, ◌≢◌, IfOk, OnOk};
 ghost use Rattle.std.specs.List.{concat};
 ghost use Rattle.cert_check.specs.declared.fault.CheckFault.{CheckFault};
-ghost use Rattle.call_commands.specs.Answers.{Says};
+ghost use Rattle.call_answer.specs.Answers.{Says};
 ghost use Rattle.call_commands.specs.{Check.check_answer, Check.check_asks, Check.rejected_pieces};
-ghost use Rattle.call_commands.specs.Study.{IsStudy};
+ghost use Rattle.call_answer.specs.Study.{IsStudy};
 
-use crate::checked::{accepted_text, place, rejected_line, rejected_outside, rejected_passes};
-use crate::said::Said;
-use crate::study::Study;
-use crate::text::text_of;
+use call_answer::checked::{
+    accepted_text, place, rejected_line, rejected_outside, rejected_passes,
+};
+use call_answer::{Said, Study, text_of};
 use call_engine::Engine;
 use cert_check::CheckFault;
 use itoa::Buffer;

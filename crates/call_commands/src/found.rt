@@ -1,8 +1,8 @@
 //! What was found of several obligations.
 ghost use Rattle.std.specs.Prelude.{◌≡◌, ◌||◌};
-ghost use Rattle.call_commands.specs.Answers.{status_by};
+ghost use Rattle.call_answer.specs.Answers.{status_by};
 
-use crate::done::Done;
+use call_answer::Done;
 
 /// Whether some obligation fails, and whether some is open.
 #[derive(Clone, Copy)]

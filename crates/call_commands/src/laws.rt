@@ -9,7 +9,7 @@ ghost use Rattle.model_timing.specs.NamedValues.{NamedValues};
 ghost use Rattle.cert_text.specs.{Grammar.Claims, Text.certificate_text, Text.parts_text};
 ghost use Rattle.cert_own.specs.Certified.{AreCertified, IsCertified};
 ghost use Rattle.call_commands.specs.{Certify.certify_answer, Play.IsPlayText};
-ghost use Rattle.call_commands.specs.{declared.done.Done.Done};
+ghost use Rattle.call_answer.specs.declared.done.Done.{Done};
 
 use cert_own::{each_script_has_one_certificate, what_is_certified_is_accepted};
 use cert_text::{CERT_END, CERT_HEAD, a_certificate_is_its_parts};

@@ -1,8 +1,9 @@
 //! The command `line`: the canonical line file, with times in ticks.
 ghost use Rattle.std.specs.Prelude.{IfOk};
-ghost use Rattle.call_commands.specs.{Answers.Says, Line.line_answer};
+ghost use Rattle.call_commands.specs.Line.{line_answer};
+ghost use Rattle.call_answer.specs.Answers.{Says};
 
-use crate::said::Said;
+use call_answer::Said;
 use file_line::print_line;
 use model_line::{Line, Memory};
 use std::alloc::Global;

@@ -1,12 +1,11 @@
 //! The command `margin`: how far the upper end of a parameter can be raised.
 ghost use Rattle.std.specs.Prelude.{◌≡◌, ◌<◌, IfOk};
 ghost use Rattle.model_line.specs.Parameters.{param_count};
-ghost use Rattle.call_commands.specs.{Answers.Says, Margin.margin_answer as answer_of};
-ghost use Rattle.call_commands.specs.{Study.IsStudy};
+ghost use Rattle.call_commands.specs.Margin.{margin_answer as answer_of};
+ghost use Rattle.call_answer.specs.Answers.{Says};
+ghost use Rattle.call_answer.specs.Study.{IsStudy};
 
-use crate::done::Done;
-use crate::said::Said;
-use crate::study::Study;
+use call_answer::{Done, Said, Study};
 use judge_margin::margin_answer;
 use model_line::Memory;
 use std::alloc::Global;

@@ -2,11 +2,11 @@
 ghost use Rattle.std.specs.Prelude.{◌<◌, IfOk, length, map};
 ghost use Rattle.std.specs.List.{All};
 ghost use Rattle.judge_match.specs.{Seen.AreSeen, Waves.seen_values};
-ghost use Rattle.call_commands.specs.{Answers.Says, Match.match_answer as answer_of, Study.IsStudy};
+ghost use Rattle.call_commands.specs.Match.{match_answer as answer_of};
+ghost use Rattle.call_answer.specs.{Answers.Says, Study.IsStudy};
 
 use crate::found::Found;
-use crate::said::Said;
-use crate::study::Study;
+use call_answer::{Said, Study};
 use judge_match::{Seen, match_answer};
 use model_line::Memory;
 use std::alloc::Global;

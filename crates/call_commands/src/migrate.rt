@@ -1,8 +1,9 @@
 //! The command `migrate`: the canonical line file of version 2, with times in microseconds.
 ghost use Rattle.std.specs.Prelude.{IfOk};
-ghost use Rattle.call_commands.specs.{Answers.Says, Migrate.migrate_answer};
+ghost use Rattle.call_commands.specs.Migrate.{migrate_answer};
+ghost use Rattle.call_answer.specs.Answers.{Says};
 
-use crate::said::Said;
+use call_answer::Said;
 use file_line::print_line_us;
 use model_line::{Line, Memory};
 use std::alloc::Global;

@@ -1,8 +1,9 @@
 //! The command `net`: the compiled net of a line.
 ghost use Rattle.std.specs.Prelude.{IfOk};
-ghost use Rattle.call_commands.specs.{Answers.Says, Net.net_answer};
+ghost use Rattle.call_commands.specs.Net.{net_answer};
+ghost use Rattle.call_answer.specs.Answers.{Says};
 
-use crate::said::Said;
+use call_answer::Said;
 use model_line::{Line, Memory};
 use net_compile::{compile, net_text};
 use std::alloc::Global;

@@ -2,14 +2,14 @@
 ghost use Rattle.std.specs.Prelude.{◌≡◌, ◌≢◌, IfOk};
 ghost use Rattle.std.specs.List.{concat};
 ghost use Rattle.cert_split_check.specs.declared.fault.SplitFault.{SplitFault};
-ghost use Rattle.call_commands.specs.Answers.{Says};
+ghost use Rattle.call_answer.specs.Answers.{Says};
 ghost use Rattle.call_commands.specs.{Recheck.recheck_answer, Recheck.rejected_pieces};
-ghost use Rattle.call_commands.specs.{Study.IsStudy};
+ghost use Rattle.call_answer.specs.Study.{IsStudy};
 
-use crate::checked::{accepted_text, place, rejected_line, rejected_outside, rejected_passes};
-use crate::said::Said;
-use crate::study::Study;
-use crate::text::text_of;
+use call_answer::checked::{
+    accepted_text, place, rejected_line, rejected_outside, rejected_passes,
+};
+use call_answer::{Said, Study, text_of};
 use cert_split_check::{SplitFault, check_split};
 use itoa::Buffer;
 use model_line::Memory;

@@ -1,9 +1,9 @@
 //! The command `report`: when each terminal may and must trip, and its margin.
 ghost use Rattle.std.specs.Prelude.{IfOk};
-ghost use Rattle.call_commands.specs.{Answers.Says, Report.report_answer, Study.IsStudy};
+ghost use Rattle.call_commands.specs.Report.{report_answer};
+ghost use Rattle.call_answer.specs.{Answers.Says, Study.IsStudy};
 
-use crate::said::Said;
-use crate::study::Study;
+use call_answer::{Said, Study};
 use judge_report::report_text;
 use model_line::Memory;
 use std::alloc::Global;

@@ -5,10 +5,10 @@ ghost use Rattle.model_line.specs.Fits.{Fits};
 ghost use Rattle.net_gates.specs.NetOf.{IsNetOf};
 ghost use Rattle.cert_check.specs.declared.fault.CheckFault.{CheckFault};
 ghost use Rattle.call_engine.specs.Calls.{AskedCertify, AskedVerdicts, NoneFell};
-ghost use Rattle.call_commands.specs.Answers.{Says};
+ghost use Rattle.call_answer.specs.Answers.{Says};
 ghost use Rattle.call_commands.specs.Bench.{HasPart, IsOwnText, bench_answer, bench_asks};
 
-use crate::said::Said;
+use call_answer::Said;
 use call_bench::{bench_line, bench_scripts, bench_text};
 use call_engine::Engine;
 use cert_check::CheckFault;

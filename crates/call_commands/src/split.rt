@@ -8,11 +8,11 @@ ghost use Rattle.judge_split.specs.Found.{IsFound};
 ghost use Rattle.cert_split_text.specs.Piece.{ArePrintable, written_as};
 ghost use Rattle.cert_split_check.specs.Counts.{verdict_of};
 ghost use Rattle.call_commands.specs.Split.{HasSplits, split_answer, comes_to_no, is_left_open};
-ghost use Rattle.call_commands.specs.{Answers.Says, Study.IsStudy, Verdicts.IsFoundOf};
+ghost use Rattle.call_commands.specs.Verdicts.{IsFoundOf};
+ghost use Rattle.call_answer.specs.{Answers.Says, Study.IsStudy};
 
 use crate::found::{Found, NOTHING};
-use crate::said::Said;
-use crate::study::Study;
+use call_answer::{Said, Study};
 use cert_own::what_is_searched_grows_by_parts;
 use cert_split_check::is_yes_tree;
 use cert_split_text::{

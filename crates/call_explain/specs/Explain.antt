@@ -6,7 +6,7 @@ use Rattle.judge_match.specs.Waves.{SeenValues, records_said}
 use Rattle.judge_match.specs.Recorded.{recorded}
 use Rattle.judge_explain.specs.Answers.{IsExplanation}
 use Rattle.judge_explain.specs.declared.answer.Explanation.{Explanation}
-use Rattle.call_commands.specs.{Answers.Answers, declared.done.Done.Done}
+use Rattle.call_answer.specs.{Answers.Answers, declared.done.Done.Done}
 use Rattle.call_explain.specs.{Picked.picked, Table.answer_text, Table.answer_status}
 use Rattle.call_explain.specs.declared.asked.Asked.{Asked}
 use Rattle.call_explain.specs.declared.asked.ExplainForm.{ExplainForm}

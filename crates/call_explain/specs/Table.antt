@@ -12,8 +12,8 @@ use Rattle.run_rows.specs.PlayRows.{level_word}
 use Rattle.judge_explain.specs.declared.paired.Paired.{Paired}
 use Rattle.judge_explain.specs.declared.answer.Explanation.{Explanation}
 use Rattle.judge_explain.specs.declared.answer.Explanation.TheVariants.{Explained, Impossible, Open}
-use Rattle.call_commands.specs.declared.done.Done.{Done}
-use Rattle.call_commands.specs.declared.done.Done.TheVariants as done
+use Rattle.call_answer.specs.declared.done.Done.{Done}
+use Rattle.call_answer.specs.declared.done.Done.TheVariants as done
 use Rattle.call_explain.specs.declared.asked.ExplainForm.{ExplainForm}
 use Rattle.call_explain.specs.declared.asked.ExplainForm.TheVariants as form
 

@@ -9,7 +9,7 @@ ghost use Rattle.call_explain.specs.Table.{timing_text as text_of_timing};
 
 use crate::asked::ExplainForm;
 use crate::fields::changes_text;
-use call_commands::{Done, Said};
+use call_answer::{Done, Said};
 use file_timing::print_timings;
 use itoa::Buffer;
 use judge_explain::Explanation;

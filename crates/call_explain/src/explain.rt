@@ -1,14 +1,14 @@
 //! What is said of a record.
 
 ghost use Rattle.std.specs.Prelude.{MatchResult};
-ghost use Rattle.call_commands.specs.Answers.{Says};
+ghost use Rattle.call_answer.specs.Answers.{Says};
 ghost use Rattle.call_explain.specs.Explain.{IsAsked, IsExplainStop, explain_answer};
 
 use crate::answer::said_of;
 use crate::asked::Asked;
 use crate::pick::pick;
 use crate::stop::ExplainStop;
-use call_commands::Said;
+use call_answer::Said;
 use judge_explain::explain;
 use judge_match::{SeenFault, read_seen};
 use std::alloc::Global;

@@ -7,7 +7,7 @@ use Rattle.draw_grid.specs.{Drawings.drawing_of, declared.grid.Grid.Grid}
 use Rattle.draw_map.specs.Grids.{IsGridOf}
 use Rattle.draw_shapes.specs.Svg.{svg_of}
 use Rattle.file_axis.specs.Parts.{names_of}
-use Rattle.call_commands.specs.Answers.{Answers, prints}
+use Rattle.call_answer.specs.Answers.{Answers, prints}
 use Rattle.call_map.specs.{Asked.AreAxesOf, Asked.Both, declared.ask.MapForm.MapForm}
 use Rattle.call_map.specs.declared.ask.MapForm.TheVariants as form
 

@@ -3,7 +3,7 @@ use Rattle.std.specs.Prelude.{◌≤◌, length}
 use Rattle.std.specs.List.{All}
 use Rattle.model_line.specs.Fits.{Fits}
 use Rattle.net_gates.specs.NetOf.{IsNetOf}
-use Rattle.call_commands.specs.declared.study.Study.{Study}
+use Rattle.call_answer.specs.declared.study.Study.{Study}
 
 -- the net is that of the line, and the scripts fit it, at most 4,096 of them
 pub record IsMapped (study : Study) : Type 0 where

@@ -2,7 +2,7 @@
 
 ghost use Rattle.std.specs.Prelude.{◌≡◌, []};
 ghost use Rattle.std.specs.List.{concat};
-ghost use Rattle.call_commands.specs.Sinks.{Puts, sink_view};
+ghost use Rattle.call_answer.specs.Sinks.{Puts, sink_view};
 ghost use Rattle.call_map.specs.Denials.{fault_pieces, map_denial_pieces, number_in as number_of};
 ghost use Rattle.call_map.specs.Denials.{number_words, pieces_of};
 ghost use Rattle.call_map.specs.Denials.{map_denial_status, side_words as words_of_side};
@@ -11,7 +11,7 @@ ghost use Rattle.call_map.specs.declared.denial.MapStop.TheVariants.{Memory as N
 ghost use Rattle.file_axis.specs.Words.{what_words};
 
 use base_store::{PutFailed, Sink};
-use call_commands::put_pieces;
+use call_answer::put_pieces;
 use file_axis::AxisFault;
 use itoa::Buffer;
 use judge_map::MapFault;

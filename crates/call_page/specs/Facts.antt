@@ -2,12 +2,10 @@
 use Rattle.std.specs.Prelude.{◌≡◌, ◌<◌, ◌+◌, ◌*◌, ℕ, List, Option, Some, length, slice_get}
 use Rattle.model_line.specs.{declared.line.Line.Line, declared.script.Script.Script}
 use Rattle.model_line.specs.Parameters.{terminal_count}
-use Rattle.model_logic.specs.{Choice.declared_box, Histories.IsPairHistory, Histories.PairHistory}
-use Rattle.run_waves.specs.FirstTick.{first_on}
 use Rattle.judge_verdict.specs.OneEach.{OneEach}
+use Rattle.judge_report.specs.Firsts.{IsFirstMay, IsFirstMust}
 use Rattle.judge_settle.specs.Answers.{IsAnswer}
 use Rattle.call_tables.specs.{Rows.AreRows, Rows.IsAnyStudy, declared.row.Row.Row}
-use Rattle.call_verdicts.specs.Findings.{IsFirstMust}
 use Rattle.call_page.specs.declared.firsts.Firsts.{Firsts}
 use Rattle.call_page.specs.declared.known.Known.{Known}
 
@@ -15,13 +13,6 @@ use Rattle.call_page.specs.declared.known.Known.{Known}
 -- in line order
 abbrev pub place : Line → ℕ → ℕ → ℕ
 place line s k = s * terminal_count line + k
-
--- the first tick at which some choice may trip, in the script's interval history, of which there is
--- one
-abbrev pub IsFirstMay : Line → Script → ℕ → Option ℕ → Type 0
-IsFirstMay line script k first = (w : PairHistory)
-    → IsPairHistory line script (declared_box line) w
-    → first ≡ first_on (λ t. (w.trip k t).may) line.horizon
 
 -- the first ticks of obligation i: at which its trip may come, and at which it must have
 pub record AreFirstOf (line : Line) (scripts : List Script) (i : ℕ) (firsts : Firsts) : Type 0 where

@@ -9,7 +9,7 @@ use Rattle.draw_diagram.specs.Times.{is_begun}
 use Rattle.draw_elements.specs.declared.page.{Case.Case, Fault.Fault}
 use Rattle.file_sweeps.specs.declared.group.Group.{Group}
 use Rattle.call_tables.specs.declared.row.Row.{Row}
-use Rattle.call_verdicts.specs.Places.{place_in}
+use Rattle.file_sweeps.specs.Places.{place_in}
 use Rattle.call_page.specs.declared.{firsts.Firsts.Firsts, parts.Part.Part}
 use Rattle.call_page.specs.{Drawings.IsBandsOf, Lists.At, Parts.fault_name, Parts.swept_values}
 use Rattle.call_page.specs.Verdicts.{IsVerdictOf, distance_at}

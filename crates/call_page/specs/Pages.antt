@@ -8,7 +8,7 @@ use Rattle.draw_elements.specs.{declared.page.Page.Page, declared.page.Counts.Co
 use Rattle.draw_page.specs.Pages.{page_of}
 use Rattle.draw_elements.specs.declared.page.{Time.Time, Digest.Digest}
 use Rattle.file_sweeps.specs.declared.group.Group.{Group}
-use Rattle.call_commands.specs.{Answers.Answers, Answers.status_by, declared.done.Done.Done}
+use Rattle.call_answer.specs.{Answers.Answers, Answers.status_by, declared.done.Done.Done}
 use Rattle.call_tables.specs.{Rows.AreRows, Table.is_failing, Table.is_open}
 use Rattle.call_tables.specs.declared.row.Row.{Row}
 use Rattle.call_page.specs.declared.{firsts.Firsts.Firsts, parts.Part.Part}

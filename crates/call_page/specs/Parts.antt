@@ -5,7 +5,7 @@ use Rattle.std.specs.List.{All}
 use Rattle.model_line.specs.declared.script.Script.{Script}
 use Rattle.model_names.specs.NamesByNumber.{script_name}
 use Rattle.file_sweeps.specs.declared.group.Group.{Group}
-use Rattle.call_verdicts.specs.Places.{PlaceValues, place_in}
+use Rattle.file_sweeps.specs.Places.{PlaceValues, place_in}
 use Rattle.call_page.specs.declared.parts.Part.{Part}
 
 -- how many scripts from this place on are of its group; one alone is of none

@@ -11,7 +11,7 @@ use crate::drawings::play;
 use crate::known::{name_of, script_at};
 use crate::parts::{Part, part_of_script};
 use crate::told::{least_times, told_steps, told_times};
-use call_commands::Study;
+use call_answer::Study;
 use call_tables::Row;
 use draw_elements::FailingChoice;
 use judge_cut::{Obligation, cut};

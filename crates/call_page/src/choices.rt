@@ -9,7 +9,7 @@ ghost use Rattle.call_page.specs.Facts.{IsRowOf};
 
 use crate::choice::choice;
 use crate::parts::Part;
-use call_commands::Study;
+use call_answer::Study;
 use call_tables::Row;
 use draw_elements::FailingChoice;
 use judge_settle::Answer;

@@ -3,12 +3,12 @@
 ghost use Rattle.std.specs.Prelude.{◌≡◌, ◌≤◌, ◌<◌, ◌+◌, ◌∷◌, [], IfOk, length};
 ghost use Rattle.file_script.specs.SoFar.{AreOnce};
 ghost use Rattle.file_sweeps.specs.{Studies.script_names, Parts.parts_of};
-ghost use Rattle.call_commands.specs.Study.{IsStudy};
+ghost use Rattle.call_answer.specs.Study.{IsStudy};
 ghost use Rattle.call_tables.specs.Rows.{AreRows, IsAnyStudy};
 ghost use Rattle.call_page.specs.Files.{AreDigests, AreFiles, IsLineFile, IsScriptsFile};
 
 use crate::hash::hash_of;
-use call_commands::Study;
+use call_answer::Study;
 use call_tables::{Row, settle_trees};
 use draw_elements::{Digest, FileText};
 use file_line::print_line;

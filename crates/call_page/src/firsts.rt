@@ -10,7 +10,7 @@ ghost use Rattle.judge_verdict.specs.OneEach.{OneEach};
 ghost use Rattle.call_tables.specs.Rows.{IsAnyStudy};
 ghost use Rattle.call_page.specs.Facts.{AreFirstOf, AreFirsts};
 
-use call_commands::Study;
+use call_answer::Study;
 use judge_interval::{PairWaves, analyse};
 use model_line::Memory;
 use std::alloc::Global;

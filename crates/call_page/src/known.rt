@@ -6,7 +6,7 @@ ghost use Rattle.model_names.specs.NamesByNumber.{terminal_name};
 ghost use Rattle.call_page.specs.Facts.{IsKnown, place as place_in_order};
 
 use crate::firsts::Firsts;
-use call_commands::Study;
+use call_answer::Study;
 use call_tables::Row;
 use file_sweeps::Group;
 use model_line::{Line, Name, Script};

@@ -8,7 +8,7 @@ ghost use Rattle.model_line.specs.declared.script.Script.{Script as ScriptOf};
 ghost use Rattle.call_page.specs.declared.firsts.Firsts.{Firsts as FirstsOf};
 
 use crate::firsts::Firsts;
-use call_commands::Study;
+use call_answer::Study;
 use draw_elements::LeastMargin;
 use model_line::{Kind, Line, Memory, Script};
 use model_names::{name_of_script, name_of_terminal};

@@ -16,7 +16,7 @@ use crate::parts::parts;
 use crate::said::Asked;
 use crate::times::times;
 use crate::undecided::undecided;
-use call_commands::Study;
+use call_answer::Study;
 use call_tables::Row;
 use draw_elements::{Counts, Digest, Page, Time};
 use model_line::Memory;

@@ -3,10 +3,9 @@
 ghost use Rattle.std.specs.Prelude.{◌≡◌, ◌≤◌, ◌<◌, ◌+◌, ◌^◌, IfOk, length};
 ghost use Rattle.call_page.specs.Choices.{IsFaultOfScript};
 ghost use Rattle.call_page.specs.Parts.{AreParts, IsPart, fault_name, swept_values};
-ghost use Rattle.call_verdicts.specs.Places.{place_in};
+ghost use Rattle.file_sweeps.specs.Places.{place_in};
 
-use call_verdicts::place_of;
-use file_sweeps::Group;
+use file_sweeps::{Group, place_of_script};
 use model_line::{Memory, Script};
 use model_names::name_of_script;
 use std::alloc::Global;
@@ -40,7 +39,7 @@ fn part_from(groups: &[Group], start: usize, scripts: usize) -> Part
     ensures start { result.start ≡ start }
     ensures part { IsPart groups.now scripts result }
 {
-    let count = match place_of(groups, start) {
+    let count = match place_of_script(groups, start) {
         Some(place) => (place.group.swept.len() - place.at).min(scripts - start),
         None => 1,
     };
@@ -66,7 +65,7 @@ pub fn swept(alloc: Global, groups: &[Group], script: usize) -> Result<Vec<u32>,
     ensures { IfOk result (λ values. values.items
         ≡ swept_values (place_in groups.now script)) }
 {
-    match place_of(groups, script) {
+    match place_of_script(groups, script) {
         Some(place) => {
             let values = Vec::from_slice(alloc, place.group.swept[place.at].as_slice())?;
             Ok(values)
@@ -84,7 +83,7 @@ pub fn name_from(
 ) -> Result<Vec<u8>, Memory>
     ensures { IfOk result (λ name. name.items ≡ fault_name groups.now scripts.now start) }
 {
-    match place_of(groups, start as usize) {
+    match place_of_script(groups, start as usize) {
         Some(place) => {
             let name = Vec::from_slice(alloc, place.group.name.bytes())?;
             Ok(name)

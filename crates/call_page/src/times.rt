@@ -5,12 +5,12 @@ ghost use Rattle.std.specs.Prelude.{slice_get};
 ghost use Rattle.model_line.specs.Parameters.{param_count};
 ghost use Rattle.judge_margin.specs.declared.upper_end.Lost.{Lost as LostOf};
 ghost use Rattle.judge_margins.specs.Ends.{AreEnds};
-ghost use Rattle.call_commands.specs.Study.{IsStudy};
+ghost use Rattle.call_answer.specs.Study.{IsStudy};
 ghost use Rattle.call_page.specs.Least.{at_words as words_at};
 ghost use Rattle.call_page.specs.Times.{AreTimes, IsTimeOf};
 
 use crate::least::at_words;
-use call_commands::Study;
+use call_answer::Study;
 use draw_elements::{Slack, Time};
 use judge_margins::{End, held_today, margins};
 use model_line::Memory;

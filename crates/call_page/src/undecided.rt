@@ -7,7 +7,7 @@ ghost use Rattle.call_tables.specs.{Rows.AreRows, Table.is_open as row_is_open};
 ghost use Rattle.call_page.specs.{Choices.IsUndecidedOf, Choices.open_row, Lists.EachOf};
 
 use crate::parts::{Part, part_of_script};
-use call_commands::Study;
+use call_answer::Study;
 use call_tables::Row;
 use draw_elements::Undecided;
 use judge_settle::Answer;

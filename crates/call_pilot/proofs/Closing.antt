@@ -12,11 +12,11 @@ use Rattle.call_pilot.specs.{Clauses.OutIsAnswer, Clauses.OutGrew}
 use Rattle.call_pilot.specs.{Ends.EndsOf, Headline.Headline, Messages.message_of, Words.Command}
 use Rattle.call_pilot.specs.{Words.files_named}
 use Rattle.call_pilot.specs.{declared.stop.File.File, declared.stop.Status.Status}
-use Rattle.call_commands.specs.Sinks.{SinkView, GrewByAll, Puts}
+use Rattle.call_answer.specs.Sinks.{SinkView, GrewByAll, Puts}
 use Rattle.call_pilot.specs.declared.stop.Status.TheVariants as status
 use Rattle.call_pilot.specs.declared.stop.Stop.{Stop}
 use Rattle.call_pilot.specs.declared.stop.Stop.TheVariants as stop
-use Rattle.call_commands.specs.SinkLaws.{appends_none}
+use Rattle.call_answer.specs.SinkLaws.{appends_none}
 
 -- 0 to 3 is none of the other statuses
 not_done : {X : Type 0} (s t : Status) → IsDone s → (IsDone t → ⊥) → s ≡ t → X

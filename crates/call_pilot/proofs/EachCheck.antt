@@ -42,9 +42,10 @@ use Rattle.cert_check.specs.declared.fault.CheckFault.{CheckFault}
 use Rattle.cert_check.specs.declared.fault.CheckFault.TheVariants as fault
 use Rattle.cert_check.specs.declared.no.NoFault.{NoFault}
 use Rattle.cert_check.specs.declared.no.NoFault.TheVariants as number
-use Rattle.call_commands.specs.{Check.check_answer, Check.rejected_pieces, Checked.accepted_pieces}
-use Rattle.call_commands.specs.declared.done.Done.{Done}
-use Rattle.call_commands.specs.declared.done.Done.TheVariants as done
+use Rattle.call_commands.specs.{Check.check_answer, Check.rejected_pieces}
+use Rattle.call_answer.specs.Checked.{accepted_pieces}
+use Rattle.call_answer.specs.declared.done.Done.{Done}
+use Rattle.call_answer.specs.declared.done.Done.TheVariants as done
 use Rattle.call_pilot.proofs.EachMargin.{at_place, first_of, fits_at, rule_told}
 use Rattle.call_pilot.proofs.EachText.{each_text}
 

@@ -20,8 +20,9 @@ use Rattle.judge_margin.specs.Lost.{AllHeld, IsFirstLost, IsFirstTerminal, IsLos
 use Rattle.judge_margin.specs.Lost.{IsScriptHeld}
 use Rattle.judge_margin.specs.Margin.{IsHeldTo, IsLostAbove, IsUpperEnd}
 use Rattle.judge_margin.specs.{Margin.IsLostAt, MarginText.margin_line, Raised.raised}
-use Rattle.call_commands.specs.{Margin.margin_answer, declared.done.Done.Done}
-use Rattle.call_commands.specs.declared.done.Done.TheVariants as done
+use Rattle.call_commands.specs.Margin.{margin_answer}
+use Rattle.call_answer.specs.declared.done.Done.{Done}
+use Rattle.call_answer.specs.declared.done.Done.TheVariants as done
 
 -- each number passes, or there is a first that does not
 pub first_of : (P F : ℕ → Type 0) (n : ℕ) → ((i : ℕ) → i < n → P i ⊎ F i)

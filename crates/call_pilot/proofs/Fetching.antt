@@ -3,7 +3,7 @@ use Rattle.std.proofs.Common.{◌≡◌, ℕ, ◌≤◌, false, List, [], ◌∷
 use Rattle.std.proofs.Common.{Result, Ok, Err, length, nat_lt, unwrap_or, refl, sym, ◌∙◌, inl, inr}
 use Rattle.std.proofs.Common.{subst, ap, arith}
 use Rattle.base_store.specs.Store.{SameCounts}
-use Rattle.call_commands.specs.Sinks.{SinkView}
+use Rattle.call_answer.specs.Sinks.{SinkView}
 use Rattle.call_pilot.specs.Files.{contents, in_front, limit_of, AllTold, NamedFile, StoreCause}
 use Rattle.call_pilot.specs.declared.stop.File.{File}
 use Rattle.call_pilot.specs.{CallAnswers.CallAnswers, Ends.Works, Ends.Ends}

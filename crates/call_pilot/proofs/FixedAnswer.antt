@@ -15,11 +15,12 @@ use Rattle.file_line.specs.{LineFiles.line_of, Lines.line_values}
 use Rattle.file_script.specs.Values.{values_of}
 use Rattle.file_timing.specs.Timings.{timings_of}
 use Rattle.judge_match.specs.Waves.{SeenValues, records_said}
-use Rattle.call_commands.specs.{Answers.Answers, Bench.bench_answer, Certify.certify_answer}
+use Rattle.call_commands.specs.{Bench.bench_answer, Certify.certify_answer}
+use Rattle.call_answer.specs.Answers.{Answers}
 use Rattle.call_commands.specs.{Check.check_answer, Margin.margin_answer, Match.match_answer}
 use Rattle.call_commands.specs.{Play.IsPlayText, Play.play_answer, Recheck.recheck_answer}
 use Rattle.call_commands.specs.{Report.report_answer, Split.split_answer}
-use Rattle.call_commands.specs.declared.done.Done.{Done}
+use Rattle.call_answer.specs.declared.done.Done.{Done}
 use Rattle.call_pilot.specs.{Call.answer_by, Call.answers, CallAnswers.done_with}
 use Rattle.call_pilot.specs.{CallAnswers.refuses}
 use Rattle.call_pilot.specs.{Commands.answer, Files.contents, Fixed.IsTextFixed}

@@ -16,7 +16,8 @@ use Rattle.cert_split_text.specs.{Piece.written_as, Text.split_text}
 use Rattle.cert_split_check.specs.Check as split_check
 use Rattle.cert_split_check.specs.declared.fault.SplitFault.TheVariants as split_fault
 use Rattle.cert_own.specs.Searched.{AreSearched}
-use Rattle.call_commands.specs.{Checked.IsCheckedText, Margin.IsMarginText, Margin.margin_answer}
+use Rattle.call_commands.specs.{Margin.IsMarginText, Margin.margin_answer}
+use Rattle.call_answer.specs.Checked.{IsCheckedText}
 use Rattle.call_commands.specs.Check as check
 use Rattle.call_commands.specs.Recheck as recheck
 use Rattle.call_commands.specs.Split.{IsSplitOf}
@@ -42,9 +43,10 @@ use Rattle.cert_check.specs.{declared.counts.Counts.Counts, Check.IsAccepted}
 use Rattle.cert_check.specs.Counts.{all_verdicts, is_no, is_undecided}
 use Rattle.cert_own.specs.Certified.{AreCertified}
 use Rattle.call_commands.specs.Certify.{certify_answer}
-use Rattle.call_commands.specs.{Answers.status_by, Check.check_answer, Sinks.SinkView}
-use Rattle.call_commands.specs.{declared.done.Done.Done}
-use Rattle.call_commands.specs.declared.done.Done.TheVariants as done
+use Rattle.call_commands.specs.Check.{check_answer}
+use Rattle.call_answer.specs.{Answers.status_by, Sinks.SinkView}
+use Rattle.call_answer.specs.declared.done.Done.{Done}
+use Rattle.call_answer.specs.declared.done.Done.TheVariants as done
 use Rattle.cert_headline.specs.Obligations.{HoldsAsAccepted, HoldsAsCertified}
 use Rattle.cert_headline.specs.{Printed.HasVerdict, Printed.HoldsOf, WholeLines.whole_lines}
 use Rattle.call_pilot.specs.{Call.answers, CallAnswers.done_with}

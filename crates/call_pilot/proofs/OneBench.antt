@@ -29,7 +29,7 @@ use Rattle.model_logic.specs.Laws.{LineLaws}
 use Rattle.cert_own.specs.Certified.{AreCertified, IsCertified}
 use Rattle.cert_own.specs.Written.{written_as}
 use Rattle.call_commands.specs.Bench.{bench_answer}
-use Rattle.call_commands.specs.declared.done.Done.{Done}
+use Rattle.call_answer.specs.declared.done.Done.{Done}
 use Rattle.call_pilot.proofs.Printed.{same_counts}
 use Rattle.call_pilot.proofs.{SameFacts.pair_history_on, SameVerdicts.verdict_on}
 

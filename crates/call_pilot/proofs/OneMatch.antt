@@ -18,7 +18,8 @@ use Rattle.judge_match.specs.Waves.{SeenValues, seen_values}
 use Rattle.judge_match.specs.declared.seen.Match.{Match}
 use Rattle.judge_match.specs.declared.seen.Match.TheVariants.{Explained, Impossible, Unsettled}
 use Rattle.judge_match.specs.declared.seen.Seen.{Seen}
-use Rattle.call_commands.specs.{Answers.status_by, Match.match_answer, declared.done.Done.Done}
+use Rattle.call_commands.specs.Match.{match_answer}
+use Rattle.call_answer.specs.{Answers.status_by, declared.done.Done.Done}
 
 history_by : SeenValues → History
 history_by v = record {

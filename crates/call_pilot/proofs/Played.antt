@@ -11,7 +11,7 @@ use Rattle.file_timing.specs.Timings.{timings_of}
 use Rattle.file_timing.specs.declared.fault.TimingFault.{TimingFault}
 use Rattle.run_rows.specs.PlayRows.{run_rows}
 use Rattle.call_commands.specs.Play.{IsPlayText, IsRunText, IsTimingText, Pieces}
-use Rattle.call_commands.specs.Sinks.{SinkView}
+use Rattle.call_answer.specs.Sinks.{SinkView}
 use Rattle.call_pilot.specs.{Call.answers, Ends.EndsOf}
 use Rattle.call_pilot.specs.CallOver.{HasPut, IsFrontOfText, IsOverThree}
 use Rattle.call_pilot.specs.{HeadlineLaws.HeadlineLaws, PlayTruths.AreTheHistories}

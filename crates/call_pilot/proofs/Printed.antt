@@ -8,9 +8,10 @@ use Rattle.cert_check.specs.Counts.{AreCounts, all_verdicts, are_counts, counts_
 use Rattle.cert_check.specs.declared.fault.CheckFault.{CheckFault}
 use Rattle.cert_check.specs.declared.fault.CheckFault.TheVariants as fault
 use Rattle.cert_own.specs.Certified.{AreCertified}
-use Rattle.call_commands.specs.{Certify.certify_answer, Check.check_answer, Checked.accepted_pieces}
-use Rattle.call_commands.specs.declared.done.Done.{Done}
-use Rattle.call_commands.specs.declared.done.Done.TheVariants as done
+use Rattle.call_commands.specs.{Certify.certify_answer, Check.check_answer}
+use Rattle.call_answer.specs.Checked.{accepted_pieces}
+use Rattle.call_answer.specs.declared.done.Done.{Done}
+use Rattle.call_answer.specs.declared.done.Done.TheVariants as done
 use Rattle.call_pilot.specs.Accepted.{counted_line}
 
 pub same_counts : (a b : Counts) → a.yes ≡ b.yes → a.no ≡ b.no → a.undecided ≡ b.undecided → a ≡ b

@@ -27,15 +27,15 @@ use Rattle.call_pilot.specs.Reading.{of_timings, work_of_one}
 use Rattle.call_pilot.specs.Stops.{line_stop, record_stop, script_stop, timing_stop}
 use Rattle.call_pilot.specs.Study.{IsSaid, ReadsStudy}
 use Rattle.call_pilot.specs.{Commands.asks, Ends.Works, declared.refusal.Refusal.Refusal}
-use Rattle.call_commands.specs.{Sinks.SinkView, Study.IsStudy}
+use Rattle.call_answer.specs.{Sinks.SinkView, Study.IsStudy}
 use Rattle.call_pilot.specs.declared.refusal.Refusal.TheVariants as refusal
 use Rattle.call_pilot.specs.{declared.stop.Status.Status, declared.stop.Stop.Stop}
 use Rattle.call_pilot.specs.declared.stop.Stop.TheVariants as stop
-use Rattle.call_commands.specs.declared.study.Study.{Study}
+use Rattle.call_answer.specs.declared.study.Study.{Study}
 use Rattle.call_pilot.specs.declared.words.OneFile.{OneFile}
 use Rattle.call_pilot.specs.declared.words.OneFile.TheVariants as one
 use Rattle.call_pilot.proofs.Fetching.{works_wider}
-use Rattle.call_commands.specs.SinkLaws.{keeps_same}
+use Rattle.call_answer.specs.SinkLaws.{keeps_same}
 
 -- ---- what holds of what was read
 

@@ -1,6 +1,6 @@
 -- Results, by cases.
 use Rattle.std.proofs.Common.{OnOk, Result, Ok, Err}
-use Rattle.call_commands.specs.{declared.done.Done.Done, declared.put.WriteStop.WriteStop}
+use Rattle.call_answer.specs.{declared.done.Done.Done, declared.put.WriteStop.WriteStop}
 use Rattle.call_pilot.specs.Status.{ended}
 
 -- what follows, where there is a value

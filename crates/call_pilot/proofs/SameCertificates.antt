@@ -14,7 +14,8 @@ use Rattle.cert_text.specs.Grammar.{Claims, Place, claim_places, end_text, fixed
 use Rattle.cert_text.specs.Grammar.{key_of, part_places, script_parts, script_text, verdict_of}
 use Rattle.cert_text.specs.Text.{certificate_text, lines_text}
 use Rattle.cert_own.specs.Certified.{IsCertified}
-use Rattle.call_commands.specs.{Certify.certify_answer, declared.done.Done.Done}
+use Rattle.call_commands.specs.Certify.{certify_answer}
+use Rattle.call_answer.specs.declared.done.Done.{Done}
 use Rattle.call_pilot.proofs.SameFacts.{pair_history_on}
 use Rattle.call_pilot.proofs.{SameTexts.heads_same, SameValues.same_but_params}
 use Rattle.call_pilot.proofs.{SameVerdicts.verdict_on, TwinLists.zip_on}

@@ -25,8 +25,8 @@ use Rattle.cert_check.specs.declared.fault.CheckFault.{CheckFault}
 use Rattle.cert_check.specs.declared.fault.CheckFault.TheVariants as fault
 use Rattle.cert_check.specs.declared.no.NoFault.TheVariants as of_no
 use Rattle.call_commands.specs.{Check.check_answer, Check.rejected_pieces}
-use Rattle.call_commands.specs.declared.done.Done.{Done}
-use Rattle.call_commands.specs.declared.done.Done.TheVariants as done
+use Rattle.call_answer.specs.declared.done.Done.{Done}
+use Rattle.call_answer.specs.declared.done.Done.TheVariants as done
 use Rattle.call_pilot.proofs.{SameCertificates.places_same, SameClaims.claims_on}
 use Rattle.call_pilot.proofs.{SameClaims.fault_on, TwinTexts.lengths_same}
 use Rattle.call_pilot.proofs.SameFaults.{outside_same, passes_same, place_same}

@@ -20,7 +20,7 @@ use Rattle.cert_check.specs.Refutations.{IsFirstOutside, IsMetAt, IsMetInside, I
 use Rattle.cert_check.specs.Refutations.{choice_of, steady_timing}
 use Rattle.cert_check.specs.declared.no.NoFault.{NoFault}
 use Rattle.cert_check.specs.declared.no.NoFault.TheVariants.{Outside, Passes}
-use Rattle.call_commands.specs.Checked.{outside_pieces, passes_pieces, place}
+use Rattle.call_answer.specs.Checked.{outside_pieces, passes_pieces, place}
 use Rattle.call_pilot.proofs.SameFacts.{choice_same, ends_same, same_params}
 use Rattle.call_pilot.proofs.{SamePlays.timing_inside}
 use Rattle.call_pilot.proofs.SameTexts.{script_names_same, terminal_same}

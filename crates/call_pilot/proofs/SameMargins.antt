@@ -6,8 +6,9 @@ use Rattle.model_logic.specs.IntervalLaws.{HistoriesRestOnNoInterval}
 use Rattle.file_line.specs.Lines.{line_values}
 use Rattle.file_script.specs.Values.{values_of}
 use Rattle.judge_margin.specs.Answer.{IsMarginAnswer}
-use Rattle.call_commands.specs.{Margin.margin_answer, declared.done.Done.Done}
-use Rattle.call_commands.specs.declared.done.Done.TheVariants as done
+use Rattle.call_commands.specs.Margin.{margin_answer}
+use Rattle.call_answer.specs.declared.done.Done.{Done}
+use Rattle.call_answer.specs.declared.done.Done.TheVariants as done
 use Rattle.call_pilot.proofs.{SameFacts.same_params, SameHeld.upper_end_on}
 use Rattle.call_pilot.proofs.{SameTexts.margin_same, SameValues.same_but_params}
 

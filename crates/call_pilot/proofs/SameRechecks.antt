@@ -32,8 +32,8 @@ use Rattle.cert_split_check.specs.declared.fault.SplitFault.TheVariants as fault
 use Rattle.cert_check.specs.declared.counts.Counts.{Counts}
 use Rattle.cert_check.specs.declared.no.NoFault.TheVariants as of_no
 use Rattle.call_commands.specs.{Recheck.recheck_answer, Recheck.rejected_pieces}
-use Rattle.call_commands.specs.declared.done.Done.{Done}
-use Rattle.call_commands.specs.declared.done.Done.TheVariants as done
+use Rattle.call_answer.specs.declared.done.Done.{Done}
+use Rattle.call_answer.specs.declared.done.Done.TheVariants as done
 use Rattle.call_pilot.proofs.SameFacts.{box_same, same_params}
 use Rattle.call_pilot.proofs.SameFaults.{outside_same, passes_same, place_same}
 use Rattle.call_pilot.proofs.SameTexts.{heads_same, node_same}

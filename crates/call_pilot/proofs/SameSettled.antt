@@ -28,7 +28,8 @@ use Rattle.judge_match.specs.Waves.{SeenValues}
 use Rattle.judge_match.specs.declared.seen.Match.{Match}
 use Rattle.judge_match.specs.declared.seen.Match.TheVariants.{Explained, Impossible, Unsettled}
 use Rattle.judge_match.specs.declared.seen.Seen.{Seen}
-use Rattle.call_commands.specs.{Match.match_answer, declared.done.Done.Done}
+use Rattle.call_commands.specs.Match.{match_answer}
+use Rattle.call_answer.specs.declared.done.Done.{Done}
 use Rattle.call_pilot.proofs.SameFacts.{candidate_same, choice_same, count_same, same_params}
 use Rattle.call_pilot.proofs.SameMatches.{mean_same, same_history}
 use Rattle.call_pilot.proofs.SameTexts.{terminal_same}

@@ -22,7 +22,8 @@ use Rattle.judge_split.specs.Search.{second_fails, split, yes}
 use Rattle.judge_split.specs.Widths.{IsNarrow, IsWidest, middle, width}
 use Rattle.cert_split_text.specs.Grammar.{SplitResult}
 use Rattle.cert_own.specs.Searched.{AreSearched}
-use Rattle.call_commands.specs.{Split.split_answer, declared.done.Done.Done}
+use Rattle.call_commands.specs.Split.{split_answer}
+use Rattle.call_answer.specs.declared.done.Done.{Done}
 use Rattle.call_pilot.proofs.SameFacts.{ends_same, pair_history_on, same_params}
 use Rattle.call_pilot.proofs.{SameTexts.split_same, SameValues.same_but_params}
 use Rattle.call_pilot.proofs.{SameVerdicts.verdict_on, TwinLists.zip_on}

@@ -23,8 +23,8 @@ use Rattle.file_line.specs.declared.fault.LineFault.{LineFault}
 use Rattle.file_script.specs.Scripts.{scripts_of}
 use Rattle.file_script.specs.Values.{ScriptValues, values_of}
 use Rattle.file_script.specs.declared.fault.ScriptFault.{ScriptFault}
-use Rattle.call_commands.specs.Sinks.{SinkView}
-use Rattle.call_commands.specs.SinkLaws.{keeps_same}
+use Rattle.call_answer.specs.Sinks.{SinkView}
+use Rattle.call_answer.specs.SinkLaws.{keeps_same}
 use Rattle.call_pilot.specs.CallOver.{HasPut, IsFrontOfText, IsOverThree, IsOverTwo}
 use Rattle.call_pilot.specs.declared.stop.File.{File}
 use Rattle.call_pilot.specs.declared.stop.Status.TheVariants as status

@@ -1,11 +1,11 @@
 -- What a call answers once its command wrote its text.
 use Rattle.std.proofs.Common.{◌≡◌, [], IfOk, Result, Ok, Err, refl, inr}
-use Rattle.call_commands.specs.Answers.{Answers, Says, WritesAnswer}
-use Rattle.call_commands.specs.{Sinks.SinkView, Sinks.Writes, declared.done.Done.Done}
-use Rattle.call_commands.specs.declared.done.Done.TheVariants as done
-use Rattle.call_commands.specs.declared.put.WriteStop.{WriteStop}
-use Rattle.call_commands.specs.declared.put.WriteStop.TheVariants as write_stop
-use Rattle.call_commands.specs.declared.said.Said.{Said}
+use Rattle.call_answer.specs.Answers.{Answers, Says, WritesAnswer}
+use Rattle.call_answer.specs.{Sinks.SinkView, Sinks.Writes, declared.done.Done.Done}
+use Rattle.call_answer.specs.declared.done.Done.TheVariants as done
+use Rattle.call_answer.specs.declared.put.WriteStop.{WriteStop}
+use Rattle.call_answer.specs.declared.put.WriteStop.TheVariants as write_stop
+use Rattle.call_answer.specs.declared.said.Said.{Said}
 use Rattle.call_pilot.specs.CallAnswers.{done_with}
 use Rattle.call_pilot.specs.{Ends.Works, Status.IsDone, Status.ended, Status.status_of_done}
 

@@ -1,6 +1,6 @@
 -- What a call may answer: a relation of the status, the text on out and the line on err.
 use Rattle.std.specs.Prelude.{◌≡◌, ℕ, List, []}
-use Rattle.call_commands.specs.{Answers.Answers, declared.done.Done.Done}
+use Rattle.call_answer.specs.{Answers.Answers, declared.done.Done.Done}
 use Rattle.call_pilot.specs.{Messages.message_of, Status.status_of_done}
 use Rattle.call_pilot.specs.{declared.refusal.Refusal.Refusal, declared.stop.Status.Status}
 use Rattle.call_pilot.specs.declared.stop.Status.TheVariants as status

@@ -1,6 +1,6 @@
 -- The command of a call and its files, and what the call has put on out.
 use Rattle.std.specs.Prelude.{◌≡◌, ◌≢◌, ◌++◌, ℕ, List, [], Option, Some}
-use Rattle.call_commands.specs.Sinks.{SinkView}
+use Rattle.call_answer.specs.Sinks.{SinkView}
 use Rattle.call_pilot.specs.Words.{Command, TwoFiles, three_files, two_files}
 use Rattle.call_pilot.specs.{Status.IsDone, declared.stop.Status.Status}
 use Rattle.call_pilot.specs.declared.words.ThreeFiles.{ThreeFiles}

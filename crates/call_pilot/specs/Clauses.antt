@@ -8,7 +8,7 @@ use Rattle.call_pilot.specs.{Headline.Headline, Messages.message_of, Status.IsAn
 use Rattle.call_pilot.specs.{Words.Command}
 use Rattle.call_pilot.specs.{Words.files_named, declared.refusal.Refusal.Refusal}
 use Rattle.call_pilot.specs.{declared.stop.File.File, declared.stop.Status.Status}
-use Rattle.call_commands.specs.Sinks.{SinkView, GrewByAll}
+use Rattle.call_answer.specs.Sinks.{SinkView, GrewByAll}
 use Rattle.call_pilot.specs.declared.stop.Status.TheVariants as status
 use Rattle.call_pilot.specs.declared.stop.Stop.TheVariants as stop
 

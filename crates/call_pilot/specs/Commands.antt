@@ -1,11 +1,12 @@
 -- The commands: what each answers, and what it asks of the engine.
 use Rattle.call_commands.specs.Bench.{bench_answer, bench_asks}
-use Rattle.call_commands.specs.{Answers.Answers, Asked.Asks, Asked.asks_nothing}
-use Rattle.call_commands.specs.{Certify.certify_answer}
+use Rattle.call_commands.specs.{Asked.Asks, Asked.asks_nothing}
+use Rattle.call_answer.specs.Answers.{Answers}
+use Rattle.call_commands.specs.Certify.{certify_answer}
 use Rattle.call_commands.specs.{Certify.certify_asks, Check.check_answer, Check.check_asks}
 use Rattle.call_commands.specs.{Line.line_answer, Margin.margin_answer, Match.match_answer}
 use Rattle.call_commands.specs.{Migrate.migrate_answer, Net.net_answer, Play.play_answer}
-use Rattle.call_commands.specs.{Play.play_asks}
+use Rattle.call_commands.specs.Play.{play_asks}
 use Rattle.call_commands.specs.{Recheck.recheck_answer, Report.report_answer, Split.split_answer}
 use Rattle.call_pilot.specs.Work as work
 use Rattle.call_pilot.specs.Work.{Work}

@@ -3,7 +3,7 @@
 use Rattle.std.specs.Prelude.{◌≡◌, ◌⊎◌, None, Some, ℕ, List, [], Option, Result, Ok, Err}
 use Rattle.std.specs.Io.KnownBytes.{Keeps}
 use Rattle.base_store.specs.{Counts.Rose, Sink.GrewByProper, Sink.GrewByPart, Store.SameCounts}
-use Rattle.call_commands.specs.Sinks.{SinkView, GrewByAll}
+use Rattle.call_answer.specs.Sinks.{SinkView, GrewByAll}
 use Rattle.call_pilot.specs.Files.{AllTold, NamedFile, StoreCause, contents}
 use Rattle.call_pilot.specs.{Call.answer_by, CallAnswers.CallAnswers, Messages.message_of}
 use Rattle.call_pilot.specs.{Reading.over_files, Status.IsDone, Words.Command, Words.files_of}

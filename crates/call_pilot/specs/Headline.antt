@@ -2,7 +2,7 @@
 -- are the bytes of the command's files, and put is what the call has put on out.
 use Rattle.std.specs.Prelude.{◌≡◌, ℕ, List, Option}
 use Rattle.cert_text.specs.Grammar.{Verdict}
-use Rattle.call_commands.specs.Sinks.{SinkView}
+use Rattle.call_answer.specs.Sinks.{SinkView}
 use Rattle.cert_headline.specs.{Matched.HasMatch, Matched.Matched, Printed.HasVerdict}
 use Rattle.cert_headline.specs.Obligations.{HoldsAsAccepted, HoldsAsCertified}
 use Rattle.call_pilot.specs.CallOver.{HasPut, IsFrontOfText, IsOverThree, IsOverTwo}

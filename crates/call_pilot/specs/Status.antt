@@ -1,9 +1,9 @@
 -- The exit status of each end of a call.
 use Rattle.std.specs.Prelude.{Result, Ok, Err, ⊤}
-use Rattle.call_commands.specs.declared.done.Done.{Done}
-use Rattle.call_commands.specs.declared.done.Done.TheVariants as done
-use Rattle.call_commands.specs.declared.put.WriteStop.{WriteStop}
-use Rattle.call_commands.specs.declared.put.WriteStop.TheVariants as write_stop
+use Rattle.call_answer.specs.declared.done.Done.{Done}
+use Rattle.call_answer.specs.declared.done.Done.TheVariants as done
+use Rattle.call_answer.specs.declared.put.WriteStop.{WriteStop}
+use Rattle.call_answer.specs.declared.put.WriteStop.TheVariants as write_stop
 use Rattle.call_pilot.specs.declared.stop.Status.{Status}
 use Rattle.call_pilot.specs.declared.stop.Status.TheVariants as status
 use Rattle.call_pilot.specs.declared.stop.Stop.{Stop}

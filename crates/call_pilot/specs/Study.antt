@@ -1,6 +1,6 @@
 -- What is read of a line file and a scripts file.
 use Rattle.std.specs.Prelude.{◌≡◌, ⊤, ℕ, List, Result, Ok, Err, map}
-use Rattle.call_commands.specs.{Study.IsStudy, declared.study.Study.Study}
+use Rattle.call_answer.specs.{Study.IsStudy, declared.study.Study.Study}
 use Rattle.file_line.specs.{LineFiles.line_of, Lines.line_values}
 use Rattle.file_script.specs.{Scripts.scripts_of, Values.values_of}
 use Rattle.call_pilot.specs.{Reading.of_study, declared.stop.Stop.Stop}

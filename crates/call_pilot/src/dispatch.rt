@@ -1,6 +1,6 @@
 //! The work of each command, over the bytes of its files.
 ghost use Rattle.std.specs.Prelude.{◌≤◌, IfOk, OnOk, length};
-ghost use Rattle.call_commands.specs.{Answers.Says, Sinks.sink_view, Study.IsStudy};
+ghost use Rattle.call_answer.specs.{Answers.Says, Sinks.sink_view, Study.IsStudy};
 ghost use Rattle.call_engine.specs.Calls.{Calls};
 ghost use Rattle.call_pilot.specs.Call.{answer_by, asks_by};
 ghost use Rattle.call_pilot.specs.Reading.{bench as of_bench, no_other_file};
@@ -16,9 +16,10 @@ use crate::stop::{Status, Stop, ended};
 use crate::study::read_study;
 use crate::words::{OneFile, ThreeFiles, TwoFiles};
 use base_store::Sink;
+use call_answer::{Said, Study, put_said};
 use call_commands::{
-    Said, Study, certify, check, line, margin, match_records, migrate, net, play, put_said,
-    recheck, report, run_bench, split,
+    certify, check, line, margin, match_records, migrate, net, play, recheck, report, run_bench,
+    split,
 };
 use call_engine::Engine;
 use file_line::read_line;

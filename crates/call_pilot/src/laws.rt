@@ -10,7 +10,7 @@ ghost use Rattle.cert_check.specs.Counts.{all_verdicts};
 ghost use Rattle.cert_split_check.specs.Counts.{all_verdicts as all_split_verdicts};
 ghost use Rattle.call_commands.specs.{Certify.certify_answer, Check.check_answer};
 ghost use Rattle.call_commands.specs.{Recheck.recheck_answer, Split.split_answer};
-ghost use Rattle.call_commands.specs.declared.done.Done.{Done};
+ghost use Rattle.call_answer.specs.declared.done.Done.{Done};
 ghost use Rattle.call_pilot.specs.{Accepted.counted_line, HeadlineLaws.HeadlineLaws};
 
 use crate::record_laws::what_is_recorded_is_true;

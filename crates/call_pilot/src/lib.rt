@@ -18,7 +18,7 @@ mod study;
 mod top;
 mod words;
 
-pub use call_commands::Study;
+pub use call_answer::Study;
 pub use files::fetch_file;
 pub use fixed_answer::words_and_files_fix_the_answer;
 pub use laws::{

@@ -2,12 +2,12 @@
 ghost use Rattle.std.specs.Prelude.{◌≡◌};
 ghost use Rattle.std.specs.List.{concat};
 ghost use Rattle.call_pilot.specs.Messages.{file_word, message_of, refusal_pieces, subject_word};
-ghost use Rattle.call_commands.specs.Sinks.{Puts, sink_view};
+ghost use Rattle.call_answer.specs.Sinks.{Puts, sink_view};
 
 use crate::refusal::{Detail, Subject};
 use crate::stop::{File, Stop};
 use base_store::{PutFailed, Sink};
-use call_commands::put_pieces;
+use call_answer::put_pieces;
 use itoa::Buffer;
 
 fn word_of_file(file: File) -> &'static [u8]

@@ -6,9 +6,9 @@ ghost use Rattle.model_line.specs.{Fits.Fits, Parameters.param_count};
 ghost use Rattle.cert_text.specs.Grammar.{Claims, IsCertificate, LeavesGrammar};
 ghost use Rattle.call_commands.specs.Bench.{bench_answer};
 ghost use Rattle.call_commands.specs.{Check.check_answer, Margin.margin_answer};
-ghost use Rattle.call_commands.specs.{Recheck.recheck_answer};
+ghost use Rattle.call_commands.specs.Recheck.{recheck_answer};
 ghost use Rattle.call_commands.specs.{Match.match_answer, Report.report_answer, Split.split_answer};
-ghost use Rattle.call_commands.specs.declared.done.Done.{Done};
+ghost use Rattle.call_answer.specs.declared.done.Done.{Done};
 ghost use Rattle.judge_match.specs.Waves.{SeenValues};
 
 use cert_check::{a_certificate_has_one_first_fault, a_fault_refuses_the_certificate};

@@ -7,7 +7,7 @@ ghost use Rattle.call_pilot.specs.Words.{three_files as three_files_command};
 ghost use Rattle.call_pilot.specs.Words.{two_files as two_files_command};
 ghost use Rattle.call_pilot.specs.CommandView.{command_view, two_files_view};
 ghost use Rattle.call_pilot.specs.{Call.Asked, Ends.EndsOf};
-ghost use Rattle.call_commands.specs.Sinks.{sink_view};
+ghost use Rattle.call_answer.specs.Sinks.{sink_view};
 
 use crate::dispatch::{no_file, one_file, three_files, two_files};
 use crate::files::fetch_file;

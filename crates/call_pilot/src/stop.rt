@@ -3,7 +3,7 @@ ghost use Rattle.std.specs.Prelude.{◌≡◌};
 ghost use Rattle.call_pilot.specs.{Status.ended as end_of, declared.stop.Stop.TheVariants.Memory};
 
 use crate::refusal::Refusal;
-use call_commands::{Done, WriteStop};
+use call_answer::{Done, WriteStop};
 use file_line::LineFault;
 use file_script::ScriptFault;
 use file_timing::TimingFault;

@@ -2,7 +2,7 @@
 ghost use Rattle.call_pilot.specs.Study.{ReadsStudy};
 
 use crate::stop::Stop;
-use call_commands::Study;
+use call_answer::Study;
 use file_line::read_line;
 use file_script::read_scripts;
 use net_compile::compile;

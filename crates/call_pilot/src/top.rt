@@ -2,7 +2,7 @@
 ghost use Rattle.std.specs.Prelude.{◌≡◌, ◌↔◌, map, string_bytes};
 ghost use Rattle.call_pilot.specs.Clauses.{Clauses};
 ghost use Rattle.call_pilot.specs.{Status.IsDone, Status.IsEarly, Words.command_of};
-ghost use Rattle.call_commands.specs.Sinks.{sink_view};
+ghost use Rattle.call_answer.specs.Sinks.{sink_view};
 
 use crate::laws::what_is_answered_is_true;
 use crate::messages::put_message;

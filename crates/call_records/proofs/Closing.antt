@@ -2,8 +2,8 @@
 use Rattle.std.proofs.Common.{◌≡◌, ◌⊎◌, ◌<◌, ◌∙◌, ℕ, List, [], Option, Result, Ok, Err, refl, ap, inl, inr, arith}
 use Rattle.std.specs.Io.KnownBytes.{Appends}
 use Rattle.base_store.specs.{Counts.Rose, Sink.GrewByPart, SinkLaws.part_of_proper}
-use Rattle.call_commands.specs.{Sinks.GrewByAll, Sinks.Puts, Sinks.SinkView}
-use Rattle.call_commands.specs.SinkLaws.{appends_none}
+use Rattle.call_answer.specs.{Sinks.GrewByAll, Sinks.Puts, Sinks.SinkView}
+use Rattle.call_answer.specs.SinkLaws.{appends_none}
 use Rattle.call_records.specs.{Clauses.Call, Clauses.Clauses, Clauses.IsTold, Clauses.OutIsAnswer}
 use Rattle.call_records.specs.{Clauses.OutIsFront, Course.course_of, Ends.EndsOf, Request.Request}
 use Rattle.call_records.specs.Files.{Cause, Held, NoneRose}

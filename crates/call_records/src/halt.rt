@@ -1,12 +1,12 @@
 //! Why what is asked for is not done.
 
 ghost use Rattle.std.specs.Prelude.{◌≡◌};
-ghost use Rattle.call_commands.specs.Sinks.{Puts, sink_view};
+ghost use Rattle.call_answer.specs.Sinks.{Puts, sink_view};
 ghost use Rattle.call_records.specs.Halts.{halt_line, status_of as end_status};
 ghost use Rattle.call_records.specs.declared.halt.Halt.TheVariants as halt_of;
 
 use base_store::{PutFailed, Sink};
-use call_commands::put_pieces;
+use call_answer::put_pieces;
 use model_line::Memory;
 use std::alloc::{AllocError, AllocFailed};
 

@@ -3,7 +3,7 @@
 ghost use Rattle.std.specs.Prelude.{[], ◌≡◌, ◌≤◌, IsTrue, length};
 ghost use Rattle.model_line.specs.{Fits.deadline_fits, PlainNames.is_plain_name};
 ghost use Rattle.file_map.specs.Maps.{map_values};
-ghost use Rattle.call_commands.specs.Sinks.{sink_view};
+ghost use Rattle.call_answer.specs.Sinks.{sink_view};
 ghost use Rattle.call_records.specs.{Clauses.Clauses, Ends.EndsOf, Request.request_of};
 ghost use Rattle.call_records.specs.Course.{course_of, over, recorders_course, untold_by, with_line};
 ghost use Rattle.call_records.specs.{Files.Runs, Read.text_seen};

@@ -3,8 +3,8 @@ use Rattle.std.proofs.Common.{◌≡◌, ◌⊎◌, ◌<◌, ℕ, List, [], ◌�
 use Rattle.std.proofs.Common.{inl, inr, arith}
 use Rattle.std.specs.Io.KnownBytes.{Appends}
 use Rattle.base_store.specs.{Counts.Rose, Sink.GrewByPart, SinkLaws.part_of_proper}
-use Rattle.call_commands.specs.{Sinks.GrewByAll, Sinks.Puts, Sinks.SinkView}
-use Rattle.call_commands.specs.SinkLaws.{appends_none}
+use Rattle.call_answer.specs.{Sinks.GrewByAll, Sinks.Puts, Sinks.SinkView}
+use Rattle.call_answer.specs.SinkLaws.{appends_none}
 use Rattle.call_pilot.specs.Files.{NamedFile, NoneRose, StoreCause}
 use Rattle.call_pilot.specs.declared.stop.File.{File}
 use Rattle.call_pilot.specs.declared.stop.Stop.TheVariants as stop

@@ -2,7 +2,7 @@
 use Rattle.std.proofs.Common.{◌≡◌, ℕ, ◌<◌, ◌≤◌, false, true, List, [], ◌∷◌, Option, None, Some, IsSome, IfSome}
 use Rattle.std.proofs.Common.{Result, Ok, Err, length, nat_lt, unwrap_or, refl, sym, ◌∙◌}
 use Rattle.std.proofs.Common.{inl, inr, subst, arith}
-use Rattle.call_commands.specs.declared.said.Said.{Said}
+use Rattle.call_answer.specs.declared.said.Said.{Said}
 use Rattle.base_store.specs.Store.{SameCounts}
 use Rattle.call_pilot.specs.Files.{AllTold, Fetches, NamedFile, StoreCause, contents, in_front}
 use Rattle.call_pilot.specs.Files.{limit_of}

@@ -1,6 +1,6 @@
 -- Why there is no such map.
 use Rattle.std.proofs.Common.{◌≡◌, ℕ, List, Option, Result, Err, None, length, refl}
-use Rattle.call_commands.specs.declared.said.Said.{Said}
+use Rattle.call_answer.specs.declared.said.Said.{Said}
 use Rattle.call_map.specs.{Asked.asked_of, declared.ask.MapForm.MapForm}
 use Rattle.call_map.specs.declared.denial.{MapDenial.MapDenial, MapStop.MapStop}
 use Rattle.call_map.specs.declared.denial.MapStop.TheVariants as map_stop

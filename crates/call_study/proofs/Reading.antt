@@ -15,7 +15,7 @@ use Rattle.file_timing.specs.Gives as timing_reading
 use Rattle.file_timing.specs.declared.fault.TimingFault.{TimingFault}
 use Rattle.file_timing.specs.declared.fault.TimingFault.TheVariants as timing_fault
 use Rattle.model_timing.specs.{Inside.IsTimingInside, NamedValues.NamedValues}
-use Rattle.call_commands.specs.{declared.said.Said.Said}
+use Rattle.call_answer.specs.declared.said.Said.{Said}
 use Rattle.call_pilot.specs.Reading.{of_line, of_scripts, of_study, of_timings}
 use Rattle.call_pilot.specs.Stops.{timing_stop}
 use Rattle.call_pilot.specs.declared.refusal.Refusal.{Refusal}

@@ -5,8 +5,8 @@ use Rattle.file_event.specs.{Config.config_text, Map.map_text}
 use Rattle.file_line.specs.{LineFiles.line_of, Lines.line_values}
 use Rattle.file_script.specs.Values.{values_of}
 use Rattle.file_sweeps.specs.Parts.{SaysScripts, part}
-use Rattle.call_commands.specs.Answers as commands
-use Rattle.call_commands.specs.Answers.{prints}
+use Rattle.call_answer.specs.Answers as commands
+use Rattle.call_answer.specs.Answers.{prints}
 use Rattle.call_explain.specs.Explain.{explain_answer}
 use Rattle.call_map.specs.Answers.{map_answer}
 use Rattle.call_page.specs.Pages.{page_answer}

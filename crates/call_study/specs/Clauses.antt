@@ -2,7 +2,7 @@
 use Rattle.std.specs.Prelude.{◌≡◌, ◌⊎◌, ◌<◌, ℕ, List, Option, Err}
 use Rattle.std.specs.Io.KnownBytes.{Appends}
 use Rattle.base_store.specs.{Counts.Rose, Sink.GrewByPart, Sink.GrewByProper}
-use Rattle.call_commands.specs.Sinks.{GrewByAll, SinkView}
+use Rattle.call_answer.specs.Sinks.{GrewByAll, SinkView}
 use Rattle.call_pilot.specs.Files.{AllTold, NoneRose, StoreCause}
 use Rattle.call_pilot.specs.declared.stop.File.{File}
 use Rattle.call_pilot.specs.declared.stop.Stop.TheVariants as stop

@@ -1,8 +1,8 @@
 -- How each layer of the call ends, by cases on its result.
 use Rattle.std.specs.Prelude.{◌≡◌, ℕ, List, [], Option, Result, Ok, Err, ⊤}
 use Rattle.base_store.specs.{Counts.Rose, Sink.GrewByProper, Store.SameCounts}
-use Rattle.call_commands.specs.{declared.done.Done.Done, declared.said.Said.Said}
-use Rattle.call_commands.specs.Sinks.{GrewByAll, SinkView}
+use Rattle.call_answer.specs.{declared.done.Done.Done, declared.said.Said.Said}
+use Rattle.call_answer.specs.Sinks.{GrewByAll, SinkView}
 use Rattle.call_pilot.specs.Files.{AllTold, NamedFile, StoreCause, contents}
 use Rattle.call_pilot.specs.declared.stop.{File.File}
 use Rattle.call_pilot.specs.declared.stop.Stop.TheVariants as stop

@@ -1,8 +1,8 @@
 -- What is said of suspicious files: the status is that of what was found; of the words nothing is
 -- said.
 use Rattle.std.specs.Prelude.{◌≡◌, ℕ, List}
-use Rattle.call_commands.specs.{Answers.Answers, declared.done.Done.Done}
-use Rattle.call_commands.specs.declared.done.Done.TheVariants as done
+use Rattle.call_answer.specs.{Answers.Answers, declared.done.Done.Done}
+use Rattle.call_answer.specs.declared.done.Done.TheVariants as done
 use Rattle.call_lint.specs.Outcomes.{IsLinted, IsStudyLinted}
 use Rattle.call_lint.specs.declared.linted.Outcome.{Outcome}
 use Rattle.call_lint.specs.declared.linted.Outcome.TheVariants as outcome

@@ -5,8 +5,8 @@ use Rattle.model_line.specs.{declared.line.Line.Line, declared.script.Script.Scr
 use Rattle.model_timing.specs.NamedValues.{NamedValues}
 use Rattle.cert_check.specs.declared.counts.Counts.{Counts}
 use Rattle.cert_settle_check.specs.Check.{IsAccepted}
-use Rattle.call_commands.specs.{Answers.Answers, Answers.status_by, declared.done.Done.Done}
-use Rattle.call_commands.specs.declared.done.Done.TheVariants as done
+use Rattle.call_answer.specs.{Answers.Answers, Answers.status_by, declared.done.Done.Done}
+use Rattle.call_answer.specs.declared.done.Done.TheVariants as done
 use Rattle.call_tables.specs.{Rows.AreRows, Table.is_failing, Table.is_open}
 use Rattle.call_tables.specs.Written.{IsTimingsText, failing_timings, trees_text}
 use Rattle.call_tables.specs.declared.row.Row.{Row}

@@ -2,14 +2,14 @@
 
 ghost use Rattle.std.specs.Prelude.{[], ◌≡◌, ◌∷◌, ◌++◌, ℕ, codes, decimal};
 ghost use Rattle.std.specs.List.{concat};
-ghost use Rattle.call_commands.specs.Sinks.{Puts, sink_view};
+ghost use Rattle.call_answer.specs.Sinks.{Puts, sink_view};
 ghost use Rattle.call_study.specs.Denials.{denial_line, scripts_pieces, study_pieces};
 ghost use Rattle.call_study.specs.Denials.{unpicked_pieces};
 ghost use Rattle.file_sweeps.specs.SweepWords.{horizon_pieces};
 ghost use Rattle.file_sweeps.specs.declared.study_fault.StudySweepFault.TheVariants.{Refused};
 
 use base_store::{PutFailed, Sink};
-use call_commands::put_pieces;
+use call_answer::put_pieces;
 use call_explain::Unpicked;
 use call_map::{MapDenial, put_map_denial};
 use file_study::StudyFault;

@@ -11,7 +11,7 @@ use crate::denial::Denial;
 use crate::halt::Halt;
 use crate::load::{Bytes, load};
 use crate::read::at_most;
-use call_commands::{Said, Study};
+use call_answer::{Said, Study};
 use call_explain::{Asked, ExplainForm, explain_said};
 use model_line::Script;
 use std::alloc::Global;

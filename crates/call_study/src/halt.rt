@@ -1,14 +1,14 @@
 //! Why what is asked for is not done.
 
 ghost use Rattle.std.specs.Prelude.{◌≡◌};
-ghost use Rattle.call_commands.specs.Sinks.{Puts, sink_view};
+ghost use Rattle.call_answer.specs.Sinks.{Puts, sink_view};
 ghost use Rattle.call_pilot.specs.declared.stop.Stop.TheVariants.{Memory, Sink};
 ghost use Rattle.call_study.specs.Halts.{halt_line, status_of as end_status};
 ghost use Rattle.call_study.specs.declared.halt.Halt.TheVariants.{Denied, Stopped};
 
 use crate::denial::{Denial, put_denial};
 use base_store::{PutFailed, Sink};
-use call_commands::Done;
+use call_answer::Done;
 use call_explain::ExplainStop;
 use call_map::MapStop;
 use call_pilot::{Stop, put_message};

@@ -5,7 +5,7 @@ ghost use Rattle.call_study.specs.Loaded.{FilesSay, Loads, Say, StudySays, given
 ghost use Rattle.call_study.specs.Studied.{of_files, of_study_file, untitled as title_of_none};
 
 use crate::halt::Halt;
-use call_commands::Study;
+use call_answer::Study;
 use call_pilot::read_study;
 use file_script::a_file_says_scripts_of_one_file;
 use file_sweeps::{Group, groups_of_scripts, scripts_of_study};

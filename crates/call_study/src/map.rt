@@ -7,7 +7,7 @@ ghost use Rattle.call_study.specs.Reading.{map_of as map_over};
 use crate::halt::Halt;
 use crate::load::{Bytes, load};
 use crate::read::at_most;
-use call_commands::Said;
+use call_answer::Said;
 use call_map::{MapAsk, map_of};
 use std::alloc::Global;
 

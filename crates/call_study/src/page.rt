@@ -6,7 +6,7 @@ ghost use Rattle.call_study.specs.Reading.{page_of};
 use crate::halt::Halt;
 use crate::load::{Bytes, load};
 use crate::read::at_most;
-use call_commands::Said;
+use call_answer::Said;
 use call_page::{Asked, page_said};
 use std::alloc::Global;
 

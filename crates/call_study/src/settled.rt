@@ -2,10 +2,10 @@
 
 ghost use Rattle.std.specs.Prelude.{◌≡◌, ◌∷◌, [], IfOk, length};
 ghost use Rattle.model_line.specs.declared.script.Script.{Script};
-ghost use Rattle.call_commands.specs.{Answers.Says, Study.IsStudy};
+ghost use Rattle.call_answer.specs.{Answers.Says, Study.IsStudy};
 ghost use Rattle.call_study.specs.Settled.{failing_answer, trees_answer};
 
-use call_commands::{Done, Said, Study};
+use call_answer::{Done, Said, Study};
 use call_tables::{settle_all, settle_timings, settle_trees, table_of};
 use model_line::Memory;
 use std::alloc::Global;

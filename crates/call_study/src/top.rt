@@ -1,7 +1,7 @@
 //! The top call.
 
 ghost use Rattle.std.specs.Prelude.{◌≡◌};
-ghost use Rattle.call_commands.specs.Sinks.{sink_view};
+ghost use Rattle.call_answer.specs.Sinks.{sink_view};
 ghost use Rattle.call_study.specs.Answers.{answer_by, answer_over};
 ghost use Rattle.call_study.specs.{Clauses.Clauses, Ends.EndsOf, Ends.Fetched};
 ghost use Rattle.call_study.specs.{Halts.IsDone, Halts.IsEarly, Loaded.source_in};
@@ -17,7 +17,7 @@ use crate::map::map;
 use crate::page::page;
 use crate::read::{bands, play, recheck, table, timings};
 use base_store::{Sink, Store, put_all};
-use call_commands::{Done, Said};
+use call_answer::{Done, Said};
 use call_pilot::{File, fetch_file};
 use std::alloc::Global;
 

@@ -4,8 +4,8 @@ use Rattle.model_line.specs.{declared.line.Line.Line, declared.script.Script.Scr
 use Rattle.judge_margin.specs.declared.upper_end.Lost.{Lost}
 use Rattle.judge_margins.specs.{Ends.AreEnds, MarginsText.margins_rows, Today.AreToday}
 use Rattle.judge_margins.specs.declared.end.End.{End}
-use Rattle.call_commands.specs.{Answers.Answers, declared.done.Done.Done}
-use Rattle.call_commands.specs.declared.done.Done.TheVariants as done
+use Rattle.call_answer.specs.{Answers.Answers, declared.done.Done.Done}
+use Rattle.call_answer.specs.declared.done.Done.TheVariants as done
 
 -- 2 where some obligations are not held today
 abbrev pub status_with : List Lost → Done

@@ -4,7 +4,7 @@ use Rattle.std.specs.List.{All}
 use Rattle.model_line.specs.{declared.line.Line.Line, declared.script.Script.Script}
 use Rattle.model_line.specs.{Fits.Fits, Parameters.terminal_count}
 use Rattle.net_gates.specs.NetOf.{IsNetOf}
-use Rattle.call_commands.specs.declared.study.Study.{Study}
+use Rattle.call_answer.specs.declared.study.Study.{Study}
 use Rattle.judge_verdict.specs.OneEach.{OneEach}
 use Rattle.judge_settle.specs.Answers.{IsAnswer}
 use Rattle.call_tables.specs.declared.row.Row.{Row}

@@ -2,7 +2,7 @@
 use Rattle.std.specs.Prelude.{◌≡◌, ℕ, List}
 use Rattle.std.specs.List.{list_any}
 use Rattle.model_line.specs.{declared.line.Line.Line, declared.script.Script.Script}
-use Rattle.call_commands.specs.{Answers.Answers, Answers.status_by, declared.done.Done.Done}
+use Rattle.call_answer.specs.{Answers.Answers, Answers.status_by, declared.done.Done.Done}
 use Rattle.call_tables.specs.{Rows.AreRows, Table.is_failing, Table.is_open, Table.table_text}
 use Rattle.call_tables.specs.declared.row.Row.{Row}
 

@@ -1,10 +1,10 @@
 //! The margins of all times.
 
 ghost use Rattle.std.specs.Prelude.{◌≡◌, IfOk};
-ghost use Rattle.call_commands.specs.{Answers.Says, Study.IsStudy};
+ghost use Rattle.call_answer.specs.{Answers.Says, Study.IsStudy};
 ghost use Rattle.call_tables.specs.Margins.{margins_answer, status_with};
 
-use call_commands::{Done, Said, Study};
+use call_answer::{Done, Said, Study};
 use judge_margin::Lost;
 use judge_margins::{held_today, margins, margins_text};
 use model_line::Memory;

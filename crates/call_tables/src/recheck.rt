@@ -3,12 +3,11 @@
 ghost use Rattle.std.specs.Prelude.{◌≡◌, ◌≢◌, IfOk};
 ghost use Rattle.std.specs.List.{concat};
 ghost use Rattle.cert_settle_check.specs.declared.fault.SettleFault.{SettleFault};
-ghost use Rattle.call_commands.specs.{Answers.Says, Checked.line_pieces, Study.IsStudy};
+ghost use Rattle.call_answer.specs.{Answers.Says, Checked.line_pieces, Study.IsStudy};
 ghost use Rattle.call_tables.specs.Recheck.{recheck_answer, rejected_pieces};
 
-use call_commands::checked::{accepted_text, place, rejected_outside, rejected_passes};
-use call_commands::text::text_of;
-use call_commands::{Said, Study};
+use call_answer::checked::{accepted_text, place, rejected_outside, rejected_passes};
+use call_answer::{Said, Study, text_of};
 use cert_settle_check::{SettleFault, check_settle};
 use itoa::Buffer;
 use model_line::Memory;

@@ -5,7 +5,7 @@ ghost use Rattle.model_line.specs.Parameters.{terminal_count};
 ghost use Rattle.call_tables.specs.Rows.{AreRows, IsAnyStudy, IsRow};
 
 use crate::row::Row;
-use call_commands::Study;
+use call_answer::Study;
 use judge_settle::settle;
 use model_line::Memory;
 use std::alloc::Global;

@@ -9,7 +9,7 @@ ghost use Rattle.call_tables.specs.Table.{row_record, table_text as table_text_o
 
 use crate::row::Row;
 use base_records::push_record;
-use call_commands::Study;
+use call_answer::Study;
 use itoa::Buffer;
 use judge_settle::{Answer, By};
 use model_line::Memory;

@@ -6,14 +6,14 @@ ghost use Rattle.std.specs.List.{All, flat_map};
 ghost use Rattle.model_line.specs.declared.script.Script.{Script};
 ghost use Rattle.model_line.specs.Parameters.{terminal_count};
 ghost use Rattle.model_timing.specs.NamedValues.{values_of};
-ghost use Rattle.call_commands.specs.Study.{IsStudy};
+ghost use Rattle.call_answer.specs.Study.{IsStudy};
 ghost use Rattle.call_tables.specs.{Rows.AreRows, Written.failing_of, Written.failing_timings};
 ghost use Rattle.call_tables.specs.Written.{IsTimingsText};
 
 use crate::laws::failing_timings_are_of_one_file;
 use crate::row::Row;
 use crate::trees::rows_of;
-use call_commands::Study;
+use call_answer::Study;
 use file_timing::print_timings;
 use judge_settle::Answer;
 use model_line::{Line, Memory};

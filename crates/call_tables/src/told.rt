@@ -2,14 +2,14 @@
 
 ghost use Rattle.std.specs.Prelude.{◌≡◌, IfOk};
 ghost use Rattle.std.specs.List.{list_any};
-ghost use Rattle.call_commands.specs.{Answers.Says, Answers.status_by};
+ghost use Rattle.call_answer.specs.{Answers.Says, Answers.status_by};
 ghost use Rattle.call_tables.specs.Table.{is_failing as row_fails, is_open as row_is_open};
 ghost use Rattle.call_tables.specs.{Rows.AreRows, Rows.IsAnyStudy, Settled.settle_answer, Settled.IsTableOf};
 
 use crate::row::Row;
 use crate::rows::settle_all;
 use crate::table::table_text;
-use call_commands::{Done, Said, Study};
+use call_answer::{Done, Said, Study};
 use judge_settle::Answer;
 use model_line::Memory;
 use std::alloc::Global;

@@ -6,13 +6,13 @@ ghost use Rattle.cert_check.specs.declared.counts.Counts.{Counts};
 ghost use Rattle.cert_settle_text.specs.{Grammar.HasOneEach, Grammar.fails, Text.part_text};
 ghost use Rattle.cert_settle_text.specs.Reading.{result_in};
 ghost use Rattle.cert_settle_check.specs.Check.{IsAccepted};
-ghost use Rattle.call_commands.specs.Study.{IsStudy};
+ghost use Rattle.call_answer.specs.Study.{IsStudy};
 ghost use Rattle.call_tables.specs.{Rows.AreRows, Written.result_of, Written.results_of};
 ghost use Rattle.call_tables.specs.Written.{rows_of as rows_of_script, trees_text};
 
 use crate::laws::{rows_are_printable, what_settle_writes_is_accepted};
 use crate::row::Row;
-use call_commands::Study;
+use call_answer::Study;
 use cert_settle_text::{
     SETTLE_END, SETTLE_HEAD, TreeClaim, a_settle_text_grows_by_parts,
     a_settle_text_has_a_head_and_an_end, settle_piece,

@@ -2,11 +2,10 @@
 use Rattle.std.specs.Prelude.{◌≡◌, ◌<◌, ◌+◌, ◌*◌, ℕ, List, Option, Some, length, slice_get}
 use Rattle.model_line.specs.{declared.line.Line.Line, declared.script.Script.Script}
 use Rattle.model_line.specs.Parameters.{terminal_count}
-use Rattle.model_logic.specs.{Choice.declared_box, Histories.IsPairHistory, Histories.PairHistory}
 use Rattle.model_polarity.specs.{Laws.EveryChoiceMeets, Schemes.IsOneRailedBy}
 use Rattle.model_timing.specs.Timing.{TimingValues}
-use Rattle.run_waves.specs.FirstTick.{first_on}
 use Rattle.judge_verdict.specs.OneEach.{OneEach}
+use Rattle.judge_report.specs.Firsts.{IsFirstMust}
 use Rattle.judge_settle.specs.Trees.{IsFailing}
 use Rattle.call_verdicts.specs.declared.finding.{Finding.Finding, Standing.Standing}
 use Rattle.call_verdicts.specs.declared.finding.Standing.TheVariants.{Held, Fails, Open}
@@ -17,13 +16,6 @@ abbrev pub IsStanding : Line → Script → ℕ → Standing → Type 0
 IsStanding line script k Held = EveryChoiceMeets line script k
 IsStanding line script k Fails = (timing : TimingValues) × IsFailing line script k timing
 IsStanding line script k Open = ¬ (IsOneRailedBy line.scheme line)
-
--- the first tick at which the trip must have come, in the script's interval history, of which there
--- is one
-abbrev pub IsFirstMust : Line → Script → ℕ → Option ℕ → Type 0
-IsFirstMust line script k first = (w : PairHistory)
-    → IsPairHistory line script (declared_box line) w
-    → first ≡ first_on (λ t. (w.trip k t).must) line.horizon
 
 -- finding i in the order of the report, script by script and in each its terminals in line order
 pub record IsFinding (line : Line) (scripts : List Script) (i : ℕ) (found : Finding) : Type 0 where

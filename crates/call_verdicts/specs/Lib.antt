@@ -1,7 +1,6 @@
 pub mod Cases
 pub mod Faults
 pub mod Findings
-pub mod Places
 pub mod Records
 pub mod Stretches
 pub mod Verdicts

@@ -11,7 +11,7 @@ use Rattle.judge_report.specs.ReportText.{kind_word}
 use Rattle.file_sweeps.specs.declared.group.Group.{Group}
 use Rattle.call_tables.specs.Table.{by_word}
 use Rattle.base_times.specs.Milliseconds.{ticks_text}
-use Rattle.call_verdicts.specs.{Places.PlaceValues, Places.place_in}
+use Rattle.file_sweeps.specs.Places.{PlaceValues, place_in}
 use Rattle.call_verdicts.specs.declared.finding.{Finding.Finding, Standing.Standing}
 use Rattle.call_verdicts.specs.declared.finding.Standing.TheVariants.{Held, Fails, Open}
 

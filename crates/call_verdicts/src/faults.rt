@@ -1,14 +1,14 @@
 //! What the command says of faults.
 
 ghost use Rattle.std.specs.Prelude.{IfOk};
-ghost use Rattle.call_commands.specs.Answers.{Says};
+ghost use Rattle.call_answer.specs.Answers.{Says};
 ghost use Rattle.call_verdicts.specs.{Cases.IsCases, Faults.faults_answer};
 
 use crate::cases::Cases;
 use crate::fault_table::faults_text;
 use crate::finding::find_all;
 use crate::verdicts::status_of;
-use call_commands::Said;
+use call_answer::Said;
 use model_line::Memory;
 use std::alloc::Global;
 

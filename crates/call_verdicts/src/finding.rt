@@ -10,7 +10,8 @@ ghost use Rattle.judge_interval.specs.PairWavesOf.{pair_history};
 ghost use Rattle.judge_verdict.specs.OneEach.{OneEach};
 ghost use Rattle.judge_settle.specs.Answers.{IsAnswer};
 ghost use Rattle.call_verdicts.specs.Cases.{IsCases};
-ghost use Rattle.call_verdicts.specs.Findings.{AreFindings, IsFinding, IsFirstMust, IsStanding};
+ghost use Rattle.call_verdicts.specs.Findings.{AreFindings, IsFinding, IsStanding};
+ghost use Rattle.judge_report.specs.Firsts.{IsFirstMust};
 
 use crate::cases::Cases;
 use judge_interval::{PairWaves, analyse};

@@ -1,12 +1,11 @@
 //! What a record tells of the place of a script.
 
 ghost use Rattle.std.specs.Prelude.{◌≡◌, ◌<◌, IfOk, Some, length};
-ghost use Rattle.call_verdicts.specs.Places.{place_in, place_values};
+ghost use Rattle.file_sweeps.specs.Places.{place_in, place_values};
 ghost use Rattle.call_verdicts.specs.Records.{fault_name, number_text, swept_text};
 
 use crate::fields::times;
-use crate::place::{Place, place_of};
-use file_sweeps::Group;
+use file_sweeps::{Group, Place, place_of_script};
 use itoa::Buffer;
 use model_line::Memory;
 use std::alloc::Global;
@@ -27,7 +26,7 @@ pub fn told_of(alloc: Global, tick_us: u32, groups: &[Group], script: usize) -> 
     ensures swept { IfOk result (λ p.
         p.swept.items ≡ swept_text tick_us (place_in groups.now script)) }
 {
-    match place_of(groups, script) {
+    match place_of_script(groups, script) {
         Some(place) => told_at(alloc, tick_us, place),
         None => Ok(Told {
             fault: Vec::new(alloc),

@@ -2,7 +2,7 @@
 
 ghost use Rattle.std.specs.Prelude.{◌≡◌, IfOk};
 ghost use Rattle.std.specs.List.{list_any};
-ghost use Rattle.call_commands.specs.{Answers.Says, Answers.status_by};
+ghost use Rattle.call_answer.specs.{Answers.Says, Answers.status_by};
 ghost use Rattle.call_verdicts.specs.Cases.{IsCases};
 ghost use Rattle.call_verdicts.specs.Verdicts.{is_failing as finding_fails, verdicts_answer};
 ghost use Rattle.call_verdicts.specs.Verdicts.{is_open as finding_is_open};
@@ -10,7 +10,7 @@ ghost use Rattle.call_verdicts.specs.Verdicts.{is_open as finding_is_open};
 use crate::cases::Cases;
 use crate::finding::{Finding, Standing, find_all};
 use crate::table::table_text;
-use call_commands::{Done, Said};
+use call_answer::{Done, Said};
 use model_line::Memory;
 use std::alloc::Global;
 

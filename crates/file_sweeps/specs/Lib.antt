@@ -7,3 +7,4 @@ pub mod Refusals
 pub mod Groups
 pub mod Studies
 pub mod Parts
+pub mod Places

@@ -3,7 +3,8 @@
 //!
 //! `specs/Choices.antt` says what a choice is, `specs/Spans.antt` what is seen of one,
 //! `specs/Scripts.antt` its script, `specs/Sweeps.antt` all scripts of a fault, `specs/Studies.antt`
-//! those of all faults, and `specs/Parts.antt` their parts.
+//! those of all faults, `specs/Parts.antt` their parts, and
+//! `specs/Places.antt` where a script stands among those of its fault.
 #![tactic(auto)]
 
 mod choice;
@@ -11,6 +12,7 @@ mod fault;
 mod group;
 mod needed;
 mod parts;
+mod place;
 mod scripts;
 mod spans;
 mod study;
@@ -22,6 +24,7 @@ pub use fault::SweepFault;
 pub use group::{Group, groups_of_scripts};
 pub use needed::horizon_of;
 pub use parts::{part_count, part_of, part_text, printed_scripts_are_read_back};
+pub use place::{Place, place_of_script};
 pub use scripts::{place_name, script};
 pub use study::{StudyScripts, scripts_of_study};
 pub use study_fault::StudySweepFault;

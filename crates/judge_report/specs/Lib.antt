@@ -1,2 +1,3 @@
+pub mod Firsts
 pub mod Margin
 pub mod ReportText

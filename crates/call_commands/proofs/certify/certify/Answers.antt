@@ -3,8 +3,9 @@ use Rattle.std.proofs.lemmas.Result.{err_from_is_err_and}
 use Rattle.cert_text.specs.Grammar.{end_text, head_text}
 use Rattle.cert_text.specs.Text.{certificate_text, fed, parts_text}
 use Rattle.cert_check.specs.Counts.{all_verdicts}
-use Rattle.call_commands.specs.Sinks.{GrewByAll, sink_view}
-use Rattle.call_commands.specs.{SinkLaws.grew_both, Verdicts.verdicts_status}
+use Rattle.call_answer.specs.Sinks.{GrewByAll, sink_view}
+use Rattle.call_commands.specs.Verdicts.{verdicts_status}
+use Rattle.call_answer.specs.SinkLaws.{grew_both}
 use Rattle.call_commands.proofs.Parts.{certificate_of, certificate_stops}
 use Rattle.call_commands.proofs.{Counts.none_fell_same, Verdicts.status_found}
 use Rattle.call_commands.proofs.Writing.{stops_more, stops_then}

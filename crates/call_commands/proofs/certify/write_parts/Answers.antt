@@ -1,6 +1,6 @@
 use Rattle.std.proofs.Common.{refl, sym}
 use Rattle.std.proofs.lemmas.Result.{err_from_is_err_and}
-use Rattle.call_commands.specs.Sinks.{sink_view}
+use Rattle.call_answer.specs.Sinks.{sink_view}
 use Rattle.call_commands.proofs.Counts.{grew_nothing, grew_once, none_fell_both, none_fell_same}
 use Rattle.call_commands.proofs.Parts.{parts_more, parts_none, parts_stop}
 use Rattle.call_commands.proofs.certify.write_parts.Goals as goal

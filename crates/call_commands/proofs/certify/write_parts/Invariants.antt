@@ -1,6 +1,7 @@
 use Rattle.std.proofs.Common.{Ok, take}
 use Rattle.call_engine.specs.Calls.{AskedVerdicts, NoneFell}
-use Rattle.call_commands.specs.{PartWrites.WritesParts, Sinks.sink_view}
+use Rattle.call_commands.specs.PartWrites.{WritesParts}
+use Rattle.call_answer.specs.Sinks.{sink_view}
 use Rattle.call_commands.proofs.certify.write_parts.Given as goal
 
 abbrev pub invariant-loop-script : goal.invariant-loop-script

@@ -7,10 +7,10 @@ use Rattle.model_line.specs.{declared.line.Line.Line, declared.script.Script.Scr
 use Rattle.model_timing.specs.{Inside.IsTimingInside}
 use Rattle.model_timing.specs.NamedValues.{NamedValues, values_of}
 use Rattle.call_commands.specs.Play.{IsPlayText, IsTimingText, Pieces, play_answer, play_header}
-use Rattle.call_commands.specs.{Answers.WritesAnswer, SinkLaws.grew_both}
-use Rattle.call_commands.specs.Sinks.{SinkView, WriteStops, sink_view}
-use Rattle.call_commands.specs.declared.put.WriteStop.{WriteStop}
-use Rattle.call_commands.specs.declared.done.Done.TheVariants.{Good}
+use Rattle.call_answer.specs.{Answers.WritesAnswer, SinkLaws.grew_both}
+use Rattle.call_answer.specs.Sinks.{SinkView, WriteStops, sink_view}
+use Rattle.call_answer.specs.declared.put.WriteStop.{WriteStop}
+use Rattle.call_answer.specs.declared.done.Done.TheVariants.{Good}
 use Rattle.call_commands.proofs.Writing.{stops_more, stops_then}
 use Rattle.call_commands.proofs.play.play.Goals as goal
 

@@ -1,7 +1,8 @@
 use Rattle.std.proofs.Common.{ℕ, List}
 use Rattle.call_engine.specs.Calls.{AskedPlays}
 use Rattle.model_timing.specs.NamedValues.{values_of}
-use Rattle.call_commands.specs.{Play.IsRunText, Play.IsTimingText, Sinks.sink_view}
+use Rattle.call_commands.specs.{Play.IsRunText, Play.IsTimingText}
+use Rattle.call_answer.specs.Sinks.{sink_view}
 use Rattle.call_commands.proofs.Pieces.{Written}
 use Rattle.call_commands.proofs.play.write_timing.Given as goal
 

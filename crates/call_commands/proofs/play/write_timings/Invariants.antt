@@ -1,7 +1,8 @@
 use Rattle.std.proofs.Common.{ℕ, ◌*◌, List, length, map}
 use Rattle.call_engine.specs.Calls.{AskedPlays}
 use Rattle.model_timing.specs.NamedValues.{values_of}
-use Rattle.call_commands.specs.{Play.IsTimingText, Play.Pieces, Sinks.sink_view}
+use Rattle.call_commands.specs.{Play.IsTimingText, Play.Pieces}
+use Rattle.call_answer.specs.Sinks.{sink_view}
 use Rattle.call_commands.proofs.Pieces.{Written}
 use Rattle.call_commands.proofs.play.write_timings.Given as goal
 

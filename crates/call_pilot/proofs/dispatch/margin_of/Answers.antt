@@ -1,7 +1,8 @@
 use Rattle.std.proofs.Common.{sym}
 use Rattle.std.proofs.lemmas.Result.{err_from_is_err_and}
 use Rattle.model_names.specs.NumbersByName.{param_named}
-use Rattle.call_commands.specs.{Margin.margin_answer, Sinks.sink_view}
+use Rattle.call_commands.specs.Margin.{margin_answer}
+use Rattle.call_answer.specs.Sinks.{sink_view}
 use Rattle.call_pilot.specs.CallAnswers.{done_with}
 use Rattle.call_pilot.proofs.Reading.{no_memory, parameter_stops, works_of_parameter}
 use Rattle.call_pilot.proofs.Written.{works_of_said}

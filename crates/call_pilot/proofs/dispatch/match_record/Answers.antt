@@ -1,7 +1,8 @@
 use Rattle.std.proofs.Common.{map}
 use Rattle.std.proofs.lemmas.Result.{err_from_is_err_and}
 use Rattle.judge_match.specs.Waves.{records_said, seen_values}
-use Rattle.call_commands.specs.{Match.match_answer, Sinks.sink_view}
+use Rattle.call_commands.specs.Match.{match_answer}
+use Rattle.call_answer.specs.Sinks.{sink_view}
 use Rattle.call_pilot.specs.CallAnswers.{done_with}
 use Rattle.call_pilot.proofs.Reading.{no_memory, record_stops, works_of_record}
 use Rattle.call_pilot.proofs.Written.{works_of_said}

@@ -1,5 +1,6 @@
 use Rattle.std.proofs.lemmas.Result.{err_from_is_err_and}
-use Rattle.call_commands.specs.{Bench.bench_answer, Sinks.sink_view}
+use Rattle.call_commands.specs.Bench.{bench_answer}
+use Rattle.call_answer.specs.Sinks.{sink_view}
 use Rattle.call_pilot.proofs.{Reading.no_memory, Results.if_ok, Written.works_of_said}
 use Rattle.call_pilot.proofs.dispatch.no_file.Goals as goal
 

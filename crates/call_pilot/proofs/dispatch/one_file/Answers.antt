@@ -2,7 +2,7 @@ use Rattle.std.proofs.lemmas.Result.{err_from_is_err_and}
 use Rattle.call_engine.specs.Calls.{Calls}
 use Rattle.model_line.specs.declared.line.Line.{Line}
 use Rattle.file_line.specs.LineFiles.{line_of}
-use Rattle.call_commands.specs.Sinks.{sink_view}
+use Rattle.call_answer.specs.Sinks.{sink_view}
 use Rattle.call_pilot.specs.CallAnswers.{done_with}
 use Rattle.call_pilot.specs.{Commands.answer, Commands.asks, Reading.work_of_one}
 use Rattle.call_pilot.proofs.Reading.{asks_of_one, line_read, line_stops, no_memory, works_of_line}

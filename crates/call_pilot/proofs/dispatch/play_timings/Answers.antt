@@ -4,7 +4,8 @@ use Rattle.std.proofs.lemmas.Result.{err_from_is_err_and}
 use Rattle.model_timing.specs.Inside.{IsTimingInside}
 use Rattle.model_timing.specs.NamedValues.{NamedValues, values_of}
 use Rattle.file_timing.specs.Timings.{timings_of}
-use Rattle.call_commands.specs.{Play.play_answer, Play.play_asks, Sinks.sink_view}
+use Rattle.call_commands.specs.{Play.play_answer, Play.play_asks}
+use Rattle.call_answer.specs.Sinks.{sink_view}
 use Rattle.call_pilot.specs.CallAnswers.{done_with}
 use Rattle.call_pilot.proofs.Reading.{timings_read, timings_stop, works_of_timings}
 use Rattle.call_pilot.proofs.{Results.on_done, Written.works_of_written}

@@ -3,7 +3,8 @@ use Rattle.std.proofs.Common.{List}
 use Rattle.std.specs.Prelude.{⊤}
 use Rattle.model_line.specs.{declared.line.Line.Line, declared.script.Script.Script}
 use Rattle.model_names.specs.NumbersByName.{param_named}
-use Rattle.call_commands.specs.{Certify.certify_answer, Report.report_answer, Sinks.sink_view}
+use Rattle.call_commands.specs.{Certify.certify_answer, Report.report_answer}
+use Rattle.call_answer.specs.Sinks.{sink_view}
 use Rattle.call_commands.specs.Split.{split_answer}
 use Rattle.call_pilot.specs.Words as words
 use Rattle.call_pilot.specs.Work as work

@@ -2,7 +2,7 @@ use Rattle.std.proofs.Common.{refl, sym, ◌∙◌}
 use Rattle.model_logic.specs.Choice.{declared_box}
 use Rattle.model_line.specs.declared.script.Script.{Script}
 use Rattle.judge_report.specs.ReportText.{report_text_of}
-use Rattle.call_commands.specs.declared.done.Done.TheVariants as done
+use Rattle.call_answer.specs.declared.done.Done.TheVariants as done
 use Rattle.call_pilot.proofs.OneAnswer.{report_text_once}
 use Rattle.call_pilot.proofs.one_answer.each_report_has_one_answer.Goals as goal
 

@@ -1,5 +1,5 @@
 use Rattle.call_pilot.specs.{Call.answer_by, Reading.over_files, Words.bench}
-use Rattle.call_commands.specs.Sinks.{sink_view}
+use Rattle.call_answer.specs.Sinks.{sink_view}
 use Rattle.call_pilot.proofs.{Fetching.ends_of_works, Results.on_ok}
 use Rattle.call_pilot.proofs.run.run.Goals as goal
 use Rattle.std.proofs.Common.{refl}

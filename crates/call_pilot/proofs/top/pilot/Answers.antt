@@ -1,5 +1,5 @@
 use Rattle.std.proofs.Common.{Ok, Err, map, string_bytes}
-use Rattle.call_commands.specs.{Sinks.sink_view, SinkLaws.grew_none}
+use Rattle.call_answer.specs.{Sinks.sink_view, SinkLaws.grew_none}
 use Rattle.call_pilot.specs.Words.{command_of}
 use Rattle.call_pilot.proofs.Closing.{closed_done, closed_stopped, unwritten}
 use Rattle.call_pilot.proofs.Headlines.{headline}

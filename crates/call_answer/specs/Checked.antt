@@ -4,8 +4,8 @@ use Rattle.std.specs.List.{concat}
 use Rattle.model_names.specs.NamesByNumber.{terminal_name, parameter_name, script_name}
 use Rattle.model_line.specs.{declared.line.Line.Line, declared.script.Script.Script}
 use Rattle.cert_check.specs.declared.counts.Counts.{Counts}
-use Rattle.call_commands.specs.Answers.{Answers}
-use Rattle.call_commands.specs.declared.done.Done.TheVariants as done
+use Rattle.call_answer.specs.Answers.{Answers}
+use Rattle.call_answer.specs.declared.done.Done.TheVariants as done
 
 -- `accepted Y N U`
 abbrev pub accepted_pieces : Counts → List (List ℕ)

@@ -1,8 +1,8 @@
 //! Texts to a sink.
 ghost use Rattle.std.specs.Prelude.{◌≡◌, map};
 ghost use Rattle.std.specs.List.{concat};
-ghost use Rattle.call_commands.specs.Sinks.{Puts, Writes, sink_view};
-ghost use Rattle.call_commands.specs.declared.put.WriteStop.TheVariants as stop;
+ghost use Rattle.call_answer.specs.Sinks.{Puts, Writes, sink_view};
+ghost use Rattle.call_answer.specs.declared.put.WriteStop.TheVariants as stop;
 
 use base_store::{PutFailed, Sink, put_all};
 use model_line::Memory;

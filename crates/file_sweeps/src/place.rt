@@ -1,9 +1,9 @@
 //! Where a script stands among those of its fault.
 
 ghost use Rattle.std.specs.Prelude.{◌≡◌, ◌<◌, IfSome, length, option_map};
-ghost use Rattle.call_verdicts.specs.Places.{place_in, place_values};
+ghost use Rattle.file_sweeps.specs.Places.{place_in, place_values};
 
-use file_sweeps::Group;
+use crate::group::Group;
 
 /// A fault, and a place among its scripts, counted from 0.
 #[derive(Clone, Copy)]
@@ -13,7 +13,7 @@ pub struct Place<'a> {
 }
 
 /// The fault and the place of a script, if the groups have as many.
-pub fn place_of<'a>(groups: &'a [Group], script: usize) -> Option<Place<'a>>
+pub fn place_of_script<'a>(groups: &'a [Group], script: usize) -> Option<Place<'a>>
     ensures is { option_map place_values result ≡ place_in groups.now script }
     ensures within { IfSome result (λ p. p.at < length p.group.now.swept.items) }
 {

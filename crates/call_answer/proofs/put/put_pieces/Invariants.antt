@@ -1,7 +1,7 @@
 use Rattle.std.proofs.Common.{map, take}
 use Rattle.std.specs.List.{concat}
-use Rattle.call_commands.specs.Sinks.{GrewByAll, sink_view}
-use Rattle.call_commands.proofs.put.put_pieces.Given as goal
+use Rattle.call_answer.specs.Sinks.{GrewByAll, sink_view}
+use Rattle.call_answer.proofs.put.put_pieces.Given as goal
 
 abbrev pub invariant-loop-piece : goal.invariant-loop-piece
 invariant-loop-piece g l =

@@ -2,8 +2,8 @@
 use Rattle.std.specs.Prelude.{◌≡◌, MatchResult, ℕ, List, Option, Result, Ok, Err}
 use Rattle.std.specs.Io.KnownBytes.{Appends}
 use Rattle.base_store.specs.{Counts.Rose, Sink.GrewByProper, Sink.GrewByPart}
-use Rattle.call_commands.specs.declared.put.WriteStop.{WriteStop}
-use Rattle.call_commands.specs.declared.put.WriteStop.TheVariants as stop
+use Rattle.call_answer.specs.declared.put.WriteStop.{WriteStop}
+use Rattle.call_answer.specs.declared.put.WriteStop.TheVariants as stop
 
 -- what is seen of a sink: the bytes that it took, where it tells them, and its count of faults
 pub record SinkView : Type 0 where

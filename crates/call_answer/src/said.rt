@@ -1,7 +1,7 @@
 //! What a command says, before it is written.
 ghost use Rattle.std.specs.Prelude.{◌≡◌, IfOk};
-ghost use Rattle.call_commands.specs.declared.done.Done.TheVariants.{Good, Rejected};
-ghost use Rattle.call_commands.specs.Sinks.{Writes, sink_view};
+ghost use Rattle.call_answer.specs.declared.done.Done.TheVariants.{Good, Rejected};
+ghost use Rattle.call_answer.specs.Sinks.{Writes, sink_view};
 
 use crate::done::Done;
 use crate::put::{WriteStop, put_text};

@@ -1,8 +1,8 @@
 -- What a command may answer: a relation of its status and its text.
 use Rattle.std.specs.Prelude.{◌≡◌, ℕ, Bool, List, IfOk, Result, if◌then◌else◌}
-use Rattle.call_commands.specs.{Sinks.SinkView, Sinks.Writes, declared.done.Done.Done}
-use Rattle.call_commands.specs.declared.done.Done.TheVariants as done
-use Rattle.call_commands.specs.{declared.put.WriteStop.WriteStop, declared.said.Said.Said}
+use Rattle.call_answer.specs.{Sinks.SinkView, Sinks.Writes, declared.done.Done.Done}
+use Rattle.call_answer.specs.declared.done.Done.TheVariants as done
+use Rattle.call_answer.specs.{declared.put.WriteStop.WriteStop, declared.said.Said.Said}
 
 abbrev pub Answers : Type 1
 Answers = Done → List ℕ → Type 0

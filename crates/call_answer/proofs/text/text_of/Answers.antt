@@ -1,6 +1,6 @@
 use Rattle.std.proofs.Common.{[], arith}
-use Rattle.call_commands.proofs.Puts.{one_piece_more}
-use Rattle.call_commands.proofs.text.text_of.Goals as goal
+use Rattle.call_answer.proofs.Puts.{one_piece_more}
+use Rattle.call_answer.proofs.text.text_of.Goals as goal
 
 pub loop-piece-preserved : goal.loop-piece-preserved
 loop-piece-preserved c =

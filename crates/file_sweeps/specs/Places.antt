@@ -2,7 +2,7 @@
 use Rattle.std.specs.Prelude.{◌-◌, ℕ, List, [], ◌∷◌, Option, None, Some, length, nat_lt}
 use Rattle.std.specs.Prelude.{if◌then◌else◌}
 use Rattle.file_sweeps.specs.declared.group.Group.{Group}
-use Rattle.call_verdicts.specs.declared.place.Place.{Place}
+use Rattle.file_sweeps.specs.declared.place.Place.{Place}
 
 -- a fault, and a place among its scripts, counted from 0
 pub record PlaceValues : Type 0 where

@@ -2,8 +2,8 @@
 //! their names.
 ghost use Rattle.std.specs.Prelude.{◌≡◌, IfOk};
 ghost use Rattle.std.specs.List.{concat};
-ghost use Rattle.call_commands.specs.Checked.{accepted_pieces, line_pieces, outside_pieces};
-ghost use Rattle.call_commands.specs.Checked.{passes_pieces, place as place_of};
+ghost use Rattle.call_answer.specs.Checked.{accepted_pieces, line_pieces, outside_pieces};
+ghost use Rattle.call_answer.specs.Checked.{passes_pieces, place as place_of};
 ghost use Rattle.model_names.specs.NamesByNumber.{script_name as name_of_script};
 ghost use Rattle.model_names.specs.NamesByNumber.{terminal_name as name_of_terminal};
 

@@ -1,0 +1,5 @@
+pub mod Answers
+pub mod Checked
+pub mod SinkLaws
+pub mod Sinks
+pub mod Study

@@ -1,0 +1,16 @@
+//! What a call answers: a status and a text, over a line and its scripts, and how the text is
+//! written to a sink. The commands stand on it, those of `pilot` and those of `study` alike.
+#![tactic(auto)]
+
+pub mod checked;
+mod done;
+mod put;
+mod said;
+mod study;
+mod text;
+
+pub use done::Done;
+pub use put::{WriteStop, put_pieces, put_text};
+pub use said::{Said, put_said};
+pub use study::Study;
+pub use text::text_of;
