@@ -1,24 +1,31 @@
 //! The whole page as a value.
 
-ghost use Rattle.std.specs.Prelude.{◌≡◌, ◌≤◌, ◌+◌, ◌-◌, IfOk};
+ghost use Rattle.std.specs.Prelude.{◌≡◌, ◌<◌, ◌≤◌, ◌+◌, ◌-◌, ◌^◌, IfOk, length, map};
+ghost use Rattle.std.specs.List.{flat_map};
 ghost use Rattle.file_script.specs.SoFar.{AreOnce};
 ghost use Rattle.file_sweeps.specs.Studies.{script_names};
+ghost use Rattle.draw_layout.specs.Drawings.{scheme_said};
 ghost use Rattle.call_tables.specs.Rows.{AreRows, IsAnyStudy};
-ghost use Rattle.call_page.specs.{Facts.IsKnown, Pages.AreOfFew, Pages.IsPageOf};
+ghost use Rattle.call_page.specs.Choices.{IsChoiceOf, IsUndecidedOf, failing_row, open_row};
+ghost use Rattle.call_page.specs.{Facts.IsKnown, Faults.IsFaultOf, Files.AreFiles};
+ghost use Rattle.call_page.specs.{Least.IsLeastOf, Lists.EachOf, Parts.AreParts};
+ghost use Rattle.call_page.specs.Pages.{AreCounts, AreOfFew, IsPageOf};
 
 use crate::choices::choices;
 use crate::fault::faults;
 use crate::files::{digests, files};
-use crate::head::{head, notes};
+use crate::head::{HeadWords, head, notes};
 use crate::known::Known;
 use crate::least::least_margin;
-use crate::parts::parts;
+use crate::parts::{Part, parts};
 use crate::said::Asked;
 use crate::times::times;
 use crate::undecided::undecided;
 use call_answer::Study;
 use call_tables::Row;
-use draw_elements::{Counts, Digest, Page, Time};
+use draw_elements::{
+    Counts, Digest, FailingChoice, Fault, FileText, LeastMargin, Page, Time, Undecided,
+};
 use model_line::Memory;
 use std::alloc::Global;
 
@@ -31,18 +38,12 @@ pub fn page(alloc: Global, known: &Known<'_>, asked: &Asked<'_>) -> Result<Page,
 {
     let study = known.study;
     let line = &study.line;
-    let many = study.scripts.len();
-    let parts = parts(alloc, known.groups, many)?;
-    let those = parts.as_slice();
-    let faults = faults(alloc, known, those)?;
-    let failing = choices(alloc, study, those, known.rows)?;
-    let undecided = undecided(alloc, study, those, known.rows)?;
-    let counts = counts(known.rows.len(), failing.len(), undecided.len())?;
-    let least = least_margin(alloc, study, known.firsts)?;
+    let parts = parts(alloc, known.groups, study.scripts.len())?;
+    let found = found(alloc, known, parts.as_slice())?;
     let few = found_of_few(alloc, study, known.rows)?;
-    let files = files(alloc, study)?;
-    let notes = notes(alloc, many)?;
-    let head = head(alloc, line, asked)?;
+    let told = told(alloc, study, asked)?;
+    let choices = found.choices;
+    let head = told.head;
     Ok(Page {
         title: head.title,
         scheme: head.scheme,
@@ -50,17 +51,86 @@ pub fn page(alloc: Global, known: &Known<'_>, asked: &Asked<'_>) -> Result<Page,
         tick_us: line.tick_us,
         horizon: line.horizon,
         terminals: head.terminals,
-        counts,
-        least,
-        notes,
-        faults,
-        failing,
-        undecided,
+        counts: choices.counts,
+        least: found.least,
+        notes: told.notes,
+        faults: found.faults,
+        failing: choices.failing,
+        undecided: choices.undecided,
         times: few.times,
-        files,
+        files: told.files,
         digests: few.digests,
         program: head.program,
         kit: head.kit,
+    })
+}
+
+// What is found of the obligations.
+#[derive(Drop)]
+struct Findings {
+    least: Option<LeastMargin>,
+    faults: Vec<Fault>,
+    choices: Choices,
+}
+
+fn found(alloc: Global, known: &Known<'_>, parts: &[Part]) -> Result<Findings, Memory>
+    requires known { IsKnown known.now }
+    requires parts { AreParts known.now.groups.now
+        (length known.now.study.now.scripts.items) parts.now }
+    requires few { length parts.now < 2 ^ 32 }
+    ensures least { IfOk result (λ found. IsLeastOf known.now.study.now.line
+        known.now.study.now.scripts.items known.now.firsts.now found.least) }
+    ensures faults { IfOk result (λ found. EachOf
+        (IsFaultOf known.now.study.now.line known.now.study.now.scripts.items
+        known.now.groups.now known.now.rows.now known.now.firsts.now) parts.now
+        found.faults.items) }
+    ensures failing { IfOk result (λ found. EachOf
+        (IsChoiceOf known.now.study.now.line known.now.study.now.scripts.items parts.now)
+        (flat_map failing_row known.now.rows.now) found.choices.failing.items) }
+    ensures undecided { IfOk result (λ found. EachOf
+        (IsUndecidedOf known.now.study.now.line known.now.study.now.scripts.items parts.now)
+        (flat_map open_row known.now.rows.now) found.choices.undecided.items) }
+    ensures counts { IfOk result (λ found. AreCounts known.now.study.now.line
+        known.now.study.now.scripts.items known.now.rows.now found.choices.counts) }
+{
+    let least = least_margin(alloc, known.study, known.firsts)?;
+    let faults = faults(alloc, known, parts)?;
+    let choices = choices_of(alloc, known.study, parts, known.rows)?;
+    Ok(Findings {
+        least,
+        faults,
+        choices,
+    })
+}
+
+// The obligations that are not held, and how many there are.
+#[derive(Drop)]
+struct Choices {
+    counts: Counts,
+    failing: Vec<FailingChoice>,
+    undecided: Vec<Undecided>,
+}
+
+fn choices_of(alloc: Global, study: &Study, parts: &[Part], rows: &[Row]) -> Result<Choices, Memory>
+    requires study { IsAnyStudy study.now }
+    requires few { length parts.now < 2 ^ 32 }
+    requires rows { AreRows study.now.line study.now.scripts.items rows.now }
+    ensures failing { IfOk result (λ found. EachOf
+        (IsChoiceOf study.now.line study.now.scripts.items parts.now)
+        (flat_map failing_row rows.now) found.failing.items) }
+    ensures undecided { IfOk result (λ found. EachOf
+        (IsUndecidedOf study.now.line study.now.scripts.items parts.now)
+        (flat_map open_row rows.now) found.undecided.items) }
+    ensures counts { IfOk result (λ found. AreCounts study.now.line study.now.scripts.items
+        rows.now found.counts) }
+{
+    let failing = choices(alloc, study, parts, rows)?;
+    let undecided = undecided(alloc, study, parts, rows)?;
+    let counts = counts(rows.len(), failing.len(), undecided.len())?;
+    Ok(Choices {
+        counts,
+        failing,
+        undecided,
     })
 }
 
@@ -79,6 +149,32 @@ fn counts(all: usize, fails: usize, left: usize) -> Result<Counts, Memory>
         fails: fails as u32,
         undecided: left as u32,
     })
+}
+
+// The page's own words, and the files.
+#[derive(Drop)]
+struct Words {
+    head: HeadWords,
+    notes: Vec<Vec<u8>>,
+    files: Vec<FileText>,
+}
+
+fn told(alloc: Global, study: &Study, asked: &Asked<'_>) -> Result<Words, Memory>
+    requires study { IsAnyStudy study.now }
+    requires once { AreOnce (script_names study.now.scripts.items) }
+    ensures title { IfOk result (λ told. told.head.title.items ≡ asked.now.title.now) }
+    ensures scheme { IfOk result (λ told.
+        told.head.scheme.items ≡ scheme_said study.now.line.scheme) }
+    ensures terminals { IfOk result (λ told.
+        map (λ name. name.items) told.head.terminals.items
+        ≡ map (λ t. t.name) study.now.line.terminals.items) }
+    ensures files { IfOk result (λ told.
+        AreFiles study.now.line study.now.scripts.items told.files.items) }
+{
+    let head = head(alloc, &study.line, asked)?;
+    let notes = notes(alloc, study.scripts.len())?;
+    let files = files(alloc, study)?;
+    Ok(Words { head, notes, files })
 }
 
 // What is worked out for at most 64 scripts.
