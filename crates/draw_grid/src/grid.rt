@@ -1,7 +1,7 @@
 //! What is drawn.
 
 /// What is known of a cell.
-#[derive(Clone, Copy, PartialEq, Eq, Debug)]
+#[derive(Clone, Copy)]
 pub enum Look {
     Held,
     Open,

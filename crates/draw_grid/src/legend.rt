@@ -16,7 +16,8 @@ use crate::grid::{Grid, GridCell, Look};
 use crate::mark::{across, put_target, up_by};
 use crate::scale::Scale;
 use crate::spots::put_cell;
-use draw_shapes::{Class, Figure, put_rectangle, put_text};
+use crate::words::put_words;
+use draw_shapes::{Class, Figure, put_rectangle};
 use std::alloc::{AllocError, Global};
 
 /// What the legend may explain.
@@ -94,8 +95,8 @@ fn put_entry(
         ≡ figures_seen figures.old.items ++ entry_drawn grid.now one y) }
 {
     put_sign(figures, one, y)?;
-    let words = Vec::from_slice(alloc, words_of(grid, one))?;
-    put_text(figures, Class::Begin, (7620, y + 120), words)
+    let at = (7620, y + 120);
+    put_words(alloc, figures, Class::Begin, at, words_of(grid, one))
 }
 
 fn put_sign(figures: &mut Vec<Figure>, one: Entry, y: u32) -> Result<(), AllocError>
@@ -216,8 +217,8 @@ fn put_heading(alloc: Global, figures: &mut Vec<Figure>) -> Result<(), AllocErro
     ensures { OnOk result (figures_seen figures.new.items
         ≡ figures_seen figures.old.items ++ beyond_heading ∷ []) }
 {
-    let heading = Vec::from_slice(alloc, b"lost first beyond the border")?;
-    put_text(figures, Class::Terminal, (7300, 2700), heading)
+    let heading = b"lost first beyond the border";
+    put_words(alloc, figures, Class::Terminal, (7300, 2700), heading)
 }
 
 fn put_lines(
@@ -233,8 +234,8 @@ fn put_lines(
     match lines {
         [] => Ok(()),
         [words, rest @ ..] => {
-            let copy = Vec::from_slice(alloc, words.as_slice())?;
-            put_text(figures, Class::Begin, (7300, y), copy)?;
+            let at = (7300, y);
+            put_words(alloc, figures, Class::Begin, at, words.as_slice())?;
             put_lines(alloc, figures, y + 200, rest)
         }
     }

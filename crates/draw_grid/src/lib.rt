@@ -11,6 +11,7 @@ mod numbers;
 mod scale;
 mod spots;
 mod whole;
+mod words;
 
 pub use grid::{Grid, GridCell, Look, Ruler};
 pub use numbers::milliseconds;

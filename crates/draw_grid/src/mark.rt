@@ -1,7 +1,7 @@
 //! The mark of what is declared.
 
-ghost use Rattle.std.specs.Prelude.{◌≡◌, ◌≤◌, ◌++◌, OnOk, IfSome};
-ghost use Rattle.draw_shapes.specs.Seen.{figures_seen};
+ghost use Rattle.std.specs.Prelude.{◌≡◌, ◌≤◌, ◌-◌, ◌*◌, ◌++◌, ◌∷◌, [], OnOk, IfSome};
+ghost use Rattle.draw_shapes.specs.Seen.{figures_seen, rectangle};
 ghost use Rattle.draw_grid.specs.Scale.{IsGrid, IsRuler, IsScale, IsSecondRuler};
 ghost use Rattle.draw_grid.specs.Legend.{across as across_of, mark, shown_at as shown_for, target};
 ghost use Rattle.draw_grid.specs.Legend.{up_by as up_of};
@@ -72,10 +72,24 @@ pub fn put_target(figures: &mut Vec<Figure>, x: u32, y: u32) -> Result<(), Alloc
     ensures { OnOk result (figures_seen figures.new.items
         ≡ figures_seen figures.old.items ++ target x y) }
 {
-    let (left, top) = (x.saturating_sub(60), y.saturating_sub(60));
-    put_rectangle(figures, Class::Margin, (left, top), (120, 120))?;
-    let (left, top) = (x.saturating_sub(40), y.saturating_sub(40));
-    put_rectangle(figures, Class::Paper, (left, top), (80, 80))?;
-    let (left, top) = (x.saturating_sub(15), y.saturating_sub(15));
-    put_rectangle(figures, Class::Margin, (left, top), (30, 30))
+    put_square(figures, Class::Margin, x, y, 60)?;
+    put_square(figures, Class::Paper, x, y, 40)?;
+    put_square(figures, Class::Margin, x, y, 15)
+}
+
+// Appends a square by its middle and half its side.
+fn put_square(
+    figures: &mut Vec<Figure>,
+    class: Class,
+    x: u32,
+    y: u32,
+    half: u32,
+) -> Result<(), AllocError>
+    requires { half ≤ 100 }
+    ensures { OnOk result (figures_seen figures.new.items
+        ≡ figures_seen figures.old.items
+        ++ rectangle class (x - half) (y - half) (2 * half) (2 * half) ∷ []) }
+{
+    let corner = (x.saturating_sub(half), y.saturating_sub(half));
+    put_rectangle(figures, class, corner, (2 * half, 2 * half))
 }

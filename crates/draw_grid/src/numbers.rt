@@ -1,7 +1,8 @@
 //! The numbers of the rulers.
 
-ghost use Rattle.std.specs.Prelude.{◌≡◌, ◌≤◌, ◌<◌, ◌+◌, ◌*◌, ◌/◌, ◌^◌, ◌++◌, OnOk, IfOk};
-ghost use Rattle.draw_shapes.specs.Seen.{figures_seen};
+ghost use Rattle.std.specs.Prelude.{◌≡◌, ◌≤◌, ◌<◌, ◌+◌, ◌*◌, ◌/◌, ◌%◌, ◌^◌, ◌++◌, ◌∷◌, [], OnOk, IfOk};
+ghost use Rattle.std.specs.Prelude.{codes, decimal};
+ghost use Rattle.draw_shapes.specs.Seen.{figures_seen, text};
 ghost use Rattle.draw_grid.specs.Scale.{IsRuler, IsScale, IsSecondRuler, last_of};
 ghost use Rattle.draw_grid.specs.Numbers.{column_time, column_times, columns_said, each_below};
 ghost use Rattle.draw_grid.specs.Numbers.{first_with_room as first_round, has_room as room_for};
@@ -10,6 +11,7 @@ ghost use Rattle.draw_grid.specs.Numbers.{rows_said, time_below, time_beside};
 
 use crate::grid::Ruler;
 use crate::scale::{LEFT, Scale, along, last};
+use crate::words::put_words;
 use draw_shapes::{Class, Figure, put_line, put_text};
 use itoa::Buffer;
 use std::alloc::{AllocError, Global};
@@ -27,8 +29,8 @@ pub fn put_columns(
         ≡ figures_seen figures.old.items ++ columns_said scale ruler.now) }
 {
     put_column_times(alloc, figures, scale, ruler, round(ruler, scale.width, 700))?;
-    let words = Vec::from_slice(alloc, ruler.words.as_slice())?;
-    put_text(figures, Class::Begin, (LEFT, scale.bottom() + 430), words)
+    let at = (LEFT, scale.bottom() + 430);
+    put_words(alloc, figures, Class::Begin, at, ruler.words.as_slice())
 }
 
 /// Appends the numbers at the left of the rows, and what they are of.
@@ -53,8 +55,8 @@ pub fn put_rows(
         ruler,
         round(ruler, scale.height, 220),
     )?;
-    let words = Vec::from_slice(alloc, ruler.words.as_slice())?;
-    put_text(figures, Class::Begin, (500, 960), words)
+    let at = (500, 960);
+    put_words(alloc, figures, Class::Begin, at, ruler.words.as_slice())
 }
 
 fn put_column_times(
@@ -93,12 +95,26 @@ fn put_column_time(
     let time = n * round;
     if ruler.first <= time {
         let x = LEFT + along(ruler, scale.width, time);
-        let foot = scale.bottom();
-        put_line(figures, Class::Margin, (x, foot), (x, foot + 50))?;
-        let words = milliseconds(alloc, time)?;
-        put_text(figures, Class::Middle, (x, foot + 200), words)?;
+        put_time_below(alloc, figures, scale, x, time)?;
     }
     Ok(())
+}
+
+// A stroke at the lower end of the columns, and a time below it.
+fn put_time_below(
+    alloc: Global,
+    figures: &mut Vec<Figure>,
+    scale: Scale,
+    x: u32,
+    time: u64,
+) -> Result<(), AllocError>
+    requires { IsScale scale }
+    ensures { OnOk result (figures_seen figures.new.items
+        ≡ figures_seen figures.old.items ++ time_below scale x time) }
+{
+    let foot = scale.bottom();
+    put_line(figures, Class::Margin, (x, foot), (x, foot + 50))?;
+    put_time(alloc, figures, Class::Middle, (x, foot + 200), time)
 }
 
 fn put_row_times(
@@ -139,11 +155,39 @@ fn put_row_time(
         let y = scale
             .bottom()
             .saturating_sub(along(ruler, scale.height, time));
-        put_line(figures, Class::Margin, (LEFT - 50, y), (LEFT, y))?;
-        let words = milliseconds(alloc, time)?;
-        put_text(figures, Class::End, (LEFT - 90, y + 40), words)?;
+        put_time_beside(alloc, figures, y, time)?;
     }
     Ok(())
+}
+
+// A stroke at the left end of the rows, and a time beside it.
+fn put_time_beside(
+    alloc: Global,
+    figures: &mut Vec<Figure>,
+    y: u32,
+    time: u64,
+) -> Result<(), AllocError>
+    requires { y ≤ 2000000 }
+    ensures { OnOk result (figures_seen figures.new.items
+        ≡ figures_seen figures.old.items ++ time_beside y time) }
+{
+    put_line(figures, Class::Margin, (LEFT - 50, y), (LEFT, y))?;
+    put_time(alloc, figures, Class::End, (LEFT - 90, y + 40), time)
+}
+
+// Appends a time in milliseconds.
+fn put_time(
+    alloc: Global,
+    figures: &mut Vec<Figure>,
+    class: Class,
+    at: (u32, u32),
+    time: u64,
+) -> Result<(), AllocError>
+    ensures { OnOk result (figures_seen figures.new.items
+        ≡ figures_seen figures.old.items ++ text class at.0 at.1 (milliseconds_said time) ∷ []) }
+{
+    let words = milliseconds(alloc, time)?;
+    put_text(figures, class, at, words)
 }
 
 // Every how many microseconds a number stands: a round number, at which they stay so far apart.
@@ -196,10 +240,25 @@ pub fn milliseconds(alloc: Global, time: u64) -> Result<Vec<u8>, AllocError>
 {
     let mut words = Vec::from_slice(alloc, Buffer::new().format(time / 1000).as_bytes())?;
     if time % 1000 != 0 {
-        words.extend_from_slice(b".")?;
-        words.extend_from_slice(Buffer::new().format(time / 100 % 10).as_bytes())?;
-        words.extend_from_slice(Buffer::new().format(time / 10 % 10).as_bytes())?;
-        words.extend_from_slice(Buffer::new().format(time % 10).as_bytes())?;
+        push_places(&mut words, time)?;
     }
     Ok(words)
+}
+
+// Appends the microseconds of a time as three decimal places.
+fn push_places(words: &mut Vec<u8>, time: u64) -> Result<(), AllocError>
+    ensures { OnOk result (words.new.items ≡ words.old.items ++ (codes "."
+        ++ (decimal (time / 100 % 10) ++ (decimal (time / 10 % 10) ++ decimal (time % 10))))) }
+{
+    words.extend_from_slice(b".")?;
+    push_digit(words, time / 100)?;
+    push_digit(words, time / 10)?;
+    push_digit(words, time)
+}
+
+// Appends the last digit of a number.
+fn push_digit(words: &mut Vec<u8>, number: u64) -> Result<(), AllocError>
+    ensures { OnOk result (words.new.items ≡ words.old.items ++ decimal (number % 10)) }
+{
+    words.extend_from_slice(Buffer::new().format(number % 10).as_bytes())
 }

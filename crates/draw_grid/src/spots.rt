@@ -36,11 +36,11 @@ fn cell_shape(alloc: Global, scale: Scale, place: u32, cell: &GridCell) -> Resul
     requires place { place < scale.columns * scale.rows }
     ensures { IfOk result (λ shape. shape_seen shape ≡ cell_drawn scale place cell.now) }
 {
-    let words = Vec::from_slice(alloc, cell.words.as_slice())?;
     let x = scale.x(place / scale.rows);
     let y = scale.y(place % scale.rows);
     let mut figures = Vec::new(alloc);
     put_cell(&mut figures, scale, (x, y), cell.look)?;
+    let words = Vec::from_slice(alloc, cell.words.as_slice())?;
     Ok(Shape::Titled(words, figures))
 }
 

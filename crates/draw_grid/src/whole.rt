@@ -1,7 +1,7 @@
 //! A grid as a drawing.
 
-ghost use Rattle.std.specs.Prelude.{◌≡◌, IfOk};
-ghost use Rattle.draw_shapes.specs.Seen.{drawing_seen, shape_seen, shapes_seen};
+ghost use Rattle.std.specs.Prelude.{◌≡◌, ◌++◌, ◌∷◌, [], List, IfOk, OnOk};
+ghost use Rattle.draw_shapes.specs.Seen.{SeenFigure, drawing_seen, figures_seen, shapes_seen};
 ghost use Rattle.draw_shapes.specs.Seen as seen;
 ghost use Rattle.draw_grid.specs.Scale.{IsGrid, IsScale, scale_of as scale_for};
 ghost use Rattle.draw_grid.specs.Drawings.{border_drawn, drawing_of, head_drawn, height_of};
@@ -15,7 +15,8 @@ use crate::mark::put_mark;
 use crate::numbers::{put_columns, put_rows};
 use crate::scale::{Scale, scale_of};
 use crate::spots::put_cells;
-use draw_shapes::{Class, Drawing, Shape, put_rectangle, put_text};
+use crate::words::put_words;
+use draw_shapes::{Class, Drawing, Figure, Shape, put_rectangle};
 use std::alloc::{AllocError, Global};
 
 /// The drawing of a grid.
@@ -47,67 +48,95 @@ fn shapes(alloc: Global, scale: Scale, grid: &Grid) -> Result<Vec<Shape>, AllocE
     ensures { IfOk result (λ shapes. shapes_seen shapes.items ≡ shapes_by scale grid.now) }
 {
     let mut shapes = Vec::new(alloc);
-    shapes.push(head(alloc, scale, grid)?)?;
-    put_cells(alloc, &mut shapes, scale, grid.cells.as_slice())?;
-    shapes.push(border(alloc, scale, grid)?)?;
-    shapes.push(rulers(alloc, scale, grid)?)?;
-    shapes.push(marked(alloc, scale, grid)?)?;
-    shapes.push(legend(alloc, scale, grid)?)?;
+    put_shapes(alloc, &mut shapes, scale, grid)?;
     Ok(shapes)
 }
 
-// Paper as large as the drawing, the title and the note.
-fn head(alloc: Global, scale: Scale, grid: &Grid) -> Result<Shape, AllocError>
-    requires { IsScale scale }
-    ensures { IfOk result (λ shape. shape_seen shape ≡ seen.plain (head_drawn scale grid.now)) }
-{
-    let title = Vec::from_slice(alloc, grid.title.as_slice())?;
-    let note = Vec::from_slice(alloc, grid.note.as_slice())?;
-    let mut figures = Vec::new(alloc);
-    put_rectangle(&mut figures, Class::Paper, (0, 0), (10000, height(scale)))?;
-    put_text(&mut figures, Class::Heading, (140, 300), title)?;
-    put_text(&mut figures, Class::Quiet, (140, 530), note)?;
-    Ok(Shape::Plain(figures))
-}
-
-fn border(alloc: Global, scale: Scale, grid: &Grid) -> Result<Shape, AllocError>
+fn put_shapes(
+    alloc: Global,
+    shapes: &mut Vec<Shape>,
+    scale: Scale,
+    grid: &Grid,
+) -> Result<(), AllocError>
     requires grid { IsGrid grid.now }
     requires scale { scale ≡ scale_for grid.now }
     requires fits { IsScale scale }
-    ensures { IfOk result (λ shape. shape_seen shape ≡ seen.plain (border_drawn scale grid.now)) }
+    ensures { OnOk result (shapes_seen shapes.new.items
+        ≡ shapes_seen shapes.old.items ++ shapes_by scale grid.now) }
+{
+    put_shape(shapes, head(alloc, scale, grid))?;
+    put_cells(alloc, shapes, scale, grid.cells.as_slice())?;
+    put_shape(shapes, border(alloc, scale, grid))?;
+    put_shape(shapes, rulers(alloc, scale, grid))?;
+    put_shape(shapes, marked(alloc, scale, grid))?;
+    put_shape(shapes, legend(alloc, scale, grid))
+}
+
+// Appends figures as a shape, unless memory was wanting for them.
+fn put_shape(
+    shapes: &mut Vec<Shape>,
+    figures: Result<Vec<Figure>, AllocError>,
+) -> Result<(), AllocError>
+    ensures { (f : List SeenFigure) → IfOk figures (λ figures. figures_seen figures.items ≡ f)
+        → OnOk result (shapes_seen shapes.new.items
+        ≡ shapes_seen shapes.old.items ++ seen.plain f ∷ []) }
+{
+    shapes.push(Shape::Plain(figures?))?;
+    Ok(())
+}
+
+// Paper as large as the drawing, the title and the note.
+fn head(alloc: Global, scale: Scale, grid: &Grid) -> Result<Vec<Figure>, AllocError>
+    requires { IsScale scale }
+    ensures { IfOk result (λ figures. figures_seen figures.items ≡ head_drawn scale grid.now) }
+{
+    let mut figures = Vec::new(alloc);
+    put_rectangle(&mut figures, Class::Paper, (0, 0), (10000, height(scale)))?;
+    let title = grid.title.as_slice();
+    put_words(alloc, &mut figures, Class::Heading, (140, 300), title)?;
+    let note = grid.note.as_slice();
+    put_words(alloc, &mut figures, Class::Quiet, (140, 530), note)?;
+    Ok(figures)
+}
+
+fn border(alloc: Global, scale: Scale, grid: &Grid) -> Result<Vec<Figure>, AllocError>
+    requires grid { IsGrid grid.now }
+    requires scale { scale ≡ scale_for grid.now }
+    requires fits { IsScale scale }
+    ensures { IfOk result (λ figures. figures_seen figures.items ≡ border_drawn scale grid.now) }
 {
     let mut figures = Vec::new(alloc);
     put_border(&mut figures, scale, grid.cells.as_slice())?;
-    Ok(Shape::Plain(figures))
+    Ok(figures)
 }
 
-fn rulers(alloc: Global, scale: Scale, grid: &Grid) -> Result<Shape, AllocError>
+fn rulers(alloc: Global, scale: Scale, grid: &Grid) -> Result<Vec<Figure>, AllocError>
     requires grid { IsGrid grid.now }
     requires fits { IsScale scale }
-    ensures { IfOk result (λ shape. shape_seen shape ≡ seen.plain (rulers_drawn scale grid.now)) }
+    ensures { IfOk result (λ figures. figures_seen figures.items ≡ rulers_drawn scale grid.now) }
 {
     let mut figures = Vec::new(alloc);
     put_columns(alloc, &mut figures, scale, &grid.x)?;
     put_rows(alloc, &mut figures, scale, &grid.y)?;
-    Ok(Shape::Plain(figures))
+    Ok(figures)
 }
 
-fn marked(alloc: Global, scale: Scale, grid: &Grid) -> Result<Shape, AllocError>
+fn marked(alloc: Global, scale: Scale, grid: &Grid) -> Result<Vec<Figure>, AllocError>
     requires grid { IsGrid grid.now }
     requires fits { IsScale scale }
-    ensures { IfOk result (λ shape. shape_seen shape ≡ seen.plain (mark scale grid.now)) }
+    ensures { IfOk result (λ figures. figures_seen figures.items ≡ mark scale grid.now) }
 {
     let mut figures = Vec::new(alloc);
     put_mark(&mut figures, scale, grid)?;
-    Ok(Shape::Plain(figures))
+    Ok(figures)
 }
 
-fn legend(alloc: Global, scale: Scale, grid: &Grid) -> Result<Shape, AllocError>
+fn legend(alloc: Global, scale: Scale, grid: &Grid) -> Result<Vec<Figure>, AllocError>
     requires grid { IsGrid grid.now }
     requires fits { IsScale scale }
-    ensures { IfOk result (λ shape. shape_seen shape ≡ seen.plain (legend_drawn scale grid.now)) }
+    ensures { IfOk result (λ figures. figures_seen figures.items ≡ legend_drawn scale grid.now) }
 {
     let mut figures = Vec::new(alloc);
     put_legend(alloc, &mut figures, scale, grid)?;
-    Ok(Shape::Plain(figures))
+    Ok(figures)
 }
