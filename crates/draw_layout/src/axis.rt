@@ -1,12 +1,14 @@
 //! The time axis.
 
-ghost use Rattle.std.specs.Prelude.{◌≡◌, ◌≤◌, ◌<◌, ◌+◌, ◌++◌, OnOk};
+ghost use Rattle.std.specs.Prelude.{◌≡◌, ◌≤◌, ◌<◌, ◌+◌, ◌++◌, ◌∷◌, [], OnOk, decimal};
 ghost use Rattle.draw_layout.specs.Axis.{axis, units, round_tick, tick_drawn, cut};
 ghost use Rattle.draw_layout.specs.Axis.{left_cut, right_cut};
 ghost use Rattle.draw_layout.specs.Scale.{step_of, more};
-ghost use Rattle.draw_shapes.specs.Seen.{figures_seen};
+ghost use Rattle.draw_layout.specs.Words.{microseconds_of, milliseconds_said};
+ghost use Rattle.draw_shapes.specs.Seen.{figures_seen, text};
 ghost use Rattle.draw_diagram.specs.Traces.{each_of};
 
+use crate::put::put_word;
 use crate::scale::{RIGHT, Scale, label_step, x_of};
 use crate::words::Words;
 use draw_shapes::{Class, Figure, put_line, put_text};
@@ -52,21 +54,9 @@ fn put_units(
         ≡ figures_seen figures.old.items ++ units scale bottom) }
 {
     let x = scale.left.saturating_sub(520);
-    let tick = Words::new(alloc).word(b"tick")?;
-    let ms = Words::new(alloc).word(b"ms")?;
-    put_text(
-        figures,
-        Class::End,
-        (x, bottom.saturating_add(170)),
-        tick.bytes,
-    )?;
-    put_text(
-        figures,
-        Class::QuietEnd,
-        (x, bottom.saturating_add(330)),
-        ms.bytes,
-    )?;
-    Ok(())
+    let (upper, lower) = (bottom.saturating_add(170), bottom.saturating_add(330));
+    put_word(alloc, figures, Class::End, (x, upper), b"tick")?;
+    put_word(alloc, figures, Class::QuietEnd, (x, lower), b"ms")
 }
 
 // The ticks that are shown and round.
@@ -125,21 +115,39 @@ fn put_tick(
         ≡ figures_seen figures.old.items ++ tick_drawn of.now scale top bottom t) }
 {
     let x = x_of(scale, t);
-    let tick = Words::new(alloc).number(t as u64)?;
-    let ms = Words::new(alloc).milliseconds((t as u64).saturating_mul(of.tick_us as u64))?;
     put_line(figures, Class::Grid, (x, top), (x, bottom))?;
-    put_text(
-        figures,
-        Class::Middle,
-        (x, bottom.saturating_add(170)),
-        tick.bytes,
-    )?;
-    put_text(
-        figures,
-        Class::QuietMiddle,
-        (x, bottom.saturating_add(330)),
-        ms.bytes,
-    )?;
+    put_number(alloc, figures, (x, bottom.saturating_add(170)), t)?;
+    let at = (x, bottom.saturating_add(330));
+    put_milliseconds(alloc, figures, at, of.tick_us, t)
+}
+
+fn put_number(
+    alloc: Global,
+    figures: &mut Vec<Figure>,
+    at: (u32, u32),
+    t: u32,
+) -> Result<(), Memory>
+    ensures { OnOk result (figures_seen figures.new.items
+        ≡ figures_seen figures.old.items ++ text Class.Middle at.0 at.1 (decimal t) ∷ []) }
+{
+    let tick = Words::new(alloc).tick(t)?;
+    put_text(figures, Class::Middle, at, tick.bytes)?;
+    Ok(())
+}
+
+fn put_milliseconds(
+    alloc: Global,
+    figures: &mut Vec<Figure>,
+    at: (u32, u32),
+    tick_us: u32,
+    t: u32,
+) -> Result<(), Memory>
+    ensures { OnOk result (figures_seen figures.new.items
+        ≡ figures_seen figures.old.items ++ text Class.QuietMiddle at.0 at.1
+        (milliseconds_said (microseconds_of tick_us t)) ∷ []) }
+{
+    let ms = Words::new(alloc).milliseconds((t as u64).saturating_mul(tick_us as u64))?;
+    put_text(figures, Class::QuietMiddle, at, ms.bytes)?;
     Ok(())
 }
 

@@ -10,7 +10,7 @@ use run_signal::Tern;
 
 /// How a bar looks: what is seen, or a lost channel; a step of the logic, a key or a trip that is on,
 /// or open.
-#[derive(Clone, Copy, PartialEq, Eq, Debug)]
+#[derive(Clone, Copy, PartialEq, Eq)]
 pub enum Bar {
     Seen,
     LogicOn,

@@ -10,6 +10,7 @@ ghost use Rattle.draw_layout.specs.Words.{said};
 ghost use Rattle.draw_shapes.specs.Seen.{figures_seen};
 
 use crate::bar::{BARS, Bar, bar_of};
+use crate::put::put_word;
 use crate::words::Words;
 use draw_diagram::{Diagram, Row, Stretch, Trace, Window, has_marks, is_off};
 use draw_shapes::{Class, Figure, put_rectangle, put_text};
@@ -142,15 +143,9 @@ fn put_mark_entry(
     ensures { OnOk result (figures_seen figures.new.items
         ≡ figures_seen figures.old.items ++ mark_entry y what.now) }
 {
-    let said = Words::new(alloc).word(what)?;
-    put_rectangle(
-        figures,
-        Class::Step,
-        (250, y.saturating_sub(130)),
-        (20, 150),
-    )?;
-    put_text(figures, Class::Quiet, (450, y), said.bytes)?;
-    Ok(())
+    let corner = (250, y.saturating_sub(130));
+    put_rectangle(figures, Class::Step, corner, (20, 150))?;
+    put_word(alloc, figures, Class::Quiet, (450, y), what)
 }
 
 // A bar and what it is.
@@ -166,15 +161,9 @@ fn put_entry(
     ensures { OnOk result (figures_seen figures.new.items
         ≡ figures_seen figures.old.items ++ entry x y class what.now) }
 {
-    let said = Words::new(alloc).word(what)?;
     put_rectangle(figures, class, (x, y.saturating_sub(110)), (240, 120))?;
-    put_text(
-        figures,
-        Class::Quiet,
-        (x.saturating_add(310), y),
-        said.bytes,
-    )?;
-    Ok(())
+    let at = (x.saturating_add(310), y);
+    put_word(alloc, figures, Class::Quiet, at, what)
 }
 
 // How long a tick is, and which ticks are shown.

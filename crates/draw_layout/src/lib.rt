@@ -10,6 +10,7 @@ mod laws;
 mod left;
 mod legend;
 mod mark;
+mod put;
 mod row;
 mod rows;
 mod scale;

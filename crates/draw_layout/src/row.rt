@@ -37,10 +37,16 @@ fn bar_height(trace: Trace) -> u32
 pub fn row_name(alloc: Global, of: &Line, trace: Trace) -> Result<Words, Memory>
     ensures { IfOk result (λ words. said words ≡ row_name of.now trace) }
 {
-    let words = Words::new(alloc);
+    name_behind(Words::new(alloc), of, trace)
+}
+
+// And the name of a row within its terminal.
+fn name_behind(words: Words, of: &Line, trace: Trace) -> Result<Words, Memory>
+    ensures { IfOk result (λ all. said all ≡ said words ++ row_name of.now trace) }
+{
     match trace {
-        Trace::Seen(place) => words.word(b"sees ")?.word(element_word(place.element)),
-        Trace::Lost(channel) => words.word(b"lost from ")?.word(sender_name(of, channel)),
+        Trace::Seen(place) => two_words(words, b"sees ", element_word(place.element)),
+        Trace::Lost(channel) => two_words(words, b"lost from ", sender_name(of, channel)),
         Trace::Logic(role, _) => role_name(words, of, role),
         Trace::Key(_) => words.word(b"key"),
         Trace::Trip(_) => words.word(b"trip"),
@@ -141,20 +147,28 @@ fn row_figures(
     ensures { IfOk result (λ figures.
         figures_seen figures.items ≡ row_figures of.now scale base row.now) }
 {
-    let name = row_name(alloc, of, row.trace)?;
     let mut figures = Vec::new(alloc);
-    let at = (scale.left.saturating_sub(100), base.saturating_sub(10));
-    put_text(&mut figures, Class::End, at, name.bytes)?;
-    put_line(&mut figures, Class::Base, (scale.left, base), (RIGHT, base))?;
-    put_bars(
-        &mut figures,
-        scale,
-        row.trace,
-        row.stretches.as_slice(),
-        base,
-    )?;
-    put_step_marks(&mut figures, scale, row.marks.as_slice(), base)?;
+    put_row(alloc, &mut figures, of, scale, row, base)?;
     Ok(figures)
+}
+
+fn put_row(
+    alloc: Global,
+    figures: &mut Vec<Figure>,
+    of: &Line,
+    scale: Scale,
+    row: &Row,
+    base: u32,
+) -> Result<(), Memory>
+    ensures { OnOk result (figures_seen figures.new.items
+        ≡ figures_seen figures.old.items ++ row_figures of.now scale base row.now) }
+{
+    let name = row_name(alloc, of, row.trace)?;
+    let at = (scale.left.saturating_sub(100), base.saturating_sub(10));
+    put_text(figures, Class::End, at, name.bytes)?;
+    put_line(figures, Class::Base, (scale.left, base), (RIGHT, base))?;
+    put_bars(figures, scale, row.trace, row.stretches.as_slice(), base)?;
+    put_step_marks(figures, scale, row.marks.as_slice(), base)
 }
 
 // Appends a bar for each stretch that is not off.
@@ -226,11 +240,10 @@ fn put_step_mark(figures: &mut Vec<Figure>, scale: Scale, t: u32, base: u32) -> 
 fn row_title(alloc: Global, of: &Line, row: &Row) -> Result<Words, Memory>
     ensures { IfOk result (λ title. said title ≡ row_title of.now row.now) }
 {
-    let name = row_name(alloc, of, row.trace)?;
     let title = Words::new(alloc)
         .word(name_of_terminal(of, terminal_of(of, row.trace)))?
-        .word(b" ")?
-        .word(name.bytes.as_slice())?;
+        .word(b" ")?;
+    let title = name_behind(title, of, row.trace)?;
     let title = stretches_said(title, row.stretches.as_slice())?;
     marks_said(title, row.marks.as_slice())
 }

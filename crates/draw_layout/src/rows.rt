@@ -6,12 +6,12 @@ ghost use Rattle.draw_layout.specs.Drawings.{height_below, name_drawn, beside, r
 ghost use Rattle.draw_layout.specs.Drawings.{rows_drawn, bottom_of};
 ghost use Rattle.draw_shapes.specs.Seen.{figures_seen, shapes_seen};
 
+use crate::put::put_word;
 use crate::row::drawn_row;
 use crate::scale::Scale;
 use crate::trip::put_trip;
-use crate::words::Words;
 use draw_diagram::{Diagram, Row, Trace};
-use draw_shapes::{Class, Figure, Shape, put_text};
+use draw_shapes::{Class, Figure, Shape};
 use model_line::{Element, Line, Memory};
 use model_names::name_of_terminal;
 use std::alloc::Global;
@@ -93,38 +93,41 @@ fn put_row(
     ensures { OnOk result (shapes_seen shapes.new.items
         ≡ shapes_seen shapes.old.items ++ row_drawn line.now scale diagram.now base shown.now) }
 {
-    let written = beside(alloc, line, scale, diagram, base, shown)?;
     if shown.is_drawn {
         let drawn = drawn_row(alloc, line, scale, shown, base)?;
         shapes.push(drawn)?;
     }
+    let mut written = Vec::new(alloc);
+    put_beside(alloc, &mut written, line, scale, diagram, base, shown)?;
     shapes.push(Shape::Plain(written))?;
     Ok(())
 }
 
-// What is written at a row: at a terminal's first its name, at its trip the times.
-fn beside(
+// Appends what is written at a row: at a terminal's first its name, at its trip the times.
+fn put_beside(
     alloc: Global,
+    figures: &mut Vec<Figure>,
     line: &Line,
     scale: Scale,
     diagram: &Diagram,
     base: u32,
     shown: &Row,
-) -> Result<Vec<Figure>, Memory>
-    ensures { IfOk result (λ figures.
-        figures_seen figures.items ≡ beside line.now scale diagram.now base shown.now) }
+) -> Result<(), Memory>
+    ensures { OnOk result (figures_seen figures.new.items
+        ≡ figures_seen figures.old.items
+        ++ beside line.now scale diagram.now base shown.now) }
 {
-    let mut figures = Vec::new(alloc);
     match shown.trace {
         Trace::Seen(place) => {
             if begins_terminal(shown.trace) {
-                put_name(alloc, &mut figures, line, shown, place.terminal, base)?;
+                put_name(alloc, figures, line, shown, place.terminal, base)
+            } else {
+                Ok(())
             }
         }
-        Trace::Trip(k) => put_trip(alloc, &mut figures, line, scale, diagram, k, base)?,
-        Trace::Lost(_) | Trace::Logic(_, _) | Trace::Key(_) => {}
+        Trace::Trip(k) => put_trip(alloc, figures, line, scale, diagram, k, base),
+        Trace::Lost(_) | Trace::Logic(_, _) | Trace::Key(_) => Ok(()),
     }
-    Ok(figures)
 }
 
 fn put_name(
@@ -140,9 +143,7 @@ fn put_name(
 {
     let room = if shown.is_drawn { 190 } else { 0 };
     let y = base.saturating_sub(room).saturating_sub(60);
-    let said = Words::new(alloc).word(name_of_terminal(line, k))?;
-    put_text(figures, Class::Terminal, (140, y), said.bytes)?;
-    Ok(())
+    put_word(alloc, figures, Class::Terminal, (140, y), name_of_terminal(line, k))
 }
 
 // How much lies from the row above to the base of a row: before a terminal's first row also its

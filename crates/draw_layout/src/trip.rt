@@ -8,6 +8,7 @@ ghost use Rattle.draw_layout.specs.Trips.{rule_class, rule_drawn, trip_drawn};
 ghost use Rattle.draw_layout.specs.Words.{said};
 ghost use Rattle.draw_shapes.specs.Seen.{figures_seen};
 
+use crate::put::put_word;
 use crate::scale::{RIGHT, Scale, x_of};
 use crate::words::Words;
 use draw_diagram::{Diagram, TripTimes};
@@ -198,10 +199,8 @@ fn put_rule(
     let Some(rule) = rule else {
         return Ok(());
     };
-    let words = Words::new(alloc).word(rule_word(rule))?;
     let at = (RULE, base.saturating_sub(10));
-    put_text(figures, rule_class(rule), at, words.bytes)?;
-    Ok(())
+    put_word(alloc, figures, rule_class(rule), at, rule_word(rule))
 }
 
 fn rule_class(rule: Rule) -> Class

@@ -1,11 +1,11 @@
 //! A diagram as a drawing.
 
-ghost use Rattle.std.specs.Prelude.{◌≡◌, ◌<◌, IfOk};
+ghost use Rattle.std.specs.Prelude.{◌≡◌, ◌<◌, ◌++◌, ◌∷◌, [], List, IfOk, OnOk};
 ghost use Rattle.draw_layout.specs.Axis.{axis};
 ghost use Rattle.draw_layout.specs.Drawings.{drawing_of, head_drawn, shapes_above};
 ghost use Rattle.draw_layout.specs.{Legend.legend, Marks.marks};
 ghost use Rattle.draw_layout.specs.Left.{scale_of};
-ghost use Rattle.draw_shapes.specs.Seen.{drawing_seen, shape_seen, shapes_seen};
+ghost use Rattle.draw_shapes.specs.Seen.{SeenFigure, drawing_seen, figures_seen, shapes_seen};
 ghost use Rattle.draw_shapes.specs.Seen as seen;
 
 use crate::axis::{AXIS_HEIGHT, put_axis};
@@ -13,11 +13,12 @@ use crate::heading::heading_words;
 use crate::left::scale_of;
 use crate::legend::{LEGEND_HEIGHT, put_legend};
 use crate::mark::put_marks;
+use crate::put::put_word;
 use crate::rows::{TOP, bottom_of, put_rows};
 use crate::scale::Scale;
 use crate::subject::Subject;
 use draw_diagram::Diagram;
-use draw_shapes::{Class, Drawing, Shape, put_rectangle, put_text};
+use draw_shapes::{Class, Drawing, Figure, Shape, put_rectangle};
 use model_line::{Line, Memory, Script};
 use std::alloc::Global;
 
@@ -58,61 +59,83 @@ fn shapes_of(
     ensures { IfOk result (λ shapes. shapes_seen shapes.items
         ≡ shapes_above line.now scale diagram.now heading.now bottom) }
 {
-    let foot = bottom.saturating_add(AXIS_HEIGHT);
-    let head = head_shape(alloc, heading, foot.saturating_add(LEGEND_HEIGHT))?;
-    let axis = axis_shape(alloc, line, scale, bottom)?;
-    let marked = marks_shape(alloc, line, scale, diagram, bottom)?;
-    let below = legend_shape(alloc, line, diagram, foot)?;
     let mut shapes = Vec::new(alloc);
-    shapes.push(head)?;
-    shapes.push(axis)?;
-    put_rows(alloc, &mut shapes, line, scale, diagram)?;
-    shapes.push(marked)?;
-    shapes.push(below)?;
+    put_shapes(alloc, &mut shapes, line, scale, diagram, heading, bottom)?;
     Ok(shapes)
 }
 
+fn put_shapes(
+    alloc: Global,
+    shapes: &mut Vec<Shape>,
+    line: &Line,
+    scale: Scale,
+    diagram: &Diagram,
+    heading: &[u8],
+    bottom: u32,
+) -> Result<(), Memory>
+    ensures { OnOk result (shapes_seen shapes.new.items
+        ≡ shapes_seen shapes.old.items
+        ++ shapes_above line.now scale diagram.now heading.now bottom) }
+{
+    let foot = bottom.saturating_add(AXIS_HEIGHT);
+    let height = foot.saturating_add(LEGEND_HEIGHT);
+    put_shape(shapes, head(alloc, heading, height))?;
+    put_shape(shapes, axis(alloc, line, scale, bottom))?;
+    put_rows(alloc, shapes, line, scale, diagram)?;
+    put_shape(shapes, marked(alloc, line, scale, diagram, bottom))?;
+    put_shape(shapes, legend(alloc, line, diagram, foot))
+}
+
+// Appends figures as a shape, unless memory was wanting for them.
+fn put_shape(shapes: &mut Vec<Shape>, figures: Result<Vec<Figure>, Memory>) -> Result<(), Memory>
+    ensures { (f : List SeenFigure) → IfOk figures (λ figures. figures_seen figures.items ≡ f)
+        → OnOk result (shapes_seen shapes.new.items
+        ≡ shapes_seen shapes.old.items ++ seen.plain f ∷ []) }
+{
+    shapes.push(Shape::Plain(figures?))?;
+    Ok(())
+}
+
 // Paper as large as the drawing, and the heading.
-fn head_shape(alloc: Global, heading: &[u8], height: u32) -> Result<Shape, Memory>
-    ensures { IfOk result (λ shape.
-        shape_seen shape ≡ seen.plain (head_drawn heading.now height)) }
+fn head(alloc: Global, heading: &[u8], height: u32) -> Result<Vec<Figure>, Memory>
+    ensures { IfOk result (λ figures.
+        figures_seen figures.items ≡ head_drawn heading.now height) }
 {
     let mut figures = Vec::new(alloc);
     put_rectangle(&mut figures, Class::Paper, (0, 0), (10000, height))?;
-    let words = Vec::from_slice(alloc, heading)?;
-    put_text(&mut figures, Class::Heading, (140, 260), words)?;
-    Ok(Shape::Plain(figures))
+    put_word(alloc, &mut figures, Class::Heading, (140, 260), heading)?;
+    Ok(figures)
 }
 
-fn axis_shape(alloc: Global, line: &Line, scale: Scale, bottom: u32) -> Result<Shape, Memory>
-    ensures { IfOk result (λ shape.
-        shape_seen shape ≡ seen.plain (axis line.now scale 600 bottom)) }
+fn axis(alloc: Global, line: &Line, scale: Scale, bottom: u32) -> Result<Vec<Figure>, Memory>
+    ensures { IfOk result (λ figures.
+        figures_seen figures.items ≡ axis line.now scale 600 bottom) }
 {
     let mut figures = Vec::new(alloc);
     put_axis(alloc, &mut figures, line, scale, TOP, bottom)?;
-    Ok(Shape::Plain(figures))
+    Ok(figures)
 }
 
-fn marks_shape(
+fn marked(
     alloc: Global,
     line: &Line,
     scale: Scale,
     diagram: &Diagram,
     bottom: u32,
-) -> Result<Shape, Memory>
-    ensures { IfOk result (λ shape.
-        shape_seen shape ≡ seen.plain (marks line.now scale diagram.now 600 bottom)) }
+) -> Result<Vec<Figure>, Memory>
+    ensures { IfOk result (λ figures.
+        figures_seen figures.items ≡ marks line.now scale diagram.now 600 bottom) }
 {
     let mut figures = Vec::new(alloc);
     put_marks(alloc, &mut figures, line, scale, diagram, TOP, bottom)?;
-    Ok(Shape::Plain(figures))
+    Ok(figures)
 }
 
-fn legend_shape(alloc: Global, line: &Line, diagram: &Diagram, foot: u32) -> Result<Shape, Memory>
-    ensures { IfOk result (λ shape.
-        shape_seen shape ≡ seen.plain (legend line.now diagram.now foot)) }
+fn legend(alloc: Global, line: &Line, diagram: &Diagram, foot: u32) -> Result<Vec<Figure>, Memory>
+    ensures { IfOk result (λ figures.
+        figures_seen figures.items ≡ legend line.now diagram.now foot) }
 {
     let mut figures = Vec::new(alloc);
     put_legend(alloc, &mut figures, line, diagram, foot)?;
-    Ok(Shape::Plain(figures))
+    Ok(figures)
 }
