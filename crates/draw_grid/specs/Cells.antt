@@ -1,5 +1,5 @@
 -- The cells of a grid, and the border of those that are held.
-use Rattle.std.specs.Prelude.{◌+◌, ◌-◌, ◌*◌, ◌/◌, ◌%◌, ◌++◌, ◌&&◌, ◌==◌, ℕ, Bool, true, false, not, List}
+use Rattle.std.specs.Prelude.{◌+◌, ◌-◌, ◌/◌, ◌%◌, ◌++◌, ◌&&◌, ℕ, Bool, true, false, not, List}
 use Rattle.std.specs.Prelude.{[], ◌∷◌, map, min, get_or, nat_lt, if◌then◌else◌}
 use Rattle.draw_shapes.specs.declared.class.Class.{Class}
 use Rattle.draw_shapes.specs.declared.class.Class.TheVariants as class

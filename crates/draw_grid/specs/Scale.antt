@@ -1,6 +1,6 @@
 -- Where the cells of a grid lie, and the times of its rulers. Lengths are tenths of a pixel, times
 -- microseconds.
-use Rattle.std.specs.Prelude.{◌≡◌, ◌≤◌, ◌<◌, ◌+◌, ◌-◌, ◌*◌, ◌/◌, ◌%◌, ◌^◌, ℕ, Option, None, Some, length}
+use Rattle.std.specs.Prelude.{◌≡◌, ◌≤◌, ◌+◌, ◌-◌, ◌*◌, ◌/◌, ◌^◌, ℕ, Option, None, Some, length}
 use Rattle.std.specs.Prelude.{min, max}
 use Rattle.draw_grid.specs.declared.{grid.Ruler.Ruler, grid.Grid.Grid, scale.Scale.Scale}
 

@@ -1,5 +1,8 @@
 -- Lists that are joined piece by piece.
-use Rattle.std.proofs.Common.{◌≡◌, ◌+◌, ◌++◌, ℕ, suc, List, ◌∙◌, ap, arith, append_assoc}
+use Rattle.std.proofs.Common.{◌≡◌, ◌<◌, ◌+◌, ◌++◌, ℕ, suc, List, ◌∙◌, ap, sym, arith, append_assoc}
+use Rattle.std.proofs.Common.{get_or, length, take}
+use Rattle.std.proofs.lemmas.List.{flat_map_more, take_more}
+use Rattle.std.specs.List.{flat_map}
 use Rattle.draw_diagram.specs.Traces.{each_of}
 
 -- the list of one number more
@@ -11,6 +14,16 @@ list_more {A = A} pre old new f k start step =
     ∙ ap (λ (l : List A). l ++ f k) start
     ∙ append_assoc pre (each_of k f) (f k)
     ∙ ap (λ (m : ℕ). pre ++ each_of m f) next
+
+-- what one element more adds
+pub flat_more : {X A : Type 0} (f : X → List A) (pre old new : List A) (xs : List X) (i : ℕ) (d : X)
+    → i < length xs → old ≡ pre ++ flat_map f (take i xs) → new ≡ old ++ f (get_or xs i d)
+    → new ≡ pre ++ flat_map f (take (i + 1) xs)
+flat_more f pre old new xs i d within start step =
+    step
+    ∙ ap (λ l. l ++ f (get_or xs i d)) start
+    ∙ flat_map_more f pre (take i xs) (get_or xs i d)
+    ∙ sym (ap (λ l. pre ++ flat_map f l) (take_more xs i d within))
 
 -- three pieces, and seven
 pub three_joined : (w a b c x y : List ℕ) → x ≡ w ++ a → y ≡ x ++ b

@@ -1,5 +1,5 @@
 -- Where ticks stand on an axis.
-use Rattle.std.proofs.Common.{◌≡◌, ◌≤◌, ◌<◌, ◌+◌, ◌-◌, ◌*◌, ◌/◌, ℕ, suc, min, arith, subst, sym}
+use Rattle.std.proofs.Common.{◌≤◌, ◌<◌, ◌+◌, ◌-◌, ◌*◌, ◌/◌, ℕ, suc, min, arith, subst, sym}
 use Rattle.std.proofs.Math.Nat.{div-mul-le_self, div-le_of_le-mul, mul-le-mul_right, suc-mul}
 use Rattle.std.proofs.lemmas.Nat.{le-div}
 use Rattle.draw_layout.specs.declared.scale.Scale.{Scale}

@@ -1,5 +1,5 @@
 -- The time axis: round ticks, each with a line through all rows and two numbers below.
-use Rattle.std.specs.Prelude.{◌++◌, ◌+◌, ◌-◌, ◌%◌, ◌==◌, ◌&&◌, ℕ, List, [], ◌∷◌}
+use Rattle.std.specs.Prelude.{◌++◌, ◌-◌, ◌%◌, ◌==◌, ◌&&◌, ℕ, List, [], ◌∷◌}
 use Rattle.std.specs.Prelude.{codes, decimal, nat_le, nat_lt, if◌then◌else◌}
 use Rattle.model_line.specs.declared.line.Line.{Line}
 use Rattle.draw_diagram.specs.Traces.{each_of}

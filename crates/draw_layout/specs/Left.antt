@@ -1,5 +1,5 @@
 -- How much room the names take at the left of the axis.
-use Rattle.std.specs.Prelude.{◌+◌, ◌*◌, ◌/◌, ◌==◌, ◌&&◌, ◌||◌, ℕ, Bool, List, [], ◌∷◌, max, min}
+use Rattle.std.specs.Prelude.{◌/◌, ◌==◌, ◌&&◌, ◌||◌, ℕ, Bool, List, [], ◌∷◌, max, min}
 use Rattle.std.specs.Prelude.{nat_le, if◌then◌else◌}
 use Rattle.model_line.specs.declared.line.Line.{Line}
 use Rattle.model_names.specs.NamesByNumber.{terminal_name}

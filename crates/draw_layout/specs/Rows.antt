@@ -1,5 +1,5 @@
 -- A row: its name, its base line and its bars, under a title that says all its stretches.
-use Rattle.std.specs.Prelude.{◌++◌, ◌-◌, ℕ, Bool, List, [], ◌∷◌, codes}
+use Rattle.std.specs.Prelude.{◌++◌, ◌-◌, ℕ, List, [], ◌∷◌, codes}
 use Rattle.std.specs.Prelude.{decimal, if◌then◌else◌}
 use Rattle.std.specs.List.{flat_map}
 use Rattle.model_line.specs.Channels.{from_of, to_of}

@@ -143,7 +143,13 @@ fn put_name(
 {
     let room = if shown.is_drawn { 190 } else { 0 };
     let y = base.saturating_sub(room).saturating_sub(60);
-    put_word(alloc, figures, Class::Terminal, (140, y), name_of_terminal(line, k))
+    put_word(
+        alloc,
+        figures,
+        Class::Terminal,
+        (140, y),
+        name_of_terminal(line, k),
+    )
 }
 
 // How much lies from the row above to the base of a row: before a terminal's first row also its

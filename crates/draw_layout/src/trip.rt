@@ -1,7 +1,7 @@
 //! What is said of a trip: its first ticks, its rule and its margin. The words stand in columns at
 //! the right of the axis, where no bar and no marked line comes.
 
-ghost use Rattle.std.specs.Prelude.{◌≡◌, ◌++◌, IfOk, OnOk, slice_get};
+ghost use Rattle.std.specs.Prelude.{◌≡◌, ◌++◌, codes, if◌then◌else◌, IfOk, OnOk, slice_get};
 ghost use Rattle.draw_layout.specs.Said.{first_ticks_said, margin_said};
 ghost use Rattle.draw_layout.specs.Trips.{no_rules, told, span, margin_span, times_drawn};
 ghost use Rattle.draw_layout.specs.Trips.{rule_class, rule_drawn, trip_drawn};
@@ -115,17 +115,21 @@ fn first_ticks(alloc: Global, is_play: bool, times: &TripTimes) -> Result<Words,
 {
     let words = Words::new(alloc);
     match (times.first_may, times.first_must) {
-        (Some(may), Some(must)) if may == must => {
-            let word: &[u8] = if is_play {
-                b"trips at "
-            } else {
-                b"may and must "
-            };
-            words.word(word)?.tick(must)
-        }
+        (Some(may), Some(must)) if may == must => { words.word(both_word(is_play))?.tick(must) }
         (Some(may), Some(must)) => words.word(b"may ")?.tick(may)?.word(b", must ")?.tick(must),
         (Some(may), None) => words.word(b"may ")?.tick(may),
         (None, _) => Ok(words),
+    }
+}
+
+// What stands before the tick of both rails.
+fn both_word(is_play: bool) -> &'static [u8]
+    ensures { result.now ≡ (if is_play then codes "trips at " else codes "may and must ") }
+{
+    if is_play {
+        b"trips at "
+    } else {
+        b"may and must "
     }
 }
 

@@ -1,6 +1,6 @@
 //! Words of labels, piece by piece.
 
-ghost use Rattle.std.specs.Prelude.{◌≡◌, ◌++◌, [], decimal, IfOk};
+ghost use Rattle.std.specs.Prelude.{◌≡◌, ◌==◌, ◌++◌, [], codes, decimal, if◌then◌else◌, IfOk};
 ghost use Rattle.draw_layout.specs.Words.{said, milliseconds_said, places_said, ticks_said};
 
 use itoa::Buffer;
@@ -77,10 +77,16 @@ impl Words {
     pub fn ticks(self, ticks: u64, tick_us: u32) -> Result<Words, Memory>
         ensures { IfOk result (λ words. said words ≡ said self ++ ticks_said tick_us ticks) }
     {
-        let unit: &[u8] = if ticks == 1 { b" tick, " } else { b" ticks, " };
         self.number(ticks)?
-            .word(unit)?
+            .word(unit(ticks))?
             .milliseconds(ticks.saturating_mul(tick_us as u64))?
             .word(b" ms")
     }
+}
+
+// What stands behind a number of ticks.
+fn unit(ticks: u64) -> &'static [u8]
+    ensures { result.now ≡ (if ticks == 1 then codes " tick, " else codes " ticks, ") }
+{
+    if ticks == 1 { b" tick, " } else { b" ticks, " }
 }

@@ -1,4 +1,4 @@
-use Rattle.std.proofs.Common.{◌≡◌, ◌≤◌, ◌<◌, ◌+◌, arith}
+use Rattle.std.proofs.Common.{◌≤◌, ◌<◌, ◌+◌, arith}
 use Rattle.draw_layout.specs.{Left.left_of, Left.scale_of}
 use Rattle.draw_layout.proofs.Shown.{shows}
 use Rattle.draw_layout.proofs.laws.bars_show_the_history.Goals as goal
