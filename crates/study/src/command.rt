@@ -307,9 +307,8 @@ pub fn command<'a>(alloc: Global) -> Result<Command<'a>, AllocError> {
         .version(VERSION)
         .subcommand_required(true)
         .arg_required_else_help(true);
-    let study = with_words(alloc, study, ANSWERS)?;
-    let study = study.subcommand(comtrade(alloc)?)?;
-    with_words(alloc, study, PICTURES)
+    let study = with_words(alloc, Ok(study), ANSWERS);
+    with_words(alloc, with(study, comtrade(alloc)), PICTURES)
 }
 
 fn comtrade<'a>(alloc: Global) -> Result<Command<'a>, AllocError> {
@@ -317,21 +316,28 @@ fn comtrade<'a>(alloc: Global) -> Result<Command<'a>, AllocError> {
         .about("Records of relays (COMTRADE), in and out")
         .subcommand_required(true)
         .arg_required_else_help(true);
-    let records = with_words(alloc, records, RECORDS)?;
-    records.subcommand(export(alloc)?)
+    with(with_words(alloc, Ok(records), RECORDS), export(alloc))
 }
 
 // A command with those of a table below it.
 fn with_words<'a>(
     alloc: Global,
-    command: Command<'a>,
+    command: Result<Command<'a>, AllocError>,
     words: &'static [Word],
 ) -> Result<Command<'a>, AllocError> {
     let mut command = command;
     for word in words {
-        command = command.subcommand(written(alloc, *word)?)?;
+        command = with(command, written(alloc, *word));
     }
-    Ok(command)
+    command
+}
+
+// A command with another below it.
+fn with<'a>(
+    command: Result<Command<'a>, AllocError>,
+    other: Result<Command<'a>, AllocError>,
+) -> Result<Command<'a>, AllocError> {
+    command?.subcommand(other?)
 }
 
 // A command of the table, whose text goes to standard output or to a file.
@@ -340,7 +346,7 @@ fn written<'a>(alloc: Global, word: Word) -> Result<Command<'a>, AllocError> {
         .short('o')
         .value_name("FILE")
         .help("The file to write; standard output without it");
-    given(alloc, word)?.arg(output)
+    with_arg(given(alloc, word), output)
 }
 
 // The one that writes three files.
@@ -350,18 +356,25 @@ fn export<'a>(alloc: Global) -> Result<Command<'a>, AllocError> {
         .required(true)
         .value_name("NAME")
         .help("What the names of the three files begin with");
-    given(alloc, EXPORT)?.arg(output)
+    with_arg(given(alloc, EXPORT), output)
 }
 
 // A command with its files and options.
 fn given<'a>(alloc: Global, word: Word) -> Result<Command<'a>, AllocError> {
-    let mut command = Command::new(alloc, word.name)
-        .about(word.about)
-        .arg(files_of(alloc, word.files))?;
+    let command = Command::new(alloc, word.name).about(word.about);
+    let mut command = with_arg(Ok(command), files_of(alloc, word.files));
     for opt in word.options {
-        command = command.arg(option_of(alloc, *opt))?;
+        command = with_arg(command, option_of(alloc, *opt));
     }
-    Ok(command)
+    command
+}
+
+// A command with an argument more.
+fn with_arg<'a>(
+    command: Result<Command<'a>, AllocError>,
+    arg: Arg<'a>,
+) -> Result<Command<'a>, AllocError> {
+    command?.arg(arg)
 }
 
 fn files_of<'a>(alloc: Global, files: Files) -> Arg<'a> {

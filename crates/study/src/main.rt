@@ -12,6 +12,7 @@ use crate::words::{Call, Event, words_of};
 use base_store::{FileStore, Sink, StdSink, put_all};
 use call_records::records;
 use call_study::{status_of, study};
+use clap::ArgMatches;
 use std::env;
 use std::process::ExitCode;
 
@@ -34,28 +35,37 @@ fn main(rt: HostRuntime) -> ExitCode {
         Ok(words) => words,
         Err(_) => return ExitCode::from(MEMORY),
     };
+    ExitCode::from(over_words(&rt, words.as_slice()))
+}
+
+// The exit status of what these words ask for, the program's name before them.
+fn over_words(rt: &HostRuntime, words: &[String]) -> u8 {
     let Ok(command) = command(rt.alloc()) else {
-        return ExitCode::from(MEMORY);
+        return MEMORY;
     };
-    let matches = match command.try_get_matches_from(words.as_slice()) {
-        Ok(matches) => matches,
+    match command.try_get_matches_from(words) {
+        Ok(matches) => over_matches(rt, &matches),
         Err(error) => {
-            let _ = error.print(&rt);
+            let _ = error.print(rt);
             let asked_for_help = error.exit_code() == 0;
-            return ExitCode::from(if asked_for_help { 0 } else { USAGE });
+            if asked_for_help { 0 } else { USAGE }
         }
-    };
-    let Some(words) = words_of(&matches) else {
+    }
+}
+
+// The exit status of what the words that match the command line ask for.
+fn over_matches(rt: &HostRuntime, matches: &ArgMatches<'_>) -> u8 {
+    let Some(words) = words_of(matches) else {
         let _ = put_all(
             &mut StdSink::new(rt.stderr()),
             b"study: these words ask for nothing: see study COMMAND --help\n",
         );
-        return ExitCode::from(USAGE);
+        return USAGE;
     };
-    ExitCode::from(match words.output {
-        Some(name) => to_files(&rt, &words.call, name),
-        None => to_standard_output(&rt, &words.call),
-    })
+    match words.output {
+        Some(name) => to_files(rt, &words.call, name),
+        None => to_standard_output(rt, &words.call),
+    }
 }
 
 // The exit status of a call whose text goes to standard output.
