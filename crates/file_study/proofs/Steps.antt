@@ -16,7 +16,7 @@ use Rattle.file_study.specs.declared.stage.Shown.{Shown}
 use Rattle.file_study.specs.Settings.{time_in, put_times, setting_in, put_settings}
 use Rattle.file_study.specs.LineTables.{tables_of, terminals_in, plain_name}
 use Rattle.file_study.specs.Shows.{all_shown, shown_in, terminals_show, terminal_shows, all_lost}
-use Rattle.file_study.specs.Shows.{channel_in, channel_called}
+use Rattle.file_study.specs.Shows.{lost_in}
 use Rattle.file_study.specs.Faults.{stages_in, stage_at, faults_in, fault_at, fault_names}
 use Rattle.file_study.specs.Faults.{FaultValues, StageValues}
 use Rattle.file_study.specs.{Paths.under, Paths.numbered, Keys.text_in}
@@ -59,8 +59,7 @@ tables_more members xs i d done h = rw (drop_more xs i d h)
 
 pub shown_more : (upward : Bool) (units : Units) (k : ℕ) (path : List ℕ) (i : ℕ) (vs : List Value)
     (d : Value) (done : List Shown) → i < length vs
-    → (text_in (numbered path i) (view (get_or vs i d)) >>= λ text.
-    shown_in upward units k (numbered path i) text >>= λ shown.
+    → (shown_in upward units k (numbered path i) (view (get_or vs i d)) >>= λ shown.
     all_shown upward units k path (i + 1) (items_view (drop (i + 1) vs)) (done ++ shown ∷ []))
     ≡ all_shown upward units k path i (items_view (drop i vs)) done
 unfolding all_shown
@@ -76,8 +75,7 @@ terminals_show_more upward units path ms k ts d done h = rw (drop_more ts k d h)
 
 pub lost_more : (line : LineValues) (path : List ℕ) (i : ℕ) (vs : List Value) (d : Value)
     (done : List Shown) → i < length vs
-    → (text_in (numbered path i) (view (get_or vs i d)) >>= λ text.
-    channel_in (numbered path i) (channel_called line text) >>= λ lost.
+    → (lost_in line (numbered path i) (view (get_or vs i d)) >>= λ lost.
     all_lost line path (i + 1) (items_view (drop (i + 1) vs)) (done ++ lost ∷ []))
     ≡ all_lost line path i (items_view (drop i vs)) done
 unfolding all_lost

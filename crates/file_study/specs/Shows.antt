@@ -3,7 +3,7 @@ use Rattle.std.specs.Prelude.{◌+◌, ◌++◌, ◌==◌, ℕ, Bool, List, [], 
 use Rattle.std.specs.Prelude.{Ok, Err, codes, if◌then◌else◌}
 use Rattle.std.specs.Str.{bytes_eq}
 use Rattle.std.specs.List.{before_first, after_first, position_from}
-use Rattle.toml.specs.Data.{Items, no_items, item, Members, get_member}
+use Rattle.toml.specs.Data.{Data, Items, no_items, item, Members, get_member}
 use Rattle.model_line.specs.declared.script.Element.TheVariants.{Z1, Z2, Rv, Uv, Cur}
 use Rattle.model_line.specs.{declared.script.Element.Element}
 use Rattle.model_line.specs.declared.script.What.TheVariants as what
@@ -41,8 +41,9 @@ shift_in upward units path (b ∷ text) =
     if b == 43 then instant_of upward units path text else Err (fault.BadName path)
 
 -- an element at terminal k, as `z1` or `z1 +12 ms`
-unfoldable pub shown_in : Bool → Units → ℕ → List ℕ → List ℕ → Result Shown StudyFault
-shown_in upward units k path text = do
+unfoldable pub shown_in : Bool → Units → ℕ → List ℕ → Data → Result Shown StudyFault
+shown_in upward units k path d = do
+  text ← text_in path d
   element ← element_in path (element_of (before_first is_space text))
   after ← shift_in upward units path (after_first is_space text)
   Ok (record {
@@ -55,8 +56,7 @@ unfoldable pub all_shown : Bool → Units → ℕ → List ℕ → ℕ → Items
     → Result (List Shown) StudyFault
 all_shown upward units k path i no_items done = Ok done
 all_shown upward units k path i (item d ds) done = do
-  text ← text_in (numbered path i) d
-  shown ← shown_in upward units k (numbered path i) text
+  shown ← shown_in upward units k (numbered path i) d
   all_shown upward units k path (i + 1) ds (done ++ shown ∷ [])
 
 -- what terminal k sees, under its name
@@ -83,13 +83,17 @@ abbrev pub channel_in : List ℕ → Option ℕ → Result Shown StudyFault
 channel_in path None = Err (fault.BadName path)
 channel_in path (Some c) = Ok (record { what = what.Loss c; after = 0 })
 
+unfoldable pub lost_in : LineValues → List ℕ → Data → Result Shown StudyFault
+lost_in line path d = do
+  text ← text_in path d
+  channel_in path (channel_called line text)
+
 -- those of an array, from item i on, behind what is there
 unfoldable pub all_lost : LineValues → List ℕ → ℕ → Items → List Shown
     → Result (List Shown) StudyFault
 all_lost line path i no_items done = Ok done
 all_lost line path i (item d ds) done = do
-  text ← text_in (numbered path i) d
-  lost ← channel_in (numbered path i) (channel_called line text)
+  lost ← lost_in line (numbered path i) d
   all_lost line path (i + 1) ds (done ++ lost ∷ [])
 
 -- what a stage shows: what the terminals see, in the order of the line, and the channels that are

@@ -12,7 +12,7 @@ use std::fmt;
 
 /// The first fault of a study, with its place, or want of memory. A place that begins with `line`
 /// is one of the line file that the study comes to, as `line.terminal[0].z1.pickup`.
-#[derive(Clone, Copy, PartialEq, Eq, Debug, Drop)]
+#[derive(Clone, Copy, Debug, Drop)]
 pub enum StudyFault {
     /// The bytes are no TOML document.
     NotToml,

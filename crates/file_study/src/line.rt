@@ -1,15 +1,15 @@
 //! The line of a study.
 
-ghost use Rattle.std.specs.Prelude.{◌≡◌, ◌<◌, ◌≤◌, ◌++◌, [], true, pos, Some, IfOk, OnOk, map};
+ghost use Rattle.std.specs.Prelude.{◌≡◌, ◌<◌, ◌≤◌, ◌++◌, [], true, pos, Some, IfOk, map};
 ghost use Rattle.std.specs.Prelude.{option_map, length};
 ghost use Rattle.std.specs.Str.{IsUtf8};
-ghost use Rattle.toml.specs.{Data.string, Data.integer, View.view, View.table_view};
+ghost use Rattle.toml.specs.{Data.Members, Data.string, Data.integer, View.view, View.table_view};
 ghost use Rattle.toml.specs.{View.items_view, Data.members_depth, Data.members_have_valid_dates};
 ghost use Rattle.model_line.specs.{Terminals.are_plain_names, PlainNames.is_plain_name};
 ghost use Rattle.model_line.specs.{ParamNames.pair_name};
 ghost use Rattle.file_line.specs.{Canonical.table_of, Canonical.put_member, Lines.line_values};
 ghost use Rattle.file_line.specs.{Keys.document_of};
-ghost use Rattle.file_study.specs.Reading.{Gives, Becomes, seen};
+ghost use Rattle.file_study.specs.Reading.{Gives, seen};
 ghost use Rattle.file_study.specs.LineTables.{terminals_of, terminals_in, plain_name};
 ghost use Rattle.file_study.specs.LineTables.{channels_of, channels_for, units_of, horizon_of};
 ghost use Rattle.file_study.specs.LineTables.{section_at, terminal_tables, channel_tables, in_line};
@@ -60,12 +60,32 @@ fn section<'a>(
     Ok(section)
 }
 
-fn put_text(alloc: Global, table: &mut Table, key: &str, text: &str) -> Result<(), Memory>
-    ensures { OnOk result
-        (table_view table.new ≡ put_member key.now (string text.now) (table_view table.old)) }
+// A table with a value under one more key, where there was memory for the table.
+fn with(
+    alloc: Global,
+    table: Result<Table, Memory>,
+    key: &str,
+    value: Value,
+) -> Result<Table, Memory>
+    ensures { (ms : Members) → IfOk table (λ t. table_view t ≡ ms)
+        → IfOk result (λ t. table_view t ≡ put_member key.now (view value) ms) }
+{
+    let mut table = table?;
+    put(alloc, &mut table, key, value)?;
+    Ok(table)
+}
+
+fn with_text(
+    alloc: Global,
+    table: Result<Table, Memory>,
+    key: &str,
+    text: &str,
+) -> Result<Table, Memory>
+    ensures { (ms : Members) → IfOk table (λ t. table_view t ≡ ms)
+        → IfOk result (λ t. table_view t ≡ put_member key.now (string text.now) ms) }
 {
     let value = Value::string(alloc, text)?;
-    put(alloc, table, key, value)
+    with(alloc, table, key, value)
 }
 
 // A plain name.
@@ -119,38 +139,29 @@ fn channels(count: usize) -> &'static [Channel]
     if count == 2 { TWO_WAYS } else { SIX_WAYS }
 }
 
-// What an owner is by default, and what differs.
+// What an owner is by default, and what differs, behind what a table has.
 #[tactic(auto, unfolding(crate::specs::LineTables::owner_members))]
-fn put_owner(
+fn with_owner(
     alloc: Global,
     units: Units,
     defaults: Option<&Table>,
     kind: &str,
     own: Option<&Table>,
     name: &str,
-    table: &mut Table,
-) -> Result<(), StudyFault>
+    table: Result<Table, Memory>,
+) -> Result<Table, StudyFault>
     requires { 0 < units.tick_us }
-    ensures { Becomes result (table_view table.new)
+    ensures { (ms : Members) → IfOk table (λ t. table_view t ≡ ms)
+        → Gives table_view result
         (owner_members units (option_map (λ t. table_view t.now) defaults.entry) kind.now
-        (option_map (λ t. table_view t.now) own.entry) name.now (table_view table.old)) }
+        (option_map (λ t. table_view t.now) own.entry) name.now ms) }
 {
-    put_section(
-        alloc,
-        units,
-        Path::root().key(b"default"),
-        kind,
-        defaults,
-        table,
-    )?;
-    put_section(
-        alloc,
-        units,
-        Path::root().key(kind.as_bytes()),
-        name,
-        own,
-        table,
-    )
+    let mut table = table?;
+    let path = Path::root().key(b"default");
+    put_section(alloc, units, path, kind, defaults, &mut table)?;
+    let path = Path::root().key(kind.as_bytes());
+    put_section(alloc, units, path, name, own, &mut table)?;
+    Ok(table)
 }
 
 /// A plain name as a text.
@@ -179,10 +190,8 @@ fn terminal_table(
         (option_map (λ t. table_view t.now) own.entry) terminal) }
 {
     let name = text_of_name(&terminal.name);
-    let mut table = Table::new(alloc);
-    put_text(alloc, &mut table, "name", name)?;
-    put_owner(alloc, units, defaults, "terminal", own, name, &mut table)?;
-    Ok(table)
+    let table = with_text(alloc, Ok(Table::new(alloc)), "name", name);
+    with_owner(alloc, units, defaults, "terminal", own, name, table)
 }
 
 // A channel's name as a text.
@@ -214,14 +223,12 @@ fn channel_table(
         (option_map (λ t. table_view t.now) own.entry) terminals.now channel) }
 {
     let name = channel_name(terminals, channel);
-    let mut table = Table::new(alloc);
     let from = text_of_name(&terminals[channel.from as usize].name);
-    put_text(alloc, &mut table, "from", from)?;
+    let table = with_text(alloc, Ok(Table::new(alloc)), "from", from);
     let to = text_of_name(&terminals[channel.to as usize].name);
-    put_text(alloc, &mut table, "to", to)?;
+    let table = with_text(alloc, table, "to", to);
     let key = text_of_channel(&name);
-    put_owner(alloc, units, defaults, "channel", own, key, &mut table)?;
-    Ok(table)
+    with_owner(alloc, units, defaults, "channel", own, key, table)
 }
 
 // A table for each terminal.
@@ -364,12 +371,16 @@ fn horizon(units: Units, top: &Table) -> Result<u32, StudyFault>
     instant(true, units, Path::root().key(b"horizon"), text.as_bytes())
 }
 
-fn put_number(alloc: Global, table: &mut Table, key: &str, number: u32) -> Result<(), Memory>
-    ensures { OnOk result
-        (table_view table.new
-        ≡ put_member key.now (integer (pos number)) (table_view table.old)) }
+fn with_number(
+    alloc: Global,
+    table: Result<Table, Memory>,
+    key: &str,
+    number: u32,
+) -> Result<Table, Memory>
+    ensures { (ms : Members) → IfOk table (λ t. table_view t ≡ ms)
+        → IfOk result (λ t. table_view t ≡ put_member key.now (integer (pos number)) ms) }
 {
-    put(alloc, table, key, Value::Integer(i64::from(number)))
+    with(alloc, table, key, Value::Integer(i64::from(number)))
 }
 
 // What stands at the top of the line file.
@@ -383,13 +394,11 @@ fn head(
     ensures { IfOk result (λ t. table_view t
         ≡ table_of (head_pairs units horizon scheme.now zone1_trip)) }
 {
-    let mut table = Table::new(alloc);
-    put_number(alloc, &mut table, "version", 1)?;
-    put_number(alloc, &mut table, "tick_us", units.tick_us)?;
-    put_number(alloc, &mut table, "horizon", horizon)?;
-    put_text(alloc, &mut table, "scheme", scheme)?;
-    put(alloc, &mut table, "zone1_trip", Value::Boolean(zone1_trip))?;
-    Ok(table)
+    let table = with_number(alloc, Ok(Table::new(alloc)), "version", 1);
+    let table = with_number(alloc, table, "tick_us", units.tick_us);
+    let table = with_number(alloc, table, "horizon", horizon);
+    let table = with_text(alloc, table, "scheme", scheme);
+    with(alloc, table, "zone1_trip", Value::Boolean(zone1_trip))
 }
 
 // The head of the line file.

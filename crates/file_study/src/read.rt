@@ -58,12 +58,12 @@ fn read_table(alloc: Global, top: &Table) -> Result<Study, StudyFault>
 {
     number(Path::root(), "study", 1, 1, top)?;
     only(Path::root(), TOP_KEYS, &[], top)?;
-    let title = String::from_str(alloc, text(Path::root(), "title", top)?)?;
+    let title = text(Path::root(), "title", top)?;
     let units = units(top)?;
     let line = line(alloc, units, top)?;
     let faults = faults(alloc, units, &line, top)?;
     Ok(Study {
-        title,
+        title: String::from_str(alloc, title)?,
         units,
         line,
         faults,

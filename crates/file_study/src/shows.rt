@@ -8,7 +8,7 @@ ghost use Rattle.file_study.specs.Reading.{Gives, Becomes};
 ghost use Rattle.model_line.specs.{PlainNames.is_plain_name, Terminals.are_plain_names};
 ghost use Rattle.file_study.specs.Shows.{element_of, element_in, is_space, shift_in, shown_in};
 ghost use Rattle.file_study.specs.Shows.{all_shown, terminal_shows, terminals_show};
-ghost use Rattle.file_study.specs.Shows.{channel_called, channel_in, all_lost, shows_of};
+ghost use Rattle.file_study.specs.Shows.{channel_called, channel_in, lost_in, all_lost, shows_of};
 
 use crate::fault::StudyFault;
 use crate::keys::{find, optional_items, text_of};
@@ -83,10 +83,11 @@ fn shift(upward: bool, units: Units, path: Path, text: &[u8]) -> Result<u32, Stu
 
 // An element at terminal k, as `z1` or `z1 +12 ms`.
 #[tactic(auto, unfolding(crate::specs::Shows::shown_in))]
-fn shown(upward: bool, units: Units, k: u32, path: Path, text: &str) -> Result<Shown, StudyFault>
+fn shown(upward: bool, units: Units, k: u32, path: Path, value: &Value) -> Result<Shown, StudyFault>
     requires { 0 < units.tick_us }
-    ensures { result ≡ shown_in upward units k path text.now }
+    ensures { result ≡ shown_in upward units k path (view value.now) }
 {
+    let text = text_of(path, value)?;
     let element = element_in(path, before_space(text))?;
     let after = shift(upward, units, path, behind_space(text))?;
     Ok(Shown {
@@ -112,8 +113,7 @@ fn push_shown(
         (all_shown upward units k path 0 (items_view items.now) shows.old.items) }
 {
     for (i, value) in items.iter().enumerate() {
-        let text = text_of(path.item(i), value)?;
-        let shown = shown(upward, units, k, path.item(i), text)?;
+        let shown = shown(upward, units, k, path.item(i), value)?;
         shows.push(shown)?;
     }
     Ok(())
@@ -164,9 +164,11 @@ fn push_terminals(
 }
 
 // A channel that is lost.
-fn lost(line: &Line, path: Path, text: &str) -> Result<Shown, StudyFault>
-    ensures { result ≡ channel_in path (channel_called (line_values line.now) text.now) }
+#[tactic(auto, unfolding(crate::specs::Shows::lost_in))]
+fn lost(line: &Line, path: Path, value: &Value) -> Result<Shown, StudyFault>
+    ensures { result ≡ lost_in (line_values line.now) path (view value.now) }
 {
+    let text = text_of(path, value)?;
     match channel_of_name(line, text.as_bytes()) {
         Some(channel) => Ok(Shown {
             what: What::Loss(channel),
@@ -187,8 +189,7 @@ fn push_lost(
         (all_lost (line_values line.now) path 0 (items_view items.now) shows.old.items) }
 {
     for (i, value) in items.iter().enumerate() {
-        let text = text_of(path.item(i), value)?;
-        let lost = lost(line, path.item(i), text)?;
+        let lost = lost(line, path.item(i), value)?;
         shows.push(lost)?;
     }
     Ok(())

@@ -4,7 +4,7 @@ use model_line::{Kind, Name, What};
 
 /// What a stage shows: an element that is seen, from so many ticks into the stage on, or a channel
 /// that is lost. Both last to the end of the stage.
-#[derive(Clone, Copy, PartialEq, Eq, Debug, Drop)]
+#[derive(Clone, Copy, Drop)]
 pub struct Shown {
     pub what: What,
     pub after: u32,

@@ -19,16 +19,16 @@ returns-in_err-only c =
     (fails_is c.in_err-only.field-0.0 (study_in (table_view c.args.top.now))
     (rw (← number, ← only) refl))
 
-pub returns-in_err-text : goal.returns-in_err-text
+pub returns-in_err-title : goal.returns-in_err-title
 unfolding study_in
-returns-in_err-text c =
-    let told = err_from_is_err_and c.from_residual-in_err-text.result
-    c.from_residual-in_err-text.ensures.1 in
+returns-in_err-title c =
+    let told = err_from_is_err_and c.from_residual-in_err-title.result
+    c.from_residual-in_err-title.ensures.1 in
     let number = rw c.root.ensures at c.in_ok-number.ensures.value in
     let only = rw c.root-2.ensures at c.in_ok-only.ensures in
-    let text = rw c.root-3.ensures at c.in_err-text.ensures in
+    let text = rw c.root-3.ensures at c.in_err-title.ensures in
     rw (told.1, told.2)
-    (fails_is c.in_err-text.field-0.0 (study_in (table_view c.args.top.now))
+    (fails_is c.in_err-title.field-0.0 (study_in (table_view c.args.top.now))
     (rw (← number, ← only, ← text) refl))
 
 pub returns-in_err-units : goal.returns-in_err-units
@@ -38,7 +38,7 @@ returns-in_err-units c =
     c.from_residual-in_err-units.ensures.1 in
     let number = rw c.root.ensures at c.in_ok-number.ensures.value in
     let only = rw c.root-2.ensures at c.in_ok-only.ensures in
-    let text = rw c.root-3.ensures at c.in_ok-text.ensures in
+    let text = rw c.root-3.ensures at c.in_ok-title.ensures in
     rw (told.1, told.2)
     (fails_is c.in_err-units.field-0.0 (study_in (table_view c.args.top.now))
     (rw (← number, ← only, ← text, ← c.in_err-units.ensures.units) refl))
@@ -50,7 +50,7 @@ returns-in_err-line c =
     c.from_residual-in_err-line.ensures.1 in
     let number = rw c.root.ensures at c.in_ok-number.ensures.value in
     let only = rw c.root-2.ensures at c.in_ok-only.ensures in
-    let text = rw c.root-3.ensures at c.in_ok-text.ensures in
+    let text = rw c.root-3.ensures at c.in_ok-title.ensures in
     rw (told.1, told.2)
     (rw (← number, ← only, ← text, ← c.in_ok-units.ensures.units)
     (fails_first is_memory c.in_err-line.field-0.0
@@ -63,7 +63,7 @@ returns-in_err-faults c =
     c.from_residual-in_err-faults.ensures.1 in
     let number = rw c.root.ensures at c.in_ok-number.ensures.value in
     let only = rw c.root-2.ensures at c.in_ok-only.ensures in
-    let text = rw c.root-3.ensures at c.in_ok-text.ensures in
+    let text = rw c.root-3.ensures at c.in_ok-title.ensures in
     rw (told.1, told.2)
     (rw (← number, ← only, ← text, ← c.in_ok-units.ensures.units, c.in_ok-line.ensures)
     (fails_first is_memory c.in_err-faults.field-0.0
@@ -75,7 +75,7 @@ unfolding study_in
 returns c =
     let number = rw c.root.ensures at c.in_ok-number.ensures.value in
     let only = rw c.root-2.ensures at c.in_ok-only.ensures in
-    let text = rw c.root-3.ensures at c.in_ok-text.ensures in
+    let text = rw c.root-3.ensures at c.in_ok-title.ensures in
     rw (
       ← number,
       ← only,
@@ -83,5 +83,5 @@ returns c =
       ← c.in_ok-units.ensures.units,
       c.in_ok-line.ensures,
       c.in_ok-faults.ensures,
-      ← c.in_ok-title.ensures.ok,
+      ← c.in_ok-from_str.ensures.ok,
     ) refl

@@ -5,37 +5,23 @@ use Rattle.file_study.specs.Shows.{all_shown}
 use Rattle.file_study.proofs.{Ends.fails_is, Ends.fails_ends, Steps.shown_more}
 use Rattle.file_study.proofs.shows.push_shown.Goals as goal
 
-pub returns-in_err-text : goal.returns-in_err-text
-returns-in_err-text c =
+pub returns-in_err-shown : goal.returns-in_err-shown
+returns-in_err-shown c =
     let told = err_from_is_err_and c.from_residual.result c.from_residual.ensures.1 in
     let more = shown_more c.args.upward c.args.units c.args.k c.args.path
     c.loop-i.i c.args.items.now c.index-items-i.result c.loop-i.shows.items c.loop-i-test.true in
     let here = rw (← c.index-items-i.is, ← c.item.ensures) at more in
     rw (told.1, told.2)
-    (fails_ends c.in_err-text.field-0.0 _ _ _
-    (fails_is c.in_err-text.field-0.0 _ (sym c.in_err-text.ensures))
-    (here ∙ c.loop-i.invariant))
-
-pub returns-in_err-shown : goal.returns-in_err-shown
-returns-in_err-shown c =
-    let told = err_from_is_err_and c.from_residual-in_err-shown.result
-    c.from_residual-in_err-shown.ensures.1 in
-    let more = shown_more c.args.upward c.args.units c.args.k c.args.path
-    c.loop-i.i c.args.items.now c.index-items-i.result c.loop-i.shows.items c.loop-i-test.true in
-    let here = rw (← c.index-items-i.is, ← c.item.ensures) at more in
-    let then = rw (← c.in_ok-text.ensures, c.item.ensures, ← c.item-in-loop-i.ensures) at here in
-    rw (told.1, told.2)
     (fails_ends c.in_err-shown.field-0.0 _ _ _
     (fails_is c.in_err-shown.field-0.0 _ (sym c.in_err-shown.ensures))
-    (then ∙ c.loop-i.invariant))
+    (here ∙ c.loop-i.invariant))
 
 pub loop-i-preserved : goal.loop-i-preserved
 loop-i-preserved c =
     let more = shown_more c.args.upward c.args.units c.args.k c.args.path
     c.loop-i.i c.args.items.now c.index-items-i.result c.loop-i.shows.items c.loop-i-test.true in
     let here = rw (← c.index-items-i.is, ← c.item.ensures) at more in
-    let then = rw (← c.in_ok-text.ensures, c.item.ensures, ← c.item-in-loop-i.ensures) at here in
-    let next = rw (← c.in_ok-shown.ensures) at then in
+    let next = rw (← c.in_ok-shown.ensures) at here in
     rw c.in_ok-push.ensures.items (next ∙ c.loop-i.invariant)
 
 pub returns : goal.returns
