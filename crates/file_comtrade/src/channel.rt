@@ -7,7 +7,7 @@ ghost use Rattle.file_comtrade.specs.{Named.named_in, Named.is_it, Named.IsInsid
 use base_records::is;
 
 /// The channels of an id.
-#[derive(Clone, Copy, Debug, PartialEq, Eq)]
+#[derive(Clone, Copy)]
 pub enum Named {
     /// No channel has it.
     Nothing,

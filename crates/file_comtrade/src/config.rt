@@ -1,7 +1,7 @@
 //! What a configuration says.
 
 /// The revision of the standard that a record follows.
-#[derive(Clone, Copy, Debug, PartialEq, Eq)]
+#[derive(Clone, Copy)]
 pub enum Revision {
     Of1991,
     Of1999,
@@ -9,7 +9,7 @@ pub enum Revision {
 }
 
 /// What stands first in a date.
-#[derive(Clone, Copy, Debug, PartialEq, Eq)]
+#[derive(Clone, Copy)]
 pub enum DateOrder {
     DayFirst,
     MonthFirst,
@@ -23,14 +23,14 @@ pub struct Manner {
 }
 
 /// What a stamp counts.
-#[derive(Clone, Copy, Debug, PartialEq, Eq)]
+#[derive(Clone, Copy)]
 pub enum StampUnit {
     Microsecond,
     Nanosecond,
 }
 
 /// How the data are written.
-#[derive(Clone, Copy, Debug, PartialEq, Eq)]
+#[derive(Clone, Copy)]
 pub enum Form {
     Ascii,
     /// Analog values of 16 bits.
@@ -42,7 +42,7 @@ pub enum Form {
 }
 
 /// Samples at one rate, up to the last of them.
-#[derive(Clone, Copy, Debug, PartialEq, Eq)]
+#[derive(Clone, Copy)]
 pub struct Rate {
     /// 0 where there is no rate, and each sample has its stamp.
     pub microhertz: u64,
@@ -51,7 +51,7 @@ pub struct Rate {
 }
 
 /// When the samples were taken.
-#[derive(Debug, Drop)]
+#[derive(Drop)]
 pub struct Sampling {
     /// One after another, or a single one of 0.
     pub rates: Vec<Rate>,
@@ -59,7 +59,7 @@ pub struct Sampling {
 }
 
 /// What a configuration says of its data.
-#[derive(Debug, Drop)]
+#[derive(Drop)]
 pub struct Config<'a> {
     pub analog: u32,
     /// The ids of the digital channels.

@@ -19,7 +19,7 @@ use crate::time::{has_time, time_of};
 use std::alloc::{AllocError, Global};
 
 /// A sample of the chosen channels.
-#[derive(Debug, Drop)]
+#[derive(Drop)]
 pub struct Sample {
     pub number: u32,
     /// In nanoseconds after the first.

@@ -15,7 +15,7 @@ pub struct Files<'a> {
 }
 
 /// Why a record has no levels at the ticks.
-#[derive(Clone, Copy, Debug, PartialEq, Eq)]
+#[derive(Clone, Copy, Debug)]
 pub enum RecordFault {
     Config(ConfigFault),
     /// No digital channel has the id.

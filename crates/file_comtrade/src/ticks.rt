@@ -10,7 +10,7 @@ use crate::data_reader::Sample;
 use std::alloc::{AllocError, AllocFailed, Global};
 
 /// The ticks of a play, in the recorder's clock.
-#[derive(Clone, Copy, Debug)]
+#[derive(Clone, Copy)]
 pub struct Ticks {
     /// The instant of tick 0, in nanoseconds from the start of the year 0.
     pub start: u128,
@@ -20,7 +20,7 @@ pub struct Ticks {
 }
 
 /// Why the ticks have no samples.
-#[derive(Clone, Copy, Debug, PartialEq, Eq)]
+#[derive(Clone, Copy, Debug)]
 pub enum TickFault {
     /// The first tick with a sample, and the last, where there is one.
     Gap { from: u128, to: Option<u128> },

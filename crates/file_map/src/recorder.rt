@@ -6,7 +6,7 @@ use crate::source::Signals;
 use file_comtrade::DateOrder;
 
 /// A recorder at a terminal.
-#[derive(Debug, Drop)]
+#[derive(Drop)]
 pub struct Recorder {
     /// By its place in the line.
     pub terminal: u32,

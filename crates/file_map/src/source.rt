@@ -14,7 +14,7 @@ pub enum Signal {
 }
 
 /// A digital channel of a record.
-#[derive(Debug, Drop)]
+#[derive(Drop)]
 pub enum ChannelName {
     /// By its id.
     Id(Vec<u8>),
@@ -23,7 +23,7 @@ pub enum ChannelName {
 }
 
 /// A digital channel that tells a signal.
-#[derive(Debug, Drop)]
+#[derive(Drop)]
 pub struct Source {
     pub signal: Signal,
     pub channel: ChannelName,
@@ -33,7 +33,7 @@ pub struct Source {
 
 /// The signals that a recorder tells, and what tells them: a signal is on where one of its sources
 /// is. One that is told and has no source is known to be off.
-#[derive(Debug, Drop)]
+#[derive(Drop)]
 pub struct Signals {
     pub told: Vec<Signal>,
     pub sources: Vec<Source>,

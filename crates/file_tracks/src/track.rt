@@ -21,7 +21,7 @@ pub struct Track {
 }
 
 /// The place of the first source that cannot be read, and why.
-#[derive(Clone, Copy, Debug, PartialEq, Eq)]
+#[derive(Clone, Copy, Debug)]
 pub struct TrackFault {
     pub place: usize,
     pub why: RecordFault,
