@@ -6,7 +6,7 @@ ghost use Rattle.call_lint.specs.Outcomes.{status_of, outcome_of};
 use judge_lint::Warning;
 
 /// What was found in the files.
-#[derive(Clone, Copy, PartialEq, Eq, Debug, Drop)]
+#[derive(Clone, Copy, Drop)]
 pub enum Outcome {
     /// They are accepted, and nothing is suspicious.
     Clean,

@@ -1,8 +1,8 @@
 //! The text of a line file that is refused.
 
 use crate::rules::{key_rule, line_rule};
-use crate::spots::{push_mistake, toml_place};
-use crate::text::{Spot, push_all, push_whole_place};
+use crate::spots::{push_fault, toml_place};
+use crate::text::Spot;
 use file_line::LineFault;
 use file_mistakes::{Wanted, place_of_key};
 use model_line::Memory;
@@ -15,36 +15,23 @@ pub fn refused_line(
     name: &str,
     fault: &LineFault,
 ) -> Result<Vec<u8>, Memory> {
-    let message = format!(in alloc; "refused line {fault}\n")?;
-    let mut text = message.into_bytes();
-    push_fault(alloc, &mut text, bytes, name, fault)?;
-    push_all(&mut text, &[b"\n"])?;
-    Ok(text)
-}
-
-fn push_fault(
-    alloc: Global,
-    text: &mut Vec<u8>,
-    bytes: &[u8],
-    name: &str,
-    fault: &LineFault,
-) -> Result<(), Memory> {
     let path = path_of(fault);
     let at = match fault {
         LineFault::NotToml => toml_place(alloc, bytes)?,
         _ => place_of_key(alloc, bytes, path)?,
     };
-    let spot = Spot { name, bytes, at };
-    push_all(text, &[b"error: "])?;
-    push_whole_place(text, spot)?;
-    push_all(
-        text,
-        &[
-            line_rule(fault).as_bytes(),
-            key_rule(fault, path).as_bytes(),
-        ],
+    let rules = [
+        line_rule(fault).as_bytes(),
+        key_rule(fault, path).as_bytes(),
+    ];
+    let mut text = format!(in alloc; "refused line {fault}\n")?.into_bytes();
+    push_fault(
+        &mut text,
+        Wanted::Document,
+        Spot { name, bytes, at },
+        &rules,
     )?;
-    push_mistake(text, Wanted::Document, spot)
+    Ok(text)
 }
 
 // The path that a fault tells.

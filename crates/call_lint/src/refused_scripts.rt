@@ -1,8 +1,8 @@
 //! The text of a file of scripts that is refused.
 
 use crate::rules::script_rule;
-use crate::spots::push_mistake;
-use crate::text::{Spot, push_all, push_whole_place};
+use crate::spots::push_fault;
+use crate::text::Spot;
 use file_mistakes::{Wanted, place_of_record};
 use file_script::ScriptFault;
 use model_line::Memory;
@@ -15,14 +15,9 @@ pub fn refused_scripts(
     name: &str,
     fault: &ScriptFault,
 ) -> Result<Vec<u8>, Memory> {
-    let message = format!(in alloc; "refused scripts {fault}\n")?;
-    let mut text = message.into_bytes();
     let at = place_of_record(alloc, bytes, fault.record().unwrap_or(1))?;
-    let spot = Spot { name, bytes, at };
-    push_all(&mut text, &[b"error: "])?;
-    push_whole_place(&mut text, spot)?;
-    push_all(&mut text, &[script_rule(fault).as_bytes()])?;
-    push_mistake(&mut text, Wanted::Records, spot)?;
-    push_all(&mut text, &[b"\n"])?;
+    let rules = [script_rule(fault).as_bytes()];
+    let mut text = format!(in alloc; "refused scripts {fault}\n")?.into_bytes();
+    push_fault(&mut text, Wanted::Records, Spot { name, bytes, at }, &rules)?;
     Ok(text)
 }

@@ -3,8 +3,8 @@
 ghost use Rattle.std.specs.Prelude.{◌≤◌, IfOk, length};
 
 use crate::rules::{study_rule, sweep_rule};
-use crate::spots::{push_mistake, toml_place};
-use crate::text::{Spot, push_all, push_number, push_whole_place};
+use crate::spots::{push_fault, toml_place};
+use crate::text::{Spot, push_error, push_item};
 use file_mistakes::{Wanted, place_of_key};
 use file_study::StudyFault;
 use file_sweeps::StudySweepFault;
@@ -18,18 +18,18 @@ pub fn refused_study(
     name: &str,
     fault: &StudyFault,
 ) -> Result<Vec<u8>, Memory> {
-    let message = format!(in alloc; "refused study: {fault}\n")?;
-    let mut text = message.into_bytes();
     let at = match fault.place() {
         Some(path) => place_of_key(alloc, bytes, path.bytes())?,
         None => toml_place(alloc, bytes)?,
     };
-    let spot = Spot { name, bytes, at };
-    push_all(&mut text, &[b"error: "])?;
-    push_whole_place(&mut text, spot)?;
-    push_all(&mut text, &[study_rule(fault).as_bytes()])?;
-    push_mistake(&mut text, Wanted::Document, spot)?;
-    push_all(&mut text, &[b"\n"])?;
+    let rules = [study_rule(fault).as_bytes()];
+    let mut text = format!(in alloc; "refused study: {fault}\n")?.into_bytes();
+    push_fault(
+        &mut text,
+        Wanted::Document,
+        Spot { name, bytes, at },
+        &rules,
+    )?;
     Ok(text)
 }
 
@@ -40,12 +40,10 @@ pub fn refused_sweep(
     name: &str,
     fault: &StudySweepFault,
 ) -> Result<Vec<u8>, Memory> {
-    let message = format!(in alloc; "refused study: {fault}\n")?;
-    let mut text = message.into_bytes();
     let at = place_of_fault(alloc, bytes, number_of(fault))?;
-    push_all(&mut text, &[b"error: "])?;
-    push_whole_place(&mut text, Spot { name, bytes, at })?;
-    push_all(&mut text, &[sweep_rule(fault).as_bytes(), b"\n"])?;
+    let rules = [sweep_rule(fault).as_bytes(), b"\n"];
+    let mut text = format!(in alloc; "refused study: {fault}\n")?.into_bytes();
+    push_error(&mut text, Spot { name, bytes, at }, &rules)?;
     Ok(text)
 }
 
@@ -54,9 +52,7 @@ pub fn place_of_fault(alloc: Global, bytes: &[u8], i: usize) -> Result<usize, Me
     ensures { IfOk result (λ at. at ≤ length bytes.now) }
 {
     let mut path = Vec::new(alloc);
-    push_all(&mut path, &[b"fault["])?;
-    push_number(&mut path, i)?;
-    push_all(&mut path, &[b"].name"])?;
+    push_item(&mut path, b"fault", i, b"name")?;
     place_of_key(alloc, bytes, &path)
 }
 

@@ -2,7 +2,7 @@
 
 ghost use Rattle.std.specs.Prelude.{◌≤◌, IfOk, length};
 
-use crate::text::{Spot, push_all};
+use crate::text::{Spot, push_all, push_error};
 use file_mistakes::{Mistake, Slip, Wanted, document_slip, line_text, mistake_of, record_slip};
 use model_line::Memory;
 use std::alloc::Global;
@@ -21,8 +21,21 @@ pub fn toml_place(alloc: Global, bytes: &[u8]) -> Result<usize, Memory>
     Ok(start.min(bytes.len()))
 }
 
-/// Appends the mistake that the whole file shows, or else one of the line in which the spot is.
-pub fn push_mistake(text: &mut Vec<u8>, wanted: Wanted, spot: Spot<'_>) -> Result<(), Memory> {
+/// Appends the line of a fault: its place, these words of the rule that is broken, and what was done
+/// wrongly.
+pub fn push_fault(
+    text: &mut Vec<u8>,
+    wanted: Wanted,
+    spot: Spot<'_>,
+    words: &[&[u8]],
+) -> Result<(), Memory> {
+    push_error(text, spot, words)?;
+    push_mistake(text, wanted, spot)?;
+    push_all(text, &[b"\n"])
+}
+
+// Appends the mistake that the whole file shows, or else one of the line in which the spot is.
+fn push_mistake(text: &mut Vec<u8>, wanted: Wanted, spot: Spot<'_>) -> Result<(), Memory> {
     if let Some(mistake) = mistake_of(wanted, spot.bytes) {
         return push_all(text, &[b"; ", mistake_words(mistake).as_bytes()]);
     }

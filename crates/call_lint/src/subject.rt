@@ -1,10 +1,10 @@
 //! What a warning is about, and where it stands.
 
-ghost use Rattle.std.specs.Prelude.{◌≡◌, ◌≤◌, IfOk, length};
+ghost use Rattle.std.specs.Prelude.{◌≡◌, ◌≤◌, IfOk, IfSome, length};
 
 use crate::refused_study::place_of_fault;
 use crate::sheet::{Names, Sheet};
-use crate::text::{Spot, push_all, push_number};
+use crate::text::{Spot, push_all, push_item};
 use file_mistakes::{place_of_key, place_of_record, place_of_table, place_of_word};
 use judge_lint::Warning;
 use model_line::{Line, Memory, Place, Script};
@@ -15,7 +15,7 @@ use model_names::{
 use std::alloc::Global;
 
 /// What a warning is about.
-#[derive(Clone, Copy, PartialEq, Eq)]
+#[derive(Clone, Copy)]
 pub enum Subject {
     Param(u32),
     Terminal(u32),
@@ -144,12 +144,12 @@ fn path_in_line(alloc: Global, line: &Line, subject: Subject) -> Result<Vec<u8>,
     let mut path = Vec::new(alloc);
     match subject {
         Subject::Param(i) => push_param_path(&mut path, line, name_of_parameter(line, i))?,
-        Subject::Terminal(k) => push_item(&mut path, b"terminal", k, b"name")?,
+        Subject::Terminal(k) => push_item(&mut path, b"terminal", k as usize, b"name")?,
         Subject::Element(place) => {
             push_item(
                 &mut path,
                 b"terminal",
-                place.terminal,
+                place.terminal as usize,
                 element_word(place.element),
             )?
         }
@@ -162,18 +162,12 @@ fn path_in_line(alloc: Global, line: &Line, subject: Subject) -> Result<Vec<u8>,
 fn push_param_path(path: &mut Vec<u8>, line: &Line, name: &[u8]) -> Result<(), Memory> {
     let (owner, key) = parted(name);
     if let Some(k) = terminal_of_name(line, owner) {
-        push_item(path, b"terminal", k, key)
+        push_item(path, b"terminal", k as usize, key)
     } else if let Some(c) = channel_of_name(line, owner) {
-        push_item(path, b"channel", c, key)
+        push_item(path, b"channel", c as usize, key)
     } else {
         Ok(())
     }
-}
-
-fn push_item(path: &mut Vec<u8>, array: &[u8], index: u32, key: &[u8]) -> Result<(), Memory> {
-    push_all(path, &[array, b"["])?;
-    push_number(path, index as usize)?;
-    push_all(path, &[b"].", key])
 }
 
 // What stands before and behind the first dot.
@@ -248,19 +242,28 @@ fn place_of_setting(
 ) -> Result<usize, Memory>
     ensures { IfOk result (λ at. at ≤ length bytes.now) }
 {
-    let mut own = Vec::new(alloc);
-    push_all(&mut own, &[kind, b".", owner])?;
-    push_key(&mut own, key)?;
-    if let Some(place) = place_of_table(alloc, bytes, &own)? {
+    if let Some(place) = place_under(alloc, bytes, &[kind, b".", owner], key)? {
         return Ok(place);
     }
-    let mut common = Vec::new(alloc);
-    push_all(&mut common, &[b"default.", kind])?;
-    push_key(&mut common, key)?;
-    match place_of_table(alloc, bytes, &common)? {
+    match place_under(alloc, bytes, &[b"default.", kind], key)? {
         Some(place) => Ok(place),
         None => place_of_key(alloc, bytes, b"terminals"),
     }
+}
+
+// Where the table of a key stands that is under these names.
+fn place_under(
+    alloc: Global,
+    bytes: &[u8],
+    names: &[&[u8]],
+    key: &[u8],
+) -> Result<Option<usize>, Memory>
+    ensures { IfOk result (λ place. IfSome place (λ at. at ≤ length bytes.now)) }
+{
+    let mut path = Vec::new(alloc);
+    push_all(&mut path, names)?;
+    push_key(&mut path, key)?;
+    place_of_table(alloc, bytes, &path)
 }
 
 fn push_key(path: &mut Vec<u8>, key: &[u8]) -> Result<(), Memory> {

@@ -30,20 +30,34 @@ pub fn push_number(text: &mut Vec<u8>, number: usize) -> Result<(), Memory> {
     Ok(())
 }
 
+/// Appends the path of a key of an array's item, as `terminal[0].name`.
+pub fn push_item(path: &mut Vec<u8>, array: &[u8], index: usize, key: &[u8]) -> Result<(), Memory> {
+    push_all(path, &[array, b"["])?;
+    push_number(path, index)?;
+    push_all(path, &[b"].", key])
+}
+
 /// Appends `FILE:LINE`.
 pub fn push_line_place(text: &mut Vec<u8>, spot: Spot<'_>) -> Result<(), Memory> {
     push_all(text, &[spot.name.as_bytes(), b":"])?;
     push_number(text, line_number(spot.bytes, spot.at))
 }
 
-/// Appends `FILE:LINE:COLUMN`, and the line as it stands, its first 80 bytes.
-pub fn push_whole_place(text: &mut Vec<u8>, spot: Spot<'_>) -> Result<(), Memory> {
+// Appends `FILE:LINE:COLUMN`, and the line as it stands, its first 80 bytes.
+fn push_whole_place(text: &mut Vec<u8>, spot: Spot<'_>) -> Result<(), Memory> {
     push_line_place(text, spot)?;
     text.push(b':')?;
     push_number(text, column(spot.bytes, spot.at))?;
     push_all(text, &[b": `"])?;
     push_shown(text, line_text(spot.bytes, spot.at))?;
     push_all(text, &[b"`: "])
+}
+
+/// Appends the place of an error, and these words of it.
+pub fn push_error(text: &mut Vec<u8>, spot: Spot<'_>, words: &[&[u8]]) -> Result<(), Memory> {
+    push_all(text, &[b"error: "])?;
+    push_whole_place(text, spot)?;
+    push_all(text, words)
 }
 
 // Appends bytes of a file, each that is no printable one as `?`.
