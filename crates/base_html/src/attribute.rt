@@ -8,7 +8,7 @@ use base_markup::Markup;
 use std::alloc::{AllocError, Global};
 
 /// The attributes that an element may have.
-#[derive(Clone, Copy, PartialEq, Eq, Debug)]
+#[derive(Clone, Copy)]
 pub enum Key {
     Lang,
     Charset,

@@ -4,7 +4,7 @@ ghost use Rattle.std.specs.Prelude.{◌≡◌};
 ghost use Rattle.base_html.specs.Names.{sign_text};
 
 /// A sign, which stands as a reference to its character.
-#[derive(Clone, Copy, PartialEq, Eq, Debug)]
+#[derive(Clone, Copy)]
 pub enum Sign {
     Check,
     Cross,

@@ -4,7 +4,7 @@ ghost use Rattle.std.specs.Prelude.{◌≡◌};
 ghost use Rattle.base_html.specs.Names.{tag_end, tag_name, void_name};
 
 /// The elements that hold others or text. What holds a whole document is none of them.
-#[derive(Clone, Copy, PartialEq, Eq, Debug)]
+#[derive(Clone, Copy)]
 pub enum Tag {
     Title,
     Header,
@@ -37,7 +37,7 @@ pub enum Tag {
 }
 
 /// The elements that hold nothing and are not closed.
-#[derive(Clone, Copy, PartialEq, Eq, Debug)]
+#[derive(Clone, Copy)]
 pub enum Void {
     Meta,
     Break,

@@ -6,7 +6,7 @@ use base_memory::Memory;
 use std::alloc::AllocFailed;
 
 /// Why a text is refused.
-#[derive(Clone, Copy, PartialEq, Eq, Debug)]
+#[derive(Clone, Copy)]
 pub enum TextFault {
     /// The first line, counted from 1, that cannot stand where it does. Lines end after each line
     /// feed; one that is missing, or has no line feed, is the line after the last.

@@ -19,7 +19,7 @@ use std::marker::Model;
 /// A store that holds bytes under names, and fails at the pulls that it is told to fail at.
 ///
 /// Its one count of faults is the count of every name.
-#[derive(Debug, Drop)]
+#[derive(Drop)]
 pub struct MemoryStore {
     alloc: Global,
     files: BTreeMap<String, Vec<u8>>,

@@ -1,7 +1,7 @@
 //! How a command that is done ends.
 
 /// What a command that is done found: the exit statuses 0 to 3, in this order.
-#[derive(Clone, Copy, Debug, PartialEq, Eq)]
+#[derive(Clone, Copy)]
 pub enum Done {
     /// Nothing that speaks against the line.
     Good,

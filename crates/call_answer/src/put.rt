@@ -8,7 +8,7 @@ use base_store::{PutFailed, Sink, put_all};
 use model_line::Memory;
 
 /// Why the writing of a text stopped.
-#[derive(Clone, Copy, Debug, PartialEq, Eq)]
+#[derive(Clone, Copy)]
 pub enum WriteStop {
     /// The sink took no more.
     Sink,

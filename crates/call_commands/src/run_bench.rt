@@ -15,8 +15,8 @@ use cert_check::CheckFault;
 use cert_own::{
     a_certificate_grows_by_parts, answers_are_certified, what_is_certified_is_accepted,
 };
+use cert_part::cert_piece;
 use cert_text::{CERT_END, CERT_HEAD, a_certificate_is_its_parts};
-use judge_verdict::cert_piece;
 use model_line::{Line, Memory, Script};
 use net_compile::compile;
 use net_gates::Net;

@@ -8,7 +8,7 @@ use Rattle.model_logic.specs.Rule.{Broken, Unknown, rule_of}
 use Rattle.model_timing.specs.{Timing.TimingValues, Candidates.candidate}
 use Rattle.judge_verdict.specs.declared.verdict.ScriptVerdict.{ScriptVerdict}
 use Rattle.judge_verdict.specs.declared.verdict.Verdict.TheVariants.{Yes, No, Undecided}
-use Rattle.judge_verdict.specs.Piece.{IsPrintable}
+use Rattle.judge_verdict.specs.Printable.{IsPrintable}
 use Rattle.judge_verdict.specs.Verdicts.{AreKeys, AreVerdicts, IsRefutation}
 
 -- the key waves of the interval history over the declared intervals and the verdict of each

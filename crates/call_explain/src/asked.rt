@@ -4,7 +4,7 @@ use model_line::{Line, Script};
 use net_gates::Net;
 
 /// In which form a timing is told that explains a record.
-#[derive(Clone, Copy, Debug, PartialEq, Eq)]
+#[derive(Clone, Copy)]
 pub enum ExplainForm {
     /// A table with a record for each change.
     Changes,

@@ -5,7 +5,7 @@ use judge_match::SeenFault;
 use model_line::Memory;
 
 /// Why nothing is said of a record.
-#[derive(Clone, Copy, Debug, Drop, PartialEq, Eq)]
+#[derive(Clone, Copy, Drop)]
 pub enum ExplainStop {
     /// Memory ran out.
     Memory,

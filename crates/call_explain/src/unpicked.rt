@@ -1,7 +1,7 @@
 //! Why no record of a file is picked.
 
 /// Why no record of a file is picked.
-#[derive(Clone, Copy, Debug, PartialEq, Eq)]
+#[derive(Clone, Copy)]
 pub enum Unpicked {
     /// There are several records, and no script is named.
     Several,

@@ -1,7 +1,7 @@
 //! What a map is asked for.
 
 /// As a drawing (SVG), or as records (CSV).
-#[derive(Clone, Copy, PartialEq, Eq, Debug)]
+#[derive(Clone, Copy)]
 pub enum MapForm {
     Drawing,
     Records,

@@ -18,14 +18,14 @@ use judge_map::MapFault;
 use model_line::{Memory, Name};
 
 /// The axis of the columns, or that of the rows.
-#[derive(Clone, Copy, PartialEq, Eq, Debug)]
+#[derive(Clone, Copy)]
 pub enum Side {
     X,
     Y,
 }
 
 /// Why there is no such map: the first fault, in the order of the words, then of both axes together.
-#[derive(Clone, Copy, PartialEq, Eq, Debug)]
+#[derive(Clone, Copy)]
 pub enum MapDenial {
     /// The words of an axis are refused.
     Words(Side, AxisFault),
@@ -36,7 +36,7 @@ pub enum MapDenial {
 }
 
 /// Why nothing is said.
-#[derive(Clone, Copy, PartialEq, Eq, Debug)]
+#[derive(Clone, Copy)]
 pub enum MapStop {
     /// There is no such map.
     Denied(MapDenial),

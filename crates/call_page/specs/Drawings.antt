@@ -10,7 +10,7 @@ use Rattle.model_logic.specs.Choice.{declared_box, pair_world_of}
 use Rattle.model_logic.specs.{PairMean.pair_mean, Rule.rule_of}
 use Rattle.model_timing.specs.{Choice.timing_choice, NamedValues.NamedValues}
 use Rattle.net_gates.specs.{Formulas.formula_of, NetOf.IsNetOf, NetOf.NetOf}
-use Rattle.run_simulator.specs.{GatePairs.GateSignals, Runs.IsTheHistory}
+use Rattle.run_step.specs.{GatePairs.GateSignals, Runs.IsTheHistory}
 use Rattle.judge_interval.specs.Rules.{rule_named}
 use Rattle.draw_dump.specs.GateValues.{gate_levels}
 use Rattle.draw_diagram.specs.{declared.diagram.Diagram.Diagram, Diagrams.IsDiagramOf}

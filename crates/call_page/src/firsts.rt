@@ -4,7 +4,7 @@ ghost use Rattle.std.specs.Prelude.{◌≡◌, ◌<◌, ◌*◌, ◌+◌, Some, 
 ghost use Rattle.model_line.specs.Parameters.{terminal_count};
 ghost use Rattle.model_line.specs.declared.script.Script.{Script};
 ghost use Rattle.model_logic.specs.Choice.{declared_box};
-ghost use Rattle.run_simulator.specs.Runs.{IsTheHistory};
+ghost use Rattle.run_step.specs.Runs.{IsTheHistory};
 ghost use Rattle.judge_interval.specs.PairWavesOf.{pair_history};
 ghost use Rattle.judge_verdict.specs.OneEach.{OneEach};
 ghost use Rattle.call_tables.specs.Rows.{IsAnyStudy};

@@ -11,7 +11,7 @@ use judge_match::SeenFault;
 use model_line::Name;
 
 /// Why a file, or the parameter that the words name, is refused.
-#[derive(Clone, Copy, Debug, PartialEq, Eq)]
+#[derive(Clone, Copy)]
 pub enum Refusal {
     /// It is longer than its limit.
     TooLong(File),

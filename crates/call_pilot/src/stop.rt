@@ -34,7 +34,7 @@ pub enum Status {
 }
 
 /// A file of the command.
-#[derive(Clone, Copy, Debug, PartialEq, Eq)]
+#[derive(Clone, Copy)]
 pub enum File {
     Line,
     Scripts,
@@ -47,7 +47,7 @@ pub enum File {
 }
 
 /// Why a call stopped, as its line to standard error says it.
-#[derive(Clone, Copy, Debug, PartialEq, Eq)]
+#[derive(Clone, Copy)]
 pub enum Stop {
     /// The words are no command.
     Usage,

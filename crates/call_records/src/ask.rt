@@ -9,7 +9,7 @@ pub struct Ask<'a> {
 }
 
 /// What is made of the records.
-#[derive(Clone, Copy, Debug, PartialEq, Eq)]
+#[derive(Clone, Copy)]
 pub enum Work {
     /// A scripts file with the one script of what the terminals saw.
     Scripts,

@@ -11,7 +11,7 @@ use model_line::Memory;
 use std::alloc::{AllocError, AllocFailed};
 
 /// A file that is read.
-#[derive(Debug, Drop)]
+#[derive(Drop)]
 pub enum File {
     Line,
     Map,
@@ -20,7 +20,7 @@ pub enum File {
 }
 
 /// Why it is not done.
-#[derive(Debug, Drop)]
+#[derive(Drop)]
 pub enum Halt {
     /// A file is too long, or says something that is refused: the line that tells it,
     /// `refused record: FILE: WHAT`.

@@ -14,10 +14,10 @@ use Rattle.call_tables.specs.{Margins.margins_answer, Recheck.recheck_answer}
 use Rattle.call_tables.specs.Settled.{settle_answer}
 use Rattle.call_verdicts.specs.{Faults.faults_answer, Verdicts.verdicts_answer}
 use Rattle.call_study.specs.{Linted.lint_answer, Settled.failing_answer, Settled.trees_answer}
-use Rattle.call_study.specs.declared.ask.Table.TheVariants as table
+use Rattle.call_ask.specs.declared.ask.Table.TheVariants as table
 use Rattle.call_pilot.specs.{Files.contents, declared.stop.File.File}
 use Rattle.call_study.specs.{Halts.End, declared.halt.Halt.Halt}
-use Rattle.call_study.specs.declared.ask.Form.TheVariants as form
+use Rattle.call_ask.specs.declared.ask.Form.TheVariants as form
 use Rattle.call_study.specs.Pictures.{IsBandsText, IsDataText, IsDumpText, IsRunText}
 use Rattle.call_study.specs.Reading as reading
 use Rattle.call_study.specs.Reading.{Reading, Wanted, over_files}

@@ -10,7 +10,7 @@ use Rattle.model_logic.specs.Histories.{IsSamePairHistory}
 use Rattle.model_logic.specs.Choice.{declared_box, pair_world_of}
 use Rattle.model_logic.specs.{PairMean.pair_mean, Rule.rule_of}
 use Rattle.judge_interval.specs.Rules.{rule_named}
-use Rattle.run_simulator.specs.{GatePairs.GateSignals, Runs.IsTheHistory}
+use Rattle.run_step.specs.{GatePairs.GateSignals, Runs.IsTheHistory}
 use Rattle.model_timing.specs.{Choice.timing_choice}
 use Rattle.model_timing.specs.NamedValues.{NamedValues}
 use Rattle.net_gates.specs.{Formulas.formula_of, NetOf.IsNetOf, NetOf.NetOf}

@@ -19,8 +19,9 @@ use Rattle.call_pilot.specs.Reading.{of_record, of_timings}
 use Rattle.call_pilot.specs.declared.stop.File.{File}
 use Rattle.call_pilot.specs.declared.refusal.Refusal.TheVariants as refusal
 use Rattle.call_pilot.specs.declared.stop.Stop.TheVariants as stop
-use Rattle.call_study.specs.{declared.ask.Form.Form, declared.ask.Table.Table, declared.halt.Halt.Halt}
-use Rattle.call_study.specs.declared.ask.Table.TheVariants as tables
+use Rattle.call_ask.specs.{declared.ask.Form.Form, declared.ask.Table.Table}
+use Rattle.call_study.specs.{declared.halt.Halt.Halt}
+use Rattle.call_ask.specs.declared.ask.Table.TheVariants as tables
 use Rattle.call_study.specs.declared.denial.Denial.{Denial}
 use Rattle.call_study.specs.declared.denial.Denial.TheVariants as denial
 use Rattle.call_study.specs.declared.halt.Halt.TheVariants as halt

@@ -6,10 +6,10 @@ use Rattle.call_pilot.specs.declared.stop.File.TheVariants as file
 use Rattle.draw_diagram.specs.declared.drawn.Rows.{Rows}
 use Rattle.call_explain.specs.declared.asked.ExplainForm.{ExplainForm}
 use Rattle.call_map.specs.declared.ask.MapForm.{MapForm}
-use Rattle.call_study.specs.declared.ask as asks
-use Rattle.call_study.specs.declared.ask.{Ask.Ask, Form.Form, Table.Table, Work.Work}
-use Rattle.call_study.specs.declared.ask.Source.TheVariants as source
-use Rattle.call_study.specs.declared.ask.Work.TheVariants as work
+use Rattle.call_ask.specs.declared.ask as asks
+use Rattle.call_ask.specs.declared.ask.{Ask.Ask, Form.Form, Table.Table, Work.Work}
+use Rattle.call_ask.specs.declared.ask.Source.TheVariants as source
+use Rattle.call_ask.specs.declared.ask.Work.TheVariants as work
 
 -- where a line and its scripts stand: in two files, or in one of a study; so too what these hold
 pub data Source : Type 0 where

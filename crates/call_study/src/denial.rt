@@ -18,7 +18,7 @@ use itoa::Buffer;
 use model_line::Name;
 
 /// Why there is nothing to be done over what the files say.
-#[derive(Clone, Copy, Debug)]
+#[derive(Clone, Copy)]
 pub enum Denial {
     /// The study file is refused.
     Study(StudyFault),

@@ -18,7 +18,7 @@ use file_timing::TimingFault;
 use model_line::Memory;
 
 /// Why it is not done: what stops `pilot` too, or what the files and the words alone deny.
-#[derive(Clone, Copy, Debug)]
+#[derive(Clone, Copy)]
 pub enum Halt {
     Stopped(Stop),
     Denied(Denial),

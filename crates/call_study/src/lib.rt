@@ -2,7 +2,6 @@
 //! further files the work takes: timing diagrams, value change dumps, and tables.
 #![tactic(auto)]
 
-mod ask;
 mod choose;
 mod denial;
 mod explain;
@@ -16,10 +15,6 @@ mod read;
 mod settled;
 mod top;
 
-pub use ask::{Ask, Form, Source, Table, Work};
-pub use call_explain::ExplainForm;
-pub use call_map::{MapAsk, MapForm};
 pub use denial::Denial;
-pub use draw_diagram::Rows;
 pub use halt::{Halt, status_of};
 pub use top::study;

@@ -15,7 +15,6 @@ ghost use Rattle.call_study.specs.Reading.{denied_of, recheck_of, table_of, timi
 ghost use Rattle.call_study.specs.Reading.{at_most as at_most_of};
 ghost use Rattle.call_answer.specs.Answers.{Says};
 
-use crate::ask::{Form, Table};
 use crate::choose::{choose_script, choose_timing};
 use crate::denial::Denial;
 use crate::halt::Halt;
@@ -23,6 +22,7 @@ use crate::load::{Bytes, Loaded, load};
 use crate::pictures::{bands_text, dump_text, record_data, run_text};
 use crate::settled::{failing_said, trees_said};
 use call_answer::{Said, Study};
+use call_ask::{Form, Table};
 use call_tables::{margins_table, recheck_settled, settle_table};
 use call_verdicts::{Cases, faults_table, verdicts_table};
 use draw_diagram::Rows;

@@ -8,7 +8,6 @@ ghost use Rattle.call_study.specs.{Halts.IsDone, Halts.IsEarly, Loaded.source_in
 ghost use Rattle.call_study.specs.Reading.{over_further};
 ghost use Rattle.call_study.specs.Request.{files_beside, files_of, request_of};
 
-use crate::ask::{Ask, Source, Work};
 use crate::explain::{Explaining, explain};
 use crate::halt::{Halt, put_halt};
 use crate::linted::lint_said;
@@ -18,6 +17,7 @@ use crate::page::page;
 use crate::read::{bands, play, recheck, table, timings};
 use base_store::{Sink, Store, put_all};
 use call_answer::{Done, Said};
+use call_ask::{Ask, Source, Work};
 use call_pilot::{File, fetch_file};
 use std::alloc::Global;
 

@@ -1,7 +1,7 @@
 -- Lists with one element for each number, made one by one.
 use Rattle.std.proofs.Common.{◌≡◌, ℕ, ◌+◌, List, [], ◌∷◌, ◌++◌, length-append, sym, ◌∙◌, ap, subst}
 use Rattle.std.proofs.Common.{⊎_elim}
-use Rattle.run_simulator.specs.ListLaws.{at_push}
+use Rattle.run_step.specs.ListLaws.{at_push}
 use Rattle.judge_verdict.specs.OneEach.{OneEach}
 
 pub one_more : {X : Type 0} (said : ℕ → X → Type 0) (n : ℕ) (xs new : List X) (x : X)

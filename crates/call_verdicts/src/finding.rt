@@ -5,7 +5,7 @@ ghost use Rattle.model_line.specs.{declared.line.Line.Line, declared.script.Scri
 ghost use Rattle.model_line.specs.{Fits.Fits, Parameters.terminal_count};
 ghost use Rattle.model_logic.specs.Choice.{declared_box};
 ghost use Rattle.net_gates.specs.NetOf.{IsNetOf};
-ghost use Rattle.run_simulator.specs.Runs.{IsTheHistory};
+ghost use Rattle.run_step.specs.Runs.{IsTheHistory};
 ghost use Rattle.judge_interval.specs.PairWavesOf.{pair_history};
 ghost use Rattle.judge_verdict.specs.OneEach.{OneEach};
 ghost use Rattle.judge_settle.specs.Answers.{IsAnswer};

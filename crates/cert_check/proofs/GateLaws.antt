@@ -9,7 +9,7 @@ use Rattle.net_gates.specs.declared.gate.Gate.TheVariants.{Const, Seen, Loss, Ra
 use Rattle.net_gates.specs.declared.gate.Gate.TheVariants.{Timer, Seal}
 use Rattle.net_gates.specs.Formulas.{formula_of}
 use Rattle.net_gates.specs.{declared.gate.Gate.Gate, Laws.AreGates, Laws.HasArguments}
-use Rattle.run_simulator.specs.GatePairs.{GateSignals, GatesHaveTheirKind, gate_pairs, kind_pair}
+use Rattle.run_step.specs.GatePairs.{GateSignals, GatesHaveTheirKind, gate_pairs, kind_pair}
 use Rattle.run_waves.specs.Waves.{IsWaveOf}
 use Rattle.cert_check.specs.Claims.{pairs_of}
 

@@ -7,7 +7,7 @@ use model_line::Memory;
 use run_signal::Tern;
 
 /// Where a claimed key does not cover what follows from the claims, and both values there.
-#[derive(Clone, Copy, PartialEq, Eq, Debug)]
+#[derive(Clone, Copy)]
 pub struct Uncovered {
     pub terminal: u32,
     pub tick: u32,
@@ -16,7 +16,7 @@ pub struct Uncovered {
 }
 
 /// What is wrong with the claims of a script.
-#[derive(Clone, Copy, PartialEq, Eq, Debug)]
+#[derive(Clone, Copy)]
 pub enum ClaimFault {
     /// A claimed key does not cover what follows from the claims.
     NotCovered(Uncovered),

@@ -8,7 +8,7 @@ ghost use Rattle.cert_check.specs.Counts.{AreCounts, Adds, all_verdicts};
 use cert_text::{Claim, ScriptClaims};
 
 /// How many obligations are claimed to be met, to fail, and neither.
-#[derive(Clone, Copy, PartialEq, Eq, Debug)]
+#[derive(Clone, Copy)]
 pub struct Counts {
     pub yes: u32,
     pub no: u32,

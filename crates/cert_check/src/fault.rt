@@ -9,7 +9,7 @@ use run_signal::Tern;
 
 /// The first fault of a certificate: of its text, else of the first script whose claims are not
 /// acceptable. Scripts and terminals are told by their places.
-#[derive(Clone, Copy, PartialEq, Eq, Debug)]
+#[derive(Clone, Copy)]
 pub enum CheckFault {
     /// The first line, counted from 1, that leaves the grammar.
     Line(u32),

@@ -10,7 +10,7 @@ use crate::gate::gate_wave;
 use model_history::rails_laws::rails_read_the_past;
 use model_line::{Line, Memory, Script};
 use net_gates::{GateId, Net};
-use run_simulator::laws::gates_have_their_kind;
+use run_step::laws::gates_have_their_kind;
 use run_waves::Runs;
 use std::alloc::Global;
 

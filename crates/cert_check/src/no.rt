@@ -13,7 +13,7 @@ use net_gates::Net;
 use std::alloc::Global;
 
 /// Why numbers do not refute an obligation.
-#[derive(Clone, Copy, PartialEq, Eq, Debug)]
+#[derive(Clone, Copy)]
 pub enum NoFault {
     /// The first parameter whose number is outside its interval, and that number.
     Outside { param: u32, value: u32 },

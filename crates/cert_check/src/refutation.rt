@@ -5,7 +5,7 @@ ghost use Rattle.model_line.specs.{Parameters.terminal_count, Fits.Fits};
 ghost use Rattle.model_logic.specs.Histories.{MeetsBy};
 ghost use Rattle.net_gates.specs.NetOf.{IsNetOf};
 ghost use Rattle.model_timing.specs.Inside.{IsTimingInside};
-ghost use Rattle.run_simulator.specs.PlayedTracks.{is_on};
+ghost use Rattle.run_changes.specs.PlayedTracks.{is_on};
 ghost use Rattle.run_waves.specs.FirstTick.{IsFirstOn};
 ghost use Rattle.cert_check.specs.Refutations.{steady_timing, FailsAt, PassesAt, IsMetAt};
 
@@ -14,10 +14,10 @@ use model_line::{Kind, Line, Memory, Script};
 use model_logic::laws::each_choice_has_one_history;
 use model_timing::Step;
 use net_gates::Net;
+use run_changes::run_tracks;
 use run_channel::Track;
 use run_signal::{Level, Signal, Tick};
-use run_simulator::laws::a_timing_is_one_choice;
-use run_simulator::run_tracks;
+use run_step::laws::a_timing_is_one_choice;
 use std::alloc::Global;
 
 /// Whether the history at the numbers meets the obligation of a terminal, and the tick that shows

@@ -15,7 +15,8 @@ use Rattle.model_timing.specs.{Choice.timing_choice}
 use Rattle.cert_text.specs.Grammar.{Claims, HasOneEach, Verdict as Written, yes, no, undecided}
 use Rattle.judge_verdict.specs.declared.verdict.Verdict.{Verdict}
 use Rattle.judge_verdict.specs.declared.verdict.Verdict.TheVariants.{Yes, No, Undecided}
-use Rattle.judge_verdict.specs.{Piece.written_as, Verdicts.IsOpen, Verdicts.IsVerdict}
+use Rattle.cert_part.specs.Piece.{written_as}
+use Rattle.judge_verdict.specs.Verdicts.{IsOpen, IsVerdict}
 use Rattle.cert_check.specs.{Claims.pairs_of, Refutations.steady_timing, Verdicts.AreAccepted}
 use Rattle.cert_check.specs.Refutations.{IsRefutation}
 use Rattle.cert_own.specs.Certified.{IsCertified}

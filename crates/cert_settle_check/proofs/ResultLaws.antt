@@ -10,9 +10,10 @@ use Rattle.model_logic.specs.Choice.{LeastFromOne, declared_box}
 use Rattle.model_cases.specs.CaseTrees.{CaseTree, Yes, Undecided, Split, Case, are_yes}
 use Rattle.model_cases.specs.{Laws.SoundTreesMeet, Assumed.Agrees}
 use Rattle.judge_cases.specs.declared.node.CaseNode.{CaseNode}
-use Rattle.cert_settle_text.specs.Trees.{branch_count}
+use Rattle.judge_cases.specs.Trees.{branch_count}
 use Rattle.judge_cases.specs.Nodes.{preorder}
-use Rattle.cert_settle_text.specs.Grammar.{SettleResult, tree, fails, AreTree}
+use Rattle.cert_settle_text.specs.Grammar.{SettleResult, tree, fails}
+use Rattle.judge_cases.specs.Trees.{AreTree}
 use Rattle.cert_settle_check.specs.declared.fault.ResultFault.{ResultFault}
 use Rattle.cert_settle_check.specs.declared.fault.ResultFault.TheVariants as wrong
 use Rattle.cert_settle_check.specs.Results.{IsSupported, IsTold, IsTreeFault}

@@ -11,7 +11,7 @@ use Rattle.model_cases.specs.CaseTrees.{CaseTree, Yes, Undecided, Split, Case, C
 use Rattle.judge_cases.specs.{declared.view.View.View, Views.view_box}
 use Rattle.judge_cases.specs.declared.node.CaseNode.{CaseNode}
 use Rattle.judge_cases.specs.declared.node.CaseNode.TheVariants as node
-use Rattle.cert_settle_text.specs.Trees.{Branches}
+use Rattle.judge_cases.specs.Trees.{Branches}
 use Rattle.judge_cases.specs.Nodes.{preorder}
 use Rattle.cert_settle_check.specs.declared.fault.ResultFault.{ResultFault}
 use Rattle.cert_settle_check.specs.declared.fault.ResultFault.TheVariants as wrong

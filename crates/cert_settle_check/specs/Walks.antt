@@ -2,7 +2,7 @@
 use Rattle.std.specs.Prelude.{◌≡◌, ◌+◌, ◌++◌, ℕ, List, length, Some}
 use Rattle.model_line.specs.{declared.line.Line.Line, declared.script.Script.Script}
 use Rattle.model_cases.specs.CaseTrees.{CaseTree, CanSplit, HasCases}
-use Rattle.cert_settle_text.specs.Trees.{Branches}
+use Rattle.judge_cases.specs.Trees.{Branches}
 use Rattle.judge_cases.specs.{declared.node.CaseNode.CaseNode, Nodes.preorder}
 use Rattle.judge_cases.specs.declared.node.CaseNode.TheVariants as node
 use Rattle.judge_cases.specs.{declared.view.View.View, Views.Views, Views.view_box}

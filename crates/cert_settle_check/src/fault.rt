@@ -7,7 +7,7 @@ use cert_check::NoFault;
 use model_line::Memory;
 
 /// What is wrong with a script's result at a terminal.
-#[derive(Clone, Copy, PartialEq, Eq, Debug)]
+#[derive(Clone, Copy)]
 pub enum ResultFault {
     /// A `yes` of the tree that is not shown over the leaf's part of the box, under what is assumed
     /// there. Leaves are numbered from 0 in the order of the text, whatever they say.
@@ -30,7 +30,7 @@ impl From<Memory> for ResultFault {
 
 /// The first fault of a text of settled trees: of the text itself, else of the first script one of
 /// whose results does not stand. Scripts and terminals are told by their places.
-#[derive(Clone, Copy, PartialEq, Eq, Debug)]
+#[derive(Clone, Copy)]
 pub enum SettleFault {
     /// The first line, counted from 1, that leaves the grammar.
     Line(usize),

@@ -3,7 +3,8 @@
 ghost use Rattle.std.specs.Prelude.{◌<◌, map, IfOk, MatchResult};
 ghost use Rattle.model_line.specs.{Fits.Fits, Parameters.terminal_count};
 ghost use Rattle.net_gates.specs.NetOf.{IsNetOf};
-ghost use Rattle.cert_settle_text.specs.Grammar.{AreTree, IsSettleResult, HasOneEach};
+ghost use Rattle.judge_cases.specs.Trees.{AreTree};
+ghost use Rattle.cert_settle_text.specs.Grammar.{IsSettleResult, HasOneEach};
 ghost use Rattle.cert_settle_text.specs.Reading.{result_in};
 ghost use Rattle.cert_settle_check.specs.FirstLeaf.{IsTreeShown};
 ghost use Rattle.cert_settle_check.specs.Results.{IsSupported, IsTreeFault, IsFaultOf, AreSupported};

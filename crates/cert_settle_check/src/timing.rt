@@ -6,7 +6,7 @@ ghost use Rattle.model_line.specs.{Parameters.terminal_count, Parameters.param_c
 ghost use Rattle.model_logic.specs.Histories.{MeetsBy};
 ghost use Rattle.net_gates.specs.NetOf.{IsNetOf};
 ghost use Rattle.model_timing.specs.{Inside.IsTimingInside, Timing.TimingValues};
-ghost use Rattle.run_simulator.specs.PlayedTracks.{is_on};
+ghost use Rattle.run_changes.specs.PlayedTracks.{is_on};
 ghost use Rattle.run_waves.specs.FirstTick.{IsFirstOn};
 ghost use Rattle.cert_check.specs.Firsts.{IsFirstFailing};
 ghost use Rattle.cert_check.specs.Refutations.{IsMetAt, IsNumberIn};
@@ -21,10 +21,10 @@ use model_line::{Kind, Line, Memory, Script};
 use model_logic::laws::{each_choice_has_one_history, each_line_has_a_choice_inside};
 use model_timing::{Step, is_in, timings_inside_are_choices_inside};
 use net_gates::Net;
+use run_changes::run_tracks;
 use run_channel::Track;
 use run_signal::{Level, Signal, Tick};
-use run_simulator::laws::a_timing_is_one_choice;
-use run_simulator::run_tracks;
+use run_step::laws::a_timing_is_one_choice;
 use std::alloc::Global;
 
 /// What is wrong with the timing of a `no`. None where it refutes the obligation of the terminal.

@@ -8,7 +8,7 @@ ghost use Rattle.model_cases.specs.CaseTrees.{CaseTree};
 ghost use Rattle.net_gates.specs.NetOf.{IsNetOf};
 ghost use Rattle.judge_cases.specs.Views.{IsView};
 ghost use Rattle.judge_cases.specs.declared.node.CaseNode.{CaseNode};
-ghost use Rattle.cert_settle_text.specs.Trees.{Branches};
+ghost use Rattle.judge_cases.specs.Trees.{Branches};
 ghost use Rattle.judge_cases.specs.Nodes.{preorder};
 ghost use Rattle.cert_settle_check.specs.CaseParts.{CasePart, parts_below, IsShownOver};
 ghost use Rattle.cert_settle_check.specs.Walks.{BeginWithTree, IsWalked, IsWalkFault, IsLeafFault};
@@ -22,7 +22,7 @@ use net_gates::Net;
 use std::alloc::Global;
 
 /// How many nodes and how many leaves of a tree a walk has passed.
-#[derive(Clone, Copy, PartialEq, Eq, Debug)]
+#[derive(Clone, Copy)]
 pub(crate) struct Passed {
     pub nodes: usize,
     pub leaves: u32,

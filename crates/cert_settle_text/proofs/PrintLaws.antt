@@ -13,10 +13,12 @@ use Rattle.model_cases.specs.CaseTrees.{CaseTree, Yes, Undecided, Split, Case, l
 use Rattle.model_cases.specs.CaseTrees.{upper_half}
 use Rattle.judge_cases.specs.declared.node.CaseNode.{CaseNode}
 use Rattle.judge_cases.specs.declared.node.CaseNode.TheVariants as node
-use Rattle.cert_settle_text.specs.{Known.Known, Trees.Branches}
+use Rattle.cert_settle_text.specs.Known.{Known}
+use Rattle.judge_cases.specs.Trees.{Branches}
 use Rattle.judge_cases.specs.Nodes.{preorder}
 use Rattle.cert_settle_text.specs.{declared.claim.TreeClaim.TreeClaim, Reading.result_in}
-use Rattle.cert_settle_text.specs.Grammar.{SettleResult, tree_text, AreTree}
+use Rattle.cert_settle_text.specs.Grammar.{SettleResult, tree_text}
+use Rattle.judge_cases.specs.Trees.{AreTree}
 use Rattle.cert_settle_text.specs.Text.{IsKnown, IsKnownStep, result_text, trees_text}
 
 -- the nodes of a tree that can be made in a box name parameters and terminals

@@ -23,10 +23,11 @@ use Rattle.cert_text.specs.Text.{fed}
 use Rattle.base_lines.specs.{Lines.Lines, Lines.is_one_line, NamedLaws.whole_append}
 use Rattle.judge_cases.specs.declared.node.CaseNode.{CaseNode}
 use Rattle.judge_cases.specs.declared.node.CaseNode.TheVariants as node
-use Rattle.cert_settle_text.specs.Trees.{height, branch_count, Branches}
+use Rattle.judge_cases.specs.Trees.{height, branch_count, Branches}
 use Rattle.judge_cases.specs.Nodes.{preorder}
 use Rattle.cert_settle_text.specs.Grammar.{SettleResult, tree, fails, IsSettleResult, HasOneEach}
-use Rattle.cert_settle_text.specs.Grammar.{deepest, most_branches, Root, whole_over, expected}
+use Rattle.judge_cases.specs.Trees.{deepest, most_branches}
+use Rattle.cert_settle_text.specs.Grammar.{Root, whole_over, expected}
 use Rattle.cert_settle_text.specs.Grammar.{Place, fixed, result_over, roots, after_step, Stands}
 use Rattle.cert_settle_text.specs.Grammar.{opens, Said, after_node, MayStand}
 use Rattle.cert_settle_text.specs.Grammar.{says_nothing, says_step, says_no, says_node, node_text}

@@ -1,5 +1,5 @@
 -- The text of settled trees: the lines that one of a line's scripts has, and what each can say.
-use Rattle.std.specs.Prelude.{◌≡◌, ◌≤◌, ◌<◌, ◌^◌, ◌++◌, ◌-◌, ℕ, List, [], ◌∷◌, length, map, codes}
+use Rattle.std.specs.Prelude.{◌≡◌, ◌<◌, ◌^◌, ◌++◌, ◌-◌, ℕ, List, [], ◌∷◌, length, map, codes}
 use Rattle.std.specs.Prelude.{decimal, refl, get_or, Option, None, Some, IsTrue}
 use Rattle.std.specs.List.{All, flat_map}
 use Rattle.model_line.specs.Parameters.{terminal_count, param_count}
@@ -9,16 +9,14 @@ use Rattle.model_names.specs.ParamNamesApart.{name_of_param}
 use Rattle.model_logic.specs.Choice.{Box, declared_box}
 use Rattle.model_timing.specs.{declared.step.Step.Step, Timing.comes_before, Timing.ascend}
 use Rattle.model_timing.specs.Inside.{IsStepInside}
-use Rattle.model_cases.specs.CaseTrees.{CaseTree, CanSplit, HasCases, lower_half}
-use Rattle.model_cases.specs.CaseTrees.{upper_half}
+use Rattle.model_cases.specs.CaseTrees.{CanSplit, HasCases, lower_half, upper_half}
 use Rattle.base_lines.specs.{Named.named, Grammar.Grammar, Grammar.IsFixed, Grammar.Parts}
 use Rattle.base_lines.specs.Grammar.{IsText, LeavesText}
 use Rattle.cert_text.specs.Grammar.{AreNumbers, no_words, script_text, end_text}
 use Rattle.cert_text.specs.Grammar.{terminal_names}
 use Rattle.judge_cases.specs.declared.node.CaseNode.{CaseNode}
 use Rattle.judge_cases.specs.declared.node.CaseNode.TheVariants as node
-use Rattle.cert_settle_text.specs.Trees.{height, branch_count, Branches}
-use Rattle.judge_cases.specs.Nodes.{preorder}
+use Rattle.judge_cases.specs.Trees.{AreTree, deepest, most_branches}
 
 -- ---- what the text says
 
@@ -27,23 +25,6 @@ use Rattle.judge_cases.specs.Nodes.{preorder}
 pub data SettleResult : Type 0 where
   tree : List CaseNode → SettleResult
   fails : List (Step ℕ) → List ℕ → SettleResult
-
--- at most so many splits and cases stand above one another, and so many are in a tree, which so has
--- at most 4,095 nodes
-abbrev pub deepest : ℕ
-deepest = 1024
-
-abbrev pub most_branches : ℕ
-most_branches = 2047
-
--- these are the nodes of a tree, of which each split and each pair of cases can be made in the
--- declared box
-pub record AreTree (line : Line) (nodes : List CaseNode) : Type 0 where
-  pub tree : CaseTree
-  pub are : nodes ≡ preorder tree
-  pub branches : Branches line (declared_box line) tree
-  pub low : height tree ≤ deepest
-  pub few : branch_count tree ≤ most_branches
 
 -- steps of delays that ascend, each within the run and inside its interval, and numbers
 pub record AreTiming (line : Line) (steps : List (Step ℕ)) (numbers : List ℕ) : Type 0 where

@@ -1,5 +1,4 @@
 pub mod Known
-pub mod Trees
 pub mod Grammar
 pub mod Text
 pub mod Reading

@@ -13,13 +13,14 @@ use Rattle.base_lines.specs.Lines.{Goes, BeginsWith}
 use Rattle.judge_cases.specs.declared.node.CaseNode.{CaseNode}
 use Rattle.cert_settle_text.specs.declared.claim.TreeClaim.{TreeClaim}
 use Rattle.cert_settle_text.specs.declared.claim.TreeClaim.TheVariants as claim
-use Rattle.cert_settle_text.specs.Trees.{height, branch_count, Branches}
+use Rattle.judge_cases.specs.Trees.{height, branch_count, Branches}
 use Rattle.judge_cases.specs.Nodes.{preorder}
 use Rattle.cert_settle_text.specs.Grammar.{SettleResult, tree, fails, Place, Said, says_node}
 use Rattle.cert_settle_text.specs.Grammar.{says_step, Stands, opens, Root, expected, after_node}
 use Rattle.cert_settle_text.specs.Grammar.{result_over, after_step, script_parts, head_text}
 use Rattle.cert_settle_text.specs.Grammar.{MayStand}
-use Rattle.cert_settle_text.specs.Grammar.{most_branches, whole_over, node_text}
+use Rattle.judge_cases.specs.Trees.{most_branches}
+use Rattle.cert_settle_text.specs.Grammar.{whole_over, node_text}
 use Rattle.cert_text.specs.Grammar.{end_text}
 
 -- a result as the reader answers it, and those of a script

@@ -22,7 +22,7 @@ use model_line::{Line, Name};
 use model_logic::is_terminal_weak;
 
 /// How many splits and cases may still stand above one another, and how many may still come.
-#[derive(Clone, Copy, PartialEq, Eq, Debug)]
+#[derive(Clone, Copy)]
 pub(crate) struct Limits {
     pub depth: u32,
     pub room: u32,

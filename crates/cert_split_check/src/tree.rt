@@ -19,7 +19,7 @@ use net_gates::laws::nets_do_not_rest_on_the_intervals;
 use std::alloc::Global;
 
 /// How many nodes and how many leaves of a tree a walk has passed.
-#[derive(Clone, Copy, PartialEq, Eq, Debug)]
+#[derive(Clone, Copy)]
 pub(crate) struct Passed {
     pub nodes: usize,
     pub leaves: u32,

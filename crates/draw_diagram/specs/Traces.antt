@@ -11,7 +11,7 @@ use Rattle.model_line.specs.{declared.script.Script.Script, Channels.to_of}
 use Rattle.model_logic.specs.Histories.{History, PairHistory}
 use Rattle.model_logic.specs.PairMean.{PairSignals}
 use Rattle.net_gates.specs.declared.gate.Gate.{Gate}
-use Rattle.run_simulator.specs.GatePairs.{GateSignals}
+use Rattle.run_step.specs.GatePairs.{GateSignals}
 use Rattle.draw_roles.specs.{declared.role.Role.Role, Lookup.gate_of}
 use Rattle.draw_roles.specs.Roles.{explains, roles_at}
 use Rattle.draw_diagram.specs.declared.trace.Trace.{Trace}

@@ -7,8 +7,8 @@ ghost use Rattle.model_logic.specs.Rule.{rule_of};
 ghost use Rattle.judge_interval.specs.{PairWavesOf.pair_history, Rules.rule_named};
 ghost use Rattle.model_history.specs.Rails.{both};
 ghost use Rattle.run_signal.specs.Terns.{tern_rails};
-ghost use Rattle.run_simulator.specs.{Played.is_on, Played.played, WavesOf.wave_pair};
-ghost use Rattle.run_simulator.specs.WavesOf.{waves_history};
+ghost use Rattle.run_step.specs.{Played.is_on, Played.played, WavesOf.wave_pair};
+ghost use Rattle.run_step.specs.WavesOf.{waves_history};
 ghost use Rattle.draw_diagram.specs.{Diagrams.IsDiagramOf, Traces.known_history};
 ghost use Rattle.draw_diagram.specs.Traces.{pairs_shown};
 
@@ -24,7 +24,7 @@ use model_line::{Line, Memory, Script};
 use model_timing::Step;
 use net_gates::Net;
 use run_signal::{Level, Tern, Tick};
-use run_simulator::Waves;
+use run_ticks::Waves;
 use std::alloc::Global;
 
 /// What a timing diagram shows. Trips are in line order, and so are the rules of the obligations,

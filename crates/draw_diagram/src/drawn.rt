@@ -11,7 +11,7 @@ use run_signal::Tern;
 /// Which rows a diagram draws: those that tell of something, or all. What the script shows tells
 /// where it is on at some tick, a gate of the logic where it changes or has a mark, a key and a trip
 /// always.
-#[derive(Clone, Copy, PartialEq, Eq, Debug)]
+#[derive(Clone, Copy)]
 pub enum Rows {
     Changing,
     All,

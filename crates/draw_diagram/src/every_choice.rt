@@ -4,8 +4,8 @@ ghost use Rattle.std.specs.Prelude.{◌≡◌, IfOk};
 ghost use Rattle.model_logic.specs.Choice.{declared_box};
 ghost use Rattle.net_gates.specs.NetOf.{IsNetOf};
 ghost use Rattle.run_signal.specs.Terns.{tern_rails};
-ghost use Rattle.run_simulator.specs.Runs.{AreWavesOf, HavePairs, IsTheHistory};
-ghost use Rattle.run_simulator.specs.WavesOf.{waves_history};
+ghost use Rattle.run_step.specs.Runs.{AreWavesOf, HavePairs, IsTheHistory};
+ghost use Rattle.run_step.specs.WavesOf.{waves_history};
 ghost use Rattle.judge_interval.specs.Spans.{declared_spans as spans_of};
 
 use model_line::{Line, Memory, Script};
@@ -13,7 +13,7 @@ use model_logic::laws::each_line_has_a_choice_inside;
 use model_timing::Step;
 use net_gates::Net;
 use run_signal::{Tern, Within};
-use run_simulator::{Waves, run};
+use run_ticks::{Waves, run};
 use std::alloc::Global;
 
 /// Runs the net of a line over a script, for all choices of delays in the declared intervals at

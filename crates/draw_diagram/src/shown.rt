@@ -2,14 +2,14 @@
 
 ghost use Rattle.std.specs.Prelude.{◌≡◌, ◌<◌, ℕ, length, min};
 ghost use Rattle.model_history.specs.Rails.{both};
-ghost use Rattle.run_simulator.specs.{Played.is_on, Played.played, WavesOf.wave_pair};
-ghost use Rattle.run_simulator.specs.WavesOf.{waves_history};
+ghost use Rattle.run_step.specs.{Played.is_on, Played.played, WavesOf.wave_pair};
+ghost use Rattle.run_step.specs.WavesOf.{waves_history};
 ghost use Rattle.run_signal.specs.{Levels.level_rails, Terns.tern_rails};
 ghost use Rattle.draw_diagram.specs.Traces.{ShownPairs, known_history, pairs_shown};
 
 use net_gates::GateId;
 use run_signal::{Level, Tern};
-use run_simulator::Waves;
+use run_ticks::Waves;
 
 /// Keys, trips and gates tick by tick: those of one play, or those of every choice of delays at once.
 pub trait Shown {

@@ -14,7 +14,7 @@ use std::alloc::Global;
 
 /// The ticks t with `from <= t < to`, at which a row is off, on, or open: off or on as the delays
 /// are.
-#[derive(Clone, Copy, PartialEq, Eq, Debug)]
+#[derive(Clone, Copy)]
 pub struct Stretch {
     pub from: u32,
     pub to: u32,

@@ -17,7 +17,7 @@ use std::alloc::Global;
 /// The first tick at which a terminal may trip, the first at which it must, and how many ticks
 /// lie between that and the deadline of an internal fault; below 0 where the trip is late. In one
 /// play it trips where it may.
-#[derive(Clone, Copy, PartialEq, Eq, Debug)]
+#[derive(Clone, Copy)]
 pub struct TripTimes {
     pub first_may: Option<u32>,
     pub first_must: Option<u32>,

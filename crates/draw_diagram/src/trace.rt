@@ -16,7 +16,7 @@ use std::alloc::Global;
 
 /// What a row is of: what a terminal sees; whether a channel is lost, by its number; a gate by its
 /// number, with its role; what a terminal keys; whether it trips.
-#[derive(Clone, Copy, PartialEq, Eq, Debug)]
+#[derive(Clone, Copy)]
 pub enum Trace {
     Seen(Place),
     Lost(u32),

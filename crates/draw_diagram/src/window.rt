@@ -9,7 +9,7 @@ use crate::rows::Row;
 use crate::stretch::Stretch;
 
 /// The ticks t with `first <= t <= last`.
-#[derive(Clone, Copy, PartialEq, Eq, Debug)]
+#[derive(Clone, Copy)]
 pub struct Window {
     pub first: u32,
     pub last: u32,

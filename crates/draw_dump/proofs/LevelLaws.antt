@@ -9,8 +9,8 @@ use Rattle.model_line.specs.{declared.line.Line.Line, declared.script.Script.Scr
 use Rattle.model_logic.specs.Choice.{Choice, Box, IsIn, IsWithin}
 use Rattle.model_logic.specs.Histories.{History, IsLineHistory}
 use Rattle.net_gates.specs.NetOf.{NetOf}
-use Rattle.run_simulator.specs.WavesOf.{WavesOf, pair_in, wave_value}
-use Rattle.run_simulator.specs.{Runs.CoverChoices, Runs.IsPoint, Played.is_on}
+use Rattle.run_step.specs.WavesOf.{WavesOf, pair_in, wave_value}
+use Rattle.run_step.specs.{Runs.CoverChoices, Runs.IsPoint, Played.is_on}
 use Rattle.draw_dump.specs.GateValues.{gate_levels}
 
 pub if_ok_more : {T E : Type 0} (r : Result T E) (P Q : T → Type 0) → ((x : T) → P x → Q x)

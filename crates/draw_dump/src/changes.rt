@@ -2,7 +2,7 @@
 
 ghost use Rattle.std.specs.Prelude.{◌≡◌, ◌<◌, ◌≤◌, ◌+◌, ◌-◌, ◌++◌, OnOk};
 ghost use Rattle.run_rows.specs.PlayRows.{each_below};
-ghost use Rattle.run_simulator.specs.Played.{is_on};
+ghost use Rattle.run_step.specs.Played.{is_on};
 ghost use Rattle.draw_dump.specs.Dump.{time_text, value_text, change_text, first_text};
 ghost use Rattle.draw_dump.specs.Dump.{next_text, timed_text, tick_text, changes_text};
 
@@ -12,7 +12,7 @@ use crate::variables::put_code;
 use model_line::Memory;
 use run_rows::level_word;
 use run_signal::Level;
-use run_simulator::Waves;
+use run_ticks::Waves;
 use std::alloc::Global;
 
 /// How large a run is: so many ticks of so many microseconds, and so many gates.

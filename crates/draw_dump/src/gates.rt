@@ -1,11 +1,11 @@
 //! The values of gates.
 
 ghost use Rattle.std.specs.Prelude.{◌≡◌, ◌<◌};
-ghost use Rattle.run_simulator.specs.Played.{is_on};
+ghost use Rattle.run_step.specs.Played.{is_on};
 
 use net_gates::GateId;
 use run_signal::{Level, Signal};
-use run_simulator::Waves;
+use run_ticks::Waves;
 
 /// Whether a gate is on at a tick.
 pub fn on_at(waves: &Waves<Level>, gate: u32, t: u32) -> bool

@@ -4,7 +4,7 @@ ghost use Rattle.std.specs.Prelude.{◌≡◌, ◌<◌, ℕ, length, IfOk};
 ghost use Rattle.model_logic.specs.Histories.{History, IsLineHistory, IsSameHistory};
 ghost use Rattle.net_gates.specs.NetOf.{IsNetOf};
 ghost use Rattle.model_timing.specs.{Inside.IsTimingInside, Choice.timing_choice};
-ghost use Rattle.run_simulator.specs.{Played.is_on, Played.played, Runs.AreWavesOf};
+ghost use Rattle.run_step.specs.{Played.is_on, Played.played, Runs.AreWavesOf};
 ghost use Rattle.draw_dump.specs.GateValues.{gate_levels};
 
 use model_line::{Line, Memory, Script};
@@ -12,8 +12,8 @@ use model_logic::laws::each_choice_has_one_history;
 use model_timing::NamedTiming;
 use net_gates::Net;
 use run_signal::Level;
-use run_simulator::laws::a_timing_is_one_choice;
-use run_simulator::{Waves, run};
+use run_step::laws::a_timing_is_one_choice;
+use run_ticks::{Waves, run};
 use std::alloc::Global;
 
 /// The run of a timing over a script.

@@ -4,7 +4,7 @@ ghost use Rattle.std.specs.Prelude.{◌≡◌, ◌++◌, IfOk, OnOk};
 ghost use Rattle.model_logic.specs.Histories.{History, IsLineHistory};
 ghost use Rattle.net_gates.specs.NetOf.{IsNetOf};
 ghost use Rattle.model_timing.specs.{Inside.IsTimingInside, Choice.timing_choice};
-ghost use Rattle.run_simulator.specs.{Played.is_on, Runs.AreWavesOf};
+ghost use Rattle.run_step.specs.{Played.is_on, Runs.AreWavesOf};
 ghost use Rattle.draw_dump.specs.{Dump.dump_text, GateValues.gate_levels};
 
 use crate::changes::{Extent, put_changes};
@@ -15,7 +15,7 @@ use model_line::{Line, Memory, Name, Script};
 use model_timing::NamedTiming;
 use net_gates::Net;
 use run_signal::Level;
-use run_simulator::Waves;
+use run_ticks::Waves;
 use std::alloc::Global;
 
 /// The value change dump of a timing and a script: every gate of the net at every tick, as the

@@ -8,7 +8,7 @@ use crate::words::number_words;
 use std::alloc::{AllocError, Global};
 
 /// The places of the page that a link may lead to: its sections, and each fault by its number.
-#[derive(Clone, Copy, PartialEq, Eq, Debug)]
+#[derive(Clone, Copy)]
 pub enum Anchor {
     Verdicts,
     Failing,

@@ -51,7 +51,7 @@ pub struct LeastMargin {
 }
 
 /// How an obligation stands.
-#[derive(Clone, Copy, PartialEq, Eq, Debug)]
+#[derive(Clone, Copy)]
 pub enum Standing {
     Held,
     Fails,
@@ -59,7 +59,7 @@ pub enum Standing {
 }
 
 /// By what an obligation was settled.
-#[derive(Clone, Copy, PartialEq, Eq, Debug)]
+#[derive(Clone, Copy)]
 pub enum Means {
     Rules,
     Candidate,

@@ -16,8 +16,7 @@ use crate::grid::{Grid, GridCell, Look};
 use crate::mark::{across, put_target, up_by};
 use crate::scale::Scale;
 use crate::spots::put_cell;
-use crate::words::put_words;
-use draw_shapes::{Class, Figure, put_rectangle};
+use draw_shapes::{Class, Figure, put_rectangle, put_words};
 use std::alloc::{AllocError, Global};
 
 /// What the legend may explain.

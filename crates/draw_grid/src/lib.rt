@@ -11,7 +11,6 @@ mod numbers;
 mod scale;
 mod spots;
 mod whole;
-mod words;
 
 pub use grid::{Grid, GridCell, Look, Ruler};
 pub use numbers::milliseconds;

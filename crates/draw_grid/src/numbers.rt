@@ -11,8 +11,7 @@ ghost use Rattle.draw_grid.specs.Numbers.{rows_said, time_below, time_beside};
 
 use crate::grid::Ruler;
 use crate::scale::{LEFT, Scale, along, last};
-use crate::words::put_words;
-use draw_shapes::{Class, Figure, put_line, put_text};
+use draw_shapes::{Class, Figure, put_line, put_text, put_words};
 use itoa::Buffer;
 use std::alloc::{AllocError, Global};
 

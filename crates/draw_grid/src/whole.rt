@@ -15,8 +15,7 @@ use crate::mark::put_mark;
 use crate::numbers::{put_columns, put_rows};
 use crate::scale::{Scale, scale_of};
 use crate::spots::put_cells;
-use crate::words::put_words;
-use draw_shapes::{Class, Drawing, Figure, Shape, put_rectangle};
+use draw_shapes::{Class, Drawing, Figure, Shape, put_rectangle, put_words};
 use std::alloc::{AllocError, Global};
 
 /// The drawing of a grid.

@@ -8,10 +8,9 @@ ghost use Rattle.draw_layout.specs.Words.{microseconds_of, milliseconds_said};
 ghost use Rattle.draw_shapes.specs.Seen.{figures_seen, text};
 ghost use Rattle.draw_diagram.specs.Traces.{each_of};
 
-use crate::put::put_word;
 use crate::scale::{RIGHT, Scale, label_step, x_of};
 use crate::words::Words;
-use draw_shapes::{Class, Figure, put_line, put_text};
+use draw_shapes::{Class, Figure, put_line, put_text, put_words};
 use model_line::{Line, Memory};
 use std::alloc::Global;
 
@@ -55,8 +54,8 @@ fn put_units(
 {
     let x = scale.left.saturating_sub(520);
     let (upper, lower) = (bottom.saturating_add(170), bottom.saturating_add(330));
-    put_word(alloc, figures, Class::End, (x, upper), b"tick")?;
-    put_word(alloc, figures, Class::QuietEnd, (x, lower), b"ms")
+    put_words(alloc, figures, Class::End, (x, upper), b"tick")?;
+    Ok(put_words(alloc, figures, Class::QuietEnd, (x, lower), b"ms")?)
 }
 
 // The ticks that are shown and round.

@@ -10,10 +10,9 @@ ghost use Rattle.draw_layout.specs.Words.{said};
 ghost use Rattle.draw_shapes.specs.Seen.{figures_seen};
 
 use crate::bar::{BARS, Bar, bar_of};
-use crate::put::put_word;
 use crate::words::Words;
 use draw_diagram::{Diagram, Row, Stretch, Trace, Window, has_marks, is_off};
-use draw_shapes::{Class, Figure, put_rectangle, put_text};
+use draw_shapes::{Class, Figure, put_rectangle, put_text, put_words};
 use model_line::{Line, Memory};
 use std::alloc::Global;
 
@@ -145,7 +144,7 @@ fn put_mark_entry(
 {
     let corner = (250, y.saturating_sub(130));
     put_rectangle(figures, Class::Step, corner, (20, 150))?;
-    put_word(alloc, figures, Class::Quiet, (450, y), what)
+    Ok(put_words(alloc, figures, Class::Quiet, (450, y), what)?)
 }
 
 // A bar and what it is.
@@ -163,7 +162,7 @@ fn put_entry(
 {
     put_rectangle(figures, class, (x, y.saturating_sub(110)), (240, 120))?;
     let at = (x.saturating_add(310), y);
-    put_word(alloc, figures, Class::Quiet, at, what)
+    Ok(put_words(alloc, figures, Class::Quiet, at, what)?)
 }
 
 // How long a tick is, and which ticks are shown.

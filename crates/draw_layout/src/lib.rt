@@ -10,7 +10,6 @@ mod laws;
 mod left;
 mod legend;
 mod mark;
-mod put;
 mod row;
 mod rows;
 mod scale;

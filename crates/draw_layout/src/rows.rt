@@ -6,12 +6,11 @@ ghost use Rattle.draw_layout.specs.Drawings.{height_below, name_drawn, beside, r
 ghost use Rattle.draw_layout.specs.Drawings.{rows_drawn, bottom_of};
 ghost use Rattle.draw_shapes.specs.Seen.{figures_seen, shapes_seen};
 
-use crate::put::put_word;
 use crate::row::drawn_row;
 use crate::scale::Scale;
 use crate::trip::put_trip;
 use draw_diagram::{Diagram, Row, Trace};
-use draw_shapes::{Class, Figure, Shape};
+use draw_shapes::{Class, Figure, Shape, put_words};
 use model_line::{Element, Line, Memory};
 use model_names::name_of_terminal;
 use std::alloc::Global;
@@ -143,13 +142,8 @@ fn put_name(
 {
     let room = if shown.is_drawn { 190 } else { 0 };
     let y = base.saturating_sub(room).saturating_sub(60);
-    put_word(
-        alloc,
-        figures,
-        Class::Terminal,
-        (140, y),
-        name_of_terminal(line, k),
-    )
+    let name = name_of_terminal(line, k);
+    Ok(put_words(alloc, figures, Class::Terminal, (140, y), name)?)
 }
 
 // How much lies from the row above to the base of a row: before a terminal's first row also its

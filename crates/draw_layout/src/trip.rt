@@ -8,11 +8,10 @@ ghost use Rattle.draw_layout.specs.Trips.{rule_class, rule_drawn, trip_drawn};
 ghost use Rattle.draw_layout.specs.Words.{said};
 ghost use Rattle.draw_shapes.specs.Seen.{figures_seen};
 
-use crate::put::put_word;
 use crate::scale::{RIGHT, Scale, x_of};
 use crate::words::Words;
 use draw_diagram::{Diagram, TripTimes};
-use draw_shapes::{Class, Figure, put_line, put_text};
+use draw_shapes::{Class, Figure, put_line, put_text, put_words};
 use judge_interval::Rule;
 use judge_report::rule_word;
 use model_line::{Line, Memory};
@@ -204,7 +203,8 @@ fn put_rule(
         return Ok(());
     };
     let at = (RULE, base.saturating_sub(10));
-    put_word(alloc, figures, rule_class(rule), at, rule_word(rule))
+    let (class, word) = (rule_class(rule), rule_word(rule));
+    Ok(put_words(alloc, figures, class, at, word)?)
 }
 
 fn rule_class(rule: Rule) -> Class

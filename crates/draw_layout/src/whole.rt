@@ -13,12 +13,11 @@ use crate::heading::heading_words;
 use crate::left::scale_of;
 use crate::legend::{LEGEND_HEIGHT, put_legend};
 use crate::mark::put_marks;
-use crate::put::put_word;
 use crate::rows::{TOP, bottom_of, put_rows};
 use crate::scale::Scale;
 use crate::subject::Subject;
 use draw_diagram::Diagram;
-use draw_shapes::{Class, Drawing, Figure, Shape, put_rectangle};
+use draw_shapes::{Class, Drawing, Figure, Shape, put_rectangle, put_words};
 use model_line::{Line, Memory, Script};
 use std::alloc::Global;
 
@@ -103,7 +102,7 @@ fn head(alloc: Global, heading: &[u8], height: u32) -> Result<Vec<Figure>, Memor
 {
     let mut figures = Vec::new(alloc);
     put_rectangle(&mut figures, Class::Paper, (0, 0), (10000, height))?;
-    put_word(alloc, &mut figures, Class::Heading, (140, 260), heading)?;
+    put_words(alloc, &mut figures, Class::Heading, (140, 260), heading)?;
     Ok(figures)
 }
 

@@ -5,7 +5,7 @@ ghost use Rattle.std.specs.Prelude.{◌≡◌};
 ghost use Rattle.draw_page.specs.Sheets.{part_words};
 
 /// The parts, in the order of the sheet; the looks of drawings stand before the last two.
-#[derive(Clone, Copy, PartialEq, Eq, Debug)]
+#[derive(Clone, Copy)]
 pub enum Part {
     Text,
     Tables,

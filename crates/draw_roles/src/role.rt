@@ -9,7 +9,7 @@ use model_line::Place;
 /// lost, what arrives over it, what is received over it, whether its window is open and whether it
 /// is locked out; of a terminal the guard against current reversal, the zone 2 that has waited for
 /// a blocking signal, the echo, the permission of all others, and the signal of any other.
-#[derive(Clone, Copy, PartialEq, Eq, Debug)]
+#[derive(Clone, Copy)]
 pub enum Role {
     Seen(Place),
     Timed(Place),

@@ -14,6 +14,6 @@ pub use class::{CLASSES, Class};
 pub use document::{shapes, svg, title};
 pub use figure::{Figure, Label, Rectangle, Stroke};
 pub use laws::each_class_is_listed;
-pub use pen::{put_line, put_rectangle, put_text};
+pub use pen::{put_line, put_rectangle, put_text, put_words};
 pub use shape::{Drawing, Shape};
 pub use style::{hatchings, put_rule};

@@ -5,7 +5,7 @@ ghost use Rattle.draw_shapes.specs.Seen.{rectangle, line, text, figures_seen};
 
 use crate::class::Class;
 use crate::figure::{Figure, Label, Rectangle, Stroke};
-use std::alloc::AllocError;
+use std::alloc::{AllocError, Global};
 
 /// Appends a rectangle: its upper left corner, and its width and height.
 pub fn put_rectangle(
@@ -67,4 +67,19 @@ pub fn put_text(
     let (x, y) = at;
     figures.push(Figure::Text(Label { class, x, y, words }))?;
     Ok(())
+}
+
+/// Appends a copy of words at a place.
+pub fn put_words(
+    alloc: Global,
+    figures: &mut Vec<Figure>,
+    class: Class,
+    at: (u32, u32),
+    words: &[u8],
+) -> Result<(), AllocError>
+    ensures { OnOk result (figures_seen figures.new.items
+        ≡ figures_seen figures.old.items ++ text class at.0 at.1 words.now ∷ []) }
+{
+    let copy = Vec::from_slice(alloc, words)?;
+    put_text(figures, class, at, copy)
 }

@@ -6,7 +6,7 @@ ghost use Rattle.file_axis.specs.Words.{part_words, time_words as words_for, wha
 use file_times::TimeFault;
 
 /// One of the three numbers of an axis.
-#[derive(Clone, Copy, PartialEq, Eq, Debug)]
+#[derive(Clone, Copy)]
 pub enum Part {
     First,
     Last,
@@ -14,7 +14,7 @@ pub enum Part {
 }
 
 /// The first fault of the words of an axis.
-#[derive(Clone, Copy, PartialEq, Eq, Debug)]
+#[derive(Clone, Copy)]
 pub enum AxisFault {
     /// There is no `=` behind the names.
     NoEquals,

@@ -12,7 +12,7 @@ use base_lines::find_byte;
 use model_line::Line;
 
 /// Numbers of ticks from the first to the last, step by step.
-#[derive(Clone, Copy, PartialEq, Eq, Debug)]
+#[derive(Clone, Copy)]
 pub struct Steps {
     pub first: u32,
     pub last: u32,

@@ -3,7 +3,7 @@
 use std::alloc::{AllocError, AllocFailed};
 
 /// Why a configuration is refused. Lines are counted from 1.
-#[derive(Clone, Copy, Debug)]
+#[derive(Clone, Copy)]
 pub enum ConfigFault {
     /// The line is missing.
     Absent(usize),
@@ -52,7 +52,7 @@ impl<T: Drop> From<AllocFailed<T>> for ConfigFault {
 }
 
 /// Why data are refused. Samples are counted from 1.
-#[derive(Clone, Copy, Debug)]
+#[derive(Clone, Copy)]
 pub enum DataFault {
     /// The sample is missing.
     Absent(usize),

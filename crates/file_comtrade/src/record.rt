@@ -15,7 +15,7 @@ pub struct Files<'a> {
 }
 
 /// Why a record has no levels at the ticks.
-#[derive(Clone, Copy, Debug)]
+#[derive(Clone, Copy)]
 pub enum RecordFault {
     Config(ConfigFault),
     /// No digital channel has the id.

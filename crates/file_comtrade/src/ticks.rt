@@ -20,7 +20,7 @@ pub struct Ticks {
 }
 
 /// Why the ticks have no samples.
-#[derive(Clone, Copy, Debug)]
+#[derive(Clone, Copy)]
 pub enum TickFault {
     /// The first tick with a sample, and the last, where there is one.
     Gap { from: u128, to: Option<u128> },

@@ -3,7 +3,7 @@ use Rattle.std.proofs.Common.{◌≡◌, ◌<◌, ℕ, List, Some, length, arith
 use Rattle.std.specs.Prelude.{slice_get}
 use Rattle.run_signal.specs.{declared.level.Level.Level}
 use Rattle.run_channel.specs.SentKeys.{SentKeys}
-use Rattle.run_simulator.specs.{Ticks.AreSent}
+use Rattle.run_step.specs.Ticks.{AreSent}
 
 -- each track has all ticks
 pub all_ticks : (n horizon t : ℕ) (tracks : List (SentKeys Level))

@@ -6,8 +6,8 @@ ghost use Rattle.model_logic.specs.Histories.{History, IsLineHistory};
 ghost use Rattle.model_timing.specs.{Choice.timing_choice, Inside.IsTimingInside};
 ghost use Rattle.net_gates.specs.NetOf.{IsNetOf};
 ghost use Rattle.run_rows.specs.PlayRows.{each_below};
-ghost use Rattle.run_simulator.specs.Ticks.{AreSent};
-ghost use Rattle.run_simulator.specs.PlayedTracks.{is_on, played};
+ghost use Rattle.run_step.specs.Ticks.{AreSent};
+ghost use Rattle.run_changes.specs.PlayedTracks.{is_on, played};
 ghost use Rattle.file_event.specs.Data.{all_seen, data_text as text_of_data, level_field};
 ghost use Rattle.file_event.specs.Data.{loss_field, sample_head, sample_text, seen_field, terminal_fields};
 
@@ -16,11 +16,11 @@ use itoa::Buffer;
 use model_line::{Element, Line, Memory, Place, Script, loss, seen};
 use model_timing::NamedTiming;
 use net_gates::Net;
+use run_changes::{Tracks, run_tracks};
 use run_channel::Track;
 use run_rows::level_word;
 use run_signal::{Level, Signal};
-use run_simulator::laws::a_timing_is_one_choice;
-use run_simulator::{Tracks, run_tracks};
+use run_step::laws::a_timing_is_one_choice;
 use std::alloc::Global;
 
 /// The data of the play of a timing under a script: a sample for each tick, with its stamp in

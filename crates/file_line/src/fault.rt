@@ -11,7 +11,7 @@ use std::error::Error;
 use std::fmt;
 
 /// The first fault of a line file, with its place, or want of memory.
-#[derive(Clone, Copy, PartialEq, Eq, Debug, Drop)]
+#[derive(Clone, Copy, Debug, Drop)]
 pub enum LineFault {
     /// The bytes are no TOML document.
     NotToml,

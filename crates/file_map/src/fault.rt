@@ -7,7 +7,7 @@ use crate::path::Path;
 use std::alloc::{AllocError, AllocFailed};
 
 /// The first fault of a map, with its place, or want of memory.
-#[derive(Clone, Copy, Debug, Drop)]
+#[derive(Clone, Copy, Drop)]
 pub enum MapFault {
     /// The bytes are no TOML document.
     NotToml,

@@ -9,7 +9,7 @@ use std::marker::Model;
 
 /// A place in a map, as `recorder[0].loss.east`: its first 160 bytes, each from 0x21 to 0x7E.
 /// The bytes of the array past the path's end are 0.
-#[derive(Clone, Copy, Debug)]
+#[derive(Clone, Copy)]
 pub struct Path {
     bytes: [u8; 160],
     len: u8,

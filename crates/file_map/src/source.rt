@@ -3,7 +3,7 @@
 use model_line::What;
 
 /// What a digital channel tells. Terminals go by their place in the line.
-#[derive(Clone, Copy, PartialEq, Eq, Debug)]
+#[derive(Clone, Copy, PartialEq, Eq)]
 pub enum Signal {
     /// An element is seen, or a channel is lost.
     Shown(What),

@@ -8,7 +8,7 @@ ghost use Rattle.file_mistakes.specs.Mistakes.{mistake_of as mistake_in};
 use crate::bytes::{first_line, has_byte};
 
 /// What is wrong with the whole file.
-#[derive(Clone, Copy, PartialEq, Eq, Debug, Drop)]
+#[derive(Clone, Copy, Drop)]
 pub enum Mistake {
     /// The text is UTF-16, as some editors save it.
     Utf16,
@@ -27,7 +27,7 @@ pub enum Mistake {
 }
 
 /// What the file has to be.
-#[derive(Clone, Copy, PartialEq, Eq, Debug, Drop)]
+#[derive(Clone, Copy, Drop)]
 pub enum Wanted {
     /// A TOML document: a line or a study.
     Document,

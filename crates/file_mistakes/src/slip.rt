@@ -7,7 +7,7 @@ ghost use Rattle.file_mistakes.specs.Slips.{HasDecimalComma, is_decimal_comma, i
 use crate::bytes::has_byte;
 
 /// What is wrong at one place.
-#[derive(Clone, Copy, PartialEq, Eq, Debug, Drop)]
+#[derive(Clone, Copy, Drop)]
 pub enum Slip {
     /// A record that begins as a comment does.
     Comment,

@@ -7,7 +7,7 @@ use base_records::is;
 use model_line::{Element, Kind};
 
 /// A head with its kind, an element that is seen, or a channel that is lost.
-#[derive(Clone, Copy, PartialEq, Eq)]
+#[derive(Clone, Copy)]
 pub enum Item {
     Head(Kind),
     Seen(Element),

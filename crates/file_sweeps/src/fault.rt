@@ -10,7 +10,7 @@ use std::fmt;
 
 /// Why a fault of a study comes to no scripts of its line. A place is that of a choice of its swept
 /// times, counted from 0; it is the first that has no script.
-#[derive(Clone, Copy, PartialEq, Eq, Debug, Drop)]
+#[derive(Clone, Copy, Debug, Drop)]
 pub enum SweepFault {
     /// More than 4,096 choices.
     TooMany,

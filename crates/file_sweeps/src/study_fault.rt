@@ -11,7 +11,7 @@ use std::fmt;
 
 /// Why the faults of a study come to no scripts. The first number is that of the fault in file
 /// order, counted from 0.
-#[derive(Clone, Copy, PartialEq, Eq, Debug, Drop)]
+#[derive(Clone, Copy, Debug, Drop)]
 pub enum StudySweepFault {
     /// The fault of that name has none.
     Refused(usize, Name, SweepFault),

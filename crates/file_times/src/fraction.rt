@@ -4,7 +4,7 @@ ghost use Rattle.std.specs.Prelude.{◌≡◌, ◌<◌, ◌*◌, ◌+◌, ◌^�
 ghost use Rattle.file_times.specs.Fractions.{times, plus, less, is_at_most, IsAtMost};
 
 /// So many of `over`, parted by `under`. It is a number where `under` is not 0.
-#[derive(Clone, Copy, PartialEq, Eq, Debug, Drop)]
+#[derive(Clone, Copy, PartialEq, Eq, Drop)]
 pub struct Fraction {
     pub over: u128,
     pub under: u128,

@@ -38,7 +38,7 @@ impl Fraction {
 }
 
 /// An interval in ticks.
-#[derive(Clone, Copy, PartialEq, Eq, Debug, Drop)]
+#[derive(Clone, Copy, Drop)]
 pub struct TickInterval {
     pub least: u128,
     pub greatest: u128,

@@ -9,7 +9,7 @@ ghost use Rattle.file_times.specs.Words.{word_of, sign_in};
 use base_lines::find_byte;
 
 /// What a word that is no number and no unit can be.
-#[derive(Clone, Copy, PartialEq, Eq, Debug, Drop)]
+#[derive(Clone, Copy, Drop)]
 pub enum Sign {
     /// There is no word: the text has ended.
     End,

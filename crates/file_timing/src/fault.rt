@@ -6,7 +6,7 @@ use std::error::Error;
 use std::fmt;
 
 /// Why a file of timings is refused. The number is that of the record; the header is record 1.
-#[derive(Clone, Copy, Debug, Drop, PartialEq, Eq)]
+#[derive(Clone, Copy, Debug, Drop)]
 pub enum TimingFault {
     /// The first record isn't `timing,parameter,value`.
     Header,

@@ -1,7 +1,7 @@
 //! What the parameter field of a record names.
 
 /// Nothing, a parameter by its number, or the step of a delay with its tick.
-#[derive(Clone, Copy, PartialEq, Eq)]
+#[derive(Clone, Copy)]
 pub enum Named {
     Nothing,
     Number(u32),

@@ -52,7 +52,7 @@ fn index_of(config: &Config, channel: &ChannelName) -> Result<u32, RecordFault>
 }
 
 /// What a channel says: its level at each tick, and what its samples are beside that.
-#[derive(Debug, Drop)]
+#[derive(Drop)]
 pub struct ChannelLevels {
     pub at_ticks: Vec<bool>,
     pub sampled: Sampled,

@@ -8,7 +8,7 @@ ghost use Rattle.file_tracks.specs.Sampled.{changes_from as changes_said, level_
 use file_comtrade::{Sample, Ticks};
 
 /// How far the samples of a channel reach, in nanoseconds, and how often its level changes.
-#[derive(Clone, Copy, Debug, PartialEq, Eq)]
+#[derive(Clone, Copy)]
 pub struct Sampled {
     /// From the first sample to tick 0.
     pub before: u64,

@@ -13,7 +13,7 @@ use file_map::Signal;
 use std::alloc::{AllocError, Global};
 
 /// The levels of a signal that a source tells, one for each tick, and what its samples are beside that.
-#[derive(Debug, Drop)]
+#[derive(Drop)]
 pub struct Track {
     pub signal: Signal,
     pub levels: Vec<bool>,
@@ -21,7 +21,7 @@ pub struct Track {
 }
 
 /// The place of the first source that cannot be read, and why.
-#[derive(Clone, Copy, Debug)]
+#[derive(Clone, Copy)]
 pub struct TrackFault {
     pub place: usize,
     pub why: RecordFault,

@@ -1,6 +1,6 @@
 //! Timings of a box that are tried before it is cut.
 
-ghost use Rattle.std.specs.Prelude.{◌<◌};
+ghost use Rattle.std.specs.Prelude.{◌<◌, IfSome};
 ghost use Rattle.model_line.specs.Parameters.{channel_count};
 
 use crate::bits::first;
@@ -16,7 +16,7 @@ use std::alloc::Global;
 
 /// How the delays of a candidate go: all least, all greatest; or each that is read on one rail
 /// leans to it, and the others to the rail that decides, to the other one, or not at all.
-#[derive(Clone, Copy, PartialEq, Eq)]
+#[derive(Clone, Copy)]
 enum Delays {
     Least,
     Greatest,
@@ -38,7 +38,7 @@ const DELAYS: [Delays; 5] = [
 pub const CANDIDATES: u32 = 20;
 
 /// How a delay goes in a candidate.
-#[derive(Clone, Copy, PartialEq, Eq)]
+#[derive(Clone, Copy)]
 enum Way {
     Fixed(u32),
     Leans { may: bool },
@@ -49,18 +49,32 @@ enum Way {
 /// in the middle, or at the least; the delays in five ways. The first that does not meet the
 /// obligation, as far as this looks.
 pub fn failing(alloc: Global, scene: &Scene, ends: &[Within]) -> Result<Option<Timing>, Memory> {
+    let outlook = look_at_candidates(alloc, scene, ends)?;
+    match first_failing(scene, &outlook) {
+        Some(lane) => Ok(Some(timing_of(alloc, scene, ends, &outlook, lane)?)),
+        None => Ok(None),
+    }
+}
+
+// Looks at all candidates, a lane for each.
+fn look_at_candidates(alloc: Global, scene: &Scene, ends: &[Within]) -> Result<Outlook64, Memory> {
     let mut views = Views64::new(alloc, scene.line, ends, first(CANDIDATES))?;
     for lane in 0..CANDIDATES {
         put_candidate(scene, ends, lane, &mut views);
     }
-    let outlook = look_ahead(alloc, scene, &views)?;
+    look_ahead(alloc, scene, &views)
+}
+
+// The first candidate that does not meet the obligation.
+fn first_failing(scene: &Scene, outlook: &Outlook64) -> Option<u32>
+    ensures { IfSome result (λ lane. lane < 64) }
+{
     for lane in 0..CANDIDATES {
         if !outlook.is_met(scene, lane) {
-            let timing = timing_of(alloc, scene, ends, &outlook, lane)?;
-            return Ok(Some(timing));
+            return Some(lane);
         }
     }
-    Ok(None)
+    None
 }
 
 // Puts a candidate into its lane.
@@ -89,6 +103,15 @@ fn timing_of(
 ) -> Result<Timing, Memory>
     requires { lane < 64 }
 {
+    let mut timing = Timing::new(values_of(alloc, scene, ends, lane)?);
+    push_channels(alloc, scene, ends, outlook, lane, &mut timing)?;
+    Ok(timing)
+}
+
+// The numbers of a candidate: a delay that moves begins at its least.
+fn values_of(alloc: Global, scene: &Scene, ends: &[Within], lane: u32) -> Result<Vec<Tick>, Memory>
+    requires { lane < 64 }
+{
     let mut values = Vec::new(alloc);
     for param in 0..scene.line.param_count() {
         values.push(tick(number_in(scene, ends, lane, param)))?;
@@ -102,19 +125,24 @@ fn timing_of(
             };
         }
     }
-    let mut timing = Timing::new(values);
+    Ok(values)
+}
+
+// Adds the steps of each channel's delay, if it moves.
+fn push_channels(
+    alloc: Global,
+    scene: &Scene,
+    ends: &[Within],
+    outlook: &Outlook64,
+    lane: u32,
+    timing: &mut Timing,
+) -> Result<(), Memory>
+    requires { lane < 64 }
+{
     for channel in 0..scene.line.channels.len() {
-        push_channel(
-            alloc,
-            scene,
-            ends,
-            outlook,
-            lane,
-            channel as u32,
-            &mut timing,
-        )?;
+        push_channel(alloc, scene, ends, outlook, lane, channel as u32, timing)?;
     }
-    Ok(timing)
+    Ok(())
 }
 
 // Adds the steps of a channel's delay, if it moves.

@@ -14,7 +14,7 @@ use std::alloc::Global;
 
 /// A cut of a view in two: up to `mid` of a parameter, and from `mid + 1` on; or a case, off and
 /// on.
-#[derive(Clone, Copy, PartialEq, Eq, Debug)]
+#[derive(Clone, Copy)]
 pub enum Cut {
     Split { param: u32, mid: u32 },
     Case(Case),
@@ -99,19 +99,36 @@ pub fn choose(
     score: Score,
     settling: bool,
 ) -> Result<Option<Chosen>, Memory> {
+    let outlooks = look_at_all(alloc, scene, ends, assumed, cuts)?;
+    let trials = trials_of(alloc, scene, cuts, &outlooks)?;
+    match best_of(&trials, score, settling) {
+        Some(place) => chosen_at(alloc, scene, cuts, &outlooks, place),
+        None => Ok(None),
+    }
+}
+
+// Looks at both sides of each cut, block by block.
+fn look_at_all(
+    alloc: Global,
+    scene: &Scene,
+    ends: &[Within],
+    assumed: &[Assumed],
+    cuts: &[Cut],
+) -> Result<Vec<Outlook64>, Memory> {
     let mut outlooks = Vec::new(alloc);
     for block in 0..cuts.len() / BLOCK + 1 {
         outlooks.push(look_at_block(alloc, scene, ends, assumed, cuts, block * BLOCK)?)?;
     }
-    let trials = trials_of(alloc, scene, cuts, &outlooks)?;
-    let mut best = best_settling(&trials, score);
+    Ok(outlooks)
+}
+
+// Which of them helps most.
+fn best_of(trials: &[Trial], score: Score, settling: bool) -> Option<usize> {
+    let best = best_settling(trials, score);
     if best.is_none() && !settling {
-        best = least_sum(&trials, score);
+        return least_sum(trials, score);
     }
-    match best {
-        Some(place) => chosen_at(alloc, scene, cuts, &outlooks, place),
-        None => Ok(None),
-    }
+    best
 }
 
 // The views of a block of cuts: two lanes for each.

@@ -19,10 +19,18 @@ impl Marks {
         Ok(Marks { words })
     }
 
-    /// The same ticks.
-    pub fn copied(&self, alloc: Global) -> Result<Marks, Memory> {
-        let words = Vec::from_slice(alloc, &self.words)?;
-        Ok(Marks { words })
+    /// No tick of a run of none.
+    pub fn none(alloc: Global) -> Marks {
+        Marks {
+            words: Vec::new(alloc),
+        }
+    }
+
+    /// The same ticks as another set, in place of its own.
+    pub fn copy(&mut self, other: &Marks) -> Result<(), Memory> {
+        self.words.clear();
+        self.words.extend_from_slice(&other.words)?;
+        Ok(())
     }
 
     /// Adds a tick, if it is one of the run.

@@ -14,7 +14,7 @@ use std::alloc::Global;
 /// How far a view is from meeting the obligation: for an external fault at how many ticks what sets
 /// the trip may be on; for an internal one by how many ticks the first that must trip is late. Then
 /// how many pairs that the trip rests on are not known.
-#[derive(Clone, Copy, PartialEq, Eq, PartialOrd, Ord, Debug)]
+#[derive(Clone, Copy, PartialEq, Eq, PartialOrd, Ord)]
 pub struct Score {
     pub trip: u32,
     pub unknown: u32,
@@ -62,14 +62,8 @@ pub struct Outlook64 {
 impl Outlook64 {
     /// Before the first tick.
     pub fn new(alloc: Global, scene: &Scene) -> Result<Outlook64, Memory> {
-        let mut wanted = Vec::new(alloc);
-        for _terminal in scene.wanted() {
-            wanted.push(Vec::new(alloc))?;
-        }
-        let mut keys = Vec::new(alloc);
-        for _terminal in scene.net.key_gates() {
-            keys.push(Vec::new(alloc))?;
-        }
+        let wanted = empty_lists(alloc, scene.wanted().len())?;
+        let keys = empty_lists(alloc, scene.net.key_gates().len())?;
         Ok(Outlook64 {
             first: [NEVER; 64],
             must: 0,
@@ -209,6 +203,15 @@ impl Outlook64 {
             None => Ok(Vec::new(alloc)),
         }
     }
+}
+
+// So many lists with nothing in them.
+fn empty_lists(alloc: Global, count: usize) -> Result<Vec<Vec<Since>>, Memory> {
+    let mut lists = Vec::new(alloc);
+    for _list in 0..count {
+        lists.push(Vec::new(alloc))?;
+    }
+    Ok(lists)
 }
 
 // The ends of the first stretches of a lane, through a run of so many ticks.

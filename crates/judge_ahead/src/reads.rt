@@ -6,7 +6,7 @@ use net_gates::{Gate, GateId, Net};
 use std::alloc::Global;
 
 /// The rails on which something is read.
-#[derive(Clone, Copy, PartialEq, Eq, Debug)]
+#[derive(Clone, Copy)]
 pub struct ReadOn {
     pub must: bool,
     pub may: bool,

@@ -74,41 +74,66 @@ pub struct Run64 {
 pub fn look_ahead(alloc: Global, scene: &Scene, views: &Views64) -> Result<Outlook64, Memory> {
     let mut run = Run64::new(alloc, scene, views)?;
     let mut outlook = Outlook64::new(alloc, scene)?;
+    run_through(scene, views, &mut run, &mut outlook)?;
+    outlook.exclude(run.excluded);
+    Ok(outlook)
+}
+
+// Takes a run through its ticks, and notes what it has at each.
+fn run_through(
+    scene: &Scene,
+    views: &Views64,
+    run: &mut Run64,
+    outlook: &mut Outlook64,
+) -> Result<(), Memory> {
     let horizon = scene.line.horizon;
     let mut t = 0;
     'stretches: while t < horizon {
         run.tick(scene, views, t);
         let next = run.marks.after(t, horizon);
-        outlook.note(scene, &run, t, next - t)?;
+        outlook.note(scene, run, t, next - t)?;
         t = next;
     }
-    outlook.exclude(run.excluded);
-    Ok(outlook)
+    Ok(())
 }
 
 impl Run64 {
     fn new(alloc: Global, scene: &Scene, views: &Views64) -> Result<Run64, Memory> {
-        let gates = scene.net.len() as usize;
-        let mut run = Run64 {
-            lanes: views.lanes(),
-            pairs: vec![in alloc; Pair64::OFF; gates]?,
-            stirred: vec![in alloc; true; gates]?,
+        let mut run = Run64::bare(alloc, views.lanes());
+        run.begin(alloc, scene, views)?;
+        Ok(run)
+    }
+
+    // A run of no gates.
+    fn bare(alloc: Global, lanes: u64) -> Run64 {
+        Run64 {
+            lanes,
+            pairs: Vec::new(alloc),
+            stirred: Vec::new(alloc),
             must_timers: Vec::new(alloc),
             may_timers: Vec::new(alloc),
             must_received: Vec::new(alloc),
             may_received: Vec::new(alloc),
-            arrived: vec![in alloc; Pair64::OFF; scene.line.channels.len()]?,
+            arrived: Vec::new(alloc),
             turned: 0,
             unknown: Counter64::new(),
             excluded: 0,
-            marks: views.marks().copied(alloc)?,
-        };
-        run.add_timers(scene, views)?;
-        run.add_channels(alloc, views)?;
-        for turn in &scene.turns {
-            run.marks.put(turn.tick);
+            marks: Marks::none(alloc),
         }
-        Ok(run)
+    }
+
+    // Takes what there is before the first tick.
+    fn begin(&mut self, alloc: Global, scene: &Scene, views: &Views64) -> Result<(), Memory> {
+        let gates = scene.net.len() as usize;
+        self.pairs.resize(gates, Pair64::OFF)?;
+        self.stirred.resize(gates, true)?;
+        self.arrived.resize(scene.line.channels.len(), Pair64::OFF)?;
+        self.marks.copy(views.marks())?;
+        for turn in &scene.turns {
+            self.marks.put(turn.tick);
+        }
+        self.add_timers(scene, views)?;
+        self.add_channels(alloc, views)
     }
 
     fn add_timers(&mut self, scene: &Scene, views: &Views64) -> Result<(), Memory> {

@@ -35,28 +35,33 @@ impl Views64 {
     /// These intervals of a line's parameters in each of these lanes, its delays moving, nothing
     /// assumed.
     pub fn new(alloc: Global, line: &Line, ends: &[Within], lanes: u64) -> Result<Views64, Memory> {
-        let mut least = Vec::new(alloc);
-        let mut greatest = Vec::new(alloc);
-        for one in ends {
-            least.push([ticks(one.least()); 64])?;
-            greatest.push([ticks(one.greatest()); 64])?;
-        }
-        let mut windows = Vec::new(alloc);
-        for channel in 0..line.channels.len() {
-            let delay = ends_at(ends, line.delay_of(channel as u32));
-            windows.push(window(delay.least(), delay.greatest()))?;
-        }
-        Ok(Views64 {
-            least,
-            greatest,
-            windows,
+        let marks = Marks::new(alloc, line.horizon)?;
+        let mut views = Views64 {
+            least: Vec::new(alloc),
+            greatest: Vec::new(alloc),
+            windows: Vec::new(alloc),
             lanes,
             off: Vec::new(alloc),
             on: Vec::new(alloc),
-            marks: Marks::new(alloc, line.horizon)?,
+            marks,
             terminals: line.terminals.len(),
             horizon: line.horizon,
-        })
+        };
+        views.add(line, ends)?;
+        Ok(views)
+    }
+
+    // Adds the intervals of all parameters, and how each delay moves within its own.
+    fn add(&mut self, line: &Line, ends: &[Within]) -> Result<(), Memory> {
+        for one in ends {
+            self.least.push([ticks(one.least()); 64])?;
+            self.greatest.push([ticks(one.greatest()); 64])?;
+        }
+        for channel in 0..line.channels.len() {
+            let delay = ends_at(ends, line.delay_of(channel as u32));
+            self.windows.push(window(delay.least(), delay.greatest()))?;
+        }
+        Ok(())
     }
 
     /// Another interval for a parameter that is no delay, in one lane.

@@ -1,7 +1,7 @@
 -- Lists that grow by one.
 use Rattle.std.proofs.Common.{◌≡◌, ℕ, List, [], ◌∷◌, ◌++◌, Some, length, subst, sym, ◌∙◌, ⊎_elim}
 use Rattle.std.specs.Prelude.{slice_get}
-use Rattle.run_simulator.specs.ListLaws.{at_push}
+use Rattle.run_step.specs.ListLaws.{at_push}
 
 -- what is said of each element of a list, and of one that follows
 pub each_more : {X : Type 0} (said : ℕ → X → Type 0) (xs new : List X) (x : X) (n : ℕ)

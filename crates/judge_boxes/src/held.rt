@@ -20,9 +20,9 @@ use model_logic::interval_laws::the_rule_over_a_box;
 use model_logic::laws::line_laws;
 use model_timing::Step;
 use net_gates::Net;
+use run_changes::run_tracks;
 use run_channel::Track;
 use run_signal::{Lanes64, Signal, Tick, Ticks64};
-use run_simulator::run_tracks;
 use std::alloc::Global;
 
 /// Whether the rule of a script at a terminal is held over the declared box of each of these lines,

@@ -2,7 +2,7 @@
 use Rattle.std.proofs.Common.{◌≡◌, ◌≢◌, ◌⊎◌, ℕ, zero, suc, List, [], ◌∷◌, ◌++◌, length}
 use Rattle.std.proofs.Common.{Some, refl, sym, ◌∙◌, ap, subst, arith, inl, inr, ⊎_elim}
 use Rattle.std.specs.Prelude.{slice_get, slice_set}
-use Rattle.run_simulator.specs.ListLaws.{at_push}
+use Rattle.run_step.specs.ListLaws.{at_push}
 
 module _ {X : Type 0} where
   -- an element of a list with one written

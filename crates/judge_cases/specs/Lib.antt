@@ -1,6 +1,7 @@
 pub mod AssumedAt
 pub mod Views
 pub mod Nodes
+pub mod Trees
 pub mod Rows
 pub mod Puts
 pub mod Spans

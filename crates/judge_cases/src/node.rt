@@ -3,7 +3,7 @@
 /// A node of a tree, which stands in preorder: in its part of the box, under what is assumed there,
 /// each history meets the obligation; nothing is shown; the part is split at `mid` of a parameter;
 /// or two cases are told apart, at a tick of a weak terminal.
-#[derive(Clone, Copy, PartialEq, Eq, Debug)]
+#[derive(Clone, Copy, PartialEq, Eq)]
 pub enum CaseNode {
     Yes,
     Undecided,

@@ -12,14 +12,14 @@ use model_line::Kind;
 use run_signal::{Signal, Tern};
 
 /// What must be, or what may be.
-#[derive(Clone, Copy, PartialEq, Eq, Debug)]
+#[derive(Clone, Copy)]
 pub enum Rail {
     Must,
     May,
 }
 
 /// An end of an interval.
-#[derive(Clone, Copy, PartialEq, Eq, Debug)]
+#[derive(Clone, Copy)]
 pub enum End {
     Least,
     Greatest,

@@ -3,7 +3,7 @@
 ghost use Rattle.std.specs.Prelude.{◌≡◌, ◌≤◌, ◌<◌, ◌↔◌, length, IfOk, IsTrue};
 ghost use Rattle.model_logic.specs.Histories.{MeetsBy};
 ghost use Rattle.model_timing.specs.Inside.{IsTimingInside};
-ghost use Rattle.run_simulator.specs.PlayedTracks.{is_on};
+ghost use Rattle.run_changes.specs.PlayedTracks.{is_on};
 ghost use Rattle.judge_cut.specs.Obligations.{IsObligation, IsTold};
 ghost use Rattle.judge_cut.specs.Failing.{SomeTickIsOn};
 
@@ -12,10 +12,10 @@ use model_line::laws::deadlines_are_below_the_horizon;
 use model_line::{Kind, Memory, Script};
 use model_logic::laws::each_choice_has_one_history;
 use model_timing::Timing;
+use run_changes::run_tracks;
 use run_channel::Track;
 use run_signal::{Level, Signal};
-use run_simulator::laws::a_timing_is_one_choice;
-use run_simulator::run_tracks;
+use run_step::laws::a_timing_is_one_choice;
 use std::alloc::Global;
 
 /// Whether the history at a timing inside the declared intervals fails the obligation.

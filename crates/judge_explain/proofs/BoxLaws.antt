@@ -8,7 +8,7 @@ use Rattle.model_line.specs.Parameters.{delay_param, channel_count, param_count}
 use Rattle.std.proofs.Common.{subst, arith}
 use Rattle.model_logic.specs.{Boxes.box_of, Choice.Box}
 use Rattle.model_timing.specs.{declared.step.Step.Step, Timing.number_at}
-use Rattle.run_simulator.specs.LaneBox.{own_ends, ends_in, ends_at, lane_box}
+use Rattle.run_step.specs.LaneBox.{own_ends, ends_in, ends_at, lane_box}
 use Rattle.judge_explain.specs.Parts.{interval_of, part_box}
 
 abbrev pub whole_ends : Ends → ℕ → Ends

@@ -6,7 +6,7 @@ use Rattle.std.proofs.lemmas.List.{get_or_push, get_or_append_left}
 use Rattle.std.specs.Prelude.{slice_get, Result, Ok, Err, IfOk, OnOk}
 use Rattle.std.proofs.lemmas.Option.{slice_get-get_or}
 use Rattle.std.specs.List.{AllZip}
-use Rattle.run_simulator.specs.ListLaws.{at_push}
+use Rattle.run_step.specs.ListLaws.{at_push}
 use Rattle.judge_explain.specs.{Asked.AreLevels, Asked.level_in, Changes.changes, Changes.StaysAround}
 use Rattle.judge_explain.proofs.ChangeLaws.{changes_same}
 

@@ -22,7 +22,7 @@ use Rattle.model_logic.specs.Boxes.{box_of}
 use Rattle.model_logic.specs.Choice.{Box, IsIn, IsWithin, LeastFromOne}
 use Rattle.model_timing.specs.{declared.step.Step.Step, Timing.TimingValues, Timing.number_at}
 use Rattle.model_timing.specs.{Choice.timing_choice, Inside.IsTimingInside}
-use Rattle.run_simulator.specs.LaneBox.{own_ends, ends_in, lane_box}
+use Rattle.run_step.specs.LaneBox.{own_ends, ends_in, lane_box}
 use Rattle.judge_explain.specs.Explains.{IsSteadyInside}
 use Rattle.judge_explain.specs.Parts.{interval_of, part_box, declared_part, LiesIn, CanPart}
 use Rattle.judge_explain.specs.Parts.{lower_part, upper_part, part_with}

@@ -10,8 +10,8 @@ use Rattle.model_logic.specs.Histories.{History, IsSameHistory, IsLineHistory}
 use Rattle.model_timing.specs.Timing.{TimingValues}
 use Rattle.run_channel.specs.SentKeys.{SentKeys}
 use Rattle.run_signal.specs.declared.level.Level.{Level}
-use Rattle.run_simulator.specs.{PlayedTracks.is_on, PlayedTracks.is_shown, PlayedTracks.shown_is}
-use Rattle.run_simulator.specs.Ticks.{AreSent}
+use Rattle.run_changes.specs.{PlayedTracks.is_on, PlayedTracks.is_shown, PlayedTracks.shown_is}
+use Rattle.run_step.specs.Ticks.{AreSent}
 use Rattle.judge_explain.specs.Changes.{changes, AreNear, HaveSameChanges}
 use Rattle.judge_explain.specs.Explains.{Explains, IsNear, IsPlayed, AreNearEach, signal_of}
 use Rattle.judge_explain.specs.Answers.{paired, paired_signal, paired_terminal, paired_changes}

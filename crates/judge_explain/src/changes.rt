@@ -3,7 +3,7 @@
 ghost use Rattle.std.specs.Prelude.{◌≡◌, ◌≤◌, ◌<◌, ◌↔◌, ◌++◌, false, true, IsTrue, IfOk, OnOk};
 ghost use Rattle.std.specs.Prelude.{length};
 ghost use Rattle.std.specs.List.{AllZip};
-ghost use Rattle.run_simulator.specs.PlayedTracks.{is_on};
+ghost use Rattle.run_changes.specs.PlayedTracks.{is_on};
 ghost use Rattle.judge_explain.specs.Changes.{changes as changes_of, turns, AreNear};
 ghost use Rattle.judge_explain.specs.Asked.{level_in, AreLevels};
 ghost use Rattle.judge_explain.specs.Answers.{paired as paired_of};

@@ -8,7 +8,7 @@ ghost use Rattle.judge_explain.specs.Explains.{NoneExplains};
 ghost use Rattle.judge_explain.specs.Parts.{AreExcluded, PartTree, declared_part};
 
 use model_logic::laws::line_laws;
-use run_simulator::laws::a_timing_is_one_choice;
+use run_step::laws::a_timing_is_one_choice;
 
 /// A signal with the changes of another, each at most so many ticks away, has at a tick the level
 /// that the other keeps around it.

@@ -4,7 +4,8 @@ ghost use Rattle.std.specs.Prelude.{◌≡◌, ◌<◌, ℕ, Bool, Option, Some,
 ghost use Rattle.model_history.specs.Rails.{Covers, rails_at};
 ghost use Rattle.model_line.specs.Parameters.{terminal_count};
 ghost use Rattle.run_signal.specs.{Lanes.in_lane, Terns.tern_rails};
-ghost use Rattle.run_simulator.specs.{Tracks.tracks_history, Ticks.AreSent, Runs.IsTheHistory};
+ghost use Rattle.run_changes.specs.Tracks.{tracks_history};
+ghost use Rattle.run_step.specs.{Ticks.AreSent, Runs.IsTheHistory};
 ghost use Rattle.judge_explain.specs.Parts.{IsExcludedByRails, part_box};
 ghost use Rattle.judge_explain.specs.Asked.{AreRecorded, IsOut, IsOutAt, IsPart, IsQuestion};
 ghost use Rattle.judge_explain.specs.Asked.{recorded_of, tern_pairs};
@@ -13,9 +14,9 @@ use crate::question::Question;
 use crate::recorded::Recorded;
 use model_line::{Line, Memory};
 use model_timing::Step;
+use run_changes::{Tracks, run_tracks};
 use run_channel::Track;
 use run_signal::{Signal, Tern, Within};
-use run_simulator::{Tracks, run_tracks};
 use std::alloc::Global;
 
 /// Whether the interval rules over a part exclude the record.

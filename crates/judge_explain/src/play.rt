@@ -4,7 +4,8 @@ ghost use Rattle.std.specs.Prelude.{◌≡◌, ◌<◌, ◌↔◌, ◌++◌, ℕ
 ghost use Rattle.model_line.specs.Parameters.{terminal_count};
 ghost use Rattle.model_logic.specs.Histories.{History, IsLineHistory};
 ghost use Rattle.model_timing.specs.{Inside.IsTimingInside, Choice.timing_choice};
-ghost use Rattle.run_simulator.specs.{PlayedTracks.played, PlayedTracks.is_shown, Ticks.AreSent};
+ghost use Rattle.run_changes.specs.{PlayedTracks.played, PlayedTracks.is_shown};
+ghost use Rattle.run_step.specs.Ticks.{AreSent};
 ghost use Rattle.judge_explain.specs.Changes.{HaveSameChanges, changes as changes_of};
 ghost use Rattle.judge_explain.specs.Explains.{Explains, IsNear, IsPlayed, AreNearEach};
 ghost use Rattle.judge_explain.specs.Answers.{paired, paired_changes, paired_terminal};
@@ -17,10 +18,10 @@ use crate::recorded::Recorded;
 use model_line::{Line, Memory};
 use model_logic::laws::line_laws;
 use model_timing::Timing;
+use run_changes::{Tracks, run_tracks};
 use run_channel::Track;
 use run_signal::Level;
-use run_simulator::laws::a_timing_is_one_choice;
-use run_simulator::{Tracks, run_tracks};
+use run_step::laws::a_timing_is_one_choice;
 use std::alloc::Global;
 
 /// Whether a timing explains the record.

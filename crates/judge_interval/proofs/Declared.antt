@@ -12,8 +12,8 @@ use Rattle.model_line.specs.Parameters.{delay_param, declared_ends}
 use Rattle.model_line.specs.{declared.line.Line.Line, declared.line.Param.Param}
 use Rattle.model_logic.specs.Choice.{Box, LeastFromOne, declared_box}
 use Rattle.model_timing.specs.Timing.{number_at}
-use Rattle.run_simulator.specs.LaneBox.{ends_in, own_ends, ends_at, lane_box}
-use Rattle.run_simulator.specs.Runs.{AreDelayed}
+use Rattle.run_step.specs.LaneBox.{ends_in, own_ends, ends_at, lane_box}
+use Rattle.run_step.specs.Runs.{AreDelayed}
 use Rattle.judge_interval.specs.Spans.{declared_span, declared_spans}
 
 -- the ends of a span, which are its value

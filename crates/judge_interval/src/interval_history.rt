@@ -5,7 +5,7 @@ ghost use Rattle.model_line.specs.Parameters.{terminal_count};
 ghost use Rattle.model_logic.specs.Choice.{Choice, IsInside, declared_box};
 ghost use Rattle.model_logic.specs.Histories.{History, IsLineHistory, CoversHistory};
 ghost use Rattle.net_gates.specs.NetOf.{IsNetOf};
-ghost use Rattle.run_simulator.specs.Runs.{IsTheHistory};
+ghost use Rattle.run_step.specs.Runs.{IsTheHistory};
 ghost use Rattle.judge_interval.specs.PairWavesOf.{pair_history};
 
 use crate::pair_waves::PairWaves;
@@ -18,8 +18,8 @@ use model_logic::laws::{
 };
 use model_timing::Step;
 use net_gates::Net;
+use run_changes::run_tracks;
 use run_signal::{Tern, Within};
-use run_simulator::run_tracks;
 use std::alloc::Global;
 
 /// Runs the net of a line over a script, for all choices of delays in the declared intervals at

@@ -18,7 +18,7 @@ use run_waves::the_first_tick_is_the_least;
 
 /// What the interval rules say of an obligation, which is a script at a terminal: every choice of
 /// delays meets it, every choice fails it, or neither is known.
-#[derive(Clone, Copy, PartialEq, Eq, Debug)]
+#[derive(Clone, Copy, PartialEq, Eq)]
 pub enum Rule {
     Held,
     Broken,

@@ -8,7 +8,7 @@ use Rattle.model_line.specs.{declared.line.Line.Line, declared.script.Script.Scr
 use Rattle.model_line.specs.declared.script.Kind.{Kind}
 use Rattle.model_line.specs.Parameters.{terminal_count}
 use Rattle.model_logic.specs.{Choice.Box, Boxes.IsSameBox}
-use Rattle.run_simulator.specs.ListLaws.{exists_at}
+use Rattle.run_step.specs.ListLaws.{exists_at}
 use Rattle.judge_interval.specs.Rules.{rule_from}
 use Rattle.judge_interval.specs.RuleLaws.{rule_by_rails}
 use Rattle.judge_boxes.specs.Terns.{terns_rails}

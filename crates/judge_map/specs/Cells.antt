@@ -5,7 +5,7 @@ use Rattle.std.specs.List.{list_all, list_any}
 use Rattle.model_line.specs.{declared.line.Line.Line, declared.script.Script.Script}
 use Rattle.model_line.specs.Parameters.{terminal_count}
 use Rattle.model_logic.specs.{Choice.Box, Histories.PairHistory, Rule.rule_of}
-use Rattle.run_simulator.specs.Runs.{IsTheHistory}
+use Rattle.run_step.specs.Runs.{IsTheHistory}
 use Rattle.judge_interval.specs.{declared.rule.Rule.Rule, Rules.rule_named}
 use Rattle.judge_interval.specs.declared.rule.Rule.TheVariants as rule
 use Rattle.judge_map.specs.{declared.cell.Cell.Cell, declared.cell.Word.Word, declared.axis.Axes.Axes}

@@ -17,7 +17,7 @@ pub struct Cell {
 }
 
 /// A cell in a word: every rule is held, some rule is broken, or neither.
-#[derive(Clone, Copy, PartialEq, Eq, Debug)]
+#[derive(Clone, Copy)]
 pub enum Word {
     Held,
     Open,

@@ -16,7 +16,7 @@ use std::error::Error;
 use std::fmt;
 
 /// Why a map cannot be made.
-#[derive(Clone, Copy, PartialEq, Eq, Debug, Drop)]
+#[derive(Clone, Copy, Debug, Drop)]
 pub enum MapFault {
     /// The interval of this parameter would go beyond 4,000 ticks.
     Late(Name),

@@ -7,7 +7,7 @@ ghost use Rattle.model_line.specs.{Parameters.terminal_count, Parameters.param_c
 ghost use Rattle.model_logic.specs.{Choice.LeastFromOne};
 ghost use Rattle.net_gates.specs.NetOf.{IsNetOf};
 ghost use Rattle.run_channel.specs.SentKeys.{SentKeys};
-ghost use Rattle.run_simulator.specs.{Runs.AreDelayed, LaneBox.lane_box};
+ghost use Rattle.run_step.specs.{Runs.AreDelayed, LaneBox.lane_box};
 ghost use Rattle.judge_boxes.specs.Spans.{span_ends};
 ghost use Rattle.judge_interval.specs.Rules.{counted_ticks};
 ghost use Rattle.judge_map.specs.Axes.{AreAxes, CanMoveBoth, cell_count};
@@ -23,7 +23,7 @@ use judge_boxes::{Spans64, Terns64};
 use model_line::{Kind, Line, Memory, Script};
 use model_timing::Step;
 use net_gates::Net;
-use run_simulator::run_tracks;
+use run_changes::run_tracks;
 use std::alloc::Global;
 
 /// What the interval rules say of each obligation over each cell, column by column. One run of a

@@ -2,7 +2,7 @@
 use Rattle.std.proofs.Common.{◌≡◌, ◌≤◌, ◌+◌, ℕ, List, [], ◌∷◌, ◌++◌, Some, length, length-append}
 use Rattle.std.proofs.Common.{subst, sym, ap, ◌∙◌, ⊎_elim, arith}
 use Rattle.std.specs.Prelude.{slice_get}
-use Rattle.run_simulator.specs.ListLaws.{at_push}
+use Rattle.run_step.specs.ListLaws.{at_push}
 use Rattle.judge_margins.specs.Each.{OneForEach}
 
 module _ {X Y : Type 0} (said : ℕ → X → Y → Type 0) (xs : List X) where

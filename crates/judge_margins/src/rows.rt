@@ -3,7 +3,7 @@
 ghost use Rattle.std.specs.Prelude.{◌≡◌, ◌<◌, ℕ, IfOk, Some, [], length, slice_get};
 ghost use Rattle.run_signal.specs.Bits.{bit_on};
 ghost use Rattle.model_line.specs.{Parameters.terminal_count};
-ghost use Rattle.run_simulator.specs.{Runs.AreDelayed};
+ghost use Rattle.run_step.specs.Runs.{AreDelayed};
 ghost use Rattle.judge_boxes.specs.Spans.{span_ends};
 ghost use Rattle.judge_margin.specs.declared.upper_end.Lost.{Lost as LostOf};
 ghost use Rattle.judge_margins.specs.Asks.{AreAsks, AreRows, TellsOff};
@@ -18,8 +18,8 @@ use judge_boxes::{Spans64, Terns64};
 use judge_margin::Lost;
 use model_line::{Memory, Script};
 use model_timing::Step;
+use run_changes::run_tracks;
 use run_signal::{Lanes64, Signal};
-use run_simulator::run_tracks;
 use std::alloc::Global;
 
 /// A row for each of the obligations: the lanes in which it is held, over the boxes of the 64 asks

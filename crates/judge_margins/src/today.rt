@@ -5,7 +5,7 @@ ghost use Rattle.std.specs.List.{All};
 ghost use Rattle.model_line.specs.{Parameters.terminal_count, Fits.Fits};
 ghost use Rattle.model_logic.specs.{Choice.declared_box, Rule.rule_of, Rule.Held};
 ghost use Rattle.net_gates.specs.NetOf.{IsNetOf};
-ghost use Rattle.run_simulator.specs.Runs.{IsTheHistory};
+ghost use Rattle.run_step.specs.Runs.{IsTheHistory};
 ghost use Rattle.judge_interval.specs.PairWavesOf.{pair_history};
 ghost use Rattle.judge_margins.specs.Today.{AreToday, is_held as is_held_now};
 ghost use Rattle.judge_margins.specs.{Kept.AreKept, Kept.AreObligations};

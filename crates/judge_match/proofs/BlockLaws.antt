@@ -15,9 +15,9 @@ use Rattle.model_timing.specs.BlockLaws.{block_number, block_delay}
 use Rattle.model_timing.specs.{Timing.TimingValues, Timing.number_at, Choice.timing_choice}
 use Rattle.run_signal.specs.{Bits.bit_on, declared.level.Level.Level}
 use Rattle.run_channel.specs.SentKeys.{SentKeys}
-use Rattle.run_simulator.specs.LaneBox.{ends_in, lane_box}
-use Rattle.run_simulator.specs.{Runs.AreDelayed, Runs.IsPoint}
-use Rattle.run_simulator.specs.{Agreeing.IsOnlyHistory, PlayedTracks.played}
+use Rattle.run_step.specs.LaneBox.{ends_in, lane_box}
+use Rattle.run_step.specs.{Runs.AreDelayed, Runs.IsPoint}
+use Rattle.run_changes.specs.{Agreeing.IsOnlyHistory, PlayedTracks.played}
 use Rattle.judge_match.specs.{Candidates.TellGiving}
 use Rattle.judge_match.specs.{declared.seen.Seen.Seen, Seen.Gives, Seen.seen_history}
 

@@ -4,15 +4,16 @@ ghost use Rattle.std.specs.Prelude.{◌≡◌, ◌≤◌, length, IfOk};
 ghost use Rattle.model_line.specs.Parameters.{terminal_count};
 ghost use Rattle.model_logic.specs.Histories.{IsSameHistory};
 ghost use Rattle.run_waves.specs.Waves.{AreWaves};
-ghost use Rattle.run_simulator.specs.{PlayedTracks.played, Ticks.AreSent, Ticks.HasKeys};
+ghost use Rattle.run_changes.specs.PlayedTracks.{played};
+ghost use Rattle.run_step.specs.{Ticks.AreSent, Ticks.HasKeys};
 ghost use Rattle.judge_match.specs.Seen.{AreSeen, IsAsSeen, AreAsSeen, seen_history};
 
 use crate::seen::Seen;
 use cert_check::nth;
 use model_line::{Line, Memory};
+use run_changes::Tracks;
 use run_channel::Track;
 use run_signal::{Level, Signal};
-use run_simulator::Tracks;
 use run_waves::Runs;
 use std::alloc::Global;
 

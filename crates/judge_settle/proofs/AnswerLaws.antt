@@ -10,7 +10,7 @@ use Rattle.model_cases.specs.CaseTrees.{CaseTree, are_yes, AreSound}
 use Rattle.model_cases.specs.Laws.{SoundTreesMeet}
 use Rattle.model_polarity.specs.{Laws.EveryChoiceMeets, Schemes.IsOneRailedBy}
 use Rattle.judge_settle.specs.declared.grown.Grown.{Grown}
-use Rattle.cert_settle_text.specs.Grammar.{AreTree}
+use Rattle.judge_cases.specs.Trees.{AreTree}
 use Rattle.judge_settle.specs.Trees.{IsGrown, Size, size_of_text}
 use Rattle.judge_settle.proofs.TreeLaws.{branches_of}
 use Rattle.judge_settle.specs.Answers.{IsHeldTree, IsOpenTree}

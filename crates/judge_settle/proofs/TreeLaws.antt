@@ -15,7 +15,7 @@ use Rattle.judge_cases.specs.Views.{Views, IsView, view_box}
 use Rattle.judge_cases.specs.declared.node.CaseNode.{CaseNode}
 use Rattle.judge_cases.specs.declared.node.CaseNode.TheVariants as node
 use Rattle.judge_cases.specs.declared.view.View.{View}
-use Rattle.cert_settle_text.specs.Trees.{Branches}
+use Rattle.judge_cases.specs.Trees.{Branches}
 use Rattle.judge_settle.specs.declared.grown.Grown.{Grown}
 use Rattle.judge_settle.specs.declared.sides.Branch.{Branch}
 use Rattle.judge_settle.specs.Joined.{node_of, joined}

@@ -6,7 +6,7 @@ use Rattle.model_cases.specs.CaseTrees.{CaseTree, are_yes, AreSound}
 use Rattle.model_polarity.specs.{Laws.EveryChoiceMeets, Schemes.IsOneRailedBy}
 use Rattle.judge_cases.specs.Nodes.{preorder}
 use Rattle.judge_cases.specs.declared.node.CaseNode.{CaseNode}
-use Rattle.cert_settle_text.specs.Grammar.{AreTree}
+use Rattle.judge_cases.specs.Trees.{AreTree}
 use Rattle.judge_settle.specs.Trees.{IsFailing}
 use Rattle.judge_settle.specs.declared.answer.Answer.{Answer}
 use Rattle.judge_settle.specs.declared.answer.Answer.TheVariants.{Held, Fails, Open}

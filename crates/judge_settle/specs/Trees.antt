@@ -9,8 +9,7 @@ use Rattle.judge_corner.specs.Decided.{Fails as FailsAt}
 use Rattle.judge_cases.specs.Nodes.{preorder}
 use Rattle.judge_cases.specs.Views.{Views}
 use Rattle.judge_cases.specs.declared.view.View.{View}
-use Rattle.cert_settle_text.specs.{Trees.height, Trees.branch_count}
-use Rattle.cert_settle_text.specs.{Grammar.deepest, Grammar.most_branches}
+use Rattle.judge_cases.specs.Trees.{height, branch_count, deepest, most_branches}
 use Rattle.judge_settle.specs.declared.grown.Grown.{Grown}
 use Rattle.judge_settle.specs.declared.search.Found.{Found}
 use Rattle.judge_settle.specs.declared.search.Found.TheVariants as found

@@ -15,7 +15,7 @@ pub enum Answer {
 }
 
 /// By what an obligation was settled. It is told for the reader alone: no contract speaks of it.
-#[derive(Clone, Copy, PartialEq, Eq, Debug)]
+#[derive(Clone, Copy)]
 pub enum By {
     /// The interval rules over the declared box.
     Rules,

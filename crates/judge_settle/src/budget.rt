@@ -1,7 +1,7 @@
 //! What a search may still do.
 
 ghost use Rattle.std.specs.Prelude.{◌≡◌, ◌<◌, ◌-◌, IsFalse};
-ghost use Rattle.cert_settle_text.specs.Grammar.{most_branches};
+ghost use Rattle.judge_cases.specs.Trees.{most_branches};
 
 /// How many analyses of boxes and timings are made at most, and were made; how many splits and
 /// cases may still be made; and whether a split or a case was made.

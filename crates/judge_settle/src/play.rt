@@ -5,17 +5,17 @@ ghost use Rattle.model_line.specs.{Fits.Fits, Parameters.terminal_count};
 ghost use Rattle.model_logic.specs.Histories.{MeetsBy};
 ghost use Rattle.net_gates.specs.NetOf.{IsNetOf};
 ghost use Rattle.model_timing.specs.Inside.{IsTimingInside};
-ghost use Rattle.run_simulator.specs.PlayedTracks.{is_on};
+ghost use Rattle.run_changes.specs.PlayedTracks.{is_on};
 ghost use Rattle.judge_settle.specs.{Trees.IsFailing, Trips.SomeTickIsOn};
 
 use model_line::laws::deadlines_are_below_the_horizon;
 use model_line::{Kind, Line, Memory, Script};
 use model_timing::{Timing, inside};
 use net_gates::Net;
+use run_changes::run_tracks;
 use run_channel::Track;
 use run_signal::{Level, Signal};
-use run_simulator::laws::a_timing_is_one_choice;
-use run_simulator::run_tracks;
+use run_step::laws::a_timing_is_one_choice;
 use std::alloc::Global;
 
 /// Whether a timing is inside the declared intervals and its history fails the obligation of a

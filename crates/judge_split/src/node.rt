@@ -4,7 +4,7 @@ use model_timing::Timing;
 
 /// A node of a tree of splits: in its part of the box each choice of delays meets the obligation;
 /// nothing is shown; or the part is split, at `mid` of a parameter.
-#[derive(Clone, Copy, PartialEq, Eq, Debug)]
+#[derive(Clone, Copy)]
 pub enum Node {
     Yes,
     Undecided,

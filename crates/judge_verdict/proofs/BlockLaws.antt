@@ -9,8 +9,8 @@ use Rattle.model_timing.specs.Candidates.{candidate, candidate_count}
 use Rattle.model_timing.specs.Blocks.{candidate_in, AreBlockSpans}
 use Rattle.model_timing.specs.BlockLaws.{candidate_exists, in_span, block_number, block_delay}
 use Rattle.model_timing.specs.{Timing.number_at, Choice.timing_choice}
-use Rattle.run_simulator.specs.LaneBox.{ends_in, lane_box}
-use Rattle.run_simulator.specs.{Runs.AreDelayed, Runs.IsPoint}
+use Rattle.run_step.specs.LaneBox.{ends_in, lane_box}
+use Rattle.run_step.specs.{Runs.AreDelayed, Runs.IsPoint}
 
 -- the ends of a span in a lane
 abbrev pub lane_ends : List ℕ → ℕ → Ends

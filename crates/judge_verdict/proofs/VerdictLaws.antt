@@ -24,7 +24,8 @@ use Rattle.judge_verdict.specs.declared.standing.Standing.{Standing}
 use Rattle.judge_verdict.specs.declared.standing.Standing.TheVariants as standing
 use Rattle.judge_verdict.specs.Verdicts.{PassesAt, IsVerdict, AreVerdicts, AreKeys}
 use Rattle.judge_verdict.specs.Standings.{IsStanding, AllStand, IsOfLine, verdict_as}
-use Rattle.judge_verdict.specs.{OneEach.OneEach, Piece.IsWritten}
+use Rattle.judge_verdict.specs.OneEach.{OneEach}
+use Rattle.judge_verdict.specs.Printable.{IsWritten}
 
 -- an element of a mapped list is that of an element
 mapped : {A B : Type 0} (f : A → B) (xs : List A) (k : ℕ) (y : B) → slice_get (map f xs) k ≡ Some y

@@ -3,4 +3,4 @@ pub mod Verdicts
 pub mod VerdictLaws
 pub mod Candidates
 pub mod Standings
-pub mod Piece
+pub mod Printable

@@ -13,8 +13,8 @@ use model_timing::{
     Step, candidate_spans, candidates_are_inside, timings_inside_are_choices_inside,
 };
 use net_gates::Net;
+use run_changes::{Tracks, run_tracks_until};
 use run_signal::{Lanes64, Ticks64};
-use run_simulator::{Tracks, run_tracks_until};
 use std::alloc::Global;
 
 /// Runs the candidates of a block through the ticks that an obligation of the script looks at.

@@ -8,7 +8,7 @@ ghost use Rattle.model_logic.specs.Rule.{Broken, Unknown, rule_of};
 ghost use Rattle.model_line.specs.{Fits.Fits, Parameters.terminal_count};
 ghost use Rattle.net_gates.specs.NetOf.{IsNetOf};
 ghost use Rattle.model_timing.specs.{Timing.TimingValues, Candidates.candidate};
-ghost use Rattle.judge_verdict.specs.Piece.{IsPrintable};
+ghost use Rattle.judge_verdict.specs.Printable.{IsPrintable};
 ghost use Rattle.judge_verdict.specs.Verdicts.{AreKeys, AreVerdicts, IsRefutation};
 
 use crate::keys::key_waves;

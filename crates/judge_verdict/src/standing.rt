@@ -19,8 +19,8 @@ use model_line::laws::parameters_are_numbered;
 use model_line::{Line, Memory, Script};
 use model_timing::{candidate, candidate_count, candidate_in};
 use net_gates::Net;
+use run_changes::Tracks;
 use run_signal::Lanes64;
-use run_simulator::Tracks;
 use std::alloc::Global;
 
 /// The rule is held, a candidate fails, or none that was tried does.

@@ -10,7 +10,7 @@ use crate::line::{Channel, Line, Param, Scheme, Terminal};
 use crate::setting_places::{delay_index, param_count};
 
 /// The interval of a parameter: its least and greatest number of ticks.
-#[derive(Clone, Copy, PartialEq, Eq, Debug)]
+#[derive(Clone, Copy)]
 pub struct Bounds {
     pub least: u32,
     pub greatest: u32,

@@ -11,7 +11,7 @@ use crate::name::Name;
 /// The pilot schemes: permissive overreaching and underreaching transfer trip, directional
 /// comparison blocking and unblocking, direct transfer trip. IEEE C37.113 has the names of all, and
 /// the outlines of the first three; the other two are after practice alone.
-#[derive(Clone, Copy, PartialEq, Eq, Debug)]
+#[derive(Clone, Copy)]
 pub enum Scheme {
     Pott,
     Putt,
@@ -22,7 +22,7 @@ pub enum Scheme {
 
 /// An end of the line. A weak terminal echoes a permission and may trip on it; a guarded one
 /// holds back after a current reversal.
-#[derive(Clone, Copy, PartialEq, Eq, Debug)]
+#[derive(Clone, Copy)]
 pub struct Terminal {
     pub name: Name,
     pub weak: bool,
@@ -30,14 +30,14 @@ pub struct Terminal {
 }
 
 /// What carries the key of one terminal to another. Both are places in the list of terminals.
-#[derive(Clone, Copy, PartialEq, Eq, Debug)]
+#[derive(Clone, Copy)]
 pub struct Channel {
     pub from: u32,
     pub to: u32,
 }
 
 /// A parameter: any whole number of ticks from `least` to `greatest`.
-#[derive(Clone, Copy, PartialEq, Eq, Debug)]
+#[derive(Clone, Copy)]
 pub struct Param {
     pub name: Name,
     pub least: u32,
@@ -45,14 +45,14 @@ pub struct Param {
 }
 
 /// Whose a parameter is, by its place in the list of terminals or of channels.
-#[derive(Clone, Copy, PartialEq, Eq, Debug)]
+#[derive(Clone, Copy, PartialEq, Eq)]
 pub enum Owner {
     Terminal(u32),
     Channel(u32),
 }
 
 /// What a parameter sets. The first eight are the pickup and dropout of a terminal's elements.
-#[derive(Clone, Copy, PartialEq, Eq, Debug)]
+#[derive(Clone, Copy, PartialEq, Eq)]
 pub enum Setting {
     Z1Pickup,
     Z1Dropout,

@@ -6,7 +6,7 @@ ghost use Rattle.model_line.specs.Seen.{is_seen, is_lost, shows, loses};
 use crate::name::Name;
 
 /// What a terminal sees: zone 1 and zone 2, the reverse and the undervoltage element, current.
-#[derive(Clone, Copy, PartialEq, Eq, Hash, Debug)]
+#[derive(Clone, Copy, PartialEq, Eq, Hash)]
 pub enum Element {
     Z1,
     Z2,
@@ -16,21 +16,21 @@ pub enum Element {
 }
 
 /// An element at a terminal, by the terminal's place in the line.
-#[derive(Clone, Copy, PartialEq, Eq, Hash, Debug)]
+#[derive(Clone, Copy, PartialEq, Eq, Hash)]
 pub struct Place {
     pub element: Element,
     pub terminal: u32,
 }
 
 /// What a span is of: an element is seen, or a channel is lost, by its place in the line.
-#[derive(Clone, Copy, PartialEq, Eq, Debug)]
+#[derive(Clone, Copy, PartialEq, Eq)]
 pub enum What {
     Element(Place),
     Loss(u32),
 }
 
 /// A span of ticks: those t with `from <= t < to`.
-#[derive(Clone, Copy, PartialEq, Eq, Debug)]
+#[derive(Clone, Copy)]
 pub struct SeenSpan {
     pub what: What,
     pub from: u32,
@@ -38,7 +38,7 @@ pub struct SeenSpan {
 }
 
 /// Whether the fault is on the line, so that each terminal is to trip, or outside of it.
-#[derive(Clone, Copy, PartialEq, Eq, Debug)]
+#[derive(Clone, Copy, PartialEq, Eq)]
 pub enum Kind {
     Internal,
     External,

@@ -4,7 +4,7 @@ use model_line::Place;
 use model_logic::Time;
 
 /// The number of a gate in its net.
-#[derive(Clone, Copy, PartialEq, Eq, Hash, Debug)]
+#[derive(Clone, Copy, PartialEq, Eq, Hash)]
 pub struct GateId(pub u32);
 
 /// A gate: a kind, and the numbers of its arguments.

@@ -10,7 +10,7 @@ use Rattle.model_line.specs.Seen.{is_of_place, is_of_loss, shows, loses}
 use Rattle.model_line.specs.{declared.script.SeenSpan.SeenSpan, declared.line.Line.Line}
 use Rattle.model_line.specs.declared.script.Script.{Script}
 use Rattle.model_logic.specs.Choice.{LeastFromOne, pair_world_of}
-use Rattle.run_simulator.specs.LaneBox.{ends_in}
+use Rattle.run_step.specs.LaneBox.{ends_in}
 use Rattle.run_cases.specs.Given.{AreDelays, CanReceive, IsWorldAt, holds, span_box, spans_at}
 use Rattle.run_cases.specs.declared.delays.Delay.{Delay}
 

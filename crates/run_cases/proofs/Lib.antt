@@ -1,4 +1,3 @@
-mod TickLaws
 mod WalkLaws
 mod ValueLaws
 mod MaskLaws

@@ -10,7 +10,7 @@ use Rattle.net_gates.specs.declared.gate.Gate.TheVariants.{Const, Seen, Loss, Ra
 use Rattle.net_gates.specs.declared.gate.Gate.TheVariants.{Timer, Seal}
 use Rattle.net_gates.specs.Laws.{AreGates}
 use Rattle.net_gates.specs.{declared.gate.Gate.Gate, Formulas.formula_of, Formulas.kind_over}
-use Rattle.run_simulator.specs.GatePairs.{kind_pair}
+use Rattle.run_step.specs.GatePairs.{kind_pair}
 use Rattle.run_cases.specs.{Masks.AreOfTimers, Ticks.under_pairs, Ticks.own_pairs}
 use Rattle.run_cases.specs.Ticks.{AreToldUnder}
 

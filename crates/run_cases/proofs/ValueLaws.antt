@@ -5,12 +5,12 @@ use Rattle.std.proofs.lemmas.Nat.{mod-mul-add, div-mul-add, mul-add-lt}
 use Rattle.std.proofs.lemmas.Option.{slice_get_within}
 use Rattle.std.proofs.Math.Nat.{mul-le-mul_right}
 use Rattle.model_history.specs.Rails.{Rails}
-use Rattle.run_simulator.specs.GatePairs.{GateSignals}
-use Rattle.run_simulator.specs.WavesOf.{pair_in}
+use Rattle.run_step.specs.GatePairs.{GateSignals}
+use Rattle.run_step.specs.WavesOf.{pair_in}
 use Rattle.run_cases.specs.UnderWaves.{value_at}
 use Rattle.std.specs.Prelude.{slice_get}
-use Rattle.run_simulator.specs.{Ticks.ValuesAgree, Ticks.ValuesTold, ListLaws.exists_at}
-use Rattle.run_simulator.specs.ListLaws.{at_append}
+use Rattle.run_step.specs.{Ticks.ValuesAgree, Ticks.ValuesTold, ListLaws.exists_at}
+use Rattle.run_step.specs.ListLaws.{at_append}
 
 -- one more tick has room below the horizon
 pub tick_fits : (t h n : ℕ) → t < h → t * n + n ≤ h * n

@@ -5,10 +5,10 @@ use Rattle.std.specs.Prelude.{slice_get, slice_set}
 use Rattle.model_history.specs.Rails.{Rails, Ends}
 use Rattle.model_logic.specs.PairMean.{PairWorld}
 use Rattle.net_gates.specs.declared.gate.Gate.{Gate}
-use Rattle.run_simulator.specs.{GatePairs.GateSignals, Ticks.ValuesAgree, ListLaws.at_push}
-use Rattle.run_cases.specs.{declared.cell.Cell.Cell, CellStands.HasCell, CellStands.CellStands}
-use Rattle.run_cases.specs.Ticks.{HaveCells, CellsWalked, AllStand}
-use Rattle.run_simulator.specs.ListLaws.{at_set, one_value}
+use Rattle.run_step.specs.{GatePairs.GateSignals, Ticks.ValuesAgree, ListLaws.at_push}
+use Rattle.run_step.specs.{declared.cell.Cell.Cell, CellStands.HasCell, CellStands.CellStands}
+use Rattle.run_step.specs.Ticks.{HaveCells, CellsWalked, AllStand}
+use Rattle.run_step.specs.ListLaws.{at_set, one_value}
 
 -- one more element beside a list of gates, with what each is to have
 pub one_more : {Y : Type 0} (P : Gate → Y → Type 0) (gates : List Gate) (xs : List Y) (i : ℕ)

@@ -8,7 +8,7 @@ use Rattle.model_line.specs.Parameters.{channel_count, terminal_count, delay_par
 use Rattle.model_line.specs.{declared.line.Line.Line, declared.script.Place.Place}
 use Rattle.model_line.specs.{declared.script.SeenSpan.SeenSpan, Channels.from_of}
 use Rattle.model_logic.specs.{Boxes.box_of, Choice.Box, PairMean.PairWorld}
-use Rattle.run_simulator.specs.LaneBox.{own_ends}
+use Rattle.run_step.specs.LaneBox.{own_ends}
 use Rattle.run_cases.specs.declared.delays.Delay.{Delay}
 
 -- the span holds the tick

@@ -1,15 +1,14 @@
 -- What a run holds before and at a tick: cells, keys that were sent, and values.
-use Rattle.std.specs.Prelude.{◌≡◌, ◌<◌, ◌≤◌, ℕ, suc, Bool, List, Option, Some, length, slice_get}
+use Rattle.std.specs.Prelude.{◌≡◌, ℕ, Bool, List, Option, Some, length, slice_get}
 use Rattle.model_history.specs.Rails.{Rails, Ends}
 use Rattle.run_channel.specs.SentKeys.{SentKeys}
 use Rattle.model_logic.specs.PairMean.{PairWorld, PairSignals}
 use Rattle.model_logic.specs.Tree.{Tree}
 use Rattle.model_cases.specs.Under.{assumed_or, pair_under, own_pair}
 use Rattle.net_gates.specs.{declared.gate.Gate.Gate, Formulas.formula_of}
-use Rattle.run_simulator.specs.GatePairs.{GateSignals, kind_pair}
-use Rattle.run_simulator.specs.Ticks.{KeysSent, ValuesTold}
-use Rattle.run_cases.specs.{CellStands.HasCell, CellStands.CellStands}
-use Rattle.run_cases.specs.{declared.cell.Cell.Cell}
+use Rattle.run_step.specs.GatePairs.{GateSignals, kind_pair}
+use Rattle.run_step.specs.Ticks.{KeysSent, ValuesTold, AllStand}
+use Rattle.run_step.specs.declared.cell.Cell.{Cell}
 
 -- ---- pairs
 
@@ -27,29 +26,7 @@ pub record AreToldUnder (level : Tree → ℕ → Option Bool) (trees : ℕ → 
   pub owns : (i : ℕ) (g : Gate) → slice_get gates i ≡ Some g → v i t ≡ kind_pair w keys u g t
   pub put : (i : ℕ) → u i t ≡ assumed_or (level (trees i) t) (v i t)
 
--- ---- cells
-
--- a cell of its kind for each gate
-pub record HaveCells {C V S : Type 0} (gates : List Gate) (cells : List (Cell C V S)) : Type 0 where
-  pub count : length cells ≡ length gates
-  pub each : (i : ℕ) (g : Gate) (cell : Cell C V S) → slice_get gates i ≡ Some g
-      → slice_get cells i ≡ Some cell → HasCell g cell
-
--- each cell stands for the ticks before t
-abbrev pub AllStand : {C S V : Type 0} → (C → S → S → ℕ → List Rails → Type 0) → (S → ℕ → Ends)
-    → (V → ℕ → Rails) → ℕ → PairWorld → GateSignals → ℕ → List Gate → List (Cell C V S) → Type 0
-AllStand stands_for ends rails lane w u t gates cells =
-    (i : ℕ) (g : Gate) (cell : Cell _ _ _) → slice_get gates i ≡ Some g
-    → slice_get cells i ≡ Some cell → CellStands stands_for ends rails lane w u t g cell
-
--- within tick t: the first n cells stand for the ticks up to t, the others for those before it
-pub record CellsWalked {C S V : Type 0} (stands_for : C → S → S → ℕ → List Rails → Type 0)
-    (ends : S → ℕ → Ends) (rails : V → ℕ → Rails) (lane : ℕ) (w : PairWorld) (u : GateSignals)
-    (t n : ℕ) (gates : List Gate) (cells : List (Cell C V S)) : Type 0 where
-  pub done : (i : ℕ) (g : Gate) (cell : Cell C V S) → i < n → slice_get gates i ≡ Some g
-      → slice_get cells i ≡ Some cell → CellStands stands_for ends rails lane w u (suc t) g cell
-  pub left : (i : ℕ) (g : Gate) (cell : Cell C V S) → n ≤ i → slice_get gates i ≡ Some g
-      → slice_get cells i ≡ Some cell → CellStands stands_for ends rails lane w u t g cell
+-- ---- what is ready, and what stands
 
 -- in a lane, before tick t: the pairs u and v of the gates are told at t, the keys were sent, and
 -- the cells stand

@@ -1,7 +1,7 @@
 -- The values of a run under levels, tick by tick.
 use Rattle.std.specs.Prelude.{◌≡◌, ◌+◌, ◌*◌, ◌≤◌, ℕ, List, length, slice_get}
 use Rattle.model_history.specs.Rails.{Rails}
-use Rattle.run_simulator.specs.WavesOf.{pair_in}
+use Rattle.run_step.specs.WavesOf.{pair_in}
 
 -- a value for each tick and, in it, for each gate, with what was put; and each gate's own value
 pub record UnderWavesOf (V : Type 0) : Type 0 where

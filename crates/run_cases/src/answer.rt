@@ -5,12 +5,11 @@ ghost use Rattle.model_history.specs.Rails.{rails_delayed};
 ghost use Rattle.model_line.specs.Parameters.{terminal_count, channel_count};
 ghost use Rattle.model_logic.specs.PairMean.{PairWorld, PairSignals};
 ghost use Rattle.net_gates.specs.{Laws.HasArguments, Named.GateNames};
-ghost use Rattle.run_simulator.specs.GatePairs.{GateSignals, kind_pair};
+ghost use Rattle.run_step.specs.GatePairs.{GateSignals, kind_pair};
 ghost use Rattle.run_cases.specs.Given.{AreDelaysOf, CanReceive, IsWorldAt};
-ghost use Rattle.run_simulator.specs.Ticks.{ValuesAgree, KeysSent, AreSent};
-ghost use Rattle.run_cases.specs.{CellStands.HasCell, CellStands.CellStands};
+ghost use Rattle.run_step.specs.Ticks.{ValuesAgree, KeysSent, AreSent};
+ghost use Rattle.run_step.specs.CellStands.{HasCell, CellStands};
 
-use crate::cell::{Cell, seal_answer, timer_answer};
 use crate::delays::Delay;
 use model_history::laws::history_laws;
 use model_history::recorded_laws::recorded_ticks_suffice;
@@ -18,6 +17,7 @@ use model_line::{Line, SeenSpan, lost_in, shown_in};
 use net_gates::{Gate, GateId};
 use run_channel::{Carried, Track};
 use run_signal::Signal;
+use run_step::{Cell, seal_answer, timer_answer};
 use run_timers::{SealCell, Timed};
 
 // What is received of a channel at the next tick, lost or not.

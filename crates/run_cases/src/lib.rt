@@ -3,18 +3,13 @@
 #![tactic(auto)]
 
 mod answer;
-mod cell;
 mod delays;
-mod fresh;
 mod mask;
 mod present;
 mod run_net;
-mod send;
-mod spans;
 mod ticks;
 mod walk;
 mod waves;
-mod within;
 
 pub use mask::{Mask, Masks};
 pub use run_net::run_under;

@@ -3,8 +3,8 @@
 ghost use Rattle.std.specs.Prelude.{◌≡◌, ◌≤◌, length, vec_capacity};
 ghost use Rattle.run_cases.specs.Given.{spans_at};
 
-use crate::within::extend_within;
 use model_line::SeenSpan;
+use run_step::extend_within;
 
 /// Those of the spans that hold a tick, in a list with room for all.
 pub fn show_at(spans: &[SeenSpan], present: &mut Vec<SeenSpan>, t: u32)

@@ -3,21 +3,19 @@
 ghost use Rattle.std.specs.Prelude.{◌≡◌, ℕ, ◌<◌, ◌*◌, length, IfOk};
 ghost use Rattle.model_logic.specs.PairMean.{PairWorld, PairSignals};
 ghost use Rattle.model_logic.specs.Choice.{pair_world_of};
-ghost use Rattle.run_simulator.specs.Ticks.{ValuesTold};
+ghost use Rattle.run_step.specs.Ticks.{ValuesTold};
 ghost use Rattle.run_cases.specs.{Given.span_box, Masks.Levels, Ticks.under_pairs, Ticks.own_pairs};
 ghost use Rattle.run_cases.specs.Runs.{CanRunUnder, PutUnder, AreKeysUnder};
 
 use crate::delays::fresh_delays;
-use crate::fresh::{fresh_cells, fresh_tracks};
 use crate::mask::Masks;
 use crate::present::show_at;
-use crate::send::send_all;
 use crate::walk::walk;
-use crate::within::extend_within;
 use model_line::{Line, Memory, Script};
 use net_gates::Net;
 use net_gates::laws::gates_stand_for_their_trees;
 use run_channel::Carried;
+use run_step::{extend_within, fresh_cells, fresh_tracks, send_all};
 use run_timers::Timed;
 use std::alloc::Global;
 

@@ -4,19 +4,19 @@ ghost use Rattle.std.specs.Prelude.{◌≡◌, ℕ, suc, ◌<◌, ◌≤◌, len
 ghost use Rattle.model_line.specs.Parameters.{terminal_count};
 ghost use Rattle.model_logic.specs.PairMean.{PairWorld, PairSignals};
 ghost use Rattle.net_gates.specs.{Named.NamedFrom, Formulas.formula_of};
-ghost use Rattle.run_simulator.specs.{GatePairs.GateSignals};
+ghost use Rattle.run_step.specs.GatePairs.{GateSignals};
 ghost use Rattle.run_cases.specs.Given.{CanReceive, IsWorldAt};
-ghost use Rattle.run_simulator.specs.Ticks.{ValuesAgree, AreSent};
+ghost use Rattle.run_step.specs.Ticks.{ValuesAgree, AreSent, HaveCells, AllStand};
 ghost use Rattle.run_cases.specs.Masks.{HaveRows, Levels, PutLevels};
-ghost use Rattle.run_cases.specs.Ticks.{HaveCells, AllStand, IsReady};
+ghost use Rattle.run_cases.specs.Ticks.{IsReady};
 
 use crate::answer::answer;
-use crate::cell::Cell;
 use crate::delays::Delay;
 use crate::mask::{Masks, mask_at, put};
 use model_line::{Line, SeenSpan};
 use net_gates::{GateId, Net};
 use run_channel::{Carried, Track};
+use run_step::Cell;
 use run_timers::{SealCell, Timed};
 
 /// Takes one tick: two columns, which have room for it, get each gate's own value, and its value

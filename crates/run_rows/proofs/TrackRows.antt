@@ -4,7 +4,7 @@ use Rattle.std.proofs.Common.{arith}
 use Rattle.std.specs.Prelude.{slice_get}
 use Rattle.run_signal.specs.{declared.level.Level.Level}
 use Rattle.run_channel.specs.SentKeys.{SentKeys}
-use Rattle.run_simulator.specs.{Ticks.AreSent}
+use Rattle.run_step.specs.Ticks.{AreSent}
 
 -- the track of a terminal has all ticks
 pub long_enough : (n horizon k t : ℕ) (tracks : List (SentKeys Level)) (track : SentKeys Level)

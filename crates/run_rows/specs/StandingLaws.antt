@@ -5,7 +5,7 @@ use Rattle.std.proofs.lemmas.Bool.{cases_lt}
 use Rattle.std.specs.Prelude.{slice_get}
 use Rattle.run_signal.specs.declared.level.Level.{Level}
 use Rattle.run_channel.specs.SentKeys.{SentKeys}
-use Rattle.run_simulator.specs.PlayedTracks.{is_shown}
+use Rattle.run_changes.specs.PlayedTracks.{is_shown}
 use Rattle.run_rows.specs.PlayRows.{value_before}
 use Rattle.run_rows.specs.declared.standing.Pair.{Pair}
 use Rattle.run_rows.specs.declared.standing.Standing.{Standing}

@@ -7,17 +7,17 @@ ghost use Rattle.net_gates.specs.NetOf.{IsNetOf};
 ghost use Rattle.model_timing.specs.{Inside.IsTimingInside, Choice.timing_choice};
 ghost use Rattle.run_rows.specs.PlayRows.{terminal_rows, tick_rows, run_rows};
 ghost use Rattle.run_rows.specs.StandingLaws.{AllStand, PairStands};
-ghost use Rattle.run_simulator.specs.Ticks.{AreSent};
-ghost use Rattle.run_simulator.specs.PlayedTracks.{played};
+ghost use Rattle.run_step.specs.Ticks.{AreSent};
+ghost use Rattle.run_changes.specs.PlayedTracks.{played};
 
 use crate::rows::{RowNames, push_signal};
 use crate::standing::{Pair, fresh_pairs, next_change};
 use model_line::{Line, Memory, Script};
 use model_timing::NamedTiming;
 use net_gates::Net;
+use run_changes::{Tracks, run_tracks};
 use run_signal::Level;
-use run_simulator::laws::a_timing_is_one_choice;
-use run_simulator::{Tracks, run_tracks};
+use run_step::laws::a_timing_is_one_choice;
 use std::alloc::Global;
 
 // The rows of most runs fit into so many bytes.

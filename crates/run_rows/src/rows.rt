@@ -5,7 +5,7 @@ ghost use Rattle.std.specs.List.{concat};
 ghost use Rattle.run_rows.specs.PlayRows.{level_word as word_of_level, row_fields, row_text};
 ghost use Rattle.run_rows.specs.PlayRows.{change_row, signal_row};
 ghost use Rattle.run_rows.specs.StandingLaws.{Stands};
-ghost use Rattle.run_simulator.specs.PlayedTracks.{is_on};
+ghost use Rattle.run_changes.specs.PlayedTracks.{is_on};
 
 use crate::standing::Standing;
 use itoa::Buffer;
@@ -126,8 +126,8 @@ fn stands_from(track: &Track<Level>, t: u32) -> Standing
     }
 }
 
-/// Appends the row of a signal at a tick, if it changes there. A signal that still stands costs
-/// nothing.
+/// Appends the row of a signal at a tick, if it changes there. One comparison tells a signal that
+/// still stands.
 pub fn push_signal(
     text: &mut Vec<u8>,
     names: &RowNames,

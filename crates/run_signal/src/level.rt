@@ -6,7 +6,7 @@ use crate::lanes::Lanes64;
 use crate::span::Tick;
 
 /// A truth value that is known: one lane, both rails the same, each time one number of ticks.
-#[derive(Clone, Copy, Debug, PartialEq, Eq)]
+#[derive(Clone, Copy, PartialEq, Eq)]
 pub enum Level {
     Off,
     On,

@@ -11,7 +11,7 @@ use crate::span::Within;
 
 /// A truth value over a whole box of timings: off in all, on in all, or unknown. One lane, each
 /// time a span of ticks.
-#[derive(Clone, Copy, Debug, PartialEq, Eq)]
+#[derive(Clone, Copy, PartialEq, Eq)]
 pub enum Tern {
     Zero,
     One,

@@ -2,16 +2,13 @@
 //! error.
 #![tactic(auto)]
 
-mod command;
 mod new_file;
-mod words;
 
-use crate::command::command;
 use crate::new_file::NewFile;
-use crate::words::{Call, Event, words_of};
 use base_store::{FileStore, Sink, StdSink, put_all};
 use call_records::records;
 use call_study::{status_of, study};
+use call_words::{Call, Event, command, words_of};
 use clap::ArgMatches;
 use std::env;
 use std::process::ExitCode;

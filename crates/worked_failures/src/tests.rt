@@ -8,8 +8,6 @@ use std::alloc::Global;
 use std::process::Abort;
 use std::test::Fail;
 
-mod derived_waves;
-mod play_pieces;
 mod scarce_memory;
 mod store_and_sink_faults;
 mod stores_and_writers;

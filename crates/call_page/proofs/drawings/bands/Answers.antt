@@ -1,6 +1,6 @@
 use Rattle.judge_interval.specs.PairWavesOf.{pair_history}
 use Rattle.run_signal.specs.Terns.{tern_rails}
-use Rattle.run_simulator.specs.WavesOf.{wave_pair, waves_history}
+use Rattle.run_step.specs.WavesOf.{wave_pair, waves_history}
 use Rattle.call_page.proofs.drawings.bands.Goals as goal
 
 pub returns : goal.returns

@@ -3,7 +3,7 @@ use Rattle.model_history.specs.Rails.{both}
 use Rattle.model_timing.specs.declared.step.Step.{Step}
 use Rattle.draw_diagram.specs.{Diagrams.IsDiagramOf, Traces.known_history, Traces.pairs_shown}
 use Rattle.draw_diagram.specs.declared.drawn.Rows.TheVariants as rows
-use Rattle.run_simulator.specs.Played.{is_on, played}
+use Rattle.run_step.specs.Played.{is_on, played}
 use Rattle.call_page.proofs.drawings.play.Goals as goal
 
 pub returns : goal.returns

@@ -2,7 +2,7 @@ use Rattle.std.proofs.Common.{◌∙◌, ap}
 use Rattle.draw_shapes.specs.Svg.{svg_of}
 use Rattle.judge_interval.specs.PairWavesOf.{pair_history}
 use Rattle.run_signal.specs.Terns.{tern_rails}
-use Rattle.run_simulator.specs.WavesOf.{wave_pair, waves_history}
+use Rattle.run_step.specs.WavesOf.{wave_pair, waves_history}
 use Rattle.call_study.proofs.pictures.bands_text.Goals as goal
 
 pub returns-clause-drawn : goal.returns-clause-drawn

@@ -3,7 +3,7 @@ use Rattle.std.specs.Prelude.{get_or}
 use Rattle.model_history.specs.Rails.{rails_sealed}
 use Rattle.run_signal.specs.declared.tern.Tern.{Tern}
 use Rattle.net_gates.specs.{declared.gate.Gate.Gate, Laws.HasArguments}
-use Rattle.run_simulator.specs.GatePairs.{kind_pair}
+use Rattle.run_step.specs.GatePairs.{kind_pair}
 use Rattle.run_waves.specs.Waves.{IsWaveOf, wave_at}
 use Rattle.cert_check.specs.Claims.{pairs_of, declared_world}
 use Rattle.cert_check.proofs.gate.gate_wave.Goals as goal

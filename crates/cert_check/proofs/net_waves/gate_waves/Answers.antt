@@ -2,7 +2,7 @@ use Rattle.std.proofs.Common.{◌≡◌, ◌++◌, ◌∷◌, ℕ, List, [], len
 use Rattle.run_signal.specs.declared.tern.Tern.{Tern}
 use Rattle.model_logic.specs.PairMean.{PairWorld, PairSignals, pair_mean}
 use Rattle.net_gates.specs.Formulas.{formula_of}
-use Rattle.run_simulator.specs.GatePairs.{kind_pair}
+use Rattle.run_step.specs.GatePairs.{kind_pair}
 use Rattle.run_waves.specs.Waves.{IsWaveOf}
 use Rattle.cert_check.specs.Claims.{pairs_of, declared_world}
 use Rattle.cert_check.proofs.{Waves.with_wave, GateLaws.tree_wave}

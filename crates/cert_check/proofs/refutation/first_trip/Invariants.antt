@@ -1,5 +1,5 @@
 use Rattle.std.proofs.Common.{◌≤◌, ◌-◌, length}
-use Rattle.run_simulator.specs.PlayedTracks.{is_on}
+use Rattle.run_changes.specs.PlayedTracks.{is_on}
 use Rattle.run_waves.specs.FirstTick.{IsOffFrom}
 use Rattle.cert_check.proofs.refutation.first_trip.Given as goal
 

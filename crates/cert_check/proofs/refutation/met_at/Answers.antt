@@ -4,9 +4,9 @@ use Rattle.std.specs.Prelude.{slice_get, MatchOption}
 use Rattle.model_line.specs.Parameters.{terminal_count}
 use Rattle.model_logic.specs.Histories.{MeetsBy}
 use Rattle.model_timing.specs.{Timing.TimingValues, Choice.timing_choice}
-use Rattle.run_simulator.specs.PlayedTracks.{played, shown_is}
-use Rattle.run_simulator.specs.{LaneBox.lane_box, Played.ends_of_tick, Runs.AreDelayed}
-use Rattle.run_simulator.specs.Runs.{IsPoint}
+use Rattle.run_changes.specs.PlayedTracks.{played, shown_is}
+use Rattle.run_step.specs.{LaneBox.lane_box, Played.ends_of_tick, Runs.AreDelayed}
+use Rattle.run_step.specs.Runs.{IsPoint}
 use Rattle.cert_check.specs.Refutations.{steady_timing, choice_of, IsMetAt}
 use Rattle.cert_check.proofs.Refutations.{told_by_one}
 use Rattle.cert_check.proofs.refutation.met_at.Goals as goal

@@ -6,7 +6,8 @@ use Rattle.base_lines.specs.{Reading.said_as, ReadLaws.later_fault}
 use Rattle.judge_cases.specs.declared.node.CaseNode.{CaseNode}
 use Rattle.judge_cases.specs.Nodes.{preorder}
 use Rattle.cert_settle_text.specs.Grammar.{Stands, opens, result_over, says_node, after_node}
-use Rattle.cert_settle_text.specs.Grammar.{grammar_of, whole_over, most_branches}
+use Rattle.cert_settle_text.specs.Grammar.{grammar_of, whole_over}
+use Rattle.judge_cases.specs.Trees.{most_branches}
 use Rattle.cert_settle_text.proofs.{NodeLaws.same_line, TreeLaws.whole_tree}
 use Rattle.cert_settle_text.proofs.read.read_result.Goals as goal
 

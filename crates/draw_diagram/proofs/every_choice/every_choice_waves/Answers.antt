@@ -2,9 +2,9 @@ use Rattle.std.proofs.Common.{◌≡◌, ℕ, List, [], ◌∙◌, subst, arith}
 use Rattle.std.specs.Prelude.{Result, Ok, Err, IfOk}
 use Rattle.run_signal.specs.{declared.tern.Tern.Tern, Terns.tern_rails}
 use Rattle.model_logic.specs.Choice.{Box, declared_box}
-use Rattle.run_simulator.specs.LaneBox.{lane_box}
-use Rattle.run_simulator.specs.Runs.{HavePairs, IsTheHistory}
-use Rattle.run_simulator.specs.WavesOf.{WavesOf, waves_history}
+use Rattle.run_step.specs.LaneBox.{lane_box}
+use Rattle.run_step.specs.Runs.{HavePairs, IsTheHistory}
+use Rattle.run_step.specs.WavesOf.{WavesOf, waves_history}
 use Rattle.judge_interval.specs.Spans.{declared_spans}
 use Rattle.draw_diagram.proofs.Declared.{box_declared, spans_delayed, own_span}
 use Rattle.draw_diagram.proofs.every_choice.every_choice_waves.Goals as goal

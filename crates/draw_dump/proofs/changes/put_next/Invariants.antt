@@ -1,5 +1,5 @@
 use Rattle.std.proofs.Common.{◌≡◌, ◌++◌}
-use Rattle.run_simulator.specs.Played.{is_on}
+use Rattle.run_step.specs.Played.{is_on}
 use Rattle.run_rows.specs.PlayRows.{each_below}
 use Rattle.draw_dump.specs.Dump.{next_text}
 use Rattle.draw_dump.proofs.changes.put_next.Given as goal

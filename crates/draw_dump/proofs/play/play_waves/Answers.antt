@@ -4,8 +4,8 @@ use Rattle.model_line.specs.declared.line.Line.{Line}
 use Rattle.model_logic.specs.Choice.{Choice}
 use Rattle.model_timing.specs.declared.step.Step.{Step}
 use Rattle.model_timing.specs.{Timing.TimingValues, Timing.ascend, Choice.timing_choice}
-use Rattle.run_simulator.specs.LaneBox.{lane_box}
-use Rattle.run_simulator.specs.{Played.ends_of_tick, Played.played, Runs.AreDelayed, Runs.IsPoint}
+use Rattle.run_step.specs.LaneBox.{lane_box}
+use Rattle.run_step.specs.{Played.ends_of_tick, Played.played, Runs.AreDelayed, Runs.IsPoint}
 use Rattle.draw_dump.proofs.LevelLaws.{if_ok_more, levels_are}
 use Rattle.draw_dump.proofs.play.play_waves.Goals as goal
 

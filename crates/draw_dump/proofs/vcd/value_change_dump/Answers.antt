@@ -1,6 +1,6 @@
 use Rattle.std.proofs.Common.{◌≡◌, ◌++◌, ℕ, List, length, ◌∙◌, ap}
 use Rattle.std.specs.Prelude.{codes}
-use Rattle.run_simulator.specs.Played.{is_on}
+use Rattle.run_step.specs.Played.{is_on}
 use Rattle.draw_dump.specs.{Variables.declarations, Dump.changes_text, Dump.dump_text}
 use Rattle.draw_dump.proofs.vcd.value_change_dump.Goals as goal
 

@@ -1,7 +1,7 @@
 use Rattle.std.proofs.Common.{◌∙◌}
 use Rattle.model_logic.specs.Choice.{Choice}
 use Rattle.model_timing.specs.Choice.{timing_choice}
-use Rattle.run_simulator.specs.Played.{is_on}
+use Rattle.run_step.specs.Played.{is_on}
 use Rattle.draw_dump.specs.GateValues.{gate_levels}
 use Rattle.draw_dump.proofs.{DumpLaws.dump_text-same, LevelLaws.if_ok_more}
 use Rattle.draw_dump.proofs.vcd.vcd_text.Goals as goal

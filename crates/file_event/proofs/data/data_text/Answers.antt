@@ -4,10 +4,10 @@ use Rattle.model_logic.specs.Histories.{History, IsSameHistory}
 use Rattle.model_logic.specs.Choice.{Choice}
 use Rattle.model_timing.specs.declared.step.Step.{Step}
 use Rattle.model_timing.specs.{Timing.TimingValues, Timing.ascend, Choice.timing_choice}
-use Rattle.run_simulator.specs.Played.{ends_of_tick}
-use Rattle.run_simulator.specs.{LaneBox.lane_box, Ticks.AreSent}
-use Rattle.run_simulator.specs.PlayedTracks.{played}
-use Rattle.run_simulator.specs.{Runs.AreDelayed, Runs.IsPoint}
+use Rattle.run_step.specs.Played.{ends_of_tick}
+use Rattle.run_step.specs.{LaneBox.lane_box, Ticks.AreSent}
+use Rattle.run_changes.specs.PlayedTracks.{played}
+use Rattle.run_step.specs.{Runs.AreDelayed, Runs.IsPoint}
 use Rattle.file_event.specs.Data.{data_text}
 use Rattle.file_event.proofs.SameData.{data_same}
 use Rattle.file_event.proofs.data.data_text.Goals as goal

@@ -1,5 +1,5 @@
 use Rattle.run_rows.specs.RowLaws.{texts_more}
-use Rattle.run_simulator.specs.PlayedTracks.{played}
+use Rattle.run_changes.specs.PlayedTracks.{played}
 use Rattle.file_event.specs.Data.{sample_text}
 use Rattle.file_event.proofs.data.put_samples.Goals as goal
 

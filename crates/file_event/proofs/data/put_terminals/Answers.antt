@@ -3,7 +3,7 @@ use Rattle.std.proofs.lemmas.Option.{slice_get_read}
 use Rattle.std.specs.Prelude.{slice_get}
 use Rattle.model_line.specs.Parameters.{terminal_count}
 use Rattle.run_rows.specs.RowLaws.{texts_more}
-use Rattle.run_simulator.specs.PlayedTracks.{is_on, is_shown, shown_is, played}
+use Rattle.run_changes.specs.PlayedTracks.{is_on, is_shown, shown_is, played}
 use Rattle.file_event.specs.Data.{all_seen, level_field, terminal_fields}
 use Rattle.file_event.proofs.TrackLevels.{all_ticks}
 use Rattle.file_event.proofs.data.put_terminals.Goals as goal

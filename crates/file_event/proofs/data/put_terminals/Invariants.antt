@@ -1,6 +1,6 @@
 use Rattle.std.proofs.Common.{◌≡◌, ◌++◌}
 use Rattle.run_rows.specs.PlayRows.{each_below}
-use Rattle.run_simulator.specs.PlayedTracks.{played}
+use Rattle.run_changes.specs.PlayedTracks.{played}
 use Rattle.file_event.specs.Data.{terminal_fields}
 use Rattle.file_event.proofs.data.put_terminals.Given as goal
 

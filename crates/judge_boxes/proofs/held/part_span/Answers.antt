@@ -1,6 +1,6 @@
 use Rattle.std.proofs.Common.{◌<◌, ℕ, List, length, ap, subst, sym, arith}
 use Rattle.std.specs.Prelude.{slice_index}
-use Rattle.run_simulator.specs.ListLaws.{exists_at}
+use Rattle.run_step.specs.ListLaws.{exists_at}
 use Rattle.judge_boxes.specs.Held.{part_in}
 use Rattle.judge_boxes.proofs.HeldLaws.{part_exists}
 use Rattle.judge_boxes.proofs.held.part_span.Goals as goal

@@ -4,7 +4,7 @@ use Rattle.model_cases.specs.Assumed.{wanted}
 use Rattle.net_gates.specs.Formulas.{formula_of}
 use Rattle.model_history.specs.Rails.{Rails}
 use Rattle.model_cases.specs.Under.{Excludes}
-use Rattle.run_simulator.specs.WavesOf.{pair_in}
+use Rattle.run_step.specs.WavesOf.{pair_in}
 use Rattle.run_cases.specs.UnderWaves.{own_wave}
 use Rattle.judge_boxes.specs.Terns.{terns_rails}
 use Rattle.judge_cases.proofs.OneGate.{one_gate}

@@ -5,9 +5,9 @@ use Rattle.model_line.specs.{declared.line.Line.Line, declared.script.Script.Scr
 use Rattle.model_line.specs.Parameters.{terminal_count}
 use Rattle.model_logic.specs.{Choice.Choice, Histories.MeetsBy}
 use Rattle.model_timing.specs.{declared.step.Step.Step, Timing.TimingValues, Choice.timing_choice}
-use Rattle.run_simulator.specs.PlayedTracks.{played, shown_is}
-use Rattle.run_simulator.specs.{LaneBox.lane_box, Played.ends_of_tick, Runs.AreDelayed}
-use Rattle.run_simulator.specs.Runs.{IsPoint}
+use Rattle.run_changes.specs.PlayedTracks.{played, shown_is}
+use Rattle.run_step.specs.{LaneBox.lane_box, Played.ends_of_tick, Runs.AreDelayed}
+use Rattle.run_step.specs.Runs.{IsPoint}
 use Rattle.judge_cut.proofs.Played.{meets_same, opposite, same_way}
 use Rattle.judge_cut.proofs.play.fails.Goals as goal
 

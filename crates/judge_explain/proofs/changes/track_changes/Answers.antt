@@ -1,6 +1,6 @@
 use Rattle.std.proofs.Common.{◌≡◌, ◌∙◌, ap, subst, sym, List, ℕ, Bool, length}
 use Rattle.std.specs.Prelude.{IfOk}
-use Rattle.run_simulator.specs.PlayedTracks.{is_on}
+use Rattle.run_changes.specs.PlayedTracks.{is_on}
 use Rattle.judge_explain.specs.{Changes.changes as changes_of, Asked.level_in, Asked.AreLevels}
 use Rattle.judge_explain.proofs.ListLaws.{levels_changes}
 use Rattle.judge_explain.proofs.changes.track_changes.Goals as goal

@@ -1,4 +1,4 @@
-use Rattle.run_simulator.specs.PlayedTracks.{is_on}
+use Rattle.run_changes.specs.PlayedTracks.{is_on}
 use Rattle.judge_explain.specs.Asked.{AreLevels}
 use Rattle.judge_explain.proofs.changes.track_levels.Given as goal
 

@@ -3,7 +3,8 @@ use Rattle.std.specs.Prelude.{IfOk}
 use Rattle.model_history.specs.Rails.{Ends}
 use Rattle.model_logic.specs.Choice.{Box, LeastFromOne}
 use Rattle.run_signal.specs.{Terns.tern_rails, declared.tern.Tern.Tern}
-use Rattle.run_simulator.specs.{LaneBox.lane_box, Runs.IsTheHistory, Tracks.tracks_history}
+use Rattle.run_step.specs.{LaneBox.lane_box, Runs.IsTheHistory}
+use Rattle.run_changes.specs.Tracks.{tracks_history}
 use Rattle.judge_explain.specs.Parts.{part_box}
 use Rattle.judge_explain.proofs.BoxLaws.{box_is, whole_ends}
 use Rattle.judge_explain.proofs.ListLaws.{ok_weaker}

@@ -1,5 +1,5 @@
 use Rattle.std.proofs.Common.{◌<◌, ℕ, Bool}
-use Rattle.run_simulator.specs.PlayedTracks.{is_shown}
+use Rattle.run_changes.specs.PlayedTracks.{is_shown}
 use Rattle.judge_explain.specs.{Changes.HaveSameChanges, Asked.AreRecorded}
 use Rattle.judge_explain.proofs.play.are_all_near.Given as goal
 

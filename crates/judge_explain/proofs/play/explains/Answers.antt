@@ -1,7 +1,7 @@
 use Rattle.std.proofs.Common.{◌≡◌, ◌∙◌, ap, subst, sym, refl, List, ℕ, Bool, true, false, ◌↔◌}
 use Rattle.run_channel.specs.SentKeys.{SentKeys}
 use Rattle.run_signal.specs.declared.level.Level.{Level}
-use Rattle.run_simulator.specs.PlayedTracks.{played, is_shown}
+use Rattle.run_changes.specs.PlayedTracks.{played, is_shown}
 use Rattle.judge_explain.specs.Asked.{AreRecorded, recorded_of}
 use Rattle.judge_explain.specs.Explains.{AreNearEach, IsNear, Explains}
 use Rattle.judge_explain.proofs.PlayLaws.{explains_by}

@@ -1,6 +1,6 @@
 use Rattle.std.proofs.Common.{◌≡◌}
 use Rattle.std.specs.List.{flat_map, range_with_len}
-use Rattle.run_simulator.specs.PlayedTracks.{played}
+use Rattle.run_changes.specs.PlayedTracks.{played}
 use Rattle.judge_explain.specs.{Answers.paired_terminal, Asked.recorded_of}
 use Rattle.judge_explain.proofs.play.rows.Given as goal
 

@@ -4,7 +4,8 @@ use Rattle.std.specs.Prelude.{slice_get}
 use Rattle.model_history.specs.Elements.{some_below}
 use Rattle.model_line.specs.Parameters.{terminal_count}
 use Rattle.run_channel.specs.SentKeys.{SentKeys}
-use Rattle.run_simulator.specs.{LaneBox.lane_box, Tracks.pair_of, Tracks.tracks_history}
+use Rattle.run_step.specs.LaneBox.{lane_box}
+use Rattle.run_changes.specs.{Tracks.pair_of, Tracks.tracks_history}
 use Rattle.judge_boxes.specs.declared.terns.Terns64.{Terns64}
 use Rattle.judge_boxes.specs.{Spans.span_ends, Terns.terns_rails}
 use Rattle.judge_map.proofs.RuledLaws.{ruled_more}

@@ -1,6 +1,6 @@
 use Rattle.std.proofs.Common.{◌+◌, ◌*◌, []}
 use Rattle.model_line.specs.Parameters.{terminal_count}
-use Rattle.run_simulator.specs.LaneBox.{lane_box}
+use Rattle.run_step.specs.LaneBox.{lane_box}
 use Rattle.judge_boxes.specs.Spans.{span_ends}
 use Rattle.judge_map.specs.Blocks.{AreRuled}
 use Rattle.judge_map.proofs.grid.rule_script.Given as goal

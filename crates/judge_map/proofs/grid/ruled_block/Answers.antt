@@ -1,6 +1,6 @@
 use Rattle.std.proofs.Common.{◌≡◌, ◌*◌, ℕ, [], List, length, subst, sym, arith}
 use Rattle.model_line.specs.Parameters.{terminal_count}
-use Rattle.run_simulator.specs.{LaneBox.lane_box, Runs.AreDelayed}
+use Rattle.run_step.specs.{LaneBox.lane_box, Runs.AreDelayed}
 use Rattle.judge_boxes.specs.Spans.{SpanLists, span_ends}
 use Rattle.judge_map.specs.Blocks.{AreRuled, lane_cell}
 use Rattle.judge_map.proofs.{CellLaws.box_of_lane, CellLaws.cells_delayed, RuledLaws.ruled_in}

@@ -3,7 +3,7 @@ use Rattle.std.proofs.lemmas.Option.{slice_get_within}
 use Rattle.run_signal.specs.declared.tern.Tern.{Tern}
 use Rattle.run_channel.specs.SentKeys.{SentKeys}
 use Rattle.run_signal.specs.declared.level.Level.{Level}
-use Rattle.run_simulator.specs.{Ticks.HasKeys}
+use Rattle.run_step.specs.Ticks.{HasKeys}
 use Rattle.run_waves.specs.Waves.{wave_at}
 use Rattle.cert_check.specs.Claims.{pairs_of}
 use Rattle.judge_match.proofs.RecordedLaws.{sent_more, shown_more}

@@ -1,5 +1,6 @@
 use Rattle.std.proofs.Common.{◌≡◌, ◌<◌, ℕ}
-use Rattle.run_simulator.specs.{PlayedTracks.is_shown, Ticks.AreSent}
+use Rattle.run_changes.specs.PlayedTracks.{is_shown}
+use Rattle.run_step.specs.Ticks.{AreSent}
 use Rattle.cert_check.specs.Claims.{pairs_of}
 use Rattle.judge_match.proofs.recorded.tracks_of.Given as goal
 

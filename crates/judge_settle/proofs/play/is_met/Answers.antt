@@ -4,9 +4,9 @@ use Rattle.std.specs.Prelude.{slice_get, IsTrue}
 use Rattle.model_line.specs.Parameters.{terminal_count}
 use Rattle.model_logic.specs.{Choice.Choice, Histories.MeetsBy}
 use Rattle.model_timing.specs.{declared.step.Step.Step, Timing.TimingValues, Choice.timing_choice}
-use Rattle.run_simulator.specs.PlayedTracks.{played, shown_is}
-use Rattle.run_simulator.specs.{LaneBox.lane_box, Played.ends_of_tick, Runs.AreDelayed}
-use Rattle.run_simulator.specs.Runs.{IsPoint}
+use Rattle.run_changes.specs.PlayedTracks.{played, shown_is}
+use Rattle.run_step.specs.{LaneBox.lane_box, Played.ends_of_tick, Runs.AreDelayed}
+use Rattle.run_step.specs.Runs.{IsPoint}
 use Rattle.judge_settle.proofs.play.is_met.Goals as goal
 
 pub run_tracks-requires-clause-delayed : goal.run_tracks-requires-clause-delayed

@@ -1,7 +1,7 @@
 use Rattle.std.proofs.Common.{◌≡◌, ◌∙◌, subst, false}
 use Rattle.model_history.specs.Rails.{both}
-use Rattle.run_cases.proofs.TickLaws.{seen_pair, loss_pair, raw_pair, timer_stands, timer_pair}
-use Rattle.run_cases.proofs.TickLaws.{seal_stands, seal_pair}
+use Rattle.run_step.specs.TickLaws.{seen_pair, loss_pair, raw_pair, timer_stands, timer_pair}
+use Rattle.run_step.specs.TickLaws.{seal_stands, seal_pair}
 use Rattle.run_cases.proofs.answer.answer.Goals as goal
 
 pub returns-in-Seen-clause-answers : goal.returns-in-Seen-clause-answers

@@ -3,7 +3,7 @@ use Rattle.std.proofs.lemmas.Option.{slice_get_read}
 use Rattle.std.specs.Prelude.{slice_get}
 use Rattle.model_history.specs.Rails.{rails_delayed}
 use Rattle.run_signal.specs.Lanes.{in_lane}
-use Rattle.run_simulator.specs.SendLaws.{received-is}
+use Rattle.run_step.specs.SendLaws.{received-is}
 use Rattle.run_cases.proofs.answer.raw_answer.Goals as goal
 
 pub returns : goal.returns

@@ -7,12 +7,12 @@ use Rattle.model_logic.specs.Choice.{pair_world_of}
 use Rattle.model_logic.specs.{Tree.Tree}
 use Rattle.model_cases.specs.Under.{pair_under}
 use Rattle.net_gates.specs.NetOf.{key_of, AreGatesOf}
-use Rattle.run_simulator.specs.{GatePairs.GateSignals, Ticks.AreSent, Ticks.KeysSent}
-use Rattle.run_simulator.specs.Ticks.{ValuesAgree, ValuesTold}
+use Rattle.run_step.specs.{GatePairs.GateSignals, Ticks.AreSent, Ticks.KeysSent}
+use Rattle.run_step.specs.Ticks.{ValuesAgree, ValuesTold}
 use Rattle.run_cases.specs.Ticks.{IsReady, LaneStands, under_pairs, own_pairs}
 use Rattle.run_cases.specs.Given.{CanReceive, IsWorldAt, span_box, spans_at}
 use Rattle.run_cases.proofs.GivenLaws.{can_receive, world_at}
-use Rattle.run_simulator.specs.SendLaws.{none_sent, fresh_sent, one_tick_sent}
+use Rattle.run_step.specs.SendLaws.{none_sent, fresh_sent, one_tick_sent}
 use Rattle.run_cases.proofs.ValueLaws.{tick_fits, values_none, values_more}
 use Rattle.run_cases.proofs.UnderLaws.{gates_told}
 use Rattle.run_cases.proofs.ticks.run_ticks.Goals as goal

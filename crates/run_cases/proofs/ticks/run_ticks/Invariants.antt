@@ -2,9 +2,10 @@ use Rattle.std.proofs.Common.{◌≡◌, ℕ, ◌<◌, ◌≤◌, ◌*◌, lengt
 use Rattle.std.specs.Prelude.{vec_capacity}
 use Rattle.model_line.specs.Parameters.{terminal_count}
 use Rattle.model_logic.specs.{Choice.pair_world_of, PairMean.PairSignals}
-use Rattle.run_simulator.specs.Ticks.{AreSent}
+use Rattle.run_step.specs.Ticks.{AreSent}
 use Rattle.run_cases.specs.{Given.span_box, Masks.Levels, Runs.PutUnder, Runs.AreKeysUnder}
-use Rattle.run_cases.specs.Ticks.{HaveCells, LaneStands, under_pairs, own_pairs}
+use Rattle.run_step.specs.Ticks.{HaveCells}
+use Rattle.run_cases.specs.Ticks.{LaneStands, under_pairs, own_pairs}
 use Rattle.run_cases.proofs.ticks.run_ticks.Given as goal
 
 abbrev pub invariant-loop-t : goal.invariant-loop-t

@@ -4,7 +4,7 @@ use Rattle.std.proofs.lemmas.Option.{slice_get_within, slice_get_read}
 use Rattle.std.specs.Prelude.{slice_get, vec_capacity}
 use Rattle.net_gates.specs.Formulas.{formula_of}
 use Rattle.model_cases.specs.Under.{assumed_or}
-use Rattle.run_simulator.specs.Ticks.{ValuesAgree}
+use Rattle.run_step.specs.Ticks.{ValuesAgree}
 use Rattle.run_cases.proofs.MaskLaws.{put_is}
 use Rattle.run_cases.proofs.WalkLaws.{have_more, walked_more, walked_none, agree_none, agree_more}
 use Rattle.run_cases.proofs.walk.walk.Goals as goal

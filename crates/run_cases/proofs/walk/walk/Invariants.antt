@@ -2,9 +2,10 @@ use Rattle.std.proofs.Common.{◌≡◌, ℕ, ◌<◌, ◌≤◌, length}
 use Rattle.std.specs.Prelude.{vec_capacity}
 use Rattle.model_logic.specs.PairMean.{PairWorld, PairSignals}
 use Rattle.net_gates.specs.Formulas.{formula_of}
-use Rattle.run_simulator.specs.{GatePairs.GateSignals, Ticks.ValuesAgree}
+use Rattle.run_step.specs.{GatePairs.GateSignals, Ticks.ValuesAgree}
 use Rattle.run_cases.specs.{Given.IsWorldAt, Masks.Levels, Masks.PutLevels}
-use Rattle.run_cases.specs.Ticks.{HaveCells, CellsWalked, IsReady}
+use Rattle.run_step.specs.Ticks.{HaveCells, CellsWalked}
+use Rattle.run_cases.specs.Ticks.{IsReady}
 use Rattle.run_cases.proofs.walk.walk.Given as goal
 
 abbrev pub invariant-loop-i : goal.invariant-loop-i

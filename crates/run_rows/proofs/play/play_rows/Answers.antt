@@ -4,12 +4,12 @@ use Rattle.model_logic.specs.Histories.{History, IsSameHistory}
 use Rattle.model_logic.specs.Choice.{Choice}
 use Rattle.model_timing.specs.declared.step.Step.{Step}
 use Rattle.model_timing.specs.{Timing.TimingValues, Timing.ascend, Choice.timing_choice}
-use Rattle.run_simulator.specs.Played.{ends_of_tick}
-use Rattle.run_simulator.specs.{LaneBox.lane_box, Ticks.AreSent}
+use Rattle.run_step.specs.Played.{ends_of_tick}
+use Rattle.run_step.specs.{LaneBox.lane_box, Ticks.AreSent}
 use Rattle.run_rows.specs.PlayRows.{run_rows}
-use Rattle.run_simulator.specs.PlayedTracks.{played}
+use Rattle.run_changes.specs.PlayedTracks.{played}
 use Rattle.run_rows.specs.RowLaws.{run_rows-same}
-use Rattle.run_simulator.specs.{Runs.AreDelayed, Runs.IsPoint}
+use Rattle.run_step.specs.{Runs.AreDelayed, Runs.IsPoint}
 use Rattle.run_rows.proofs.play.play_rows.Goals as goal
 
 pub run_tracks-requires-clause-spans : goal.run_tracks-requires-clause-spans

@@ -7,7 +7,7 @@ use Rattle.run_channel.specs.SentKeys.{SentKeys}
 use Rattle.run_signal.specs.declared.level.Level.{Level}
 use Rattle.run_rows.specs.declared.standing.Pair.{Pair}
 use Rattle.run_rows.specs.{RowLaws.texts_more, StandingLaws.AllStand, StandingLaws.all_stand_at}
-use Rattle.run_simulator.specs.PlayedTracks.{played}
+use Rattle.run_changes.specs.PlayedTracks.{played}
 use Rattle.run_rows.proofs.QuietRows.{no_rows, no_more_texts}
 use Rattle.run_rows.proofs.play.push_run.Goals as goal
 

@@ -1,7 +1,7 @@
 use Rattle.std.proofs.Common.{◌≡◌, ◌-◌, ◌≤◌, ◌++◌}
 use Rattle.model_line.specs.Parameters.{terminal_count}
 use Rattle.run_rows.specs.{PlayRows.each_below, PlayRows.tick_rows, StandingLaws.AllStand}
-use Rattle.run_simulator.specs.PlayedTracks.{played}
+use Rattle.run_changes.specs.PlayedTracks.{played}
 use Rattle.run_rows.proofs.play.push_run.Given as goal
 
 abbrev pub invariant-changes : goal.invariant-changes

@@ -1,7 +1,8 @@
 use Rattle.std.proofs.Common.{◌≡◌, ◌+◌, ◌++◌, length}
 use Rattle.model_line.specs.Parameters.{terminal_count}
 use Rattle.run_rows.specs.{PlayRows.each_below, PlayRows.terminal_rows, StandingLaws.PairStands}
-use Rattle.run_simulator.specs.{PlayedTracks.played, Ticks.PartDone}
+use Rattle.run_changes.specs.PlayedTracks.{played}
+use Rattle.run_step.specs.Ticks.{PartDone}
 use Rattle.run_rows.proofs.play.push_tick.Given as goal
 
 abbrev pub invariant-loop-k : goal.invariant-loop-k

@@ -1,6 +1,6 @@
 use Rattle.std.proofs.Common.{◌≡◌, ℕ, suc, ◌+◌, arith, ap, sym, ◌∙◌, subst}
 use Rattle.model_history.specs.Rails.{must_of}
-use Rattle.run_simulator.specs.PlayedTracks.{is_on}
+use Rattle.run_changes.specs.PlayedTracks.{is_on}
 use Rattle.run_rows.specs.PlayRows.{value_before}
 use Rattle.run_rows.proofs.rows.stands_from.Goals as goal
 

@@ -1,0 +1,394 @@
+//! The words of the program: a command for each work, with its files and options. They are a table,
+//! of which the command line is made.
+
+use clap::{Arg, ArgAction, Command};
+use std::alloc::{AllocError, Global};
+
+// The version of the program.
+const VERSION: &str = "0.19.0";
+
+/// The program and its version, and what proved it, by the sum of its logic, which `rt version`
+/// says too: what a page says.
+pub const PROGRAM: &[u8] = b"study 0.19.0";
+
+pub const KIT: &[u8] = b"Rattle, logic dac8208d650f15bf";
+
+// A command: its word, what it is for, its files, and its options beside `-o`.
+#[derive(Clone, Copy)]
+struct Word {
+    name: &'static str,
+    about: &'static str,
+    files: Files,
+    options: &'static [Opt],
+}
+
+// From how many files to how many a command takes, how its help calls them, and what they are.
+#[derive(Clone, Copy)]
+struct Files {
+    least: usize,
+    most: usize,
+    names: &'static [&'static str],
+    help: &'static str,
+}
+
+// An option: a flag, or one with a value, which its help calls so.
+#[derive(Clone, Copy)]
+struct Opt {
+    name: &'static str,
+    value: Option<&'static str>,
+    required: bool,
+    help: &'static str,
+}
+
+// A study file, or a line file and a file of fault scripts.
+const STUDY: Files = Files {
+    least: 1,
+    most: 2,
+    names: &["STUDY | LINE", "SCRIPTS"],
+    help: "A study file; or a line file and a file of fault scripts",
+};
+
+// The same, and a further file.
+const TIMINGS: Files = Files {
+    least: 2,
+    most: 3,
+    names: &["STUDY | LINE SCRIPTS", "TIMINGS"],
+    help: "A study file, or a line file and a file of fault scripts; then the further file",
+};
+
+const RECORD: Files = Files {
+    least: 2,
+    most: 3,
+    names: &["STUDY | LINE SCRIPTS", "RECORD"],
+    help: "A study file, or a line file and a file of fault scripts; then the further file",
+};
+
+const TREES: Files = Files {
+    least: 2,
+    most: 3,
+    names: &["STUDY | LINE SCRIPTS", "TREES"],
+    help: "A study file, or a line file and a file of fault scripts; then the further file",
+};
+
+// A study, and one axis of a map or two.
+const AXES: Files = Files {
+    least: 2,
+    most: 4,
+    names: &["STUDY | LINE SCRIPTS", "P=FROM..TO:STEP"],
+    help: "A study file, or a line file and a file of fault scripts; then one axis or two",
+};
+
+// A line and a map of the channels of records.
+const MAP: Files = Files {
+    least: 2,
+    most: 2,
+    names: &["LINE", "MAP"],
+    help: "A line file, and the map of the relays' channels",
+};
+
+const FAULTS: Opt = Opt {
+    name: "faults",
+    value: None,
+    required: false,
+    help: "One record for each fault and terminal: how many scripts are held, and where not",
+};
+
+const PART: Opt = Opt {
+    name: "part",
+    value: Some("N"),
+    required: false,
+    help: "The part of this number, where there are more than 64; 1 without it",
+};
+
+const ANALYSES: Opt = Opt {
+    name: "analyses",
+    value: Some("N"),
+    required: false,
+    help: "An obligation is left open once so many analyses are made; 4000 without it",
+};
+
+const ALL_ROWS: Opt = Opt {
+    name: "all",
+    value: None,
+    required: false,
+    help: "Rows that do not change too",
+};
+
+const SCRIPT: Opt = Opt {
+    name: "script",
+    value: Some("NAME"),
+    required: false,
+    help: "The name of the script; the first without it",
+};
+
+const TIMING: Opt = Opt {
+    name: "timing",
+    value: Some("NAME"),
+    required: false,
+    help: "The name of the timing; the first without it",
+};
+
+const SETTLE: &[Opt] = &[
+    ANALYSES,
+    Opt {
+        name: "trees",
+        value: None,
+        required: false,
+        help: "In place of the table the trees and timings that settle it, for `recheck`",
+    },
+    Opt {
+        name: "timings",
+        value: None,
+        required: false,
+        help: "In place of the table the timings that fail a script, for `pilot play`",
+    },
+    Opt {
+        name: "script",
+        value: Some("NAME"),
+        required: false,
+        help: "With --timings, the name of the script; the first without it",
+    },
+];
+
+const CELLS: Opt = Opt {
+    name: "csv",
+    value: None,
+    required: false,
+    help: "The cells as records (CSV) in place of a drawing",
+};
+
+const EXPLAIN: &[Opt] = &[
+    Opt {
+        name: "within",
+        value: Some("T"),
+        required: true,
+        help: "How many ticks apart a recorded change and that of the play may be",
+    },
+    Opt {
+        name: "script",
+        value: Some("NAME"),
+        required: false,
+        help: "The script of the record; without it the file has to have one record alone",
+    },
+    Opt {
+        name: "timings",
+        value: None,
+        required: false,
+        help: "In place of the table the timing, for `pilot play` and `study run`",
+    },
+    Opt {
+        name: "analyses",
+        value: Some("N"),
+        required: false,
+        help: "It ends once so many analyses are made; 20000 without it",
+    },
+];
+
+// The commands before that of records.
+const ANSWERS: &[Word] = &[
+    Word {
+        name: "lines",
+        about: "The line as a line file for `pilot` (TOML, in ticks)",
+        files: STUDY,
+        options: &[],
+    },
+    Word {
+        name: "scripts",
+        about: "The scripts as a scripts file for `pilot` (CSV), 64 at most",
+        files: STUDY,
+        options: &[PART],
+    },
+    Word {
+        name: "verdicts",
+        about: "Whether each fault is met at each terminal, script by script, in milliseconds (CSV)",
+        files: STUDY,
+        options: &[FAULTS, ANALYSES],
+    },
+    Word {
+        name: "lint",
+        about: "What is suspicious in the files, or where and why one is refused",
+        files: STUDY,
+        options: &[],
+    },
+    Word {
+        name: "settle",
+        about: "An answer to each obligation, also where the interval rules leave it open (CSV)",
+        files: STUDY,
+        options: SETTLE,
+    },
+    Word {
+        name: "recheck",
+        about: "Whether the trees of `settle --trees` are so, without trusting who made them",
+        files: TREES,
+        options: &[],
+    },
+    Word {
+        name: "margins",
+        about: "How far each end of each interval can move with all held that is held today (CSV)",
+        files: STUDY,
+        options: &[],
+    },
+    Word {
+        name: "map",
+        about: "Where all obligations are held as one setting or two move (SVG)",
+        files: AXES,
+        options: &[CELLS],
+    },
+    Word {
+        name: "page",
+        about: "The whole study as one page (HTML), to print and to sign",
+        files: STUDY,
+        options: &[ANALYSES],
+    },
+    Word {
+        name: "explain",
+        about: "A timing whose play is what the field recorded, each change within some ticks; or that there is none",
+        files: RECORD,
+        options: EXPLAIN,
+    },
+];
+
+// Those of records.
+const RECORDS: &[Word] = &[
+    Word {
+        name: "scripts",
+        about: "What the relays saw, as a scripts file for `pilot` with one script",
+        files: MAP,
+        options: &[],
+    },
+    Word {
+        name: "record",
+        about: "What the relays keyed and when they tripped, as a record file for `pilot match` and `explain`",
+        files: MAP,
+        options: &[],
+    },
+    Word {
+        name: "show",
+        about: "One record for each channel that the map names: its signal, and when it first changes (CSV)",
+        files: MAP,
+        options: &[],
+    },
+];
+
+// A play as a record.
+const EXPORT: Word = Word {
+    name: "export",
+    about: "A play as a record: NAME.cfg, NAME.dat, and NAME.toml, the map that reads them back",
+    files: TIMINGS,
+    options: &[TIMING, SCRIPT],
+};
+
+// Those behind them: pictures.
+const PICTURES: &[Word] = &[
+    Word {
+        name: "bands",
+        about: "Every choice of delays at once as a timing diagram (SVG)",
+        files: STUDY,
+        options: &[SCRIPT, ALL_ROWS],
+    },
+    Word {
+        name: "run",
+        about: "A play as a timing diagram (SVG): the script under one timing",
+        files: TIMINGS,
+        options: &[TIMING, SCRIPT, ALL_ROWS],
+    },
+    Word {
+        name: "vcd",
+        about: "A play as a value change dump (VCD) of every gate, for a waveform viewer",
+        files: TIMINGS,
+        options: &[TIMING, SCRIPT],
+    },
+];
+
+/// The command line: a word for each command, with files and names.
+pub fn command<'a>(alloc: Global) -> Result<Command<'a>, AllocError> {
+    let study = Command::new(alloc, "study")
+        .about("A line and its fault scripts: answers and pictures.")
+        .version(VERSION)
+        .subcommand_required(true)
+        .arg_required_else_help(true);
+    let study = with_words(alloc, Ok(study), ANSWERS);
+    with_words(alloc, with(study, comtrade(alloc)), PICTURES)
+}
+
+fn comtrade<'a>(alloc: Global) -> Result<Command<'a>, AllocError> {
+    let records = Command::new(alloc, "comtrade")
+        .about("Records of relays (COMTRADE), in and out")
+        .subcommand_required(true)
+        .arg_required_else_help(true);
+    with(with_words(alloc, Ok(records), RECORDS), export(alloc))
+}
+
+// A command with those of a table below it.
+fn with_words<'a>(
+    alloc: Global,
+    command: Result<Command<'a>, AllocError>,
+    words: &'static [Word],
+) -> Result<Command<'a>, AllocError> {
+    let mut command = command;
+    for word in words {
+        command = with(command, written(alloc, *word));
+    }
+    command
+}
+
+// A command with another below it.
+fn with<'a>(
+    command: Result<Command<'a>, AllocError>,
+    other: Result<Command<'a>, AllocError>,
+) -> Result<Command<'a>, AllocError> {
+    command?.subcommand(other?)
+}
+
+// A command of the table, whose text goes to standard output or to a file.
+fn written<'a>(alloc: Global, word: Word) -> Result<Command<'a>, AllocError> {
+    let output = Arg::new(alloc, "output")
+        .short('o')
+        .value_name("FILE")
+        .help("The file to write; standard output without it");
+    with_arg(given(alloc, word), output)
+}
+
+// The one that writes three files.
+fn export<'a>(alloc: Global) -> Result<Command<'a>, AllocError> {
+    let output = Arg::new(alloc, "output")
+        .short('o')
+        .required(true)
+        .value_name("NAME")
+        .help("What the names of the three files begin with");
+    with_arg(given(alloc, EXPORT), output)
+}
+
+// A command with its files and options.
+fn given<'a>(alloc: Global, word: Word) -> Result<Command<'a>, AllocError> {
+    let command = Command::new(alloc, word.name).about(word.about);
+    let mut command = with_arg(Ok(command), files_of(alloc, word.files));
+    for opt in word.options {
+        command = with_arg(command, option_of(alloc, *opt));
+    }
+    command
+}
+
+// A command with an argument more.
+fn with_arg<'a>(
+    command: Result<Command<'a>, AllocError>,
+    arg: Arg<'a>,
+) -> Result<Command<'a>, AllocError> {
+    command?.arg(arg)
+}
+
+fn files_of<'a>(alloc: Global, files: Files) -> Arg<'a> {
+    Arg::new(alloc, "files")
+        .required(true)
+        .num_args(files.least..=files.most)
+        .value_names(files.names)
+        .help(files.help)
+}
+
+fn option_of<'a>(alloc: Global, opt: Opt) -> Arg<'a> {
+    let arg = Arg::new(alloc, opt.name).long(opt.name).help(opt.help);
+    match opt.value {
+        Some(value) => arg.required(opt.required).value_name(value),
+        None => arg.action(ArgAction::SetTrue),
+    }
+}

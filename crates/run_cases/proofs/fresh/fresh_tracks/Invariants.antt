@@ -1,5 +1,0 @@
-use Rattle.run_simulator.specs.Ticks.{AreFresh}
-use Rattle.run_cases.proofs.fresh.fresh_tracks.Given as goal
-
-abbrev pub invariant-loop : goal.invariant-loop
-invariant-loop g l = AreFresh l.counter l.horizon l.tracks.items

@@ -1,6 +1,0 @@
-use Rattle.std.proofs.Common.{◌≤◌}
-use Rattle.run_simulator.proofs.Loops.{FirstHave}
-use Rattle.run_simulator.proofs.delays.first_over.Given as goal
-
-abbrev pub invariant-loop-channel : goal.invariant-loop-channel
-invariant-loop-channel g l = FirstHave (λ d. l.until ≤ d.until) l.delays l.channel

@@ -1,5 +1,0 @@
-use Rattle.run_simulator.proofs.DelayLaws.{arrivals_keep}
-use Rattle.run_simulator.proofs.laws.arrivals_keep_between_changes.Goals as goal
-
-pub returns : goal.returns
-returns c = λ key ends t n least greatest. arrivals_keep c.history_laws.ensures key t n ends least greatest

@@ -1,6 +1,0 @@
-use Rattle.run_simulator.proofs.QuietLaws.{gates_keep}
-use Rattle.run_simulator.proofs.laws.quiet_sources_keep_every_gate.Goals as goal
-
-pub returns : goal.returns
-returns c = λ line w keys u t n gates laws named are sources fits.
-    gates_keep c.elements_stay_in_a_stretch.ensures line w keys u t n gates laws named are sources fits

@@ -1,0 +1,30 @@
+use Rattle.std.proofs.Common.{◌≡◌, ◌≤◌, Some, refl, sym, ◌∙◌, ap, arith, length}
+use Rattle.std.proofs.lemmas.Option.{slice_get_read}
+use Rattle.std.specs.Prelude.{slice_get, option_map}
+use Rattle.model_timing.specs.Timing.{number_at}
+use Rattle.run_step.specs.LaneBox.{ends_in}
+use Rattle.run_step.specs.InputLaws.{number_keeps}
+use Rattle.run_step.proofs.delays.set_delay.Goals as goal
+
+pub returns-clause-stands : goal.returns-clause-stands
+returns-clause-stands g c =
+    let spans = c.args.spans.now in
+    let steps = c.args.steps.now in
+    let i = c.args.delay.now.param in
+    let own = c.index-spans-delay.result in
+    let ends = g.V.Signal.ends in
+    let less : c.lesser.result ≤ c.steps_stay-stays.result = c.lesser.ensures.first in
+    let at : slice_get spans i ≡ Some own =
+    slice_get_read spans (length spans) i own refl c.requires.exists c.index-spans-delay.is in
+    record {
+      holds = λ lane r low high.
+          ap (λ s. ends s lane) c.value_at-span.ensures
+          ∙ ap (λ s. ends s lane) (sym (number_keeps steps i c.args.t c.steps_stay-stays.result own
+          c.steps_stay-stays.ensures.keeps r low (omega (arith, high, less))))
+          ∙ ap (λ o. ends_in ends lane (option_map (number_at steps i r) o)) (sym at);
+      soonest = λ early. record {
+        some = c.soonest-delay.ensures.some;
+        limited = c.soonest-delay.ensures.limited;
+        before = c.soonest-delay.ensures.before;
+      };
+    }

@@ -1,0 +1,44 @@
+use Rattle.std.proofs.Common.{◌≡◌, rules, ℕ, Some, refl, ◌∙◌, ap, length, get_or, arith}
+use Rattle.std.proofs.lemmas.Option.{slice_get-get_or}
+use Rattle.std.specs.Prelude.{slice_get}
+use Rattle.model_history.specs.Rails.{rails_delayed}
+use Rattle.run_signal.specs.Lanes.{in_lane}
+use Rattle.run_step.specs.DelayLaws.{sender_inside}
+use Rattle.run_step.specs.SendLaws.{received-is}
+use Rattle.run_step.proofs.gate_answer.raw_answer.Goals as goal
+
+pub bounds-moment-delay : goal.bounds-moment-delay
+bounds-moment-delay g c =
+    sender_inside g.V.Signal.LANES g.V.Signal.ends c.args.moment.now c.args.channel
+    c.index-moment-channel.result c.requires.moment c.requires.exists
+
+pub offset_bounds-moment-delay : goal.offset_bounds-moment-delay
+offset_bounds-moment-delay g c =
+    let inside =
+    sender_inside g.V.Signal.LANES g.V.Signal.ends c.args.moment.now c.args.channel
+    c.index-moment-channel.result c.requires.moment c.requires.exists in
+    search (rules, inside)
+
+pub returns : goal.returns
+returns g c = λ lane w keys inside of have.
+    let moment = c.args.moment.now in
+    let t = moment.t in
+    let can = c.requires.moment in
+    let d = get_or moment.delays.now c.args.channel c.index-moment-channel.result in
+    let s = get_or moment.sent.now d.from c.index-moment-delay.result in
+    let at : slice_get moment.delays.now c.args.channel ≡ Some d =
+    slice_get-get_or moment.delays.now c.args.channel c.index-moment-channel.result
+    (omega (arith, can.delays.count, c.requires.exists)) in
+    let there = can.delays.from c.args.channel d at in
+    let f : slice_get moment.sent.now d.from ≡ Some s =
+    slice_get-get_or moment.sent.now d.from c.index-moment-delay.result
+    (omega (arith, there, can.sent.count)) in
+    let delay = of.delay c.args.channel d at in
+    c.received.ensures lane inside
+    ∙ received-is c.history_laws.ensures (in_lane g.V.Signal.rails lane s.keys) (keys d.from) t
+    (length s.keys) (g.V.Signal.ends d.span lane) (g.V.Signal.ends d.span lane)
+    (have d.from s f) (can.sent.each d.from s f).0 refl
+    (can.delays.later c.args.channel d at lane inside)
+    ∙ ap (λ (k : ℕ). rails_delayed (keys k) (g.V.Signal.ends d.span lane) t)
+    (of.from c.args.channel d at)
+    ∙ ap (λ e. rails_delayed (keys (w.from c.args.channel)) e t) delay

@@ -1,0 +1,52 @@
+-- The values of all ticks in one list.
+use Rattle.std.proofs.Common.{◌≡◌, ℕ, ◌+◌, ◌*◌, ◌%◌, ◌/◌, ◌<◌, ◌≤◌, List, [], ◌++◌, length, sym}
+use Rattle.std.proofs.Common.{◌∙◌, ap, subst, arith, ⊎_elim}
+use Rattle.std.proofs.lemmas.Nat.{mod-mul-add, div-mul-add, mul-add-lt}
+use Rattle.std.proofs.lemmas.Option.{slice_get_within}
+use Rattle.std.proofs.Math.Nat.{mul-le-mul_right}
+use Rattle.model_history.specs.Rails.{Rails}
+use Rattle.run_step.specs.GatePairs.{GateSignals}
+use Rattle.run_step.specs.WavesOf.{WavesOf, AreWaves, wave_pair, pair_in}
+use Rattle.run_step.specs.{Ticks.ValuesAgree, Ticks.ValuesTold, ListLaws.exists_at}
+use Rattle.run_step.specs.ListLaws.{at_append}
+
+-- one more tick has room below the horizon
+pub tick_fits : (t h n : ℕ) → t < h → t * n + n ≤ h * n
+tick_fits t h n lt =
+    let le : (t + 1) * n ≤ h * n = mul-le-mul_right n (omega arith) in omega (arith, le)
+
+module _ {X : Type 0} (rails : X → ℕ → Rails) (lane : ℕ) (u : GateSignals) where
+  pub values_none : (n : ℕ) → ValuesTold rails lane u n []
+  values_none n p x at = absurd (cc)
+
+  -- one more tick of values
+  pub values_more : (t n : ℕ) (values column : List X) → length values ≡ t * n → length column ≡ n
+      → ValuesAgree rails lane u t column → ValuesTold rails lane u n values
+      → ValuesTold rails lane u n (values ++ column)
+  values_more t n values column len wide agree told p x at =
+      ⊎_elim
+      (λ before. told p x before)
+      (λ (q, e, f).
+      let lt : q < n = subst (λ (m : ℕ). q < m) wide (slice_get_within column q x f) in
+      let place : p ≡ t * n + q = e ∙ ap (λ (m : ℕ). m + q) len in
+      let gate : p % n ≡ q = ap (λ (m : ℕ). m % n) place ∙ mod-mul-add t n q lt in
+      let tick : p / n ≡ t = ap (λ (m : ℕ). m / n) place ∙ div-mul-add t n q lt in
+      agree q x f ∙ sym (ap (λ (i : ℕ). u i (p / n)) gate ∙ ap (u q) tick))
+      (at_append values column p x at)
+
+  -- the pair that a wave has
+  pub wave_told : (waves : WavesOf X) → AreWaves waves
+      → ValuesTold rails lane u waves.width waves.values
+      → (gate t : ℕ) → gate < waves.width → t < waves.horizon
+      → wave_pair rails lane waves gate t ≡ u gate t
+  wave_told waves are told gate t inside before =
+      let p = t * waves.width + gate in
+      let lt : p < waves.width * waves.horizon =
+      mul-add-lt t waves.width gate waves.horizon before inside in
+      let count : length waves.values ≡ waves.horizon * waves.width = are.count in
+      let there : p < length waves.values = omega (arith, lt, count) in
+      let (x, at) = exists_at waves.values p there in
+      ap (pair_in rails lane) at
+      ∙ told p x at
+      ∙ ap (λ (i : ℕ). u i (p / waves.width)) (mod-mul-add t waves.width gate inside)
+      ∙ ap (u gate) (div-mul-add t waves.width gate inside)
