@@ -3,16 +3,12 @@ ghost use Rattle.std.specs.Prelude.{◌≡◌, ◌+◌, ◌<◌, ◌≤◌, ℕ,
 ghost use Rattle.std.specs.Io.KnownBytes.{Appends, WriteAppends};
 ghost use Rattle.base_store.specs.{Counts.Rose, Counts.one_more, Sink.GrewByProper};
 
-use thiserror::Error;
-
 /// A push took nothing, and the count of faults rose.
-#[derive(Clone, Copy, Debug, PartialEq, Eq, Error)]
-#[error("the sink failed")]
+#[derive(Clone, Copy)]
 pub struct SinkFailed;
 
 /// A text was put in part only, and the count of faults rose.
-#[derive(Clone, Copy, Debug, PartialEq, Eq, Error)]
-#[error("the sink failed before all was put")]
+#[derive(Clone, Copy, PartialEq, Eq)]
 pub struct PutFailed;
 
 /// Takes bytes piece by piece, with a count of its faults.

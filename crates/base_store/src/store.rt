@@ -5,27 +5,22 @@ ghost use Rattle.base_store.specs.Counts.{Rose, Grew, one_more};
 ghost use Rattle.base_store.specs.Store.{IsPiece, SameCounts, NoneFell, Explains, Counts};
 
 use std::alloc::{AllocError, Global};
-use thiserror::Error;
 
 /// How many bytes one pull of a fetch asks for.
 const PIECE: usize = 65536;
 
 /// A pull gave nothing, and the count of its name rose.
-#[derive(Clone, Copy, Debug, PartialEq, Eq, Error)]
-#[error("the store failed")]
+#[derive(Clone, Copy)]
 pub struct StoreFailed;
 
 /// Why a fetch has no bytes to give.
-#[derive(Clone, Copy, Debug, PartialEq, Eq, Error)]
+#[derive(Clone, Copy, PartialEq, Eq)]
 pub enum FetchFault {
     /// A pull failed.
-    #[error("the store failed")]
     Failed,
     /// The name holds more bytes than the limit.
-    #[error("more bytes than the limit")]
     TooLong,
     /// No memory was left.
-    #[error("out of memory")]
     Memory,
 }
 

@@ -7,11 +7,10 @@ ghost use Rattle.file_line.specs.Faults.{fault_name, fault_number};
 use crate::path::Path;
 use model_line::Name;
 use std::alloc::{AllocError, AllocFailed};
-use std::error::Error;
 use std::fmt;
 
 /// The first fault of a line file, with its place, or want of memory.
-#[derive(Clone, Copy, Debug, Drop)]
+#[derive(Clone, Copy, Drop)]
 pub enum LineFault {
     /// The bytes are no TOML document.
     NotToml,
@@ -96,8 +95,6 @@ fn write_bytes<W: fmt::Write>(f: &mut fmt::Formatter<W>, bytes: &[u8]) -> fmt::R
     }
     Ok(())
 }
-
-impl Error for LineFault {}
 
 impl From<AllocError> for LineFault {
     ghost from_gives = { λ _ e. e ≡ Memory };

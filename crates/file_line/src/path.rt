@@ -9,7 +9,7 @@ use std::marker::Model;
 
 /// A place in a line file, as `terminal[0].z2.pickup`: at most 96 bytes, each from 0x21 to 0x7E.
 /// The bytes of the array past the path's end are 0.
-#[derive(Clone, Copy, Debug)]
+#[derive(Clone, Copy)]
 pub struct Path {
     bytes: [u8; 96],
     len: u8,

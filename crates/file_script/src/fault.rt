@@ -2,11 +2,10 @@
 
 use base_records::{Memory, print_fault};
 use std::alloc::AllocFailed;
-use std::error::Error;
 use std::fmt;
 
 /// Why a file of scripts is refused. The number is that of the record; the header is record 1.
-#[derive(Clone, Copy, Debug, Drop)]
+#[derive(Clone, Copy, Drop)]
 pub enum ScriptFault {
     /// The first record isn't `script,item,place,from,to`.
     Header,
@@ -74,8 +73,6 @@ impl fmt::Display for ScriptFault {
         print_fault(f, self.name(), self.record())
     }
 }
-
-impl Error for ScriptFault {}
 
 impl<T: Drop> From<AllocFailed<T>> for ScriptFault {
     ghost use Rattle.std.specs.Prelude.{◌≡◌};

@@ -7,12 +7,11 @@ ghost use Rattle.file_study.specs.FaultWords.{words_of_time};
 use crate::path::Path;
 use file_times::TimeFault;
 use std::alloc::{AllocError, AllocFailed};
-use std::error::Error;
 use std::fmt;
 
 /// The first fault of a study, with its place, or want of memory. A place that begins with `line`
 /// is one of the line file that the study comes to, as `line.terminal[0].z1.pickup`.
-#[derive(Clone, Copy, Debug, Drop)]
+#[derive(Clone, Copy, Drop)]
 pub enum StudyFault {
     /// The bytes are no TOML document.
     NotToml,
@@ -108,8 +107,6 @@ fn time_words(fault: TimeFault) -> &'static str
         TimeFault::Surplus(_) => "something stands behind the time",
     }
 }
-
-impl Error for StudyFault {}
 
 impl From<AllocError> for StudyFault {
     ghost from_gives = { λ _ e. e ≡ Memory };

@@ -10,7 +10,7 @@ use std::marker::Model;
 
 /// A place in a study, as `fault[0].stage[1].lasts`: its first 160 bytes, each from 0x21 to 0x7E.
 /// The bytes of the array past the path's end are 0.
-#[derive(Clone, Copy, Debug)]
+#[derive(Clone, Copy)]
 pub struct Path {
     bytes: [u8; 160],
     len: u8,

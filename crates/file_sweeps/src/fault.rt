@@ -5,12 +5,11 @@ ghost use Rattle.file_sweeps.specs.SweepWords.{horizon_words as words_of_horizon
 ghost use Rattle.file_sweeps.specs.declared.fault.SweepFault.TheVariants.{Memory};
 
 use std::alloc::{AllocError, AllocFailed};
-use std::error::Error;
 use std::fmt;
 
 /// Why a fault of a study comes to no scripts of its line. A place is that of a choice of its swept
 /// times, counted from 0; it is the first that has no script.
-#[derive(Clone, Copy, Debug, Drop)]
+#[derive(Clone, Copy, Drop)]
 pub enum SweepFault {
     /// More than 4,096 choices.
     TooMany,
@@ -92,8 +91,6 @@ impl fmt::Display for SweepFault {
         Ok(())
     }
 }
-
-impl Error for SweepFault {}
 
 impl From<AllocError> for SweepFault {
     ghost from_gives = { λ _ e. e ≡ Memory };

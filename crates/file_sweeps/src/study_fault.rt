@@ -6,12 +6,11 @@ ghost use Rattle.file_sweeps.specs.declared.study_fault.StudySweepFault.TheVaria
 use crate::fault::SweepFault;
 use model_line::Name;
 use std::alloc::{AllocError, AllocFailed};
-use std::error::Error;
 use std::fmt;
 
 /// Why the faults of a study come to no scripts. The first number is that of the fault in file
 /// order, counted from 0.
-#[derive(Clone, Copy, Debug, Drop)]
+#[derive(Clone, Copy, Drop)]
 pub enum StudySweepFault {
     /// The fault of that name has none.
     Refused(usize, Name, SweepFault),
@@ -45,8 +44,6 @@ fn write_name<W: fmt::Write>(f: &mut fmt::Formatter<W>, name: &Name) -> fmt::Res
         Err(_) => f.write_str("?"),
     }
 }
-
-impl Error for StudySweepFault {}
 
 impl From<AllocError> for StudySweepFault {
     ghost from_gives = { λ _ e. e ≡ Memory };

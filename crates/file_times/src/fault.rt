@@ -2,7 +2,7 @@
 
 /// The first fault of a time's text, with the byte, from 0 on, at which the word at fault begins.
 /// Where a word is missing this is the text's length.
-#[derive(Clone, Copy, Debug, Drop)]
+#[derive(Clone, Copy, Drop)]
 pub enum TimeFault {
     /// A tolerance has nothing before it.
     NoValue(usize),

@@ -1,12 +1,10 @@
 //! Why a file of timings is refused.
 
-use base_records::{Memory, print_fault};
+use base_records::Memory;
 use std::alloc::AllocFailed;
-use std::error::Error;
-use std::fmt;
 
 /// Why a file of timings is refused. The number is that of the record; the header is record 1.
-#[derive(Clone, Copy, Debug, Drop)]
+#[derive(Clone, Copy, Drop)]
 pub enum TimingFault {
     /// The first record isn't `timing,parameter,value`.
     Header,
@@ -68,14 +66,6 @@ impl TimingFault {
         }
     }
 }
-
-impl fmt::Display for TimingFault {
-    fn fmt<W: fmt::Write>(&self, f: &mut fmt::Formatter<W>) -> fmt::Result {
-        print_fault(f, self.name(), self.record())
-    }
-}
-
-impl Error for TimingFault {}
 
 impl<T: Drop> From<AllocFailed<T>> for TimingFault {
     ghost use Rattle.std.specs.Prelude.{◌≡◌};

@@ -12,11 +12,9 @@ use crate::axis::{Axes, Axis};
 use crate::intervals::width;
 use crate::known::laws_below;
 use model_line::{Line, Name};
-use std::error::Error;
-use std::fmt;
 
 /// Why a map cannot be made.
-#[derive(Clone, Copy, Debug, Drop)]
+#[derive(Clone, Copy, Drop)]
 pub enum MapFault {
     /// The interval of this parameter would go beyond 4,000 ticks.
     Late(Name),
@@ -101,29 +99,3 @@ fn first_fault(line: &Line, first: u32, last: u32, params: &[u32]) -> Option<Map
         }
     }
 }
-
-// The letters of a name.
-fn put_name<W: fmt::Write>(f: &mut fmt::Formatter<W>, name: Name) -> fmt::Result {
-    for byte in name.bytes() {
-        f.write_char(char::from(*byte))?;
-    }
-    Ok(())
-}
-
-impl fmt::Display for MapFault {
-    fn fmt<W: fmt::Write>(&self, f: &mut fmt::Formatter<W>) -> fmt::Result {
-        match self {
-            MapFault::Late(name) => {
-                put_name(f, *name)?;
-                f.write_str(" would go beyond 4000 ticks")
-            }
-            MapFault::NoDelay(name) => {
-                put_name(f, *name)?;
-                f.write_str(" is a delay and would begin at 0")
-            }
-            MapFault::TooMany => f.write_str("more than 40000 cells"),
-        }
-    }
-}
-
-impl Error for MapFault {}

@@ -1,12 +1,10 @@
 //! Why a record file is refused.
 
-use base_records::{Memory, print_fault};
+use base_records::Memory;
 use std::alloc::AllocFailed;
-use std::error::Error;
-use std::fmt;
 
 /// Why a record file is refused. The number is that of the record; the header is record 1.
-#[derive(Clone, Copy, Debug, Drop)]
+#[derive(Clone, Copy, Drop)]
 pub enum SeenFault {
     /// The first record isn't `script,tick,terminal,signal,level`.
     Header,
@@ -68,14 +66,6 @@ impl SeenFault {
         }
     }
 }
-
-impl fmt::Display for SeenFault {
-    fn fmt<W: fmt::Write>(&self, f: &mut fmt::Formatter<W>) -> fmt::Result {
-        print_fault(f, self.name(), self.record())
-    }
-}
-
-impl Error for SeenFault {}
 
 impl<T: Drop> From<AllocFailed<T>> for SeenFault {
     ghost use Rattle.std.specs.Prelude.{◌≡◌};

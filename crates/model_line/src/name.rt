@@ -7,7 +7,7 @@ ghost use Rattle.model_line.specs.PlainNames.{is_plain_byte, is_plain_name};
 use std::marker::Model;
 
 /// A name: 1 to 64 bytes. The bytes of the array past the name's end are 0.
-#[derive(Clone, Copy, PartialEq, Eq, Debug)]
+#[derive(Clone, Copy, PartialEq, Eq)]
 pub struct Name {
     bytes: [u8; 64],
     len: u8,

@@ -128,15 +128,34 @@ fn call_with(
     })
 }
 
-fn call(alloc: Global, words: &[&str], files: Files<'_>) -> Result<Ended, Memory> {
-    call_with(alloc, words, files, NO_FAULTS)
+// How a call has to end.
+#[derive(Clone, Copy)]
+struct End<'a> {
+    status: Status,
+    out: &'a str,
+    err: &'a str,
 }
 
-fn assert_ended(rt: &impl Abort, what: &str, got: &Ended, status: Status, out: &str, err: &str) {
+fn ends<'a>(status: Status, out: &'a str, err: &'a str) -> End<'a> {
+    End { status, out, err }
+}
+
+// Makes the call, and says how it ended where that is not how it has to.
+fn calls(
+    rt: &impl Abort,
+    alloc: Global,
+    what: &str,
+    words: &[&str],
+    files: Files<'_>,
+    faults: Faults,
+    end: End<'_>,
+) -> Result<(), Fail> {
+    let got = call_with(alloc, words, files, faults)?;
     let told = got.err.as_str();
     let text = got.out.as_str();
     let ended = got.status;
-    assert!(rt; told == err, "{what}: err is {told}");
-    assert!(rt; text == out, "{what}: out is {text}");
-    assert!(rt; ended == status, "{what}: {ended:?}");
+    assert!(rt; told == end.err, "{what}: err is {told}");
+    assert!(rt; text == end.out, "{what}: out is {text}");
+    assert!(rt; ended == end.status, "{what}: {ended:?}");
+    Ok(())
 }

@@ -1,40 +1,33 @@
-//! The worked rows: each call of `pilot` in the file `cases`, over the files beside it, and how it
-//! ends. How they are read stands in the crate `worked_cases`.
+//! The worked rows: the calls of `pilot` and of `study lint` that stand in a file `cases`, over the
+//! files beside it, and how each ends.
+//!
+//! Each line of `cases` is printed as it stands, and then done:
+//!
+//! - `# WORDS`, or an empty line: nothing more. It says what the next call shows.
+//! - `in FILE: OLD -> NEW`: in the next call alone, the file has the new text where it has the old
+//!   one, which stands there once.
+//! - `throughout FILE: OLD -> NEW`: the same wherever the old text stands, at least once.
+//! - `fill FILE: BYTE -> LENGTH`: in the next call alone, the file is filled up with the byte.
+//! - `$ PROGRAM WORDS`: the call, its text, its line on standard error behind `err: `, its status.
+//!
+//! Any other line, and a call with a change that cannot be made, ends the rows. They end at the line
+//! that was printed last.
 #![tactic(auto)]
 
-use base_store::{FileStore, MemorySink, MemoryStore, Sink, StdSink};
-use call_engine::NetEngine;
-use call_pilot::pilot;
-use std::alloc::Global;
+mod call;
+mod change;
+mod fault;
+mod programs;
+mod rows;
+
+use base_store::{FileStore, StdSink};
+use rows::run_rows;
 use std::process::ExitCode;
-use worked_cases::{Fault, Program, run_rows};
-
-// The program `pilot`, with an engine for each call.
-#[derive(Clone, Copy)]
-struct Pilot;
-
-impl Program for Pilot {
-    fn name(&self) -> &'static str {
-        "pilot"
-    }
-
-    fn call<O: Sink>(
-        &mut self,
-        alloc: Global,
-        words: &[String],
-        store: &mut MemoryStore,
-        out: &mut O,
-        err: &mut MemorySink,
-    ) -> Result<u8, Fault> {
-        let mut engine = NetEngine::new();
-        Ok(pilot(alloc, words, &mut engine, store, out, err) as u8)
-    }
-}
 
 fn main(rt: HostRuntime) -> ExitCode {
     let mut files = FileStore::new(&rt);
     let mut out = StdSink::new(rt.stdout());
-    match run_rows(rt.alloc(), &mut Pilot, &mut files, &mut out) {
+    match run_rows(rt.alloc(), &mut files, &mut out) {
         Ok(()) => ExitCode::from(0),
         Err(fault) => {
             // The status says it too, where standard error takes nothing.

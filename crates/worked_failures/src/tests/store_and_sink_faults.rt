@@ -3,9 +3,26 @@
 use super::worked_files::*;
 use super::*;
 
-// The play of the first line and its fault, with these faults.
-fn play_with(alloc: Global, faults: Faults) -> Result<Ended, Memory> {
-    call_with(alloc, PLAY, texts(POTT, FAULT, LEAST), faults)
+// Plays the files with these faults.
+fn plays(
+    rt: &impl Abort,
+    alloc: Global,
+    what: &str,
+    faults: Faults,
+    end: End<'_>,
+) -> Result<(), Fail> {
+    let files = texts(POTT, FAULT, LEAST);
+    calls(rt, alloc, what, PLAY, files, faults, end)
+}
+
+const WELL: End<'static> = End {
+    status: Status::Good,
+    out: PLAYED,
+    err: "",
+};
+
+fn sink_fault(out: &str) -> End<'_> {
+    ends(Status::SinkFault, out, "sink fault\n")
 }
 
 const BYTE_BY_BYTE: SinkFaults = SinkFaults {
@@ -21,35 +38,30 @@ fn one_byte_at_a_time(rt: HostRuntime) -> Result<(), Fail> {
         err: BYTE_BY_BYTE,
         ..NO_FAULTS
     };
-    let got = play_with(rt.alloc(), slow)?;
-    assert_ended(&rt, "slow", &got, Status::Good, PLAYED, "");
-    Ok(())
+    plays(&rt, rt.alloc(), "slow", slow, WELL)
 }
 
 // Each file is read by two pulls.
 #[test]
 fn each_pull_fails(rt: HostRuntime) -> Result<(), Fail> {
     let rows = [
-        (1, "line"),
-        (2, "line"),
-        (3, "scripts"),
-        (4, "scripts"),
-        (5, "timings"),
-        (6, "timings"),
+        (1, "store fault line\n"),
+        (2, "store fault line\n"),
+        (3, "store fault scripts\n"),
+        (4, "store fault scripts\n"),
+        (5, "store fault timings\n"),
+        (6, "store fault timings\n"),
     ];
-    for (pull, file) in rows {
-        let got = play_with(rt.alloc(), Faults { pull, ..NO_FAULTS })?;
-        let told = format!(in rt.alloc(); "store fault {file}\n")?;
-        let what = told.as_str();
-        assert_ended(&rt, what, &got, Status::StoreFault, "", what);
+    for (pull, told) in rows {
+        let stopped = ends(Status::StoreFault, "", told);
+        let failing = Faults { pull, ..NO_FAULTS };
+        plays(&rt, rt.alloc(), told, failing, stopped)?;
     }
     let behind_the_last = Faults {
         pull: 7,
         ..NO_FAULTS
     };
-    let got = play_with(rt.alloc(), behind_the_last)?;
-    assert_ended(&rt, "pull 7", &got, Status::Good, PLAYED, "");
-    Ok(())
+    plays(&rt, rt.alloc(), "pull 7", behind_the_last, WELL)
 }
 
 // Where one name is given twice, the file is read twice, by two pulls each time.
@@ -60,10 +72,10 @@ fn the_second_read_fails(rt: HostRuntime) -> Result<(), Fail> {
         ..NO_FAULTS
     };
     let files = texts(POTT, FAULT, LEAST);
-    let got = call_with(rt.alloc(), &["play", "l", "l", "t"], files, second_read)?;
+    let words = &["play", "l", "l", "t"];
     let told = "store fault scripts\n";
-    assert_ended(&rt, told, &got, Status::StoreFault, "", told);
-    Ok(())
+    let stopped = ends(Status::StoreFault, "", told);
+    calls(&rt, rt.alloc(), told, words, files, second_read, stopped)
 }
 
 // The play text has 185 bytes, and out takes one a push.
@@ -72,15 +84,13 @@ fn each_push_fails(rt: HostRuntime) -> Result<(), Fail> {
     let alloc = rt.alloc();
     let mut pushed = String::new(alloc);
     for character in PLAYED.chars() {
-        let got = play_with(alloc, failing_push(pushed.len() as u64 + 1))?;
         let out = pushed.as_str();
-        assert_ended(&rt, out, &got, Status::SinkFault, out, "sink fault\n");
+        let failing = failing_push(out.len() as u64 + 1);
+        plays(&rt, alloc, out, failing, sink_fault(out))?;
         pushed.push(character)?;
     }
     assert!(rt; pushed.len() == 185);
-    let got = play_with(alloc, failing_push(186))?;
-    assert_ended(&rt, "push 186", &got, Status::Good, PLAYED, "");
-    Ok(())
+    plays(&rt, alloc, "push 186", failing_push(186), WELL)
 }
 
 fn failing_push(push: u64) -> Faults {
@@ -122,8 +132,8 @@ fn out_fails(rt: HostRuntime) -> Result<(), Fail> {
         ),
     ];
     for (what, out, text) in rows {
-        let got = play_with(rt.alloc(), Faults { out, ..NO_FAULTS })?;
-        assert_ended(&rt, what, &got, Status::SinkFault, text, "sink fault\n");
+        let failing = Faults { out, ..NO_FAULTS };
+        plays(&rt, rt.alloc(), what, failing, sink_fault(text))?;
     }
     Ok(())
 }
@@ -135,7 +145,8 @@ fn the_second_push_fails(rt: HostRuntime) -> Result<(), Fail> {
         push: 2,
         ..SOUND_SINK
     };
-    let got = play_with(rt.alloc(), Faults { out, ..NO_FAULTS })?;
+    let files = texts(POTT, FAULT, LEAST);
+    let got = call_with(rt.alloc(), PLAY, files, Faults { out, ..NO_FAULTS })?;
     assert!(rt; got.status == Status::SinkFault, "status");
     assert!(rt; PLAYED.starts_with(got.out.as_str()), "out");
     assert!(rt; got.err.as_str() == "sink fault\n", "err");
@@ -165,8 +176,8 @@ fn err_fails(rt: HostRuntime) -> Result<(), Fail> {
     ];
     for (what, faults, told) in rows {
         let files = texts(line.as_str(), FAULT, LEAST);
-        let got = call_with(alloc, PLAY, files, faults)?;
-        assert_ended(&rt, what, &got, Status::BadInput, "", told);
+        let refused = ends(Status::BadInput, "", told);
+        calls(&rt, alloc, what, PLAY, files, faults, refused)?;
     }
     Ok(())
 }
@@ -184,17 +195,16 @@ fn err_fails_in_other_calls(rt: HostRuntime) -> Result<(), Fail> {
     let alloc = rt.alloc();
     let quiet = failing_err(1, SOUND_SINK);
     let files = texts(POTT, FAULT, LEAST);
-    let got = call_with(alloc, &["play"], files, quiet)?;
-    assert_ended(&rt, "other words", &got, Status::Usage, "", "");
-    let got = call_with(alloc, &["line", "none"], files, quiet)?;
-    assert_ended(&rt, "no such file", &got, Status::StoreFault, "", "");
+    let usage = ends(Status::Usage, "", "");
+    calls(&rt, alloc, "other words", &["play"], files, quiet, usage)?;
+    let absent = ends(Status::StoreFault, "", "");
+    let words = &["line", "none"];
+    calls(&rt, alloc, "no such file", words, files, quiet, absent)?;
     let both = Faults {
         err: quiet.err,
         ..failing_push(5)
     };
-    let got = play_with(alloc, both)?;
-    assert_ended(&rt, "out as well", &got, Status::SinkFault, "timi", "");
-    let got = play_with(alloc, quiet)?;
-    assert_ended(&rt, "a play", &got, Status::Good, PLAYED, "");
-    Ok(())
+    let cut = ends(Status::SinkFault, "timi", "");
+    plays(&rt, alloc, "out as well", both, cut)?;
+    plays(&rt, alloc, "a play", quiet, WELL)
 }

@@ -57,7 +57,7 @@ fn fetches_from_a_file(rt: HostRuntime) -> Result<(), Fail> {
     let longer = fetch(rt.alloc(), &mut store, name, 3);
     fs::remove_file(&rt, name)?;
     let missing = fetch(rt.alloc(), &mut store, name, 4);
-    assert!(rt; held?.as_slice() == b"vine".as_slice());
+    assert!(rt; held.is_ok_and(|bytes| bytes.as_slice() == b"vine".as_slice()));
     assert!(rt; longer.err() == Some(FetchFault::TooLong));
     assert!(rt; missing.err() == Some(FetchFault::Failed));
     Ok(())

@@ -7,8 +7,8 @@ use super::*;
 #[test]
 fn a_word_with_a_blank(rt: HostRuntime) -> Result<(), Fail> {
     let files = texts(POTT, FAULT, LEAST);
-    let got = call(rt.alloc(), &["play ", "l", "s", "t"], files)?;
+    let words = &["play ", "l", "s", "t"];
     let told = "usage: pilot COMMAND FILES\n";
-    assert_ended(&rt, "play and a blank", &got, Status::Usage, "", told);
-    Ok(())
+    let refused = ends(Status::Usage, "", told);
+    calls(&rt, rt.alloc(), told, words, files, NO_FAULTS, refused)
 }

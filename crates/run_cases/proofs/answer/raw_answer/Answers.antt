@@ -1,10 +1,32 @@
-use Rattle.std.proofs.Common.{◌≡◌, ℕ, Some, refl, sym, ◌∙◌, ap, length}
+use Rattle.std.proofs.Common.{◌≡◌, ◌<◌, ℕ, Some, refl, sym, subst, rules, ◌∙◌, ap, length}
 use Rattle.std.proofs.lemmas.Option.{slice_get_read}
 use Rattle.std.specs.Prelude.{slice_get}
 use Rattle.model_history.specs.Rails.{rails_delayed}
 use Rattle.run_signal.specs.Lanes.{in_lane}
 use Rattle.run_step.specs.SendLaws.{received-is}
 use Rattle.run_cases.proofs.answer.raw_answer.Goals as goal
+
+pub bounds-sent-delay : goal.bounds-sent-delay
+bounds-sent-delay g c =
+    let delays = c.args.delays.now in
+    let d = c.index-delays-channel.result in
+    let at : slice_get delays c.args.channel ≡ Some d =
+    slice_get_read delays _ c.args.channel d (sym c.requires.delays.count) c.requires.exists
+    c.index-delays-channel.is in
+    subst (λ (n : ℕ). d.from < n) (sym c.requires.sent.count)
+    (c.requires.delays.from c.args.channel d at)
+
+pub offset_bounds-sent-delay : goal.offset_bounds-sent-delay
+offset_bounds-sent-delay g c =
+    let delays = c.args.delays.now in
+    let d = c.index-delays-channel.result in
+    let at : slice_get delays c.args.channel ≡ Some d =
+    slice_get_read delays _ c.args.channel d (sym c.requires.delays.count) c.requires.exists
+    c.index-delays-channel.is in
+    let inside : d.from < length c.args.sent.now =
+    subst (λ (n : ℕ). d.from < n) (sym c.requires.sent.count)
+    (c.requires.delays.from c.args.channel d at) in
+    search (rules, inside)
 
 pub returns : goal.returns
 returns g c = λ lane w keys inside of have.

@@ -2,6 +2,7 @@
 
 use crate::change::{Change, changed};
 use crate::fault::Fault;
+use crate::programs::call;
 use base_store::{FetchFault, MemorySink, MemoryStore, Sink, Store, fetch, put_all};
 use itoa::Buffer;
 use std::alloc::{AllocError, Global};
@@ -12,31 +13,11 @@ const LONGEST: u32 = 4_194_304;
 // More than any line on standard error has.
 const LONGEST_MESSAGE: u32 = 400;
 
-/// A program whose calls are made.
-pub trait Program {
-    /// Its name.
-    fn name(&self) -> &'static str;
-
-    /// Makes a call of these words over the store, and gives its status.
-    fn call<O: Sink>(
-        &mut self,
-        alloc: Global,
-        words: &[String],
-        store: &mut MemoryStore,
-        out: &mut O,
-        err: &mut MemorySink,
-    ) -> Result<u8, Fault>;
-}
-
-/// The words that a line has behind `$ NAME`, where `''` is the empty one, or None where the line is
-/// no call of that program.
-pub fn read_words(
-    alloc: Global,
-    name: &str,
-    line: &str,
-) -> Result<Option<Vec<String>>, AllocError> {
+/// The words that a line has behind `$`, of which the first names a program, and `''` is the empty
+/// one; or None where the line is no call.
+pub fn read_words(alloc: Global, line: &str) -> Result<Option<Vec<String>>, AllocError> {
     let mut spelled = line.split_whitespace();
-    if spelled.next() != Some("$") || spelled.next() != Some(name) {
+    if spelled.next() != Some("$") {
         return Ok(None);
     }
     let mut words = Vec::new(alloc);
@@ -49,9 +30,8 @@ pub fn read_words(
 
 /// Makes the call over the files, as the changes make them: its text goes to `out`, and then its line
 /// on standard error, behind `err: `, and its status.
-pub fn make_call<P: Program, F: Store, O: Sink>(
+pub fn make_call<F: Store, O: Sink>(
     alloc: Global,
-    program: &mut P,
     words: &[String],
     changes: &[Change],
     files: &mut F,
@@ -59,7 +39,7 @@ pub fn make_call<P: Program, F: Store, O: Sink>(
 ) -> Result<(), Fault> {
     let mut store = store_of(alloc, words, changes, files)?;
     let mut err = MemorySink::new(alloc, LONGEST_MESSAGE)?;
-    let status = program.call(alloc, words, &mut store, out, &mut err)?;
+    let status = call(alloc, words, &mut store, out, &mut err)?;
     if !err.written().is_empty() {
         put_all(out, b"err: ")?;
         put_all(out, err.written())?;
@@ -70,7 +50,7 @@ pub fn make_call<P: Program, F: Store, O: Sink>(
     Ok(())
 }
 
-// The files that the words name, as the changes make them.
+// The files that the words behind the program and its command name, as the changes make them.
 fn store_of<F: Store>(
     alloc: Global,
     words: &[String],
@@ -83,7 +63,7 @@ fn store_of<F: Store>(
             return Err(Fault::File);
         }
     }
-    for word in words.iter().skip(1) {
+    for word in words.iter().skip(2) {
         hold_file(alloc, word.as_str(), changes, files, &mut store)?;
     }
     Ok(store)

@@ -1,6 +1,6 @@
 //! All rows, one line of `cases` after another.
 
-use crate::call::{Program, make_call, read_words};
+use crate::call::{make_call, read_words};
 use crate::change::read_change;
 use crate::fault::Fault;
 use base_store::{Sink, Store, fetch, put_all};
@@ -8,13 +8,8 @@ use std::alloc::{AllocError, Global};
 
 const LONGEST: u32 = 1_048_576;
 
-/// Prints each line of the file `cases`, and what each call of the program prints and answers.
-pub fn run_rows<P: Program, F: Store, O: Sink>(
-    alloc: Global,
-    program: &mut P,
-    files: &mut F,
-    out: &mut O,
-) -> Result<(), Fault> {
+/// Prints each line of the file `cases`, and what each call prints and answers.
+pub fn run_rows<F: Store, O: Sink>(alloc: Global, files: &mut F, out: &mut O) -> Result<(), Fault> {
     let cases = cases(alloc, files)?;
     let mut changes = Vec::new(alloc);
     for line in cases.as_str().lines() {
@@ -25,8 +20,8 @@ pub fn run_rows<P: Program, F: Store, O: Sink>(
         }
         if let Some(change) = read_change(alloc, line)? {
             changes.push(change).map_err(AllocError::from)?;
-        } else if let Some(words) = read_words(alloc, program.name(), line)? {
-            make_call(alloc, program, &words, &changes, files, out)?;
+        } else if let Some(words) = read_words(alloc, line)? {
+            make_call(alloc, &words, &changes, files, out)?;
             changes.clear();
         } else {
             return Err(Fault::Line);
