@@ -1,7 +1,9 @@
 //! What the program `study` is asked for: work over a line and its scripts, and the files that they
-//! stand in.
+//! stand in; and what is made of records of the field.
 #![tactic(auto)]
 
 mod ask;
+mod records;
 
 pub use ask::{Ask, Form, Source, Table, Work};
+pub use records::{RecordsAsk, RecordsWork};

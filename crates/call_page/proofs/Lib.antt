@@ -1,4 +1,3 @@
-mod Counted
 mod Sides
 mod Chains
 mod Shares

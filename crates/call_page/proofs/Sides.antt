@@ -5,7 +5,7 @@ use Rattle.std.proofs.Common.{Bool, suc, get_or, take}
 use Rattle.std.proofs.lemmas.List.{take_more}
 use Rattle.std.proofs.lemmas.Option.{slice_get_within}
 use Rattle.std.specs.Prelude.{slice_get}
-use Rattle.run_step.specs.ListLaws.{at_push}
+use Rattle.model_history.specs.ListLaws.{at_push}
 use Rattle.call_page.specs.Lists.{EachOf, if_one, those_below}
 
 module _ {X Y : Type 0} (said : X → Y → Type 0) where

@@ -24,8 +24,9 @@ use Rattle.call_pilot.specs.declared.stop.Stop.{Stop}
 use Rattle.call_pilot.specs.declared.words.ThreeFiles.TheVariants as three
 use Rattle.call_pilot.proofs.Told.{IsAnswerFront, all_three, done_answer, front_of_nothing}
 use Rattle.call_pilot.proofs.Told.{three_told, what_was_put}
-use Rattle.call_pilot.proofs.{SameFiles.in_files, SameMatches.match_on}
-use Rattle.call_pilot.proofs.SameMatches.{match_told_on, of_records_on}
+use Rattle.call_pilot.proofs.{SameFiles.in_files}
+use Rattle.call_pilot.specs.{SameMatchLaws.match_on}
+use Rattle.call_pilot.specs.SameMatchLaws.{match_told_on, of_records_on}
 
 -- nothing has no line
 no_match : {X : Type 0} (put name : List ℕ) (i : ℕ) (said : Matched) → put ≡ []

@@ -25,7 +25,7 @@ use Rattle.call_pilot.specs.declared.stop.Stop.{Stop}
 use Rattle.call_pilot.specs.declared.words.ThreeFiles.TheVariants as three
 use Rattle.call_pilot.specs.SaidByFiles.{InFiles}
 use Rattle.call_pilot.proofs.{SameFiles.Moves, SameFiles.in_files, SameFiles.in_files_then}
-use Rattle.call_pilot.proofs.SamePlays.{play_text_on, timing_inside, timings_same}
+use Rattle.call_pilot.specs.SamePlayLaws.{play_text_on, timing_inside, timings_same}
 use Rattle.call_pilot.proofs.Told.{all_three, front_of, three_told}
 
 -- one piece after another is a text of pieces

@@ -15,7 +15,7 @@ use Rattle.call_answer.specs.Checked.{accepted_pieces}
 use Rattle.call_answer.specs.declared.done.Done.{Done}
 use Rattle.call_answer.specs.declared.done.Done.TheVariants as done
 use Rattle.call_pilot.specs.Accepted.{counted_line}
-use Rattle.call_pilot.proofs.Printed.{same_counts}
+use Rattle.call_pilot.specs.PrintedLaws.{same_counts}
 
 module _
     (accepted : (line : Line) (n : ℕ) (scripts : List Script) (parts : List (List SplitResult))

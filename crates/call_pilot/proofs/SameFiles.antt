@@ -23,15 +23,15 @@ use Rattle.call_pilot.specs.{SaidByFiles.InFiles, Truths.IsToldBy}
 use Rattle.call_pilot.specs.Truths.{MarginIsTrue, ReportIsTrue, RowIsTrue, SplitIsTrue}
 use Rattle.call_pilot.specs.declared.stop.Status.{Status}
 use Rattle.call_pilot.specs.declared.stop.Status.TheVariants as status
-use Rattle.call_pilot.proofs.SameFacts.{accepted_on, are_told_on, certified_on, failed_by_all}
-use Rattle.call_pilot.proofs.SameFacts.{failed_on, raised_same, same_params, unknown_by}
-use Rattle.call_pilot.proofs.SameFacts.{within_back}
-use Rattle.call_pilot.proofs.SameScripts.{scripts_same}
-use Rattle.call_pilot.proofs.{SameHeld.upper_end_on, SameTexts.fields_same}
-use Rattle.call_pilot.proofs.SameTexts.{margin_same, split_same, terminal_same}
-use Rattle.call_pilot.proofs.Twins.{twin}
-use Rattle.call_pilot.proofs.SameValues.{history_back, inside_back, meets_on, met_by_all}
-use Rattle.call_pilot.proofs.SameValues.{same_but_params}
+use Rattle.call_pilot.specs.SameFactLaws.{accepted_on, are_told_on, certified_on, failed_by_all}
+use Rattle.call_pilot.specs.SameFactLaws.{failed_on, raised_same, same_params, unknown_by}
+use Rattle.call_pilot.specs.SameFactLaws.{within_back}
+use Rattle.call_pilot.specs.SameScriptLaws.{scripts_same}
+use Rattle.call_pilot.specs.{SameHeldLaws.upper_end_on, SameTextLaws.fields_same}
+use Rattle.call_pilot.specs.SameTextLaws.{margin_same, split_same, terminal_same}
+use Rattle.call_pilot.specs.TwinLaws.{twin}
+use Rattle.call_pilot.specs.SameValueLaws.{history_back, inside_back, meets_on, met_by_all}
+use Rattle.call_pilot.specs.SameValueLaws.{same_but_params}
 
 -- two lines and lists of scripts of the same values
 module _ (counts : CountsRestOnNoInterval) (histories : HistoriesRestOnNoInterval) (a b : Line)

@@ -7,7 +7,6 @@ pub mod CommandView
 pub mod Commands
 pub mod Ends
 pub mod Files
-pub mod Fixed
 pub mod Headline
 pub mod HeadlineLaws
 pub mod RecordLaws
@@ -23,3 +22,13 @@ pub mod Stops
 pub mod Study
 pub mod Words
 pub mod Work
+pub mod PrintedLaws
+pub mod SameFactLaws
+pub mod SameHeldLaws
+pub mod SameMatchLaws
+pub mod SamePlayLaws
+pub mod SameRecordLaws
+pub mod SameScriptLaws
+pub mod SameTextLaws
+pub mod SameValueLaws
+pub mod TwinLaws

@@ -11,7 +11,7 @@ use Rattle.call_records.specs.Course.{RecorderFiles, bytes_in}
 use Rattle.call_records.specs.Faults.{is_record_memory, record_refusal}
 use Rattle.call_records.specs.Halts.{End, Tells}
 use Rattle.call_records.specs.Read.{Gives, IsMemory, TellsAt, TellsOf, files_values}
-use Rattle.call_records.specs.declared.ask.Work.{Work}
+use Rattle.call_ask.specs.declared.records.RecordsWork.{RecordsWork as Work}
 use Rattle.call_records.specs.declared.fetch as code
 use Rattle.call_records.specs.declared.halt.Halt.{Halt}
 use Rattle.call_records.specs.declared.halt.Halt.TheVariants as halt

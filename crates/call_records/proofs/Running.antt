@@ -10,7 +10,7 @@ use Rattle.call_records.specs.Course.{Course, NamedFile, makes, over, reads, ref
 use Rattle.call_records.specs.Faults.{too_long_line}
 use Rattle.call_records.specs.Files.{AllTold, Cause, Fetches, Held, NoneRose, Runs, answers}
 use Rattle.call_records.specs.Read.{Gives, Stops, text_seen}
-use Rattle.call_records.specs.declared.ask.Work.{Work}
+use Rattle.call_ask.specs.declared.records.RecordsWork.{RecordsWork as Work}
 use Rattle.call_records.specs.declared.halt.Halt.{Halt}
 use Rattle.call_records.specs.declared.halt.Halt.TheVariants as halt
 use Rattle.file_map.specs.Maps.{MapValues}

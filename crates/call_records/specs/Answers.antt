@@ -9,8 +9,8 @@ use Rattle.file_sources.specs.Rows.{sources_text}
 use Rattle.file_recorded.specs.{Changes.record_text, Spans.script_told, Spans.spans_told}
 use Rattle.call_records.specs.{Course.RecorderFiles, Course.bytes_in, Halts.End}
 use Rattle.call_records.specs.Faults.{is_record_memory, record_refusal, too_many_spans}
-use Rattle.call_records.specs.declared.ask.Work.{Work}
-use Rattle.call_records.specs.declared.ask.Work.TheVariants as work
+use Rattle.call_ask.specs.declared.records.RecordsWork.{RecordsWork as Work}
+use Rattle.call_ask.specs.declared.records.RecordsWork.TheVariants as work
 use Rattle.call_records.specs.declared.halt.Halt.TheVariants as halt
 
 abbrev pub Answers : Type 1

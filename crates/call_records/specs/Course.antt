@@ -5,8 +5,9 @@ use Rattle.file_line.specs.{LineFiles.line_of, Lines.LineValues, declared.fault.
 use Rattle.file_map.specs.{DataNames.data_name, Maps.MapValues, Maps.map_of, Recorders.RecorderValues}
 use Rattle.file_map.specs.declared.{fault.MapFault.MapFault, source.Signal.Signal}
 use Rattle.file_tracks.specs.{Told.first_untold, Tracks.BytesValues}
-use Rattle.call_records.specs.{Beside.beside, Request.Request, declared.ask.Work.Work}
-use Rattle.call_records.specs.declared.ask.Work.TheVariants as work
+use Rattle.call_records.specs.{Beside.beside, Request.Request}
+use Rattle.call_ask.specs.declared.records.RecordsWork.{RecordsWork as Work}
+use Rattle.call_ask.specs.declared.records.RecordsWork.TheVariants as work
 use Rattle.call_records.specs.Faults.{line_refusal, map_refusal, untold_refusal}
 
 -- A file: how messages tell it, its name in the store, and the most bytes that it may have.

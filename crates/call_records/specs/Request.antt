@@ -1,6 +1,7 @@
 -- What is asked for, by the names of files.
 use Rattle.std.specs.Prelude.{ℕ, List}
-use Rattle.call_records.specs.declared.ask.{Ask.Ask, Work.Work}
+use Rattle.call_ask.specs.declared.records.RecordsAsk.{RecordsAsk as Ask}
+use Rattle.call_ask.specs.declared.records.RecordsWork.{RecordsWork as Work}
 
 pub record Request : Type 0 where
   pub line : List ℕ

@@ -8,10 +8,10 @@ ghost use Rattle.call_records.specs.{Answers.answer_of, Answers.over_work};
 ghost use Rattle.call_records.specs.{Course.bytes_in, Read.Gives, Read.TellsAt, Read.TellsOf};
 ghost use Rattle.call_records.specs.Read.{files_values};
 
-use crate::ask::Work;
 use crate::fetch::RecorderFiles;
 use crate::halt::Halt;
 use crate::refusal::{record_halt, too_many_halt};
+use call_ask::RecordsWork;
 use file_comtrade::RecordFault;
 use file_map::Map;
 use file_recorded::{record_text, scripts_text};
@@ -66,7 +66,7 @@ fn fault_halt(alloc: Global, placed: &[Placed], files: &[RecorderFiles], fault: 
 // The text over what the tracks tell.
 fn text_over(
     alloc: Global,
-    work: Work,
+    work: RecordsWork,
     line: &Line,
     map: &Map,
     placed: &[Placed],
@@ -78,15 +78,15 @@ fn text_over(
         (image track_values tracks.now)) result }
 {
     match work {
-        Work::Scripts => match scripts_text(alloc, line, map, tracks)? {
+        RecordsWork::Scripts => match scripts_text(alloc, line, map, tracks)? {
             Some(text) => Ok(text),
             None => Err(too_many_halt(alloc)),
         },
-        Work::Record => {
+        RecordsWork::Record => {
             let text = record_text(alloc, line, map.script.bytes(), tracks)?;
             Ok(text)
         }
-        Work::Show => {
+        RecordsWork::Show => {
             let table = Sources {
                 line,
                 recorders: map.recorders.as_slice(),
@@ -102,7 +102,7 @@ fn text_over(
 /// The text over the map's recorders and the bytes of their files.
 pub fn answer(
     alloc: Global,
-    work: Work,
+    work: RecordsWork,
     line: &Line,
     map: &Map,
     files: &[RecorderFiles],

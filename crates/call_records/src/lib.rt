@@ -6,7 +6,6 @@
 #![tactic(auto)]
 
 mod answer;
-mod ask;
 mod beside;
 mod fetch;
 mod halt;
@@ -14,6 +13,5 @@ mod read;
 mod refusal;
 mod top;
 
-pub use ask::{Ask, Work};
 pub use halt::{File, Halt, status_of};
 pub use top::records;

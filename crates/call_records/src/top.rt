@@ -10,12 +10,12 @@ ghost use Rattle.call_records.specs.{Files.Runs, Read.text_seen};
 ghost use Rattle.call_records.specs.Halts.{IsDone, IsEarly};
 
 use crate::answer::answer;
-use crate::ask::{Ask, Work};
 use crate::fetch::{SMALL, fetch_file, fetch_recorders};
 use crate::halt::{File, Halt, put_halt};
 use crate::read::{read_line, read_map};
 use crate::refusal::untold_halt;
 use base_store::{Sink, Store, put_all};
+use call_ask::{RecordsAsk, RecordsWork};
 use file_map::{Map, Signal};
 use file_tracks::first_untold;
 use model_line::Line;
@@ -28,7 +28,7 @@ use std::alloc::Global;
 /// the order of the map; their names are taken from the folder of the map.
 pub fn records<S: Store, O: Sink, E: Sink>(
     alloc: Global,
-    ask: &Ask<'_>,
+    ask: &RecordsAsk<'_>,
     store: &mut S,
     out: &mut O,
     err: &mut E,
@@ -61,7 +61,7 @@ pub fn records<S: Store, O: Sink, E: Sink>(
 // All of the call but the line to err.
 fn written<S: Store, O: Sink>(
     alloc: Global,
-    ask: &Ask<'_>,
+    ask: &RecordsAsk<'_>,
     store: &mut S,
     out: &mut O,
 ) -> Result<(), Halt>
@@ -74,7 +74,7 @@ fn written<S: Store, O: Sink>(
 }
 
 // The text.
-fn text_of<S: Store>(alloc: Global, ask: &Ask<'_>, store: &mut S) -> Result<Vec<u8>, Halt>
+fn text_of<S: Store>(alloc: Global, ask: &RecordsAsk<'_>, store: &mut S) -> Result<Vec<u8>, Halt>
     ensures { Runs (S.held store.old) (S.faults store.old) (S.faults store.new)
         (course_of (request_of ask.now)) (text_seen result) }
 {
@@ -86,7 +86,7 @@ fn text_of<S: Store>(alloc: Global, ask: &Ask<'_>, store: &mut S) -> Result<Vec<
 // The text, once the line is read.
 fn text_for_line<S: Store>(
     alloc: Global,
-    ask: &Ask<'_>,
+    ask: &RecordsAsk<'_>,
     line: &Line,
     store: &mut S,
 ) -> Result<Vec<u8>, Halt>
@@ -102,19 +102,19 @@ fn text_for_line<S: Store>(
 }
 
 // The first key or trip that a record lacks.
-fn untold(work: Work, line: &Line, map: &Map) -> Option<Signal>
+fn untold(work: RecordsWork, line: &Line, map: &Map) -> Option<Signal>
     ensures { result ≡ untold_by work line.now (map_values map.now) }
 {
     match work {
-        Work::Scripts | Work::Show => None,
-        Work::Record => first_untold(line, map.recorders.as_slice()),
+        RecordsWork::Scripts | RecordsWork::Show => None,
+        RecordsWork::Record => first_untold(line, map.recorders.as_slice()),
     }
 }
 
 // The text, once the map is read.
 fn text_for_map<S: Store>(
     alloc: Global,
-    ask: &Ask<'_>,
+    ask: &RecordsAsk<'_>,
     line: &Line,
     map: &Map,
     store: &mut S,

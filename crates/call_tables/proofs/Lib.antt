@@ -1,4 +1,3 @@
-pub mod Counted
 pub mod RowLaws
 pub mod WrittenLaws
 pub mod NamedLaws

@@ -1,4 +1,3 @@
-pub mod Counted
 pub mod Found
 pub mod Kept
 pub mod Shares

@@ -2,10 +2,9 @@
 
 use crate::table::{KIT, PROGRAM};
 use base_store::number;
-use call_ask::{Ask, Form, Source, Table, Work};
+use call_ask::{Ask, Form, RecordsAsk, RecordsWork, Source, Table, Work};
 use call_explain::ExplainForm;
 use call_map::{MapAsk, MapForm};
-use call_records::Work as Recorded;
 use clap::ArgMatches;
 use draw_diagram::Rows;
 
@@ -22,7 +21,7 @@ pub enum Call<'a> {
     /// Work over a line and its scripts.
     Study(Ask<'a>),
     /// What relays recorded: as a script, a record or a table.
-    Records(call_records::Ask<'a>),
+    Records(RecordsAsk<'a>),
     /// A play as a record.
     Event(Event<'a>),
 }
@@ -56,40 +55,46 @@ pub fn words_of<'a>(matches: &ArgMatches<'a>) -> Option<Words<'a>> {
 // Records of relays, in and out.
 fn comtrade_of<'a>(matches: &ArgMatches<'a>) -> Option<Words<'a>> {
     let (name, own) = matches.subcommand()?;
-    let files = own.get_strs("files")?;
-    let output = own.get_str("output");
-    let work = match name {
-        "scripts" => Recorded::Scripts,
-        "record" => Recorded::Record,
-        "show" => Recorded::Show,
-        _ => {
-            return Some(Words {
-                call: event_of(own, output?)?,
-                output,
-            });
-        }
+    let call = match name {
+        "scripts" => records_of(own, RecordsWork::Scripts),
+        "record" => records_of(own, RecordsWork::Record),
+        "show" => records_of(own, RecordsWork::Show),
+        _ => event_of(own),
     };
     Some(Words {
-        call: Call::Records(call_records::Ask {
-            line: *files.first()?,
-            map: *files.get(1)?,
-            work,
-        }),
-        output,
+        call: call?,
+        output: own.get_str("output"),
     })
 }
 
-// A play as a record of files whose names begin so.
-fn event_of<'a>(own: &ArgMatches<'a>, stem: &'a str) -> Option<Call<'a>> {
-    let name = last_part(stem);
+// What relays recorded, of a line and a map.
+fn records_of<'a>(own: &ArgMatches<'a>, work: RecordsWork) -> Option<Call<'a>> {
+    let [line, map, ..] = own.get_strs("files")? else {
+        return None;
+    };
+    Some(Call::Records(RecordsAsk {
+        line: *line,
+        map: *map,
+        work,
+    }))
+}
+
+// A play as a record of files whose names begin as the output is called.
+fn event_of<'a>(own: &ArgMatches<'a>) -> Option<Call<'a>> {
+    let name = last_part(own.get_str("output")?);
     if !is_quotable(name) {
         return None;
     }
     Some(Call::Event(Event {
-        config: ask_of(played(own, Form::Config)?, own)?,
-        samples: ask_of(played(own, Form::Data)?, own)?,
-        map: ask_of(played(own, Form::Map { name })?, own)?,
+        config: play_of(own, Form::Config)?,
+        samples: play_of(own, Form::Data)?,
+        map: play_of(own, Form::Map { name })?,
     }))
+}
+
+// A play in this form.
+fn play_of<'a>(own: &ArgMatches<'a>, form: Form<'a>) -> Option<Ask<'a>> {
+    ask_of(played(own, form)?, own)
 }
 
 // What stands behind the last slash.
@@ -112,28 +117,47 @@ fn is_quotable(name: &str) -> bool {
 
 // Work over a line and its scripts.
 fn study_of<'a>(name: &str, own: &ArgMatches<'a>) -> Option<Ask<'a>> {
-    let work = match name {
-        "lines" => Work::Table(Table::Line),
-        "scripts" => Work::Table(Table::Part(count_of(own, "part", 1)?)),
-        "settle" => settled(own)?,
-        "lint" => Work::Lint,
-        "verdicts" => verdicts_of(own)?,
-        "explain" => explained(own)?,
-        "map" => map_of(own)?,
-        "page" => Work::Page {
-            analyses: count_of(own, "analyses", ANALYSES)?,
-            program: PROGRAM,
-            kit: KIT,
-        },
-        "recheck" => Work::Recheck {
-            trees: *own.get_strs("files")?.last()?,
-        },
-        "margins" => Work::Table(Table::Margins),
-        "run" => played(own, Form::Diagram { rows: rows_of(own) })?,
-        "vcd" => played(own, Form::Dump)?,
-        _ => Work::Bands { rows: rows_of(own) },
-    };
-    ask_of(work, own)
+    ask_of(work_of(name, own)?, own)
+}
+
+// Which work.
+fn work_of<'a>(name: &str, own: &ArgMatches<'a>) -> Option<Work<'a>> {
+    match name {
+        "lines" => Some(Work::Table(Table::Line)),
+        "scripts" => part_of(own),
+        "settle" => settled(own),
+        "lint" => Some(Work::Lint),
+        "verdicts" => verdicts_of(own),
+        "explain" => explained(own),
+        "map" => map_of(own),
+        "page" => page_of(own),
+        "recheck" => rechecked(own),
+        "margins" => Some(Work::Table(Table::Margins)),
+        "run" => played(own, Form::Diagram { rows: rows_of(own) }),
+        "vcd" => played(own, Form::Dump),
+        _ => Some(Work::Bands { rows: rows_of(own) }),
+    }
+}
+
+// A part of the scripts, the first where none is told.
+fn part_of<'a>(own: &ArgMatches<'a>) -> Option<Work<'a>> {
+    Some(Work::Table(Table::Part(count_of(own, "part", 1)?)))
+}
+
+// The page of the study, with what made it.
+fn page_of<'a>(own: &ArgMatches<'a>) -> Option<Work<'a>> {
+    Some(Work::Page {
+        analyses: count_of(own, "analyses", ANALYSES)?,
+        program: PROGRAM,
+        kit: KIT,
+    })
+}
+
+// The check of the trees of the further file.
+fn rechecked<'a>(own: &ArgMatches<'a>) -> Option<Work<'a>> {
+    Some(Work::Recheck {
+        trees: *own.get_strs("files")?.last()?,
+    })
 }
 
 // The work over the files of these words.

@@ -8,7 +8,7 @@ use Rattle.model_logic.specs.PairMean.{PairWorld, PairSignals, pair_mean}
 use Rattle.net_gates.specs.declared.gate.Gate.TheVariants.{Const, Seen, Loss, Raw, Not, And, Or}
 use Rattle.net_gates.specs.declared.gate.Gate.TheVariants.{Timer, Seal}
 use Rattle.net_gates.specs.Formulas.{formula_of}
-use Rattle.net_gates.specs.{declared.gate.Gate.Gate, Laws.AreGates, Laws.HasArguments}
+use Rattle.net_gates.specs.{declared.gate.Gate.Gate, Gates.AreGates, Gates.HasArguments}
 use Rattle.run_step.specs.GatePairs.{GateSignals, GatesHaveTheirKind, gate_pairs, kind_pair}
 use Rattle.run_waves.specs.Waves.{IsWaveOf}
 use Rattle.cert_check.specs.Claims.{pairs_of}

@@ -5,7 +5,7 @@ ghost use Rattle.model_history.specs.Rails.{rails_delayed};
 ghost use Rattle.model_line.specs.Parameters.{terminal_count, channel_count, delay_param};
 ghost use Rattle.model_line.specs.Parameters.{declared_ends};
 ghost use Rattle.model_line.specs.Channels.{from_of};
-ghost use Rattle.net_gates.specs.{Laws.HasArguments, Named.GateNames};
+ghost use Rattle.net_gates.specs.{Gates.HasArguments, Named.GateNames};
 ghost use Rattle.run_step.specs.GatePairs.{kind_pair};
 ghost use Rattle.run_waves.specs.Waves.{AreWaves, IsWaveOf};
 ghost use Rattle.cert_check.specs.Claims.{pairs_of, declared_world};

@@ -14,6 +14,7 @@ mod gate;
 mod held;
 mod inside;
 mod laws;
+mod met;
 mod net_waves;
 mod no;
 mod refutation;
@@ -31,6 +32,7 @@ pub use laws::{
     a_certificate_has_one_first_fault, a_fault_refuses_the_certificate, a_fault_refuses_the_claims,
     a_no_has_one_fault, claims_have_one_first_fault,
 };
+pub use met::met_tick;
 pub use net_waves::gate_waves;
 pub use no::{NoFault, check_no};
 pub use script_check::check_claims;

@@ -1,22 +1,19 @@
 //! Whether claimed numbers refute an obligation.
 
-ghost use Rattle.std.specs.Prelude.{◌≡◌, ◌<◌, ◌≤◌, length, IfOk, MatchOption};
+ghost use Rattle.std.specs.Prelude.{◌≡◌, ◌<◌, IfOk, MatchOption};
 ghost use Rattle.model_line.specs.{Parameters.terminal_count, Fits.Fits};
-ghost use Rattle.model_logic.specs.Histories.{MeetsBy};
 ghost use Rattle.net_gates.specs.NetOf.{IsNetOf};
 ghost use Rattle.model_timing.specs.Inside.{IsTimingInside};
-ghost use Rattle.run_changes.specs.PlayedTracks.{is_on};
-ghost use Rattle.run_waves.specs.FirstTick.{IsFirstOn};
-ghost use Rattle.cert_check.specs.Refutations.{steady_timing, FailsAt, PassesAt, IsMetAt};
+ghost use Rattle.cert_check.specs.Refutations.{steady_timing, FailsAt, PassesAt};
 
+use crate::met::met_tick;
 use model_line::laws::deadlines_are_below_the_horizon;
-use model_line::{Kind, Line, Memory, Script};
+use model_line::{Line, Memory, Script};
 use model_logic::laws::each_choice_has_one_history;
 use model_timing::Step;
 use net_gates::Net;
 use run_changes::run_tracks;
-use run_channel::Track;
-use run_signal::{Level, Signal, Tick};
+use run_signal::{Level, Tick};
 use run_step::laws::a_timing_is_one_choice;
 use std::alloc::Global;
 
@@ -58,36 +55,4 @@ fn ticks_of(alloc: Global, line: &Line, values: &[u32]) -> Result<Vec<Tick>, Mem
         ticks.push(Tick::new(*value))?;
     }
     Ok(ticks)
-}
-
-// The tick that shows that the obligation is met, if it is.
-fn met_tick(trip: &Track<Level>, script: &Script, horizon: u32) -> Option<u32>
-    requires horizon { length trip.now.keys ≡ horizon }
-    requires deadline { script.now.deadline < horizon }
-    ensures { MatchOption result
-        (¬ (MeetsBy script.now.kind script.now.deadline horizon (is_on trip.now)))
-        (λ t. IsMetAt script.now.kind script.now.deadline horizon (is_on trip.now) t) }
-{
-    match script.kind {
-        Kind::Internal => first_trip(trip, script.deadline + 1),
-        Kind::External => match first_trip(trip, horizon) {
-            Some(_) => None,
-            None => Some(horizon),
-        },
-    }
-}
-
-// The first of so many ticks at which the trip is on.
-fn first_trip(trip: &Track<Level>, ticks: u32) -> Option<u32>
-    requires { ticks ≤ length trip.now.keys }
-    ensures { IsFirstOn (is_on trip.now) 0 ticks result }
-{
-    let mut t = 0;
-    'stretches: while t < ticks {
-        if trip.at(t).must(0) {
-            return Some(t);
-        }
-        t = trip.stays_until(t);
-    }
-    None
 }

@@ -22,8 +22,8 @@ use Rattle.cert_text.specs.Grammar.{verdict_words}
 use Rattle.cert_text.specs.{NameLaws.names_count, NumberLaws.numbers_tell}
 use Rattle.cert_headline.specs.Printed.{HasShortNumbers, HasVerdict, HoldsOf}
 use Rattle.cert_headline.specs.WholeLines.{whole_lines}
-use Rattle.cert_headline.proofs.Lines.{AllGood, GoodUnder, first_whole, front_whole, good_front}
-use Rattle.cert_headline.proofs.Lines.{good_there}
+use Rattle.cert_headline.specs.LineLaws.{AllGood, GoodUnder, first_whole, front_whole, good_front}
+use Rattle.cert_headline.specs.LineLaws.{good_there}
 
 -- ---- a verdict line tells its terminal and its verdict
 

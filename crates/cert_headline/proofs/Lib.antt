@@ -1,4 +1,3 @@
-pub mod Lines
 pub mod Truth
 pub mod CertificateLines
 pub mod Statuses

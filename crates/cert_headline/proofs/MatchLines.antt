@@ -38,7 +38,7 @@ use Rattle.cert_headline.specs.Matched.{IsGivenBy, Matched, explained, impossibl
 use Rattle.cert_headline.specs.Matched.{matched_words}
 use Rattle.cert_headline.specs.WholeLines.{whole_lines}
 use Rattle.cert_headline.proofs.CertificateLines.{all_plain, names_plain, names_tell}
-use Rattle.cert_headline.proofs.Lines.{all_at, first_whole, front_whole}
+use Rattle.cert_headline.specs.LineLaws.{all_at, first_whole, front_whole}
 use Rattle.cert_headline.proofs.Truth.{same_choice}
 
 -- what is settled of a record, as its line says it

@@ -12,7 +12,7 @@ use Rattle.cert_own.specs.Certified.{AreCertified, IsCertified}
 use Rattle.cert_headline.specs.Obligations.{AllMet, HoldsAsCertified, HoldsSomewhere}
 use Rattle.cert_headline.specs.Obligations.{IsFailedBySome}
 use Rattle.cert_headline.specs.Obligations.{IsUnknown}
-use Rattle.cert_headline.proofs.Lines.{all_at}
+use Rattle.cert_headline.specs.LineLaws.{all_at}
 
 -- ---- lists
 

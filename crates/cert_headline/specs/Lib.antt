@@ -2,3 +2,4 @@ pub mod WholeLines
 pub mod Obligations
 pub mod Printed
 pub mod Matched
+pub mod LineLaws

@@ -5,8 +5,8 @@ ghost use Rattle.cert_text.specs.Grammar.{verdict_in};
 ghost use Rattle.cert_part.specs.Piece.{piece_text, written_as};
 ghost use Rattle.judge_verdict.specs.Printable.{IsPrintable};
 
-use cert_text::{Claim, push_part};
-use judge_verdict::{ScriptVerdict, Verdict, numbers_of};
+use cert_text::{Claim, numbers_of, push_part};
+use judge_verdict::{ScriptVerdict, Verdict};
 use model_line::{Line, Memory, Script};
 use std::alloc::Global;
 

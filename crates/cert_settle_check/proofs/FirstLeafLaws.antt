@@ -5,7 +5,7 @@ use Rattle.std.proofs.lemmas.Option.{slice_get_within}
 use Rattle.std.specs.Prelude.{slice_get}
 use Rattle.model_line.specs.{declared.line.Line.Line, declared.script.Script.Script}
 use Rattle.model_cases.specs.CaseTrees.{CaseTree, Yes, Undecided, Split, Case}
-use Rattle.judge_split.specs.ListLaws.{at_append, before_append, after_append}
+use Rattle.model_history.specs.ListLaws.{at_append, before_append, after_append}
 use Rattle.cert_settle_check.specs.CaseParts.{Leaf, leaves, lower_of, upper_of, case_of, CasePart}
 use Rattle.cert_settle_check.specs.CaseParts.{IsShownOver, AreSoundOver}
 use Rattle.cert_settle_check.specs.FirstLeaf.{IsFirstNotShown}

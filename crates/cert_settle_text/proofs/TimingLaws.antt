@@ -3,7 +3,7 @@ use Rattle.std.proofs.Common.{◌≡◌, ◌≢◌, ◌+◌, ℕ, List, [], ◌�
 use Rattle.std.proofs.Common.{◌∙◌, ap, subst, arith}
 use Rattle.std.proofs.Common.{true, Option, None, Some, ◌-◌, length, suc, length-append}
 use Rattle.std.specs.Prelude.{slice_get}
-use Rattle.judge_split.specs.ListLaws.{after_append}
+use Rattle.model_history.specs.ListLaws.{after_append}
 use Rattle.std.proofs.lemmas.Bool.{and_parts, and_from}
 use Rattle.std.proofs.lemmas.List.{map-append}
 use Rattle.std.proofs.lemmas.List.Elements.{All-nil, All-cons, All-append}

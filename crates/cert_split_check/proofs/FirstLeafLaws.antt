@@ -6,7 +6,7 @@ use Rattle.std.specs.Prelude.{slice_get}
 use Rattle.model_line.specs.{declared.line.Line.Line, declared.script.Script.Script}
 use Rattle.model_logic.specs.{Choice.Box, HeldOver.IsHeldOver}
 use Rattle.judge_split.specs.Trees.{SplitTree, Yes, Undecided, Split}
-use Rattle.judge_split.specs.ListLaws.{at_append, before_append, after_append}
+use Rattle.model_history.specs.ListLaws.{at_append, before_append, after_append}
 use Rattle.judge_split.specs.Leaves.{Leaf, leaves, lower_half, upper_half, AreSound}
 use Rattle.cert_split_check.specs.FirstLeaf.{IsFirstNotHeld}
 

@@ -5,9 +5,8 @@ ghost use Rattle.cert_split_text.specs.Text.{part_text, result_text};
 ghost use Rattle.cert_split_text.specs.Piece.{ArePrintable, IsPrintable, written_as};
 
 use crate::print::{push_fails, push_nodes};
-use cert_text::{name_at, push_named};
+use cert_text::{name_at, numbers_of, push_named};
 use judge_split::Outcome;
-use judge_verdict::numbers_of;
 use model_line::{Line, Memory, Script};
 use std::alloc::Global;
 

@@ -8,6 +8,7 @@ mod laws;
 mod numbers;
 mod print;
 mod read;
+mod ticks;
 mod words;
 
 pub use claim::{Claim, ScriptClaims};
@@ -18,4 +19,5 @@ pub use laws::{
 };
 pub use print::{push_named, push_no, push_number, push_part, push_start};
 pub use read::{name_at, read_certificate};
+pub use ticks::numbers_of;
 pub use words::read_no;

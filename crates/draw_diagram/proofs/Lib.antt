@@ -1,4 +1,3 @@
-pub mod Declared
 pub mod Lists
 pub mod StepLaws
 pub mod StretchLaws

@@ -1,13 +1,13 @@
 //! The run of every choice of delays at once.
 
-ghost use Rattle.std.specs.Prelude.{◌≡◌, IfOk};
+ghost use Rattle.std.specs.Prelude.{IfOk};
 ghost use Rattle.model_logic.specs.Choice.{declared_box};
 ghost use Rattle.net_gates.specs.NetOf.{IsNetOf};
 ghost use Rattle.run_signal.specs.Terns.{tern_rails};
 ghost use Rattle.run_step.specs.Runs.{AreWavesOf, HavePairs, IsTheHistory};
 ghost use Rattle.run_step.specs.WavesOf.{waves_history};
-ghost use Rattle.judge_interval.specs.Spans.{declared_spans as spans_of};
 
+use judge_interval::declared_spans;
 use model_line::{Line, Memory, Script};
 use model_logic::laws::each_line_has_a_choice_inside;
 use model_timing::Step;
@@ -37,15 +37,4 @@ pub fn every_choice_waves(
     let spans = declared_spans(alloc, line)?;
     let steps: [Step<Within>; 0] = [];
     run::<Tern>(alloc, net, line, script, &spans, &steps)
-}
-
-// The declared interval of each parameter, in order.
-fn declared_spans(alloc: Global, line: &Line) -> Result<Vec<Within>, Memory>
-    ensures { IfOk result (λ spans. spans.items ≡ spans_of line.now) }
-{
-    let mut spans = Vec::with_capacity(alloc, line.params.len())?;
-    for param in &line.params {
-        spans.push(Within::new(param.least, param.greatest))?;
-    }
-    Ok(spans)
 }

@@ -1,7 +1,7 @@
 //! The heading of a drawing.
 
-ghost use Rattle.std.specs.Prelude.{◌≡◌, IfOk};
-ghost use Rattle.draw_layout.specs.Drawings.{heading, kind_said, scheme_said};
+ghost use Rattle.std.specs.Prelude.{◌≡◌, ◌++◌, IfOk};
+ghost use Rattle.draw_layout.specs.Drawings.{heading, kind_said, scheme_said, subject_said};
 ghost use Rattle.draw_layout.specs.Words.{said};
 
 use crate::subject::Subject;
@@ -22,6 +22,13 @@ pub fn heading_words(
         .word(scheme_name(line.scheme))?
         .word(kind_name(script.kind))?
         .word(script.name.bytes())?;
+    subject_words(words, subject)
+}
+
+// And what is drawn of them.
+fn subject_words(words: Words, subject: Subject) -> Result<Words, Memory>
+    ensures { IfOk result (λ more. said more ≡ said words ++ subject_said subject) }
+{
     match subject {
         Subject::Play(timing) => words.word(b": timing ")?.word(timing.bytes()),
         Subject::EveryChoice => words.word(b": every choice of delays"),

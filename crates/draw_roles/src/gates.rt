@@ -4,7 +4,7 @@ ghost use Rattle.std.specs.Prelude.{◌≡◌, ◌<◌, length, IfSome, false, S
 ghost use Rattle.model_logic.specs.Tree.{Tree};
 ghost use Rattle.model_logic.specs.Tree as tree;
 ghost use Rattle.draw_roles.specs.SameTree.{same_tree};
-ghost use Rattle.net_gates.specs.{Formulas.formula_of, Formulas.kind_over, Laws.HasArguments};
+ghost use Rattle.net_gates.specs.{Formulas.formula_of, Formulas.kind_over, Gates.HasArguments};
 ghost use Rattle.draw_roles.specs.Parts.{is_one, are_two};
 
 use model_line::Place;

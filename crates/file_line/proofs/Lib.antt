@@ -1,4 +1,3 @@
-pub mod Documents
 pub mod Readings
 pub mod TimesSteps
 pub mod TerminalCounts
@@ -10,8 +9,6 @@ pub mod TimeLaws
 pub mod TerminalLaws
 pub mod WholePairs
 pub mod LineLaws
-pub mod Puts
-pub mod PlainTexts
 pub mod PairLaws
 pub mod Depths
 pub mod TimesBack

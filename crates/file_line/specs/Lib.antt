@@ -11,3 +11,6 @@ pub mod LineFiles
 pub mod Canonical
 pub mod LeastUnknown
 pub mod Owners
+pub mod PlainTextLaws
+pub mod DocumentLaws
+pub mod PutLaws

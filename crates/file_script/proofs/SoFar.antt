@@ -22,7 +22,7 @@ use Rattle.file_script.specs.{Gives.Gives, declared.item.Item.Item, Row.Row, Che
 use Rattle.file_script.specs.{Checks.is_taken, Scripts.after_item, Scripts.after_record}
 use Rattle.base_records.specs.ListLaws.{All-front, All-last, list_any-map}
 use Rattle.base_records.specs.CheckLaws.{same_ok}
-use Rattle.file_script.proofs.Once.{once_none, once_more}
+use Rattle.file_script.specs.OnceLaws.{once_none, once_more}
 use Rattle.file_script.proofs.Fitting.{head_deadline_fits, row_span_fits, one_span_more}
 use Rattle.file_script.proofs.Steps.{HeadPassed, head_passed, RowPassed, row_passed, record_passed}
 

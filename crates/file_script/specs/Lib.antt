@@ -6,3 +6,6 @@ pub mod Checks
 pub mod Scripts
 pub mod Printed
 pub mod Faults
+pub mod NamingLaws
+pub mod OnceLaws
+pub mod StandingLaws

@@ -7,7 +7,8 @@ use Rattle.file_times.specs.declared.fraction.Fraction.{Fraction}
 use Rattle.file_times.specs.declared.time.Sweep.{Sweep}
 use Rattle.file_times.specs.{Rounding.IsRoundedDown, Rounding.IsRoundedUp, Sweeps.value_of}
 use Rattle.file_times.specs.{Fractions.is_at_most, Sweeps.IsCount}
-use Rattle.file_times.proofs.{Rounded.rounded_down, WholeTicks.divided_up as whole_up}
+use Rattle.file_times.specs.WholeTickLaws.{divided_up as whole_up}
+use Rattle.file_times.specs.RoundedLaws.{rounded_down}
 use Rattle.file_study.specs.declared.fault.StudyFault.{StudyFault}
 use Rattle.file_study.specs.declared.fault.StudyFault.TheVariants as fault
 use Rattle.file_study.specs.Rounding.{down, up, rounded, divided_up}

@@ -9,7 +9,7 @@ use Rattle.std.specs.Str.{bytes_eq}
 use Rattle.model_line.specs.declared.script.Script.{Script}
 use Rattle.base_records.specs.ListLaws.{list_any-map}
 use Rattle.file_script.specs.{SoFar.AreOnce, SoFar.names_in, Values.values_of}
-use Rattle.file_script.proofs.Once.{once_more}
+use Rattle.file_script.specs.OnceLaws.{once_more}
 use Rattle.file_sweeps.specs.Studies.{script_names}
 
 -- a script with this name is one of two lists

@@ -18,7 +18,7 @@ use Rattle.file_script.specs.Printed.{script_records}
 use Rattle.file_script.specs.Scripts.{scripts_in, scripts_of}
 use Rattle.file_script.specs.SoFar.{ValuesFit}
 use Rattle.file_script.specs.Values.{AreOfOneFile, ScriptValues}
-use Rattle.file_script.proofs.Standing.{printed_stand}
+use Rattle.file_script.specs.StandingLaws.{printed_stand}
 
 -- the default reader reads back records that the default writer wrote
 rows_read : (rows : List (List (List ℕ))) (n : ℕ) → length rows ≤ n

@@ -5,3 +5,5 @@ pub mod Units
 pub mod Times
 pub mod Rounding
 pub mod Sweeps
+pub mod RoundedLaws
+pub mod WholeTickLaws

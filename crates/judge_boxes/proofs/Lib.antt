@@ -2,5 +2,4 @@ pub mod SpanLaws
 pub mod RailLaws
 pub mod CellLaws
 pub mod SentLaws
-pub mod ListLaws
 pub mod HeldLaws

@@ -15,7 +15,8 @@ use Rattle.model_cases.specs.Assumed.{Assumption, assumed_level, wanted}
 use Rattle.model_cases.specs.CaseTrees.{HasCases}
 use Rattle.model_cases.specs.Under.{Excludes, own_pair, SomeIsExcluded}
 use Rattle.net_gates.specs.{NetOf.NetOf, NetOf.IsNetOf, Formulas.formula_of}
-use Rattle.run_step.specs.{LaneBox.own_ends, LaneBox.ends_in, ListLaws.exists_at}
+use Rattle.run_step.specs.{LaneBox.own_ends, LaneBox.ends_in}
+use Rattle.model_history.specs.ListLaws.{exists_at}
 use Rattle.run_cases.specs.{Given.span_box, Runs.AreKeysUnder, Runs.ArePairsUnder}
 use Rattle.run_cases.specs.UnderWaves.{UnderWavesOf, own_wave}
 use Rattle.judge_boxes.specs.declared.terns.Terns64.{Terns64}

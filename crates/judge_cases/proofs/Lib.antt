@@ -1,6 +1,5 @@
 mod OneGate
 mod WeakKey
-mod ListLaws
 mod RowLaws
 mod PutLaws
 mod ViewLaws

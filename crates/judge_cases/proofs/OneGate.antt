@@ -8,9 +8,9 @@ use Rattle.net_gates.specs.declared.gate.GateId.{GateId}
 use Rattle.net_gates.specs.declared.gate.Gate.{Gate}
 use Rattle.net_gates.specs.declared.gate.Gate.TheVariants.{Const, Seen, Loss, Raw, Not, And, Or}
 use Rattle.net_gates.specs.declared.gate.Gate.TheVariants.{Timer, Seal}
-use Rattle.net_gates.specs.Laws.{AreGates, HasArguments}
+use Rattle.net_gates.specs.Gates.{AreGates, HasArguments}
 use Rattle.net_gates.specs.Formulas.{formula_of, kind_over}
-use Rattle.run_step.specs.ListLaws.{exists_at}
+use Rattle.model_history.specs.ListLaws.{exists_at}
 
 -- each gate stands for its own kind over the trees of its arguments
 abbrev pub GatesAreTheirKinds : Type 0

@@ -19,7 +19,8 @@ use Rattle.model_history.specs.Rails.{Rails}
 use Rattle.judge_boxes.specs.declared.terns.Terns64.{Terns64}
 use Rattle.judge_boxes.specs.Terns.{terns_rails}
 use Rattle.judge_cases.specs.{Rows.AreRows, Puts.PutIn, Views.AreCases}
-use Rattle.judge_cases.proofs.{ListLaws.at_set, WeakKey.wanted_timer}
+use Rattle.judge_cases.proofs.{WeakKey.wanted_timer}
+use Rattle.model_history.specs.ListLaws.{at_set}
 
 -- a place tells tick and row
 place_tick : (t s r q n : ℕ) → r < n → q < n → t * n + r ≡ s * n + q → t ≡ s

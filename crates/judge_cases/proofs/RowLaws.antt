@@ -10,7 +10,7 @@ use Rattle.model_logic.specs.Elements.{is_weak}
 use Rattle.model_cases.specs.Assumed.{wanted}
 use Rattle.net_gates.specs.{NetOf.NetOf, Formulas.formula_of}
 use Rattle.judge_cases.specs.Rows.{AreRows}
-use Rattle.judge_cases.proofs.ListLaws.{at_set}
+use Rattle.model_history.specs.ListLaws.{at_set}
 
 all_none : (n i : ℕ) (o : Option ℕ) → slice_get (replicate n None) i ≡ Some o → o ≡ None
 all_none zero i o e = absurd (cc)

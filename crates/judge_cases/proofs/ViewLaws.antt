@@ -15,7 +15,7 @@ use Rattle.model_cases.specs.Assumed.{Assumption}
 use Rattle.model_cases.specs.CaseTrees.{HasCases, with_case}
 use Rattle.judge_cases.specs.declared.view.View.{View}
 use Rattle.judge_cases.specs.Views.{IsView, Views, AreCases, interval_of}
-use Rattle.judge_cases.proofs.ListLaws.{at_set}
+use Rattle.model_history.specs.ListLaws.{at_set}
 
 ends_here : (ends : ℕ → Ends) (param : ℕ) (new : Ends) (i : ℕ) → i ≡ param
     → ends_with ends param new i ≡ new

@@ -7,10 +7,10 @@ use Rattle.model_logic.specs.Tree as tree
 use Rattle.model_cases.specs.Assumed.{wanted}
 use Rattle.net_gates.specs.declared.gate.Gate.{Gate}
 use Rattle.net_gates.specs.declared.gate.Gate.TheVariants.{And, Or}
-use Rattle.net_gates.specs.Laws.{AreGates, HasArguments}
+use Rattle.net_gates.specs.Gates.{AreGates, HasArguments}
 use Rattle.net_gates.specs.Formulas.{formula_of, kind_over, Stands}
 use Rattle.net_gates.specs.NetOf.{NetOf, IsNetOf, key_of}
-use Rattle.run_step.specs.ListLaws.{exists_at}
+use Rattle.model_history.specs.ListLaws.{exists_at}
 use Rattle.judge_cases.proofs.OneGate.{GatesAreTheirKinds}
 use Rattle.judge_cases.proofs.WeakKey.{weak_key, weak_exists, ahead, still}
 

@@ -6,17 +6,8 @@ use Rattle.std.proofs.lemmas.List.{get_or_push, get_or_append_left}
 use Rattle.std.specs.Prelude.{slice_get, Result, Ok, Err, IfOk, OnOk}
 use Rattle.std.proofs.lemmas.Option.{slice_get-get_or}
 use Rattle.std.specs.List.{AllZip}
-use Rattle.run_step.specs.ListLaws.{at_push}
 use Rattle.judge_explain.specs.{Asked.AreLevels, Asked.level_in, Changes.changes, Changes.StaysAround}
 use Rattle.judge_explain.proofs.ChangeLaws.{changes_same}
-
-pub each_more : {X : Type 0} (P : ℕ → X → Type 0) (xs ys : List X) (x : X) (n : ℕ)
-    → ys ≡ xs ++ x ∷ [] → n ≡ length xs → ((i : ℕ) (y : X) → slice_get xs i ≡ Some y → P i y)
-    → P n x → (i : ℕ) (y : X) → slice_get ys i ≡ Some y → P i y
-each_more P xs ys x n is long before here i y at =
-    ⊎_elim (λ old. before i y old)
-    (λ last. subst (P i) (sym last.1) (subst (λ j. P j x) (long ∙ sym last.0) here))
-    (at_push xs x y i (subst (λ zs. slice_get zs i ≡ Some y) is at))
 
 pub count_more : {X : Type 0} (xs ys : List X) (x : X) (n m : ℕ) → ys ≡ xs ++ x ∷ []
     → length xs ≡ n → m ≡ n + 1 → length ys ≡ m

@@ -13,7 +13,7 @@ use Rattle.model_logic.specs.Logic.{key_tree, trip_tree}
 use Rattle.model_logic.specs.Laws.{TreesNameTheLine, ValuesRestOnEarlierKeys}
 use Rattle.model_logic.specs.PairMean.{PairSignals}
 use Rattle.run_waves.specs.Waves.{AreWaves, IsWaveOf}
-use Rattle.run_step.specs.ListLaws.{exists_at}
+use Rattle.model_history.specs.ListLaws.{exists_at}
 use Rattle.judge_interval.specs.PairWavesOf.{pairs_of, told_by, AreWavesOf, pair_at}
 use Rattle.judge_interval.specs.PairWavesOf.{pair_history}
 

@@ -7,7 +7,7 @@ use Rattle.model_history.specs.Rails.{both}
 use Rattle.run_signal.specs.{declared.tern.Tern.Tern, Terns.tern_rails}
 use Rattle.run_channel.specs.SentKeys.{SentKeys}
 use Rattle.run_waves.specs.Waves.{wave_at, IsWaveOf}
-use Rattle.run_step.specs.ListLaws.{at_push}
+use Rattle.model_history.specs.ListLaws.{at_push}
 use Rattle.run_changes.specs.Tracks.{pair_of}
 use Rattle.judge_interval.specs.PairWavesOf.{AreWavesOf, track_pairs}
 

@@ -11,3 +11,4 @@ mod track_waves;
 pub use interval_history::analyse;
 pub use pair_waves::PairWaves;
 pub use rule::{Rule, judge};
+pub use spans::declared_spans;

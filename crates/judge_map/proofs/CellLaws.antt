@@ -10,7 +10,8 @@ use Rattle.model_line.specs.Parameters.{param_count}
 use Rattle.model_logic.specs.Choice.{Box, LeastFromOne}
 use Rattle.model_logic.specs.{Boxes.IsSameBox, Histories.PairHistory}
 use Rattle.run_step.specs.{LaneBox.ends_in, LaneBox.lane_box, Runs.AreDelayed}
-use Rattle.run_step.specs.{Runs.IsTheHistory, ListLaws.exists_at}
+use Rattle.run_step.specs.{Runs.IsTheHistory}
+use Rattle.model_history.specs.ListLaws.{exists_at}
 use Rattle.model_timing.specs.Timing.{number_at}
 use Rattle.judge_boxes.specs.{Spans.SpanLists, Spans.span_ends}
 use Rattle.judge_map.specs.{Known.Known, declared.axis.Axis.Axis, declared.axis.Axes.Axes}

@@ -6,7 +6,7 @@ use Rattle.std.proofs.lemmas.Bool.{cases_eq, cases_lt, ne_eqb}
 use Rattle.std.proofs.lemmas.Option.{slice_get_within}
 use Rattle.std.specs.Prelude.{slice_get, get_or, map, ◌==◌}
 use Rattle.std.specs.List.{list_any}
-use Rattle.run_step.specs.ListLaws.{exists_at}
+use Rattle.model_history.specs.ListLaws.{exists_at}
 use Rattle.model_history.specs.Rails.{Ends}
 use Rattle.model_line.specs.Parameters.{declared_ends, delay_param, param_count}
 use Rattle.model_line.specs.{declared.line.Line.Line, declared.line.Param.Param}

@@ -1,6 +1,6 @@
 -- What is placed differs in its intervals alone.
 use Rattle.std.proofs.Common.{◌≡◌, ◌≤◌, ◌+◌, ℕ, zero, suc, List, Some, length, ◌∙◌, arith}
-use Rattle.run_step.specs.ListLaws.{exists_at}
+use Rattle.model_history.specs.ListLaws.{exists_at}
 use Rattle.model_line.specs.{declared.line.Line.Line, SetBounds.SameButParams}
 use Rattle.std.proofs.Common.{subst}
 use Rattle.std.specs.Prelude.{slice_get}

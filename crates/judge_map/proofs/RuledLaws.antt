@@ -8,14 +8,14 @@ use Rattle.model_line.specs.{declared.line.Line.Line, declared.script.Script.Scr
 use Rattle.model_line.specs.declared.script.Kind.{Kind}
 use Rattle.model_line.specs.Parameters.{terminal_count}
 use Rattle.model_logic.specs.{Choice.Box, Boxes.IsSameBox}
-use Rattle.run_step.specs.ListLaws.{exists_at}
+use Rattle.model_history.specs.ListLaws.{exists_at, each_more}
 use Rattle.judge_interval.specs.Rules.{rule_from}
 use Rattle.judge_interval.specs.RuleLaws.{rule_by_rails}
 use Rattle.judge_boxes.specs.Terns.{terns_rails}
 use Rattle.judge_map.specs.{Known.Known, declared.cell.Cell.Cell, declared.ruled.Ruled.Ruled}
 use Rattle.judge_map.specs.Blocks.{AreRuled, AreTripped, AreTrippedAt, IsLaneOf}
 use Rattle.judge_map.specs.Cells.{IsCell}
-use Rattle.judge_map.proofs.{CellLaws.carried, ListLaws.each_more}
+use Rattle.judge_map.proofs.{CellLaws.carried}
 
 -- in boxes that are the same
 pub ruled_in : (known : Known) (line : Line) (scripts : List Script) (a b : ℕ → Box) (n : ℕ)

@@ -2,7 +2,7 @@
 use Rattle.std.proofs.Common.{◌≡◌, ◌<◌, ◌+◌, ℕ, zero, suc, Bool, List, [], ◌∷◌, ◌++◌, Option, None, Some, length}
 use Rattle.std.proofs.Common.{subst, sym, refl, ⊎_elim}
 use Rattle.std.specs.Prelude.{slice_get}
-use Rattle.run_step.specs.ListLaws.{at_push}
+use Rattle.model_history.specs.ListLaws.{at_push}
 use Rattle.judge_margins.specs.{declared.ask.Ask.Ask, declared.bracket.Bracket.Bracket}
 use Rattle.judge_margins.specs.Brackets.{AreAsksOf, AreSlots, IsAskOf, IsSlot, ask_for}
 use Rattle.judge_margins.proofs.EachLaws.{one_more}

@@ -4,7 +4,7 @@ use Rattle.std.proofs.Common.{subst, sym, ap, ◌∙◌, ⊎_elim, inl, inr, ari
 use Rattle.std.proofs.lemmas.Bool.{cases_lt}
 use Rattle.std.proofs.lemmas.Option.{slice_get_within}
 use Rattle.std.specs.Prelude.{slice_get, ◌⊎◌}
-use Rattle.run_step.specs.ListLaws.{at_push}
+use Rattle.model_history.specs.ListLaws.{at_push}
 use Rattle.model_line.specs.Parameters.{terminal_count}
 use Rattle.model_line.specs.{declared.line.Line.Line, declared.script.Script.Script}
 use Rattle.model_logic.specs.{Choice.declared_box, HeldOver.IsHeldOver}

@@ -9,7 +9,7 @@ use Rattle.std.specs.Prelude.{slice_get}
 use Rattle.model_history.specs.Rails.{Rails, both, must_of, rails_at}
 use Rattle.run_signal.specs.{declared.level.Level.Level, Levels.level_rails, Lanes.in_lane}
 use Rattle.run_channel.specs.SentKeys.{SentKeys}
-use Rattle.run_step.specs.{ListLaws.at_push, ListLaws.exists_at}
+use Rattle.model_history.specs.ListLaws.{at_push, exists_at}
 use Rattle.run_changes.specs.PlayedTracks.{is_shown}
 use Rattle.run_changes.specs.{PlayedTracks.is_on, PlayedTracks.shown_is}
 use Rattle.run_step.specs.Ticks.{AreSent}

@@ -8,7 +8,7 @@ use Rattle.model_logic.specs.Choice.{declared_box, LeastFromOne}
 use Rattle.model_cases.specs.Assumed.{Agrees}
 use Rattle.model_cases.specs.CaseTrees.{CaseTree, are_yes, AreSound}
 use Rattle.model_cases.specs.Laws.{SoundTreesMeet}
-use Rattle.model_polarity.specs.{Laws.EveryChoiceMeets, Schemes.IsOneRailedBy}
+use Rattle.model_polarity.specs.{Choices.EveryChoiceMeets, Schemes.IsOneRailedBy}
 use Rattle.judge_settle.specs.declared.grown.Grown.{Grown}
 use Rattle.judge_cases.specs.Trees.{AreTree}
 use Rattle.judge_settle.specs.Trees.{IsGrown, Size, size_of_text}

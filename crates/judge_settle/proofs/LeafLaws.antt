@@ -5,7 +5,7 @@ use Rattle.std.proofs.Math.ListN.{take, drop}
 use Rattle.std.specs.Prelude.{slice_get}
 use Rattle.std.specs.List.{slice_range}
 use Rattle.model_line.specs.{declared.line.Line.Line, declared.script.Script.Script}
-use Rattle.run_step.specs.ListLaws.{at_push}
+use Rattle.model_history.specs.ListLaws.{at_push}
 use Rattle.judge_cases.specs.{declared.view.View.View, Views.IsView, Views.AreViews}
 use Rattle.judge_cases.specs.Analyses.{IsShownOf}
 use Rattle.judge_settle.specs.Leaves.{AreAllShown, AreMoreViews}

@@ -5,7 +5,7 @@ ghost use Rattle.model_line.specs.{declared.line.Line.Line, declared.script.Scri
 ghost use Rattle.model_line.specs.{Fits.Fits, Parameters.terminal_count};
 ghost use Rattle.model_logic.specs.Choice.{declared_box};
 ghost use Rattle.model_logic.specs.HeldOver.{IsHeldOver};
-ghost use Rattle.model_polarity.specs.{Schemes.IsOneRailedBy, Laws.EveryChoiceMeets};
+ghost use Rattle.model_polarity.specs.{Schemes.IsOneRailedBy, Choices.EveryChoiceMeets};
 ghost use Rattle.net_gates.specs.NetOf.{IsNetOf};
 ghost use Rattle.judge_cases.specs.{declared.view.View.View, Views.Views};
 ghost use Rattle.judge_corner.specs.Decided.{OneTimingDecides};

@@ -2,7 +2,7 @@
 use Rattle.std.proofs.Common.{◌≡◌, ◌⊎◌, ◌+◌, ℕ, zero, suc, List, [], ◌∷◌, ◌++◌, Some, length}
 use Rattle.std.proofs.Common.{length-append, inl, inr, refl, sym, ◌∙◌, ap, subst, arith, ⊎_elim}
 use Rattle.std.specs.Prelude.{IfSome, Option, slice_get}
-use Rattle.run_step.specs.ListLaws.{at_push}
+use Rattle.model_history.specs.ListLaws.{at_push}
 
 module _ {X : Type 0} where
   pub if_some_is : (o : Option X) (x : X) (P : X → Type 0) → o ≡ Some x → IfSome o P → P x

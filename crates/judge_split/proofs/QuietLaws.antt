@@ -12,7 +12,7 @@ use Rattle.model_line.specs.Parameters.{param_count, declared_ends}
 use Rattle.model_line.specs.{declared.line.Line.Line, declared.line.Param.Param}
 use Rattle.model_timing.specs.Candidates.{is_free, free_before, free_count, is_free_number}
 use Rattle.model_timing.specs.Candidates.{candidate_value}
-use Rattle.run_step.specs.ListLaws.{exists_at}
+use Rattle.model_history.specs.ListLaws.{exists_at}
 use Rattle.judge_split.specs.Quiet.{corner_number}
 
 -- ---- at most one parameter has a number among those that are free

@@ -11,7 +11,7 @@ use Rattle.model_line.specs.{declared.line.Line.Line, declared.script.Script.Scr
 use Rattle.model_logic.specs.Choice.{IsIn, IsWithin, declared_box}
 use Rattle.model_timing.specs.Candidates.{candidate, candidate_count, candidate_value}
 use Rattle.model_timing.specs.{Choice.timing_choice, Inside.IsTimingInside}
-use Rattle.run_step.specs.ListLaws.{exists_at}
+use Rattle.model_history.specs.ListLaws.{exists_at}
 use Rattle.judge_boxes.specs.Held.{IsHeldOf, TellHeld}
 use Rattle.judge_split.specs.{Known.Known, Quiet.IsCorner, Quiet.AreCorners, Quiet.IsNarrowed}
 use Rattle.judge_split.specs.{Quiet.AreSettled, Quiet.is_wide, Quiet.number_of, Quiet.corner_number}

@@ -21,7 +21,7 @@ use Rattle.judge_split.specs.Search.{split}
 use Rattle.judge_split.specs.{Known.Known, Widths.middle, Widths.IsWidest}
 use Rattle.judge_split.proofs.EndsWith.{ends_with-elsewhere, ends_with-here, exchanged}
 use Rattle.judge_split.proofs.WidthLaws.{split_no_delay, middle_inside}
-use Rattle.judge_split.specs.ListLaws.{at_append}
+use Rattle.model_history.specs.ListLaws.{at_append}
 use Rattle.judge_split.proofs.{LeafLaws.held_leaves, SearchLaws.both_true}
 
 -- ---- boxes that are the same

@@ -4,7 +4,6 @@ pub mod Widths
 pub mod Search
 pub mod Found
 pub mod Leaves
-pub mod ListLaws
 pub mod Parts
 pub mod Quiet
 pub mod Laws

@@ -1,4 +1,3 @@
-pub mod ListLaws
 pub mod BlockLaws
 pub mod FailingLaws
 pub mod StandingLaws

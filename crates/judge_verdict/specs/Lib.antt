@@ -1,4 +1,5 @@
 pub mod OneEach
+pub mod OneEachLaws
 pub mod Verdicts
 pub mod VerdictLaws
 pub mod Candidates

@@ -5,10 +5,8 @@ mod block;
 mod certification;
 mod failing;
 mod keys;
-mod numbers;
 mod standing;
 mod verdict;
 
 pub use certification::certify;
-pub use numbers::numbers_of;
 pub use verdict::{ScriptVerdict, Verdict};

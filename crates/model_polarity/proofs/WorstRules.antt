@@ -15,7 +15,7 @@ use Rattle.model_logic.specs.{Laws.LineLaws, Logic.trip_tree}
 use Rattle.model_polarity.specs.Sides.{Sides, value_on}
 use Rattle.model_polarity.specs.Known.{IsReadIn, IsOneRailedIn}
 use Rattle.model_polarity.specs.Worst.{worst_choice, IsOrdered, deciding}
-use Rattle.model_polarity.specs.Laws.{SomeChoiceFails, EveryChoiceMeets}
+use Rattle.model_polarity.specs.Choices.{SomeChoiceFails, EveryChoiceMeets}
 use Rattle.model_polarity.proofs.WorstHistories.{choice_within, trip_is_rail}
 
 meets_held : (kind : Kind) (deadline horizon : ℕ) (trip : ℕ → Rails) (plain : ℕ → Bool)

@@ -3,13 +3,14 @@ use Rattle.std.specs.Prelude.{◌≡◌, ◌≤◌, ◌<◌, ◌↔◌, ◌⊎�
 use Rattle.model_history.specs.{Elements.delayed, Rails.Rails, Rails.Ends, Rails.rails_delayed}
 use Rattle.model_line.specs.{declared.line.Line.Line, declared.script.Script.Script}
 use Rattle.model_line.specs.Parameters.{terminal_count}
-use Rattle.model_logic.specs.Choice.{Choice, Box, IsIn, IsWithin, IsInside, LeastFromOne}
+use Rattle.model_logic.specs.Choice.{Box, IsIn, IsWithin, LeastFromOne}
 use Rattle.model_logic.specs.Choice.{declared_box}
 use Rattle.model_logic.specs.Histories.{History, IsLineHistory, PairHistory, IsPairHistory, Meets}
 use Rattle.model_logic.specs.{Logic.trip_tree, Rule.IsHeld}
 use Rattle.model_polarity.specs.Sides.{Rail, Sides, value_on}
 use Rattle.model_polarity.specs.Known.{IsReadIn, IsOneRailedIn}
 use Rattle.model_polarity.specs.Worst.{worst_delay, worst_choice, IsOrdered, deciding}
+use Rattle.model_polarity.specs.Choices.{EveryChoiceMeets, SomeChoiceFails}
 
 -- the worst delay lies within the ends, and what arrives after it is the rail of what is received
 pub record WorstDelaysAreRails : Type 0 where
@@ -50,19 +51,6 @@ TheWorstChoiceFails =
     → IsPairHistory line script box w
     → IsLineHistory line script (worst_choice line sides box w.key) h
     → Meets line script k h ↔ IsHeld script.kind script.deadline line.horizon (w.trip k)
-
--- every choice inside the declared intervals meets the obligation
-abbrev pub EveryChoiceMeets : Line → Script → ℕ → Type 0
-EveryChoiceMeets line script k = (choice : Choice) (h : History) → IsInside line choice
-    → IsLineHistory line script choice h → Meets line script k h
-
--- some choice inside them, its delays moving, fails it
-pub record SomeChoiceFails (line : Line) (script : Script) (k : ℕ) : Type 0 where
-  pub choice : Choice
-  pub inside : IsInside line choice
-  pub history : History
-  pub is : IsLineHistory line script choice history
-  pub fails : ¬ (Meets line script k history)
 
 -- an obligation whose trip is read on the rail that decides over a cone that is one-railed over the
 -- declared intervals is decided

@@ -14,7 +14,7 @@ use Rattle.model_logic.specs.Histories.{History, IsLineHistory, Meets, PairHisto
 use Rattle.model_logic.specs.{Elements.is_weak, Logic.trip_tree, Rule.IsHeld}
 use Rattle.model_polarity.specs.Sides.{Rail, turned, End, Least, pickup_end, dropout_end, Sides}
 use Rattle.model_polarity.specs.Sides.{IsReadOn, IsOneRailed}
-use Rattle.model_polarity.specs.{Laws.EveryChoiceMeets, Worst.worst_choice, Worst.deciding}
+use Rattle.model_polarity.specs.{Choices.EveryChoiceMeets, Worst.worst_choice, Worst.deciding}
 
 -- no terminal is a weak infeed
 abbrev pub HasNoWeakEnd : Line → Type 0

@@ -6,11 +6,11 @@ use Rattle.std.proofs.Math.Seq.{take-append_seam, take-length}
 use Rattle.std.specs.Prelude.{slice_get}
 use Rattle.std.specs.List.{list_any}
 use Rattle.model_line.specs.declared.line.Line.{Line}
-use Rattle.net_gates.specs.{declared.gate.Gate.Gate, Laws.HasArguments, Laws.AreGates}
+use Rattle.net_gates.specs.{declared.gate.Gate.Gate, Gates.HasArguments, Gates.AreGates}
 use Rattle.net_gates.specs.{Growing.Grows}
 use Rattle.net_gates.specs.{Growing.Adds, Named.GateNames, Named.KeepsNames}
 use Rattle.net_gates.proofs.Standing.{grows_from}
-use Rattle.net_gates.proofs.Lists.{at_push, last_push}
+use Rattle.model_history.specs.ListLaws.{at_push, last_push}
 use Rattle.net_gates.proofs.Equal.{gate_eq, gate_eq-same, gate_eq-refl}
 
 -- a gate that a set contains is at some number of it, and one that it does not is at none

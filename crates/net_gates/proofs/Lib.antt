@@ -1,4 +1,3 @@
-pub mod Lists
 pub mod Equal
 pub mod Standing
 pub mod Adding

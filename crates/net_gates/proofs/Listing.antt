@@ -10,7 +10,7 @@ use Rattle.net_gates.specs.declared.readers.Readers.{Readers}
 use Rattle.net_gates.specs.Readers.{AreBelow, Hears, StandsIn}
 use Rattle.net_gates.specs.Listing.{IsListed, ListGates, ListsGrow, ReadersSoFar, ReadsNone, ReadsOne}
 use Rattle.net_gates.specs.Listing.{ReadsTwo}
-use Rattle.net_gates.proofs.Lists.{at_more, at_push, last_push, one_value}
+use Rattle.model_history.specs.ListLaws.{before_append, at_push, last_push, one_value}
 
 pub below_push : (n i : ℕ) (old new : List ℕ) → new ≡ old ++ i ∷ [] → i < n → AreBelow n old
     → AreBelow n new
@@ -21,7 +21,7 @@ below_push n i old new is lt below k j at =
 pub stands_push : (i j : ℕ) (old new : List ℕ) → new ≡ old ++ i ∷ [] → StandsIn j old
     → StandsIn j new
 stands_push i j old new is (k, at) =
-    (k, subst (λ l. slice_get l k ≡ Some j) (sym is) (at_more old (i ∷ []) k j at))
+    (k, subst (λ l. slice_get l k ≡ Some j) (sym is) (before_append old (i ∷ []) k j at))
 
 pub stands_here : (i : ℕ) (old new : List ℕ) → new ≡ old ++ i ∷ [] → StandsIn i new
 stands_here i old new is =

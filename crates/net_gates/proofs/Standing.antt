@@ -9,7 +9,7 @@ use Rattle.model_logic.specs.Tree.{Tree}
 use Rattle.model_logic.specs.Tree as tree
 use Rattle.net_gates.specs.declared.gate.Gate.TheVariants.{Const, Seen, Loss, Raw, Not, And, Or}
 use Rattle.net_gates.specs.declared.gate.Gate.TheVariants.{Timer, Seal}
-use Rattle.net_gates.specs.Laws.{HasArguments, AreGates}
+use Rattle.net_gates.specs.Gates.{HasArguments, AreGates}
 use Rattle.net_gates.specs.Formulas.{tree_at, tree_with, formulas_after, formula_of, kind_over}
 use Rattle.net_gates.specs.Formulas.{Stands}
 use Rattle.net_gates.specs.{declared.gate.Gate.Gate, Growing.Grows, Growing.Adds}

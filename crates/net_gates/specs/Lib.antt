@@ -1,4 +1,4 @@
-pub mod Laws
+pub mod Gates
 pub mod Formulas
 pub mod Named
 pub mod Growing

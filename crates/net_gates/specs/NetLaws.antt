@@ -7,7 +7,7 @@ use Rattle.model_logic.specs.Names.{Names}
 use Rattle.net_gates.specs.declared.gate.Gate.{Gate}
 use Rattle.net_gates.specs.declared.gate.Gate.TheVariants.{Const, Seen, Loss, Raw, Not, And, Or}
 use Rattle.net_gates.specs.declared.gate.Gate.TheVariants.{Timer, Seal}
-use Rattle.net_gates.specs.{Laws.AreGates, Formulas.formula_of, Formulas.kind_over}
+use Rattle.net_gates.specs.{Gates.AreGates, Formulas.formula_of, Formulas.kind_over}
 use Rattle.net_gates.specs.{Named.GateNames, Named.NamedFrom, Readers.HearBelow, Readers.Hears}
 
 -- each gate stands for its own kind over the trees of its arguments, and where every gate names

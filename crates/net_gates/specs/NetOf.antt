@@ -2,7 +2,7 @@
 use Rattle.std.specs.Prelude.{◌≡◌, ◌<◌, ℕ, List, length, map, get_or}
 use Rattle.model_line.specs.{declared.line.Line.Line, Parameters.terminal_count}
 use Rattle.model_logic.specs.Logic.{key_tree, trip_tree}
-use Rattle.net_gates.specs.{declared.gate.Gate.Gate, declared.gate.GateId.GateId, Laws.AreGates}
+use Rattle.net_gates.specs.{declared.gate.Gate.Gate, declared.gate.GateId.GateId, Gates.AreGates}
 use Rattle.net_gates.specs.{Formulas.formula_of, Named.NamedFrom}
 
 -- the gates in order, and the gates of each terminal's key and trip

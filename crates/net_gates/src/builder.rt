@@ -1,8 +1,8 @@
 //! A net while it is built.
 
 ghost use Rattle.std.specs.Prelude.{◌≡◌, ◌<◌, ◌≤◌, [], length, IfOk};
-ghost use Rattle.net_gates.specs.{Growing.HasRoom, Growing.Makes, Laws.HasArguments};
-ghost use Rattle.net_gates.specs.{Laws.AreGates, NetOf.AreGatesOf, NetOf.IsNet};
+ghost use Rattle.net_gates.specs.{Growing.HasRoom, Growing.Makes, Gates.HasArguments};
+ghost use Rattle.net_gates.specs.{Gates.AreGates, NetOf.AreGatesOf, NetOf.IsNet};
 ghost use Rattle.net_gates.specs.Readers.{HearBelow};
 
 use crate::gate::{Gate, GateId};
@@ -26,7 +26,7 @@ pub struct NetBuilder {
 
 impl Model for NetBuilder {
     ghost use Rattle.std.specs.Prelude.{List};
-    ghost use Rattle.net_gates.specs.{declared.gate.Gate.Gate, Laws.AreGates};
+    ghost use Rattle.net_gates.specs.{declared.gate.Gate.Gate, Gates.AreGates};
 
     ghost Value = { List Gate };
 

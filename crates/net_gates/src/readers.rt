@@ -1,7 +1,7 @@
 //! Who reads a gate, and who hears a channel.
 
 ghost use Rattle.std.specs.Prelude.{◌≡◌, ℕ, [], ◌<◌, IfOk, length, slice_get, Some};
-ghost use Rattle.net_gates.specs.Laws.{AreGates, HasArguments};
+ghost use Rattle.net_gates.specs.Gates.{AreGates, HasArguments};
 ghost use Rattle.net_gates.specs.Listing.{IsListed, ListGates, ListsGrow, ReadersHold, ReadsNone};
 ghost use Rattle.net_gates.specs.Listing.{ReadsOne, ReadsTwo};
 ghost use Rattle.net_gates.specs.Readers.{HearBelow, Hears, StandsIn};

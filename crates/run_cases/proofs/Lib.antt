@@ -1,4 +1,3 @@
-mod WalkLaws
 mod ValueLaws
 mod MaskLaws
 mod UnderLaws

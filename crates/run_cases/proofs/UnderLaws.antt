@@ -8,7 +8,7 @@ use Rattle.model_logic.specs.Tree as tree
 use Rattle.model_cases.specs.Under.{assumed_or, pair_under, own_pair}
 use Rattle.net_gates.specs.declared.gate.Gate.TheVariants.{Const, Seen, Loss, Raw, Not, And, Or}
 use Rattle.net_gates.specs.declared.gate.Gate.TheVariants.{Timer, Seal}
-use Rattle.net_gates.specs.Laws.{AreGates}
+use Rattle.net_gates.specs.Gates.{AreGates}
 use Rattle.net_gates.specs.{declared.gate.Gate.Gate, Formulas.formula_of, Formulas.kind_over}
 use Rattle.run_step.specs.GatePairs.{kind_pair}
 use Rattle.run_cases.specs.{Masks.AreOfTimers, Ticks.under_pairs, Ticks.own_pairs}

@@ -9,8 +9,8 @@ use Rattle.run_step.specs.GatePairs.{GateSignals}
 use Rattle.run_step.specs.WavesOf.{pair_in}
 use Rattle.run_cases.specs.UnderWaves.{value_at}
 use Rattle.std.specs.Prelude.{slice_get}
-use Rattle.run_step.specs.{Ticks.ValuesAgree, Ticks.ValuesTold, ListLaws.exists_at}
-use Rattle.run_step.specs.ListLaws.{at_append}
+use Rattle.run_step.specs.{Ticks.ValuesAgree, Ticks.ValuesTold}
+use Rattle.model_history.specs.ListLaws.{exists_at, at_append}
 
 -- one more tick has room below the horizon
 pub tick_fits : (t h n : ℕ) → t < h → t * n + n ≤ h * n

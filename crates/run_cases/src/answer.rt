@@ -4,7 +4,7 @@ ghost use Rattle.std.specs.Prelude.{◌≡◌, ℕ, suc, ◌<◌, length, Some, 
 ghost use Rattle.model_history.specs.Rails.{rails_delayed};
 ghost use Rattle.model_line.specs.Parameters.{terminal_count, channel_count};
 ghost use Rattle.model_logic.specs.PairMean.{PairWorld, PairSignals};
-ghost use Rattle.net_gates.specs.{Laws.HasArguments, Named.GateNames};
+ghost use Rattle.net_gates.specs.{Gates.HasArguments, Named.GateNames};
 ghost use Rattle.run_step.specs.GatePairs.{GateSignals, kind_pair};
 ghost use Rattle.run_cases.specs.Given.{AreDelaysOf, CanReceive, IsWorldAt};
 ghost use Rattle.run_step.specs.Ticks.{ValuesAgree, KeysSent, AreSent};

@@ -13,10 +13,10 @@ use Rattle.run_changes.specs.Hears.{AreHeard, IsHeard, IsLastKey}
 use Rattle.run_step.specs.Inputs.{AreDelaysFrom, AreSet, AreSoonest}
 use Rattle.run_changes.specs.Readers.{AreHastened}
 use Rattle.run_step.specs.Ticks.{AreSent, KeysSent, ValuesAgree}
-use Rattle.run_step.specs.{Lanes.LanePairs, ListLaws.exists_at}
+use Rattle.run_step.specs.{Lanes.LanePairs}
+use Rattle.model_history.specs.ListLaws.{exists_at, at_set, one_value}
 use Rattle.run_changes.specs.LaneLaws.{lane_at}
 use Rattle.run_changes.proofs.LagLaws.{HearsNo}
-use Rattle.run_step.specs.ListLaws.{at_set, one_value}
 
 -- a due tick that was made earlier still is
 pub soon_kept : (first i : ℕ) (old new : List ℕ) → length old ≡ length new → AreHastened old new

@@ -21,7 +21,7 @@ use Rattle.run_step.specs.CellStands.{SealStands, CellStands, TimerStands}
 use Rattle.run_changes.specs.Lags.{Lags, IsInputAt, IsNoTimer, IsSame, ArgsRest}
 use Rattle.run_step.specs.{Lanes.LanePairs, Lasts.Lasts, Lasts.RawLasts}
 use Rattle.run_step.specs.QuietLaws.{GateQuiet}
-use Rattle.net_gates.specs.{Laws.HasArguments, Readers.HasArgument, Readers.Hears}
+use Rattle.net_gates.specs.{Gates.HasArguments, Readers.HasArgument, Readers.Hears}
 
 -- a gate that is not due is not at the first tick
 pub at_least_one : (t due : ℕ) → t < due → (t ≡ 0 → due ≡ 0) → 1 ≤ t

@@ -13,7 +13,7 @@ use Rattle.std.specs.Prelude.{slice_get, slice_set}
 use Rattle.std.specs.Int.{bit_at, bit_not, trailing_zeros}
 use Rattle.run_changes.specs.Marks.{AreMarked, HasRoom, IsMarked, IsPlanned, MarksStay}
 use Rattle.run_changes.specs.declared.marks.Marks.{Marks}
-use Rattle.run_step.specs.ListLaws.{at_set}
+use Rattle.model_history.specs.ListLaws.{at_set}
 
 -- ---- one word written
 

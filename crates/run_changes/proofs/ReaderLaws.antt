@@ -5,7 +5,7 @@ use Rattle.std.proofs.lemmas.Option.{slice_get-get_or}
 use Rattle.std.specs.Prelude.{slice_get, slice_set, get_or}
 use Rattle.net_gates.specs.Readers.{AreBelow}
 use Rattle.run_changes.specs.Readers.{AreLowered, AreAwake}
-use Rattle.run_step.specs.ListLaws.{at_set}
+use Rattle.model_history.specs.ListLaws.{at_set}
 
 -- one more
 pub lowered_one : (first dues new : List ℕ) (i : ℕ) → new ≡ slice_set dues i 0

@@ -14,7 +14,7 @@ use Rattle.net_gates.specs.declared.gate.Gate.TheVariants.{Timer, Seal}
 use Rattle.run_step.specs.Shown.{is_shown_by}
 use Rattle.run_changes.specs.{ShownBy.AreListed, ShownBy.AreStarts}
 use Rattle.run_changes.specs.ShownBy.{spans_at}
-use Rattle.run_step.specs.ListLaws.{one_value}
+use Rattle.model_history.specs.ListLaws.{one_value}
 
 -- the gate shows no span, whatever it is of
 abbrev pub ShowsNone : Gate → Type 0

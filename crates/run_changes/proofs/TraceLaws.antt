@@ -8,18 +8,17 @@ use Rattle.model_history.specs.Rails.{Rails, Ends}
 use Rattle.model_history.specs.Laws.{RecordedTicksSuffice}
 use Rattle.run_timers.specs.Stretches.{ElementsInAStretch}
 use Rattle.net_gates.specs.{declared.gate.Gate.Gate}
-use Rattle.net_gates.specs.Laws.{HasArguments, AreGates}
+use Rattle.net_gates.specs.Gates.{HasArguments, AreGates}
 use Rattle.run_step.specs.declared.cell.Cell.{Cell}
 use Rattle.run_changes.specs.declared.since.Since.{Since}
 use Rattle.run_changes.specs.declared.gates.Gates.{Gates}
 use Rattle.run_step.specs.{Ticks.ValuesAgree, Ticks.AreTold}
 use Rattle.run_step.specs.{GatePairs.GateSignals, Lanes.LanePairs, Lasts.Lasts}
-use Rattle.run_step.specs.ListLaws.{exists_at}
+use Rattle.model_history.specs.ListLaws.{exists_at, at_set, one_value}
 use Rattle.run_changes.specs.Lags.{AllWait, AreFreshDues, ArgsRest, GateWaits, IsTraced, Lags}
 use Rattle.run_changes.specs.Readers.{AreLowered, IsTold}
 use Rattle.run_changes.specs.Marks.{AreMarked, IsMarked}
 use Rattle.run_changes.proofs.MarkLaws.{watched}
-use Rattle.run_step.specs.ListLaws.{at_set, one_value}
 use Rattle.run_changes.proofs.LagLaws.{ArgsSame, args_same, at_least_one, lasts_none, rest_pair}
 use Rattle.run_changes.proofs.LagLaws.{rest_lags, rest_lasts, rests_more, rests_none}
 

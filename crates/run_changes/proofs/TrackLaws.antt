@@ -13,7 +13,8 @@ use Rattle.net_gates.specs.NetLaws.{GatesStandForTheirTrees}
 use Rattle.net_gates.specs.{Formulas.formula_of, NetOf.NetOf, NetOf.IsNetOf, NetOf.trip_of}
 use Rattle.run_channel.specs.SentKeys.{SentKeys}
 use Rattle.run_step.specs.{GatePairs.gate_pairs, GatePairs.line_pairs, Runs.IsTheHistory}
-use Rattle.run_step.specs.{ListLaws.exists_at, Ticks.KeysSent, Ticks.AreSent}
+use Rattle.run_step.specs.{Ticks.KeysSent, Ticks.AreSent}
+use Rattle.model_history.specs.ListLaws.{exists_at}
 use Rattle.run_changes.specs.Tracks.{pair_of}
 
 -- the pair of a tick that was kept

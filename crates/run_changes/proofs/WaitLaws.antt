@@ -10,7 +10,7 @@ use Rattle.run_timers.specs.Stretches.{ElementsInAStretch}
 use Rattle.model_logic.specs.{PairMean.PairWorld, PairMean.PairSignals}
 use Rattle.net_gates.specs.declared.gate.Gate.TheVariants.{Const, Seen, Loss, Raw, Not, And, Or}
 use Rattle.net_gates.specs.declared.gate.Gate.TheVariants.{Timer, Seal}
-use Rattle.net_gates.specs.{Laws.AreGates, Laws.HasArguments, Readers.Hears}
+use Rattle.net_gates.specs.{Gates.AreGates, Gates.HasArguments, Readers.Hears}
 use Rattle.net_gates.specs.declared.gate.Gate.{Gate}
 use Rattle.run_step.specs.declared.cell.Cell.{Cell}
 use Rattle.run_changes.specs.declared.since.Since.{Since}

@@ -1,7 +1,7 @@
 //! One gate at a tick: it is evaluated, or left as it is.
 
 ghost use Rattle.std.specs.Prelude.{◌≡◌, ℕ, suc, ◌<◌, ◌≤◌, ◌-◌, length, IsTrue, IsFalse};
-ghost use Rattle.net_gates.specs.{Laws.HasArguments, Named.GateNames};
+ghost use Rattle.net_gates.specs.{Gates.HasArguments, Named.GateNames};
 ghost use Rattle.run_step.specs.GatePairs.{GateSignals, kind_pair};
 ghost use Rattle.run_step.specs.{Inputs.AreDelaysFrom, Inputs.AreSet, Moments.CanHear};
 ghost use Rattle.run_step.specs.{Shown.IsShown, Ticks.ValuesAgree, Ticks.KeysSent};

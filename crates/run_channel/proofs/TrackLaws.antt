@@ -12,31 +12,10 @@ use Rattle.std.proofs.lemmas.Option.{slice_get_within}
 use Rattle.std.specs.List.Sorted.{IsPartitionedBy, IsPartitionPoint}
 use Rattle.std.specs.Prelude.{slice_get, option_map, map, true, false}
 use Rattle.model_history.specs.Rails.{Rails, Ends, rails_at, both}
+use Rattle.model_history.specs.ListLaws.{at_push, before_append, last_push}
 use Rattle.run_signal.specs.Lanes.{in_lane}
 use Rattle.run_channel.specs.Tracks.{IsOneOf, AreAscending, ChangeAt, IsTrack, IsLast, IsNextAfter}
 use Rattle.run_channel.specs.Tracks.{StaysUntil, IsSteadySince, IsHeld, all_values}
-
--- an element of a list with one more
-pub get_pushed : {X : Type 0} (xs : List X) (x y : X) (i : ℕ) → slice_get xs i ≡ Some y
-    → slice_get (xs ++ x ∷ []) i ≡ Some y
-get_pushed [] x y i e = absurd (cc)
-get_pushed (z ∷ xs) x y zero e = e
-get_pushed (z ∷ xs) x y (suc i) e = get_pushed xs x y i e
-
-pub get_last : {X : Type 0} (xs : List X) (x : X) → slice_get (xs ++ x ∷ []) (length xs) ≡ Some x
-get_last [] x = refl
-get_last (z ∷ xs) x = get_last xs x
-
--- an element of a list with one more is one of the list, or the one more
-pub at_push : {X : Type 0} (xs : List X) (x y : X) (i : ℕ) → slice_get (xs ++ x ∷ []) i ≡ Some y
-    → (slice_get xs i ≡ Some y) ⊎ ((i ≡ length xs) × (y ≡ x))
-at_push [] x y zero e = let same : x ≡ y = cc in inr (refl, sym same)
-at_push [] x y (suc i) e = absurd (cc)
-at_push (z ∷ xs) x y zero e = inl e
-at_push (z ∷ xs) x y (suc i) e =
-    ⊎_elim inl
-    (λ p. let n : suc i ≡ length (z ∷ xs) = omega (arith, p.0) in inr (n, p.1))
-    (at_push xs x y i e)
 
 -- a number that is no less than those before it
 ascending_more : (numbers : List ℕ) (n : ℕ) → AreAscending numbers
@@ -154,7 +133,7 @@ module _ {V : Type 0} (lanes : ℕ) (rails : V → ℕ → Rails) where
   rails_pushed values value lane r lt =
       let x : V = get_or values r value in
       let at : slice_get values r ≡ Some x = slice_get-get_or values r value lt in
-      rails_read (values ++ value ∷ []) r x lane (get_pushed values value x r at)
+      rails_read (values ++ value ∷ []) r x lane (before_append values (value ∷ []) r x at)
       ∙ sym (rails_read values r x lane at)
 
   rails_of_last : (values : List V) (value : V) (lane r : ℕ) → r ≡ length values
@@ -162,10 +141,10 @@ module _ {V : Type 0} (lanes : ℕ) (rails : V → ℕ → Rails) where
   rails_of_last values value lane r is =
       rails_read (values ++ value ∷ []) r value lane
       (subst (λ (k : ℕ). slice_get (values ++ value ∷ []) k ≡ Some value) (sym is)
-      (get_last values value))
+      (last_push values value))
 
   one_more_of : (changes : List ℕ) (c r : ℕ) → IsOneOf changes r → IsOneOf (changes ++ c ∷ []) r
-  one_more_of changes c r (i, at) = (i, get_pushed changes c r i at)
+  one_more_of changes c r (i, at) = (i, before_append changes (c ∷ []) i r at)
 
   -- a tick within the values before
   told_before : (values : List V) (value : V) (changes : List ℕ) (r : ℕ)
@@ -211,7 +190,7 @@ module _ {V : Type 0} (lanes : ℕ) (rails : V → ℕ → Rails) where
       inl (
         length changes,
         subst (λ (k : ℕ). slice_get (changes ++ t ∷ []) (length changes) ≡ Some k) e
-            (get_last changes t),
+            (last_push changes t),
       ))
       (cases_lt (suc r) (length values))
 

@@ -8,7 +8,7 @@ use Rattle.model_names.specs.NamesByNumber.{terminal_name}
 use Rattle.model_line.specs.{declared.line.Line.Line, Parameters.terminal_count}
 use Rattle.run_channel.specs.SentKeys.{SentKeys}
 use Rattle.run_signal.specs.declared.level.Level.{Level}
-use Rattle.run_step.specs.ListLaws.{exists_at}
+use Rattle.model_history.specs.ListLaws.{exists_at}
 use Rattle.run_changes.specs.{PlayedTracks.is_shown, PlayedTracks.played}
 use Rattle.run_rows.specs.PlayRows.{change_row, value_before, signal_row, each_below}
 use Rattle.run_rows.specs.PlayRows.{terminal_rows, tick_rows}

@@ -4,7 +4,7 @@ use Rattle.std.specs.Prelude.{slice_get}
 use Rattle.model_logic.specs.PairMean.{PairWorld, PairSignals, pair_mean}
 use Rattle.net_gates.specs.declared.gate.Gate.TheVariants.{Const, Seen, Loss, Raw, Not, And, Or}
 use Rattle.net_gates.specs.declared.gate.Gate.TheVariants.{Timer, Seal}
-use Rattle.net_gates.specs.Laws.{AreGates}
+use Rattle.net_gates.specs.Gates.{AreGates}
 use Rattle.net_gates.specs.{declared.gate.Gate.Gate, Formulas.formula_of, Formulas.kind_over}
 use Rattle.run_step.specs.GatePairs.{gate_pairs, kind_pair, GatesHaveTheirKind}
 

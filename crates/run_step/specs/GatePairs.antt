@@ -8,7 +8,7 @@ use Rattle.model_logic.specs.{Logic.key_tree, Solution.the_keys}
 use Rattle.model_line.specs.{declared.line.Line.Line, declared.script.Script.Script}
 use Rattle.net_gates.specs.declared.gate.Gate.TheVariants.{Const, Seen, Loss, Raw, Not, And, Or}
 use Rattle.net_gates.specs.declared.gate.Gate.TheVariants.{Timer, Seal}
-use Rattle.net_gates.specs.{declared.gate.Gate.Gate, Formulas.formula_of, Laws.AreGates}
+use Rattle.net_gates.specs.{declared.gate.Gate.Gate, Formulas.formula_of, Gates.AreGates}
 use Rattle.net_gates.specs.{NetOf.NetOf}
 
 -- a pair for each gate at each tick

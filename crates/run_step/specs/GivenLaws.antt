@@ -16,7 +16,7 @@ use Rattle.run_step.specs.Shown.{ShowTheSame, ShownSpans, AreShown, not_over}
 use Rattle.run_step.specs.{declared.delays.Delay.Delay, LaneBox.ends_at, LaneBox.lane_box}
 use Rattle.run_step.specs.LaneBox.{lane_world}
 use Rattle.run_step.specs.Runs.{AreDelayed}
-use Rattle.run_step.specs.ListLaws.{at_set}
+use Rattle.model_history.specs.ListLaws.{at_set}
 
 -- who sends over a channel
 pub sender : (line : Line) (c : ℕ) (h : Channel) → slice_get line.channels.items c ≡ Some h

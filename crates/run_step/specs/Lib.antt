@@ -6,7 +6,6 @@ pub mod Ticks
 pub mod WavesOf
 pub mod Runs
 pub mod Played
-pub mod ListLaws
 pub mod SendLaws
 pub mod Quiet
 pub mod Lanes
@@ -26,5 +25,4 @@ pub mod QuietLaws
 pub mod ValueLaws
 pub mod RunLaws
 pub mod PointLaws
-pub mod PlayLaws
 pub mod TickLaws

@@ -1,10 +1,11 @@
 -- Loops that go one element further.
-use Rattle.std.proofs.Common.{◌≡◌, ℕ, ◌+◌, ◌<◌, ◌≤◌, List, Some, length, sym, subst, arith, ⊎_elim}
+use Rattle.std.proofs.Common.{◌≡◌, ◌≢◌, ℕ, ◌+◌, ◌<◌, ◌≤◌, List, Some, length, sym, subst, arith, ⊎_elim}
 use Rattle.std.proofs.Math.Nat.{max-le}
 use Rattle.std.proofs.lemmas.Option.{slice_get-get_or, slice_get_within}
 use Rattle.std.proofs.lemmas.Bool.{cases_lt}
-use Rattle.std.specs.Prelude.{slice_get, get_or, max}
-use Rattle.run_step.specs.ListLaws.{one_value}
+use Rattle.std.specs.Prelude.{slice_get, slice_set, get_or, max}
+use Rattle.model_history.specs.ListLaws.{at_set, one_value}
+use Rattle.run_step.specs.Ticks.{PartDone}
 
 -- the first n elements have it
 abbrev pub FirstHave : {X : Type 0} → (X → Type 0) → List X → ℕ → Type 0
@@ -30,3 +31,20 @@ first_all P xs n le have j y at =
 pub at_most_max : (r a : ℕ) → r ≡ max a 1 → 1 ≤ a → r ≤ a
 at_most_max r a e some =
     let self : a ≤ a = omega arith in subst (λ (k : ℕ). k ≤ a) (sym e) (max-le self some)
+
+-- one element more of a list that is written from front to end
+pub part_more : {X : Type 0} (isdone isleft : ℕ → X → Type 0) (i : ℕ) (old new : X) (xs : List X)
+    → slice_get xs i ≡ Some old → (isleft i old → isdone i new) → PartDone isdone isleft i xs
+    → PartDone isdone isleft (i + 1) (slice_set xs i new)
+part_more isdone isleft i old new xs at now part = record {
+  done = λ j x lt h.
+      ⊎_elim
+      (λ p. subst (λ (k : ℕ). isdone k x) (sym p.0)
+      (subst (isdone i) p.1 (now (part.left i old (omega arith) at))))
+      (λ p. let ne : j ≢ i = p.0 in part.done j x (omega arith) p.1)
+      (at_set xs i new j x h);
+  left = λ j x le h.
+      ⊎_elim (λ p. let e : j ≡ i = p.0 in absurd (omega arith))
+      (λ p. part.left j x (omega arith) p.1)
+      (at_set xs i new j x h);
+}

@@ -10,10 +10,11 @@ use Rattle.model_line.specs.{declared.line.Line.Line, Parameters.channel_count}
 use Rattle.model_logic.specs.PairMean.{PairWorld, PairSignals}
 use Rattle.net_gates.specs.declared.gate.Gate.TheVariants.{Const, Seen, Loss, Raw, Not, And, Or}
 use Rattle.net_gates.specs.declared.gate.Gate.TheVariants.{Timer, Seal}
-use Rattle.net_gates.specs.Laws.{AreGates, HasArguments}
+use Rattle.net_gates.specs.Gates.{AreGates, HasArguments}
 use Rattle.net_gates.specs.{declared.gate.Gate.Gate, Named.NamedFrom, Named.GateNames}
 use Rattle.run_step.specs.Quiet.{Keeps, SourcesKeep, AreGatePairs, TimerKeeps, ArrivalKeeps}
-use Rattle.run_step.specs.{GatePairs.GateSignals, GatePairs.kind_pair, ListLaws.exists_at}
+use Rattle.run_step.specs.{GatePairs.GateSignals, GatePairs.kind_pair}
+use Rattle.model_history.specs.ListLaws.{exists_at}
 
 pub keeps_none : {A : Type 0} (u : ℕ → A) (t : ℕ) → Keeps u t 0
 keeps_none u t r low high = absurd (omega arith)

@@ -7,7 +7,8 @@ use Rattle.run_timers.specs.Stretches.{ElementsInAStretch}
 use Rattle.net_gates.specs.declared.gate.GateId.{GateId}
 use Rattle.run_step.specs.Ticks.{HasKeys, ValuesAgree, AreFresh, AreSent, KeysSent, HasSent}
 use Rattle.net_gates.specs.NetOf.{id_at}
-use Rattle.run_step.specs.{GatePairs.GateSignals, ListLaws.at_push}
+use Rattle.run_step.specs.{GatePairs.GateSignals}
+use Rattle.model_history.specs.ListLaws.{at_push}
 use Rattle.model_history.specs.Rails.{Rails, Ends, rails_at, rails_delayed}
 use Rattle.model_history.specs.{Recorded.first_ticks, Laws.HistoryLaws}
 use Rattle.run_signal.specs.Lanes.{in_lane}

@@ -6,13 +6,13 @@ use Rattle.model_history.specs.Rails.{Rails, Ends}
 use Rattle.model_logic.specs.PairMean.{PairWorld, PairSignals}
 use Rattle.net_gates.specs.declared.gate.Gate.TheVariants.{Const, Seen, Loss, Raw, Not, And, Or}
 use Rattle.net_gates.specs.declared.gate.Gate.TheVariants.{Timer, Seal}
-use Rattle.net_gates.specs.{declared.gate.Gate.Gate, Laws.HasArguments}
+use Rattle.net_gates.specs.{declared.gate.Gate.Gate, Gates.HasArguments}
 use Rattle.run_step.specs.GatePairs.{GateSignals, kind_pair}
 use Rattle.run_step.specs.{declared.cell.Cell.Cell, CellStands.HasCell, CellStands.CellStands}
 use Rattle.run_step.specs.{Ticks.ValuesAgree, Ticks.HaveCells, Ticks.AreTold}
 use Rattle.run_step.specs.Ticks.{CellsWalked}
-use Rattle.run_step.specs.{Ticks.AllStand, ListLaws.at_push}
-use Rattle.run_step.specs.ListLaws.{at_set, one_value}
+use Rattle.run_step.specs.{Ticks.AllStand}
+use Rattle.model_history.specs.ListLaws.{at_push, at_set, one_value}
 
 -- one more element beside a list of gates, with what each is to have
 pub one_more : {Y : Type 0} (P : Gate → Y → Type 0) (gates : List Gate) (xs : List Y) (i : ℕ)
@@ -47,45 +47,44 @@ pub agree_none : {V : Type 0} (rails : V → ℕ → Rails) (lane : ℕ) (u : Ga
 agree_none rails lane u t [] none i x at = absurd (cc)
 agree_none rails lane u t (y ∷ column) none i x at = absurd (cc)
 
+-- one more value
+pub agree_more : {V : Type 0} (rails : V → ℕ → Rails) (lane : ℕ) (u : GateSignals) (t i : ℕ)
+    (x : V) (column : List V) → length column ≡ i → rails x lane ≡ u i t
+    → ValuesAgree rails lane u t column → ValuesAgree rails lane u t (column ++ x ∷ [])
+agree_more {V} rails lane u t i x column len value agree j y at =
+    ⊎_elim
+    (λ before. agree j y before)
+    (λ p. ap (λ (v : V). rails v lane) p.1 ∙ value
+    ∙ ap (λ (k : ℕ). u k t) (let e : i ≡ j = omega (arith, p.0, len) in e))
+    (at_push column x y j at)
+
 module _ {C S V : Type 0} (stands_for : C → S → S → ℕ → List Rails → Type 0) (ends : S → ℕ → Ends)
-    (rails : V → ℕ → Rails) (lane : ℕ) (w : PairWorld) (keys : PairSignals) (u : GateSignals)
-    (t : ℕ) (gates : List Gate) where
+    (rails : V → ℕ → Rails) (lane : ℕ) (w : PairWorld) (u : GateSignals) (t : ℕ)
+    (gates : List Gate) where
   abbrev Stands : ℕ → Gate → Cell C V S → Type 0
   Stands r g cell = CellStands stands_for ends rails lane w u r g cell
 
   abbrev Walked : ℕ → List (Cell C V S) → Type 0
   Walked n cells = CellsWalked stands_for ends rails lane w u t n gates cells
 
-  -- one more gate
-  pub walked_more : (i n : ℕ) (gate : Gate) (old new : Cell C V S) (x : V) (column : List V)
-      (cells : List (Cell C V S)) → n ≡ i + 1 → slice_get gates i ≡ Some gate
-      → slice_get cells i ≡ Some old → length column ≡ i → AreTold w keys u t gates
-      → ValuesAgree rails lane u t column × Walked i cells
-      → (Stands t gate old → Stands (suc t) gate new)
-      → (Stands t gate old → rails x lane ≡ kind_pair w keys u gate t)
-      → ValuesAgree rails lane u t (column ++ x ∷ []) × Walked n (slice_set cells i new)
-  walked_more i n gate old new x column cells next gat cat len told (agree, walked) stands answers =
+  -- one gate more
+  pub cells_more : (i n : ℕ) (gate : Gate) (old new : Cell C V S) (cells : List (Cell C V S))
+      → n ≡ i + 1 → slice_get gates i ≡ Some gate → slice_get cells i ≡ Some old → Walked i cells
+      → (Stands t gate old → Stands (suc t) gate new) → Walked n (slice_set cells i new)
+  cells_more i n gate old new cells next gat cat walked stands =
       let now : Stands t gate old = walked.left i gate old (omega arith) gat cat in
-      let value : rails x lane ≡ u i t = answers now ∙ sym (told i gate gat) in (
-        λ j y at.
+      record {
+        done = λ j g cell lt ga ca.
             ⊎_elim
-            (λ before. agree j y before)
-            (λ p. ap (λ (v : V). rails v lane) p.1 ∙ value
-            ∙ ap (λ (k : ℕ). u k t) (let e : i ≡ j = omega (arith, p.0) in e))
-            (at_push column x y j at),
-        record {
-          done = λ j g cell lt ga ca.
-              ⊎_elim
-              (λ p. subst (Stands (suc t) g) p.1
-              (subst (λ (k : Gate). Stands (suc t) k new)
-              (one_value gates i j gate g (sym p.0) gat ga) (stands now)))
-              (λ p. let ne : j ≢ i = p.0 in walked.done j g cell (omega arith) ga p.1)
-              (at_set cells i new j cell ca);
-          left = λ j g cell le ga ca.
-              ⊎_elim (λ p. let e : j ≡ i = p.0 in absurd (omega arith))
-              (λ p. walked.left j g cell (omega arith) ga p.1) (at_set cells i new j cell ca);
-        },
-      )
+            (λ p. subst (Stands (suc t) g) p.1
+            (subst (λ (k : Gate). Stands (suc t) k new)
+            (one_value gates i j gate g (sym p.0) gat ga) (stands now)))
+            (λ p. let ne : j ≢ i = p.0 in walked.done j g cell (omega arith) ga p.1)
+            (at_set cells i new j cell ca);
+        left = λ j g cell le ga ca.
+            ⊎_elim (λ p. let e : j ≡ i = p.0 in absurd (omega arith))
+            (λ p. walked.left j g cell (omega arith) ga p.1) (at_set cells i new j cell ca);
+      }
 
   pub walked_none : (cells : List (Cell C V S))
       → AllStand stands_for ends rails lane w u t gates cells → Walked 0 cells
@@ -93,6 +92,30 @@ module _ {C S V : Type 0} (stands_for : C → S → S → ℕ → List Rails →
     done = λ i g cell lt. absurd (omega arith);
     left = λ i g cell le ga ca. all i g cell ga ca;
   }
+
+-- one gate more, with its value
+pub walked_more : {C S V : Type 0} (stands_for : C → S → S → ℕ → List Rails → Type 0)
+    (ends : S → ℕ → Ends) (rails : V → ℕ → Rails) (lane : ℕ) (w : PairWorld) (keys : PairSignals)
+    (u : GateSignals) (t : ℕ) (gates : List Gate) (i n : ℕ) (gate : Gate) (old new : Cell C V S)
+    (x : V) (column : List V) (cells : List (Cell C V S)) → n ≡ i + 1
+    → slice_get gates i ≡ Some gate → slice_get cells i ≡ Some old → length column ≡ i
+    → AreTold w keys u t gates
+    → ValuesAgree rails lane u t column
+    × CellsWalked stands_for ends rails lane w u t i gates cells
+    → (CellStands stands_for ends rails lane w u t gate old
+    → CellStands stands_for ends rails lane w u (suc t) gate new)
+    → (CellStands stands_for ends rails lane w u t gate old
+    → rails x lane ≡ kind_pair w keys u gate t)
+    → ValuesAgree rails lane u t (column ++ x ∷ [])
+    × CellsWalked stands_for ends rails lane w u t n gates (slice_set cells i new)
+walked_more stands_for ends rails lane w keys u t gates i n gate old new x column cells next gat cat
+    len told (agree, walked) stands answers =
+    let now : CellStands stands_for ends rails lane w u t gate old =
+    walked.left i gate old (omega arith) gat cat in (
+      agree_more rails lane u t i x column len (answers now ∙ sym (told i gate gat)) agree,
+      cells_more stands_for ends rails lane w u t gates i n gate old new cells next gat cat walked
+          stands,
+    )
 
 -- ---- a stretch of ticks, gate by gate
 

@@ -16,7 +16,7 @@ ghost use Rattle.run_step.specs.GatePairs.{GatesHaveTheirKind, GateSignals};
 ghost use Rattle.run_step.specs.Quiet.{Keeps, SourcesKeep, AreGatePairs, EndKeeps};
 ghost use Rattle.run_step.specs.Quiet.{ArrivalKeeps};
 ghost use Rattle.run_step.specs.{Played.ends_of_tick, Runs.AreDelayed, Runs.IsPoint};
-ghost use Rattle.net_gates.specs.{declared.gate.Gate.Gate, Laws.AreGates, Named.NamedFrom};
+ghost use Rattle.net_gates.specs.{declared.gate.Gate.Gate, Gates.AreGates, Named.NamedFrom};
 
 use model_history::laws::history_laws;
 use model_logic::laws::line_laws;

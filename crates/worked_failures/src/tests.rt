@@ -99,19 +99,24 @@ fn text_of(alloc: Global, sink: &MemorySink) -> Result<String, Memory> {
     Ok(String::from_utf8_lossy(alloc, sink.written())?)
 }
 
+fn list_of(alloc: Global, words: &[&str]) -> Result<Vec<String>, Memory> {
+    let mut list = Vec::new(alloc);
+    for word in words {
+        list.push(String::from_str(alloc, word)?)?;
+    }
+    Ok(list)
+}
+
 fn call_with(
     alloc: Global,
     words: &[&str],
     files: Files<'_>,
     faults: Faults,
 ) -> Result<Ended, Memory> {
+    let list = list_of(alloc, words)?;
     let mut store = store_of(alloc, files, faults)?;
     let mut out = sink_of(alloc, 1_000, faults.out)?;
     let mut err = sink_of(alloc, 200, faults.err)?;
-    let mut list = Vec::new(alloc);
-    for word in words {
-        list.push(String::from_str(alloc, word)?)?;
-    }
     let mut engine = NetEngine::new();
     let status = pilot(
         alloc,
@@ -121,10 +126,18 @@ fn call_with(
         &mut out,
         &mut err,
     );
+    end_of(status, text_of(alloc, &out), text_of(alloc, &err))
+}
+
+fn end_of(
+    status: Status,
+    out: Result<String, Memory>,
+    err: Result<String, Memory>,
+) -> Result<Ended, Memory> {
     Ok(Ended {
         status,
-        out: text_of(alloc, &out)?,
-        err: text_of(alloc, &err)?,
+        out: out?,
+        err: err?,
     })
 }
 

@@ -1,7 +1,7 @@
 use Rattle.std.proofs.Common.{◌++◌, ◌∷◌, [], ◌∙◌, List, refl, ap}
 use Rattle.draw_elements.specs.declared.page.FileText.{FileText}
 use Rattle.call_page.specs.Files.{IsScriptsFile}
-use Rattle.call_page.proofs.Counted.{one_more, nothing_yet}
+use Rattle.judge_verdict.specs.OneEachLaws.{one_next, nothing_yet}
 use Rattle.call_page.proofs.files.files.Goals as goal
 
 pub loop-n-init : goal.loop-n-init
@@ -25,7 +25,7 @@ loop-n-preserved c =
       are = c.in_ok-push-2.ensures.items
           ∙ ap (λ (fs : List FileText). fs ++ file ∷ []) so_far.are;
       line_file = so_far.line_file;
-      scripts_files = one_more
+      scripts_files = one_next
           (IsScriptsFile c.args.study.now.line c.args.study.now.scripts.items) c.loop-n.n _
           so_far.others more file refl refl c.in_ok-file.ensures so_far.scripts_files;
     }

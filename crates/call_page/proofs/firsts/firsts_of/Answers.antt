@@ -5,7 +5,7 @@ use Rattle.model_line.specs.{declared.line.Line.Line, declared.script.Script.Scr
 use Rattle.judge_interval.specs.PairWavesOf.{pair_at}
 use Rattle.run_waves.specs.FirstTick.{first_on}
 use Rattle.run_waves.specs.FirstTickLaws.{first_on-same}
-use Rattle.run_step.specs.ListLaws.{exists_at}
+use Rattle.model_history.specs.ListLaws.{exists_at}
 use Rattle.call_page.proofs.firsts.firsts_of.Goals as goal
 
 pub returns : goal.returns

@@ -3,7 +3,7 @@ use Rattle.judge_margin.specs.declared.upper_end.Lost.{Lost}
 use Rattle.judge_margins.specs.declared.end.End.{End}
 use Rattle.judge_margins.specs.Ends.{AreEnds}
 use Rattle.call_page.specs.Times.{IsTimeOf}
-use Rattle.call_page.proofs.Counted.{one_more}
+use Rattle.judge_verdict.specs.OneEachLaws.{one_next}
 use Rattle.call_page.proofs.times.times.Goals as goal
 
 pub loop-i-preserved : goal.loop-i-preserved
@@ -19,6 +19,6 @@ loop-i-preserved c =
     (subst (λ (ss : _). AreEnds line ss c.as_slice-held.result.now
     (length c.as_slice-held.result.now) c.in_ok-ends.ends.items)
     c.as_slice-scripts.ensures.value c.in_ok-ends.ensures.ends)) in
-    one_more (IsTimeOf line scripts held) c.loop-i.i _ c.loop-i.times.items c.push.new.self.items
+    one_next (IsTimeOf line scripts held) c.loop-i.i _ c.loop-i.times.items c.push.new.self.items
     c.in_ok-time.time refl c.in_ok-push.ensures.items (c.in_ok-time.ensures held ends)
     c.loop-i.invariant

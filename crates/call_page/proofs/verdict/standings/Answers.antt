@@ -2,13 +2,13 @@ use Rattle.std.proofs.Common.{◌≡◌, ◌+◌, Some, refl, sym, ◌∙◌, ap
 use Rattle.std.specs.Prelude.{slice_get}
 use Rattle.call_tables.specs.declared.row.Row.{Row}
 use Rattle.call_page.specs.{Facts.place, Lists.At, Verdicts.standing_of}
-use Rattle.call_page.proofs.Counted.{one_more}
+use Rattle.judge_verdict.specs.OneEachLaws.{one_next}
 use Rattle.call_page.proofs.verdict.standings.Goals as goal
 
 pub loop-j-preserved : goal.loop-j-preserved
 loop-j-preserved c =
     let known = c.args.known.now in
-    one_more
+    one_next
     (λ j x. At known.rows.now (place known.study.now.line (c.args.part.start + j) c.args.terminal)
     (λ row. x ≡ standing_of row.settled.answer)) c.loop-j.j _
     c.loop-j.standings.items c.push.new.self.items c.standing_of.result refl

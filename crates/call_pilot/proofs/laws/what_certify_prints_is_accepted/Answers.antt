@@ -1,4 +1,4 @@
-use Rattle.call_pilot.proofs.Printed.{accepted_line, accepted_only}
+use Rattle.call_pilot.specs.PrintedLaws.{accepted_line, accepted_only}
 use Rattle.call_pilot.proofs.laws.what_certify_prints_is_accepted.Goals as goal
 
 pub returns : goal.returns

@@ -1,5 +1,5 @@
-use Rattle.call_pilot.proofs.{SameFacts.unknown_by, SameScripts.scripts_same}
-use Rattle.call_pilot.proofs.SameValues.{failed_by, met_by_all, same_but_params}
+use Rattle.call_pilot.specs.{SameFactLaws.unknown_by, SameScriptLaws.scripts_same}
+use Rattle.call_pilot.specs.SameValueLaws.{failed_by, met_by_all, same_but_params}
 use Rattle.call_pilot.proofs.laws.what_is_met_rests_on_the_values.Goals as goal
 
 pub returns : goal.returns

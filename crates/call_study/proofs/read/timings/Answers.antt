@@ -6,7 +6,7 @@ use Rattle.call_study.specs.Chosen.{chosen_script}
 use Rattle.call_study.specs.{Answers.answer_by, Loaded.given_of, Reading.timings_over}
 use Rattle.call_study.proofs.Reading.{given_read, given_refused, load_halts, none_placed, one_placed}
 use Rattle.call_study.proofs.Reading.{placed_at}
-use Rattle.cert_headline.proofs.Lines.{all_at}
+use Rattle.cert_headline.specs.LineLaws.{all_at}
 use Rattle.model_line.specs.Fits.{Fits}
 use Rattle.call_study.proofs.read.timings.Goals as goal
 

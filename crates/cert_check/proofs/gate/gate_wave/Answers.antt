@@ -2,7 +2,7 @@ use Rattle.std.proofs.Common.{◌≡◌, ℕ, List, [], length, IfOk, sym, ◌�
 use Rattle.std.specs.Prelude.{get_or}
 use Rattle.model_history.specs.Rails.{rails_sealed}
 use Rattle.run_signal.specs.declared.tern.Tern.{Tern}
-use Rattle.net_gates.specs.{declared.gate.Gate.Gate, Laws.HasArguments}
+use Rattle.net_gates.specs.{declared.gate.Gate.Gate, Gates.HasArguments}
 use Rattle.run_step.specs.GatePairs.{kind_pair}
 use Rattle.run_waves.specs.Waves.{IsWaveOf, wave_at}
 use Rattle.cert_check.specs.Claims.{pairs_of, declared_world}

@@ -7,7 +7,7 @@ use Rattle.cert_headline.specs.Printed.{HoldsOf}
 use Rattle.cert_headline.proofs.CertificateLines.{names_plain, said_there, says_of}
 use Rattle.cert_headline.proofs.Statuses.{all_met, some_failed, some_unknown}
 use Rattle.cert_headline.proofs.Truth.{certified_is_true}
-use Rattle.cert_headline.proofs.Lines.{all_at}
+use Rattle.cert_headline.specs.LineLaws.{all_at}
 use Rattle.cert_headline.proofs.laws.what_is_certified_is_true.Goals as goal
 
 pub returns-clause-script : goal.returns-clause-script

@@ -2,7 +2,7 @@ use Rattle.std.proofs.Common.{Bor, List, ℕ, ◌||◌, ◌∙◌, ap, refl, sym
 use Rattle.std.specs.List.{list_any}
 use Rattle.std.specs.Str.{bytes_eq}
 use Rattle.model_line.specs.Settings.{time_key}
-use Rattle.file_line.proofs.Documents.{any_of_both}
+use Rattle.file_line.specs.DocumentLaws.{any_of_both}
 use Rattle.file_line.proofs.keys.is_among.Goals as goal
 
 abbrev text : Bor (List ℕ) → List ℕ

@@ -1,6 +1,6 @@
 use Rattle.std.proofs.Common.{ap}
 use Rattle.file_line.specs.Keys.{opened}
-use Rattle.file_line.proofs.Documents.{document_read, document_none}
+use Rattle.file_line.specs.DocumentLaws.{document_read, document_none}
 use Rattle.file_line.proofs.keys.open.Goals as goal
 
 pub returns-in_default : goal.returns-in_default

@@ -1,4 +1,4 @@
-use Rattle.file_line.proofs.Puts.{members_view-insert_entry}
+use Rattle.file_line.specs.PutLaws.{members_view-insert_entry}
 use Rattle.file_line.proofs.table.put.Goals as goal
 
 pub returns : goal.returns

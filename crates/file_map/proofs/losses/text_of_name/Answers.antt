@@ -1,4 +1,4 @@
-use Rattle.file_line.proofs.PlainTexts.{plain_text}
+use Rattle.file_line.specs.PlainTextLaws.{plain_text}
 use Rattle.file_map.proofs.losses.text_of_name.Goals as goal
 
 pub unreachable-requires : goal.unreachable-requires

@@ -7,7 +7,7 @@ use Rattle.model_line.specs.declared.line.Line.{Line}
 use Rattle.file_script.specs.Row.{header_record}
 use Rattle.file_script.specs.Printed.{script_records, file_records, records_text}
 use Rattle.file_script.specs.Values.{ScriptValues, values_of}
-use Rattle.file_script.proofs.Standing.{printed_stand, scripts_fit_by_values}
+use Rattle.file_script.specs.StandingLaws.{printed_stand, scripts_fit_by_values}
 use Rattle.file_script.proofs.print.print_scripts.Goals as goal
 
 -- a file with one script more

@@ -3,7 +3,7 @@ use Rattle.std.proofs.lemmas.Bool.{ltb-true}
 use Rattle.model_line.specs.{Fits.exists_in, ParamNames.pair_name}
 use Rattle.model_line.specs.declared.script.What.TheVariants as what
 use Rattle.file_script.specs.Printed.{item_text, place_text}
-use Rattle.file_script.proofs.Naming.{name_of-got, channel_name-got, ends_of-got}
+use Rattle.file_script.specs.NamingLaws.{name_of-got, channel_name-got, ends_of-got}
 use Rattle.file_script.proofs.print.push_row.Goals as goal
 
 pub channel_name-place-requires-clause-from : goal.channel_name-place-requires-clause-from

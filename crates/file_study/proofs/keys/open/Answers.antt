@@ -1,5 +1,5 @@
 use Rattle.std.proofs.Common.{ap}
-use Rattle.file_line.proofs.Documents.{document_read, document_none}
+use Rattle.file_line.specs.DocumentLaws.{document_read, document_none}
 use Rattle.file_study.specs.Keys.{opened}
 use Rattle.file_study.proofs.keys.open.Goals as goal
 

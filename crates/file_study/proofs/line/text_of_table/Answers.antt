@@ -1,7 +1,7 @@
 use Rattle.std.proofs.Common.{◌≤◌, string_bytes, refl, arith}
 use Rattle.std.proofs.lemmas.Str.{IsUtf8-string_bytes}
 use Rattle.toml.specs.{Data.members_depth, View.table_view}
-use Rattle.file_line.proofs.Documents.{document_read}
+use Rattle.file_line.specs.DocumentLaws.{document_read}
 use Rattle.file_study.proofs.line.text_of_table.Goals as goal
 
 pub returns-in-Ok : goal.returns-in-Ok

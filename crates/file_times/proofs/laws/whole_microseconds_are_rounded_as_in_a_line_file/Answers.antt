@@ -1,4 +1,4 @@
-use Rattle.file_times.proofs.WholeTicks.{divided_down, divided_up}
+use Rattle.file_times.specs.WholeTickLaws.{divided_down, divided_up}
 use Rattle.file_times.proofs.laws.whole_microseconds_are_rounded_as_in_a_line_file.Goals as goal
 
 pub returns-clause-down : goal.returns-clause-down

@@ -1,7 +1,7 @@
 use Rattle.std.proofs.Common.{◌≡◌, ◌+◌, ◌*◌, ℕ, [], ◌∷◌, length, length-append, refl, ◌∙◌, ap}
 use Rattle.std.proofs.Common.{subst, arith}
 use Rattle.judge_boxes.specs.Held.{TellBlock}
-use Rattle.judge_boxes.proofs.ListLaws.{each_more}
+use Rattle.model_history.specs.ListLaws.{each_more}
 use Rattle.judge_boxes.proofs.held.held_blocks.Goals as goal
 
 pub next_block-preserved : goal.next_block-preserved

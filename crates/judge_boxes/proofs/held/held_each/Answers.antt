@@ -2,9 +2,9 @@ use Rattle.std.proofs.Common.{◌≡◌, ◌+◌, ◌*◌, ◌/◌, ◌%◌, ◌
 use Rattle.std.proofs.Common.{length-append, sym, ◌∙◌, ap, subst, arith, List}
 use Rattle.std.specs.Prelude.{Decides, slice_get}
 use Rattle.model_line.specs.declared.line.Line.{Line}
-use Rattle.run_step.specs.ListLaws.{exists_at}
+use Rattle.model_history.specs.ListLaws.{exists_at, each_more}
 use Rattle.judge_boxes.specs.Held.{IsHeldOf, TellBlock, part_in}
-use Rattle.judge_boxes.proofs.{HeldLaws.part_is, ListLaws.each_more}
+use Rattle.judge_boxes.proofs.{HeldLaws.part_is}
 use Rattle.judge_boxes.proofs.held.held_each.Goals as goal
 
 pub loop-i-preserved : goal.loop-i-preserved

@@ -3,7 +3,7 @@ use Rattle.std.proofs.Common.{get_or-set_other, get_or-set_same, below_more}
 use Rattle.std.specs.Prelude.{Some, slice_get, slice_index, slice_set}
 use Rattle.model_line.specs.{declared.line.Line.Line, Parameters.declared_ends}
 use Rattle.std.proofs.lemmas.Option.{slice_get-get_or}
-use Rattle.run_step.specs.ListLaws.{exists_at, one_value}
+use Rattle.model_history.specs.ListLaws.{exists_at, one_value}
 use Rattle.judge_boxes.specs.Held.{part_in}
 use Rattle.judge_boxes.proofs.HeldLaws.{part_exists}
 use Rattle.judge_boxes.proofs.held.part_span.Goals as goal

@@ -3,7 +3,7 @@ use Rattle.std.proofs.Common.{sym, ◌∙◌, ap, subst, arith}
 use Rattle.std.proofs.lemmas.Option.{slice_get_read}
 use Rattle.std.specs.Prelude.{Decides, slice_get}
 use Rattle.judge_cases.specs.{declared.view.View.View, Analyses.IsShownOf}
-use Rattle.judge_cases.proofs.ListLaws.{each_more}
+use Rattle.model_history.specs.ListLaws.{each_more}
 use Rattle.judge_cases.proofs.shown.are_shown.Goals as goal
 
 same_view : (views : List View) (i : ℕ) (x y : View) → slice_get views i ≡ Some x

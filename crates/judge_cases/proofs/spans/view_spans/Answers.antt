@@ -1,6 +1,6 @@
 use Rattle.std.proofs.Common.{◌+◌, length-append, ap, ◌∙◌, ℕ, ◌∷◌, [], length, sym}
 use Rattle.judge_cases.specs.Spans.{IsViewSpan}
-use Rattle.judge_cases.proofs.ListLaws.{each_more}
+use Rattle.model_history.specs.ListLaws.{each_more}
 use Rattle.judge_cases.proofs.spans.view_spans.Goals as goal
 
 pub loop-param-preserved : goal.loop-param-preserved

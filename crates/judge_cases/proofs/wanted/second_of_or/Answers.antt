@@ -1,5 +1,5 @@
 use Rattle.std.proofs.Common.{arith, subst}
-use Rattle.net_gates.specs.Laws.{HasArguments}
+use Rattle.net_gates.specs.Gates.{HasArguments}
 use Rattle.judge_cases.proofs.wanted.second_of_or.Goals as goal
 
 pub returns-in-Or-clause-exists : goal.returns-in-Or-clause-exists

@@ -3,7 +3,8 @@ use Rattle.cert_check.specs.Claims.{pairs_of}
 use Rattle.run_signal.specs.declared.tern.Tern.{Tern}
 use Rattle.run_waves.specs.Waves.{wave_at}
 use Rattle.judge_explain.specs.Asked.{IsRecorded}
-use Rattle.judge_explain.proofs.ListLaws.{each_more, count_more}
+use Rattle.model_history.specs.ListLaws.{each_more}
+use Rattle.judge_explain.proofs.ListLaws.{count_more}
 use Rattle.judge_explain.proofs.recorded.kept_of.Goals as goal
 
 pub loop-k-preserved : goal.loop-k-preserved

@@ -10,7 +10,7 @@ use Rattle.run_changes.specs.Tracks.{tracks_history}
 use Rattle.judge_interval.specs.PairWavesOf.{PairWavesOf, AreWavesOf, track_pairs, pair_history}
 use Rattle.judge_interval.specs.Spans.{declared_spans}
 use Rattle.judge_interval.proofs.ToldHistory.{told_history, are_long}
-use Rattle.judge_interval.proofs.Declared.{box_declared, spans_delayed}
+use Rattle.judge_interval.specs.DeclaredLaws.{box_declared, spans_delayed}
 use Rattle.judge_interval.proofs.interval_history.analyse.Goals as goal
 
 pub run_tracks-requires-clause-delayed : goal.run_tracks-requires-clause-delayed

@@ -1,4 +1,4 @@
-use Rattle.judge_interval.proofs.Declared.{interval_at}
+use Rattle.judge_interval.specs.DeclaredLaws.{interval_at}
 use Rattle.judge_interval.proofs.spans.declared_spans.Goals as goal
 
 pub new-requires-clause-ordered : goal.new-requires-clause-ordered

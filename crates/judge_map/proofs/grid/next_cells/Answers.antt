@@ -3,7 +3,8 @@ use Rattle.std.proofs.Math.Nat.{min-eq_left}
 use Rattle.judge_map.specs.Axes.{cell_count, place_box}
 use Rattle.judge_map.specs.{Blocks.IsLaneOf, Blocks.lane_cell, Cells.IsCell}
 use Rattle.judge_map.specs.declared.ruled.Ruled.{Ruled}
-use Rattle.judge_map.proofs.{ListLaws.each_more, RuledLaws.cell_of_lane}
+use Rattle.judge_map.proofs.{RuledLaws.cell_of_lane}
+use Rattle.model_history.specs.ListLaws.{each_more}
 use Rattle.judge_map.proofs.grid.next_cells.Goals as goal
 
 pub loop-lane-preserved : goal.loop-lane-preserved

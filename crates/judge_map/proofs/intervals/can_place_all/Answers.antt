@@ -2,7 +2,7 @@ use Rattle.std.proofs.Common.{◌≡◌, ℕ, true, false, Some, subst, ⊎_elim
 use Rattle.std.proofs.lemmas.Bool.{cases_lt}
 use Rattle.std.proofs.lemmas.Option.{slice_get_within}
 use Rattle.std.specs.Prelude.{slice_get}
-use Rattle.run_step.specs.ListLaws.{exists_at}
+use Rattle.model_history.specs.ListLaws.{exists_at}
 use Rattle.judge_map.proofs.intervals.can_place_all.Goals as goal
 
 pub returns-then-not-can_place_at : goal.returns-then-not-can_place_at

@@ -2,7 +2,7 @@ use Rattle.std.proofs.Common.{◌≡◌, ◌+◌, Some, length-append, ap, ◌�
 use Rattle.std.specs.Prelude.{slice_get}
 use Rattle.judge_interval.specs.declared.rule.Rule.{Rule}
 use Rattle.judge_map.specs.{declared.ruled.Ruled.Ruled, Blocks.IsRuleIn}
-use Rattle.judge_map.proofs.ListLaws.{each_more}
+use Rattle.model_history.specs.ListLaws.{each_more}
 use Rattle.judge_map.proofs.ruled.cell_in_lane.Goals as goal
 
 pub loop-place-preserved : goal.loop-place-preserved

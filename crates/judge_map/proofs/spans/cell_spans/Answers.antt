@@ -1,6 +1,6 @@
 use Rattle.std.proofs.Common.{◌+◌, length-append, ap, ◌∙◌, ℕ, ◌∷◌, [], length, sym}
 use Rattle.judge_map.specs.Blocks.{IsCellSpan}
-use Rattle.judge_map.proofs.ListLaws.{each_more}
+use Rattle.model_history.specs.ListLaws.{each_more}
 use Rattle.judge_map.proofs.spans.cell_spans.Goals as goal
 
 pub loop-param-preserved : goal.loop-param-preserved

@@ -1,6 +1,6 @@
 use Rattle.std.proofs.Common.{◌≡◌, ◌+◌, ◌∷◌, [], ℕ, length, length-append, sym, ◌∙◌, ap}
 use Rattle.judge_margins.specs.{declared.end.End.End, Ends.limit_of}
-use Rattle.judge_margins.proofs.EachLaws.{each_more}
+use Rattle.model_history.specs.ListLaws.{each_more}
 use Rattle.judge_margins.proofs.narrow.limits.Goals as goal
 
 pub loop-place-preserved : goal.loop-place-preserved

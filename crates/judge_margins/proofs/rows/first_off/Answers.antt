@@ -1,4 +1,4 @@
-use Rattle.run_step.specs.ListLaws.{exists_at}
+use Rattle.model_history.specs.ListLaws.{exists_at}
 use Rattle.judge_margins.proofs.rows.first_off.Goals as goal
 
 pub returns-then-not-is_on : goal.returns-then-not-is_on

@@ -1,6 +1,6 @@
 use Rattle.std.proofs.Common.{◌+◌, length-append, ap, ◌∙◌, ℕ, ◌∷◌, [], length, sym}
 use Rattle.judge_margins.specs.Asks.{IsAskSpan}
-use Rattle.judge_margins.proofs.EachLaws.{each_more}
+use Rattle.model_history.specs.ListLaws.{each_more}
 use Rattle.judge_margins.proofs.spans.ask_spans.Goals as goal
 
 pub loop-param-preserved : goal.loop-param-preserved

@@ -1,6 +1,6 @@
 use Rattle.std.proofs.Common.{ℕ, ◌+◌, List, [], ◌∷◌, length, length-append, ◌∙◌, ap, arith}
 use Rattle.judge_verdict.specs.{declared.standing.Standing.Standing, Standings.IsStanding}
-use Rattle.judge_verdict.proofs.ListLaws.{one_more, all_there}
+use Rattle.judge_verdict.specs.OneEachLaws.{one_more, all_there}
 use Rattle.judge_verdict.proofs.standing.after_block.Goals as goal
 
 pub loop-k-preserved : goal.loop-k-preserved

@@ -2,7 +2,7 @@ use Rattle.std.proofs.Common.{◌≡◌, ℕ, length, length-set, refl, sym, sub
 use Rattle.std.proofs.lemmas.Option.{slice_get_read}
 use Rattle.std.specs.Prelude.{slice_get}
 use Rattle.net_gates.specs.Readers.{AreBelow, StandsIn}
-use Rattle.net_gates.proofs.Lists.{at_set}
+use Rattle.model_history.specs.ListLaws.{at_set}
 use Rattle.net_gates.proofs.Listing.{below_push, stands_push, stands_here}
 use Rattle.net_gates.proofs.readers.list_in.Goals as goal
 

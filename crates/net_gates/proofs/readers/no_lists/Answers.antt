@@ -1,6 +1,6 @@
 use Rattle.std.proofs.Common.{◌≡◌, ℕ, ◌+◌, [], ◌∷◌, length, length-append, ap, subst, sym, ◌∙◌, ⊎_elim}
 use Rattle.std.specs.Prelude.{Some, slice_get}
-use Rattle.net_gates.proofs.Lists.{at_push}
+use Rattle.model_history.specs.ListLaws.{at_push}
 use Rattle.net_gates.proofs.readers.no_lists.Goals as goal
 
 pub loop-preserved : goal.loop-preserved

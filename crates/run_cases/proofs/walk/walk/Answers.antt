@@ -6,7 +6,7 @@ use Rattle.net_gates.specs.Formulas.{formula_of}
 use Rattle.model_cases.specs.Under.{assumed_or}
 use Rattle.run_step.specs.Ticks.{ValuesAgree}
 use Rattle.run_cases.proofs.MaskLaws.{put_is}
-use Rattle.run_cases.proofs.WalkLaws.{have_more, walked_more, walked_none, agree_none, agree_more}
+use Rattle.run_step.specs.WalkLaws.{have_more, cells_more, walked_none, agree_none, agree_more}
 use Rattle.run_cases.proofs.walk.walk.Goals as goal
 
 pub loop-i-init : goal.loop-i-init
@@ -90,7 +90,7 @@ loop-i-preserved g c =
                   (agree_more rails lane v t i own owns c.loop-i.invariant.own_count own_is
                   before.0.1),
             ),
-            walked_more g.V.Timed.stands_for g.V.Signal.ends rails lane w u t gates i (i + 1) here
+            cells_more g.V.Timed.stands_for g.V.Signal.ends rails lane w u t gates i (i + 1) here
                 c.index_mut.result.now c.answer-own.new.cell cells refl gate_is old before.1
                 (λ h. c.answer-own.ensures.stands lane w u inside agree h),
           );

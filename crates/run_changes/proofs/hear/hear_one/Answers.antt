@@ -4,7 +4,7 @@ use Rattle.std.specs.Prelude.{slice_get}
 use Rattle.net_gates.specs.{Readers.AreBelow, NetOf.key_of}
 use Rattle.run_changes.specs.Hears.{IsLastKey}
 use Rattle.run_step.specs.DelayLaws.{sender_inside}
-use Rattle.run_step.specs.ListLaws.{one_value}
+use Rattle.model_history.specs.ListLaws.{one_value}
 use Rattle.run_changes.proofs.hear.hear_one.Goals as goal
 
 pub bounds-moment-delay : goal.bounds-moment-delay

@@ -4,7 +4,7 @@ use Rattle.std.proofs.lemmas.Option.{slice_get_read, slice_get_within}
 use Rattle.std.specs.Prelude.{slice_get, get_or}
 use Rattle.net_gates.specs.NetOf.{id_at, key_of}
 use Rattle.run_changes.specs.Hears.{IsLastKey}
-use Rattle.run_step.specs.ListLaws.{one_value}
+use Rattle.model_history.specs.ListLaws.{one_value}
 use Rattle.run_step.specs.SendLaws.{number_read}
 use Rattle.run_changes.proofs.hear.keys_stay.Goals as goal
 

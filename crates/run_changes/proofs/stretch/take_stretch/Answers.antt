@@ -11,7 +11,8 @@ use Rattle.net_gates.specs.declared.gate.Gate.{Gate}
 use Rattle.run_step.specs.Inputs.{AreDelaysFrom, AreSet, AreSoonest, CanReceive}
 use Rattle.run_changes.specs.{Lags.IsGivenAt, ShownBy.shown_of}
 use Rattle.run_step.specs.{Moments.CanHear, declared.moment.Moment.Moment}
-use Rattle.run_step.specs.{Lanes.LanePairs, Lasts.Lasts, ListLaws.exists_at, Quiet.Keeps}
+use Rattle.run_step.specs.{Lanes.LanePairs, Lasts.Lasts, Quiet.Keeps}
+use Rattle.model_history.specs.ListLaws.{exists_at}
 use Rattle.run_step.specs.LaneBox.{lane_box}
 use Rattle.run_changes.specs.{Tracks.line_lane, Tracks.trips_of}
 use Rattle.run_step.specs.Ticks.{AreSent, KeysSent, ValuesAgree}

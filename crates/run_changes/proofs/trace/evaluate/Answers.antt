@@ -8,7 +8,7 @@ use Rattle.run_step.specs.Shown.{IsShown}
 use Rattle.run_step.specs.{Lasts.Lasts, Ticks.ValuesAgree}
 use Rattle.run_changes.specs.Marks.{AreMarked}
 use Rattle.run_step.specs.WalkLaws.{have_more}
-use Rattle.run_step.specs.ListLaws.{one_value}
+use Rattle.model_history.specs.ListLaws.{one_value}
 use Rattle.run_changes.proofs.TraceLaws.{set_here, set_other, fresh_more, fresh_lowered}
 use Rattle.run_changes.proofs.TraceLaws.{lowered_lasts, traced_more, traced_agree}
 use Rattle.run_changes.proofs.trace.evaluate.Goals as goal

@@ -3,7 +3,7 @@ use Rattle.std.proofs.lemmas.List.{append-nil}
 use Rattle.std.proofs.lemmas.Option.{slice_get_read, slice_get_within}
 use Rattle.std.specs.Prelude.{slice_get}
 use Rattle.model_line.specs.Parameters.{terminal_count}
-use Rattle.run_step.specs.ListLaws.{part_more}
+use Rattle.run_step.specs.LoopLaws.{part_more}
 use Rattle.run_changes.specs.PlayedTracks.{played}
 use Rattle.run_rows.specs.{PlayRows.terminal_rows, RowLaws.texts_more, StandingLaws.PairStands}
 use Rattle.run_rows.proofs.play.push_tick.Goals as goal

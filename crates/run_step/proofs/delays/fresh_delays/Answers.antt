@@ -2,7 +2,7 @@ use Rattle.std.proofs.Common.{◌≡◌, ℕ, ◌+◌, ◌<◌, ◌∷◌, [], S
 use Rattle.std.proofs.Common.{length-append}
 use Rattle.std.specs.Prelude.{slice_get}
 use Rattle.model_line.specs.{Channels.from_of, Parameters.delay_param, Parameters.param_count}
-use Rattle.run_step.specs.ListLaws.{at_push}
+use Rattle.model_history.specs.ListLaws.{at_push}
 use Rattle.run_step.specs.declared.delays.Delay.{Delay}
 use Rattle.run_step.proofs.delays.fresh_delays.Goals as goal
 

@@ -4,7 +4,7 @@ use Rattle.std.specs.Prelude.{slice_get}
 use Rattle.model_line.specs.Parameters.{channel_count}
 use Rattle.run_step.specs.Inputs.{DelayStands}
 use Rattle.run_step.specs.{GivenLaws.span_set, LoopLaws.first_all}
-use Rattle.run_step.specs.ListLaws.{at_set}
+use Rattle.model_history.specs.ListLaws.{at_set}
 use Rattle.run_step.proofs.delays.set_delays.Goals as goal
 
 pub loop-channel-init : goal.loop-channel-init

@@ -1,6 +1,6 @@
 use Rattle.model_logic.specs.Choice.{Choice, DelaysFromOne}
 use Rattle.model_timing.specs.Choice.{timing_choice}
-use Rattle.run_step.specs.PlayLaws.{timing_point, timing_delayed}
+use Rattle.run_step.proofs.PlayLaws.{timing_point, timing_delayed}
 use Rattle.run_step.proofs.laws.a_timing_is_one_choice.Goals as goal
 
 pub returns-clause-point : goal.returns-clause-point

@@ -4,7 +4,7 @@ use Rattle.std.proofs.lemmas.Option.{slice_get_read, slice_get_within}
 use Rattle.std.specs.Prelude.{slice_get, get_or}
 use Rattle.net_gates.specs.NetOf.{id_at}
 use Rattle.run_step.specs.Ticks.{HasKeys, HasSent}
-use Rattle.run_step.specs.ListLaws.{part_more}
+use Rattle.run_step.specs.LoopLaws.{part_more}
 use Rattle.run_step.specs.SendLaws.{keys_for, sent_for, number_read}
 use Rattle.run_step.proofs.send.send_all.Goals as goal
 

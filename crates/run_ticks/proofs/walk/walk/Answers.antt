@@ -15,7 +15,7 @@ loop-i-init g c = record {
   cells = c.requires.cells;
   walked = λ lane w keys u inside world ready. (
     agree_none g.V.Signal.rails lane u c.args.moment.now.t c.clear.new.self.items c.clear.ensures.items,
-    walked_none g.V.Timed.stands_for g.V.Signal.ends g.V.Signal.rails lane w keys u c.args.moment.now.t
+    walked_none g.V.Timed.stands_for g.V.Signal.ends g.V.Signal.rails lane w u c.args.moment.now.t
         c.args.net.now.gates c.args.cells.now.items ready.stand,
   );
 }

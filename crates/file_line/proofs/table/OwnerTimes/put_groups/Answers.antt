@@ -1,7 +1,7 @@
 use Rattle.std.proofs.Common.{[], sym, ◌∙◌}
 use Rattle.std.proofs.lemmas.List.{drop_all}
 use Rattle.toml.specs.View.{table_view}
-use Rattle.file_line.proofs.Puts.{groups_more}
+use Rattle.file_line.specs.PutLaws.{groups_more}
 use Rattle.file_line.proofs.table.OwnerTimes.put_groups.Goals as goal
 
 pub loop-group-preserved : goal.loop-group-preserved

@@ -4,7 +4,7 @@ use Rattle.toml.specs.View.{table_view}
 use Rattle.toml.proofs.Views.{view-Table}
 use Rattle.model_line.specs.declared.line.Setting.TheVariants.{Z1Pickup}
 use Rattle.file_line.specs.Canonical.{times_data}
-use Rattle.file_line.proofs.Puts.{settings_more}
+use Rattle.file_line.specs.PutLaws.{settings_more}
 use Rattle.file_line.proofs.table.OwnerTimes.times.Goals as goal
 
 pub loop-setting-init : goal.loop-setting-init

@@ -1,7 +1,7 @@
 use Rattle.std.proofs.Common.{◌≡◌, ◌≤◌, ℕ, arith, eq-eqb, subst, sym}
 use Rattle.std.proofs.lemmas.Bool.{eqb-true}
 use Rattle.file_times.specs.{Fractions.IsAtMost, Rounding.ticks}
-use Rattle.file_times.proofs.Rounded.{down-up}
+use Rattle.file_times.specs.RoundedLaws.{down-up}
 use Rattle.file_times.proofs.fraction.Fraction.is_whole.Goals as goal
 
 pub returns : goal.returns

@@ -1,4 +1,4 @@
-use Rattle.file_times.proofs.Rounded.{rounded_down}
+use Rattle.file_times.specs.RoundedLaws.{rounded_down}
 use Rattle.file_times.proofs.fraction.Fraction.ticks_down.Goals as goal
 
 pub returns : goal.returns

@@ -1,5 +1,5 @@
 use Rattle.file_times.specs.{Rounding.ticks}
-use Rattle.file_times.proofs.Rounded.{at_most-trans}
+use Rattle.file_times.specs.RoundedLaws.{at_most-trans}
 use Rattle.file_times.proofs.time.Interval.in_ticks.Goals as goal
 
 pub returns-clause-covers : goal.returns-clause-covers

@@ -1,6 +1,6 @@
 use Rattle.std.proofs.Common.{◌≡◌, ◌<◌, List, Some, length, true, sym, ap, ◌∙◌, subst, arith}
 use Rattle.std.specs.Prelude.{slice_get}
-use Rattle.net_gates.specs.{declared.gate.Gate.Gate, Laws.AreGates, Growing.Grows, Growing.Adds}
+use Rattle.net_gates.specs.{declared.gate.Gate.Gate, Gates.AreGates, Growing.Grows, Growing.Adds}
 use Rattle.net_gates.proofs.Adding.{Inserts, gates_more, grows_more, names_more, adds}
 use Rattle.net_gates.proofs.{Equal.gate_eq, Equal.gate_eq-same, Standing.stands}
 use Rattle.net_gates.proofs.builder.NetBuilder.add.Goals as goal
