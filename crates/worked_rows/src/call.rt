@@ -7,8 +7,8 @@ use base_store::{FetchFault, MemorySink, MemoryStore, Sink, Store, fetch, put_al
 use itoa::Buffer;
 use std::alloc::{AllocError, Global};
 
-// The longest file that is read.
-const LONGEST: u32 = 4_194_304;
+/// The longest file that is read.
+pub const LONGEST: u32 = 4_194_304;
 
 // More than any line on standard error has.
 const LONGEST_MESSAGE: u32 = 400;

@@ -1,15 +1,13 @@
 //! The programs whose calls are made: `pilot`, and `study lint` over a study, or over a line file and
 //! a file of scripts.
 
+use crate::call::LONGEST;
 use crate::fault::Fault;
 use base_store::{MemorySink, MemoryStore, Sink, fetch, put_all};
 use call_engine::NetEngine;
 use call_lint::{Linted, Names, lint_line, lint_study};
 use call_pilot::pilot;
 use std::alloc::Global;
-
-// The longest file that `study lint` reads.
-const LONGEST: u32 = 4_194_304;
 
 /// Makes a call of these words over the store, the first of which names the program, and gives its
 /// status.
