@@ -8,3 +8,4 @@ pub mod Grammar
 pub mod ReadLaws
 pub mod AnswerLaws
 pub mod WholeLaws
+pub mod Milliseconds

@@ -3,3 +3,6 @@ pub mod Checked
 pub mod SinkLaws
 pub mod Sinks
 pub mod Study
+pub mod Calls
+pub mod ScriptVerdicts
+pub mod NetCalls

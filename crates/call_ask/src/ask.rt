@@ -1,8 +1,8 @@
 //! What a study is asked for.
 
-use call_explain::ExplainForm;
-use call_map::MapAsk;
-use draw_diagram::Rows;
+use crate::explain::ExplainForm;
+use crate::map::MapAsk;
+use draw_shapes::Rows;
 
 /// Where a line and its scripts stand, by the names of files.
 #[derive(Clone, Copy)]

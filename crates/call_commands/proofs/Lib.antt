@@ -6,3 +6,7 @@ pub mod PlayTexts
 pub mod Searched
 pub mod Verdicts
 pub mod Writing
+pub mod Below
+pub mod LineMade
+pub mod ScriptFits
+pub mod ScriptLists

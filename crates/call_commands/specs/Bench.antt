@@ -4,9 +4,9 @@ use Rattle.std.specs.Prelude.{◌≡◌, ◌++◌, ℕ, List}
 use Rattle.model_line.specs.{declared.line.Line.Line, declared.script.Script.Script}
 use Rattle.cert_text.specs.{Grammar.Claims, Text.certificate_text, Text.part_text}
 use Rattle.cert_own.specs.Certified.{AreCertified, IsCertified}
-use Rattle.call_bench.specs.BenchLine.{IsBenchLine}
-use Rattle.call_bench.specs.Answer.{IsBenchText}
-use Rattle.call_engine.specs.Calls.{AskedCheck, AskedVerdicts}
+use Rattle.call_commands.specs.BenchLine.{IsBenchLine}
+use Rattle.call_commands.specs.Answer.{IsBenchText}
+use Rattle.call_answer.specs.Calls.{AskedCheck, AskedVerdicts}
 use Rattle.call_commands.specs.Asked.{Asks}
 use Rattle.call_answer.specs.{Answers.Answers, Answers.prints}
 

@@ -13,3 +13,7 @@ pub mod Recheck
 pub mod Report
 pub mod Split
 pub mod Verdicts
+pub mod BenchLine
+pub mod BenchScripts
+pub mod Answer
+pub mod BenchText

@@ -1,7 +1,7 @@
 -- The command `margin`: how far the upper end of a parameter can be raised.
 use Rattle.std.specs.Prelude.{ℕ, true, false, List}
 use Rattle.model_line.specs.{declared.line.Line.Line, declared.script.Script.Script}
-use Rattle.judge_margin.specs.Answer.{IsMarginAnswer}
+use Rattle.judge_report.specs.Answer.{IsMarginAnswer}
 use Rattle.call_answer.specs.{Answers.Answers, declared.done.Done.Done}
 use Rattle.call_answer.specs.declared.done.Done.TheVariants as done
 

@@ -1,7 +1,10 @@
 //! The commands, over what was read: each gives a status and a text, and asks an engine for its
 //! plays, verdicts and checks.
+//!
+//! `bench`, `scripts`, `run_bench`: the bench, whose line and scripts need no file.
 #![tactic(auto)]
 
+mod bench;
 pub mod certify;
 pub mod check;
 mod found;
@@ -15,6 +18,13 @@ pub mod play;
 pub mod recheck;
 pub mod report;
 pub mod run_bench;
+mod script;
+mod scripts;
 pub mod split;
+mod text;
 
+pub use bench::bench_line;
 pub use laws::{each_certificate_has_one_text, each_play_has_one_text};
+pub use script::bench_script;
+pub use scripts::bench_scripts;
+pub use text::bench_text;

@@ -6,7 +6,7 @@ ghost use Rattle.call_answer.specs.Answers.{Says};
 ghost use Rattle.call_answer.specs.Study.{IsStudy};
 
 use call_answer::{Done, Said, Study};
-use judge_margin::margin_answer;
+use judge_report::margin_answer;
 use model_line::Memory;
 use std::alloc::Global;
 

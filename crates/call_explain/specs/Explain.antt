@@ -9,7 +9,7 @@ use Rattle.judge_explain.specs.declared.answer.Explanation.{Explanation}
 use Rattle.call_answer.specs.{Answers.Answers, declared.done.Done.Done}
 use Rattle.call_explain.specs.{Picked.picked, Table.answer_text, Table.answer_status}
 use Rattle.call_explain.specs.declared.asked.Asked.{Asked}
-use Rattle.call_explain.specs.declared.asked.ExplainForm.{ExplainForm}
+use Rattle.call_ask.specs.declared.explain.ExplainForm.{ExplainForm}
 use Rattle.call_explain.specs.declared.stop.ExplainStop.{ExplainStop}
 use Rattle.call_explain.specs.declared.stop.ExplainStop.TheVariants as stop
 use Rattle.call_explain.specs.declared.unpicked.Unpicked.{Unpicked}

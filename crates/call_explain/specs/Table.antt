@@ -14,8 +14,8 @@ use Rattle.judge_explain.specs.declared.answer.Explanation.{Explanation}
 use Rattle.judge_explain.specs.declared.answer.Explanation.TheVariants.{Explained, Impossible, Open}
 use Rattle.call_answer.specs.declared.done.Done.{Done}
 use Rattle.call_answer.specs.declared.done.Done.TheVariants as done
-use Rattle.call_explain.specs.declared.asked.ExplainForm.{ExplainForm}
-use Rattle.call_explain.specs.declared.asked.ExplainForm.TheVariants as form
+use Rattle.call_ask.specs.declared.explain.ExplainForm.{ExplainForm}
+use Rattle.call_ask.specs.declared.explain.ExplainForm.TheVariants as form
 
 -- how many ticks the play is later, with `-` before it where it is earlier
 abbrev pub difference_text : ℕ → ℕ → List ℕ

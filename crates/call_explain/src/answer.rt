@@ -7,9 +7,9 @@ ghost use Rattle.judge_explain.specs.declared.answer.Explanation.TheVariants.{Ex
 ghost use Rattle.call_explain.specs.Table.{answer_status, answer_text, none_said};
 ghost use Rattle.call_explain.specs.Table.{timing_text as text_of_timing};
 
-use crate::asked::ExplainForm;
 use crate::fields::changes_text;
 use call_answer::{Done, Said};
+use call_ask::ExplainForm;
 use file_timing::print_timings;
 use itoa::Buffer;
 use judge_explain::Explanation;

@@ -1,16 +1,8 @@
 //! What is asked.
 
+use call_ask::ExplainForm;
 use model_line::{Line, Script};
 use net_gates::Net;
-
-/// In which form a timing is told that explains a record.
-#[derive(Clone, Copy)]
-pub enum ExplainForm {
-    /// A table with a record for each change.
-    Changes,
-    /// A timings file with the timing, under the name `explained`.
-    Timings,
-}
 
 /// A line with its net and scripts, and the bytes of a record file.
 #[derive(Clone, Copy)]

@@ -10,7 +10,7 @@ mod pick;
 mod stop;
 mod unpicked;
 
-pub use asked::{Asked, ExplainForm};
+pub use asked::Asked;
 pub use explain::explain_said;
 pub use stop::ExplainStop;
 pub use unpicked::Unpicked;

@@ -4,7 +4,7 @@ use crate::rules::{key_rule, line_rule};
 use crate::spots::{push_fault, toml_place};
 use crate::text::Spot;
 use file_line::LineFault;
-use file_mistakes::{Wanted, place_of_key};
+use judge_lint::{Wanted, place_of_key};
 use model_line::Memory;
 use std::alloc::Global;
 

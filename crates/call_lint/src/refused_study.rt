@@ -5,9 +5,9 @@ ghost use Rattle.std.specs.Prelude.{◌≤◌, IfOk, length};
 use crate::rules::{study_rule, sweep_rule};
 use crate::spots::{push_fault, toml_place};
 use crate::text::{Spot, push_error, push_item};
-use file_mistakes::{Wanted, place_of_key};
 use file_study::StudyFault;
 use file_sweeps::StudySweepFault;
+use judge_lint::{Wanted, place_of_key};
 use model_line::Memory;
 use std::alloc::Global;
 

@@ -3,7 +3,7 @@
 ghost use Rattle.std.specs.Prelude.{◌≤◌, IfOk, length};
 
 use crate::text::{Spot, push_all, push_error};
-use file_mistakes::{Mistake, Slip, Wanted, document_slip, line_text, mistake_of, record_slip};
+use judge_lint::{Mistake, Slip, Wanted, document_slip, line_text, mistake_of, record_slip};
 use model_line::Memory;
 use std::alloc::Global;
 

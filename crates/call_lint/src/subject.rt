@@ -5,8 +5,7 @@ ghost use Rattle.std.specs.Prelude.{◌≡◌, ◌≤◌, IfOk, IfSome, length};
 use crate::refused_study::place_of_fault;
 use crate::sheet::{Names, Sheet};
 use crate::text::{Spot, push_all, push_item};
-use file_mistakes::{place_of_key, place_of_record, place_of_table, place_of_word};
-use judge_lint::Warning;
+use judge_lint::{Warning, place_of_key, place_of_record, place_of_table, place_of_word};
 use model_line::{Line, Memory, Place, Script};
 use model_names::{
     channel_of_name, element_word, name_of_parameter, name_of_script, name_of_terminal,

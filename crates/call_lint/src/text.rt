@@ -2,8 +2,8 @@
 
 ghost use Rattle.std.specs.Prelude.{◌≡◌, ◌≤◌, length};
 
-use file_mistakes::{column, line_number, line_text};
 use itoa::Buffer;
+use judge_lint::{column, line_number, line_text};
 use model_line::Memory;
 
 /// Where something stands: in the file of this name, whose bytes these are, at this byte.

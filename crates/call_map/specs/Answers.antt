@@ -3,13 +3,14 @@ use Rattle.std.specs.Prelude.{◌≡◌, ℕ, List, [], Option, None, Some}
 use Rattle.model_line.specs.{declared.line.Line.Line, declared.script.Script.Script}
 use Rattle.judge_map.specs.{declared.axis.Axes.Axes, declared.cell.Cell.Cell}
 use Rattle.judge_map.specs.{Cells.AreCells, MapText.map_text}
-use Rattle.draw_grid.specs.{Drawings.drawing_of, declared.grid.Grid.Grid}
+use Rattle.draw_shapes.specs.{Drawings.drawing_of, declared.grid.Grid.Grid}
 use Rattle.draw_map.specs.Grids.{IsGridOf}
 use Rattle.draw_shapes.specs.Svg.{svg_of}
-use Rattle.file_axis.specs.Parts.{names_of}
+use Rattle.file_times.specs.Parts.{names_of}
 use Rattle.call_answer.specs.Answers.{Answers, prints}
-use Rattle.call_map.specs.{Asked.AreAxesOf, Asked.Both, declared.ask.MapForm.MapForm}
-use Rattle.call_map.specs.declared.ask.MapForm.TheVariants as form
+use Rattle.call_ask.specs.declared.map.MapForm.{MapForm}
+use Rattle.call_map.specs.Asked.{AreAxesOf, Both}
+use Rattle.call_ask.specs.declared.map.MapForm.TheVariants as form
 
 -- the cells of these axes, by the interval rules, as records
 pub record IsRecordsText (line : Line) (scripts : List Script) (axes : Axes) (text : List ℕ)

@@ -8,8 +8,8 @@ use Rattle.judge_map.specs.{declared.axis.Axis.Axis, declared.axis.Axes.Axes}
 use Rattle.judge_map.specs.declared.fault.MapFault.{MapFault}
 use Rattle.judge_map.specs.declared.fault.MapFault.TheVariants.{TooMany}
 use Rattle.judge_map.specs.Faults.{first_fault, or_else}
-use Rattle.file_axis.specs.declared.{fault.AxisFault.AxisFault, steps.Steps.Steps}
-use Rattle.file_axis.specs.{Names.params_of, Parts.names_of, Steps.steps_of}
+use Rattle.file_times.specs.declared.{axis_fault.AxisFault.AxisFault, steps.Steps.Steps}
+use Rattle.file_times.specs.{Names.params_of, Parts.names_of, Steps.steps_of}
 use Rattle.call_map.specs.declared.{denial.MapDenial.MapDenial, denial.Side.Side}
 use Rattle.call_map.specs.declared.denial.MapDenial.TheVariants as denial
 use Rattle.call_map.specs.declared.denial.Side.TheVariants as side

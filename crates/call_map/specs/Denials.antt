@@ -2,9 +2,9 @@
 use Rattle.std.specs.Prelude.{ℕ, List, [], ◌∷◌, Option, None, Some, codes, decimal}
 use Rattle.judge_map.specs.declared.fault.MapFault.{MapFault}
 use Rattle.judge_map.specs.declared.fault.MapFault.TheVariants as map
-use Rattle.file_axis.specs.declared.fault.AxisFault.{AxisFault}
-use Rattle.file_axis.specs.declared.fault.AxisFault.TheVariants as axis
-use Rattle.file_axis.specs.Words.{part_words, what_words}
+use Rattle.file_times.specs.declared.axis_fault.AxisFault.{AxisFault}
+use Rattle.file_times.specs.declared.axis_fault.AxisFault.TheVariants as axis
+use Rattle.file_times.specs.AxisWords.{part_words, what_words}
 use Rattle.call_map.specs.declared.{denial.MapDenial.MapDenial, denial.Side.Side}
 use Rattle.call_map.specs.declared.denial.MapDenial.TheVariants as denial
 use Rattle.call_map.specs.declared.denial.Side.TheVariants as side

@@ -15,7 +15,7 @@ ghost use Rattle.call_map.specs.declared.denial.MapDenial.{MapDenial as DenialOf
 ghost use Rattle.call_map.specs.declared.denial.MapStop.TheVariants.{Denied};
 
 use crate::denial::{MapDenial, MapStop, Side};
-use file_axis::{names_of, params_of, read_steps};
+use file_times::{names_of, params_of, read_steps};
 use judge_map::{Axes, Axis, map_fault};
 use model_line::Line;
 use std::alloc::Global;

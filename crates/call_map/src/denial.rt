@@ -8,11 +8,11 @@ ghost use Rattle.call_map.specs.Denials.{number_words, pieces_of};
 ghost use Rattle.call_map.specs.Denials.{map_denial_status, side_words as words_of_side};
 ghost use Rattle.call_map.specs.Denials.{where_words as words_of_place, words_status as status_of_words};
 ghost use Rattle.call_map.specs.declared.denial.MapStop.TheVariants.{Memory as NoMemory};
-ghost use Rattle.file_axis.specs.Words.{what_words};
+ghost use Rattle.file_times.specs.AxisWords.{what_words};
 
 use base_store::{PutFailed, Sink};
 use call_answer::put_pieces;
-use file_axis::AxisFault;
+use file_times::AxisFault;
 use itoa::Buffer;
 use judge_map::MapFault;
 use model_line::{Memory, Name};

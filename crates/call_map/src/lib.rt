@@ -2,11 +2,9 @@
 //! records.
 #![tactic(auto)]
 
-mod ask;
 mod axes;
 mod denial;
 mod said;
 
-pub use ask::{MapAsk, MapForm};
 pub use denial::{MapDenial, MapStop, Side, put_map_denial};
 pub use said::map_of;

@@ -14,12 +14,12 @@ use Rattle.model_logic.specs.Choice.{Box, LeastFromOne}
 use Rattle.model_logic.specs.Rule.{Rule, Held, Broken, Unknown, rule_of}
 use Rattle.model_logic.specs.IntervalLaws.{TheRuleOverABox}
 use Rattle.model_logic.specs.{Boxes.ends_with, HeldOver.IsHeldOver, Laws.LineLaws}
-use Rattle.judge_margin.specs.declared.upper_end.Lost.{Lost}
-use Rattle.judge_margin.specs.declared.upper_end.UpperEnd.{UpperEnd}
-use Rattle.judge_margin.specs.Lost.{AllHeld, IsFirstLost, IsFirstTerminal, IsLoss}
-use Rattle.judge_margin.specs.Lost.{IsScriptHeld}
-use Rattle.judge_margin.specs.Margin.{IsHeldTo, IsLostAbove, IsUpperEnd}
-use Rattle.judge_margin.specs.{Margin.IsLostAt, MarginText.margin_line, Raised.raised}
+use Rattle.judge_report.specs.declared.upper_end.Lost.{Lost}
+use Rattle.judge_report.specs.declared.upper_end.UpperEnd.{UpperEnd}
+use Rattle.judge_report.specs.Lost.{AllHeld, IsFirstLost, IsFirstTerminal, IsLoss}
+use Rattle.judge_report.specs.Lost.{IsScriptHeld}
+use Rattle.judge_report.specs.Margin.{IsHeldTo, IsLostAbove, IsUpperEnd}
+use Rattle.judge_report.specs.{Margin.IsLostAt, MarginText.margin_line, Raised.raised}
 use Rattle.call_commands.specs.Margin.{margin_answer}
 use Rattle.call_answer.specs.declared.done.Done.{Done}
 use Rattle.call_answer.specs.declared.done.Done.TheVariants as done

@@ -22,8 +22,8 @@ use Rattle.cert_text.specs.Grammar.{Verdict}
 use Rattle.cert_check.specs.declared.counts.Counts.{Counts}
 use Rattle.cert_check.specs.Counts.{is_no, is_undecided, is_yes}
 use Rattle.cert_check.specs.Scripts.{IsAllGood}
-use Rattle.judge_margin.specs.{Answer.IsMarginAnswer, Margin.IsUpperEnd, MarginText.margin_line}
-use Rattle.judge_margin.specs.declared.upper_end.UpperEnd.{UpperEnd}
+use Rattle.judge_report.specs.{Answer.IsMarginAnswer, Margin.IsUpperEnd, MarginText.margin_line}
+use Rattle.judge_report.specs.declared.upper_end.UpperEnd.{UpperEnd}
 use Rattle.cert_split_text.specs.{Grammar.SplitResult, Text.split_text}
 use Rattle.cert_split_check.specs.Counts.{all_verdicts}
 use Rattle.cert_own.specs.Searched.{AllSearched}

@@ -4,10 +4,10 @@ use Rattle.std.proofs.Common.{List, []}
 use Rattle.std.proofs.Common.{◌∷◌, Some, length, map, refl, sym, ◌∙◌, ap, arith}
 use Rattle.std.specs.Prelude.{slice_get}
 use Rattle.std.specs.List.{count_by}
-use Rattle.call_bench.specs.BenchLine.{IsBenchLine}
-use Rattle.call_bench.specs.BenchScripts.{AreScriptsFrom, IsBenchScript}
-use Rattle.call_bench.specs.BenchScripts.{inception, is_internal}
-use Rattle.call_bench.specs.{Answer.IsBenchText, BenchText.bench_text}
+use Rattle.call_commands.specs.BenchLine.{IsBenchLine}
+use Rattle.call_commands.specs.BenchScripts.{AreScriptsFrom, IsBenchScript}
+use Rattle.call_commands.specs.BenchScripts.{inception, is_internal}
+use Rattle.call_commands.specs.{Answer.IsBenchText, BenchText.bench_text}
 use Rattle.cert_text.specs.Grammar.{Claims, Verdict as Written}
 use Rattle.cert_check.specs.Counts.{all_verdicts, is_no, is_undecided, is_yes}
 use Rattle.judge_verdict.specs.declared.verdict.Verdict.{Verdict}

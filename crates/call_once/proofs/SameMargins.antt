@@ -5,7 +5,7 @@ use Rattle.model_line.specs.{declared.line.Line.Line, declared.script.Script.Scr
 use Rattle.model_logic.specs.IntervalLaws.{HistoriesRestOnNoInterval}
 use Rattle.file_line.specs.Lines.{line_values}
 use Rattle.file_script.specs.Values.{values_of}
-use Rattle.judge_margin.specs.Answer.{IsMarginAnswer}
+use Rattle.judge_report.specs.Answer.{IsMarginAnswer}
 use Rattle.call_commands.specs.Margin.{margin_answer}
 use Rattle.call_answer.specs.declared.done.Done.{Done}
 use Rattle.call_answer.specs.declared.done.Done.TheVariants as done

@@ -16,8 +16,8 @@ use cert_own::{each_search_has_an_outcome, each_search_has_one_outcome};
 use cert_split_check::{a_fault_refuses_the_split_text, a_split_text_has_one_first_fault};
 use cert_split_text::a_split_text_has_one_meaning;
 use cert_text::{a_text_has_one_meaning, certificates_can_be_written};
-use judge_margin::a_parameter_has_one_margin;
 use judge_match::a_record_is_settled_once;
+use judge_report::a_parameter_has_one_margin;
 use model_line::laws::{
     counts_do_not_rest_on_the_intervals, deadlines_are_below_the_horizon,
     declared_intervals_are_in_order,

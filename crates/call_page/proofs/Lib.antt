@@ -1,4 +1,2 @@
-mod Sides
 mod Chains
 mod Shares
-mod Ends

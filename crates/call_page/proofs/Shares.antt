@@ -4,7 +4,8 @@ use Rattle.std.specs.List.{flat_map}
 use Rattle.judge_settle.specs.declared.answer.Answer.{Answer}
 use Rattle.judge_settle.specs.declared.answer.Answer.TheVariants.{Held, Fails, Open}
 use Rattle.call_tables.specs.{declared.row.Row.Row, Table.fails_so, Table.is_left}
-use Rattle.call_page.specs.{Choices.failing_row, Choices.open_row, Lists.if_one}
+use Rattle.call_page.specs.{Choices.failing_row, Choices.open_row}
+use Rattle.call_facts.specs.Lists.{if_one}
 
 one_at_most : (answer : Answer) (row : Row)
     → length (if_one (fails_so answer) row) + length (if_one (is_left answer) row) ≤ 1

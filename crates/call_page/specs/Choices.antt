@@ -1,16 +1,17 @@
 -- What fails, and what is open.
-use Rattle.std.specs.Prelude.{◌≡◌, ◌≤◌, ◌<◌, ◌+◌, ◌&&◌, ◌==◌, ℕ, Bool, List, map, not}
+use Rattle.std.specs.Prelude.{◌≡◌, ◌≤◌, ◌<◌, ◌+◌, ◌&&◌, ◌==◌, ℕ, List, map}
 use Rattle.model_line.specs.{declared.line.Line.Line, declared.script.Script.Script}
-use Rattle.model_line.specs.Parameters.{declared_ends, param_count}
+use Rattle.model_line.specs.Parameters.{param_count}
 use Rattle.model_names.specs.NamesByNumber.{parameter_name, script_name, terminal_name}
-use Rattle.model_timing.specs.{Timing.TimingValues, declared.step.Step.Step}
-use Rattle.judge_cut.specs.Cuts.{IsCut, least_of, nominal_of, number}
-use Rattle.draw_elements.specs.declared.page.{FailingChoice.FailingChoice, ToldTime.ToldTime}
-use Rattle.draw_elements.specs.declared.page.{ToldStep.ToldStep, Undecided.Undecided}
+use Rattle.model_timing.specs.Timing.{TimingValues}
+use Rattle.judge_corner.specs.Cuts.{IsCut}
+use Rattle.draw_page.specs.declared.page.FailingChoice.{FailingChoice}
+use Rattle.draw_page.specs.declared.page.Undecided.{Undecided}
 use Rattle.call_tables.specs.{declared.row.Row.Row, Table.is_failing, Table.is_open}
 use Rattle.call_page.specs.declared.parts.Part.{Part}
-use Rattle.call_page.specs.{Drawings.IsPlayOf, Lists.At, Lists.EachOf, Lists.if_one}
-use Rattle.call_page.specs.Lists.{those_below}
+use Rattle.call_facts.specs.{Drawings.IsPlayOf, Lists.At, Lists.EachOf, Lists.if_one}
+use Rattle.call_facts.specs.Told.{IsToldTime, IsToldStep, is_told, is_at_least}
+use Rattle.call_facts.specs.Lists.{those_below}
 
 -- the obligations that fail, and those that are open, in order
 abbrev pub failing_row : Row → List Row
@@ -20,26 +21,6 @@ abbrev pub open_row : Row → List Row
 open_row row = if_one (is_open row) row
 
 -- ---- a choice that fails
-
--- a number that is neither the middle of its interval nor its least; one that is its least alone
-abbrev pub is_told : Line → TimingValues → ℕ → Bool
-is_told line timing i =
-    not (number timing i == nominal_of line i) && not (number timing i == least_of line i)
-
-abbrev pub is_at_least : Line → TimingValues → ℕ → Bool
-is_at_least line timing i =
-    not (number timing i == nominal_of line i) && (number timing i == least_of line i)
-
-pub record IsToldTime (line : Line) (timing : TimingValues) (i : ℕ) (told : ToldTime) : Type 0 where
-  pub name : told.name.items ≡ parameter_name line i
-  pub number_is : told.number ≡ number timing i
-  pub low : told.low ≡ (declared_ends line i).least
-  pub high : told.high ≡ (declared_ends line i).greatest
-
-pub record IsToldStep (line : Line) (step : Step ℕ) (told : ToldStep) : Type 0 where
-  pub name : told.name.items ≡ parameter_name line step.param
-  pub from : told.from ≡ step.from
-  pub number_is : told.number ≡ step.value
 
 -- the fault with this number is the one whose scripts this is one of
 abbrev pub IsFaultOfScript : List Part → ℕ → ℕ → Type 0

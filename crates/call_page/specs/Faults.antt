@@ -3,15 +3,17 @@ use Rattle.std.specs.Prelude.{◌≡◌, ◌≤◌, ◌<◌, ◌+◌, ℕ, List}
 use Rattle.model_line.specs.{declared.line.Line.Line, declared.script.Script.Script}
 use Rattle.model_line.specs.Parameters.{terminal_count}
 use Rattle.run_waves.specs.FirstTick.{first_on}
-use Rattle.judge_report.specs.Margin.{deadline_of}
+use Rattle.judge_report.specs.Deadlines.{deadline_of}
 use Rattle.judge_verdict.specs.OneEach.{OneEach}
 use Rattle.draw_diagram.specs.Times.{is_begun}
-use Rattle.draw_elements.specs.declared.page.{Case.Case, Fault.Fault}
+use Rattle.draw_page.specs.declared.page.{Case.Case, Fault.Fault}
 use Rattle.file_sweeps.specs.declared.group.Group.{Group}
 use Rattle.call_tables.specs.declared.row.Row.{Row}
 use Rattle.file_sweeps.specs.Places.{place_in}
-use Rattle.call_page.specs.declared.{firsts.Firsts.Firsts, parts.Part.Part}
-use Rattle.call_page.specs.{Drawings.IsBandsOf, Lists.At, Parts.fault_name, Parts.swept_values}
+use Rattle.call_page.specs.declared.parts.Part.{Part}
+use Rattle.call_facts.specs.declared.firsts.Firsts.{Firsts}
+use Rattle.call_page.specs.{Parts.fault_name, Parts.swept_values}
+use Rattle.call_facts.specs.{Drawings.IsBandsOf, Lists.At}
 use Rattle.call_page.specs.Verdicts.{IsVerdictOf, distance_at}
 
 -- script s: its name, the values of what is swept, when it begins, and its deadline

@@ -4,15 +4,10 @@ use Rattle.model_line.specs.{declared.line.Line.Line, declared.script.Script.Scr
 use Rattle.file_line.specs.{LineFiles.line_of, Lines.line_values}
 use Rattle.file_script.specs.Values.{values_of}
 use Rattle.file_sweeps.specs.Parts.{SaysScripts, part, parts_of}
-use Rattle.hex.specs.Hex.{encode_lower}
 use Rattle.judge_verdict.specs.OneEach.{OneEach}
-use Rattle.sha2.specs.Sha256.{sha256}
-use Rattle.draw_elements.specs.declared.page.{Digest.Digest, FileText.FileText}
+use Rattle.draw_page.specs.declared.page.{Digest.Digest, FileText.FileText}
 use Rattle.call_tables.specs.{declared.row.Row.Row, Written.trees_text}
-
--- the hash of the text that stands in it
-abbrev pub IsHashOf : List ℕ → List ℕ → Type 0
-IsHashOf text hash = hash ≡ encode_lower (sha256 text)
+use Rattle.call_facts.specs.Hashes.{IsHashOf}
 
 pub record IsLineFile (line : Line) (file : FileText) : Type 0 where
   pub says : line_of file.text.items ≡ Ok (line_values line)

@@ -1,11 +1,7 @@
-pub mod Lists
 pub mod Parts
 pub mod Facts
 pub mod Verdicts
-pub mod Drawings
 pub mod Faults
 pub mod Choices
-pub mod Least
-pub mod Times
 pub mod Files
 pub mod Pages

@@ -4,17 +4,20 @@ use Rattle.std.specs.List.{flat_map, list_any}
 use Rattle.model_line.specs.{declared.line.Line.Line, declared.script.Script.Script}
 use Rattle.model_line.specs.Parameters.{terminal_count}
 use Rattle.draw_layout.specs.Drawings.{scheme_said}
-use Rattle.draw_elements.specs.{declared.page.Page.Page, declared.page.Counts.Counts}
+use Rattle.draw_page.specs.{declared.page.Page.Page, declared.page.Counts.Counts}
 use Rattle.draw_page.specs.Pages.{page_of}
-use Rattle.draw_elements.specs.declared.page.{Time.Time, Digest.Digest}
+use Rattle.draw_page.specs.declared.page.{Time.Time, Digest.Digest}
 use Rattle.file_sweeps.specs.declared.group.Group.{Group}
 use Rattle.call_answer.specs.{Answers.Answers, Answers.status_by, declared.done.Done.Done}
 use Rattle.call_tables.specs.{Rows.AreRows, Table.is_failing, Table.is_open}
 use Rattle.call_tables.specs.declared.row.Row.{Row}
-use Rattle.call_page.specs.declared.{firsts.Firsts.Firsts, parts.Part.Part}
+use Rattle.call_page.specs.declared.parts.Part.{Part}
+use Rattle.call_facts.specs.declared.firsts.Firsts.{Firsts}
 use Rattle.call_page.specs.Choices.{IsChoiceOf, IsUndecidedOf, failing_row, open_row}
-use Rattle.call_page.specs.{Facts.AreFirsts, Faults.IsFaultOf, Least.IsLeastOf, Lists.EachOf}
-use Rattle.call_page.specs.{Parts.AreParts, Times.AreTimes, Files.AreFiles, Files.AreDigests}
+use Rattle.call_page.specs.Faults.{IsFaultOf}
+use Rattle.call_facts.specs.{FirstTicks.AreFirsts, Least.IsLeastOf, Lists.EachOf}
+use Rattle.call_page.specs.{Parts.AreParts, Files.AreFiles, Files.AreDigests}
+use Rattle.call_facts.specs.Times.{AreTimes}
 
 -- the head: the line's own words and numbers
 pub record IsHeadOf (line : Line) (title : List ℕ) (page : Page) : Type 0 where

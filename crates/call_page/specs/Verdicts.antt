@@ -4,15 +4,15 @@ use Rattle.model_line.specs.{declared.line.Line.Line, declared.script.Script.Scr
 use Rattle.model_line.specs.declared.script.Kind.{Kind}
 use Rattle.model_line.specs.declared.script.Kind.TheVariants.{Internal, External}
 use Rattle.model_names.specs.NamesByNumber.{terminal_name}
-use Rattle.judge_report.specs.Margin.{deadline_of}
+use Rattle.judge_report.specs.Deadlines.{deadline_of}
 use Rattle.judge_settle.specs.declared.answer.Answer.{Answer}
 use Rattle.judge_settle.specs.declared.answer.Answer.TheVariants.{Held, Fails, Open}
 use Rattle.judge_verdict.specs.OneEach.{OneEach}
-use Rattle.draw_elements.specs.declared.page.{Standing.Standing, Verdict.Verdict}
-use Rattle.draw_elements.specs.declared.page.Standing.TheVariants as standing
+use Rattle.draw_page.specs.declared.page.{Standing.Standing, Verdict.Verdict}
+use Rattle.draw_page.specs.declared.page.Standing.TheVariants as standing
 use Rattle.call_tables.specs.declared.row.Row.{Row}
-use Rattle.call_page.specs.declared.firsts.Firsts.{Firsts}
-use Rattle.call_page.specs.{Facts.place, Lists.At}
+use Rattle.call_facts.specs.declared.firsts.Firsts.{Firsts}
+use Rattle.call_facts.specs.{FirstTicks.place, Lists.At}
 
 -- how an obligation with this answer stands
 abbrev pub standing_of : Answer → Standing

@@ -2,12 +2,13 @@
 
 ghost use Rattle.std.specs.Prelude.{◌≤◌, ◌<◌, ◌+◌, IfOk, length};
 ghost use Rattle.judge_verdict.specs.OneEach.{OneEach};
-ghost use Rattle.call_page.specs.{Facts.IsKnown, Faults.IsCaseOf, Lists.At};
+ghost use Rattle.call_page.specs.{Facts.IsKnown, Faults.IsCaseOf};
+ghost use Rattle.call_facts.specs.Lists.{At};
 
-use crate::inception::inception;
 use crate::known::Known;
 use crate::parts::{Part, swept};
-use draw_elements::Case;
+use call_facts::inception;
+use draw_page::Case;
 use judge_report::deadline;
 use model_line::Memory;
 use std::alloc::Global;

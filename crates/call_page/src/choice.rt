@@ -3,18 +3,17 @@
 ghost use Rattle.std.specs.Prelude.{◌≡◌, ◌<◌, ◌^◌, IfOk, length};
 ghost use Rattle.model_line.specs.{Fits.Fits, Parameters.terminal_count};
 ghost use Rattle.judge_settle.specs.Trees.{IsFailing};
-ghost use Rattle.call_tables.specs.Rows.{IsAnyStudy};
+ghost use Rattle.call_answer.specs.Study.{IsAnyStudy};
 ghost use Rattle.call_page.specs.Choices.{IsChoiceFor, IsChoiceOf};
-ghost use Rattle.call_page.specs.Lists.{At};
+ghost use Rattle.call_facts.specs.Lists.{At};
 
-use crate::drawings::play;
 use crate::known::{name_of, script_at};
 use crate::parts::{Part, part_of_script};
-use crate::told::{least_times, told_steps, told_times};
 use call_answer::Study;
+use call_facts::{least_times, play, told_steps, told_times};
 use call_tables::Row;
-use draw_elements::FailingChoice;
-use judge_cut::{Obligation, cut};
+use draw_page::FailingChoice;
+use judge_corner::{Obligation, cut};
 use model_line::Memory;
 use model_names::name_of_terminal;
 use model_timing::{NamedTiming, Timing};

@@ -3,15 +3,17 @@
 ghost use Rattle.std.specs.Prelude.{◌<◌, ◌++◌, ◌^◌, List, IfOk, OnOk, length};
 ghost use Rattle.std.specs.List.{flat_map};
 ghost use Rattle.call_tables.specs.declared.row.Row.{Row as RowOf};
-ghost use Rattle.call_tables.specs.Rows.{AreRows, IsAnyStudy};
-ghost use Rattle.call_page.specs.{Choices.IsChoiceOf, Choices.failing_row, Lists.EachOf};
+ghost use Rattle.call_tables.specs.Rows.{AreRows};
+ghost use Rattle.call_answer.specs.Study.{IsAnyStudy};
+ghost use Rattle.call_page.specs.{Choices.IsChoiceOf, Choices.failing_row};
+ghost use Rattle.call_facts.specs.Lists.{EachOf};
 ghost use Rattle.call_page.specs.Facts.{IsRowOf};
 
 use crate::choice::choice;
 use crate::parts::Part;
 use call_answer::Study;
 use call_tables::Row;
-use draw_elements::FailingChoice;
+use draw_page::FailingChoice;
 use judge_settle::Answer;
 use model_line::Memory;
 use std::alloc::Global;

@@ -1,16 +1,17 @@
 //! Faults.
 
 ghost use Rattle.std.specs.Prelude.{◌≡◌, ◌≤◌, ◌<◌, ◌+◌, IfOk, length};
-ghost use Rattle.call_page.specs.{Facts.IsKnown, Faults.IsFaultOf, Lists.EachOf};
+ghost use Rattle.call_page.specs.{Facts.IsKnown, Faults.IsFaultOf};
+ghost use Rattle.call_facts.specs.Lists.{EachOf};
 ghost use Rattle.call_page.specs.Parts.{AreParts};
 
 use crate::case::cases;
-use crate::drawings::bands;
 use crate::known::Known;
 use crate::parts::{Part, name_from};
 use crate::verdict::verdicts;
 use crate::worst::shown;
-use draw_elements::Fault;
+use call_facts::bands;
+use draw_page::Fault;
 use itoa::Buffer;
 use model_line::Memory;
 use std::alloc::Global;

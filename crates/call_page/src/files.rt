@@ -4,13 +4,14 @@ ghost use Rattle.std.specs.Prelude.{◌≡◌, ◌≤◌, ◌<◌, ◌+◌, ◌�
 ghost use Rattle.file_script.specs.SoFar.{AreOnce};
 ghost use Rattle.file_sweeps.specs.{Studies.script_names, Parts.parts_of};
 ghost use Rattle.call_answer.specs.Study.{IsStudy};
-ghost use Rattle.call_tables.specs.Rows.{AreRows, IsAnyStudy};
+ghost use Rattle.call_tables.specs.Rows.{AreRows};
+ghost use Rattle.call_answer.specs.Study.{IsAnyStudy};
 ghost use Rattle.call_page.specs.Files.{AreDigests, AreFiles, IsLineFile, IsScriptsFile};
 
-use crate::hash::hash_of;
 use call_answer::Study;
+use call_facts::hash_of;
 use call_tables::{Row, settle_trees};
-use draw_elements::{Digest, FileText};
+use draw_page::{Digest, FileText};
 use file_line::print_line;
 use file_sweeps::{part_count, part_text};
 use itoa::Buffer;

@@ -3,10 +3,11 @@
 ghost use Rattle.std.specs.Prelude.{◌≡◌, ◌<◌, ◌*◌, Some, length, slice_get};
 ghost use Rattle.model_line.specs.Parameters.{terminal_count};
 ghost use Rattle.model_names.specs.NamesByNumber.{terminal_name};
-ghost use Rattle.call_page.specs.Facts.{IsKnown, place as place_in_order};
+ghost use Rattle.call_page.specs.Facts.{IsKnown};
+ghost use Rattle.call_facts.specs.FirstTicks.{place as place_in_order};
 
-use crate::firsts::Firsts;
 use call_answer::Study;
+use call_facts::Firsts;
 use call_tables::Row;
 use file_sweeps::Group;
 use model_line::{Line, Name, Script};

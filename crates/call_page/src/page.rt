@@ -5,10 +5,12 @@ ghost use Rattle.std.specs.List.{flat_map};
 ghost use Rattle.file_script.specs.SoFar.{AreOnce};
 ghost use Rattle.file_sweeps.specs.Studies.{script_names};
 ghost use Rattle.draw_layout.specs.Drawings.{scheme_said};
-ghost use Rattle.call_tables.specs.Rows.{AreRows, IsAnyStudy};
+ghost use Rattle.call_tables.specs.Rows.{AreRows};
+ghost use Rattle.call_answer.specs.Study.{IsAnyStudy};
 ghost use Rattle.call_page.specs.Choices.{IsChoiceOf, IsUndecidedOf, failing_row, open_row};
 ghost use Rattle.call_page.specs.{Facts.IsKnown, Faults.IsFaultOf, Files.AreFiles};
-ghost use Rattle.call_page.specs.{Least.IsLeastOf, Lists.EachOf, Parts.AreParts};
+ghost use Rattle.call_page.specs.Parts.{AreParts};
+ghost use Rattle.call_facts.specs.{Least.IsLeastOf, Lists.EachOf};
 ghost use Rattle.call_page.specs.Pages.{AreCounts, AreOfFew, IsPageOf};
 
 use crate::choices::choices;
@@ -16,14 +18,13 @@ use crate::fault::faults;
 use crate::files::{digests, files};
 use crate::head::{HeadWords, head, notes};
 use crate::known::Known;
-use crate::least::least_margin;
 use crate::parts::{Part, parts};
 use crate::said::Asked;
-use crate::times::times;
 use crate::undecided::undecided;
 use call_answer::Study;
+use call_facts::{least_margin, times};
 use call_tables::Row;
-use draw_elements::{
+use draw_page::{
     Counts, Digest, FailingChoice, Fault, FileText, LeastMargin, Page, Time, Undecided,
 };
 use model_line::Memory;

@@ -4,12 +4,13 @@ ghost use Rattle.std.specs.Prelude.{◌≡◌, ◌<◌, ◌++◌, ◌^◌, List,
 ghost use Rattle.std.specs.List.{flat_map};
 ghost use Rattle.call_tables.specs.declared.row.Row.{Row as RowOf};
 ghost use Rattle.call_tables.specs.{Rows.AreRows, Table.is_open as row_is_open};
-ghost use Rattle.call_page.specs.{Choices.IsUndecidedOf, Choices.open_row, Lists.EachOf};
+ghost use Rattle.call_page.specs.{Choices.IsUndecidedOf, Choices.open_row};
+ghost use Rattle.call_facts.specs.Lists.{EachOf};
 
 use crate::parts::{Part, part_of_script};
 use call_answer::Study;
 use call_tables::Row;
-use draw_elements::Undecided;
+use draw_page::Undecided;
 use judge_settle::Answer;
 use model_line::Memory;
 use model_names::{name_of_script, name_of_terminal};

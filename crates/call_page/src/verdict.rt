@@ -3,13 +3,14 @@
 ghost use Rattle.std.specs.Prelude.{◌≡◌, ◌≤◌, ◌<◌, ◌+◌, IfOk, length};
 ghost use Rattle.model_line.specs.Parameters.{terminal_count};
 ghost use Rattle.judge_verdict.specs.OneEach.{OneEach};
-ghost use Rattle.call_page.specs.{Facts.IsKnown, Facts.place, Lists.At};
+ghost use Rattle.call_page.specs.Facts.{IsKnown};
+ghost use Rattle.call_facts.specs.{FirstTicks.place, Lists.At};
 ghost use Rattle.call_page.specs.Verdicts.{IsVerdictOf, standing_of as standing_of_answer};
 
 use crate::known::{Known, firsts_at, row_at};
 use crate::parts::Part;
 use crate::worst::worst;
-use draw_elements::{Means, Standing, Verdict};
+use draw_page::{Means, Standing, Verdict};
 use judge_report::deadline;
 use judge_settle::{Answer, By};
 use model_line::Memory;

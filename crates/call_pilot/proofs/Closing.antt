@@ -4,7 +4,7 @@ use Rattle.std.proofs.Common.{Err, refl, ap, subst, inl, inr, arith}
 use Rattle.std.specs.Io.KnownBytes.{Appends, Keeps}
 use Rattle.base_store.specs.{Counts.Rose, Sink.GrewByPart, Sink.GrewByProper}
 use Rattle.base_store.specs.{SinkLaws.part_of_proper}
-use Rattle.call_engine.specs.Calls.{Calls}
+use Rattle.call_answer.specs.Calls.{Calls}
 use Rattle.call_pilot.specs.Files.{NamedFile, NoneRose, StoreCause}
 use Rattle.call_pilot.specs.Status.{IsAnswer, IsDone, IsEarly, status_of, stop_status}
 use Rattle.call_pilot.specs.{Call.Asked, Call.Told, Clauses.Call, Clauses.Clauses, Clauses.IsLine}

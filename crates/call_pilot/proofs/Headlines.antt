@@ -10,8 +10,8 @@ use Rattle.model_line.specs.{Parameters.terminal_count, declared.line.Line.Line}
 use Rattle.model_line.specs.{declared.script.Script.Script, Fits.Fits}
 use Rattle.cert_check.specs.{Check.IsCheckFault, ZipLaws.zip_each}
 use Rattle.cert_check.specs.declared.fault.CheckFault.TheVariants as check_fault
-use Rattle.judge_margin.specs.Answer.{IsMarginAnswer}
-use Rattle.judge_margin.specs.Margin.{HasNoMargin, IsLostAbove, IsLostAtLeast, IsMargin}
+use Rattle.judge_report.specs.Answer.{IsMarginAnswer}
+use Rattle.judge_report.specs.Margin.{HasNoMargin, IsLostAbove, IsLostAtLeast, IsMargin}
 use Rattle.cert_split_text.specs.{Piece.written_as, Text.split_text}
 use Rattle.cert_split_check.specs.Check as split_check
 use Rattle.cert_split_check.specs.declared.fault.SplitFault.TheVariants as split_fault
@@ -47,8 +47,8 @@ use Rattle.call_commands.specs.Check.{check_answer}
 use Rattle.call_answer.specs.{Answers.status_by, Sinks.SinkView}
 use Rattle.call_answer.specs.declared.done.Done.{Done}
 use Rattle.call_answer.specs.declared.done.Done.TheVariants as done
-use Rattle.cert_headline.specs.Obligations.{HoldsAsAccepted, HoldsAsCertified}
-use Rattle.cert_headline.specs.{Printed.HasVerdict, Printed.HoldsOf, WholeLines.whole_lines}
+use Rattle.cert_own.specs.Obligations.{HoldsAsAccepted, HoldsAsCertified}
+use Rattle.cert_own.specs.{Printed.HasVerdict, Printed.HoldsOf, WholeLines.whole_lines}
 use Rattle.call_pilot.specs.{Call.answers, CallAnswers.done_with}
 use Rattle.call_pilot.specs.{CallAnswers.refuses, Commands.answer, Ends.EndsOf, Files.AllTold}
 use Rattle.call_pilot.specs.{Files.limit_of, Headline.Headline, Truths.IsToldBy}

@@ -9,8 +9,8 @@ use Rattle.judge_match.specs.{Answer.IsMatchAnswer, Recorded.IsRecordOf}
 use Rattle.judge_match.specs.Waves.{SeenValues, records_said}
 use Rattle.judge_match.specs.declared.fault.SeenFault.{SeenFault}
 use Rattle.call_answer.specs.{Answers.status_by, Sinks.SinkView}
-use Rattle.cert_headline.specs.Matched.{HasMatch, Matched, matched_words}
-use Rattle.cert_headline.specs.WholeLines.{whole_lines}
+use Rattle.cert_own.specs.Matched.{HasMatch, Matched, matched_words}
+use Rattle.cert_own.specs.WholeLines.{whole_lines}
 use Rattle.call_pilot.specs.{Call.answers, Ends.EndsOf}
 use Rattle.call_pilot.specs.CallOver.{HasPut, IsOverThree}
 use Rattle.call_pilot.specs.HeadlineLaws.{HeadlineLaws}

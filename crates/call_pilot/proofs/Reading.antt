@@ -13,7 +13,7 @@ use Rattle.file_script.specs.Scripts.{scripts_of}
 use Rattle.file_script.specs.{Values.ScriptValues, declared.fault.ScriptFault.ScriptFault}
 use Rattle.file_script.specs.declared.fault.ScriptFault.TheVariants as script_fault
 use Rattle.file_timing.specs.Gives as timing_reading
-use Rattle.call_engine.specs.Calls.{Calls}
+use Rattle.call_answer.specs.Calls.{Calls}
 use Rattle.model_timing.specs.Inside.{IsTimingInside}
 use Rattle.model_timing.specs.NamedValues.{NamedValues}
 use Rattle.file_timing.specs.declared.fault.TimingFault.{TimingFault}

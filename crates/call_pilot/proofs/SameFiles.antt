@@ -14,11 +14,11 @@ use Rattle.file_script.specs.Values.{values_of}
 use Rattle.cert_text.specs.Grammar.{Verdict}
 use Rattle.run_rows.specs.PlayRows.{each_below}
 use Rattle.judge_report.specs.ReportText.{report_header, rule_word}
-use Rattle.judge_margin.specs.Raised.{raised}
-use Rattle.cert_headline.specs.Obligations.{AllMet, HoldsAsAccepted, HoldsAsCertified}
-use Rattle.cert_headline.specs.Obligations.{HoldsSomewhere}
-use Rattle.cert_headline.specs.Obligations.{IsFailedBySome, IsUnknown}
-use Rattle.cert_headline.specs.Printed.{HoldsOf}
+use Rattle.judge_report.specs.Raised.{raised}
+use Rattle.cert_own.specs.Obligations.{AllMet, HoldsAsAccepted, HoldsAsCertified}
+use Rattle.cert_own.specs.Obligations.{HoldsSomewhere}
+use Rattle.cert_own.specs.Obligations.{IsFailedBySome, IsUnknown}
+use Rattle.cert_own.specs.Printed.{HoldsOf}
 use Rattle.call_pilot.specs.{SaidByFiles.InFiles, Truths.IsToldBy}
 use Rattle.call_pilot.specs.Truths.{MarginIsTrue, ReportIsTrue, RowIsTrue, SplitIsTrue}
 use Rattle.call_pilot.specs.declared.stop.Status.{Status}

@@ -1,6 +1,6 @@
 -- What a call answers when nothing fails, and what it has then asked of the engine.
 use Rattle.std.specs.Prelude.{◌≡◌, ⊤, ℕ, List, [], Option, None, Some}
-use Rattle.call_engine.specs.Calls.{Calls}
+use Rattle.call_answer.specs.Calls.{Calls}
 use Rattle.call_commands.specs.Asked.{Asks}
 use Rattle.call_pilot.specs.CallAnswers.{CallAnswers, done_with, refuses}
 use Rattle.call_pilot.specs.Commands.{answer, asks}

@@ -2,7 +2,7 @@
 use Rattle.std.specs.Prelude.{◌≡◌, ◌⊎◌, ◌<◌, ℕ, List, [], Option}
 use Rattle.std.specs.Io.KnownBytes.{Appends, Keeps}
 use Rattle.base_store.specs.{Counts.Rose, Sink.GrewByProper, Sink.GrewByPart}
-use Rattle.call_engine.specs.Calls.{Calls}
+use Rattle.call_answer.specs.Calls.{Calls}
 use Rattle.call_pilot.specs.{Call.Asked, Call.Told, Call.answers, Files.StoreCause, Files.NoneRose}
 use Rattle.call_pilot.specs.{Headline.Headline, Messages.message_of, Status.IsAnswer, Status.IsDone}
 use Rattle.call_pilot.specs.{Words.Command}

@@ -3,8 +3,8 @@
 use Rattle.std.specs.Prelude.{◌≡◌, ℕ, List, Option}
 use Rattle.cert_text.specs.Grammar.{Verdict}
 use Rattle.call_answer.specs.Sinks.{SinkView}
-use Rattle.cert_headline.specs.{Matched.HasMatch, Matched.Matched, Printed.HasVerdict}
-use Rattle.cert_headline.specs.Obligations.{HoldsAsAccepted, HoldsAsCertified}
+use Rattle.cert_own.specs.{Matched.HasMatch, Matched.Matched, Printed.HasVerdict}
+use Rattle.cert_own.specs.Obligations.{HoldsAsAccepted, HoldsAsCertified}
 use Rattle.call_pilot.specs.CallOver.{HasPut, IsFrontOfText, IsOverThree, IsOverTwo}
 use Rattle.call_pilot.specs.{SaidByFiles.HoldsInFiles, SaidByFiles.InFiles}
 use Rattle.call_pilot.specs.Truths.{IsToldBy, MarginIsTrue, ReportIsTrue, SplitIsTrue}

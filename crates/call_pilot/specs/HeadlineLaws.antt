@@ -16,16 +16,16 @@ use Rattle.cert_check.specs.{declared.counts.Counts.Counts, Check.IsAccepted}
 use Rattle.cert_check.specs.Counts.{all_verdicts, is_no, is_undecided}
 use Rattle.cert_own.specs.Certified.{AreCertified}
 use Rattle.run_waves.specs.FirstTick.{first_on}
-use Rattle.judge_margin.specs.{Margin.IsHeldTo, Raised.raised}
+use Rattle.judge_report.specs.{Margin.IsHeldTo, Raised.raised}
 use Rattle.cert_split_text.specs.Grammar.{HasOneEach, IsSplitText, SplitResult}
 use Rattle.cert_split_text.specs.Text.{split_text}
 use Rattle.cert_split_check.specs.Check as split_check
 use Rattle.cert_split_check.specs.Results.{AreSupported, AreTold}
 use Rattle.cert_own.specs.Searched.{AreSearched}
-use Rattle.cert_headline.specs.Obligations.{AllMet, HoldsAsAccepted, HoldsAsCertified}
-use Rattle.cert_headline.specs.Obligations.{HoldsSomewhere}
-use Rattle.cert_headline.specs.Obligations.{IsFailedBySome, IsUnknown}
-use Rattle.cert_headline.specs.Printed.{HasVerdict, HoldsOf}
+use Rattle.cert_own.specs.Obligations.{AllMet, HoldsAsAccepted, HoldsAsCertified}
+use Rattle.cert_own.specs.Obligations.{HoldsSomewhere}
+use Rattle.cert_own.specs.Obligations.{IsFailedBySome, IsUnknown}
+use Rattle.cert_own.specs.Printed.{HasVerdict, HoldsOf}
 use Rattle.call_pilot.specs.RecordLaws.{RecordLaws}
 
 pub record HeadlineLaws : Type 0 where

@@ -2,8 +2,8 @@
 use Rattle.std.specs.Prelude.{◌≡◌, ℕ, List, Ok}
 use Rattle.model_line.specs.{declared.line.Line.Line, declared.script.Script.Script}
 use Rattle.judge_match.specs.Waves.{SeenValues, records_said}
-use Rattle.cert_headline.specs.Matched.{AllGiven, HoldsOfRecord, HoldsOfRecordAt, HoldsOfSomeRecord}
-use Rattle.cert_headline.specs.Matched.{IsGivenByNone, IsOpenRecord, Matched}
+use Rattle.cert_own.specs.Matched.{AllGiven, HoldsOfRecord, HoldsOfRecordAt, HoldsOfSomeRecord}
+use Rattle.cert_own.specs.Matched.{IsGivenByNone, IsOpenRecord, Matched}
 use Rattle.call_pilot.specs.{SaidByFiles.InFiles, declared.stop.Status.Status}
 use Rattle.call_pilot.specs.declared.stop.Status.TheVariants as status
 

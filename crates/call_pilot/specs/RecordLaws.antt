@@ -7,8 +7,8 @@ use Rattle.model_timing.specs.NamedValues.{NamedValues}
 use Rattle.judge_match.specs.{Answer.IsMatchAnswer, Recorded.IsRecordOf}
 use Rattle.judge_match.specs.Waves.{SeenValues, records_said}
 use Rattle.call_commands.specs.Play.{IsPlayText}
-use Rattle.cert_headline.specs.Matched.{AllGiven, HasMatch, HoldsOfRecord, HoldsOfRecordAt}
-use Rattle.cert_headline.specs.Matched.{HoldsOfSomeRecord, IsGivenByNone, IsOpenRecord, Matched}
+use Rattle.cert_own.specs.Matched.{AllGiven, HasMatch, HoldsOfRecord, HoldsOfRecordAt}
+use Rattle.cert_own.specs.Matched.{HoldsOfSomeRecord, IsGivenByNone, IsOpenRecord, Matched}
 
 pub record RecordLaws : Type 0 where
   pub records : (line : Line) (scripts : List Script) (bytes : List ℕ) (records : List SeenValues)

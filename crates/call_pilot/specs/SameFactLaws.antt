@@ -28,11 +28,11 @@ use Rattle.model_timing.specs.Timing.{TimingValues, number_at}
 use Rattle.judge_verdict.specs.Verdicts.{PassesAt}
 use Rattle.cert_text.specs.Grammar.{Verdict, no, undecided, yes}
 use Rattle.cert_check.specs.Refutations.{IsRefutation, choice_of, steady_timing}
-use Rattle.judge_margin.specs.Raised.{raised}
+use Rattle.judge_report.specs.Raised.{raised}
 use Rattle.cert_split_text.specs.Grammar.{SplitResult, fails, tree}
 use Rattle.cert_split_check.specs.Results.{AreTold, IsTold}
-use Rattle.cert_headline.specs.Obligations.{HoldsAsAccepted, HoldsAsCertified, IsFailedBySome}
-use Rattle.cert_headline.specs.Obligations.{IsUnknown}
+use Rattle.cert_own.specs.Obligations.{HoldsAsAccepted, HoldsAsCertified, IsFailedBySome}
+use Rattle.cert_own.specs.Obligations.{IsUnknown}
 use Rattle.call_pilot.specs.Truths.{IsFailedByAll}
 use Rattle.call_pilot.specs.SameValueLaws.{failed_by, greatests_of, history_back}
 use Rattle.call_pilot.specs.SameValueLaws.{inside_back, leasts_of, meets_back, meets_on, met_by_all}

@@ -10,11 +10,11 @@ use Rattle.model_logic.specs.{Choice.Box, HeldOver.IsHeldOver}
 use Rattle.model_logic.specs.IntervalLaws.{HistoriesRestOnNoInterval}
 use Rattle.file_line.specs.Lines.{line_values}
 use Rattle.file_script.specs.Values.{values_of}
-use Rattle.judge_margin.specs.declared.upper_end.Lost.{Lost}
-use Rattle.judge_margin.specs.declared.upper_end.UpperEnd.{UpperEnd}
-use Rattle.judge_margin.specs.Lost.{AreHeld, IsFirstLost, IsScriptHeld}
-use Rattle.judge_margin.specs.Margin.{IsHeldTo, IsLostAbove, IsLostAt, IsLostAtLeast}
-use Rattle.judge_margin.specs.{Margin.IsUpperEnd, Raised.raised}
+use Rattle.judge_report.specs.declared.upper_end.Lost.{Lost}
+use Rattle.judge_report.specs.declared.upper_end.UpperEnd.{UpperEnd}
+use Rattle.judge_report.specs.Lost.{AreHeld, IsFirstLost, IsScriptHeld}
+use Rattle.judge_report.specs.Margin.{IsHeldTo, IsLostAbove, IsLostAt, IsLostAtLeast}
+use Rattle.judge_report.specs.{Margin.IsUpperEnd, Raised.raised}
 use Rattle.call_pilot.specs.SameFactLaws.{ends_same, pair_history_over, raised_same, rule_same}
 use Rattle.call_pilot.specs.SameValueLaws.{same_but_params}
 use Rattle.call_pilot.specs.TwinLaws.{twin}

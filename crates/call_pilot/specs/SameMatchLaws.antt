@@ -18,10 +18,10 @@ use Rattle.model_timing.specs.Candidates.{candidate}
 use Rattle.model_timing.specs.Timing.{TimingValues}
 use Rattle.cert_check.specs.{Claims.declared_world, Claims.pairs_of}
 use Rattle.judge_match.specs.{Recorded.recorded, Waves.SeenValues}
-use Rattle.cert_headline.specs.Matched.{HoldsOfRecord, HoldsOfRecordAt}
-use Rattle.cert_headline.specs.Matched.{IsGivenBy, IsGivenByNone, IsGivenBySome, IsOpenRecord}
-use Rattle.cert_headline.specs.Matched.{Matched}
-use Rattle.cert_headline.specs.Matched.{explained, impossible, unsettled}
+use Rattle.cert_own.specs.Matched.{HoldsOfRecord, HoldsOfRecordAt}
+use Rattle.cert_own.specs.Matched.{IsGivenBy, IsGivenByNone, IsGivenBySome, IsOpenRecord}
+use Rattle.cert_own.specs.Matched.{Matched}
+use Rattle.cert_own.specs.Matched.{explained, impossible, unsettled}
 use Rattle.call_pilot.specs.MatchTruths.{IsMatchToldBy, OfRecords}
 use Rattle.call_pilot.specs.declared.stop.Status.{Status}
 use Rattle.call_pilot.specs.declared.stop.Status.TheVariants as status

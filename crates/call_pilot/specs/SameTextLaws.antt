@@ -13,11 +13,11 @@ use Rattle.model_names.specs.ParamNamesApart.{name_of_param}
 use Rattle.file_script.specs.Values.{ScriptValues, values_of}
 use Rattle.cert_text.specs.Grammar.{end_text, script_text, terminal_names}
 use Rattle.cert_text.specs.Text.{fed}
-use Rattle.judge_report.specs.Margin.{deadline_of, margin_of, margin_us_of}
+use Rattle.judge_report.specs.Deadlines.{deadline_of, margin_of, margin_us_of}
 use Rattle.judge_report.specs.ReportText.{field, fields_text, kind_word, margin_text, tick_text}
-use Rattle.judge_margin.specs.declared.upper_end.Lost.{Lost}
-use Rattle.judge_margin.specs.declared.upper_end.UpperEnd.{UpperEnd}
-use Rattle.judge_margin.specs.MarginText.{greatest_words, lost_words, margin_line}
+use Rattle.judge_report.specs.declared.upper_end.Lost.{Lost}
+use Rattle.judge_report.specs.declared.upper_end.UpperEnd.{UpperEnd}
+use Rattle.judge_report.specs.MarginText.{greatest_words, lost_words, margin_line}
 use Rattle.judge_split.specs.declared.node.Node.{Node}
 use Rattle.judge_split.specs.declared.node.Node.TheVariants as node
 use Rattle.cert_split_text.specs.Grammar.{SplitResult, fails, head_text, node_text, split_line}

@@ -9,13 +9,13 @@ use Rattle.model_logic.specs.Rule.{Broken, Held, Rule}
 use Rattle.model_names.specs.NumbersByName.{param_named}
 use Rattle.run_rows.specs.PlayRows.{each_below}
 use Rattle.judge_report.specs.ReportText.{fields_text, report_header, rule_word}
-use Rattle.judge_margin.specs.declared.upper_end.UpperEnd.{UpperEnd}
-use Rattle.judge_margin.specs.{Margin.IsUpperEnd, MarginText.margin_line, Raised.raised}
+use Rattle.judge_report.specs.declared.upper_end.UpperEnd.{UpperEnd}
+use Rattle.judge_report.specs.{Margin.IsUpperEnd, MarginText.margin_line, Raised.raised}
 use Rattle.cert_check.specs.Scripts.{EachBelow}
 use Rattle.cert_split_text.specs.{Grammar.SplitResult, Text.split_text}
 use Rattle.cert_split_check.specs.Results.{AreTold}
-use Rattle.cert_headline.specs.Obligations.{AllMet, HoldsSomewhere, IsFailedBySome, IsMetByAll}
-use Rattle.cert_headline.specs.Obligations.{IsUnknown}
+use Rattle.cert_own.specs.Obligations.{AllMet, HoldsSomewhere, IsFailedBySome, IsMetByAll}
+use Rattle.cert_own.specs.Obligations.{IsUnknown}
 use Rattle.call_pilot.specs.declared.stop.Status.{Status}
 use Rattle.call_pilot.specs.declared.stop.Status.TheVariants as status
 

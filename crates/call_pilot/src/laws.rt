@@ -5,7 +5,7 @@ ghost use Rattle.model_line.specs.{declared.line.Line.Line, declared.script.Scri
 ghost use Rattle.model_line.specs.Fits.{Fits};
 ghost use Rattle.file_line.specs.Lines.{line_values};
 ghost use Rattle.file_script.specs.{Scripts.scripts_of, Values.values_of};
-ghost use Rattle.cert_headline.specs.Obligations.{IsFailedBy, IsMetByAll, IsUnknown};
+ghost use Rattle.cert_own.specs.Obligations.{IsFailedBy, IsMetByAll, IsUnknown};
 ghost use Rattle.cert_check.specs.Counts.{all_verdicts};
 ghost use Rattle.cert_split_check.specs.Counts.{all_verdicts as all_split_verdicts};
 ghost use Rattle.call_commands.specs.{Certify.certify_answer, Check.check_answer};
@@ -14,12 +14,14 @@ ghost use Rattle.call_answer.specs.declared.done.Done.{Done};
 ghost use Rattle.call_pilot.specs.{Accepted.counted_line, HeadlineLaws.HeadlineLaws};
 
 use crate::record_laws::what_is_recorded_is_true;
-use cert_headline::{what_is_accepted_is_true, what_is_certified_is_true};
-use cert_own::{what_is_certified_is_accepted, what_is_searched_is_accepted};
+use cert_own::{
+    what_is_accepted_is_true, what_is_certified_is_accepted, what_is_certified_is_true,
+    what_is_searched_is_accepted,
+};
 use cert_split_check::accepted_split_trees_are_so;
 use cert_split_text::{printed_results_are_a_split_text, split_results_have_one_text};
 use file_script::a_file_says_scripts_of_one_file;
-use judge_margin::what_is_held_to_a_number_is_met;
+use judge_report::what_is_held_to_a_number_is_met;
 use model_line::laws::{counts_do_not_rest_on_the_intervals, deadlines_are_below_the_horizon};
 use model_logic::interval_laws::{
     histories_do_not_rest_on_the_intervals, trees_do_not_rest_on_the_intervals,

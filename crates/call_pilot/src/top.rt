@@ -9,7 +9,7 @@ use crate::messages::put_message;
 use crate::run::answer;
 use crate::stop::Status;
 use base_store::{Sink, Store};
-use call_engine::Engine;
+use call_answer::Engine;
 use std::alloc::Global;
 
 /// Does the command that the words are, by the engine, over the store, with its text on `out` and,

@@ -5,7 +5,7 @@ use Rattle.file_comtrade.specs.declared.record.RecordFault.{RecordFault}
 use Rattle.file_map.specs.Maps.{MapValues}
 use Rattle.file_tracks.specs.Tracks.{AreTracks, FailsAt, PlacedValues, TrackValues, placed_from}
 use Rattle.file_sweeps.specs.Parts.{SaysScripts}
-use Rattle.file_sources.specs.Rows.{sources_text}
+use Rattle.file_tracks.specs.Rows.{sources_text}
 use Rattle.file_recorded.specs.{Changes.record_text, Spans.script_told, Spans.spans_told}
 use Rattle.call_records.specs.{Course.RecorderFiles, Course.bytes_in, Halts.End}
 use Rattle.call_records.specs.Faults.{is_record_memory, record_refusal, too_many_spans}

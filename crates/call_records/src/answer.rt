@@ -15,8 +15,9 @@ use call_ask::RecordsWork;
 use file_comtrade::RecordFault;
 use file_map::Map;
 use file_recorded::{record_text, scripts_text};
-use file_sources::{Sources, sources_text};
-use file_tracks::{Placed, RecordBytes, Track, TrackFault, place, read_tracks};
+use file_tracks::{
+    Placed, RecordBytes, Sources, Track, TrackFault, place, read_tracks, sources_text,
+};
 use model_line::{Line, Memory};
 use std::alloc::Global;
 

@@ -1,39 +1,30 @@
 -- What holds of what was read, and of what is chosen of it.
-use Rattle.std.proofs.Common.{◌≡◌, ◌∷◌, ◌<◌, ℕ, suc, zero, List, [], length, map, Option, None, Some}
+use Rattle.std.proofs.Common.{◌≡◌, ◌∷◌, ◌<◌, ℕ, suc, zero, List, [], length, Option, None, Some}
 use Rattle.std.proofs.Common.{Result, Ok, Err, refl, subst, sym, slice_get, arith, inl, inr, ⊎_elim}
 use Rattle.std.specs.List.{All}
-use Rattle.model_line.specs.{declared.line.Line.Line, declared.script.Script.Script}
-use Rattle.file_line.specs.{LineFiles.line_of, Lines.LineValues}
-use Rattle.file_line.specs.declared.fault.LineFault.{LineFault}
-use Rattle.file_script.specs.{Scripts.scripts_of, Values.ScriptValues}
-use Rattle.file_script.specs.declared.fault.ScriptFault.{ScriptFault}
+use Rattle.model_line.specs.declared.line.Line.{Line}
 use Rattle.file_study.specs.Studies.{StudyValues, study_of}
 use Rattle.file_study.specs.declared.fault.StudyFault.{StudyFault}
-use Rattle.file_sweeps.specs.Groups.{group_values, single_group}
-use Rattle.file_sweeps.specs.declared.group.Group.{Group}
 use Rattle.file_timing.specs.Gives as timing_reading
 use Rattle.file_timing.specs.declared.fault.TimingFault.{TimingFault}
 use Rattle.file_timing.specs.declared.fault.TimingFault.TheVariants as timing_fault
 use Rattle.model_timing.specs.{Inside.IsTimingInside, NamedValues.NamedValues}
 use Rattle.call_answer.specs.declared.said.Said.{Said}
-use Rattle.call_pilot.specs.Reading.{of_line, of_scripts, of_study, of_timings}
+use Rattle.call_pilot.specs.Reading.{of_timings}
 use Rattle.call_pilot.specs.Stops.{timing_stop}
 use Rattle.call_pilot.specs.declared.refusal.Refusal.{Refusal}
 use Rattle.call_pilot.specs.declared.refusal.Refusal.TheVariants as refusal
 use Rattle.call_pilot.specs.declared.stop.Stop.TheVariants as stop
-use Rattle.call_study.specs.{Answers.Answers, Ends.Gives, Halts.End}
-use Rattle.call_study.specs.{Reading.of_place, declared.halt.Halt.Halt}
-use Rattle.call_study.specs.Loaded.{IsLoaded, IsWhy, Loads, Say, given_of, studied}
-use Rattle.call_study.specs.Studied.{Studied, of_values, refused_by, untitled}
-use Rattle.call_study.specs.declared.halt.Halt.TheVariants as halt
-use Rattle.call_study.specs.declared.load.Bytes.{Bytes}
-use Rattle.call_study.specs.declared.load.Bytes.TheVariants as bytes
-use Rattle.call_study.specs.declared.load.Loaded.{Loaded}
-
--- what holds of groups of which each is one script
-abbrev pub HasGroups : List Script → (List Group → Type 0) → Type 0
-HasGroups scripts holds =
-    (groups : List Group) × (map group_values groups ≡ map single_group scripts) × holds groups
+use Rattle.call_study.specs.{Answers.Answers, Ends.Gives}
+use Rattle.call_load.specs.Halts.{End}
+use Rattle.call_load.specs.{Reading.of_place, declared.halt.Halt.Halt}
+use Rattle.call_load.specs.Loaded.{IsLoaded, IsWhy, Loads, Say, given_of, studied}
+use Rattle.call_load.specs.ReadingLaws.{HasGroups, study_wider}
+use Rattle.call_load.specs.Studied.{Studied, of_values, refused_by, untitled}
+use Rattle.call_load.specs.declared.halt.Halt.TheVariants as halt
+use Rattle.call_load.specs.declared.sources.Bytes.{Bytes}
+use Rattle.call_load.specs.declared.sources.Bytes.TheVariants as bytes
+use Rattle.call_load.specs.declared.sources.Loaded.{Loaded}
 
 -- what was read of a source
 pub given_read : (from : Bytes) (l : Loaded) (halted : Halt → Type 0) (holds : Studied → Type 0)
@@ -87,31 +78,6 @@ gives_wider allowed more (Err (halt.Stopped (stop.Store file))) wider given = ab
 gives_wider allowed more (Err (halt.Stopped stop.Sink)) wider given = absurd given
 gives_wider allowed more (Err (halt.Stopped stop.Memory)) wider given = tt
 gives_wider allowed more (Err (halt.Denied why)) wider given = wider _ _ given
-
-line_wider : (said : Result LineValues LineFault) (R S : Refusal → Type 0) (H P : Line → Type 0)
-    → ((why : Refusal) → R why → S why) → ((l : Line) → H l → P l)
-    → of_line said R H → of_line said S P
-line_wider (Ok values) R S H P refused holds h = (h.0, h.1, holds h.0 h.2)
-line_wider (Err e) R S H P refused holds h = refused _ h
-
-scripts_wider : (l : Line) (said : Result (List ScriptValues) ScriptFault)
-    (R S : Refusal → Type 0) (H P : List Script → Type 0)
-    → ((why : Refusal) → R why → S why) → ((scripts : List Script) → H scripts → P scripts)
-    → of_scripts l said R H → of_scripts l said S P
-scripts_wider l (Ok values) R S H P refused holds h = (h.0, h.1, h.2, holds h.0 h.3)
-scripts_wider l (Err e) R S H P refused holds h = refused _ h
-
--- what holds of the first refusal, or of what is read, holds of each that is wider
-pub study_wider : (line_bytes scripts_bytes : List ℕ) (R S : Refusal → Type 0)
-    (H P : Line → List Script → Type 0) → ((why : Refusal) → R why → S why)
-    → ((line : Line) (scripts : List Script) → H line scripts → P line scripts)
-    → of_study line_bytes scripts_bytes R H → of_study line_bytes scripts_bytes S P
-study_wider line_bytes scripts_bytes R S H P refused holds first =
-    line_wider (line_of line_bytes) R S
-    (λ l. of_scripts l (scripts_of l scripts_bytes) R (H l))
-    (λ l. of_scripts l (scripts_of l scripts_bytes) S (P l)) refused
-    (λ l h. scripts_wider l (scripts_of l scripts_bytes) R S (H l) (P l) refused (holds l) h)
-    first
 
 values_refused : (said : Result StudyValues StudyFault) (why : Halt) (halted : Halt → Type 0)
     (holds : Studied → Type 0) → of_values said (λ first. first ≡ why) (λ of. ⊥) → halted why

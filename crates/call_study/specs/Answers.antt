@@ -1,7 +1,7 @@
 -- What a call may answer: how it ends, which fixes its status and its line to err, and its text on
 -- out.
 use Rattle.std.specs.Prelude.{◌≡◌, ℕ, List, [], Option, Result, Ok, Err, map}
-use Rattle.file_event.specs.{Config.config_text, Map.map_text}
+use Rattle.file_recorded.specs.{Config.config_text, Map.map_text}
 use Rattle.file_line.specs.{LineFiles.line_of, Lines.line_values}
 use Rattle.file_script.specs.Values.{values_of}
 use Rattle.file_sweeps.specs.Parts.{SaysScripts, part}
@@ -16,12 +16,12 @@ use Rattle.call_verdicts.specs.{Faults.faults_answer, Verdicts.verdicts_answer}
 use Rattle.call_study.specs.{Linted.lint_answer, Settled.failing_answer, Settled.trees_answer}
 use Rattle.call_ask.specs.declared.ask.Table.TheVariants as table
 use Rattle.call_pilot.specs.{Files.contents, declared.stop.File.File}
-use Rattle.call_study.specs.{Halts.End, declared.halt.Halt.Halt}
+use Rattle.call_load.specs.{Halts.End, declared.halt.Halt.Halt}
 use Rattle.call_ask.specs.declared.ask.Form.TheVariants as form
 use Rattle.call_study.specs.Pictures.{IsBandsText, IsDataText, IsDumpText, IsRunText}
-use Rattle.call_study.specs.Reading as reading
-use Rattle.call_study.specs.Reading.{Reading, Wanted, over_files}
-use Rattle.call_study.specs.Request.{Request, files_of}
+use Rattle.call_load.specs.Reading as reading
+use Rattle.call_load.specs.Reading.{Reading, Wanted, over_files}
+use Rattle.call_load.specs.Request.{Request, files_of}
 
 abbrev pub Answers : Type 1
 Answers = End → List ℕ → Type 0

@@ -6,8 +6,9 @@ use Rattle.call_answer.specs.Sinks.{GrewByAll, SinkView}
 use Rattle.call_pilot.specs.Files.{AllTold, NamedFile, StoreCause, contents}
 use Rattle.call_pilot.specs.declared.stop.{File.File}
 use Rattle.call_pilot.specs.declared.stop.Stop.TheVariants as stop
-use Rattle.call_study.specs.{Answers.Answers, Halts.End, declared.halt.Halt.Halt}
-use Rattle.call_study.specs.declared.halt.Halt.TheVariants as halt
+use Rattle.call_study.specs.Answers.{Answers}
+use Rattle.call_load.specs.{Halts.End, declared.halt.Halt.Halt}
+use Rattle.call_load.specs.declared.halt.Halt.TheVariants as halt
 
 -- a status with a text, or why there is none, is such an answer
 abbrev pub Gives : Answers → Result Said Halt → Type 0

@@ -1,13 +1,6 @@
 pub mod Answers
-pub mod Chosen
 pub mod Clauses
 pub mod Ends
-pub mod Halts
 pub mod Pictures
-pub mod Reading
-pub mod Request
-pub mod Denials
-pub mod Studied
-pub mod Loaded
 pub mod Settled
 pub mod Linted

@@ -9,20 +9,20 @@ use Rattle.model_logic.specs.Histories.{PairHistory, History, IsLineHistory, IsS
 use Rattle.model_logic.specs.Histories.{IsSamePairHistory}
 use Rattle.model_logic.specs.Choice.{declared_box, pair_world_of}
 use Rattle.model_logic.specs.{PairMean.pair_mean, Rule.rule_of}
-use Rattle.judge_interval.specs.Rules.{rule_named}
+use Rattle.judge_verdict.specs.Rules.{rule_named}
 use Rattle.run_step.specs.{GatePairs.GateSignals, Runs.IsTheHistory}
 use Rattle.model_timing.specs.{Choice.timing_choice}
 use Rattle.model_timing.specs.NamedValues.{NamedValues}
 use Rattle.net_gates.specs.{Formulas.formula_of, NetOf.IsNetOf, NetOf.NetOf}
 use Rattle.draw_dump.specs.{Dump.dump_text, GateValues.gate_levels}
 use Rattle.draw_diagram.specs.{declared.diagram.Diagram.Diagram, Diagrams.IsDiagramOf}
-use Rattle.draw_diagram.specs.declared.drawn.Rows.{Rows}
+use Rattle.draw_shapes.specs.declared.rows.Rows.{Rows}
 use Rattle.draw_diagram.specs.Traces.{known_history, pairs_shown}
 use Rattle.draw_shapes.specs.Svg.{svg_of}
 use Rattle.draw_layout.specs.declared.subject.Subject.{Subject}
 use Rattle.draw_layout.specs.declared.subject.Subject.TheVariants as subject
 use Rattle.draw_layout.specs.Drawings.{drawing_of}
-use Rattle.file_event.specs.Data.{data_text}
+use Rattle.file_recorded.specs.Data.{data_text}
 
 -- the text of a diagram
 abbrev pub text_of : Line → Script → Subject → Diagram → List ℕ

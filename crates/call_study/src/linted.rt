@@ -2,12 +2,13 @@
 
 ghost use Rattle.std.specs.Prelude.{◌≡◌, IfOk};
 ghost use Rattle.call_answer.specs.Answers.{Says};
-ghost use Rattle.call_study.specs.{Linted.done_by, Linted.lint_answer, Loaded.source_in};
+ghost use Rattle.call_study.specs.{Linted.done_by, Linted.lint_answer};
+ghost use Rattle.call_load.specs.Loaded.{source_in};
 
-use crate::load::Bytes;
 use call_answer::{Done, Said};
 use call_ask::Source;
 use call_lint::{Names, Outcome, lint_line, lint_study};
+use call_load::Bytes;
 use model_line::Memory;
 use std::alloc::Global;
 

@@ -1,14 +1,15 @@
 //! A map of one setting or two.
 
 ghost use Rattle.std.specs.Option.{option_copied};
-ghost use Rattle.call_study.specs.{Answers.answer_by, Ends.Gives, Loaded.given_of};
-ghost use Rattle.call_study.specs.Reading.{map_of as map_over};
+ghost use Rattle.call_study.specs.{Answers.answer_by, Ends.Gives};
+ghost use Rattle.call_load.specs.Loaded.{given_of};
+ghost use Rattle.call_load.specs.Reading.{map_of as map_over};
 
-use crate::halt::Halt;
-use crate::load::{Bytes, load};
 use crate::read::at_most;
 use call_answer::Said;
-use call_map::{MapAsk, map_of};
+use call_ask::MapAsk;
+use call_load::{Bytes, Halt, load};
+use call_map::map_of;
 use std::alloc::Global;
 
 /// Over which numbers of one setting or two each obligation is held.

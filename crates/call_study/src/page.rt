@@ -1,12 +1,12 @@
 //! The page of a study.
 
-ghost use Rattle.call_study.specs.{Answers.answer_by, Ends.Gives, Loaded.given_of};
-ghost use Rattle.call_study.specs.Reading.{page_of};
+ghost use Rattle.call_study.specs.{Answers.answer_by, Ends.Gives};
+ghost use Rattle.call_load.specs.Loaded.{given_of};
+ghost use Rattle.call_load.specs.Reading.{page_of};
 
-use crate::halt::Halt;
-use crate::load::{Bytes, load};
 use crate::read::at_most;
 use call_answer::Said;
+use call_load::{Bytes, Halt, load};
 use call_page::{Asked, page_said};
 use std::alloc::Global;
 

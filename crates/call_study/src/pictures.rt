@@ -7,12 +7,12 @@ ghost use Rattle.call_study.specs.Pictures.{IsBandsText, IsDataText, IsDumpText,
 ghost use Rattle.base_markup.specs.Content.{IsContent};
 ghost use Rattle.model_timing.specs.{Inside.IsTimingInside, NamedValues.values_of};
 
-use draw_diagram::{Rows, every_choice_waves, history_diagram, play_diagram};
+use draw_diagram::{every_choice_waves, history_diagram, play_diagram};
 use draw_dump::{play_waves, vcd_text};
 use draw_layout::{Subject, draw};
-use draw_shapes::svg;
-use file_event::data_text;
-use judge_interval::analyse;
+use draw_shapes::{Rows, svg};
+use file_recorded::data_text;
+use judge_verdict::analyse;
 use model_line::laws::deadlines_are_below_the_horizon;
 use model_line::{Line, Memory, Script};
 use model_logic::laws::{each_choice_has_one_history, each_line_has_a_choice_inside};

@@ -4,20 +4,19 @@ ghost use Rattle.std.specs.Prelude.{◌≡◌};
 ghost use Rattle.call_answer.specs.Sinks.{sink_view};
 ghost use Rattle.call_study.specs.Answers.{answer_by, answer_over};
 ghost use Rattle.call_study.specs.{Clauses.Clauses, Ends.EndsOf, Ends.Fetched};
-ghost use Rattle.call_study.specs.{Halts.IsDone, Halts.IsEarly, Loaded.source_in};
-ghost use Rattle.call_study.specs.Reading.{over_further};
-ghost use Rattle.call_study.specs.Request.{files_beside, files_of, request_of};
+ghost use Rattle.call_load.specs.{Halts.IsDone, Halts.IsEarly, Loaded.source_in};
+ghost use Rattle.call_load.specs.Reading.{over_further};
+ghost use Rattle.call_load.specs.Request.{files_beside, files_of, request_of};
 
 use crate::explain::{Explaining, explain};
-use crate::halt::{Halt, put_halt};
 use crate::linted::lint_said;
-use crate::load::Bytes;
 use crate::map::map;
 use crate::page::page;
 use crate::read::{bands, play, recheck, table, timings};
 use base_store::{Sink, Store, put_all};
 use call_answer::{Done, Said};
 use call_ask::{Ask, Source, Work};
+use call_load::{Bytes, Halt, put_halt};
 use call_pilot::{File, fetch_file};
 use std::alloc::Global;
 

@@ -6,8 +6,8 @@ use Rattle.std.proofs.lemmas.List.FromFn.{length-map-range_with_len, map-range_w
 use Rattle.std.specs.List.{range_with_len}
 use Rattle.model_line.specs.{declared.line.Line.Line, declared.script.Script.Script}
 use Rattle.cert_text.specs.{Grammar.end_text, Text.fed}
-use Rattle.cert_settle_text.specs.Grammar.{SettleResult, head_text}
-use Rattle.cert_settle_text.specs.Text.{part_text, parts_text, settle_text}
+use Rattle.cert_settle.specs.Grammar.{SettleResult, head_text}
+use Rattle.cert_settle.specs.Text.{part_text, parts_text, settle_text}
 
 module _ (line : Line) (scripts : List Script) (of : ℕ → List SettleResult) where
   -- the head and the parts of the first scripts

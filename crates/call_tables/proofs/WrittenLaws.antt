@@ -20,12 +20,12 @@ use Rattle.judge_settle.specs.declared.answer.Answer.TheVariants.{Held, Fails, O
 use Rattle.cert_text.specs.Grammar.{AreNumbers}
 use Rattle.cert_check.specs.{Counts.are_counts, Counts.counts_in, Scripts.EachBelow}
 use Rattle.cert_check.specs.declared.counts.Counts.{Counts}
-use Rattle.cert_settle_text.specs.Grammar.{SettleResult, IsSettleResult, HasOneEach, IsSettleText}
-use Rattle.cert_settle_text.specs.Text.{settle_text}
-use Rattle.cert_settle_check.specs.Check.{IsAccepted}
-use Rattle.cert_settle_check.specs.Counts.{all_verdicts}
-use Rattle.cert_settle_check.specs.Results.{IsSupported, AreSupported}
-use Rattle.cert_settle_check.specs.Timings.{IsRefutation}
+use Rattle.cert_settle.specs.Grammar.{SettleResult, IsSettleResult, HasOneEach, IsSettleText}
+use Rattle.cert_settle.specs.Text.{settle_text}
+use Rattle.cert_settle.specs.Check.{IsAccepted}
+use Rattle.cert_settle.specs.Counts.{all_verdicts}
+use Rattle.cert_settle.specs.Results.{IsSupported, AreSupported}
+use Rattle.cert_settle.specs.Timings.{IsRefutation}
 use Rattle.call_tables.specs.declared.row.Row.{Row}
 use Rattle.call_tables.specs.{Rows.AreRows, Written.rows_of, Written.result_of}
 use Rattle.call_tables.specs.Written.{results_of, results_by_script, trees_text}

@@ -1,7 +1,7 @@
 -- What the command `margins` answers.
 use Rattle.std.specs.Prelude.{◌≡◌, ℕ, List, [], ◌∷◌, length}
 use Rattle.model_line.specs.{declared.line.Line.Line, declared.script.Script.Script}
-use Rattle.judge_margin.specs.declared.upper_end.Lost.{Lost}
+use Rattle.judge_report.specs.declared.upper_end.Lost.{Lost}
 use Rattle.judge_margins.specs.{Ends.AreEnds, MarginsText.margins_rows, Today.AreToday}
 use Rattle.judge_margins.specs.declared.end.End.{End}
 use Rattle.call_answer.specs.{Answers.Answers, declared.done.Done.Done}

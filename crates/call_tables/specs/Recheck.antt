@@ -2,9 +2,9 @@
 -- fault.
 use Rattle.std.specs.Prelude.{◌∷◌, ℕ, List, [], codes, decimal}
 use Rattle.model_line.specs.{declared.line.Line.Line, declared.script.Script.Script}
-use Rattle.cert_settle_check.specs.Check.{IsAccepted, IsSettleFault}
-use Rattle.cert_settle_check.specs.declared.fault.SettleFault.{SettleFault}
-use Rattle.cert_settle_check.specs.declared.fault.SettleFault.TheVariants as fault
+use Rattle.cert_settle.specs.Check.{IsAccepted, IsSettleFault}
+use Rattle.cert_settle.specs.declared.fault.SettleFault.{SettleFault}
+use Rattle.cert_settle.specs.declared.fault.SettleFault.TheVariants as fault
 use Rattle.call_answer.specs.Checked.{line_pieces, outside_pieces, passes_pieces, place}
 use Rattle.call_answer.specs.{Checked.IsCheckedText, Answers.Answers}
 

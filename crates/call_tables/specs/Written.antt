@@ -10,8 +10,8 @@ use Rattle.file_timing.specs.Timings.{timings_in}
 use Rattle.judge_settle.specs.declared.answer.Answer.{Answer}
 use Rattle.judge_settle.specs.declared.answer.Answer.TheVariants.{Held, Fails, Open}
 use Rattle.judge_settle.specs.Trees.{IsFailing}
-use Rattle.cert_settle_text.specs.Grammar.{SettleResult, tree, fails}
-use Rattle.cert_settle_text.specs.Text.{settle_text}
+use Rattle.cert_settle.specs.Grammar.{SettleResult, tree, fails}
+use Rattle.cert_settle.specs.Text.{settle_text}
 use Rattle.call_tables.specs.declared.row.Row.{Row}
 
 -- the rows of script s, as many as terminals, in line order

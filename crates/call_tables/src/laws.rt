@@ -5,15 +5,15 @@ ghost use Rattle.std.specs.List.{All};
 ghost use Rattle.model_line.specs.{Fits.Fits, declared.line.Line.Line};
 ghost use Rattle.model_line.specs.declared.script.Script.{Script};
 ghost use Rattle.cert_check.specs.declared.counts.Counts.{Counts};
-ghost use Rattle.cert_settle_text.specs.Grammar.{HasOneEach};
-ghost use Rattle.cert_settle_check.specs.Check.{IsAccepted};
+ghost use Rattle.cert_settle.specs.Grammar.{HasOneEach};
+ghost use Rattle.cert_settle.specs.Check.{IsAccepted};
 ghost use Rattle.file_timing.specs.Printed.{AreOfOneFile, MayStand};
 ghost use Rattle.call_tables.specs.Rows.{AreRows};
 ghost use Rattle.call_tables.specs.declared.row.Row.{Row};
 ghost use Rattle.call_tables.specs.Written.{results_of, rows_of, trees_text, failing_timings};
 ghost use Rattle.call_tables.specs.Written.{FailsWhereNamed};
 
-use cert_settle_text::printed_results_are_a_settle_text;
+use cert_settle::printed_results_are_a_settle_text;
 use model_line::laws::{deadlines_are_below_the_horizon, declared_intervals_are_in_order};
 use model_logic::laws::{each_choice_has_one_history, each_line_has_a_choice_inside};
 use model_timing::timings_inside_are_choices_inside;

@@ -2,7 +2,8 @@
 
 ghost use Rattle.std.specs.Prelude.{◌<◌, ◌*◌, length, IfOk};
 ghost use Rattle.model_line.specs.Parameters.{terminal_count};
-ghost use Rattle.call_tables.specs.Rows.{AreRows, IsAnyStudy, IsRow};
+ghost use Rattle.call_tables.specs.Rows.{AreRows, IsRow};
+ghost use Rattle.call_answer.specs.Study.{IsAnyStudy};
 
 use crate::row::Row;
 use call_answer::Study;

@@ -4,7 +4,8 @@ ghost use Rattle.std.specs.Prelude.{◌≡◌, IfOk};
 ghost use Rattle.std.specs.List.{list_any};
 ghost use Rattle.call_answer.specs.{Answers.Says, Answers.status_by};
 ghost use Rattle.call_tables.specs.Table.{is_failing as row_fails, is_open as row_is_open};
-ghost use Rattle.call_tables.specs.{Rows.AreRows, Rows.IsAnyStudy, Settled.settle_answer, Settled.IsTableOf};
+ghost use Rattle.call_tables.specs.{Rows.AreRows, Settled.settle_answer, Settled.IsTableOf};
+ghost use Rattle.call_answer.specs.Study.{IsAnyStudy};
 
 use crate::row::Row;
 use crate::rows::settle_all;

@@ -3,9 +3,9 @@
 ghost use Rattle.std.specs.Prelude.{◌≡◌, ◌≤◌, ◌<◌, ◌+◌, ◌*◌, ◌++◌, length, map, IfOk, OnOk};
 ghost use Rattle.model_line.specs.Parameters.{terminal_count};
 ghost use Rattle.cert_check.specs.declared.counts.Counts.{Counts};
-ghost use Rattle.cert_settle_text.specs.{Grammar.HasOneEach, Grammar.fails, Text.part_text};
-ghost use Rattle.cert_settle_text.specs.Reading.{result_in};
-ghost use Rattle.cert_settle_check.specs.Check.{IsAccepted};
+ghost use Rattle.cert_settle.specs.{Grammar.HasOneEach, Grammar.fails, Text.part_text};
+ghost use Rattle.cert_settle.specs.Reading.{result_in};
+ghost use Rattle.cert_settle.specs.Check.{IsAccepted};
 ghost use Rattle.call_answer.specs.Study.{IsStudy};
 ghost use Rattle.call_tables.specs.{Rows.AreRows, Written.result_of, Written.results_of};
 ghost use Rattle.call_tables.specs.Written.{rows_of as rows_of_script, trees_text};
@@ -13,7 +13,7 @@ ghost use Rattle.call_tables.specs.Written.{rows_of as rows_of_script, trees_tex
 use crate::laws::{rows_are_printable, what_settle_writes_is_accepted};
 use crate::row::Row;
 use call_answer::Study;
-use cert_settle_text::{
+use cert_settle::{
     SETTLE_END, SETTLE_HEAD, TreeClaim, a_settle_text_grows_by_parts,
     a_settle_text_has_a_head_and_an_end, settle_piece,
 };

@@ -2,11 +2,11 @@
 
 use crate::table::{KIT, PROGRAM};
 use base_store::number;
-use call_ask::{Ask, Form, RecordsAsk, RecordsWork, Source, Table, Work};
-use call_explain::ExplainForm;
-use call_map::{MapAsk, MapForm};
+use call_ask::{
+    Ask, ExplainForm, Form, MapAsk, MapForm, RecordsAsk, RecordsWork, Source, Table, Work,
+};
 use clap::ArgMatches;
-use draw_diagram::Rows;
+use draw_shapes::Rows;
 
 /// What the words ask for, and the file that it is written to, if not standard output.
 #[derive(Clone, Copy)]

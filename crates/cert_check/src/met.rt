@@ -7,8 +7,7 @@ ghost use Rattle.run_waves.specs.FirstTick.{IsFirstOn};
 ghost use Rattle.cert_check.specs.Refutations.{IsMetAt};
 
 use model_line::{Kind, Script};
-use run_channel::Track;
-use run_signal::{Level, Signal};
+use run_signal::{Level, Signal, Track};
 
 /// The tick that shows that the obligation of a script is met by this trip, over so many ticks, if it
 /// is.

@@ -20,7 +20,7 @@ use Rattle.cert_text.specs.Text.{CanBeWritten}
 use Rattle.judge_verdict.specs.declared.verdict.Verdict.TheVariants.{Yes, No, Undecided}
 use Rattle.judge_verdict.specs.Verdicts.{AreKeys, AreVerdicts, IsVerdict, IsRefuted}
 use Rattle.judge_verdict.specs.declared.verdict.Verdict.{Verdict}
-use Rattle.cert_part.specs.Piece.{claims_of, written_as}
+use Rattle.cert_own.specs.Piece.{claims_of, written_as}
 use Rattle.cert_check.specs.Verdicts.{AreAccepted, IsSupported, derived_trip}
 use Rattle.cert_check.specs.{Claims.pairs_of, Refutations.IsRefutation}
 use Rattle.cert_own.specs.Known.{Known}

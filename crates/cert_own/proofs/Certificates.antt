@@ -10,7 +10,7 @@ use Rattle.run_signal.specs.declared.tern.Tern.{Tern}
 use Rattle.cert_text.specs.Grammar.{Claims, IsCertificate, Verdict as Written}
 use Rattle.cert_text.specs.Text.{CanBeWritten, certificate_text, part_text, parts_text}
 use Rattle.judge_verdict.specs.declared.verdict.Verdict.{Verdict}
-use Rattle.cert_part.specs.Piece.{claims_of, written_as}
+use Rattle.cert_own.specs.Piece.{claims_of, written_as}
 use Rattle.cert_check.specs.{declared.counts.Counts.Counts, declared.fault.CheckFault.CheckFault}
 use Rattle.cert_check.specs.declared.fault.CheckFault.TheVariants as wrong
 use Rattle.cert_check.specs.Check.{IsAccepted, IsCheckFault}

@@ -1,3 +1,4 @@
+pub mod ListLaws
 pub mod Lists
 pub mod Obligations
 pub mod KeyLists
@@ -13,3 +14,8 @@ mod MadeLines
 mod EachVerdict
 mod EachSearch
 mod EachOutcome
+pub mod Truth
+pub mod CertificateLines
+pub mod Statuses
+pub mod MatchLines
+pub mod MatchStatuses

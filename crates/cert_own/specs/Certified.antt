@@ -6,7 +6,7 @@ use Rattle.model_logic.specs.Histories.{PairHistory, IsPairHistory}
 use Rattle.model_logic.specs.Choice.{declared_box}
 use Rattle.cert_text.specs.Grammar.{Claims}
 use Rattle.judge_verdict.specs.declared.verdict.Verdict.{Verdict}
-use Rattle.cert_part.specs.Piece.{written_as}
+use Rattle.cert_own.specs.Piece.{written_as}
 use Rattle.judge_verdict.specs.Verdicts.{AreKeys, AreVerdicts}
 
 -- the claims are the keys of the interval history over the declared intervals and the verdict of

@@ -1,4 +1,10 @@
+pub mod Piece
 pub mod Known
 pub mod Written
 pub mod Certified
 pub mod Searched
+pub mod WholeLines
+pub mod Obligations
+pub mod Printed
+pub mod Matched
+pub mod LineLaws

@@ -1,2 +1,2 @@
 -- Verdicts as they are written, and what keys and verdicts claim, passed on from the certifier.
-pub use Rattle.cert_part.specs.Piece.{claims_of, written_as}
+pub use Rattle.cert_own.specs.Piece.{claims_of, written_as}

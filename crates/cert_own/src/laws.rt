@@ -10,7 +10,7 @@ ghost use Rattle.model_logic.specs.Choice.{declared_box};
 ghost use Rattle.cert_text.specs.Grammar.{Claims, IsCertificate};
 ghost use Rattle.cert_text.specs.Text.{CanBeWritten, certificate_text, part_text, parts_text};
 ghost use Rattle.judge_verdict.specs.declared.verdict.Verdict.{Verdict};
-ghost use Rattle.cert_part.specs.Piece.{claims_of};
+ghost use Rattle.cert_own.specs.Piece.{claims_of};
 ghost use Rattle.judge_verdict.specs.Verdicts.{AreKeys, AreVerdicts};
 ghost use Rattle.cert_check.specs.declared.counts.Counts.{Counts};
 ghost use Rattle.cert_check.specs.declared.fault.CheckFault.{CheckFault};

@@ -10,7 +10,8 @@ use Rattle.model_timing.specs.declared.step.Step.{Step}
 use Rattle.draw_roles.specs.declared.role.Role.{Role}
 use Rattle.draw_roles.specs.declared.role.Role.TheVariants as role
 use Rattle.draw_diagram.specs.DelaySteps.{delay_steps, marks_of, role_marks, tick_of_step}
-use Rattle.draw_diagram.specs.declared.{drawn.Rows.Rows, trace.Trace.Trace}
+use Rattle.draw_shapes.specs.declared.rows.Rows.{Rows}
+use Rattle.draw_diagram.specs.declared.trace.Trace.{Trace}
 use Rattle.draw_diagram.specs.declared.trace.Trace.TheVariants.{Seen, Lost, Logic, Key, Trip}
 use Rattle.model_history.specs.Rails.{Rails}
 use Rattle.model_line.specs.declared.script.Script.{Script}

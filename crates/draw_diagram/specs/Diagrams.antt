@@ -7,13 +7,14 @@ use Rattle.model_line.specs.Parameters.{terminal_count}
 use Rattle.net_gates.specs.declared.gate.Gate.{Gate}
 use Rattle.model_timing.specs.declared.step.Step.{Step}
 use Rattle.draw_diagram.specs.{declared.diagram.Diagram.Diagram, declared.rows.Row.Row}
-use Rattle.draw_diagram.specs.{declared.drawn.Rows.Rows, DelaySteps.marks_of, Drawn.is_drawn}
+use Rattle.draw_shapes.specs.declared.rows.Rows.{Rows}
+use Rattle.draw_diagram.specs.{DelaySteps.marks_of, Drawn.is_drawn}
 use Rattle.draw_diagram.specs.{declared.trace.Trace.Trace, Stretches.AreStretches}
 use Rattle.draw_diagram.specs.{Times.trip_times_of, Times.is_begun, Traces.traces_of}
 use Rattle.draw_diagram.specs.Traces.{ShownPairs}
 use Rattle.draw_diagram.specs.{Traces.trace_pair, Windows.Holds, Windows.IsShown}
 use Rattle.run_waves.specs.FirstTick.{first_on}
-use Rattle.judge_report.specs.Margin.{deadline_of}
+use Rattle.judge_report.specs.Deadlines.{deadline_of}
 
 abbrev pub trace_of : Row → Trace
 trace_of row = row.trace

@@ -3,8 +3,9 @@ use Rattle.std.specs.Prelude.{◌||◌, ℕ, Bool, true, false, not, List, [], �
 use Rattle.std.specs.List.{list_any}
 use Rattle.run_signal.specs.declared.tern.Tern.{Tern}
 use Rattle.run_signal.specs.declared.tern.Tern.TheVariants as tern
-use Rattle.draw_diagram.specs.declared.{drawn.Rows.Rows, stretch.Stretch.Stretch, trace.Trace.Trace}
-use Rattle.draw_diagram.specs.declared.drawn.Rows.TheVariants as rows
+use Rattle.draw_shapes.specs.declared.rows.Rows.{Rows}
+use Rattle.draw_diagram.specs.declared.{stretch.Stretch.Stretch, trace.Trace.Trace}
+use Rattle.draw_shapes.specs.declared.rows.Rows.TheVariants as rows
 use Rattle.draw_diagram.specs.declared.trace.Trace.TheVariants.{Seen, Lost, Logic, Key, Trip}
 
 abbrev pub is_off : Tern → Bool

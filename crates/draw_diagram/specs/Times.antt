@@ -8,7 +8,7 @@ use Rattle.model_line.specs.{declared.script.SeenSpan.SeenSpan, declared.script.
 use Rattle.model_line.specs.declared.script.What.TheVariants as what
 use Rattle.draw_diagram.specs.declared.times.TripTimes.{TripTimes}
 use Rattle.run_waves.specs.FirstTick.{first_on}
-use Rattle.judge_report.specs.Margin.{margin_of}
+use Rattle.judge_report.specs.Deadlines.{margin_of}
 
 -- the times of a trip with these pairs
 abbrev pub trip_times_of : Script → ℕ → (ℕ → Rails) → TripTimes

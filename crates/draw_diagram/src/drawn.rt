@@ -6,16 +6,8 @@ ghost use Rattle.draw_diagram.specs.Drawn.{is_shown, tells};
 
 use crate::stretch::Stretch;
 use crate::trace::Trace;
+use draw_shapes::Rows;
 use run_signal::Tern;
-
-/// Which rows a diagram draws: those that tell of something, or all. What the script shows tells
-/// where it is on at some tick, a gate of the logic where it changes or has a mark, a key and a trip
-/// always.
-#[derive(Clone, Copy)]
-pub enum Rows {
-    Changing,
-    All,
-}
 
 /// Whether a row of these stretches and marks is drawn.
 pub fn is_drawn(which: Rows, trace: Trace, stretches: &[Stretch], marks: &[u32]) -> bool

@@ -18,7 +18,7 @@ mod window;
 
 pub use delay_steps::marks_are_steps_of_delays;
 pub use diagram::{Diagram, history_diagram, play_diagram};
-pub use drawn::{Rows, has_marks, is_off};
+pub use drawn::{has_marks, is_off};
 pub use every_choice::every_choice_waves;
 pub use rows::Row;
 pub use shown::Shown;

@@ -7,10 +7,11 @@ ghost use Rattle.draw_diagram.specs.Diagrams.{IsMarkedRow, trace_of};
 ghost use Rattle.draw_diagram.specs.Traces.{traces_of, IsTraceOf};
 
 use crate::delay_steps::marks;
-use crate::drawn::{Rows, is_drawn};
+use crate::drawn::is_drawn;
 use crate::shown::Shown;
 use crate::stretch::{Stretch, stretches};
 use crate::trace::{Trace, traces};
+use draw_shapes::Rows;
 use model_line::{Line, Memory, Script};
 use model_timing::Step;
 use net_gates::Net;

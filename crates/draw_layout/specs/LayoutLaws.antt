@@ -6,7 +6,8 @@ use Rattle.net_gates.specs.declared.gate.Gate.{Gate}
 use Rattle.draw_diagram.specs.Traces.{ShownPairs}
 use Rattle.draw_diagram.specs.{declared.diagram.Diagram.Diagram, Diagrams.IsDiagramOf}
 use Rattle.draw_diagram.specs.{Traces.trace_pair, Windows.Holds}
-use Rattle.draw_diagram.specs.declared.{drawn.Rows.Rows, rows.Row.Row}
+use Rattle.draw_diagram.specs.declared.rows.Row.{Row}
+use Rattle.draw_shapes.specs.declared.rows.Rows.{Rows}
 use Rattle.model_timing.specs.declared.step.Step.{Step}
 use Rattle.draw_layout.specs.declared.scale.Scale.{Scale}
 use Rattle.draw_layout.specs.{Covered.ShowsTick, Drawings.row_drawn, Drawings.rows_drawn}

@@ -2,8 +2,8 @@
 use Rattle.std.specs.Prelude.{◌++◌, ◌-◌, ℕ, Bool, true, false, List, [], ◌∷◌, min, max, Option}
 use Rattle.std.specs.Prelude.{Some, None, slice_get}
 use Rattle.model_line.specs.declared.line.Line.{Line}
-use Rattle.judge_interval.specs.{declared.rule.Rule.Rule, Rules.rule_named}
-use Rattle.judge_interval.specs.declared.rule.Rule.TheVariants as rule
+use Rattle.judge_verdict.specs.{declared.rule.Rule.Rule, Rules.rule_named}
+use Rattle.judge_verdict.specs.declared.rule.Rule.TheVariants as rule
 use Rattle.draw_diagram.specs.{declared.diagram.Diagram.Diagram, declared.times.TripTimes.TripTimes}
 use Rattle.draw_layout.specs.declared.scale.Scale.{Scale}
 use Rattle.judge_report.specs.ReportText.{rule_word}

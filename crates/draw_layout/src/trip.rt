@@ -12,8 +12,8 @@ use crate::scale::{RIGHT, Scale, x_of};
 use crate::words::Words;
 use draw_diagram::{Diagram, TripTimes};
 use draw_shapes::{Class, Figure, put_line, put_text, put_words};
-use judge_interval::Rule;
 use judge_report::rule_word;
+use judge_verdict::Rule;
 use model_line::{Line, Memory};
 use std::alloc::Global;
 

@@ -5,7 +5,7 @@ use Rattle.std.specs.Prelude.{nat_le, if◌then◌else◌}
 use Rattle.std.specs.List.{list_all}
 use Rattle.model_line.specs.{declared.line.Line.Line, declared.script.Script.Script}
 use Rattle.model_line.specs.Parameters.{declared_ends}
-use Rattle.judge_interval.specs.declared.rule.Rule.{Rule}
+use Rattle.judge_verdict.specs.declared.rule.Rule.{Rule}
 use Rattle.judge_map.specs.{declared.axis.Axis.Axis, declared.axis.Axes.Axes}
 use Rattle.judge_map.specs.declared.cell.Cell.{Cell}
 use Rattle.judge_map.specs.Axes.{column_count, count_along, least_at, rows_of}

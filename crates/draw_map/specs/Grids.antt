@@ -5,7 +5,7 @@ use Rattle.model_line.specs.{declared.line.Line.Line, declared.script.Script.Scr
 use Rattle.model_line.specs.Parameters.{terminal_count}
 use Rattle.judge_map.specs.{declared.axis.Axis.Axis, declared.axis.Axes.Axes}
 use Rattle.judge_map.specs.{declared.cell.Cell.Cell, Axes.count_along}
-use Rattle.draw_grid.specs.declared.{grid.Grid.Grid, grid.Ruler.Ruler}
+use Rattle.draw_shapes.specs.declared.{grid.Grid.Grid, grid.Ruler.Ruler}
 use Rattle.draw_map.specs.{Beyond.beyond_said, Beyond.least_of, Words.cell_seen, Words.cells_shown}
 
 abbrev pub and_second : Option Axis → List ℕ → List ℕ

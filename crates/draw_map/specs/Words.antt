@@ -6,9 +6,9 @@ use Rattle.judge_map.specs.{declared.cell.Cell.Cell, declared.cell.Word.Word}
 use Rattle.judge_map.specs.declared.cell.Word.TheVariants as word
 use Rattle.judge_map.specs.{Axes.least_at, Axes.rows_of, Cells.lost_of, Cells.word_of}
 use Rattle.judge_map.specs.MapText.{obligations_said, word_said}
-use Rattle.draw_grid.specs.declared.{grid.GridCell.GridCell, grid.Look.Look}
-use Rattle.draw_grid.specs.declared.grid.Look.TheVariants as look
-use Rattle.draw_grid.specs.Numbers.{milliseconds_said}
+use Rattle.draw_shapes.specs.declared.{grid.GridCell.GridCell, grid.Look.Look}
+use Rattle.draw_shapes.specs.declared.grid.Look.TheVariants as look
+use Rattle.draw_shapes.specs.Numbers.{milliseconds_said}
 
 -- ticks in milliseconds
 abbrev pub ms_said : Line → ℕ → List ℕ

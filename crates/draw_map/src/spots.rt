@@ -7,7 +7,7 @@ ghost use Rattle.draw_map.specs.Words.{cell_seen, cell_shown, cells_shown, look_
 
 use crate::map::Map;
 use crate::words::cell_words;
-use draw_grid::{GridCell, Look};
+use draw_shapes::{GridCell, Look};
 use judge_map::{Cell, Word};
 use model_line::Memory;
 use std::alloc::Global;

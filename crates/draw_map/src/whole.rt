@@ -2,7 +2,7 @@
 
 ghost use Rattle.std.specs.Prelude.{◌≡◌, ◌≤◌, ◌*◌, ◌++◌, IfOk, OnOk, length, option_map};
 ghost use Rattle.judge_map.specs.Axes.{IsAxis, IsSecond, rows_of};
-ghost use Rattle.draw_grid.specs.Scale.{IsGrid, IsRuler, IsSecondRuler, row_count};
+ghost use Rattle.draw_shapes.specs.Scale.{IsGrid, IsRuler, IsSecondRuler, row_count};
 ghost use Rattle.draw_map.specs.Beyond.{least_of};
 ghost use Rattle.draw_map.specs.Grids.{IsGridOf, IsRulerOf, IsSecondOf, and_second, note_said};
 ghost use Rattle.draw_map.specs.Grids.{title_said};
@@ -12,7 +12,7 @@ use crate::beyond::beyond;
 use crate::declared::least;
 use crate::map::Map;
 use crate::spots::spots;
-use draw_grid::{Grid, Ruler};
+use draw_shapes::{Grid, Ruler};
 use itoa::Buffer;
 use judge_map::Axis;
 use model_line::{Line, Memory, Script};

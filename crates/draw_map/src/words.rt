@@ -5,7 +5,7 @@ ghost use Rattle.judge_map.specs.Axes.{AreAxes, IsSecond, cell_count, rows_of};
 ghost use Rattle.draw_map.specs.Words.{cell_said, lost_said, ms_said, point_said, row_said};
 
 use crate::map::Map;
-use draw_grid::milliseconds;
+use draw_shapes::milliseconds;
 use judge_map::{Axis, Cell, obligations_text, word_of};
 use model_line::{Line, Memory, Script};
 use std::alloc::Global;

@@ -2,8 +2,8 @@
 use Rattle.std.specs.Prelude.{◌+◌, ◌-◌, ◌*◌, ◌/◌, ◌++◌, ℕ, List, [], ◌∷◌, codes, min, max}
 use Rattle.draw_shapes.specs.declared.class.Class.TheVariants as class
 use Rattle.draw_shapes.specs.Seen.{SeenDrawing, SeenFigure, line, rectangle, plain}
-use Rattle.draw_elements.specs.declared.page.Time.{Time}
-use Rattle.draw_elements.specs.Words.{interval_said}
+use Rattle.draw_page.specs.declared.page.Time.{Time}
+use Rattle.draw_page.specs.Words.{interval_said}
 
 -- the greatest declared end, 1 at least
 abbrev pub greatest_end : List Time → ℕ

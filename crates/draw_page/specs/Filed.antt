@@ -3,11 +3,11 @@ use Rattle.std.specs.Prelude.{◌++◌, ℕ, List, [], ◌∷◌, codes}
 use Rattle.std.specs.List.{flat_map}
 use Rattle.base_html.specs.declared.tag.Tag.TheVariants as tag
 use Rattle.base_html.specs.Words.{words_text}
-use Rattle.draw_elements.specs.declared.anchor.Anchor.TheVariants as anchor
-use Rattle.draw_elements.specs.declared.page.{Page.Page, Digest.Digest, FileText.FileText}
-use Rattle.draw_elements.specs.Bare.{bare_cell_html}
-use Rattle.draw_elements.specs.Elements.{columns_html, head_cell_html, plain_html}
-use Rattle.draw_elements.specs.Elements.{section_html, table_html, words_in_html}
+use Rattle.draw_page.specs.declared.anchor.Anchor.TheVariants as anchor
+use Rattle.draw_page.specs.declared.page.{Page.Page, Digest.Digest, FileText.FileText}
+use Rattle.draw_page.specs.Bare.{bare_cell_html}
+use Rattle.draw_page.specs.Elements.{columns_html, head_cell_html, plain_html}
+use Rattle.draw_page.specs.Elements.{section_html, table_html, words_in_html}
 
 unfoldable pub hash_row_html : List ℕ → List ℕ → List ℕ
 hash_row_html name sha256 =

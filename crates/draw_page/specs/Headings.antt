@@ -6,11 +6,11 @@ use Rattle.std.specs.List.{flat_map}
 use Rattle.base_html.specs.declared.tag.Tag.TheVariants as tag
 use Rattle.base_html.specs.declared.attribute.Key.TheVariants as key
 use Rattle.base_html.specs.Content.{element_text}
-use Rattle.draw_elements.specs.declared.anchor.Anchor.{Anchor}
-use Rattle.draw_elements.specs.declared.anchor.Anchor.TheVariants as anchor
-use Rattle.draw_elements.specs.declared.page.{Page.Page, Counts.Counts, LeastMargin.LeastMargin}
-use Rattle.draw_elements.specs.Elements.{plain_html, classed_html, words_in_html, said_in_html, link_html}
-use Rattle.draw_elements.specs.Words.{ticks_text, time_said}
+use Rattle.draw_page.specs.declared.anchor.Anchor.{Anchor}
+use Rattle.draw_page.specs.declared.anchor.Anchor.TheVariants as anchor
+use Rattle.draw_page.specs.declared.page.{Page.Page, Counts.Counts, LeastMargin.LeastMargin}
+use Rattle.draw_page.specs.Elements.{plain_html, classed_html, words_in_html, said_in_html, link_html}
+use Rattle.draw_page.specs.Words.{ticks_text, time_said}
 
 -- ---- what it is of
 

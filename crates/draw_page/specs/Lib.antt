@@ -1,3 +1,13 @@
+pub mod Words
+pub mod Elements
+pub mod Bare
+pub mod Badges
+pub mod Figures
+pub mod Matrices
+pub mod Choices
+pub mod Opens
+pub mod Sweeps
+pub mod Faults
 pub mod Sheets
 pub mod Headings
 pub mod Bars

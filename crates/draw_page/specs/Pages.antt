@@ -4,14 +4,14 @@ use Rattle.base_html.specs.declared.tag.Tag.TheVariants as tag
 use Rattle.base_html.specs.declared.tag.Void.TheVariants as void
 use Rattle.base_html.specs.declared.attribute.Key.TheVariants as key
 use Rattle.base_html.specs.Content.{document_text, void_text}
-use Rattle.draw_elements.specs.declared.page.Page.{Page}
-use Rattle.draw_elements.specs.Elements.{plain_html, words_in_html}
+use Rattle.draw_page.specs.declared.page.Page.{Page}
+use Rattle.draw_page.specs.Elements.{plain_html, words_in_html}
 use Rattle.draw_page.specs.Headings.{header_html}
-use Rattle.draw_faults.specs.{Matrices.matrix_html, Choices.failing_html}
-use Rattle.draw_faults.specs.{Opens.open_html, Faults.faults_html}
+use Rattle.draw_page.specs.{Matrices.matrix_html, Choices.failing_html}
+use Rattle.draw_page.specs.{Opens.open_html, Faults.faults_html}
 use Rattle.draw_page.specs.{Times.times_html, Filed.files_html}
 use Rattle.draw_page.specs.{Signing.signing_html, Sheets.sheet_html}
-use Rattle.draw_elements.specs.Figures.{patterns_html}
+use Rattle.draw_page.specs.Figures.{patterns_html}
 
 abbrev pub charset_html : List ℕ
 charset_html = void_text void.Meta ((key.Charset, codes "utf-8") ∷ [])

@@ -7,7 +7,7 @@ use Rattle.draw_shapes.specs.declared.class.TheConstants.{CLASSES}
 use Rattle.draw_page.specs.declared.style.TheConstants.{DRAWINGS, MARKS, NARROW, PRINT, TABLES, TEXT}
 use Rattle.draw_page.specs.declared.style.Part.{Part}
 use Rattle.draw_page.specs.declared.style.Part.TheVariants as part
-use Rattle.draw_elements.specs.Figures.{look_rule}
+use Rattle.draw_page.specs.Figures.{look_rule}
 
 unfoldable pub part_words : Part → List ℕ
 part_words part.Text = TEXT.now

@@ -1,9 +1,9 @@
 -- By what the page was made, and lines to sign.
 use Rattle.std.specs.Prelude.{◌++◌, ℕ, List, codes}
 use Rattle.base_html.specs.declared.tag.Tag.TheVariants as tag
-use Rattle.draw_elements.specs.declared.anchor.Anchor.TheVariants as anchor
-use Rattle.draw_elements.specs.declared.page.Page.{Page}
-use Rattle.draw_elements.specs.Elements.{classed_html, plain_html, section_html, words_in_html}
+use Rattle.draw_page.specs.declared.anchor.Anchor.TheVariants as anchor
+use Rattle.draw_page.specs.declared.page.Page.{Page}
+use Rattle.draw_page.specs.Elements.{classed_html, plain_html, section_html, words_in_html}
 
 unfoldable pub made_said : Page → List ℕ
 made_said page =

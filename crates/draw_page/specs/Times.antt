@@ -4,14 +4,14 @@ use Rattle.std.specs.declared.alloc.Global.{Global}
 use Rattle.std.specs.List.{flat_map}
 use Rattle.base_html.specs.declared.tag.Tag.TheVariants as tag
 use Rattle.base_html.specs.Words.{words_text}
-use Rattle.draw_elements.specs.declared.anchor.Anchor.TheVariants as anchor
-use Rattle.draw_elements.specs.declared.page.{Page.Page, Slack.Slack, Time.Time}
-use Rattle.draw_elements.specs.Bare.{bare_cell_html}
-use Rattle.draw_elements.specs.Elements.{cell_html, column_html, head_cell_html, number_cell_html}
-use Rattle.draw_elements.specs.Elements.{plain_html, said_in_html, section_html, table_html, words_in_html}
+use Rattle.draw_page.specs.declared.anchor.Anchor.TheVariants as anchor
+use Rattle.draw_page.specs.declared.page.{Page.Page, Slack.Slack, Time.Time}
+use Rattle.draw_page.specs.Bare.{bare_cell_html}
+use Rattle.draw_page.specs.Elements.{cell_html, column_html, head_cell_html, number_cell_html}
+use Rattle.draw_page.specs.Elements.{plain_html, said_in_html, section_html, table_html, words_in_html}
 use Rattle.draw_page.specs.{Bars.bar_drawing, Bars.reach_of}
-use Rattle.draw_elements.specs.Figures.{drawing_html}
-use Rattle.draw_elements.specs.Words.{interval_said, ticks_text, time_said}
+use Rattle.draw_page.specs.Figures.{drawing_html}
+use Rattle.draw_page.specs.Words.{interval_said, ticks_text, time_said}
 
 -- how far an end can move, and what is lost first beyond; any way where nothing is lost
 unfoldable pub lost_html : ℕ → ℕ → List ℕ → List ℕ

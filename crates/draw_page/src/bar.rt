@@ -4,7 +4,8 @@ ghost use Rattle.std.specs.Prelude.{◌≡◌, ◌≤◌, IfOk};
 ghost use Rattle.draw_shapes.specs.Seen.{drawing_seen};
 ghost use Rattle.draw_page.specs.Bars.{bar_drawing, bar_title, greatest_end, place_of, reach_of};
 
-use draw_elements::{Time, interval_words};
+use crate::page::Time;
+use crate::words::interval_words;
 use draw_shapes::{Class, Drawing, Shape, put_line, put_rectangle};
 use std::alloc::{AllocError, Global};
 

@@ -2,17 +2,18 @@
 
 ghost use Rattle.std.specs.Prelude.{◌≡◌, IfOk, codes};
 ghost use Rattle.base_html.specs.declared.tag.Tag.TheVariants as tag;
-ghost use Rattle.draw_elements.specs.Bare.{bare_cell_html};
-ghost use Rattle.draw_elements.specs.Elements.{words_in_html};
+ghost use Rattle.draw_page.specs.Bare.{bare_cell_html};
+ghost use Rattle.draw_page.specs.Elements.{words_in_html};
 ghost use Rattle.std.specs.List.{flat_map};
 ghost use Rattle.draw_page.specs.Filed.{digest_row_html, file_html, file_row_html, files_html};
 ghost use Rattle.draw_page.specs.Filed.{hash_row_html};
 
+use crate::anchor::Anchor;
+use crate::bare::bare_cell;
+use crate::elements::{columns, section, table, words_in};
+use crate::page::{Digest, FileText, Page};
+use crate::parts::{around, joined, row_head};
 use base_html::{Html, Tag};
-use draw_elements::{
-    Anchor, Digest, FileText, Page, around, bare_cell, columns, joined, row_head, section, table,
-    words_in,
-};
 use std::alloc::{AllocError, Global};
 
 /// The section of the files: the digests, and each file in a fold.

@@ -2,18 +2,19 @@
 
 ghost use Rattle.std.specs.Prelude.{◌≡◌, ◌++◌, IfOk, Some, codes};
 ghost use Rattle.base_html.specs.declared.tag.Tag.TheVariants as tag;
-ghost use Rattle.draw_elements.specs.Elements.{plain_html, said_in_html};
+ghost use Rattle.draw_page.specs.Elements.{plain_html, said_in_html};
 ghost use Rattle.draw_page.specs.Headings.{answer_links_html, contents_html, count_html};
 ghost use Rattle.draw_page.specs.Headings.{counts_html, failing_html, header_html, held_html};
 ghost use Rattle.draw_page.specs.Headings.{least_html, link_item_html, meaning_html, notes_html};
 ghost use Rattle.draw_page.specs.Headings.{other_links_html, subject_said, undecided_html};
 ghost use Rattle.draw_page.specs.Headings.{tile_class as class_of_tile, tile_html, zone_said};
 
+use crate::anchor::Anchor;
+use crate::elements::{link, plain, said_in, words_in};
+use crate::page::{Counts, LeastMargin, Page};
+use crate::parts::{around, classed_around, joined};
+use crate::words::{number_words, push_ticks, time_words};
 use base_html::{Attribute, Html, Key, Tag};
-use draw_elements::{
-    Anchor, Counts, LeastMargin, Page, around, classed_around, joined, link, number_words, plain,
-    push_ticks, said_in, time_words, words_in,
-};
 use std::alloc::{AllocError, Global};
 
 /// The head of the page.

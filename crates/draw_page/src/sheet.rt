@@ -2,7 +2,7 @@
 
 ghost use Rattle.std.specs.Prelude.{◌≡◌, ◌++◌, IfOk, OnOk};
 ghost use Rattle.std.specs.List.{flat_map};
-ghost use Rattle.draw_elements.specs.Figures.{look_rule};
+ghost use Rattle.draw_page.specs.Figures.{look_rule};
 ghost use Rattle.draw_page.specs.Sheets.{first_words, last_words, sheet_html, sheet_words};
 
 use crate::style::{Part, rules_of};
@@ -58,7 +58,7 @@ fn put_looks(text: &mut Vec<u8>, classes: &[Class]) -> Result<(), AllocError>
 }
 
 // The rule of a look, for drawings alone.
-#[tactic(auto, unfolding(draw_elements::specs::Figures::look_rule))]
+#[tactic(auto, unfolding(crate::specs::Figures::look_rule))]
 fn put_look(text: &mut Vec<u8>, class: Class) -> Result<(), AllocError>
     ensures { OnOk result (text.new.items ≡ text.old.items ++ look_rule class) }
 {

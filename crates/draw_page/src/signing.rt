@@ -3,8 +3,10 @@
 ghost use Rattle.std.specs.Prelude.{◌≡◌, IfOk};
 ghost use Rattle.draw_page.specs.Signing.{line_html, made_said, signing_html};
 
+use crate::anchor::Anchor;
+use crate::elements::{classed, plain, section, words_in};
+use crate::page::Page;
 use base_html::{Html, Tag};
-use draw_elements::{Anchor, Page, classed, plain, section, words_in};
 use std::alloc::{AllocError, Global};
 
 /// The section to sign.

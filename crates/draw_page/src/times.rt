@@ -2,18 +2,21 @@
 
 ghost use Rattle.std.specs.Prelude.{◌≡◌, ◌≤◌, IfOk};
 ghost use Rattle.std.specs.List.{flat_map};
-ghost use Rattle.draw_elements.specs.Elements.{column_html};
+ghost use Rattle.draw_page.specs.Elements.{column_html};
 ghost use Rattle.draw_page.specs.Times.{lost_html, margin_columns_html, no_times_html, reach_said, slack_html};
 ghost use Rattle.draw_page.specs.Times.{time_row_html, times_head_html, times_html, times_meaning};
 ghost use Rattle.draw_page.specs.Times.{some_times_html, times_table_html};
 ghost use Rattle.draw_page.specs.Times.{bar_cell_html, slack_cell_html, time_cells_html};
 
+use crate::anchor::Anchor;
 use crate::bar::{bar, reach};
+use crate::bare::bare_cell;
+use crate::drawings::drawing;
+use crate::elements::{cell, column, said_in, section, table, words_in};
+use crate::page::{Page, Slack, Time};
+use crate::parts::{around, joined, number_in, row_head};
+use crate::words::{interval_words, push_ticks, time_words};
 use base_html::{Html, Tag};
-use draw_elements::{
-    Anchor, Page, Slack, Time, around, bare_cell, cell, column, drawing, interval_words, joined,
-    number_in, push_ticks, row_head, said_in, section, table, time_words, words_in,
-};
 use std::alloc::{AllocError, Global};
 
 /// The section of the times and their margins.

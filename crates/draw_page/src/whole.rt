@@ -4,14 +4,20 @@ ghost use Rattle.std.specs.Prelude.{◌≡◌, IfOk};
 ghost use Rattle.draw_page.specs.Pages.{answers_html, body_html, charset_html, grounds_html, head_html};
 ghost use Rattle.draw_page.specs.Pages.{main_html, page_of, viewport_html};
 
+use crate::choice::failing;
+use crate::elements::words_in;
+use crate::fault::faults;
 use crate::files::files;
+use crate::hatching::patterns;
 use crate::heading::header;
+use crate::matrices::matrix;
+use crate::opens::undecided;
+use crate::page::Page;
+use crate::parts::{around, joined};
 use crate::sheet::sheet;
 use crate::signing::signing;
 use crate::times::times;
 use base_html::{Attribute, Document, Html, Key, Tag, Void};
-use draw_elements::{Page, around, joined, patterns, words_in};
-use draw_faults::{failing, faults, matrix, undecided};
 use std::alloc::{AllocError, Global};
 
 /// The text of the page.

@@ -1,3 +1,16 @@
 pub mod Items
 pub mod Fitting
 pub mod Showing
+pub mod Fields
+pub mod Numbers
+pub mod ConfigBack
+pub mod DataBack
+pub mod Lists
+pub mod Levels
+pub mod Rows
+pub mod Ids
+pub mod Whole
+pub mod Telling
+pub mod Recording
+pub mod TrackLevels
+pub mod SameData

@@ -1,3 +1,10 @@
 pub mod Spans
 pub mod Changes
 pub mod Shows
+pub mod Channels
+pub mod ReadBack
+pub mod Told
+pub mod Recorded
+pub mod Config
+pub mod Data
+pub mod Map

@@ -4,3 +4,4 @@ pub mod Behind
 pub mod Ordered
 pub mod EqualEnds
 pub mod ReadBack
+pub mod Meant

@@ -7,3 +7,7 @@ pub mod Rounding
 pub mod Sweeps
 pub mod RoundedLaws
 pub mod WholeTickLaws
+pub mod AxisWords
+pub mod Names
+pub mod Parts
+pub mod Steps

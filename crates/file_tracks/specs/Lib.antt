@@ -4,3 +4,5 @@ pub mod Tracks
 pub mod Levels
 pub mod Told
 pub mod Sampled
+pub mod Fields
+pub mod Rows

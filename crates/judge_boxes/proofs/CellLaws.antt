@@ -6,7 +6,7 @@ use Rattle.std.specs.Prelude.{slice_index}
 use Rattle.model_history.specs.Rails.{Rails, both, single, must_of, may_of, rails_at, rails_timed}
 use Rattle.model_history.specs.{Laws.HistoryLaws, Elements.timed}
 use Rattle.run_signal.specs.Bits.{bit_on, bit_rails}
-use Rattle.run_timers.specs.{Ahead.next_rails, Ahead.IsSteadyFor, Vectors.CellVectors}
+use Rattle.run_signal.specs.{Ahead.next_rails, Ahead.IsSteadyFor, Vectors.CellVectors}
 use Rattle.judge_boxes.specs.declared.terns.Terns64.{Terns64}
 use Rattle.judge_boxes.specs.Cells.{one_rail, StandForKnown, StandFor}
 use Rattle.judge_boxes.specs.{Spans.SpanLists, Spans.span_ends, Terns.terns_rails}

@@ -6,7 +6,7 @@ use Rattle.std.proofs.Math.ListN.{get_or-map}
 use Rattle.model_history.specs.Rails.{Rails, Ends, IsSound, both, single, must_of, may_of, rails_at}
 use Rattle.model_history.specs.Rails.{rails_timed}
 use Rattle.model_history.specs.{Elements.timed, Laws.HistoryLaws}
-use Rattle.run_timers.specs.{Ahead.next_rails, Ahead.IsSteadyFor, Cells.AreSound}
+use Rattle.run_signal.specs.{Ahead.next_rails, Ahead.IsSteadyFor, Cells.AreSound}
 use Rattle.judge_boxes.specs.Cells.{one_rail}
 
 -- ---- what must be may be

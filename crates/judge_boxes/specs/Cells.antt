@@ -1,8 +1,8 @@
 -- What the cells of both rails stand for, in a lane.
 use Rattle.std.specs.Prelude.{◌≤◌, ℕ, Bool, List, map, slice_index}
 use Rattle.model_history.specs.Rails.{Rails, both, single, must_of, may_of}
-use Rattle.run_timers.specs.Cells.{AreSound, RailsStandFor}
-use Rattle.run_timers.specs.Vectors.{CellVectors, numbers_in}
+use Rattle.run_signal.specs.Cells.{AreSound, RailsStandFor}
+use Rattle.run_signal.specs.Vectors.{CellVectors, numbers_in}
 use Rattle.judge_boxes.specs.Spans.{SpanLists}
 
 -- one of the two rails, as a value that is known

@@ -3,7 +3,7 @@ use Rattle.std.specs.Prelude.{◌≡◌, ◌<◌, ◌+◌, ◌-◌, ◌*◌, ℕ
 use Rattle.std.specs.Prelude.{nat_lt, Decides, if◌then◌else◌}
 use Rattle.model_history.specs.Rails.{Rails, rails_at}
 use Rattle.run_signal.specs.{Bits.bit_on, Lanes.in_lane}
-use Rattle.run_channel.specs.SentKeys.{SentKeys}
+use Rattle.run_signal.specs.SentKeys.{SentKeys}
 use Rattle.model_line.specs.Parameters.{param_count, declared_ends}
 use Rattle.model_line.specs.SetBounds.{SameButParams}
 use Rattle.model_line.specs.{declared.line.Line.Line, declared.script.Script.Script}

@@ -9,8 +9,7 @@ ghost use Rattle.judge_boxes.specs.{Spans.span_ends, Sent.must_before, Sent.may_
 use crate::spans::Spans64;
 use crate::terns::Terns64;
 use model_history::delay_laws::{delays_stay_sound, one_delay_reads_one_tick};
-use run_channel::{Carried, Track};
-use run_signal::{Lanes64, Signal};
+use run_signal::{Carried, Lanes64, Signal, Track};
 
 impl Carried for Terns64 {
     fn arrive(sent: &Track<Terns64>, delay: &Spans64) -> Terns64 {

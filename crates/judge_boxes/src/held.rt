@@ -3,7 +3,7 @@
 ghost use Rattle.std.specs.Prelude.{◌≡◌, ◌<◌, ◌≤◌, ◌*◌, ◌/◌, ◌%◌, ℕ, Some, length, slice_get, IfOk};
 ghost use Rattle.model_history.specs.Elements.{some_below};
 ghost use Rattle.run_signal.specs.Bits.{bit_on};
-ghost use Rattle.run_channel.specs.SentKeys.{SentKeys};
+ghost use Rattle.run_signal.specs.SentKeys.{SentKeys};
 ghost use Rattle.model_line.specs.Parameters.{param_count, terminal_count};
 ghost use Rattle.model_line.specs.{declared.line.Line.Line, SetBounds.SameButParams};
 ghost use Rattle.model_logic.specs.Rule.{is_held};
@@ -21,8 +21,7 @@ use model_logic::laws::line_laws;
 use model_timing::Step;
 use net_gates::Net;
 use run_changes::run_tracks;
-use run_channel::Track;
-use run_signal::{Lanes64, Signal, Tick, Ticks64};
+use run_signal::{Lanes64, Signal, Tick, Ticks64, Track};
 use std::alloc::Global;
 
 /// Whether the rule of a script at a terminal is held over the declared box of each of these lines,

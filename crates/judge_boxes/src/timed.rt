@@ -3,8 +3,7 @@
 use crate::spans::Spans64;
 use crate::terns::Terns64;
 use model_history::laws::history_laws;
-use run_signal::{Lanes64, Signal};
-use run_timers::Timed;
+use run_signal::{Lanes64, Signal, Timed};
 
 /// The cells of the must rails, and those of the may rails.
 #[derive(Drop)]

@@ -11,9 +11,9 @@ use Rattle.model_line.specs.Parameters.{param_count}
 use Rattle.model_logic.specs.{Boxes.box_of, Tree.Tree}
 use Rattle.model_logic.specs.Choice.{Box, LeastFromOne, pair_world_of}
 use Rattle.model_logic.specs.Histories.{PairHistory}
-use Rattle.model_cases.specs.Assumed.{Assumption, assumed_level, wanted}
-use Rattle.model_cases.specs.CaseTrees.{HasCases}
-use Rattle.model_cases.specs.Under.{Excludes, own_pair, SomeIsExcluded}
+use Rattle.model_settle.specs.Assumed.{Assumption, assumed_level, wanted}
+use Rattle.model_settle.specs.CaseTrees.{HasCases}
+use Rattle.model_settle.specs.Under.{Excludes, own_pair, SomeIsExcluded}
 use Rattle.net_gates.specs.{NetOf.NetOf, NetOf.IsNetOf, Formulas.formula_of}
 use Rattle.run_step.specs.{LaneBox.own_ends, LaneBox.ends_in}
 use Rattle.model_history.specs.ListLaws.{exists_at}

@@ -6,8 +6,8 @@ use Rattle.std.proofs.lemmas.Bool.Decides.{nat_tests}
 use Rattle.std.proofs.lemmas.List.Elements.{All-nil}
 use Rattle.std.specs.Prelude.{Option, get_or, slice_get}
 use Rattle.model_line.specs.declared.line.Line.{Line}
-use Rattle.model_cases.specs.Assumed.{Assumption}
-use Rattle.model_cases.specs.CaseTrees.{HasCases}
+use Rattle.model_settle.specs.Assumed.{Assumption}
+use Rattle.model_settle.specs.CaseTrees.{HasCases}
 use Rattle.judge_cases.specs.declared.view.View.{View}
 use Rattle.judge_cases.specs.Puts.{assumed_of, assumed_below}
 use Rattle.judge_cases.specs.Views.{AreViews, AreCases}

@@ -9,8 +9,8 @@ use Rattle.model_line.specs.{declared.script.Kind.Kind, Parameters.terminal_coun
 use Rattle.model_logic.specs.{Choice.pair_world_of, Laws.LineLaws, Tree.Tree}
 use Rattle.model_logic.specs.Histories.{PairHistory}
 use Rattle.model_logic.specs.Rule.{Held, IsHeld, is_held, rule_of}
-use Rattle.model_cases.specs.Assumed.{assumed_level}
-use Rattle.model_cases.specs.Under.{pair_under}
+use Rattle.model_settle.specs.Assumed.{assumed_level}
+use Rattle.model_settle.specs.Under.{pair_under}
 use Rattle.net_gates.specs.NetOf.{NetOf, IsNetOf, trip_of}
 use Rattle.run_cases.specs.UnderWaves.{wave_pair}
 use Rattle.judge_boxes.specs.Terns.{terns_rails}

@@ -10,8 +10,8 @@ use Rattle.std.specs.Prelude.{Option, cond, slice_get, slice_set}
 use Rattle.std.specs.List.{AllByRecursion}
 use Rattle.model_line.specs.{declared.line.Line.Line, Parameters.terminal_count}
 use Rattle.model_logic.specs.Tree.{Tree}
-use Rattle.model_cases.specs.Assumed.{Assumption, wanted, assumed_level}
-use Rattle.model_cases.specs.{SameTree.same_tree, Laws.SameTreesAreEqual, CaseTrees.HasCases}
+use Rattle.model_settle.specs.Assumed.{Assumption, wanted, assumed_level}
+use Rattle.model_settle.specs.{SameTree.same_tree, CaseLaws.SameTreesAreEqual, CaseTrees.HasCases}
 use Rattle.net_gates.specs.{NetOf.NetOf, Formulas.formula_of}
 use Rattle.run_cases.specs.Masks.{IsMask, PutsLevel, IsTimer, AreOfTimers}
 use Rattle.run_cases.specs.declared.mask.Mask.{Mask}

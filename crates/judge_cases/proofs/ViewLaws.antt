@@ -11,8 +11,8 @@ use Rattle.model_line.specs.Parameters.{is_delay}
 use Rattle.model_line.specs.{declared.line.Line.Line, Laws.DelaysAreParameters}
 use Rattle.model_logic.specs.Boxes.{box_with, ends_with}
 use Rattle.model_logic.specs.Choice.{Box, declared_box}
-use Rattle.model_cases.specs.Assumed.{Assumption}
-use Rattle.model_cases.specs.CaseTrees.{HasCases, with_case}
+use Rattle.model_settle.specs.Assumed.{Assumption}
+use Rattle.model_settle.specs.CaseTrees.{HasCases, with_case}
 use Rattle.judge_cases.specs.declared.view.View.{View}
 use Rattle.judge_cases.specs.Views.{IsView, Views, AreCases, interval_of}
 use Rattle.model_history.specs.ListLaws.{at_set}

@@ -4,7 +4,7 @@ use Rattle.std.specs.Prelude.{IsTrue}
 use Rattle.model_line.specs.{declared.line.Line.Line, Parameters.terminal_count}
 use Rattle.model_logic.specs.{Elements.is_weak, Tree.Tree}
 use Rattle.model_logic.specs.Tree as tree
-use Rattle.model_cases.specs.Assumed.{wanted}
+use Rattle.model_settle.specs.Assumed.{wanted}
 use Rattle.net_gates.specs.declared.gate.Gate.{Gate}
 use Rattle.net_gates.specs.declared.gate.Gate.TheVariants.{And, Or}
 use Rattle.net_gates.specs.Gates.{AreGates, HasArguments}

@@ -22,7 +22,7 @@ use Rattle.net_gates.specs.declared.gate.GateId.{GateId}
 use Rattle.net_gates.specs.declared.gate.Gate.{Gate}
 use Rattle.net_gates.specs.declared.gate.Gate.TheVariants as gate
 use Rattle.net_gates.specs.Formulas.{formula_of, kind_over}
-use Rattle.model_cases.specs.Assumed.{wanted}
+use Rattle.model_settle.specs.Assumed.{wanted}
 
 -- a terminal that has no flag is not weak
 not_weak : (weak guard : Bool) → not (weak || guard) ≡ true → weak ≡ false

@@ -4,9 +4,9 @@ use Rattle.model_line.specs.{declared.line.Line.Line, declared.script.Script.Scr
 use Rattle.model_logic.specs.Choice.{pair_world_of}
 use Rattle.model_logic.specs.Histories.{PairHistory}
 use Rattle.model_logic.specs.Rule.{Held, rule_of}
-use Rattle.model_cases.specs.Assumed.{assumed_level}
-use Rattle.model_cases.specs.CaseTrees.{IsShownUnder}
-use Rattle.model_cases.specs.Under.{pair_under, own_pair, IsPairHistoryUnder, SomeIsExcluded}
+use Rattle.model_settle.specs.Assumed.{assumed_level}
+use Rattle.model_settle.specs.CaseTrees.{IsShownUnder}
+use Rattle.model_settle.specs.Under.{pair_under, own_pair, IsPairHistoryUnder, SomeIsExcluded}
 use Rattle.net_gates.specs.{NetOf.NetOf, Formulas.formula_of}
 use Rattle.run_signal.specs.Bits.{bit_on}
 use Rattle.run_cases.specs.UnderWaves.{UnderWavesOf, wave_pair, own_wave}

@@ -1,8 +1,8 @@
 -- Assumptions that the values of a run exclude.
 use Rattle.std.specs.Prelude.{◌≡◌, ◌<◌, ℕ, List, Contains, length}
 use Rattle.model_line.specs.declared.line.Line.{Line}
-use Rattle.model_cases.specs.Assumed.{Assumption, wanted}
-use Rattle.model_cases.specs.Under.{Excludes}
+use Rattle.model_settle.specs.Assumed.{Assumption, wanted}
+use Rattle.model_settle.specs.Under.{Excludes}
 use Rattle.net_gates.specs.{NetOf.NetOf, Formulas.formula_of}
 use Rattle.run_cases.specs.UnderWaves.{UnderWavesOf, own_wave}
 use Rattle.judge_boxes.specs.declared.terns.Terns64.{Terns64}

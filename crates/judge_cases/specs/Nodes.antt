@@ -2,8 +2,8 @@
 use Rattle.std.specs.Prelude.{◌≡◌, ◌∷◌, ◌++◌, [], ℕ, List}
 use Rattle.model_line.specs.{declared.line.Line.Line, declared.script.Script.Script}
 use Rattle.model_logic.specs.Choice.{Box}
-use Rattle.model_cases.specs.Assumed.{Assumption}
-use Rattle.model_cases.specs.CaseTrees.{CaseTree, Yes, Undecided, Split, Case, AreSound}
+use Rattle.model_settle.specs.Assumed.{Assumption}
+use Rattle.model_settle.specs.CaseTrees.{CaseTree, Yes, Undecided, Split, Case, AreSound}
 use Rattle.judge_cases.specs.declared.node.CaseNode.{CaseNode}
 use Rattle.judge_cases.specs.declared.node.CaseNode.TheVariants as node
 

@@ -2,7 +2,7 @@
 use Rattle.std.specs.Prelude.{◌≡◌, ◌<◌, ◌+◌, ◌*◌, ℕ, List, [], Option, None, Some}
 use Rattle.std.specs.Prelude.{slice_get, nat_lt, if◌then◌else◌}
 use Rattle.model_line.specs.declared.line.Line.{Line}
-use Rattle.model_cases.specs.Assumed.{Assumption, assumed_level}
+use Rattle.model_settle.specs.Assumed.{Assumption, assumed_level}
 use Rattle.net_gates.specs.{NetOf.NetOf, Formulas.formula_of}
 use Rattle.run_cases.specs.Masks.{IsMask, Levels}
 use Rattle.run_cases.specs.declared.mask.Mask.{Mask}

@@ -3,7 +3,7 @@ use Rattle.std.specs.Prelude.{◌≡◌, ◌≢◌, ◌<◌, ℕ, IsTrue, List, 
 use Rattle.std.specs.Prelude.{slice_get}
 use Rattle.model_line.specs.{declared.line.Line.Line}
 use Rattle.model_logic.specs.Elements.{is_weak}
-use Rattle.model_cases.specs.Assumed.{wanted}
+use Rattle.model_settle.specs.Assumed.{wanted}
 use Rattle.net_gates.specs.{NetOf.NetOf, Formulas.formula_of}
 
 -- the first terminals that are weak have rows at their gates, where no other gate has one

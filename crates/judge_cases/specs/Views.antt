@@ -4,8 +4,8 @@ use Rattle.model_history.specs.Rails.{Ends, single}
 use Rattle.model_line.specs.{declared.line.Line.Line, Parameters.param_count}
 use Rattle.model_logic.specs.{Boxes.box_of, Boxes.IsSameBox}
 use Rattle.model_logic.specs.Choice.{Box, LeastFromOne}
-use Rattle.model_cases.specs.Assumed.{Assumption}
-use Rattle.model_cases.specs.CaseTrees.{HasCases}
+use Rattle.model_settle.specs.Assumed.{Assumption}
+use Rattle.model_settle.specs.CaseTrees.{HasCases}
 use Rattle.judge_cases.specs.declared.view.View.{View}
 
 -- the interval of each parameter; past the last 0

@@ -1,11 +1,11 @@
 //! The interval histories of views, side by side.
 
 ghost use Rattle.std.specs.Prelude.{◌≡◌, ◌≤◌, ◌<◌, ℕ, Some, Decides, length, slice_get, IfOk};
-ghost use Rattle.model_cases.specs.CaseTrees.{HasCases};
+ghost use Rattle.model_settle.specs.CaseTrees.{HasCases};
 ghost use Rattle.net_gates.specs.NetOf.{IsNetOf};
 ghost use Rattle.run_signal.specs.Bits.{bit_on};
 ghost use Rattle.run_cases.specs.UnderWaves.{value_at};
-ghost use Rattle.model_cases.specs.Under.{Excludes};
+ghost use Rattle.model_settle.specs.Under.{Excludes};
 ghost use Rattle.judge_boxes.specs.Terns.{terns_rails};
 ghost use Rattle.judge_cases.specs.{declared.view.View.View, Views.AreViews, Views.AreCases};
 ghost use Rattle.judge_cases.specs.Analyses.{IsAnalysis};
@@ -17,9 +17,9 @@ use crate::spans::view_spans;
 use crate::view::View;
 use crate::wanted::wanted_gate;
 use judge_boxes::Terns64;
-use model_cases::laws::{each_box_has_one_history_under, what_is_shown_rests_on_the_box};
 use model_line::{Line, Memory, Script};
 use model_logic::laws::line_laws;
+use model_settle::case_laws::{each_box_has_one_history_under, what_is_shown_rests_on_the_box};
 use net_gates::laws::gates_stand_for_their_trees;
 use net_gates::{GateId, Net};
 use run_cases::{UnderWaves, run_under};

@@ -13,7 +13,7 @@ pub struct Assumed {
 }
 
 impl Model for Assumed {
-    ghost use Rattle.model_cases.specs.Assumed.{Assumption};
+    ghost use Rattle.model_settle.specs.Assumed.{Assumption};
     ghost use Rattle.judge_cases.specs.AssumedAt.{assumed_at};
 
     ghost Value = { Assumption };

@@ -12,9 +12,9 @@ ghost use Rattle.judge_cases.specs.Analyses.{IsAnalysis, TellHeld, TellShown};
 
 use crate::analysis::Analysis;
 use judge_boxes::Terns64;
-use model_cases::laws::{each_box_has_one_history_under, what_is_shown_of_one_is_shown};
 use model_line::{Kind, Line, Script};
 use model_logic::laws::line_laws;
+use model_settle::case_laws::{each_box_has_one_history_under, what_is_shown_of_one_is_shown};
 use net_gates::{GateId, Net};
 use run_signal::{Lanes64, Signal};
 

@@ -3,8 +3,8 @@
 ghost use Rattle.std.specs.Prelude.{◌≡◌, ◌<◌, ℕ, List, Decides, IfOk};
 ghost use Rattle.model_line.specs.Parameters.{terminal_count};
 ghost use Rattle.model_logic.specs.Choice.{Box};
-ghost use Rattle.model_cases.specs.Assumed.{Assumption};
-ghost use Rattle.model_cases.specs.CaseTrees.{IsShownUnder};
+ghost use Rattle.model_settle.specs.Assumed.{Assumption};
+ghost use Rattle.model_settle.specs.CaseTrees.{IsShownUnder};
 ghost use Rattle.net_gates.specs.NetOf.{IsNetOf};
 ghost use Rattle.judge_cases.specs.Views.{IsView, AreViews, Views};
 ghost use Rattle.judge_cases.specs.Analyses.{TellEach, IsShownOf};

@@ -7,9 +7,9 @@ ghost use Rattle.model_history.specs.Rails.{Ends};
 ghost use Rattle.model_line.specs.Parameters.{param_count, declared_ends};
 ghost use Rattle.model_line.specs.declared.line.Line.{Line};
 ghost use Rattle.model_logic.specs.Choice.{Box, declared_box};
-ghost use Rattle.model_cases.specs.Assumed.{Assumption};
-ghost use Rattle.model_cases.specs.CaseTrees.{CanSplit, HasCases, lower_half, upper_half};
-ghost use Rattle.model_cases.specs.CaseTrees.{with_case};
+ghost use Rattle.model_settle.specs.Assumed.{Assumption};
+ghost use Rattle.model_settle.specs.CaseTrees.{CanSplit, HasCases, lower_half, upper_half};
+ghost use Rattle.model_settle.specs.CaseTrees.{with_case};
 ghost use Rattle.run_signal.specs.Spans.{AreInOrder};
 ghost use Rattle.judge_cases.specs.Views.{IsView, Views, view_box, interval_of};
 

@@ -3,7 +3,7 @@
 ghost use Rattle.std.specs.Prelude.{◌≡◌, ◌<◌, length, IsTrue};
 ghost use Rattle.model_logic.specs.Elements.{is_weak};
 ghost use Rattle.model_logic.specs.Tree.{Tree, And, Or};
-ghost use Rattle.model_cases.specs.Assumed.{wanted};
+ghost use Rattle.model_settle.specs.Assumed.{wanted};
 ghost use Rattle.net_gates.specs.{NetOf.IsNetOf, Formulas.formula_of};
 
 use model_line::Line;

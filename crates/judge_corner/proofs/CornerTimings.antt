@@ -14,10 +14,10 @@ use Rattle.model_logic.specs.Histories.{PairHistory}
 use Rattle.model_timing.specs.declared.step.Step.{Step}
 use Rattle.model_timing.specs.Timing.{TimingValues}
 use Rattle.model_timing.specs.{Inside.IsTimingInside, Choice.timing_choice, Choice.IsSameChoice}
-use Rattle.model_polarity.specs.Sides.{Rail, End, Least, Greatest, number_at}
-use Rattle.model_polarity.specs.Worst.{worst_choice, worst_delay}
-use Rattle.model_polarity.specs.Schemes.{scheme_sides, key_rail}
-use Rattle.model_polarity.specs.Laws.{WorstDelaysAreRails}
+use Rattle.model_settle.specs.Sides.{Rail, End, Least, Greatest, number_at}
+use Rattle.model_settle.specs.Worst.{worst_choice, worst_delay}
+use Rattle.model_settle.specs.Schemes.{scheme_sides, key_rail}
+use Rattle.model_settle.specs.PolarityLaws.{WorstDelaysAreRails}
 use Rattle.judge_corner.specs.{Corner.worst_number, Corner.corner, Steps.AreStepsUpTo}
 
 end_inside : (end : End) (ends : Ends) → ends.least ≤ ends.greatest → IsIn (number_at end ends) ends

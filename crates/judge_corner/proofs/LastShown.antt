@@ -5,8 +5,8 @@ use Rattle.std.proofs.lemmas.Bool.{cond-true, cond-false, and_from, and_parts, l
 use Rattle.std.proofs.lemmas.Bool.{false_from_ne_true}
 use Rattle.std.specs.Prelude.{nat_le}
 use Rattle.model_history.specs.Rails.{Rails, Ends}
-use Rattle.model_polarity.specs.Sides.{Rail}
-use Rattle.model_polarity.specs.Worst.{last_below, arrives, shows, worst_delay}
+use Rattle.model_settle.specs.Sides.{Rail}
+use Rattle.model_settle.specs.Worst.{last_below, arrives, shows, worst_delay}
 
 module _ (test : ℕ → Bool) (least : ℕ) where
   abbrev pub passes : ℕ → Bool

@@ -13,8 +13,8 @@ use Rattle.model_logic.specs.Rule.{Held, is_held, rule_of}
 use Rattle.model_logic.specs.Laws.{LineLaws, TheRuleIsTested, TheRuleIsExact}
 use Rattle.model_timing.specs.{Timing.TimingValues, Inside.IsTimingInside, Choice.timing_choice}
 use Rattle.model_timing.specs.{Choice.IsSameChoice, Laws.TimingsInsideAreChoicesInside}
-use Rattle.model_polarity.specs.Worst.{deciding}
-use Rattle.model_polarity.specs.Schemes.{IsOneRailedBy, TheWorstChoiceDecides, scheme_sides}
+use Rattle.model_settle.specs.Worst.{deciding}
+use Rattle.model_settle.specs.Schemes.{IsOneRailedBy, TheWorstChoiceDecides, scheme_sides}
 use Rattle.judge_corner.specs.{Corner.corner, Decided.OneTimingDecides, Decided.held_by}
 
 -- ---- what is told of one obligation

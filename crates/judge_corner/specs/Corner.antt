@@ -4,8 +4,8 @@ use Rattle.model_line.specs.{Settings.line_settings, Parameters.declared_ends}
 use Rattle.model_line.specs.{declared.line.Line.Line, declared.line.Setting.Setting}
 use Rattle.model_logic.specs.Choice.{Choice, declared_box}
 use Rattle.model_logic.specs.Histories.{PairHistory}
-use Rattle.model_polarity.specs.Sides.{Rail, number_at}
-use Rattle.model_polarity.specs.{Worst.worst_choice, Schemes.scheme_sides}
+use Rattle.model_settle.specs.Sides.{Rail, number_at}
+use Rattle.model_settle.specs.{Worst.worst_choice, Schemes.scheme_sides}
 
 -- the setting that each parameter is, in order
 abbrev pub settings_in_order : Line → List Setting

@@ -1,5 +1,5 @@
 -- The rails and the ends of the model that those of the code are.
-use Rattle.model_polarity.specs.Sides as model
+use Rattle.model_settle.specs.Sides as model
 use Rattle.judge_corner.specs.declared.rail.Rail.{Rail}
 use Rattle.judge_corner.specs.declared.rail.Rail.TheVariants.{Must, May}
 use Rattle.judge_corner.specs.declared.rail.End.{End}

@@ -4,17 +4,17 @@ ghost use Rattle.std.specs.Prelude.{◌≡◌, ◌<◌, ◌↔◌, IfOk, IfSome,
 ghost use Rattle.model_line.specs.{Fits.Fits, Parameters.terminal_count};
 ghost use Rattle.model_logic.specs.Rule.{is_held as is_rule_held};
 ghost use Rattle.net_gates.specs.NetOf.{IsNetOf};
-ghost use Rattle.model_polarity.specs.Schemes.{IsOneRailedBy};
-ghost use Rattle.judge_interval.specs.PairWavesOf.{pair_history};
+ghost use Rattle.model_settle.specs.Schemes.{IsOneRailedBy};
+ghost use Rattle.judge_verdict.specs.PairWavesOf.{pair_history};
 ghost use Rattle.judge_corner.specs.Decided.{OneTimingDecides, IsTheWorst, held_by};
 
 use crate::rail::deciding;
 use crate::scheme::is_one_railed;
 use crate::timing::worst_timing;
-use judge_interval::{PairWaves, Rule, analyse, judge};
+use judge_verdict::{PairWaves, Rule, analyse, judge};
 use model_line::{Line, Memory, Script};
 use model_logic::laws::{line_laws, the_rule_is_exact, the_rule_is_tested};
-use model_polarity::laws::the_worst_choice_decides;
+use model_settle::polarity_laws::the_worst_choice_decides;
 use model_timing::{
     Timing, same_choices_have_the_same_histories, timings_inside_are_choices_inside,
 };

@@ -5,17 +5,17 @@ ghost use Rattle.run_signal.specs.Spans.{ends_of};
 ghost use Rattle.model_line.specs.Parameters.{channel_count, terminal_count, delay_param};
 ghost use Rattle.model_line.specs.{Parameters.declared_ends, Channels.from_of};
 ghost use Rattle.model_logic.specs.Choice.{IsIn};
-ghost use Rattle.model_polarity.specs.Worst.{arrives, shows, worst_delay as worst_delay_of};
-ghost use Rattle.judge_interval.specs.PairWavesOf.{pair_history};
+ghost use Rattle.model_settle.specs.Worst.{arrives, shows, worst_delay as worst_delay_of};
+ghost use Rattle.judge_verdict.specs.PairWavesOf.{pair_history};
 ghost use Rattle.judge_corner.specs.Named.{rail_named};
 ghost use Rattle.judge_corner.specs.Corner.{corner};
 
 use crate::rail::Rail;
 use crate::scheme::key_rail;
-use judge_interval::PairWaves;
+use judge_verdict::PairWaves;
 use model_line::Line;
 use model_line::laws::declared_intervals_are_in_order;
-use model_polarity::laws::worst_delays_are_rails;
+use model_settle::polarity_laws::worst_delays_are_rails;
 
 /// The delay that the corner has on a channel at a tick.
 pub fn delay_at(line: &Line, waves: &PairWaves, rail: Rail, channel: u32, t: u32) -> u32

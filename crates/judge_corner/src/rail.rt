@@ -2,10 +2,10 @@
 
 ghost use Rattle.std.specs.Prelude.{◌≡◌};
 ghost use Rattle.run_signal.specs.Terns.{tern_rails};
-ghost use Rattle.model_polarity.specs.Sides.{turned as turned_rail, value_on};
-ghost use Rattle.model_polarity.specs.Sides.{pickup_end as end_of_pickup};
-ghost use Rattle.model_polarity.specs.Sides.{dropout_end as end_of_dropout};
-ghost use Rattle.model_polarity.specs.Worst.{deciding as deciding_rail};
+ghost use Rattle.model_settle.specs.Sides.{turned as turned_rail, value_on};
+ghost use Rattle.model_settle.specs.Sides.{pickup_end as end_of_pickup};
+ghost use Rattle.model_settle.specs.Sides.{dropout_end as end_of_dropout};
+ghost use Rattle.model_settle.specs.Worst.{deciding as deciding_rail};
 ghost use Rattle.judge_corner.specs.Named.{rail_named, end_named};
 
 use model_line::Kind;

@@ -1,8 +1,8 @@
 //! The schemes that read every number at one end alone, and the ends and rails at which they do.
 
 ghost use Rattle.std.specs.Prelude.{◌≡◌, ◌↔◌, IsTrue};
-ghost use Rattle.model_polarity.specs.Schemes.{IsOneRailedBy, HasNoWeakEnd};
-ghost use Rattle.model_polarity.specs.Schemes.{key_rail as rail_of_keys, end_for};
+ghost use Rattle.model_settle.specs.Schemes.{IsOneRailedBy, HasNoWeakEnd};
+ghost use Rattle.model_settle.specs.Schemes.{key_rail as rail_of_keys, end_for};
 ghost use Rattle.judge_corner.specs.Named.{rail_named, end_named};
 
 use crate::rail::{End, Rail};

@@ -2,14 +2,14 @@
 
 ghost use Rattle.std.specs.Prelude.{◌≡◌, ◌<◌, ◌≤◌, length, IfOk, OnOk};
 ghost use Rattle.model_line.specs.Parameters.{channel_count, terminal_count, param_count};
-ghost use Rattle.judge_interval.specs.PairWavesOf.{pair_history};
+ghost use Rattle.judge_verdict.specs.PairWavesOf.{pair_history};
 ghost use Rattle.judge_corner.specs.Named.{rail_named};
 ghost use Rattle.judge_corner.specs.Corner.{corner};
 ghost use Rattle.judge_corner.specs.Steps.{AreStepsUpTo, with_change};
 
 use crate::delays::delay_at;
 use crate::rail::Rail;
-use judge_interval::PairWaves;
+use judge_verdict::PairWaves;
 use model_line::laws::{delays_are_parameters, settings_are_counted};
 use model_line::{Line, Memory};
 use model_timing::Step;

@@ -4,14 +4,14 @@ ghost use Rattle.std.specs.Prelude.{◌≡◌, IfOk};
 ghost use Rattle.model_line.specs.Parameters.{terminal_count};
 ghost use Rattle.model_timing.specs.{Inside.IsTimingInside, Choice.timing_choice};
 ghost use Rattle.model_timing.specs.Choice.{IsSameChoice};
-ghost use Rattle.judge_interval.specs.PairWavesOf.{pair_history};
+ghost use Rattle.judge_verdict.specs.PairWavesOf.{pair_history};
 ghost use Rattle.judge_corner.specs.Named.{rail_named};
 ghost use Rattle.judge_corner.specs.Corner.{corner};
 
 use crate::numbers::worst_numbers;
 use crate::rail::Rail;
 use crate::steps::worst_steps;
-use judge_interval::PairWaves;
+use judge_verdict::PairWaves;
 use model_line::laws::declared_intervals_are_in_order;
 use model_line::{Line, Memory};
 use model_timing::Timing;

@@ -7,7 +7,7 @@ use Rattle.model_line.specs.{declared.line.Line.Line, declared.script.Script.Scr
 use Rattle.model_line.specs.Parameters.{terminal_count}
 use Rattle.model_history.specs.Rails.{Ends}
 use Rattle.model_logic.specs.Histories.{History, PairHistory, IsPairHistory}
-use Rattle.run_channel.specs.SentKeys.{SentKeys}
+use Rattle.run_signal.specs.SentKeys.{SentKeys}
 use Rattle.run_signal.specs.{declared.tern.Tern.Tern, Terns.tern_rails, Lanes.in_lane}
 use Rattle.run_changes.specs.{Tracks.pair_of, Tracks.tracks_history}
 use Rattle.run_step.specs.Runs.{IsTheHistory}

@@ -8,7 +8,7 @@ use Rattle.model_line.specs.{declared.line.Line.Line, declared.script.Script.Scr
 use Rattle.model_line.specs.Parameters.{terminal_count}
 use Rattle.model_logic.specs.Histories.{History, IsSameHistory, IsLineHistory}
 use Rattle.model_timing.specs.Timing.{TimingValues}
-use Rattle.run_channel.specs.SentKeys.{SentKeys}
+use Rattle.run_signal.specs.SentKeys.{SentKeys}
 use Rattle.run_signal.specs.declared.level.Level.{Level}
 use Rattle.run_changes.specs.{PlayedTracks.is_on, PlayedTracks.is_shown, PlayedTracks.shown_is}
 use Rattle.run_step.specs.Ticks.{AreSent}

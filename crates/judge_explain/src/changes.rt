@@ -10,8 +10,7 @@ ghost use Rattle.judge_explain.specs.Answers.{paired as paired_of};
 
 use crate::paired::Paired;
 use model_line::Memory;
-use run_channel::Track;
-use run_signal::{Level, Signal};
+use run_signal::{Level, Signal, Track};
 use std::alloc::Global;
 
 /// The ticks at which these levels change, off before the first.

@@ -15,8 +15,7 @@ use crate::recorded::Recorded;
 use model_line::{Line, Memory};
 use model_timing::Step;
 use run_changes::{Tracks, run_tracks};
-use run_channel::Track;
-use run_signal::{Signal, Tern, Within};
+use run_signal::{Signal, Tern, Track, Within};
 use std::alloc::Global;
 
 /// Whether the interval rules over a part exclude the record.

@@ -5,8 +5,7 @@ ghost use Rattle.std.specs.Prelude.{◌≤◌};
 use crate::question::Question;
 use crate::recorded::Recorded;
 use run_changes::Tracks;
-use run_channel::Track;
-use run_signal::{Signal, Tern};
+use run_signal::{Signal, Tern, Track};
 
 /// Whether the interval rules over a part exclude the record, and at how many ticks they leave it open
 /// whether a signal has the level that the record keeps around the tick.

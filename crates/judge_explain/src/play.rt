@@ -19,8 +19,7 @@ use model_line::{Line, Memory};
 use model_logic::laws::line_laws;
 use model_timing::Timing;
 use run_changes::{Tracks, run_tracks};
-use run_channel::Track;
-use run_signal::Level;
+use run_signal::{Level, Track};
 use run_step::laws::a_timing_is_one_choice;
 use std::alloc::Global;
 

@@ -3,3 +3,6 @@ pub mod Listed
 pub mod ScriptTests
 pub mod TimeTests
 pub mod Warnings
+pub mod Mistakes
+pub mod Places
+pub mod Slips

@@ -1,7 +1,8 @@
 -- The boxes of cells.
 use Rattle.std.proofs.Common.{◌≡◌, ◌≤◌, ◌<◌, ◌+◌, ◌-◌, ◌*◌, ◌/◌, ◌%◌, ℕ, zero, Bool, true, false, cond}
 use Rattle.std.proofs.Common.{[], Option, None, Some, subst, sym, ◌∙◌, ap, refl, arith, List, length}
-use Rattle.std.proofs.Math.Nat.{mul-le-mul_left, mul_comm, div-lt_iff_lt-mul, mod-lt, min-le_right}
+use Rattle.std.proofs.Math.Nat.{div-le_self, mul-le-mul, mul-le-mul_left, mul_comm}
+use Rattle.std.proofs.Math.Nat.{div-lt_iff_lt-mul, mod-lt, min-le_right}
 use Rattle.std.specs.Prelude.{slice_get, option_map}
 use Rattle.model_history.specs.Rails.{Ends}
 use Rattle.model_line.specs.{declared.line.Line.Line, declared.script.Script.Script}
@@ -16,7 +17,7 @@ use Rattle.model_timing.specs.Timing.{number_at}
 use Rattle.judge_boxes.specs.{Spans.SpanLists, Spans.span_ends}
 use Rattle.judge_map.specs.{Known.Known, declared.axis.Axis.Axis, declared.axis.Axes.Axes}
 use Rattle.judge_map.specs.Placed.{CanPlace}
-use Rattle.judge_map.specs.Axes.{CanMove, CanMoveBoth, CanMoveSecond}
+use Rattle.judge_map.specs.Axes.{AreAxes, CanMove, CanMoveBoth, CanMoveSecond, IsAxis, IsSecond}
 use Rattle.judge_map.specs.Axes.{cell_box, cell_count, column_count, count_along}
 use Rattle.judge_map.specs.Axes.{ends_along, ends_up, least_at, moved, moves, row_count}
 use Rattle.judge_map.specs.Axes.{rows_of}
@@ -41,6 +42,17 @@ can_place line axis n param can inside is =
     let (i, at) = place_of axis.params.items param is in (can n inside).each i param at
 
 -- ---- places of cells
+
+few_along : {line : Line} (axis : Axis) → IsAxis line axis → count_along axis ≤ 4001
+few_along axis is =
+    let far : ℕ = axis.last - axis.first in omega (arith, div-le_self far axis.step, is.limit)
+
+few_rows : (line : Line) (y : Option Axis) → IsSecond line y → rows_of y ≤ 4001
+few_rows line None is = omega arith
+few_rows line (Some axis) is = few_along axis is
+
+pub few_cells : (line : Line) (axes : Axes) → AreAxes line axes → cell_count axes ≤ 4001 * 4001
+few_cells line axes are = mul-le-mul (few_along axes.x are.x) (few_rows line axes.y are.y)
 
 pub some_rows : (line : Line) (y : Option Axis) → 1 ≤ rows_of y
 some_rows line None = omega arith

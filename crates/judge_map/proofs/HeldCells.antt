@@ -13,8 +13,8 @@ use Rattle.model_line.specs.Parameters.{terminal_count}
 use Rattle.model_line.specs.{declared.line.Line.Line, declared.script.Script.Script, Fits.Fits}
 use Rattle.model_logic.specs.{Choice.Box, Choice.LeastFromOne, HeldOver.IsHeldOver}
 use Rattle.model_logic.specs.Rule as of_line
-use Rattle.judge_interval.specs.{declared.rule.Rule.Rule, Rules.rule_named}
-use Rattle.judge_interval.specs.declared.rule.Rule.TheVariants as rule
+use Rattle.judge_verdict.specs.{declared.rule.Rule.Rule, Rules.rule_named}
+use Rattle.judge_verdict.specs.declared.rule.Rule.TheVariants as rule
 use Rattle.judge_map.specs.declared.cell.{Cell.Cell}
 use Rattle.judge_map.specs.declared.cell.Word.TheVariants.{Held, Open, Fails}
 use Rattle.judge_map.specs.{Known.Known, Axes.cell_box, MapLaws.AHeldCellIsMet}

@@ -9,8 +9,8 @@ use Rattle.model_line.specs.declared.script.Kind.{Kind}
 use Rattle.model_line.specs.Parameters.{terminal_count}
 use Rattle.model_logic.specs.{Choice.Box, Boxes.IsSameBox}
 use Rattle.model_history.specs.ListLaws.{exists_at, each_more}
-use Rattle.judge_interval.specs.Rules.{rule_from}
-use Rattle.judge_interval.specs.RuleLaws.{rule_by_rails}
+use Rattle.judge_verdict.specs.Rules.{rule_from}
+use Rattle.judge_verdict.specs.RuleLaws.{rule_by_rails}
 use Rattle.judge_boxes.specs.Terns.{terns_rails}
 use Rattle.judge_map.specs.{Known.Known, declared.cell.Cell.Cell, declared.ruled.Ruled.Ruled}
 use Rattle.judge_map.specs.Blocks.{AreRuled, AreTripped, AreTrippedAt, IsLaneOf}

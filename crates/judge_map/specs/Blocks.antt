@@ -5,8 +5,8 @@ use Rattle.model_line.specs.{declared.line.Line.Line, declared.script.Script.Scr
 use Rattle.model_line.specs.Parameters.{param_count, terminal_count}
 use Rattle.model_logic.specs.{Choice.Box, Histories.PairHistory}
 use Rattle.run_step.specs.Runs.{IsTheHistory}
-use Rattle.judge_interval.specs.Rules.{counted_ticks, rule_from, rule_named}
-use Rattle.judge_interval.specs.declared.rule.Rule.{Rule}
+use Rattle.judge_verdict.specs.Rules.{counted_ticks, rule_from, rule_named}
+use Rattle.judge_verdict.specs.declared.rule.Rule.{Rule}
 use Rattle.judge_boxes.specs.{Spans.SpanLists, Spans.span_ends, Terns.terns_rails}
 use Rattle.judge_map.specs.{declared.axis.Axes.Axes, declared.cell.Cell.Cell}
 use Rattle.judge_map.specs.declared.ruled.Ruled.{Ruled}

@@ -2,19 +2,18 @@
 
 ghost use Rattle.std.specs.Prelude.{◌≡◌, ◌<◌, ◌≤◌, ℕ, Some, IfOk, length, slice_get};
 ghost use Rattle.model_history.specs.Elements.{some_below};
-ghost use Rattle.run_channel.specs.SentKeys.{SentKeys};
+ghost use Rattle.run_signal.specs.SentKeys.{SentKeys};
 ghost use Rattle.judge_boxes.specs.Terns.{terns_rails};
 ghost use Rattle.judge_boxes.specs.Held.{must_trip, may_trip};
-ghost use Rattle.judge_interval.specs.Rules.{rule_from, rule_named};
+ghost use Rattle.judge_verdict.specs.Rules.{rule_from, rule_named};
 ghost use Rattle.judge_map.specs.Blocks.{IsLaneOf, IsRuleIn};
 ghost use Rattle.judge_map.specs.declared.ruled.Ruled.{Ruled as RuledOf};
 
 use crate::cell::Cell;
 use judge_boxes::Terns64;
-use judge_interval::Rule;
+use judge_verdict::Rule;
 use model_line::{Kind, Memory};
-use run_channel::Track;
-use run_signal::Signal;
+use run_signal::{Signal, Track};
 use std::alloc::Global;
 
 /// The kind of a script, and whether the trip at a terminal must, or may, be on at some tick that

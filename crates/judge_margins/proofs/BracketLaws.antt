@@ -4,7 +4,7 @@ use Rattle.std.proofs.Common.{Option, subst, sym, ◌∙◌, ap, arith, refl, le
 use Rattle.std.proofs.lemmas.Option.{slice_get_within}
 use Rattle.std.specs.Prelude.{slice_get}
 use Rattle.model_history.specs.ListLaws.{exists_at}
-use Rattle.judge_margin.specs.declared.upper_end.Lost.{Lost}
+use Rattle.judge_report.specs.declared.upper_end.Lost.{Lost}
 use Rattle.judge_margins.specs.{Known.Known, declared.end.End.End, declared.group.Group.Group}
 use Rattle.judge_margins.specs.{declared.bracket.Bracket.Bracket, Ends.HaveRoom}
 use Rattle.judge_margins.specs.declared.ask.Ask.{Ask}

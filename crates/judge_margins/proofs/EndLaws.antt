@@ -7,7 +7,7 @@ use Rattle.std.specs.Prelude.{nat_lt}
 use Rattle.std.specs.List.{All}
 use Rattle.model_history.specs.ListLaws.{exists_at}
 use Rattle.model_line.specs.{declared.line.Line.Line, declared.script.Script.Script, Fits.Fits}
-use Rattle.judge_margin.specs.declared.upper_end.Lost.{Lost}
+use Rattle.judge_report.specs.declared.upper_end.Lost.{Lost}
 use Rattle.judge_margins.specs.{Known.Known, declared.end.Side.Side, declared.end.End.End}
 use Rattle.judge_margins.specs.{declared.bracket.Bracket.Bracket, Widened.room, Widened.widened}
 use Rattle.judge_margins.specs.declared.group.Group.{Group}

@@ -10,7 +10,7 @@ use Rattle.std.specs.List.{All, slice_range}
 use Rattle.model_line.specs.Parameters.{terminal_count}
 use Rattle.model_line.specs.{declared.line.Line.Line, declared.script.Script.Script, Fits.Fits}
 use Rattle.model_logic.specs.{Choice.Box, Choice.declared_box, HeldOver.IsHeldOver}
-use Rattle.judge_margin.specs.declared.upper_end.Lost.{Lost}
+use Rattle.judge_report.specs.declared.upper_end.Lost.{Lost}
 use Rattle.judge_margins.specs.{Known.Known, declared.end.Side.Side}
 use Rattle.judge_margins.specs.Kept.{AreKept, AreObligations}
 use Rattle.net_gates.specs.NetOf.{IsNetOf}

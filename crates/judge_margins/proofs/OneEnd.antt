@@ -5,7 +5,7 @@ use Rattle.std.proofs.lemmas.Bool.{cases_lt}
 use Rattle.std.specs.Prelude.{slice_get}
 use Rattle.model_logic.specs.Choice.{Box}
 use Rattle.model_line.specs.{declared.line.Line.Line, declared.script.Script.Script}
-use Rattle.judge_margin.specs.declared.upper_end.Lost.{Lost}
+use Rattle.judge_report.specs.declared.upper_end.Lost.{Lost}
 use Rattle.judge_margins.specs.{declared.end.Side.Side, declared.end.End.End, Kept.IsFirstLost}
 use Rattle.judge_margins.specs.Ends.{IsSlack, IsLostBeyond, IsEnd}
 use Rattle.judge_margins.specs.Widened.{widened}

@@ -6,7 +6,7 @@ use Rattle.std.proofs.lemmas.Option.{slice_get_within}
 use Rattle.std.specs.Prelude.{Decides, slice_get, option_map}
 use Rattle.model_history.specs.Rails.{Ends}
 use Rattle.run_signal.specs.Bits.{bit_on}
-use Rattle.run_channel.specs.SentKeys.{SentKeys}
+use Rattle.run_signal.specs.SentKeys.{SentKeys}
 use Rattle.model_line.specs.Parameters.{param_count, terminal_count, delay_param}
 use Rattle.model_line.specs.{declared.line.Line.Line, declared.script.Script.Script, Fits.Fits}
 use Rattle.model_logic.specs.Choice.{Box, LeastFromOne}
@@ -21,7 +21,7 @@ use Rattle.run_changes.specs.{Tracks.pair_of, Tracks.tracks_history}
 use Rattle.judge_boxes.specs.declared.terns.Terns64.{Terns64}
 use Rattle.judge_boxes.specs.Held.{trip_rails}
 use Rattle.judge_boxes.specs.{Spans.SpanLists, Spans.span_ends, Terns.terns_rails}
-use Rattle.judge_margin.specs.declared.upper_end.Lost.{Lost}
+use Rattle.judge_report.specs.declared.upper_end.Lost.{Lost}
 use Rattle.judge_margins.specs.{Known.Known, declared.ask.Ask.Ask, declared.group.Group.Group}
 use Rattle.judge_margins.specs.Asks.{AreAsks, AreAskSpans, AreRows, IsRow, IsTold, TellsOff}
 use Rattle.judge_margins.specs.Groups.{IsGroup}

@@ -8,7 +8,7 @@ use Rattle.model_history.specs.ListLaws.{at_push}
 use Rattle.model_line.specs.Parameters.{terminal_count}
 use Rattle.model_line.specs.{declared.line.Line.Line, declared.script.Script.Script}
 use Rattle.model_logic.specs.{Choice.declared_box, HeldOver.IsHeldOver}
-use Rattle.judge_margin.specs.declared.upper_end.Lost.{Lost}
+use Rattle.judge_report.specs.declared.upper_end.Lost.{Lost}
 use Rattle.judge_margins.specs.Kept.{AreKept, AreObligations}
 use Rattle.judge_margins.specs.Today.{IsBefore, IsPicked, ArePicked, is_held}
 

@@ -5,7 +5,7 @@ use Rattle.run_signal.specs.Bits.{bit_on}
 use Rattle.model_line.specs.{declared.line.Line.Line, Parameters.param_count}
 use Rattle.model_logic.specs.Choice.{Box}
 use Rattle.judge_boxes.specs.Spans.{SpanLists, span_ends}
-use Rattle.judge_margin.specs.declared.upper_end.Lost.{Lost}
+use Rattle.judge_report.specs.declared.upper_end.Lost.{Lost}
 use Rattle.judge_margins.specs.{declared.ask.Ask.Ask, declared.group.Group.Group, Each.OneForEach}
 use Rattle.judge_margins.specs.{Groups.AllKept, Groups.IsFirstOf, Kept.IsKept}
 use Rattle.judge_margins.specs.Widened.{param_at, room, side_at, widened}

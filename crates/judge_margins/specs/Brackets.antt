@@ -2,7 +2,7 @@
 use Rattle.std.specs.Prelude.{◌≡◌, ◌≤◌, ◌<◌, ◌+◌, ◌-◌, ◌/◌, ℕ, Bool, List, Option, None, Some}
 use Rattle.std.specs.Prelude.{MatchOption, length, slice_get, nat_lt, if◌then◌else◌}
 use Rattle.model_logic.specs.Choice.{Box}
-use Rattle.judge_margin.specs.declared.upper_end.Lost.{Lost}
+use Rattle.judge_report.specs.declared.upper_end.Lost.{Lost}
 use Rattle.judge_margins.specs.{declared.ask.Ask.Ask, declared.bracket.Bracket.Bracket}
 use Rattle.judge_margins.specs.{declared.end.End.End, declared.end.Side.Side, Each.OneForEach}
 use Rattle.judge_margins.specs.{declared.group.Group.Group, Groups.AllKept, Groups.IsFirstOf}

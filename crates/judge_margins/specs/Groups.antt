@@ -4,7 +4,7 @@ use Rattle.std.specs.List.{All}
 use Rattle.model_line.specs.Fits.{Fits}
 use Rattle.model_logic.specs.Choice.{Box, declared_box}
 use Rattle.net_gates.specs.NetOf.{IsNetOf}
-use Rattle.judge_margin.specs.declared.upper_end.Lost.{Lost}
+use Rattle.judge_report.specs.declared.upper_end.Lost.{Lost}
 use Rattle.judge_margins.specs.{declared.group.Group.Group, Kept.AreKept, Kept.AreObligations}
 use Rattle.judge_margins.specs.Kept.{IsFirstLost}
 

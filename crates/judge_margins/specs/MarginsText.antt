@@ -1,11 +1,11 @@
 -- The rows of margins: a header, and a row for each end.
 use Rattle.std.specs.Prelude.{◌+◌, ◌-◌, ◌++◌, ℕ, List, [], ◌∷◌, codes, decimal, Option, None, Some}
-use Rattle.base_times.specs.Milliseconds.{ticks_text}
+use Rattle.base_lines.specs.Milliseconds.{ticks_text}
 use Rattle.model_history.specs.Rails.{Ends}
 use Rattle.model_names.specs.NamesByNumber.{terminal_name, parameter_name, script_name}
 use Rattle.model_line.specs.{declared.script.Script.Script, declared.line.Line.Line}
 use Rattle.model_line.specs.Parameters.{declared_ends}
-use Rattle.judge_margin.specs.declared.upper_end.Lost.{Lost}
+use Rattle.judge_report.specs.declared.upper_end.Lost.{Lost}
 use Rattle.judge_margins.specs.{declared.end.Side.Side, declared.end.End.End}
 use Rattle.judge_margins.specs.declared.end.Side.TheVariants.{Above, Below}
 use Rattle.judge_margins.specs.Widened.{param_at, side_at}

@@ -3,7 +3,7 @@
 ghost use Rattle.std.specs.Prelude.{◌≡◌, ◌≤◌};
 ghost use Rattle.judge_margins.specs.Brackets.{half_of, fresh_bracket, tried as tried_of};
 
-use judge_margin::Lost;
+use judge_report::Lost;
 
 /// The obligations are held with the end moved by `near`. One tick beyond `far` this one is lost
 /// first.

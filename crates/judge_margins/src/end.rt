@@ -1,6 +1,6 @@
 //! What is answered of an end of an interval.
 
-use judge_margin::Lost;
+use judge_report::Lost;
 
 /// An end of an interval: the greatest number, which may rise to 4,000, or the least, which may fall
 /// to 0, that of a delay to 1.

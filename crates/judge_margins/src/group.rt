@@ -1,6 +1,6 @@
 //! Obligations of one script.
 
-use judge_margin::Lost;
+use judge_report::Lost;
 use model_line::{Line, Script};
 use net_gates::Net;
 

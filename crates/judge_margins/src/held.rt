@@ -3,15 +3,14 @@
 ghost use Rattle.std.specs.Prelude.{◌≡◌, ◌<◌, ◌≤◌, ℕ, length};
 ghost use Rattle.model_history.specs.Elements.{some_below};
 ghost use Rattle.run_signal.specs.Bits.{bit_on};
-ghost use Rattle.run_channel.specs.SentKeys.{SentKeys};
+ghost use Rattle.run_signal.specs.SentKeys.{SentKeys};
 ghost use Rattle.model_logic.specs.Rule.{is_held};
 ghost use Rattle.judge_boxes.specs.Terns.{terns_rails};
 ghost use Rattle.judge_boxes.specs.Held.{trip_rails, must_trip, may_trip};
 
 use judge_boxes::Terns64;
 use model_line::{Kind, Line, Script};
-use run_channel::Track;
-use run_signal::{Lanes64, Signal};
+use run_signal::{Lanes64, Signal, Track};
 
 /// The lanes in which the rule is held for a terminal with these trips.
 pub fn held_lanes(line: &Line, script: &Script, trip: &Track<Terns64>) -> Lanes64

@@ -6,7 +6,7 @@ ghost use Rattle.model_line.specs.{Fits.Fits};
 ghost use Rattle.model_line.specs.{declared.line.Line.Line, declared.script.Script.Script};
 ghost use Rattle.model_logic.specs.Choice.{Choice, IsWithin};
 ghost use Rattle.model_logic.specs.Histories.{History, IsLineHistory, Meets};
-ghost use Rattle.judge_margin.specs.declared.upper_end.Lost.{Lost as LostOf};
+ghost use Rattle.judge_report.specs.declared.upper_end.Lost.{Lost as LostOf};
 ghost use Rattle.judge_margins.specs.Ends.{AreKeptTo, IsEnd};
 ghost use Rattle.judge_margins.specs.{Kept.AreObligations, Widened.room, Widened.widened};
 ghost use Rattle.judge_margins.specs.declared.end.Side.{Side as SideOf};

@@ -2,7 +2,7 @@
 
 ghost use Rattle.std.specs.Prelude.{◌≡◌, ◌≤◌, ◌<◌, ◌+◌, ℕ, Option, Some, IfOk, OnOk, length};
 ghost use Rattle.std.specs.Prelude.{slice_get};
-ghost use Rattle.judge_margin.specs.declared.upper_end.Lost.{Lost as LostOf};
+ghost use Rattle.judge_report.specs.declared.upper_end.Lost.{Lost as LostOf};
 ghost use Rattle.judge_margins.specs.Brackets.{AreAsksOf, AreHalves, AreOpen, AreSettled, AreSlots};
 ghost use Rattle.judge_margins.specs.Brackets.{IsHalf, IsSlot, fresh_bracket, settled};
 ghost use Rattle.judge_margins.specs.declared.bracket.Bracket.{Bracket as BracketOf};
@@ -11,7 +11,7 @@ ghost use Rattle.judge_margins.specs.declared.end.End.{End as EndOf};
 use crate::ask::Ask;
 use crate::bracket::Bracket;
 use crate::end::End;
-use judge_margin::Lost;
+use judge_report::Lost;
 use model_line::Memory;
 use std::alloc::Global;
 

@@ -7,7 +7,7 @@ ghost use Rattle.judge_margins.specs.Groups.{IsGroup};
 use crate::ask::Ask;
 use crate::group::Group;
 use crate::rows::{first_off, rows};
-use judge_margin::Lost;
+use judge_report::Lost;
 use model_line::Memory;
 use std::alloc::Global;
 

@@ -5,7 +5,7 @@ ghost use Rattle.run_signal.specs.Bits.{bit_on};
 ghost use Rattle.model_line.specs.{Parameters.terminal_count};
 ghost use Rattle.run_step.specs.Runs.{AreDelayed};
 ghost use Rattle.judge_boxes.specs.Spans.{span_ends};
-ghost use Rattle.judge_margin.specs.declared.upper_end.Lost.{Lost as LostOf};
+ghost use Rattle.judge_report.specs.declared.upper_end.Lost.{Lost as LostOf};
 ghost use Rattle.judge_margins.specs.Asks.{AreAsks, AreRows, TellsOff};
 ghost use Rattle.judge_margins.specs.Groups.{IsGroup};
 
@@ -15,7 +15,7 @@ use crate::held::held_lanes;
 use crate::known::laws_below;
 use crate::spans::ask_spans;
 use judge_boxes::{Spans64, Terns64};
-use judge_margin::Lost;
+use judge_report::Lost;
 use model_line::{Memory, Script};
 use model_timing::Step;
 use run_changes::run_tracks;

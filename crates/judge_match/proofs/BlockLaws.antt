@@ -14,7 +14,7 @@ use Rattle.model_timing.specs.BlockLaws.{candidate_exists, candidate_at, candida
 use Rattle.model_timing.specs.BlockLaws.{block_number, block_delay}
 use Rattle.model_timing.specs.{Timing.TimingValues, Timing.number_at, Choice.timing_choice}
 use Rattle.run_signal.specs.{Bits.bit_on, declared.level.Level.Level}
-use Rattle.run_channel.specs.SentKeys.{SentKeys}
+use Rattle.run_signal.specs.SentKeys.{SentKeys}
 use Rattle.run_step.specs.LaneBox.{ends_in, lane_box}
 use Rattle.run_step.specs.{Runs.AreDelayed, Runs.IsPoint}
 use Rattle.run_changes.specs.{Agreeing.IsOnlyHistory, PlayedTracks.played}

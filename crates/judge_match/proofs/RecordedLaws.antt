@@ -8,7 +8,7 @@ use Rattle.std.proofs.lemmas.Option.{slice_get_within}
 use Rattle.std.specs.Prelude.{slice_get}
 use Rattle.model_history.specs.Rails.{Rails, both, must_of, rails_at}
 use Rattle.run_signal.specs.{declared.level.Level.Level, Levels.level_rails, Lanes.in_lane}
-use Rattle.run_channel.specs.SentKeys.{SentKeys}
+use Rattle.run_signal.specs.SentKeys.{SentKeys}
 use Rattle.model_history.specs.ListLaws.{at_push, exists_at}
 use Rattle.run_changes.specs.PlayedTracks.{is_shown}
 use Rattle.run_changes.specs.{PlayedTracks.is_on, PlayedTracks.shown_is}

@@ -12,8 +12,7 @@ use crate::seen::Seen;
 use cert_check::nth;
 use model_line::{Line, Memory};
 use run_changes::Tracks;
-use run_channel::Track;
-use run_signal::{Level, Signal};
+use run_signal::{Level, Signal, Track};
 use run_waves::Runs;
 use std::alloc::Global;
 

@@ -1,3 +1,9 @@
 pub mod Firsts
-pub mod Margin
+pub mod Deadlines
 pub mod ReportText
+pub mod Known
+pub mod Raised
+pub mod Lost
+pub mod Margin
+pub mod MarginText
+pub mod Answer

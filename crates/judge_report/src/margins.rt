@@ -1,7 +1,7 @@
 //! The margin between the tick by which a trip must have come and the deadline.
 
 ghost use Rattle.std.specs.Prelude.{◌≡◌, ◌≤◌, IfSome};
-ghost use Rattle.judge_report.specs.Margin.{deadline_of, margin_of, margin_us_of};
+ghost use Rattle.judge_report.specs.Deadlines.{deadline_of, margin_of, margin_us_of};
 
 use model_line::Kind;
 

@@ -5,10 +5,10 @@ use Rattle.std.specs.Prelude.{IsTrue}
 use Rattle.model_line.specs.{declared.line.Line.Line, declared.script.Script.Script}
 use Rattle.model_line.specs.Parameters.{terminal_count}
 use Rattle.model_logic.specs.Choice.{declared_box, LeastFromOne}
-use Rattle.model_cases.specs.Assumed.{Agrees}
-use Rattle.model_cases.specs.CaseTrees.{CaseTree, are_yes, AreSound}
-use Rattle.model_cases.specs.Laws.{SoundTreesMeet}
-use Rattle.model_polarity.specs.{Choices.EveryChoiceMeets, Schemes.IsOneRailedBy}
+use Rattle.model_settle.specs.Assumed.{Agrees}
+use Rattle.model_settle.specs.CaseTrees.{CaseTree, are_yes, AreSound}
+use Rattle.model_settle.specs.CaseLaws.{SoundTreesMeet}
+use Rattle.model_settle.specs.{Choices.EveryChoiceMeets, Schemes.IsOneRailedBy}
 use Rattle.judge_settle.specs.declared.grown.Grown.{Grown}
 use Rattle.judge_cases.specs.Trees.{AreTree}
 use Rattle.judge_settle.specs.Trees.{IsGrown, Size, size_of_text}

@@ -4,10 +4,10 @@ use Rattle.std.proofs.Common.{subst, sym, arith}
 use Rattle.std.specs.Prelude.{◌&&◌}
 use Rattle.model_line.specs.{declared.line.Line.Line, declared.script.Script.Script}
 use Rattle.model_logic.specs.Choice.{Box}
-use Rattle.model_cases.specs.Assumed.{Assumption}
-use Rattle.model_cases.specs.CaseTrees.{CaseTree, Yes, Undecided, Split, Case, are_yes}
-use Rattle.model_cases.specs.CaseTrees.{IsShownUnder, AreSound}
-use Rattle.model_cases.specs.CaseTrees.{lower_half, upper_half, with_case}
+use Rattle.model_settle.specs.Assumed.{Assumption}
+use Rattle.model_settle.specs.CaseTrees.{CaseTree, Yes, Undecided, Split, Case, are_yes}
+use Rattle.model_settle.specs.CaseTrees.{IsShownUnder, AreSound}
+use Rattle.model_settle.specs.CaseTrees.{lower_half, upper_half, with_case}
 use Rattle.judge_ahead.specs.declared.cuts.Cut.{Cut}
 use Rattle.judge_ahead.specs.declared.cuts.Cut.TheVariants as cut
 use Rattle.judge_cases.specs.Nodes.{preorder}

@@ -3,8 +3,8 @@ use Rattle.std.specs.Prelude.{◌≡◌, ◌≤◌, ℕ, List, IsTrue}
 use Rattle.model_line.specs.{declared.line.Line.Line, declared.script.Script.Script}
 use Rattle.model_logic.specs.Choice.{Box}
 use Rattle.model_timing.specs.{Timing.TimingValues, Timing.ascend, Inside.IsTimingInside}
-use Rattle.model_cases.specs.Assumed.{Assumption}
-use Rattle.model_cases.specs.CaseTrees.{CaseTree, are_yes, AreSound}
+use Rattle.model_settle.specs.Assumed.{Assumption}
+use Rattle.model_settle.specs.CaseTrees.{CaseTree, are_yes, AreSound}
 use Rattle.judge_corner.specs.Decided.{Fails as FailsAt}
 use Rattle.judge_cases.specs.Nodes.{preorder}
 use Rattle.judge_cases.specs.Views.{Views}

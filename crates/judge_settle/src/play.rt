@@ -13,8 +13,7 @@ use model_line::{Kind, Line, Memory, Script};
 use model_timing::{Timing, inside};
 use net_gates::Net;
 use run_changes::run_tracks;
-use run_channel::Track;
-use run_signal::{Level, Signal};
+use run_signal::{Level, Signal, Track};
 use run_step::laws::a_timing_is_one_choice;
 use std::alloc::Global;
 

@@ -6,7 +6,7 @@ use Rattle.model_line.specs.declared.script.Kind.TheVariants.{Internal, External
 use Rattle.model_line.specs.{declared.line.Line.Line, declared.script.Script.Script}
 use Rattle.model_line.specs.{declared.script.Kind.Kind, Parameters.terminal_count}
 use Rattle.model_logic.specs.Histories.{History, MeetsBy, Meets, IsSameHistory}
-use Rattle.judge_interval.specs.Rules.{counted_ticks}
+use Rattle.judge_verdict.specs.Rules.{counted_ticks}
 use Rattle.model_logic.specs.{Laws.TheRuleIsTested, Rule.is_held}
 use Rattle.judge_verdict.specs.Candidates.{TellsFailing, looked_at}
 

@@ -1,3 +1,7 @@
+pub mod ToldHistory
+pub mod TrackLaws
+pub mod FirstWithin
+pub mod FirstTicks
 pub mod BlockLaws
 pub mod FailingLaws
 pub mod StandingLaws

@@ -2,14 +2,14 @@
 use Rattle.std.specs.Prelude.{◌≡◌, ◌<◌, ℕ, Bool, List, Some, IsTrue, IsFalse, slice_get}
 use Rattle.model_history.specs.Rails.{rails_at}
 use Rattle.run_signal.specs.{Bits.bit_rails, Bits.bit_on, Lanes.in_lane}
-use Rattle.run_channel.specs.SentKeys.{SentKeys}
+use Rattle.run_signal.specs.SentKeys.{SentKeys}
 use Rattle.model_line.specs.Parameters.{terminal_count}
 use Rattle.model_line.specs.{declared.line.Line.Line, declared.script.Script.Script}
 use Rattle.model_logic.specs.Histories.{History, IsLineHistory}
 use Rattle.model_timing.specs.Choice.{timing_choice}
 use Rattle.model_timing.specs.{Blocks.candidate_in, Candidates.candidate}
 use Rattle.run_changes.specs.Until.{ReachTick}
-use Rattle.judge_interval.specs.Rules.{counted_ticks}
+use Rattle.judge_verdict.specs.Rules.{counted_ticks}
 use Rattle.judge_verdict.specs.{Verdicts.PassesAt, Verdicts.FailsAt}
 
 -- whether a trip is on in a lane at a tick

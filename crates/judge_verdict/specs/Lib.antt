@@ -1,3 +1,8 @@
+pub mod PairWavesOf
+pub mod Rules
+pub mod RuleLaws
+pub mod Spans
+pub mod DeclaredLaws
 pub mod OneEach
 pub mod OneEachLaws
 pub mod Verdicts

@@ -11,10 +11,10 @@ ghost use Rattle.model_timing.specs.{Timing.TimingValues, Candidates.candidate};
 ghost use Rattle.judge_verdict.specs.Printable.{IsPrintable};
 ghost use Rattle.judge_verdict.specs.Verdicts.{AreKeys, AreVerdicts, IsRefutation};
 
+use crate::interval_history::analyse;
 use crate::keys::key_waves;
 use crate::standing::{after_candidates, by_rules, verdicts};
 use crate::verdict::{ScriptVerdict, Verdict};
-use judge_interval::analyse;
 use model_line::{Line, Memory, Script};
 use model_logic::laws::{
     each_box_has_one_interval_history, each_choice_has_one_history, each_line_has_a_choice_inside,

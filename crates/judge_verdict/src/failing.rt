@@ -15,8 +15,7 @@ use model_logic::laws::{
 };
 use model_timing::{candidates_are_inside, timings_inside_are_choices_inside};
 use run_changes::Tracks;
-use run_channel::Track;
-use run_signal::{Lanes64, Signal};
+use run_signal::{Lanes64, Signal, Track};
 
 /// How many ticks an obligation of the script looks at: those up to the deadline, or all.
 pub fn looked_ticks(line: &Line, script: &Script) -> u32

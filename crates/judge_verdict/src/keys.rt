@@ -2,10 +2,10 @@
 
 ghost use Rattle.std.specs.Prelude.{◌≡◌, IfOk};
 ghost use Rattle.model_line.specs.Parameters.{terminal_count};
-ghost use Rattle.judge_interval.specs.PairWavesOf.{pair_history};
+ghost use Rattle.judge_verdict.specs.PairWavesOf.{pair_history};
 ghost use Rattle.judge_verdict.specs.Verdicts.{AreKeys};
 
-use judge_interval::PairWaves;
+use crate::pair_waves::PairWaves;
 use model_line::{Line, Memory};
 use run_waves::Runs;
 use std::alloc::Global;

@@ -8,7 +8,7 @@ use Rattle.model_logic.specs.Tree.{Tree}
 use Rattle.net_gates.specs.Named.{NamedFrom}
 use Rattle.net_gates.specs.{declared.gate.Gate.Gate, declared.gate.GateId.GateId, Formulas.Stands}
 use Rattle.net_gates.specs.NetOf.{NetOf, AreGatesOf, IsNet, IsNetOf, id_at}
-use Rattle.net_gates.specs.Growing.{Grows, Extends}
+use Rattle.net_compile.specs.Growing.{Grows, Extends}
 use Rattle.net_compile.specs.{declared.terminal_gates.Ends.Ends, Compiled.AreEnds}
 
 -- one gate for each terminal below j, which stands for the terminal's tree

@@ -3,13 +3,20 @@
 ghost use Rattle.std.specs.Prelude.{◌<◌, IfOk};
 ghost use Rattle.model_line.specs.Parameters.{terminal_count};
 ghost use Rattle.model_logic.specs.Logic.{pilot_by, key_tree, set_tree, trip_tree};
-ghost use Rattle.net_gates.specs.{Formulas.Stands, Growing.HasRoom, Growing.Extends};
-ghost use Rattle.net_schemes.specs.{LocalGates.AreLocal, Outputs.CanMake, Outputs.MakesOutputs};
+ghost use Rattle.net_gates.specs.Formulas.{Stands};
+ghost use Rattle.net_compile.specs.Growing.{HasRoom, Extends};
+ghost use Rattle.net_compile.specs.{LocalGates.AreLocal, Outputs.CanMake, Outputs.MakesOutputs};
 ghost use Rattle.net_compile.specs.Compiled.{AreEnds};
 
+use crate::blocking::dcb;
+use crate::builder::NetBuilder;
+use crate::elements::{Local, local_elements};
+use crate::outputs::Out;
+use crate::pott_putt::{pott, putt};
+use crate::transfer_trip::dtt;
+use crate::unblocking::dcub;
 use model_line::{Line, Memory, Scheme};
-use net_gates::{GateId, NetBuilder};
-use net_schemes::{Local, Out, dcb, dcub, dtt, local_elements, pott, putt};
+use net_gates::GateId;
 
 /// The gates of what a terminal sends and of its trip.
 #[derive(Clone, Copy)]

@@ -3,9 +3,10 @@
 ghost use Rattle.std.specs.Prelude.{IfOk};
 ghost use Rattle.net_gates.specs.NetOf.{IsNetOf};
 
+use crate::builder::NetBuilder;
 use crate::terminal_gates::terminal_gates;
 use model_line::{Line, Memory};
-use net_gates::{Net, NetBuilder};
+use net_gates::Net;
 use std::alloc::Global;
 
 /// The net of a line. Whatever the scheme, it has at most 512 gates.

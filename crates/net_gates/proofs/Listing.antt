@@ -1,13 +1,14 @@
 -- The lists of those that read a gate or hear a channel.
 use Rattle.std.proofs.Common.{◌≡◌, ◌<◌, ◌+◌, ℕ, List, [], ◌∷◌, ◌++◌, Some, refl, sym, length, subst}
-use Rattle.std.proofs.Common.{⊎_elim, arith, ◌∙◌}
+use Rattle.std.proofs.Common.{⊎_elim, arith, ◌∙◌, ap}
 use Rattle.std.proofs.lemmas.Bool.{cases_lt}
+use Rattle.std.proofs.lemmas.Option.{slice_get_within}
 use Rattle.std.specs.Prelude.{slice_get}
 use Rattle.net_gates.specs.declared.gate.Gate.{Gate}
 use Rattle.net_gates.specs.declared.gate.Gate.TheVariants.{Const, Seen, Loss, Raw, Not, And, Or}
 use Rattle.net_gates.specs.declared.gate.Gate.TheVariants.{Timer, Seal}
 use Rattle.net_gates.specs.declared.readers.Readers.{Readers}
-use Rattle.net_gates.specs.Readers.{AreBelow, Hears, StandsIn}
+use Rattle.net_gates.specs.Readers.{AreBelow, HearBelow, Hears, StandsIn}
 use Rattle.net_gates.specs.Listing.{IsListed, ListGates, ListsGrow, ReadersSoFar, ReadsNone, ReadsOne}
 use Rattle.net_gates.specs.Listing.{ReadsTwo}
 use Rattle.model_history.specs.ListLaws.{before_append, at_push, last_push, one_value}
@@ -142,6 +143,28 @@ grow_on first middle last grow more = record {
       more.read i a list at (λ list' at'. grow.read i a list' at' before);
   heard = λ i c list at before.
       more.heard i c list at (λ list' at'. grow.heard i c list' at' before);
+}
+
+below_none : (n : ℕ) (list : List ℕ) → list ≡ [] → AreBelow n list
+below_none n list is k i at =
+    let inside : k < length list = slice_get_within list k i at in
+    absurd (omega (arith, inside, ap length is))
+
+-- where every list is empty, no gate is listed yet
+pub listed_from_none : (gates : List Gate) (readers : Readers)
+    → length readers.of_gates.items ≡ length gates
+    → HearBelow (length readers.of_channels.items) gates
+    → ((a : ℕ) (list : _) → slice_get readers.of_gates.items a ≡ Some list → list.items ≡ [])
+    → ((c : ℕ) (list : _) → slice_get readers.of_channels.items c ≡ Some list → list.items ≡ [])
+    → ReadersSoFar gates 0 readers
+listed_from_none gates readers count heard empty heard_empty = record {
+  of_gates = record {
+    count = count;
+    inside = λ a list at. below_none (length gates) list.items (empty a list at);
+    heard_inside = λ c list at. below_none (length gates) list.items (heard_empty c list at);
+  };
+  of_channels = heard;
+  listed = λ i gate lt. absurd (omega arith);
 }
 
 -- one gate more that is listed

@@ -1,7 +1,7 @@
 pub mod Gates
 pub mod Formulas
+pub mod FormulaLaws
 pub mod Named
-pub mod Growing
 pub mod NetOf
 pub mod NetLaws
 pub mod Readers

@@ -1,13 +1,14 @@
 //! A finished net.
 
-ghost use Rattle.std.specs.Prelude.{◌≡◌, ◌<◌, ◌≤◌, Some, length, slice_get};
+ghost use Rattle.std.specs.Prelude.{◌≡◌, ◌<◌, ◌≤◌, Some, IfOk, length, slice_get};
 ghost use Rattle.net_gates.specs.Formulas.{formula_of, kind_over};
 ghost use Rattle.net_gates.specs.NetOf.{IsNet, key_of, trip_of};
-ghost use Rattle.net_gates.specs.Listing.{ReadersHold};
-ghost use Rattle.net_gates.specs.Readers.{AreBelow, HasAllHearers, HasAllReaders};
+ghost use Rattle.net_gates.specs.Readers.{AreBelow, HasAllHearers, HasAllReaders, HearBelow};
 
 use crate::gate::{Gate, GateId};
-use crate::readers::Readers;
+use crate::readers::{Readers, readers_of};
+use model_line::Memory;
+use std::alloc::Global;
 use std::marker::Model;
 
 /// Gates in order, and the gates of each terminal's key and trip in the order of the terminals.
@@ -39,22 +40,27 @@ impl Model for Net {
 }
 
 impl Net {
-    pub(crate) fn new(
+    /// The net of these gates, with the gates of each terminal's key and trip, in the order of the
+    /// terminals. They hear no channel from `channels` on.
+    pub fn new(
+        alloc: Global,
         gates: Vec<Gate>,
+        channels: u32,
         keys: Vec<GateId>,
         trips: Vec<GateId>,
-        readers: Readers,
-    ) -> Net
+    ) -> Result<Net, Memory>
         requires laws { IsNet (record { gates = gates.items; keys = keys.items; trips = trips.items }) }
-        requires readers { ReadersHold gates.items readers }
-        ensures { result ≡ record { gates = gates.items; keys = keys.items; trips = trips.items } }
+        requires heard { HearBelow channels gates.items }
+        ensures { IfOk result (λ net.
+            net ≡ record { gates = gates.items; keys = keys.items; trips = trips.items }) }
     {
-        Net {
+        let readers = readers_of(alloc, &gates, channels)?;
+        Ok(Net {
             gates,
             keys,
             trips,
             readers,
-        }
+        })
     }
 
     /// How many gates there are.
@@ -106,6 +112,7 @@ impl Net {
     {
         self.trips[terminal as usize]
     }
+
     /// The gates that have this one as an argument: each of them, and maybe others.
     pub fn readers(&self, id: GateId) -> &[u32]
         requires { id.0 < length self.now.gates }

@@ -6,7 +6,7 @@ ghost use Rattle.std.specs.Process.{exit_status};
 ghost use Rattle.pilot.specs.Exit.{exit_number};
 
 use base_store::{FileStore, StdSink};
-use call_engine::NetEngine;
+use call_answer::NetEngine;
 use call_pilot::{Status, pilot};
 use std::io::ErrorKind;
 use std::process::ExitCode;

@@ -3,3 +3,4 @@ mod MaskLaws
 mod UnderLaws
 mod GivenLaws
 mod DelayLaws
+mod KindLaws

@@ -2,7 +2,7 @@
 use Rattle.std.proofs.Common.{◌≡◌, Bool, true, false, refl, ◌∙◌, ap}
 use Rattle.std.specs.Prelude.{◌&&◌, ◌||◌, Option, None, Some}
 use Rattle.model_history.specs.Rails.{Rails, both}
-use Rattle.model_cases.specs.Under.{assumed_or}
+use Rattle.model_settle.specs.Under.{assumed_or}
 use Rattle.run_cases.specs.Masks.{put_rails, PutsLevel}
 
 abbrev pair : Bool → Bool → Rails

@@ -5,7 +5,7 @@ use Rattle.model_history.specs.Rails.{Rails}
 use Rattle.model_logic.specs.PairMean.{PairWorld, PairSignals}
 use Rattle.model_logic.specs.Tree.{Tree}
 use Rattle.model_logic.specs.Tree as tree
-use Rattle.model_cases.specs.Under.{assumed_or, pair_under, own_pair}
+use Rattle.model_settle.specs.Under.{assumed_or, pair_under, own_pair}
 use Rattle.net_gates.specs.declared.gate.Gate.TheVariants.{Const, Seen, Loss, Raw, Not, And, Or}
 use Rattle.net_gates.specs.declared.gate.Gate.TheVariants.{Timer, Seal}
 use Rattle.net_gates.specs.Gates.{AreGates}

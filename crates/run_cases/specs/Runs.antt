@@ -5,7 +5,7 @@ use Rattle.model_line.specs.Parameters.{param_count, terminal_count}
 use Rattle.model_line.specs.{declared.line.Line.Line}
 use Rattle.model_logic.specs.Choice.{LeastFromOne}
 use Rattle.model_logic.specs.{Logic.key_tree, PairMean.PairSignals, PairMean.PairWorld, Tree.Tree}
-use Rattle.model_cases.specs.Under.{pair_under, own_pair}
+use Rattle.model_settle.specs.Under.{pair_under, own_pair}
 use Rattle.net_gates.specs.{NetOf.NetOf, NetOf.IsNetOf, Formulas.formula_of}
 use Rattle.run_cases.specs.Given.{span_box}
 use Rattle.run_cases.specs.Masks.{HaveRows, Levels, PutLevels, AreOfTimers}

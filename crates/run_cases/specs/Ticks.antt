@@ -1,10 +1,10 @@
 -- What a run holds before and at a tick: cells, keys that were sent, and values.
 use Rattle.std.specs.Prelude.{◌≡◌, ℕ, Bool, List, Option, Some, length, slice_get}
 use Rattle.model_history.specs.Rails.{Rails, Ends}
-use Rattle.run_channel.specs.SentKeys.{SentKeys}
+use Rattle.run_signal.specs.SentKeys.{SentKeys}
 use Rattle.model_logic.specs.PairMean.{PairWorld, PairSignals}
 use Rattle.model_logic.specs.Tree.{Tree}
-use Rattle.model_cases.specs.Under.{assumed_or, pair_under, own_pair}
+use Rattle.model_settle.specs.Under.{assumed_or, pair_under, own_pair}
 use Rattle.net_gates.specs.{declared.gate.Gate.Gate, Formulas.formula_of}
 use Rattle.run_step.specs.GatePairs.{GateSignals, kind_pair}
 use Rattle.run_step.specs.Ticks.{KeysSent, ValuesTold, AllStand}

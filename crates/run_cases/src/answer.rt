@@ -15,10 +15,8 @@ use model_history::laws::history_laws;
 use model_history::recorded_laws::recorded_ticks_suffice;
 use model_line::{Line, SeenSpan, lost_in, shown_in};
 use net_gates::{Gate, GateId};
-use run_channel::{Carried, Track};
-use run_signal::Signal;
+use run_signal::{Carried, SealCell, Signal, Timed, Track};
 use run_step::{Cell, seal_answer, timer_answer};
-use run_timers::{SealCell, Timed};
 
 // What is received of a channel at the next tick, lost or not.
 fn raw_answer<V: Carried>(

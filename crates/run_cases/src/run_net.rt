@@ -11,8 +11,7 @@ use crate::ticks::run_ticks;
 use crate::waves::UnderWaves;
 use model_line::{Line, Memory, Script};
 use net_gates::Net;
-use run_channel::Carried;
-use run_timers::Timed;
+use run_signal::{Carried, Timed};
 use std::alloc::Global;
 
 /// Runs the net of a line over a script, from tick 0 to the horizon. A span stands for each

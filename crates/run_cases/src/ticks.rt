@@ -14,9 +14,8 @@ use crate::walk::walk;
 use model_line::{Line, Memory, Script};
 use net_gates::Net;
 use net_gates::laws::gates_stand_for_their_trees;
-use run_channel::Carried;
+use run_signal::{Carried, Timed};
 use run_step::{extend_within, fresh_cells, fresh_tracks, send_all};
-use run_timers::Timed;
 use std::alloc::Global;
 
 /// The values of all gates, tick after tick: their own, and with what is put.

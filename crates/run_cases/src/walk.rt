@@ -15,9 +15,8 @@ use crate::delays::Delay;
 use crate::mask::{Masks, mask_at, put};
 use model_line::{Line, SeenSpan};
 use net_gates::{GateId, Net};
-use run_channel::{Carried, Track};
+use run_signal::{Carried, SealCell, Timed, Track};
 use run_step::Cell;
-use run_timers::{SealCell, Timed};
 
 /// Takes one tick: two columns, which have room for it, get each gate's own value, and its value
 /// with what is put.

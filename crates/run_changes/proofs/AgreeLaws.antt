@@ -6,7 +6,7 @@ use Rattle.std.specs.Prelude.{◌↔◌, IsTrue, IsFalse, not, slice_get}
 use Rattle.model_history.specs.Rails.{Rails, IsSound, both, must_of, rails_and, rails_at, rails_not}
 use Rattle.run_signal.specs.{declared.level.Level.Level, Levels.level_rails}
 use Rattle.run_signal.specs.declared.level.Level.TheVariants.{Off, On}
-use Rattle.run_channel.specs.{SentKeys.SentKeys, Tracks.StaysUntil}
+use Rattle.run_signal.specs.{SentKeys.SentKeys, Tracks.StaysUntil}
 use Rattle.model_line.specs.{declared.script.Script.Script, declared.line.Line.Line}
 use Rattle.model_line.specs.Parameters.{terminal_count}
 use Rattle.model_logic.specs.PairMean.{PairSignals}

@@ -1,11 +1,14 @@
 -- Keys that change, and the gates that hear them.
 use Rattle.std.proofs.Common.{◌≡◌, ℕ, ◌+◌, ◌-◌, ◌<◌, ◌≤◌, List, length, Some, sym, ◌∙◌, ap, subst}
-use Rattle.std.proofs.Common.{arith, ⊎_elim, inl, inr, refl}
+use Rattle.std.proofs.Common.{arith, ⊎_elim, inl, inr, refl, ◌*◌}
+use Rattle.std.proofs.Math.Nat.{mul-le-mul}
 use Rattle.std.proofs.lemmas.Option.{slice_get_within}
 use Rattle.std.specs.Prelude.{slice_get, slice_set}
 use Rattle.model_history.specs.Rails.{Rails, Ends, rails_at}
 use Rattle.model_history.specs.{Recorded.first_ticks, Laws.HistoryLaws}
-use Rattle.run_channel.specs.SentKeys.{SentKeys}
+use Rattle.run_signal.specs.SentKeys.{SentKeys}
+use Rattle.model_line.specs.{declared.line.Line.Line}
+use Rattle.model_line.specs.Parameters.{terminal_count, channel_count}
 use Rattle.net_gates.specs.declared.gate.Gate.{Gate}
 use Rattle.net_gates.specs.{NetOf.NetOf, NetOf.key_of, Readers.Hears}
 use Rattle.run_step.specs.declared.delays.Delay.{Delay}
@@ -17,6 +20,14 @@ use Rattle.run_step.specs.{Lanes.LanePairs}
 use Rattle.model_history.specs.ListLaws.{exists_at, at_set, one_value}
 use Rattle.run_changes.specs.LaneLaws.{lane_at}
 use Rattle.run_changes.proofs.LagLaws.{HearsNo}
+
+-- a line of at most three terminals has six channels at most
+pub few_channels : (line : Line) → channel_count line ≤ 6
+few_channels line =
+    let n = terminal_count line in
+    let less : n - 1 ≤ 2 = omega (arith, line.two_or_three.1) in
+    let most : n * (n - 1) ≤ 3 * 2 = mul-le-mul line.two_or_three.1 less in
+    omega (arith, most, line.pairs_once.count)
 
 -- a due tick that was made earlier still is
 pub soon_kept : (first i : ℕ) (old new : List ℕ) → length old ≡ length new → AreHastened old new

@@ -7,7 +7,7 @@ use Rattle.model_history.specs.Rails.{rails_delayed, rails_timed, rails_sealed, 
 use Rattle.model_history.specs.{Recorded.first_ticks}
 use Rattle.model_history.specs.{FirstTickLaws.length-first_ticks}
 use Rattle.model_history.specs.Laws.{RecordedTicksSuffice}
-use Rattle.run_timers.specs.{Stretches.ElementsInAStretch, Seals.last_seal}
+use Rattle.run_signal.specs.{Stretches.ElementsInAStretch, Seals.last_seal}
 use Rattle.model_logic.specs.{PairMean.PairWorld}
 use Rattle.net_gates.specs.declared.gate.Gate.TheVariants.{Const, Seen, Loss, Raw, Not, And, Or}
 use Rattle.net_gates.specs.declared.gate.Gate.TheVariants.{Timer, Seal}

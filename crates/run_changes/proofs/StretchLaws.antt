@@ -3,7 +3,7 @@ use Rattle.std.proofs.Common.{◌≡◌, ℕ, ◌+◌, ◌<◌, ◌≤◌, List,
 use Rattle.std.proofs.Common.{subst}
 use Rattle.std.specs.Prelude.{slice_get}
 use Rattle.model_history.specs.Rails.{Rails, Ends}
-use Rattle.run_timers.specs.Stretches.{ElementsInAStretch}
+use Rattle.run_signal.specs.Stretches.{ElementsInAStretch}
 use Rattle.model_line.specs.{declared.line.Line.Line, declared.script.Script.Script}
 use Rattle.model_line.specs.{Channels.from_of, Parameters.channel_count}
 use Rattle.model_logic.specs.Choice.{Box, LeastFromOne, pair_world_of}

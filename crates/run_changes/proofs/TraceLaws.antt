@@ -6,7 +6,7 @@ use Rattle.std.proofs.lemmas.Option.{slice_get_within}
 use Rattle.std.specs.Prelude.{slice_get, slice_set, take}
 use Rattle.model_history.specs.Rails.{Rails, Ends}
 use Rattle.model_history.specs.Laws.{RecordedTicksSuffice}
-use Rattle.run_timers.specs.Stretches.{ElementsInAStretch}
+use Rattle.run_signal.specs.Stretches.{ElementsInAStretch}
 use Rattle.net_gates.specs.{declared.gate.Gate.Gate}
 use Rattle.net_gates.specs.Gates.{HasArguments, AreGates}
 use Rattle.run_step.specs.declared.cell.Cell.{Cell}

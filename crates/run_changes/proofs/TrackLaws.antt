@@ -11,7 +11,7 @@ use Rattle.model_logic.specs.Solution.{SameBefore, the_keys}
 use Rattle.model_logic.specs.{Laws.LineLaws, Tree.Tree, Logic.key_tree}
 use Rattle.net_gates.specs.NetLaws.{GatesStandForTheirTrees}
 use Rattle.net_gates.specs.{Formulas.formula_of, NetOf.NetOf, NetOf.IsNetOf, NetOf.trip_of}
-use Rattle.run_channel.specs.SentKeys.{SentKeys}
+use Rattle.run_signal.specs.SentKeys.{SentKeys}
 use Rattle.run_step.specs.{GatePairs.gate_pairs, GatePairs.line_pairs, Runs.IsTheHistory}
 use Rattle.run_step.specs.{Ticks.KeysSent, Ticks.AreSent}
 use Rattle.model_history.specs.ListLaws.{exists_at}

@@ -6,7 +6,7 @@ use Rattle.std.proofs.lemmas.Option.{slice_get_within}
 use Rattle.std.specs.Prelude.{slice_get}
 use Rattle.model_history.specs.Rails.{Rails, Ends}
 use Rattle.model_history.specs.{Recorded.first_ticks, Laws.RecordedTicksSuffice}
-use Rattle.run_timers.specs.Stretches.{ElementsInAStretch}
+use Rattle.run_signal.specs.Stretches.{ElementsInAStretch}
 use Rattle.model_logic.specs.{PairMean.PairWorld, PairMean.PairSignals}
 use Rattle.net_gates.specs.declared.gate.Gate.TheVariants.{Const, Seen, Loss, Raw, Not, And, Or}
 use Rattle.net_gates.specs.declared.gate.Gate.TheVariants.{Timer, Seal}

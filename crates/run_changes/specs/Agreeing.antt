@@ -2,7 +2,7 @@
 use Rattle.std.specs.Prelude.{◌≡◌, ◌<◌, ◌≤◌, ℕ, List, slice_get}
 use Rattle.model_history.specs.Rails.{Rails, Ends}
 use Rattle.run_signal.specs.{declared.level.Level.Level, Levels.level_rails}
-use Rattle.run_channel.specs.SentKeys.{SentKeys}
+use Rattle.run_signal.specs.SentKeys.{SentKeys}
 use Rattle.model_line.specs.{declared.script.Script.Script, declared.line.Line.Line}
 use Rattle.model_line.specs.Parameters.{terminal_count}
 use Rattle.model_logic.specs.PairMean.{PairSignals}

@@ -1,7 +1,7 @@
 -- Keys that change, and the gates that hear them.
 use Rattle.std.specs.Prelude.{◌≡◌, ◌<◌, ◌≤◌, ◌+◌, ◌-◌, ◌⊎◌, ℕ, List, Some, length, slice_get}
 use Rattle.model_history.specs.Rails.{Rails}
-use Rattle.run_channel.specs.SentKeys.{SentKeys}
+use Rattle.run_signal.specs.SentKeys.{SentKeys}
 use Rattle.net_gates.specs.{declared.gate.Gate.Gate, NetOf.NetOf, NetOf.key_of, Readers.Hears}
 use Rattle.run_step.specs.declared.delays.Delay.{Delay}
 

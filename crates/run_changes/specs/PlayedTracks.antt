@@ -3,7 +3,7 @@ use Rattle.std.specs.Prelude.{◌≡◌, ℕ, Bool, List, Option, Some, slice_ge
 use Rattle.std.proofs.Common.{ap}
 use Rattle.model_history.specs.Rails.{rails_at, must_of}
 use Rattle.run_signal.specs.{declared.level.Level.Level, Lanes.in_lane, Levels.level_rails}
-use Rattle.run_channel.specs.SentKeys.{SentKeys}
+use Rattle.run_signal.specs.SentKeys.{SentKeys}
 use Rattle.model_logic.specs.Histories.{History, must_history}
 use Rattle.run_changes.specs.{LaneLaws.lane_at, Tracks.pair_of, Tracks.tracks_history}
 

@@ -2,7 +2,7 @@
 use Rattle.std.specs.Prelude.{◌≡◌, ◌<◌, ℕ, false, List, Option, Some, None, slice_get, length}
 use Rattle.model_history.specs.Rails.{Rails, Ends, rails_at, both}
 use Rattle.run_signal.specs.Lanes.{in_lane}
-use Rattle.run_channel.specs.SentKeys.{SentKeys}
+use Rattle.run_signal.specs.SentKeys.{SentKeys}
 use Rattle.model_line.specs.{declared.script.Script.Script, declared.line.Line.Line}
 use Rattle.model_logic.specs.PairMean.{PairSignals}
 use Rattle.model_logic.specs.{Logic.key_tree, Solution.the_keys, Histories.PairHistory}

@@ -3,7 +3,7 @@
 ghost use Rattle.std.specs.Prelude.{◌≡◌, ◌↔◌, ℕ, ◌<◌, ◌≤◌, length, slice_get, IfOk, IsTrue, IsFalse};
 ghost use Rattle.model_history.specs.Rails.{rails_at};
 ghost use Rattle.run_signal.specs.{Lanes.in_lane, Levels.level_rails};
-ghost use Rattle.run_channel.specs.Tracks.{StaysUntil};
+ghost use Rattle.run_signal.specs.Tracks.{StaysUntil};
 ghost use Rattle.model_line.specs.{declared.script.Script.Script, Parameters.param_count};
 ghost use Rattle.model_line.specs.Parameters.{terminal_count};
 ghost use Rattle.model_logic.specs.Choice.{Choice};
@@ -26,9 +26,7 @@ use model_logic::laws::line_laws;
 use model_timing::Step;
 use net_gates::Net;
 use net_gates::laws::gates_stand_for_their_trees;
-use run_channel::{Carried, Track};
-use run_signal::{Level, Signal};
-use run_timers::Timed;
+use run_signal::{Carried, Level, Signal, Timed, Track};
 use std::alloc::Global;
 
 /// Runs the net of a line over a script as `run_tracks` does, up to the first tick at which no lane

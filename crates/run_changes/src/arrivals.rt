@@ -10,8 +10,7 @@ ghost use Rattle.run_step.specs.{Lasts.ArrivesAs, Lasts.EndStays, Lasts.RawLasts
 ghost use Rattle.run_step.specs.Ticks.{KeysSent};
 
 use model_history::laws::history_laws;
-use run_channel::Track;
-use run_signal::{Lanes64, Signal};
+use run_signal::{Lanes64, Signal, Track};
 use run_step::{Moment, lesser};
 
 /// Until when the same arrives over a channel as at the tick, if the key is held on from the tick

@@ -2,9 +2,8 @@
 
 use crate::marks::Marks;
 use crate::since::Since;
-use run_signal::Signal;
+use run_signal::{SealCell, Signal};
 use run_step::Cell;
-use run_timers::SealCell;
 
 /// The cells of the gates, what they have taken, when they are due, which are to be looked at, and
 /// their last values.

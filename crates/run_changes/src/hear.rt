@@ -11,8 +11,7 @@ ghost use Rattle.run_changes.specs.Readers.{AreHastened};
 
 use crate::marks::{Marks, plan};
 use net_gates::Net;
-use run_channel::Track;
-use run_signal::Signal;
+use run_signal::{Signal, Track};
 use run_step::Moment;
 
 /// Where a key at the tick is another one than before, those that hear it become due when it first

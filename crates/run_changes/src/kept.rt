@@ -2,8 +2,7 @@
 
 use crate::gates::Gates;
 use crate::shown_by::ShownBy;
-use run_channel::Track;
-use run_signal::Signal;
+use run_signal::{Signal, Track};
 use run_step::Delays;
 
 /// The gates, the spans of a script that each of them shows, the delay of each channel, and the keys

@@ -14,10 +14,8 @@ use crate::arrivals::arrives_until;
 use crate::since::{Since, catch_up};
 use model_line::SeenSpan;
 use net_gates::Gate;
-use run_channel::Carried;
-use run_signal::Signal;
+use run_signal::{Carried, SealCell, Signal, Timed};
 use run_step::{Cell, Moment, all_stay, answer, gate_stays, short_answer};
-use run_timers::{SealCell, Timed};
 
 // Whether a gate is no timer.
 fn is_no_timer(gate: &Gate) -> bool

@@ -8,8 +8,8 @@ ghost use Rattle.run_step.specs.GatePairs.{GateSignals};
 ghost use Rattle.run_changes.specs.Lags.{Lags};
 
 use net_gates::Gate;
+use run_signal::{SealCell, Timed, elements_stay_in_a_stretch};
 use run_step::{Cell, hold_timer};
-use run_timers::{SealCell, Timed, elements_stay_in_a_stretch};
 
 /// How many ticks a timer's cell has taken, and what its input is since the last of them.
 #[derive(Clone, Copy)]

@@ -18,9 +18,8 @@ use crate::since::Since;
 use model_line::{Line, Memory, Script};
 use model_logic::laws::line_laws;
 use net_gates::Net;
-use run_channel::Carried;
+use run_signal::{Carried, Timed};
 use run_step::{Delays, fresh_cells, fresh_delays, fresh_list, fresh_tracks};
-use run_timers::Timed;
 use std::alloc::Global;
 
 /// What is kept before tick 0. All memory of a run is taken here.

@@ -16,9 +16,8 @@ use model_logic::laws::line_laws;
 use model_timing::Step;
 use net_gates::Net;
 use net_gates::laws::gates_stand_for_their_trees;
-use run_channel::Carried;
+use run_signal::{Carried, Timed, elements_stay_in_a_stretch};
 use run_step::{Moment, renew_delays, send_all};
-use run_timers::{Timed, elements_stay_in_a_stretch};
 
 /// Takes the ticks from this one on until some gate is due, and answers how many.
 pub fn take_stretch<V: Timed + Carried>(

@@ -13,9 +13,8 @@ use crate::readers::tell;
 use crate::shown_by::{ShownBy, spans_of};
 use model_history::recorded_laws::recorded_ticks_suffice;
 use net_gates::{GateId, Net};
-use run_channel::Carried;
+use run_signal::{Carried, Timed, elements_stay_in_a_stretch};
 use run_step::Moment;
-use run_timers::{Timed, elements_stay_in_a_stretch};
 
 /// Takes one tick: the column, which has the values of the tick before, gets those of this one.
 pub fn trace<V: Timed + Carried>(

@@ -19,9 +19,7 @@ use model_logic::laws::line_laws;
 use model_timing::Step;
 use net_gates::Net;
 use net_gates::laws::gates_stand_for_their_trees;
-use run_channel::{Carried, Track};
-use run_signal::Signal;
-use run_timers::Timed;
+use run_signal::{Carried, Signal, Timed, Track};
 use std::alloc::Global;
 
 /// What each terminal keys, and whether it trips, in the order of the line.

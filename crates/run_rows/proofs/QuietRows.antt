@@ -6,7 +6,7 @@ use Rattle.std.proofs.lemmas.Bool.{cases_lt}
 use Rattle.std.proofs.lemmas.List.{append-nil}
 use Rattle.model_names.specs.NamesByNumber.{terminal_name}
 use Rattle.model_line.specs.{declared.line.Line.Line, Parameters.terminal_count}
-use Rattle.run_channel.specs.SentKeys.{SentKeys}
+use Rattle.run_signal.specs.SentKeys.{SentKeys}
 use Rattle.run_signal.specs.declared.level.Level.{Level}
 use Rattle.model_history.specs.ListLaws.{exists_at}
 use Rattle.run_changes.specs.{PlayedTracks.is_shown, PlayedTracks.played}

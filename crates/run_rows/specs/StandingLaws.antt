@@ -4,7 +4,7 @@ use Rattle.std.proofs.Common.{arith, Some, subst, ⊎_elim}
 use Rattle.std.proofs.lemmas.Bool.{cases_lt}
 use Rattle.std.specs.Prelude.{slice_get}
 use Rattle.run_signal.specs.declared.level.Level.{Level}
-use Rattle.run_channel.specs.SentKeys.{SentKeys}
+use Rattle.run_signal.specs.SentKeys.{SentKeys}
 use Rattle.run_changes.specs.PlayedTracks.{is_shown}
 use Rattle.run_rows.specs.PlayRows.{value_before}
 use Rattle.run_rows.specs.declared.standing.Pair.{Pair}

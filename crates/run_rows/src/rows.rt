@@ -10,8 +10,7 @@ ghost use Rattle.run_changes.specs.PlayedTracks.{is_on};
 use crate::standing::Standing;
 use itoa::Buffer;
 use model_line::{Memory, Name};
-use run_channel::Track;
-use run_signal::{Level, Signal};
+use run_signal::{Level, Signal, Track};
 
 /// What all rows of one run begin with.
 #[derive(Clone, Copy)]

@@ -2,7 +2,7 @@
 
 ghost use Rattle.std.specs.Prelude.{◌≡◌, ℕ, ◌<◌, ◌≤◌, List, length, slice_get, Some, IfOk};
 ghost use Rattle.run_signal.specs.declared.level.Level.{Level};
-ghost use Rattle.run_channel.specs.SentKeys.{SentKeys};
+ghost use Rattle.run_signal.specs.SentKeys.{SentKeys};
 ghost use Rattle.run_rows.specs.StandingLaws.{AllStand};
 
 use model_line::Memory;

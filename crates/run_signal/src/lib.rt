@@ -1,10 +1,38 @@
-//! Signals: what is known of a truth value at a tick, in each of several lanes. A value has two
-//! rails in each lane: whether it must be on, and whether it may be.
+//! Signals, and what a run makes of them: timed elements and seals, and what a channel delivers.
 //!
-//! `Level` is a truth value that is known, `Tern` one that may be unknown, and `Lanes64` 64 that
-//! are known. What takes any `Signal` runs once for one timing, for a whole box of timings, or for
-//! 64 timings at a time. No call takes memory.
+//! A signal is what is known of a truth value at a tick, in each of several lanes, on two rails:
+//! whether it must be on, and whether it may be. `Level` is a truth value that is known, `Tern` one
+//! that may be unknown, and `Lanes64` 64 that are known. What takes any `Signal` runs once for one
+//! timing, for a whole box of timings, or for 64 timings at a time.
+//!
+//! - `timed`, `seal`: cells, which keep no history. Whatever the number of ticks, a timed cell has
+//!   two counts for each rail, and a seal its last answer.
+//! - `carried`, `track`: the keys that were sent, after a delay of which the least and the greatest
+//!   number of ticks are known. A tick costs, whatever the number of keys sent: for a level one
+//!   look at a key; for three values one where the key is the same since the greatest delay, else
+//!   one for each delay of the span and rail; for 64 lanes one for each delay that some lanes have.
+//!
+//! Tracks alone take memory.
 #![tactic(auto)]
+
+mod carried;
+mod carried_lanes;
+mod carried_level;
+mod carried_tern;
+mod lane;
+mod lanes;
+mod laws;
+mod level;
+mod rail;
+mod seal;
+mod span;
+mod tern;
+mod timed;
+mod timed_lanes;
+mod timed_level;
+mod timed_tern;
+mod track;
+mod vectors;
 
 ghost use Rattle.std.specs.Prelude.{◌≡◌, ℕ, ◌<◌, ◌≤◌, IsTrue};
 ghost use Rattle.model_history.specs.Rails.{Rails, Ends, IsSound, single, both, rails_not};
@@ -13,15 +41,16 @@ ghost use Rattle.model_history.specs.Rails.{rails_or};
 ghost use Rattle.run_signal.specs.Bits.{bit_on};
 ghost use Rattle.run_signal.specs.Spans.{InOrderInEachLane};
 
-mod lanes;
-mod level;
-mod span;
-mod tern;
-
+pub use base_memory::Memory;
+pub use carried::Carried;
 pub use lanes::{Lanes64, Ticks64};
+pub use laws::{a_seal_is_its_last_answer, elements_stay_in_a_stretch};
 pub use level::Level;
+pub use seal::SealCell;
 pub use span::{Tick, Within};
 pub use tern::{Tern, covers};
+pub use timed::Timed;
+pub use track::Track;
 
 /// What is known of a truth value at a tick, in each lane below `LANES`.
 pub trait Signal: Copy {

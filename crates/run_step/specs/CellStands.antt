@@ -1,7 +1,7 @@
 -- What the cells of timed gates stand for.
 use Rattle.std.specs.Prelude.{◌≡◌, ℕ, List}
 use Rattle.model_history.specs.{Rails.Rails, Rails.Ends, Recorded.first_ticks}
-use Rattle.run_timers.specs.Seals.{SealStandsFor}
+use Rattle.run_signal.specs.Seals.{SealStandsFor}
 use Rattle.model_logic.specs.PairMean.{PairWorld}
 use Rattle.net_gates.specs.declared.gate.Gate.{Gate}
 use Rattle.net_gates.specs.declared.gate.Gate.TheVariants as gate

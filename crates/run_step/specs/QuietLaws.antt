@@ -5,7 +5,7 @@ use Rattle.std.proofs.lemmas.Bool.{cases_lt}
 use Rattle.std.specs.Prelude.{slice_get, Some}
 use Rattle.model_history.specs.Rails.{Rails, Ends, both, rails_not, rails_and, rails_or}
 use Rattle.model_history.specs.Rails.{rails_delayed}
-use Rattle.run_timers.specs.Stretches.{ElementsInAStretch}
+use Rattle.run_signal.specs.Stretches.{ElementsInAStretch}
 use Rattle.model_line.specs.{declared.line.Line.Line, Parameters.channel_count}
 use Rattle.model_logic.specs.PairMean.{PairWorld, PairSignals}
 use Rattle.net_gates.specs.declared.gate.Gate.TheVariants.{Const, Seen, Loss, Raw, Not, And, Or}

@@ -3,7 +3,7 @@ use Rattle.std.proofs.Common.{◌≡◌, ℕ, ◌+◌, ◌≤◌, List, [], ◌�
 use Rattle.std.proofs.Common.{arith, ◌<◌, length-append, Some, subst, replicate, sym}
 use Rattle.std.proofs.lemmas.Option.{slice_get-get_or, slice_get-map, get_or_from_slice_get}
 use Rattle.std.specs.Prelude.{slice_get, option_map, get_or}
-use Rattle.run_timers.specs.Stretches.{ElementsInAStretch}
+use Rattle.run_signal.specs.Stretches.{ElementsInAStretch}
 use Rattle.net_gates.specs.declared.gate.GateId.{GateId}
 use Rattle.run_step.specs.Ticks.{HasKeys, ValuesAgree, AreFresh, AreSent, KeysSent, HasSent}
 use Rattle.net_gates.specs.NetOf.{id_at}
@@ -12,7 +12,7 @@ use Rattle.model_history.specs.ListLaws.{at_push}
 use Rattle.model_history.specs.Rails.{Rails, Ends, rails_at, rails_delayed}
 use Rattle.model_history.specs.{Recorded.first_ticks, Laws.HistoryLaws}
 use Rattle.run_signal.specs.Lanes.{in_lane}
-use Rattle.run_channel.specs.SentKeys.{SentKeys}
+use Rattle.run_signal.specs.SentKeys.{SentKeys}
 use Rattle.model_logic.specs.PairMean.{PairSignals}
 
 pub fresh_more : {V : Type 0} (n horizon : ℕ) (lines : List (SentKeys V)) (s : SentKeys V)

@@ -1,7 +1,7 @@
 -- One tick of one gate.
 use Rattle.std.proofs.Common.{◌≡◌, ℕ, suc, ◌+◌, ◌<◌, List, [], ◌∷◌, ◌++◌, length, sym}
 use Rattle.std.proofs.Common.{◌∙◌, ap, subst, arith}
-use Rattle.run_timers.specs.{Ahead.next_rails, Stretches.ElementsInAStretch}
+use Rattle.run_signal.specs.{Ahead.next_rails, Stretches.ElementsInAStretch}
 use Rattle.run_step.specs.Quiet.{Keeps}
 use Rattle.run_step.specs.CellStands.{TimerStands, SealStands, CellStands}
 use Rattle.run_step.specs.{declared.cell.Cell.Cell, GatePairs.GateSignals, GatePairs.kind_pair}

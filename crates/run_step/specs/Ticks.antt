@@ -2,7 +2,7 @@
 use Rattle.std.specs.Prelude.{◌≡◌, ◌<◌, ◌≤◌, ◌%◌, ◌/◌, ℕ, suc, List, [], Some, length, slice_get}
 use Rattle.model_history.specs.{Rails.Rails, Rails.Ends, Recorded.first_ticks}
 use Rattle.run_signal.specs.Lanes.{in_lane}
-use Rattle.run_channel.specs.SentKeys.{SentKeys}
+use Rattle.run_signal.specs.SentKeys.{SentKeys}
 use Rattle.model_logic.specs.PairMean.{PairWorld, PairSignals}
 use Rattle.net_gates.specs.declared.gate.Gate.{Gate}
 use Rattle.run_step.specs.CellStands.{HasCell, CellStands}

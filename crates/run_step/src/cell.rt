@@ -1,11 +1,11 @@
 //! The cells of timed gates.
 
 ghost use Rattle.std.specs.Prelude.{◌≡◌, ℕ, ◌<◌, ◌≤◌, List, [], ◌∷◌, ◌++◌, length, replicate};
-ghost use Rattle.run_timers.specs.Ahead.{next_rails};
+ghost use Rattle.run_signal.specs.Ahead.{next_rails};
 ghost use Rattle.model_history.specs.Rails.{Rails, Ends, rails_timed, rails_sealed, rails_at};
 ghost use Rattle.run_step.specs.CellStands.{HasTimer, HasSeal, TimerStands, SealStands};
 
-use run_timers::{SealCell, Timed};
+use run_signal::{SealCell, Timed};
 
 /// What a gate keeps from one tick to the next.
 #[derive(Drop)]

@@ -12,9 +12,7 @@ use crate::cell::Cell;
 use crate::spans::time_span;
 use model_line::{Line, Memory};
 use net_gates::{Gate, GateId, Net};
-use run_channel::Track;
-use run_signal::Signal;
-use run_timers::{SealCell, Timed};
+use run_signal::{SealCell, Signal, Timed, Track};
 use std::alloc::Global;
 
 // A gate's cell.

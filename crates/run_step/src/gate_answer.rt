@@ -17,8 +17,7 @@ use model_history::laws::history_laws;
 use model_history::recorded_laws::recorded_ticks_suffice;
 use model_line::{SeenSpan, lost_in, shown_in};
 use net_gates::{Gate, GateId};
-use run_channel::Carried;
-use run_timers::{SealCell, Timed, elements_stay_in_a_stretch};
+use run_signal::{Carried, SealCell, Timed, elements_stay_in_a_stretch};
 
 // What is received of a channel at the next tick, lost or not.
 fn raw_answer<V: Carried>(moment: &Moment<'_, V, V::Span>, channel: u32) -> V

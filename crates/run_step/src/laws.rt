@@ -22,7 +22,7 @@ use model_history::laws::history_laws;
 use model_logic::laws::line_laws;
 use model_timing::timings_inside_are_choices_inside;
 use net_gates::laws::gates_stand_for_their_trees;
-use run_timers::elements_stay_in_a_stretch;
+use run_signal::elements_stay_in_a_stretch;
 
 /// A run whose spans and steps are the numbers and the steps of a timing inside the declared
 /// intervals is a run at exactly the choice of delays that the timing stands for, and that choice

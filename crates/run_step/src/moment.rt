@@ -2,8 +2,7 @@
 
 use crate::delays::Delay;
 use model_line::Line;
-use run_channel::Track;
-use run_signal::Signal;
+use run_signal::{Signal, Track};
 
 /// A line, the delay of each of its channels at a tick, and what each terminal sent before it.
 #[derive(Clone, Copy)]

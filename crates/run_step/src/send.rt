@@ -7,9 +7,7 @@ ghost use Rattle.net_gates.specs.NetOf.{AreGatesOf, id_at};
 ghost use Rattle.run_step.specs.Ticks.{KeysSent, AreSent};
 
 use net_gates::GateId;
-use run_channel::Track;
-use run_signal::Signal;
-use run_timers::elements_stay_in_a_stretch;
+use run_signal::{Signal, Track, elements_stay_in_a_stretch};
 
 /// Appends to the track of each of these gates its value, for so many ticks.
 pub fn send_all<V: Signal>(

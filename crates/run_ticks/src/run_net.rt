@@ -16,8 +16,7 @@ use model_logic::laws::line_laws;
 use model_timing::Step;
 use net_gates::Net;
 use net_gates::laws::gates_stand_for_their_trees;
-use run_channel::Carried;
-use run_timers::Timed;
+use run_signal::{Carried, Timed};
 use std::alloc::Global;
 
 /// Runs the net of a line over a script, from tick 0 to the horizon. A span stands for each

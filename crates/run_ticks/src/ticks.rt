@@ -11,9 +11,8 @@ use model_logic::laws::line_laws;
 use model_timing::Step;
 use net_gates::Net;
 use net_gates::laws::gates_stand_for_their_trees;
-use run_channel::Carried;
+use run_signal::{Carried, Timed};
 use run_step::{Moment, extend_within, fresh_cells, fresh_tracks, send_all};
-use run_timers::Timed;
 use std::alloc::Global;
 
 /// The values of all gates, tick after tick. All memory is taken before the first tick.

@@ -8,9 +8,8 @@ ghost use Rattle.run_step.specs.Ticks.{HaveCells, AllStand, ValuesAgree, IsReady
 
 use model_line::SeenSpan;
 use net_gates::{GateId, Net};
-use run_channel::Carried;
+use run_signal::{Carried, SealCell, Timed};
 use run_step::{Cell, Moment, answer};
-use run_timers::{SealCell, Timed};
 
 /// Takes one tick: the column, which has room for it, gets the value of each gate.
 pub fn walk<V: Timed + Carried>(

@@ -6,8 +6,8 @@ use Rattle.std.specs.Prelude.{IsTrue, ◌↔◌}
 use Rattle.model_history.specs.Elements.{timed, IsTimed}
 use Rattle.model_history.specs.Rails.{Rails, Ends, rails_at, rails_timed, rails_sealed}
 use Rattle.model_history.specs.{Laws.HistoryLaws, Recorded.first_ticks}
-use Rattle.run_timers.specs.Seals.{last_seal, SealStandsFor}
-use Rattle.run_timers.specs.{Ahead.next_rails, Stretches.StaysAt, Stretches.ElementsInAStretch}
+use Rattle.run_signal.specs.Seals.{last_seal, SealStandsFor}
+use Rattle.run_signal.specs.{Ahead.next_rails, Stretches.StaysAt, Stretches.ElementsInAStretch}
 
 module _ (laws : HistoryLaws) where
   last_seal-ticks : (u v : ℕ → Rails) (n : ℕ)

@@ -3,14 +3,15 @@
 
 ghost use Rattle.std.specs.Prelude.{◌≡◌, ℕ, ◌<◌, ◌≤◌, List, [], ◌∷◌, ◌++◌, length, replicate, IfOk};
 ghost use Rattle.model_history.specs.Rails.{Rails, rails_timed, rails_sealed, rails_at};
-ghost use Rattle.run_timers.specs.Ahead.{next_rails};
+ghost use Rattle.run_signal.specs.Ahead.{next_rails};
 ghost use Rattle.run_waves.specs.Waves.{wave_at, IsWaveOf, StaysSteady};
 
 use crate::runs::Runs;
 use model_history::laws::history_laws;
 use model_line::Memory;
-use run_signal::{Tern, Within};
-use run_timers::{SealCell, Timed, a_seal_is_its_last_answer, elements_stay_in_a_stretch};
+use run_signal::{
+    SealCell, Tern, Timed, Within, a_seal_is_its_last_answer, elements_stay_in_a_stretch,
+};
 use std::alloc::Global;
 
 /// The timed element over a wave, tick by tick. It goes from one tick at which its answer may

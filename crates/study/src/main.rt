@@ -6,8 +6,9 @@ mod new_file;
 
 use crate::new_file::NewFile;
 use base_store::{FileStore, Sink, StdSink, put_all};
+use call_load::status_of;
 use call_records::records;
-use call_study::{status_of, study};
+use call_study::study;
 use call_words::{Call, Event, command, words_of};
 use clap::ArgMatches;
 use std::env;

@@ -2,7 +2,7 @@
 //! alone are the rows of the program `worked_rows`.
 
 use base_store::{Memory, MemorySink, MemoryStore};
-use call_engine::NetEngine;
+use call_answer::NetEngine;
 use call_pilot::{Status, pilot};
 use std::alloc::Global;
 use std::process::Abort;

@@ -4,7 +4,7 @@
 use crate::call::LONGEST;
 use crate::fault::Fault;
 use base_store::{MemorySink, MemoryStore, Sink, fetch, put_all};
-use call_engine::NetEngine;
+use call_answer::NetEngine;
 use call_lint::{Linted, Names, lint_line, lint_study};
 use call_pilot::pilot;
 use std::alloc::Global;

@@ -1,5 +1,5 @@
 use Rattle.std.proofs.lemmas.Result.{err_from_is_err_and}
-use Rattle.cert_part.specs.Piece.{claims_of}
+use Rattle.cert_own.specs.Piece.{claims_of}
 use Rattle.call_commands.proofs.certify.write_part.Goals as goal
 
 pub returns-in_err-put_text-clause-writes : goal.returns-in_err-put_text-clause-writes

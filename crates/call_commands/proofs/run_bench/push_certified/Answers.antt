@@ -1,5 +1,5 @@
 use Rattle.std.proofs.Common.{◌++◌, ap, ◌∙◌}
-use Rattle.cert_part.specs.Piece.{claims_of}
+use Rattle.cert_own.specs.Piece.{claims_of}
 use Rattle.call_commands.proofs.run_bench.push_certified.Goals as goal
 
 pub returns-clause-text : goal.returns-clause-text

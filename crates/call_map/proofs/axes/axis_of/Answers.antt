@@ -1,6 +1,6 @@
 use Rattle.std.proofs.Common.{refl, sym, ap, ◌∙◌, List, ℕ}
-use Rattle.file_axis.specs.Names.{params_of}
-use Rattle.file_axis.specs.Parts.{names_of}
+use Rattle.file_times.specs.Names.{params_of}
+use Rattle.file_times.specs.Parts.{names_of}
 use Rattle.call_map.proofs.Params.{are_params}
 use Rattle.call_map.proofs.axes.axis_of.Goals as goal
 

@@ -3,10 +3,11 @@ use Rattle.std.proofs.lemmas.Option.{slice_get_within, get_or_from_slice_get}
 use Rattle.std.specs.Prelude.{slice_get}
 use Rattle.model_line.specs.{declared.line.Line.Line, declared.script.Script.Script, Fits.Fits}
 use Rattle.model_timing.specs.declared.step.Step.{Step}
-use Rattle.draw_elements.specs.declared.page.FailingChoice.{FailingChoice}
-use Rattle.call_page.specs.{Choices.IsChoiceFor, Choices.IsToldStep, Lists.EachOf}
-use Rattle.call_page.specs.Drawings.{IsPlayOf}
-use Rattle.call_page.proofs.Sides.{one_at}
+use Rattle.draw_page.specs.declared.page.FailingChoice.{FailingChoice}
+use Rattle.call_page.specs.Choices.{IsChoiceFor}
+use Rattle.call_facts.specs.{Told.IsToldStep, Lists.EachOf}
+use Rattle.call_facts.specs.Drawings.{IsPlayOf}
+use Rattle.call_facts.specs.SideLaws.{one_at}
 use Rattle.call_page.proofs.choice.choice.Goals as goal
 
 pub cut-requires-clause-fails : goal.cut-requires-clause-fails

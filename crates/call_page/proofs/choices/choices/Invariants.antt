@@ -1,6 +1,7 @@
 use Rattle.std.proofs.Common.{take}
 use Rattle.std.specs.List.{flat_map}
-use Rattle.call_page.specs.{Choices.IsChoiceOf, Choices.failing_row, Lists.EachOf}
+use Rattle.call_page.specs.{Choices.IsChoiceOf, Choices.failing_row}
+use Rattle.call_facts.specs.Lists.{EachOf}
 use Rattle.call_page.proofs.choices.choices.Given as goal
 
 abbrev pub invariant-loop-row : goal.invariant-loop-row

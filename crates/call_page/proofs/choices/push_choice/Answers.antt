@@ -2,8 +2,8 @@ use Rattle.std.proofs.Common.{◌≡◌, ◌++◌, Bool, true, sym, ap, subst}
 use Rattle.judge_settle.specs.declared.answer.Answer.{Answer}
 use Rattle.call_tables.specs.Table.{fails_so, is_failing}
 use Rattle.call_page.specs.Choices.{IsChoiceOf}
-use Rattle.call_page.specs.Lists.{EachOf, if_one}
-use Rattle.call_page.proofs.Sides.{each_push}
+use Rattle.call_facts.specs.Lists.{EachOf, if_one}
+use Rattle.call_facts.specs.SideLaws.{each_push}
 use Rattle.call_page.proofs.choices.push_choice.Goals as goal
 
 pub returns-in_ok-push : goal.returns-in_ok-push

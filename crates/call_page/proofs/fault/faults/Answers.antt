@@ -1,5 +1,5 @@
 use Rattle.call_page.specs.Faults.{IsFaultOf}
-use Rattle.call_page.proofs.Sides.{each_more}
+use Rattle.call_facts.specs.SideLaws.{each_more}
 use Rattle.call_page.proofs.fault.faults.Goals as goal
 
 pub loop-part-preserved : goal.loop-part-preserved

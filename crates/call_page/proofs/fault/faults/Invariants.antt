@@ -1,5 +1,6 @@
 use Rattle.std.proofs.Common.{take}
-use Rattle.call_page.specs.{Faults.IsFaultOf, Lists.EachOf}
+use Rattle.call_page.specs.Faults.{IsFaultOf}
+use Rattle.call_facts.specs.Lists.{EachOf}
 use Rattle.call_page.proofs.fault.faults.Given as goal
 
 abbrev pub invariant-loop-part : goal.invariant-loop-part

@@ -1,5 +1,5 @@
 use Rattle.std.proofs.Common.{◌∙◌, ℕ, List, subst}
-use Rattle.call_page.specs.Files.{IsHashOf}
+use Rattle.call_facts.specs.Hashes.{IsHashOf}
 use Rattle.call_page.proofs.files.digests.Goals as goal
 
 pub returns : goal.returns

@@ -2,7 +2,7 @@ use Rattle.std.proofs.Common.{List, ◌∙◌, ap, subst}
 use Rattle.std.specs.List.{list_any}
 use Rattle.call_answer.specs.Answers.{status_by}
 use Rattle.call_tables.specs.{declared.row.Row.Row, Table.is_failing, Table.is_open}
-use Rattle.call_page.specs.declared.firsts.Firsts.{Firsts}
+use Rattle.call_facts.specs.declared.firsts.Firsts.{Firsts}
 use Rattle.call_page.specs.Pages.{IsPageOf}
 use Rattle.call_page.proofs.said.page_said.Goals as goal
 

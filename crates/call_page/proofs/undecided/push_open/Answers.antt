@@ -1,8 +1,8 @@
 use Rattle.std.proofs.Common.{◌≡◌, ◌++◌, ◌∙◌, Bool, true, sym, subst}
 use Rattle.call_tables.specs.Table.{is_open}
 use Rattle.call_page.specs.Choices.{IsUndecidedOf}
-use Rattle.call_page.specs.Lists.{EachOf, if_one}
-use Rattle.call_page.proofs.Sides.{each_push}
+use Rattle.call_facts.specs.Lists.{EachOf, if_one}
+use Rattle.call_facts.specs.SideLaws.{each_push}
 use Rattle.call_page.proofs.undecided.push_open.Goals as goal
 
 pub returns-in_ok-push : goal.returns-in_ok-push

@@ -1,7 +1,8 @@
 use Rattle.std.proofs.Common.{◌≡◌, ◌+◌, Some, refl, sym, ◌∙◌, ap}
 use Rattle.std.specs.Prelude.{slice_get}
 use Rattle.call_tables.specs.declared.row.Row.{Row}
-use Rattle.call_page.specs.{Facts.place, Lists.At, Verdicts.standing_of}
+use Rattle.call_page.specs.Verdicts.{standing_of}
+use Rattle.call_facts.specs.{FirstTicks.place, Lists.At}
 use Rattle.judge_verdict.specs.OneEachLaws.{one_next}
 use Rattle.call_page.proofs.verdict.standings.Goals as goal
 

@@ -1,6 +1,7 @@
 use Rattle.std.proofs.Common.{◌≡◌, ◌+◌}
 use Rattle.judge_verdict.specs.OneEach.{OneEach}
-use Rattle.call_page.specs.{Facts.place, Lists.At, Verdicts.standing_of}
+use Rattle.call_page.specs.Verdicts.{standing_of}
+use Rattle.call_facts.specs.{FirstTicks.place, Lists.At}
 use Rattle.call_page.proofs.verdict.standings.Given as goal
 
 abbrev pub invariant-loop-j : goal.invariant-loop-j

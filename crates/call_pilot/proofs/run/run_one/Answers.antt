@@ -1,4 +1,4 @@
-use Rattle.call_engine.specs.Calls.{Calls}
+use Rattle.call_answer.specs.Calls.{Calls}
 use Rattle.call_pilot.specs.Call.{answer_by, asks_by}
 use Rattle.call_pilot.specs.{Reading.over_files, Words.named, Words.one_file}
 use Rattle.call_answer.specs.Sinks.{sink_view}

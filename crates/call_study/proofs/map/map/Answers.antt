@@ -1,7 +1,8 @@
 use Rattle.std.proofs.Common.{◌≡◌, ◌∙◌, None, Some, length, refl, sym}
 use Rattle.std.proofs.lemmas.Result.{err_from_is_err_and}
 use Rattle.std.specs.Option.{option_copied}
-use Rattle.call_study.specs.{Answers.answer_by, Loaded.given_of, Reading.at_most, Reading.map_of}
+use Rattle.call_study.specs.Answers.{answer_by}
+use Rattle.call_load.specs.{Loaded.given_of, Reading.at_most, Reading.map_of}
 use Rattle.call_study.proofs.Mapping.{map_halts}
 use Rattle.call_study.proofs.Reading.{given_read, given_refused, load_halts}
 use Rattle.call_study.proofs.map.map.Goals as goal

@@ -2,11 +2,12 @@ use Rattle.std.proofs.Common.{[], arith, refl}
 use Rattle.std.proofs.lemmas.List.Elements.{All-cons, All-nil}
 use Rattle.std.specs.Option.{option_copied}
 use Rattle.std.proofs.lemmas.Result.{err_from_is_err_and}
-use Rattle.call_study.specs.Chosen.{chosen_script}
-use Rattle.call_study.specs.{Answers.answer_by, Loaded.given_of, Reading.timings_over}
+use Rattle.call_load.specs.Chosen.{chosen_script}
+use Rattle.call_study.specs.Answers.{answer_by}
+use Rattle.call_load.specs.{Loaded.given_of, Reading.timings_over}
 use Rattle.call_study.proofs.Reading.{given_read, given_refused, load_halts, none_placed, one_placed}
 use Rattle.call_study.proofs.Reading.{placed_at}
-use Rattle.cert_headline.specs.LineLaws.{all_at}
+use Rattle.cert_own.specs.LineLaws.{all_at}
 use Rattle.model_line.specs.Fits.{Fits}
 use Rattle.call_study.proofs.read.timings.Goals as goal
 

@@ -2,8 +2,9 @@ use Rattle.std.specs.Prelude.{◌∷◌}
 use Rattle.std.specs.Option.{option_copied}
 use Rattle.call_pilot.specs.{Files.NamedFile, Files.in_front, Words.named}
 use Rattle.call_pilot.specs.declared.stop.File.TheVariants as file
-use Rattle.call_study.specs.{Answers.answer_by, Answers.answer_over, Reading.over_further}
-use Rattle.call_study.specs.Request.{Request, asked_of, files, files_beside, study}
+use Rattle.call_study.specs.{Answers.answer_by, Answers.answer_over}
+use Rattle.call_load.specs.Reading.{over_further}
+use Rattle.call_load.specs.Request.{Request, asked_of, files, files_beside, study}
 use Rattle.call_study.proofs.Fetching.{fetched_next, fetched_wider, over_study, over_two}
 use Rattle.call_study.proofs.top.said_of.Goals as goal
 

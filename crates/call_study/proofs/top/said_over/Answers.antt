@@ -3,8 +3,9 @@ use Rattle.call_pilot.specs.declared.stop.File.{File}
 use Rattle.std.specs.Option.{option_copied}
 use Rattle.call_pilot.specs.{Files.NamedFile, Files.in_front, Words.named}
 use Rattle.call_pilot.specs.declared.stop.File.TheVariants as file
-use Rattle.call_study.specs.{Answers.Answers, Answers.answer_by, Loaded.source_in, Reading.over_further}
-use Rattle.call_study.specs.Request.{explain as asked_explain, play as asked_play, recheck as asked_recheck}
+use Rattle.call_study.specs.{Answers.Answers, Answers.answer_by}
+use Rattle.call_load.specs.{Loaded.source_in, Reading.over_further}
+use Rattle.call_load.specs.Request.{explain as asked_explain, play as asked_play, recheck as asked_recheck}
 use Rattle.call_study.proofs.Fetching.{fetched_all, fetched_next}
 use Rattle.call_study.proofs.top.said_over.Goals as goal
 

@@ -1,5 +1,5 @@
 use Rattle.std.proofs.Common.{◌≡◌, map, take}
-use Rattle.cert_settle_text.specs.Reading.{result_in}
+use Rattle.cert_settle.specs.Reading.{result_in}
 use Rattle.call_tables.specs.Written.{results_of}
 use Rattle.call_tables.proofs.trees.claims_of.Given as goal
 

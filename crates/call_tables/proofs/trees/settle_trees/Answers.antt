@@ -1,9 +1,9 @@
 use Rattle.std.proofs.Common.{◌≡◌, ◌<◌, ◌++◌, ℕ, List, length, sym, ◌∙◌, ap, subst, arith}
 use Rattle.model_line.specs.declared.script.Script.{Script}
 use Rattle.cert_check.specs.declared.counts.Counts.{Counts}
-use Rattle.cert_settle_text.specs.Grammar.{HasOneEach}
-use Rattle.cert_settle_text.specs.Text.{part_text}
-use Rattle.cert_settle_check.specs.Check.{IsAccepted}
+use Rattle.cert_settle.specs.Grammar.{HasOneEach}
+use Rattle.cert_settle.specs.Text.{part_text}
+use Rattle.cert_settle.specs.Check.{IsAccepted}
 use Rattle.call_tables.specs.declared.row.Row.{Row}
 use Rattle.call_tables.specs.Written.{results_of, rows_of, trees_text}
 use Rattle.call_tables.proofs.RowLaws.{rows_end}

@@ -1,4 +1,4 @@
-use Rattle.std.proofs.Common.{◌≡◌, ℕ, Bool, List, [], Some, sym, ◌∙◌, arith, subst}
+use Rattle.std.proofs.Common.{◌≡◌, ℕ, Bool, List, [], Some, length, ap, sym, ◌∙◌, arith, subst}
 use Rattle.std.proofs.lemmas.Option.{slice_get_read}
 use Rattle.std.specs.Prelude.{slice_get, MatchOption}
 use Rattle.model_line.specs.Parameters.{terminal_count}
@@ -11,6 +11,16 @@ use Rattle.cert_check.specs.Refutations.{steady_timing, choice_of, IsMetAt}
 use Rattle.cert_check.proofs.Refutations.{told_by_one}
 use Rattle.cert_check.proofs.refutation.met_at.Goals as goal
 
+pub ticks_of-requires : goal.ticks_of-requires
+ticks_of-requires c = c.requires.inside
+
+pub run_tracks-requires-clause-of_line : goal.run_tracks-requires-clause-of_line
+run_tracks-requires-clause-of_line c = c.requires.of_line
+
+pub run_tracks-requires-clause-spans : goal.run_tracks-requires-clause-spans
+run_tracks-requires-clause-spans c =
+    ap length (c.as_slice.ensures.value ∙ c.in_ok-numbers.ensures) ∙ c.requires.inside.count
+
 pub run_tracks-requires-clause-delayed : goal.run_tracks-requires-clause-delayed
 run_tracks-requires-clause-delayed c =
     let line = c.args.line.now in
@@ -18,6 +28,30 @@ run_tracks-requires-clause-delayed c =
     subst P (sym (c.as_slice.ensures.value ∙ c.in_ok-numbers.ensures))
     (c.a_timing_is_one_choice.ensures.delayed line (steady_timing c.args.values.now) 1
     c.requires.inside)
+
+pub index-trip-requires : goal.index-trip-requires
+index-trip-requires c =
+    omega (
+      arith,
+      c.requires.terminal,
+      c.requires.of_line.terminals,
+      c.requires.of_line.laws.same,
+      c.in_ok-tracks.ensures.trips.count,
+      c.in_ok-tracks.tracks.trips.ok.0,
+    )
+
+pub met_tick-requires-clause-horizon : goal.met_tick-requires-clause-horizon
+met_tick-requires-clause-horizon c =
+    let track = c.index-trip.result.now in
+    let at : slice_get c.in_ok-tracks.tracks.trips.items c.args.terminal ≡ Some track =
+    slice_get_read c.in_ok-tracks.tracks.trips.items (terminal_count c.args.line.now) c.args.terminal
+    track (sym (c.in_ok-tracks.ensures.trips.count ∙ c.requires.of_line.laws.same
+    ∙ c.requires.of_line.terminals)) c.requires.terminal c.index-trip.ensures in
+    (c.in_ok-tracks.ensures.trips.each c.args.terminal track at).0
+
+pub met_tick-requires-clause-deadline : goal.met_tick-requires-clause-deadline
+met_tick-requires-clause-deadline c =
+    c.deadlines_are_below_the_horizon.ensures c.args.line.now c.args.script.now c.requires.fits
 
 pub returns : goal.returns
 returns c =

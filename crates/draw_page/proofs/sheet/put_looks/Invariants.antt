@@ -1,6 +1,6 @@
 use Rattle.std.proofs.Common.{◌≡◌, ◌++◌, take}
 use Rattle.std.specs.List.{flat_map}
-use Rattle.draw_elements.specs.Figures.{look_rule}
+use Rattle.draw_page.specs.Figures.{look_rule}
 use Rattle.draw_page.proofs.sheet.put_looks.Given as goal
 
 abbrev pub invariant-loop-class : goal.invariant-loop-class

@@ -4,7 +4,7 @@ use Rattle.std.proofs.lemmas.Bool.{cases_lt}
 use Rattle.std.proofs.lemmas.Option.{slice_get_read, slice_get_within}
 use Rattle.std.specs.Prelude.{Decides, slice_get}
 use Rattle.model_history.specs.Rails.{must_of}
-use Rattle.model_cases.specs.Assumed.{Assumption}
+use Rattle.model_settle.specs.Assumed.{Assumption}
 use Rattle.run_signal.specs.Bits.{bit_on}
 use Rattle.judge_cases.specs.declared.view.View.{View}
 use Rattle.judge_cases.specs.Excluded.{OneIsExcluded, OneExcluded}

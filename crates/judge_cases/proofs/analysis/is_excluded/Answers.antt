@@ -2,7 +2,7 @@ use Rattle.std.proofs.Common.{◌≡◌, ◌<◌, ◌≤◌, Some, length, refl,
 use Rattle.std.proofs.lemmas.Bool.{cases_lt}
 use Rattle.std.proofs.lemmas.Option.{slice_get_read, slice_get-get_or}
 use Rattle.std.specs.Prelude.{slice_get}
-use Rattle.model_cases.specs.Assumed.{Assumption}
+use Rattle.model_settle.specs.Assumed.{Assumption}
 use Rattle.judge_cases.specs.Excluded.{ExcludedIn}
 use Rattle.judge_cases.proofs.analysis.is_excluded.Goals as goal
 

@@ -1,6 +1,6 @@
 use Rattle.std.proofs.Common.{◌≡◌, ◌<◌, ℕ, Some}
 use Rattle.std.specs.Prelude.{slice_get}
-use Rattle.model_cases.specs.Assumed.{Assumption}
+use Rattle.model_settle.specs.Assumed.{Assumption}
 use Rattle.judge_cases.specs.Excluded.{ExcludedIn}
 use Rattle.judge_cases.proofs.analysis.is_excluded.Given as goal
 

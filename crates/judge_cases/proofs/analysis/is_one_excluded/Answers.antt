@@ -1,9 +1,9 @@
 use Rattle.std.proofs.Common.{◌≡◌, ℕ, Bool, sym, ◌∙◌, ap, subst}
 use Rattle.std.specs.Prelude.{Decides}
-use Rattle.model_cases.specs.Assumed.{wanted}
+use Rattle.model_settle.specs.Assumed.{wanted}
 use Rattle.net_gates.specs.Formulas.{formula_of}
 use Rattle.model_history.specs.Rails.{Rails}
-use Rattle.model_cases.specs.Under.{Excludes}
+use Rattle.model_settle.specs.Under.{Excludes}
 use Rattle.run_step.specs.WavesOf.{pair_in}
 use Rattle.run_cases.specs.UnderWaves.{own_wave}
 use Rattle.judge_boxes.specs.Terns.{terns_rails}

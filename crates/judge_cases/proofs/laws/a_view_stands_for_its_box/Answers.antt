@@ -1,7 +1,7 @@
 use Rattle.std.proofs.Common.{sym, subst}
 use Rattle.model_line.specs.declared.line.Line.{Line}
 use Rattle.model_logic.specs.{Choice.Box, Boxes.IsSameBox}
-use Rattle.model_cases.specs.CaseTrees.{IsShownUnder}
+use Rattle.model_settle.specs.CaseTrees.{IsShownUnder}
 use Rattle.judge_cases.specs.Views.{view_box}
 use Rattle.judge_cases.proofs.laws.a_view_stands_for_its_box.Goals as goal
 

@@ -4,7 +4,7 @@ use Rattle.std.proofs.lemmas.Bool.{cases_eq}
 use Rattle.std.proofs.lemmas.Option.{slice_get_read}
 use Rattle.std.specs.Prelude.{Option, slice_get}
 use Rattle.model_line.specs.Parameters.{terminal_count}
-use Rattle.model_cases.specs.Assumed.{Assumption, assumed_level}
+use Rattle.model_settle.specs.Assumed.{Assumption, assumed_level}
 use Rattle.net_gates.specs.Formulas.{formula_of}
 use Rattle.run_cases.specs.Masks.{IsMask}
 use Rattle.run_cases.specs.declared.mask.Mask.{Mask}

@@ -4,7 +4,7 @@ use Rattle.std.proofs.lemmas.Nat.{mul-add-lt}
 use Rattle.std.proofs.lemmas.Option.{slice_get-get_or}
 use Rattle.std.specs.Prelude.{Option, slice_get, slice_set, get_or}
 use Rattle.model_line.specs.Parameters.{terminal_count}
-use Rattle.model_cases.specs.Assumed.{wanted}
+use Rattle.model_settle.specs.Assumed.{wanted}
 use Rattle.run_cases.specs.Masks.{IsMask}
 use Rattle.run_cases.specs.declared.mask.Mask.{Mask}
 use Rattle.judge_boxes.specs.declared.terns.Terns64.{Terns64}

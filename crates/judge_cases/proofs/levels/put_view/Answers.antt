@@ -2,7 +2,7 @@ use Rattle.std.proofs.Common.{◌≡◌, ◌<◌, ◌+◌, ◌-◌, ◌∷◌, �
 use Rattle.std.proofs.Common.{arith, subst}
 use Rattle.std.specs.Prelude.{get_or}
 use Rattle.model_line.specs.Parameters.{terminal_count}
-use Rattle.model_cases.specs.Assumed.{Assumption}
+use Rattle.model_settle.specs.Assumed.{Assumption}
 use Rattle.judge_cases.specs.Puts.{PutIn}
 use Rattle.judge_cases.proofs.BelowLaws.{drop_at}
 use Rattle.judge_cases.proofs.levels.put_view.Goals as goal

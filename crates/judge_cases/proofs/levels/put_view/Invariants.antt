@@ -1,6 +1,6 @@
 use Rattle.std.proofs.Common.{◌≡◌, ◌≢◌, ◌<◌, ◌-◌, ◌*◌, ℕ, List, [], length, drop}
 use Rattle.model_line.specs.Parameters.{terminal_count}
-use Rattle.model_cases.specs.Assumed.{Assumption}
+use Rattle.model_settle.specs.Assumed.{Assumption}
 use Rattle.judge_cases.specs.Puts.{PutIn}
 use Rattle.judge_cases.proofs.levels.put_view.Given as goal
 

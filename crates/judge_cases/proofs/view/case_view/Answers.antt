@@ -1,5 +1,5 @@
 use Rattle.std.proofs.Common.{◌∙◌, ◌++◌, ◌∷◌, [], List, ap}
-use Rattle.model_cases.specs.Assumed.{Assumption}
+use Rattle.model_settle.specs.Assumed.{Assumption}
 use Rattle.judge_cases.proofs.ViewLaws.{case_is}
 use Rattle.judge_cases.proofs.view.case_view.Goals as goal
 

@@ -1,6 +1,6 @@
 use Rattle.std.proofs.Common.{◌≡◌, ◌∙◌, ap}
 use Rattle.model_logic.specs.Tree.{Tree, And, Or}
-use Rattle.model_cases.specs.Assumed.{wanted}
+use Rattle.model_settle.specs.Assumed.{wanted}
 use Rattle.net_gates.specs.Formulas.{formula_of}
 use Rattle.judge_cases.proofs.WeakKey.{weak_key, weak_exists, ahead, still}
 use Rattle.judge_cases.proofs.wanted.wanted_gate.Goals as goal

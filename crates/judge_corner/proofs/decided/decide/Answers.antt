@@ -1,10 +1,10 @@
 use Rattle.std.proofs.Common.{◌<◌, Bool, List, sym, subst}
 use Rattle.model_line.specs.{declared.line.Line.Line, declared.script.Script.Script}
 use Rattle.model_logic.specs.Histories.{PairHistory}
-use Rattle.model_polarity.specs.Sides.{Rail}
-use Rattle.model_polarity.specs.Worst.{deciding}
+use Rattle.model_settle.specs.Sides.{Rail}
+use Rattle.model_settle.specs.Worst.{deciding}
 use Rattle.model_timing.specs.{Choice.timing_choice, Choice.IsSameChoice}
-use Rattle.judge_interval.specs.PairWavesOf.{pair_history}
+use Rattle.judge_verdict.specs.PairWavesOf.{pair_history}
 use Rattle.judge_corner.specs.{Corner.corner, Decided.OneTimingDecides}
 use Rattle.judge_corner.proofs.OneTiming.{one_timing_decides}
 use Rattle.judge_corner.proofs.decided.decide.Goals as goal

@@ -1,7 +1,7 @@
 use Rattle.std.proofs.Common.{◌≡◌, ◌<◌, ℕ, sym, subst, arith}
 use Rattle.model_line.specs.Parameters.{param_count, delay_param, declared_ends}
 use Rattle.model_logic.specs.Choice.{IsIn}
-use Rattle.judge_interval.specs.PairWavesOf.{pair_history}
+use Rattle.judge_verdict.specs.PairWavesOf.{pair_history}
 use Rattle.judge_corner.specs.Named.{rail_named}
 use Rattle.judge_corner.specs.Corner.{corner}
 use Rattle.judge_corner.proofs.CornerTimings.{delay_is, delay_inside}

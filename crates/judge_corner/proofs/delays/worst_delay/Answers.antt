@@ -1,6 +1,6 @@
 use Rattle.std.proofs.Common.{sym, ◌∙◌, arith}
 use Rattle.run_signal.specs.Spans.{ends_of}
-use Rattle.judge_interval.specs.PairWavesOf.{pair_history}
+use Rattle.judge_verdict.specs.PairWavesOf.{pair_history}
 use Rattle.judge_corner.specs.Named.{rail_named}
 use Rattle.judge_corner.proofs.LastShown.{greatest_left, shorter_left, shown_is_worst}
 use Rattle.judge_corner.proofs.LastShown.{least_is_worst}

@@ -1,6 +1,6 @@
 use Rattle.std.proofs.Common.{◌-◌, ◌≤◌}
 use Rattle.run_signal.specs.Spans.{ends_of}
-use Rattle.judge_interval.specs.PairWavesOf.{pair_history}
+use Rattle.judge_verdict.specs.PairWavesOf.{pair_history}
 use Rattle.judge_corner.specs.Named.{rail_named}
 use Rattle.judge_corner.proofs.LastShown.{IsLeft}
 use Rattle.judge_corner.proofs.delays.worst_delay.Given as goal

@@ -1,6 +1,6 @@
 use Rattle.std.proofs.Common.{get_or}
 use Rattle.model_line.specs.Parameters.{delay_param}
-use Rattle.judge_interval.specs.PairWavesOf.{pair_history}
+use Rattle.judge_verdict.specs.PairWavesOf.{pair_history}
 use Rattle.judge_corner.specs.Named.{rail_named}
 use Rattle.judge_corner.specs.{Corner.corner, Steps.AreStepsUpTo, Steps.IsNumberFrom}
 use Rattle.judge_corner.proofs.steps.push_steps.Given as goal

@@ -1,7 +1,7 @@
 use Rattle.std.proofs.Common.{◌≡◌, ℕ, List, sym, subst, arith}
 use Rattle.model_line.specs.Parameters.{channel_count}
 use Rattle.model_timing.specs.declared.step.Step.{Step}
-use Rattle.judge_interval.specs.PairWavesOf.{pair_history}
+use Rattle.judge_verdict.specs.PairWavesOf.{pair_history}
 use Rattle.judge_corner.specs.Named.{rail_named}
 use Rattle.judge_corner.specs.{Corner.corner, Steps.AreStepsUpTo}
 use Rattle.judge_corner.proofs.StepLaws.{no_steps, next_channel}

@@ -1,4 +1,4 @@
-use Rattle.judge_interval.specs.PairWavesOf.{pair_history}
+use Rattle.judge_verdict.specs.PairWavesOf.{pair_history}
 use Rattle.judge_corner.specs.Named.{rail_named}
 use Rattle.judge_corner.specs.{Corner.corner, Steps.AreStepsUpTo}
 use Rattle.judge_corner.proofs.steps.worst_steps.Given as goal

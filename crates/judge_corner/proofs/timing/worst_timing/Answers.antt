@@ -1,5 +1,5 @@
 use Rattle.std.proofs.Common.{◌∙◌, ℕ, List, length, ap}
-use Rattle.judge_interval.specs.PairWavesOf.{pair_history}
+use Rattle.judge_verdict.specs.PairWavesOf.{pair_history}
 use Rattle.judge_corner.specs.Named.{rail_named}
 use Rattle.judge_corner.proofs.CornerTimings.{count, made_inside, made_worst}
 use Rattle.judge_corner.proofs.timing.worst_timing.Goals as goal

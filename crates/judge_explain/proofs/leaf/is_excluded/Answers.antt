@@ -1,5 +1,5 @@
 use Rattle.std.proofs.Common.{◌≡◌, ◌∙◌, ap, subst, sym, List, ℕ}
-use Rattle.run_channel.specs.SentKeys.{SentKeys}
+use Rattle.run_signal.specs.SentKeys.{SentKeys}
 use Rattle.run_signal.specs.declared.tern.Tern.{Tern}
 use Rattle.judge_explain.specs.Asked.{AreRecorded, IsOut, tern_pairs, recorded_of}
 use Rattle.judge_explain.specs.declared.recorded.Recorded.{Recorded}

@@ -1,5 +1,5 @@
 use Rattle.std.proofs.Common.{◌≡◌, ◌∙◌, ap, subst, sym, refl, List, ℕ, Bool, true, false, ◌↔◌}
-use Rattle.run_channel.specs.SentKeys.{SentKeys}
+use Rattle.run_signal.specs.SentKeys.{SentKeys}
 use Rattle.run_signal.specs.declared.level.Level.{Level}
 use Rattle.run_changes.specs.PlayedTracks.{played, is_shown}
 use Rattle.judge_explain.specs.Asked.{AreRecorded, recorded_of}

@@ -1,5 +1,5 @@
 use Rattle.std.proofs.Common.{◌≡◌, ◌≤◌, ◌+◌, ℕ, List, length, refl, sym, subst, arith}
-use Rattle.judge_margin.specs.declared.upper_end.Lost.{Lost}
+use Rattle.judge_report.specs.declared.upper_end.Lost.{Lost}
 use Rattle.judge_margins.specs.{Ends.AreEnds, Ends.HaveRoom, Brackets.AreNarrowed}
 use Rattle.judge_margins.specs.{declared.end.End.End, declared.group.Group.Group}
 use Rattle.judge_margins.proofs.EndLaws.{found_room, founds_are_ends, founds_more}

@@ -1,7 +1,7 @@
 use Rattle.std.proofs.Common.{◌≡◌, ◌<◌, ℕ, Bool, List, Option, Some, length, sym, subst}
 use Rattle.std.proofs.lemmas.Result.{IfOk-weaker}
 use Rattle.std.specs.Prelude.{slice_get}
-use Rattle.judge_margin.specs.declared.upper_end.Lost.{Lost}
+use Rattle.judge_report.specs.declared.upper_end.Lost.{Lost}
 use Rattle.judge_margins.specs.declared.ask.Ask.{Ask}
 use Rattle.judge_margins.specs.Asks.{AreAsks, AreTold}
 use Rattle.judge_margins.specs.Brackets.{AreBrackets, AreHalves, left_of}

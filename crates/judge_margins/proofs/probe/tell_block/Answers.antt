@@ -1,7 +1,7 @@
 use Rattle.std.proofs.Common.{◌≡◌, ◌≤◌, ◌<◌, ◌+◌, ◌-◌, ℕ, List, Option, Some, length, sym, subst, arith}
 use Rattle.std.proofs.Math.Nat.{min-eq_left}
 use Rattle.std.specs.Prelude.{slice_get}
-use Rattle.judge_margin.specs.declared.upper_end.Lost.{Lost}
+use Rattle.judge_report.specs.declared.upper_end.Lost.{Lost}
 use Rattle.judge_margins.specs.declared.ask.Ask.{Ask}
 use Rattle.judge_margins.specs.Asks.{AreTold, IsTold, TellsOff}
 use Rattle.judge_margins.proofs.{EachLaws.one_more, RowLaws.lane_told}

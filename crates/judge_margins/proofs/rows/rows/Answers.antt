@@ -3,7 +3,7 @@ use Rattle.std.proofs.lemmas.Option.{slice_get_read}
 use Rattle.std.specs.Prelude.{slice_get}
 use Rattle.model_line.specs.Parameters.{terminal_count}
 use Rattle.judge_boxes.specs.Spans.{SpanLists}
-use Rattle.judge_margin.specs.declared.upper_end.Lost.{Lost}
+use Rattle.judge_report.specs.declared.upper_end.Lost.{Lost}
 use Rattle.judge_margins.specs.Asks.{AreAskSpans, IsRow}
 use Rattle.judge_margins.proofs.{EachLaws.one_more, RowLaws.asks_delayed, RowLaws.row_is}
 use Rattle.judge_margins.proofs.rows.rows.Goals as goal

@@ -3,7 +3,7 @@ use Rattle.std.proofs.Common.{Global, length, subst, sym, ap, ◌∙◌, refl, a
 use Rattle.std.proofs.lemmas.Option.{slice_get_read}
 use Rattle.std.specs.Prelude.{slice_get}
 use Rattle.model_line.specs.Parameters.{terminal_count}
-use Rattle.judge_margin.specs.declared.upper_end.Lost.{Lost}
+use Rattle.judge_report.specs.declared.upper_end.Lost.{Lost}
 use Rattle.judge_margins.specs.Today.{ArePicked, is_held, is_not_held}
 use Rattle.judge_margins.proofs.TodayLaws.{pick_more, skip_one, next_script}
 use Rattle.judge_margins.proofs.today.of_script.Goals as goal

@@ -1,6 +1,6 @@
 use Rattle.std.proofs.Common.{refl, arith}
 use Rattle.model_logic.specs.Choice.{declared_box}
-use Rattle.model_cases.specs.CaseTrees.{Yes}
+use Rattle.model_settle.specs.CaseTrees.{Yes}
 use Rattle.judge_settle.proofs.settling.held_at_once.Goals as goal
 
 pub returns : goal.returns

@@ -2,7 +2,7 @@ use Rattle.std.proofs.Common.{ℕ, ◌-◌, ◌≤◌, Option, subst, arith}
 use Rattle.std.specs.Prelude.{IsSome}
 use Rattle.model_line.specs.{declared.line.Line.Line, declared.script.Script.Script}
 use Rattle.judge_corner.specs.declared.decided.Decided.{Decided}
-use Rattle.model_polarity.specs.Schemes.{IsOneRailedBy}
+use Rattle.model_settle.specs.Schemes.{IsOneRailedBy}
 use Rattle.judge_settle.specs.Trees.{IsFound, Size, size_of_text}
 use Rattle.judge_settle.proofs.settling.settle.Goals as goal
 

@@ -1,17 +1,75 @@
-use Rattle.std.proofs.Common.{◌≡◌, ◌+◌, ◌-◌, ℕ, Bool, List, refl, sym, subst}
+use Rattle.std.proofs.Common.{◌≡◌, ◌+◌, ◌-◌, ◌∙◌, ℕ, Bool, List, length, ap, refl, sym, subst}
 use Rattle.std.proofs.Common.{arith}
 use Rattle.std.specs.Prelude.{IsTrue, Some, slice_get}
 use Rattle.model_line.specs.{declared.line.Line.Line, Parameters.param_count}
 use Rattle.judge_boxes.specs.Held.{AreParts, TellHeld}
-use Rattle.judge_split.specs.Quiet.{AreCorners, AreNodesIfTold, AreSettled, ArePartNodes}
+use Rattle.judge_split.specs.Quiet.{AreCorners, AreNodesIfTold, AreSettled, ArePartNodes, HasHalves}
 use Rattle.judge_split.proofs.NodeLaws.{split_nodes, joined, told_of_same}
 use Rattle.judge_split.proofs.{ListLaws.if_some_is, SettledLaws.settled_if_quiet}
 use Rattle.judge_split.proofs.quick.quick.Goals as goal
+
+pub parts_of-requires : goal.parts_of-requires
+parts_of-requires c = c.requires.widest
+
+pub corners-requires : goal.corners-requires
+corners-requires c = ap length c.deref-2.ensures.value ∙ c.in_ok-wide.ensures
+
+pub held_each-requires-clause-deadline : goal.held_each-requires-clause-deadline
+held_each-requires-clause-deadline c =
+    c.laws_below.ensures.lines.deadlines c.args.line.now c.args.script.now c.requires.fits
 
 pub held_each-requires-clause-parts : goal.held_each-requires-clause-parts
 held_each-requires-clause-parts c =
     subst (λ (l : List Line). AreParts c.args.line.now l) (sym c.deref-3.ensures.value)
     (record { each = c.in_ok-boxes.ensures.rest })
+
+pub held_each-requires-2-clause-deadline : goal.held_each-requires-2-clause-deadline
+held_each-requires-2-clause-deadline c =
+    c.laws_below.ensures.lines.deadlines c.args.line.now c.args.script.now c.requires.fits
+
+pub held_each-requires-2-clause-parts : goal.held_each-requires-2-clause-parts
+held_each-requires-2-clause-parts c =
+    subst (λ (l : List Line). AreParts c.args.line.now l) (sym c.deref-5.ensures.value)
+    c.in_ok-parts.ensures.parts
+
+pub nodes_at-requires-clause-wide : goal.nodes_at-requires-clause-wide
+nodes_at-requires-clause-wide c = ap length c.deref-6.ensures.value ∙ c.in_ok-wide.ensures
+
+pub nodes_at-requires-clause-parts : goal.nodes_at-requires-clause-parts
+nodes_at-requires-clause-parts c =
+    subst (λ (l : List Line). AreParts c.args.line.now l) (sym c.deref-7.ensures.value)
+    c.in_ok-parts.ensures.parts
+
+pub nodes_at-requires-clause-held : goal.nodes_at-requires-clause-held
+nodes_at-requires-clause-held c =
+    ap length c.deref-8.ensures.value ∙ c.in_ok-held.ensures.count ∙ ap length c.deref-5.ensures.value
+    ∙ sym (ap length c.deref-7.ensures.value)
+
+pub nodes_at-requires-clause-halves : goal.nodes_at-requires-clause-halves
+nodes_at-requires-clause-halves c =
+    subst (λ (l : List Line). (j : ℕ) → HasHalves l j) (sym c.deref-7.ensures.value)
+    c.in_ok-parts.ensures.halves
+
+pub nodes_at-requires-2-clause-wide : goal.nodes_at-requires-2-clause-wide
+nodes_at-requires-2-clause-wide c = ap length c.deref-9.ensures.value ∙ c.in_ok-wide.ensures
+
+pub nodes_at-requires-2-clause-parts : goal.nodes_at-requires-2-clause-parts
+nodes_at-requires-2-clause-parts c =
+    subst (λ (l : List Line). AreParts c.args.line.now l) (sym c.deref-10.ensures.value)
+    c.in_ok-parts.ensures.parts
+
+pub nodes_at-requires-2-clause-held : goal.nodes_at-requires-2-clause-held
+nodes_at-requires-2-clause-held c =
+    ap length c.deref-11.ensures.value ∙ c.in_ok-held.ensures.count ∙ ap length c.deref-5.ensures.value
+    ∙ sym (ap length c.deref-10.ensures.value)
+
+pub nodes_at-requires-2-clause-halves : goal.nodes_at-requires-2-clause-halves
+nodes_at-requires-2-clause-halves c =
+    subst (λ (l : List Line). (j : ℕ) → HasHalves l j) (sym c.deref-10.ensures.value)
+    c.in_ok-parts.ensures.halves
+
+pub middle-mid-requires : goal.middle-mid-requires
+middle-mid-requires c = c.requires.widest.exists
 
 pub returns : goal.returns
 returns c =

@@ -1,10 +1,11 @@
-use Rattle.std.proofs.Common.{◌≡◌, ◌-◌, ℕ, suc, subst, arith}
+use Rattle.std.proofs.Common.{◌≡◌, ◌-◌, ℕ, suc, subst, arith, ap, length}
 use Rattle.judge_verdict.specs.declared.verdict.Verdict.{Verdict}
 use Rattle.model_line.specs.{declared.line.Line.Line, declared.script.Script.Script}
 use Rattle.judge_split.specs.Search.{Found, Fails, IsVerdictOf, IsSplitAt, IsSearch, no}
 use Rattle.judge_split.specs.Search.{first_fails, second_fails}
 use Rattle.judge_split.specs.declared.node.Outcome.{Outcome}
 use Rattle.judge_split.specs.Found.{AreNodes, IsFound}
+use Rattle.judge_split.proofs.ListLaws.{if_some_is}
 use Rattle.judge_split.proofs.NodeLaws.{yes_nodes, narrow_nodes, deepest_nodes, split_nodes, joined}
 use Rattle.judge_split.proofs.searching.+search_part.Goals as goal
 
@@ -14,6 +15,68 @@ at_depth : (script : Script) (k n : ℕ) (line : Line) (found : Found) → (n �
 at_depth script k n line found some is =
     let e : suc (n - 1) ≡ n = omega arith in
     subst (λ (m : ℕ). IsSearch script k m line found) e is
+
+pub verdict_at-requires-clause-of_line : goal.verdict_at-requires-clause-of_line
+verdict_at-requires-clause-of_line t c = c.requires.of_line
+
+pub verdict_at-requires-clause-fits : goal.verdict_at-requires-clause-fits
+verdict_at-requires-clause-fits t c = c.requires.fits
+
+pub quick-requires-clause-of_line : goal.quick-requires-clause-of_line
+quick-requires-clause-of_line t c = c.requires.of_line
+
+pub quick-requires-clause-fits : goal.quick-requires-clause-fits
+quick-requires-clause-fits t c = c.requires.fits
+
+pub quick-requires-clause-undecided : goal.quick-requires-clause-undecided
+quick-requires-clause-undecided t c =
+    subst (λ (v : Verdict). IsVerdictOf c.args.line.now c.args.script.now c.args.terminal v)
+    c.in-Undecided.is c.in_ok-verdict_at.ensures
+
+pub quick-requires-clause-widest : goal.quick-requires-clause-widest
+quick-requires-clause-widest t c = c.in-Some.ensures
+
+pub returns-in-Some-2 : goal.returns-in-Some-2
+returns-in-Some-2 t c =
+    if_some_is c.in_ok-nodes.field-0 c.in-Some-2.nodes
+    (λ nodes. AreNodes c.args.line.now c.args.script.now c.args.terminal c.args.depth nodes.items)
+    c.in-Some-2.is c.in_ok-nodes.ensures
+
+pub halves-requires : goal.halves-requires
+halves-requires t c = c.in-Some.ensures
+
+pub search_part-requires : goal.search_part-requires
+search_part-requires t c =
+    let rest = c.in_ok-lower_line.ensures.0.rest in (
+      omega (arith, c.decreases, c.if-depth-eq0.false),
+      (
+        c.nets_do_not_rest_on_the_intervals.ensures c.args.line.now _ c.args.net.now rest
+            c.requires.of_line,
+        (
+          c.scripts_fit_whatever_the_intervals.ensures c.args.line.now _ c.args.script.now rest
+              c.requires.fits,
+          omega (arith, c.requires.terminal, ap length rest.terminals),
+        ),
+      ),
+    )
+
+pub search_part-requires-2 : goal.search_part-requires-2
+search_part-requires-2 t c =
+    let rest = c.in_ok-lower_line.ensures.1.rest in (
+      omega (arith, c.decreases, c.if-depth-eq0.false),
+      (
+        c.nets_do_not_rest_on_the_intervals.ensures c.args.line.now _ c.args.net.now rest
+            c.requires.of_line,
+        (
+          c.scripts_fit_whatever_the_intervals.ensures c.args.line.now _ c.args.script.now rest
+              c.requires.fits,
+          omega (arith, c.requires.terminal, ap length rest.terminals),
+        ),
+      ),
+    )
+
+pub middle-mid-requires : goal.middle-mid-requires
+middle-mid-requires t c = c.in-Some.ensures.exists
 
 pub returns-in-Yes : goal.returns-in-Yes
 returns-in-Yes t c =

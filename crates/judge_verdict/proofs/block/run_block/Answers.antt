@@ -1,7 +1,7 @@
 use Rattle.std.proofs.Common.{◌≡◌, ℕ, ◌<◌, Some, Option, sym, ◌∙◌, ap, subst}
 use Rattle.std.specs.Prelude.{slice_get}
 use Rattle.model_history.specs.Rails.{both, must_of}
-use Rattle.run_channel.specs.SentKeys.{SentKeys}
+use Rattle.run_signal.specs.SentKeys.{SentKeys}
 use Rattle.run_signal.specs.Bits.{bit_rails}
 use Rattle.model_timing.specs.{Choice.timing_choice, Candidates.candidate}
 use Rattle.run_changes.specs.Tracks.{pair_of}

@@ -8,7 +8,7 @@ use Rattle.model_line.specs.Parameters.{terminal_count}
 use Rattle.model_timing.specs.Timing.{TimingValues}
 use Rattle.model_timing.specs.{Choice.timing_choice, Candidates.candidate}
 use Rattle.model_timing.specs.{Candidates.candidate_count}
-use Rattle.judge_interval.specs.PairWavesOf.{pair_history}
+use Rattle.judge_verdict.specs.PairWavesOf.{pair_history}
 use Rattle.model_history.specs.ListLaws.{exists_at}
 use Rattle.judge_verdict.specs.declared.verdict.Verdict.{Verdict}
 use Rattle.judge_verdict.specs.declared.verdict.Verdict.TheVariants.{Yes, No, Undecided}

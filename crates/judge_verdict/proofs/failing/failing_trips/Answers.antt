@@ -3,7 +3,7 @@ use Rattle.model_history.specs.{Elements.some_below, Rails.must_of}
 use Rattle.model_line.specs.declared.script.Kind.{Kind}
 use Rattle.model_logic.specs.Histories.{MeetsBy}
 use Rattle.run_signal.specs.Bits.{bit_on}
-use Rattle.judge_interval.specs.Rules.{counted_ticks}
+use Rattle.judge_verdict.specs.Rules.{counted_ticks}
 use Rattle.judge_verdict.specs.Candidates.{trips_in, TellsFailing}
 use Rattle.judge_verdict.proofs.FailingLaws.{internal_tells, external_tells}
 use Rattle.judge_verdict.proofs.failing.failing_trips.Goals as goal

@@ -1,5 +1,5 @@
 use Rattle.run_waves.specs.Waves.{IsWaveOf}
-use Rattle.judge_interval.specs.PairWavesOf.{pair_history}
+use Rattle.judge_verdict.specs.PairWavesOf.{pair_history}
 use Rattle.judge_verdict.specs.OneEach.{OneEach}
 use Rattle.judge_verdict.proofs.keys.key_waves.Given as goal
 

@@ -1,4 +1,4 @@
-use Rattle.judge_interval.specs.PairWavesOf.{pair_history}
+use Rattle.judge_verdict.specs.PairWavesOf.{pair_history}
 use Rattle.judge_verdict.specs.{OneEach.OneEach, Standings.IsStanding}
 use Rattle.judge_verdict.proofs.standing.by_rules.Given as goal
 

@@ -1,4 +1,5 @@
-use Rattle.net_gates.proofs.{Standing.formula_of-gate, Names.formula_names}
+use Rattle.net_gates.specs.FormulaLaws.{formula_of-gate}
+use Rattle.net_gates.proofs.Names.{formula_names}
 use Rattle.net_gates.proofs.laws.gates_stand_for_their_trees.Goals as goal
 
 pub returns : goal.returns

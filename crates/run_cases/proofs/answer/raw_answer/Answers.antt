@@ -1,4 +1,4 @@
-use Rattle.std.proofs.Common.{◌≡◌, ◌<◌, ℕ, Some, refl, sym, subst, rules, ◌∙◌, ap, length}
+use Rattle.std.proofs.Common.{◌≡◌, ◌<◌, ℕ, Some, refl, sym, subst, rules, ◌∙◌, ap, length, arith}
 use Rattle.std.proofs.lemmas.Option.{slice_get_read}
 use Rattle.std.specs.Prelude.{slice_get}
 use Rattle.model_history.specs.Rails.{rails_delayed}
@@ -27,6 +27,41 @@ offset_bounds-sent-delay g c =
     subst (λ (n : ℕ). d.from < n) (sym c.requires.sent.count)
     (c.requires.delays.from c.args.channel d at) in
     search (rules, inside)
+
+pub bounds-delays-channel : goal.bounds-delays-channel
+bounds-delays-channel g c =
+    subst (λ (n : ℕ). c.args.channel < n) (sym c.requires.delays.count) c.requires.exists
+
+pub offset_bounds-delays-channel : goal.offset_bounds-delays-channel
+offset_bounds-delays-channel g c =
+    let inside = bounds-delays-channel g c in search (rules, inside)
+
+pub received-requires-clause-later : goal.received-requires-clause-later
+received-requires-clause-later g c = λ lane inside.
+    let delays = c.args.delays.now in
+    let d = c.index-delays-channel.result in
+    let at : slice_get delays c.args.channel ≡ Some d =
+    slice_get_read delays _ c.args.channel d (sym c.requires.delays.count) c.requires.exists
+    c.index-delays-channel.is in
+    c.requires.delays.later c.args.channel d at lane inside
+
+pub received-requires-clause-room : goal.received-requires-clause-room
+received-requires-clause-room g c =
+    let delays = c.args.delays.now in
+    let d = c.index-delays-channel.result in
+    let s = c.index-sent-delay.result in
+    let at : slice_get delays c.args.channel ≡ Some d =
+    slice_get_read delays _ c.args.channel d (sym c.requires.delays.count) c.requires.exists
+    c.index-delays-channel.is in
+    let f : slice_get c.args.sent.now d.from ≡ Some s =
+    slice_get_read c.args.sent.now _ d.from s (sym c.requires.sent.count)
+    (c.requires.delays.from c.args.channel d at) c.index-sent-delay.is in
+    omega (
+      arith,
+      (c.requires.sent.each d.from s f).0,
+      c.requires.tick,
+      c.args.line.now.horizon_in_range.1,
+    )
 
 pub returns : goal.returns
 returns g c = λ lane w keys inside of have.

@@ -5,7 +5,7 @@ use Rattle.model_line.specs.Parameters.{terminal_count}
 use Rattle.model_logic.specs.PairMean.{PairWorld}
 use Rattle.model_logic.specs.Choice.{pair_world_of}
 use Rattle.model_logic.specs.{Tree.Tree}
-use Rattle.model_cases.specs.Under.{pair_under}
+use Rattle.model_settle.specs.Under.{pair_under}
 use Rattle.net_gates.specs.NetOf.{key_of, AreGatesOf}
 use Rattle.run_step.specs.{GatePairs.GateSignals, Ticks.AreSent, Ticks.KeysSent}
 use Rattle.run_step.specs.Ticks.{ValuesAgree, ValuesTold}

@@ -2,9 +2,10 @@ use Rattle.std.proofs.Common.{◌≡◌, ℕ, ◌<◌, ◌≤◌, ◌+◌, ◌++
 use Rattle.std.proofs.Common.{length, length-append, subst}
 use Rattle.std.proofs.lemmas.Option.{slice_get_within, slice_get_read}
 use Rattle.std.specs.Prelude.{slice_get, vec_capacity}
-use Rattle.net_gates.specs.Formulas.{formula_of}
-use Rattle.model_cases.specs.Under.{assumed_or}
+use Rattle.net_gates.specs.{Formulas.formula_of, Gates.HasArguments}
+use Rattle.model_settle.specs.Under.{assumed_or}
 use Rattle.run_step.specs.Ticks.{ValuesAgree}
+use Rattle.run_cases.specs.Masks.{HaveRows}
 use Rattle.run_cases.proofs.MaskLaws.{put_is}
 use Rattle.run_step.specs.WalkLaws.{have_more, cells_more, walked_none, agree_none, agree_more}
 use Rattle.run_cases.proofs.walk.walk.Goals as goal
@@ -28,9 +29,84 @@ loop-i-init g c = record {
   );
 }
 
+pub gate-gate-requires : goal.gate-gate-requires
+gate-gate-requires g c = omega (arith, c.loop-i-test.true, c.len-i-end.ensures.len)
+
+pub index_mut-requires : goal.index_mut-requires
+index_mut-requires g c =
+    omega (
+      arith,
+      c.loop-i-test.true,
+      c.len-i-end.ensures.len,
+      c.loop-i.invariant.cells.count,
+      c.loop-i.cells.ok.0,
+    )
+
 pub answer-own-requires-clause-names : goal.answer-own-requires-clause-names
 answer-own-requires-clause-names g c =
     c.requires.names.each c.loop-i.i c.gate-gate.result.now (omega arith) c.gate-gate.ensures.is
+
+pub answer-own-requires-clause-arguments : goal.answer-own-requires-clause-arguments
+answer-own-requires-clause-arguments g c =
+    let here = c.gate-gate.result.now in
+    subst (λ (n : ℕ). HasArguments n here)
+    (sym (ap length c.as_slice.ensures.value ∙ c.loop-i.invariant.count))
+    (c.len-i-end.ensures.laws.gates.earlier c.loop-i.i here c.gate-gate.ensures.is)
+
+pub answer-own-requires-clause-cell : goal.answer-own-requires-clause-cell
+answer-own-requires-clause-cell g c =
+    let here = c.gate-gate.result.now in
+    let inside = slice_get_within c.args.net.now.gates c.loop-i.i here c.gate-gate.ensures.is in
+    c.loop-i.invariant.cells.each c.loop-i.i here c.index_mut.result.now c.gate-gate.ensures.is
+    (slice_get_read c.loop-i.cells.items (length c.args.net.now.gates) c.loop-i.i
+    c.index_mut.result.now (sym c.loop-i.invariant.cells.count) inside c.index_mut.ensures.value)
+
+pub answer-own-requires-clause-tick : goal.answer-own-requires-clause-tick
+answer-own-requires-clause-tick g c = c.requires.tick
+
+pub answer-own-requires-clause-delays : goal.answer-own-requires-clause-delays
+answer-own-requires-clause-delays g c = c.requires.delays
+
+pub answer-own-requires-clause-sent : goal.answer-own-requires-clause-sent
+answer-own-requires-clause-sent g c = c.requires.sent
+
+pub mask_at-mask-requires-clause-rows : goal.mask_at-mask-requires-clause-rows
+mask_at-mask-requires-clause-rows g c =
+    subst (λ (n : ℕ). HaveRows n c.args.line.now.horizon c.args.masks.now) (sym c.len.ensures.len)
+    c.requires.rows
+
+pub mask_at-mask-requires-clause-gate : goal.mask_at-mask-requires-clause-gate
+mask_at-mask-requires-clause-gate g c =
+    omega (arith, c.loop-i-test.true, c.len-i-end.ensures.len, c.len.ensures.len)
+
+pub mask_at-mask-requires-clause-short : goal.mask_at-mask-requires-clause-short
+mask_at-mask-requires-clause-short g c = c.args.line.now.horizon_in_range.1
+
+pub push_reserved-requires : goal.push_reserved-requires
+push_reserved-requires g c =
+    let room : length c.args.net.now.gates ≤ vec_capacity c.loop-i.owns =
+    c.loop-i.invariant.own_room in
+    omega (
+      arith,
+      room,
+      c.loop-i.invariant.own_count,
+      c.loop-i.owns.ok.0,
+      c.loop-i-test.true,
+      c.len-i-end.ensures.len,
+    )
+
+pub push_reserved-requires-in-loop-i : goal.push_reserved-requires-in-loop-i
+push_reserved-requires-in-loop-i g c =
+    let room : length c.args.net.now.gates ≤ vec_capacity c.loop-i.column =
+    c.loop-i.invariant.room in
+    omega (
+      arith,
+      room,
+      c.loop-i.invariant.count,
+      c.loop-i.column.ok.0,
+      c.loop-i-test.true,
+      c.len-i-end.ensures.len,
+    )
 
 pub loop-i-preserved : goal.loop-i-preserved
 loop-i-preserved g c =
@@ -95,6 +171,35 @@ loop-i-preserved g c =
                 (λ h. c.answer-own.ensures.stands lane w u inside agree h),
           );
     }
+
+pub returns-clause-room : goal.returns-clause-room
+returns-clause-room g c = c.loop-i.invariant.room
+
+pub returns-clause-own_room : goal.returns-clause-own_room
+returns-clause-own_room g c = c.loop-i.invariant.own_room
+
+pub returns-clause-count : goal.returns-clause-count
+returns-clause-count g c =
+    omega (
+      arith,
+      c.loop-i.invariant.count,
+      c.loop-i.auto.i-end,
+      c.loop-i-test.false,
+      c.len-i-end.ensures.len,
+    )
+
+pub returns-clause-own_count : goal.returns-clause-own_count
+returns-clause-own_count g c =
+    omega (
+      arith,
+      c.loop-i.invariant.own_count,
+      c.loop-i.auto.i-end,
+      c.loop-i-test.false,
+      c.len-i-end.ensures.len,
+    )
+
+pub returns-clause-cells : goal.returns-clause-cells
+returns-clause-cells g c = c.loop-i.invariant.cells
 
 pub returns-clause-stands : goal.returns-clause-stands
 returns-clause-stands g c = λ lane level w keys u v inside put world ready i gate cell ga ca.

@@ -5,6 +5,7 @@ use Rattle.net_gates.specs.{Readers.AreBelow, NetOf.key_of}
 use Rattle.run_changes.specs.Hears.{IsLastKey}
 use Rattle.run_step.specs.DelayLaws.{sender_inside}
 use Rattle.model_history.specs.ListLaws.{one_value}
+use Rattle.run_changes.proofs.HearLaws.{few_channels}
 use Rattle.run_changes.proofs.hear.hear_one.Goals as goal
 
 pub bounds-moment-delay : goal.bounds-moment-delay
@@ -91,3 +92,33 @@ hasten-requires-clause-later g c =
     let soon = c.requires.soonest c.args.channel e ea in
     let some : 1 ≤ e.soonest = soon.some in
     omega (arith, some)
+
+pub key_gate-requires : goal.key_gate-requires
+key_gate-requires g c =
+    let inside =
+    sender_inside g.V.Signal.LANES g.V.Signal.ends c.args.moment.now c.args.channel
+    c.index-moment-channel.result c.requires.moment (subst (λ (n : ℕ). c.args.channel < n)
+    c.requires.moment.delays.count c.requires.inside) in
+    omega (arith, inside, c.requires.moment.sent.count, c.requires.terminals)
+
+pub bounds-column-key_gate : goal.bounds-column-key_gate
+bounds-column-key_gate g c =
+    subst (λ (n : ℕ). c.key_gate.result.0 < n) (sym c.requires.column) c.key_gate.ensures.exists
+
+pub overflow_cast-key : goal.overflow_cast-key
+overflow_cast-key g c =
+    record { fits = omega (arith, c.key_gate.ensures.exists, c.requires.laws.gates.few) }
+
+pub offset_bounds-column-key_gate : goal.offset_bounds-column-key_gate
+offset_bounds-column-key_gate g c = omega (arith, c.key_gate.ensures.exists, c.requires.column)
+
+pub overflow_cast-channel : goal.overflow_cast-channel
+overflow_cast-channel g c =
+    record {
+      fits = omega (
+        arith,
+        c.requires.inside,
+        c.requires.moment.delays.count,
+        few_channels c.args.moment.now.line.now,
+      );
+    }

@@ -1,6 +1,6 @@
 use Rattle.std.proofs.Common.{◌≡◌, ℕ, ◌<◌, Some}
 use Rattle.std.specs.Prelude.{slice_get}
-use Rattle.run_channel.specs.SentKeys.{SentKeys}
+use Rattle.run_signal.specs.SentKeys.{SentKeys}
 use Rattle.net_gates.specs.NetOf.{key_of}
 use Rattle.run_changes.specs.Hears.{IsLastKey}
 use Rattle.run_changes.proofs.hear.keys_stay.Given as goal

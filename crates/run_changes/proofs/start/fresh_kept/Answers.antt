@@ -7,6 +7,20 @@ use Rattle.run_step.specs.GivenLaws.{stand_none}
 use Rattle.run_step.specs.SendLaws.{fresh_sent, none_sent}
 use Rattle.run_changes.proofs.start.fresh_kept.Goals as goal
 
+pub overflow_cast-key_gates : goal.overflow_cast-key_gates
+overflow_cast-key_gates g c =
+    let few = c.args.line.now.two_or_three.1 in
+    let keys = ap length c.key_gates.ensures in
+    record { fits = omega (arith, keys, c.requires.of_line.terminals, few) }
+
+pub overflow_cast-trip_gates : goal.overflow_cast-trip_gates
+overflow_cast-trip_gates g c =
+    let few = c.args.line.now.two_or_three.1 in
+    let net = c.requires.of_line in
+    record {
+      fits = omega (arith, ap length c.trip_gates.ensures, net.laws.same, net.terminals, few);
+    }
+
 pub returns-clause-can : goal.returns-clause-can
 returns-clause-can g c = λ steps.
     let h = c.args.line.now.horizon in

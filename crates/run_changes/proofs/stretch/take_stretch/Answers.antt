@@ -5,7 +5,7 @@ use Rattle.std.proofs.lemmas.Option.{slice_get_within}
 use Rattle.std.specs.Prelude.{slice_get}
 use Rattle.model_line.specs.Parameters.{terminal_count, channel_count}
 use Rattle.model_logic.specs.Choice.{pair_world_of}
-use Rattle.net_gates.specs.NetOf.{id_at, key_of}
+use Rattle.net_gates.specs.NetOf.{AreGatesOf, id_at, key_of}
 use Rattle.net_gates.specs.{NetLaws.hears_channel, Readers.Hears}
 use Rattle.net_gates.specs.declared.gate.Gate.{Gate}
 use Rattle.run_step.specs.Inputs.{AreDelaysFrom, AreSet, AreSoonest, CanReceive}
@@ -52,6 +52,10 @@ trace-requires-clause-can g c =
       set = subst (AreSet t) (sym c.as_slice.ensures.value) c.renew_delays.ensures.set;
     }
 
+pub hear-requires-clause-column : goal.hear-requires-clause-column
+hear-requires-clause-column g c =
+    ap length c.as_slice-3.ensures.value ∙ c.trace.ensures.gates.column
+
 pub hear-requires-clause-moment : goal.hear-requires-clause-moment
 hear-requires-clause-moment g c = record {
   tick = c.requires.tick;
@@ -85,6 +89,18 @@ quiet_ticks-stays-requires-clause-tick g c =
 pub quiet_ticks-stays-requires-clause-room : goal.quiet_ticks-stays-requires-clause-room
 quiet_ticks-stays-requires-clause-room g c = c.hear.ensures.marks.room
 
+pub send_all-requires-clause-gates : goal.send_all-requires-clause-gates
+send_all-requires-clause-gates g c =
+    subst (λ ids. AreGatesOf ids (length c.as_slice-4.result.now)) (sym c.key_gates.ensures)
+    (subst (AreGatesOf c.args.net.now.keys)
+    (sym (ap length c.as_slice-4.ensures.value ∙ c.trace.ensures.gates.column))
+    c.requires.can.of_line.laws.keys)
+
+pub send_all-requires-clause-sent : goal.send_all-requires-clause-sent
+send_all-requires-clause-sent g c =
+    subst (λ ids. AreSent (length ids) c.args.line.now.horizon c.args.t c.args.kept.now.keys.items)
+    (sym c.key_gates.ensures) c.requires.kept.keys
+
 pub send_all-requires-clause-room : goal.send_all-requires-clause-room
 send_all-requires-clause-room g c =
     omega (
@@ -94,6 +110,18 @@ send_all-requires-clause-room g c =
       c.trace.ensures.horizon,
       c.requires.kept.horizon,
     )
+
+pub send_all-requires-2-clause-gates : goal.send_all-requires-2-clause-gates
+send_all-requires-2-clause-gates g c =
+    subst (λ ids. AreGatesOf ids (length c.as_slice-5.result.now)) (sym c.trip_gates.ensures)
+    (subst (AreGatesOf c.args.net.now.trips)
+    (sym (ap length c.as_slice-5.ensures.value ∙ c.trace.ensures.gates.column))
+    c.requires.can.of_line.laws.trips)
+
+pub send_all-requires-2-clause-sent : goal.send_all-requires-2-clause-sent
+send_all-requires-2-clause-sent g c =
+    subst (λ ids. AreSent (length ids) c.args.line.now.horizon c.args.t c.args.kept.now.trips.items)
+    (sym c.trip_gates.ensures) c.requires.kept.trips
 
 pub send_all-requires-2-clause-room : goal.send_all-requires-2-clause-room
 send_all-requires-2-clause-room g c =

@@ -3,7 +3,7 @@ use Rattle.std.proofs.lemmas.List.{append-nil}
 use Rattle.std.specs.Prelude.{slice_get}
 use Rattle.model_line.specs.Parameters.{terminal_count}
 use Rattle.run_rows.specs.PlayRows.{tick_rows}
-use Rattle.run_channel.specs.SentKeys.{SentKeys}
+use Rattle.run_signal.specs.SentKeys.{SentKeys}
 use Rattle.run_signal.specs.declared.level.Level.{Level}
 use Rattle.run_rows.specs.declared.standing.Pair.{Pair}
 use Rattle.run_rows.specs.{RowLaws.texts_more, StandingLaws.AllStand, StandingLaws.all_stand_at}

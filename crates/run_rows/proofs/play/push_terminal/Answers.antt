@@ -5,7 +5,7 @@ use Rattle.model_line.specs.declared.line.Terminal.{Terminal}
 use Rattle.model_line.specs.Parameters.{terminal_count}
 use Rattle.model_names.specs.NamesByNumber.{terminal_name}
 use Rattle.run_signal.specs.declared.level.Level.{Level}
-use Rattle.run_channel.specs.SentKeys.{SentKeys}
+use Rattle.run_signal.specs.SentKeys.{SentKeys}
 use Rattle.run_changes.specs.PlayedTracks.{is_on, shown_is}
 use Rattle.run_step.specs.Ticks.{AreSent}
 use Rattle.run_rows.specs.{PlayRows.signal_row, RowLaws.two_texts_more, StandingLaws.Stands}

@@ -1,6 +1,6 @@
 use Rattle.std.proofs.Common.{◌≡◌, ℕ, ◌<◌, ◌≤◌, arith, subst}
 use Rattle.model_history.specs.Rails.{Ends}
-use Rattle.run_timers.specs.Ahead.{next_rails}
+use Rattle.run_signal.specs.Ahead.{next_rails}
 use Rattle.run_step.specs.CellStands.{CellsStand, TimerStands}
 use Rattle.run_step.specs.LoopLaws.{at_most_max}
 use Rattle.run_step.proofs.cell.timer_stays.Goals as goal

@@ -1,4 +1,4 @@
-use Rattle.std.proofs.Common.{◌≡◌, rules, ℕ, Some, refl, ◌∙◌, ap, length, get_or, arith}
+use Rattle.std.proofs.Common.{◌≡◌, ◌<◌, rules, ℕ, Some, refl, sym, subst, ◌∙◌, ap, length, get_or, arith}
 use Rattle.std.proofs.lemmas.Option.{slice_get-get_or}
 use Rattle.std.specs.Prelude.{slice_get}
 use Rattle.model_history.specs.Rails.{rails_delayed}
@@ -6,6 +6,14 @@ use Rattle.run_signal.specs.Lanes.{in_lane}
 use Rattle.run_step.specs.DelayLaws.{sender_inside}
 use Rattle.run_step.specs.SendLaws.{received-is}
 use Rattle.run_step.proofs.gate_answer.raw_answer.Goals as goal
+
+pub bounds-moment-channel : goal.bounds-moment-channel
+bounds-moment-channel g c =
+    subst (λ (n : ℕ). c.args.channel < n) (sym c.requires.moment.delays.count) c.requires.exists
+
+pub offset_bounds-moment-channel : goal.offset_bounds-moment-channel
+offset_bounds-moment-channel g c =
+    let inside = bounds-moment-channel g c in search (rules, inside)
 
 pub bounds-moment-delay : goal.bounds-moment-delay
 bounds-moment-delay g c =
@@ -18,6 +26,30 @@ offset_bounds-moment-delay g c =
     sender_inside g.V.Signal.LANES g.V.Signal.ends c.args.moment.now c.args.channel
     c.index-moment-channel.result c.requires.moment c.requires.exists in
     search (rules, inside)
+
+pub received-requires-clause-later : goal.received-requires-clause-later
+received-requires-clause-later g c = λ lane inside.
+    let delays = c.args.moment.now.delays in
+    let can = c.requires.moment.delays in
+    let e = c.index-moment-channel.result in
+    let d = get_or delays.now c.args.channel e in
+    let at : slice_get delays.now c.args.channel ≡ Some d =
+    slice_get-get_or delays.now c.args.channel e (omega (arith, can.count, c.requires.exists)) in
+    can.later c.args.channel d at lane inside
+
+pub received-requires-clause-room : goal.received-requires-clause-room
+received-requires-clause-room g c =
+    let moment = c.args.moment.now in
+    let can = c.requires.moment in
+    let d = get_or moment.delays.now c.args.channel c.index-moment-channel.result in
+    let s = get_or moment.sent.now d.from c.index-moment-delay.result in
+    let inside =
+    sender_inside g.V.Signal.LANES g.V.Signal.ends moment c.args.channel
+    c.index-moment-channel.result can c.requires.exists in
+    let f : slice_get moment.sent.now d.from ≡ Some s =
+    slice_get-get_or moment.sent.now d.from c.index-moment-delay.result inside in
+    let range = moment.line.now.horizon_in_range in
+    omega (arith, (can.sent.each d.from s f).0, can.tick, range.1)
 
 pub returns : goal.returns
 returns g c = λ lane w keys inside of have.

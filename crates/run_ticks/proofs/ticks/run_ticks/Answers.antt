@@ -1,5 +1,6 @@
 use Rattle.std.proofs.Common.{◌≡◌, ℕ, suc, ◌<◌, ◌≤◌, ◌+◌, ◌*◌, ◌++◌, refl, sym, ◌∙◌, ap, arith}
 use Rattle.std.proofs.Common.{length, length-append, subst}
+use Rattle.std.proofs.Math.Nat.{mul-le-mul}
 use Rattle.std.specs.Prelude.{vec_capacity}
 use Rattle.model_line.specs.Parameters.{terminal_count}
 use Rattle.model_logic.specs.PairMean.{PairWorld, PairSignals}
@@ -19,6 +20,26 @@ use Rattle.run_step.specs.SendLaws.{none_sent, fresh_sent, one_tick_sent}
 use Rattle.run_step.specs.ValueLaws.{tick_fits, values_none, values_more}
 use Rattle.run_step.specs.{GatePairLaws.gate_pairs-kind, RunLaws.key_pair}
 use Rattle.run_ticks.proofs.ticks.run_ticks.Goals as goal
+
+pub fresh_tracks-requires : goal.fresh_tracks-requires
+fresh_tracks-requires g c = c.args.line.now.horizon_in_range.1
+
+pub overflow_mul-line : goal.overflow_mul-line
+overflow_mul-line g c =
+    let most : c.args.line.now.horizon * c.len-width.result ≤ 4000 * 512 =
+    mul-le-mul c.args.line.now.horizon_in_range.1 c.len-width.ensures.few in
+    record { fits = omega (arith, most) }
+
+pub overflow_cast-key_gates : goal.overflow_cast-key_gates
+overflow_cast-key_gates g c =
+    record {
+      fits = omega (
+        arith,
+        ap length c.key_gates.ensures,
+        c.requires.of_line.terminals,
+        c.args.line.now.two_or_three.1,
+      );
+    }
 
 pub loop-t-init : goal.loop-t-init
 unfolding pair_world_of lane_box
@@ -65,6 +86,31 @@ loop-t-init g c =
           };
     }
 
+pub turn-requires-clause-spans : goal.turn-requires-clause-spans
+turn-requires-clause-spans g c = c.requires.one_each
+
+pub turn-requires-clause-ascending : goal.turn-requires-clause-ascending
+turn-requires-clause-ascending g c = c.requires.ascending
+
+pub turn-requires-clause-early : goal.turn-requires-clause-early
+turn-requires-clause-early g c =
+    omega (arith, c.loop-t-test.true, c.args.line.now.horizon_in_range.1)
+
+pub turn-requires-clause-delays : goal.turn-requires-clause-delays
+turn-requires-clause-delays g c = c.loop-t.invariant.delays
+
+pub turn-requires-clause-stand : goal.turn-requires-clause-stand
+turn-requires-clause-stand g c = c.loop-t.invariant.stand
+
+pub walk-requires-clause-room : goal.walk-requires-clause-room
+walk-requires-clause-room g c = c.loop-t.invariant.column_room
+
+pub walk-requires-clause-names : goal.walk-requires-clause-names
+walk-requires-clause-names g c = c.requires.of_line.named
+
+pub walk-requires-clause-cells : goal.walk-requires-clause-cells
+walk-requires-clause-cells g c = c.loop-t.invariant.cells
+
 pub walk-requires-clause-moment : goal.walk-requires-clause-moment
 walk-requires-clause-moment g c =
     let line = c.args.line.now in
@@ -87,6 +133,15 @@ send_all-requires-clause-gates g c =
     subst (λ ids. AreGatesOf ids (length c.as_slice-in-loop-t-2.result.now))
     (sym c.key_gates-in-loop-t.ensures)
     (subst (λ (n : ℕ). AreGatesOf net.keys n) (sym wide) c.requires.of_line.laws.keys)
+
+pub send_all-requires-clause-room : goal.send_all-requires-clause-room
+send_all-requires-clause-room g c = omega (arith, c.loop-t-test.true)
+
+pub send_all-requires-clause-sent : goal.send_all-requires-clause-sent
+send_all-requires-clause-sent g c =
+    subst (λ (m : ℕ). AreSent m c.args.line.now.horizon c.loop-t.t c.loop-t.sent.items)
+    (sym (ap length c.key_gates-in-loop-t.ensures ∙ c.requires.of_line.terminals))
+    c.loop-t.invariant.sent
 
 pub loop-t-preserved : goal.loop-t-preserved
 loop-t-preserved g c =

@@ -2,6 +2,7 @@ use Rattle.std.proofs.Common.{◌≡◌, ℕ, ◌<◌, ◌≤◌, ◌+◌, ◌++
 use Rattle.std.proofs.Common.{length, length-append, subst}
 use Rattle.std.proofs.lemmas.Option.{slice_get_within, slice_get_read}
 use Rattle.std.specs.Prelude.{slice_get, vec_capacity}
+use Rattle.net_gates.specs.Gates.{HasArguments}
 use Rattle.run_step.specs.Ticks.{ValuesAgree}
 use Rattle.run_step.specs.WalkLaws.{have_more, walked_more, walked_none, agree_none}
 use Rattle.run_step.specs.ShownByLaws.{world_shows}
@@ -19,6 +20,54 @@ loop-i-init g c = record {
         c.args.net.now.gates c.args.cells.now.items ready.stand,
   );
 }
+
+pub gate-requires : goal.gate-requires
+gate-requires g c = omega (arith, c.loop-i-test.true, c.len-i-end.ensures.len)
+
+pub index_mut-requires : goal.index_mut-requires
+index_mut-requires g c =
+    omega (
+      arith,
+      c.loop-i-test.true,
+      c.len-i-end.ensures.len,
+      c.loop-i.invariant.cells.count,
+      c.loop-i.cells.ok.0,
+    )
+
+pub answer-value-requires-clause-names : goal.answer-value-requires-clause-names
+answer-value-requires-clause-names g c =
+    c.requires.names.each c.loop-i.i c.gate.result.now (omega arith) c.gate.ensures.is
+
+pub answer-value-requires-clause-arguments : goal.answer-value-requires-clause-arguments
+answer-value-requires-clause-arguments g c =
+    let here = c.gate.result.now in
+    subst (λ (n : ℕ). HasArguments n here)
+    (sym (ap length c.as_slice.ensures.value ∙ c.loop-i.invariant.count))
+    (c.len-i-end.ensures.laws.gates.earlier c.loop-i.i here c.gate.ensures.is)
+
+pub answer-value-requires-clause-cell : goal.answer-value-requires-clause-cell
+answer-value-requires-clause-cell g c =
+    let here = c.gate.result.now in
+    let inside = slice_get_within c.args.net.now.gates c.loop-i.i here c.gate.ensures.is in
+    c.loop-i.invariant.cells.each c.loop-i.i here c.index_mut.result.now c.gate.ensures.is
+    (slice_get_read c.loop-i.cells.items (length c.args.net.now.gates) c.loop-i.i
+    c.index_mut.result.now (sym c.loop-i.invariant.cells.count) inside c.index_mut.ensures.value)
+
+pub answer-value-requires-clause-moment : goal.answer-value-requires-clause-moment
+answer-value-requires-clause-moment g c = c.requires.moment
+
+pub push_reserved-requires : goal.push_reserved-requires
+push_reserved-requires g c =
+    let room : length c.args.net.now.gates ≤ vec_capacity c.loop-i.column =
+    c.loop-i.invariant.room in
+    omega (
+      arith,
+      room,
+      c.loop-i.invariant.count,
+      c.loop-i.column.ok.0,
+      c.loop-i-test.true,
+      c.len-i-end.ensures.len,
+    )
 
 pub loop-i-preserved : goal.loop-i-preserved
 loop-i-preserved g c =
@@ -58,6 +107,22 @@ loop-i-preserved g c =
           agree h) in
           (subst (ValuesAgree rails lane u t) (sym pushed) more.0, more.1);
     }
+
+pub returns-clause-room : goal.returns-clause-room
+returns-clause-room g c = c.loop-i.invariant.room
+
+pub returns-clause-count : goal.returns-clause-count
+returns-clause-count g c =
+    omega (
+      arith,
+      c.loop-i.invariant.count,
+      c.loop-i.auto.i-end,
+      c.loop-i-test.false,
+      c.len-i-end.ensures.len,
+    )
+
+pub returns-clause-cells : goal.returns-clause-cells
+returns-clause-cells g c = c.loop-i.invariant.cells
 
 pub returns-clause-stands : goal.returns-clause-stands
 returns-clause-stands g c = λ lane w keys u inside world ready i gate cell ga ca.

@@ -1,7 +1,7 @@
 use Rattle.std.proofs.Common.{◌≡◌, ◌-◌, ◌≤◌, ℕ, List, length, sym, ◌∙◌, ap, arith}
 use Rattle.model_history.specs.{Rails.Rails, Rails.rails_sealed, Recorded.first_ticks}
 use Rattle.run_signal.specs.{declared.tern.Tern.Tern, Terns.tern_rails}
-use Rattle.run_timers.specs.{Seals.last_seal, Stretches.StaysAt}
+use Rattle.run_signal.specs.{Seals.last_seal, Stretches.StaysAt}
 use Rattle.run_waves.specs.Waves.{wave_at}
 use Rattle.run_waves.proofs.WaveLaws.{ticks_more, longer, rails_along, new_length}
 use Rattle.run_waves.proofs.ElementLaws.{seal_stands, seal_answer, kept_to_the_end}

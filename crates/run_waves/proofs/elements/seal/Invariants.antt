@@ -1,7 +1,7 @@
 use Rattle.std.proofs.Common.{◌≡◌, ◌-◌, ◌≤◌, length}
 use Rattle.model_history.specs.Rails.{rails_sealed}
 use Rattle.run_signal.specs.Terns.{tern_rails}
-use Rattle.run_timers.specs.Seals.{last_seal}
+use Rattle.run_signal.specs.Seals.{last_seal}
 use Rattle.run_waves.specs.Waves.{wave_at, IsWaveOf}
 use Rattle.run_waves.proofs.elements.seal.Given as goal
 

@@ -1,6 +1,6 @@
 use Rattle.std.proofs.Common.{◌≡◌, ◌-◌, ◌≤◌, length}
 use Rattle.model_history.specs.{Rails.rails_timed, Recorded.first_ticks}
-use Rattle.run_timers.specs.Cells.{RailsStandFor}
+use Rattle.run_signal.specs.Cells.{RailsStandFor}
 use Rattle.run_waves.specs.Waves.{wave_at, IsWaveOf}
 use Rattle.run_waves.proofs.elements.timer_of_some.Given as goal
 

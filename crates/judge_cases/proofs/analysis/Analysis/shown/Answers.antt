@@ -3,7 +3,7 @@ use Rattle.std.proofs.Common.{⊎_elim, inl, inr}
 use Rattle.std.proofs.lemmas.Option.{slice_get_within}
 use Rattle.std.specs.Prelude.{Decides}
 use Rattle.model_history.specs.Rails.{must_of}
-use Rattle.model_cases.specs.Under.{SomeIsExcluded}
+use Rattle.model_settle.specs.Under.{SomeIsExcluded}
 use Rattle.run_signal.specs.Bits.{bit_on}
 use Rattle.judge_cases.specs.{Views.view_box}
 use Rattle.judge_cases.proofs.HeldLaws.{or_either, or_left, or_right}

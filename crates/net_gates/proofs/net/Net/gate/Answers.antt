@@ -2,7 +2,7 @@ use Rattle.std.proofs.Common.{◌≡◌, ◌<◌, Some, length, refl, sym, subst
 use Rattle.std.proofs.lemmas.Option.{slice_get_read}
 use Rattle.std.specs.Prelude.{slice_get}
 use Rattle.net_gates.specs.NetOf.{NetOf, IsNet}
-use Rattle.net_gates.proofs.Standing.{formula_of-gate}
+use Rattle.net_gates.specs.FormulaLaws.{formula_of-gate}
 use Rattle.net_gates.proofs.net.Net.gate.Goals as goal
 
 pub returns-clause-stands : goal.returns-clause-stands

@@ -1,4 +1,0 @@
-pub mod Below
-pub mod LineMade
-pub mod ScriptFits
-pub mod ScriptLists

@@ -1,0 +1,10 @@
+use Rattle.std.proofs.Common.{◌*◌}
+use Rattle.model_line.specs.Parameters.{terminal_count}
+use Rattle.judge_verdict.specs.OneEach.{OneEach}
+use Rattle.call_facts.specs.FirstTicks.{AreFirstOf}
+use Rattle.call_facts.proofs.firsts.find_firsts.Given as goal
+
+abbrev pub invariant-loop-i : goal.invariant-loop-i
+invariant-loop-i l =
+    OneEach (AreFirstOf l.study.line l.study.scripts.items) (l.i * terminal_count l.study.line)
+    l.firsts.items

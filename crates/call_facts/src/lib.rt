@@ -1,0 +1,20 @@
+//! What a page tells that rests on no answer of an obligation: the diagrams of a script, the first
+//! ticks and the least margin of all obligations, how far the ends of each time can be moved, the
+//! numbers and steps of a choice that matter, and the digest of a text.
+#![tactic(auto)]
+
+mod beginning;
+mod drawings;
+mod firsts;
+mod hash;
+mod least;
+mod slacks;
+mod told;
+
+pub use beginning::inception;
+pub use drawings::{bands, play};
+pub use firsts::{Firsts, find_firsts};
+pub use hash::hash_of;
+pub use least::least_margin;
+pub use slacks::times;
+pub use told::{least_times, told_steps, told_times};

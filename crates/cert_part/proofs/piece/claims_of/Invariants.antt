@@ -1,7 +1,0 @@
-use Rattle.std.proofs.Common.{◌≡◌, map, take}
-use Rattle.cert_text.specs.Grammar.{verdict_in}
-use Rattle.cert_part.specs.Piece.{written_as}
-use Rattle.cert_part.proofs.piece.claims_of.Given as goal
-
-abbrev pub invariant-loop-i : goal.invariant-loop-i
-invariant-loop-i l = map verdict_in l.claims.items ≡ map written_as (take l.i l.verdicts)

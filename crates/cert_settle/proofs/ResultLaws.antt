@@ -1,0 +1,90 @@
+-- What a result is, from what was found of it.
+use Rattle.std.proofs.Common.{◌≡◌, ◌<◌, ◌+◌, ◌*◌, ◌^◌, ◌&&◌, ℕ, Bool, List, length, refl}
+use Rattle.std.proofs.Common.{sym, ◌∙◌, ap, subst, arith, length-append}
+use Rattle.std.proofs.lemmas.List.Folds.{list_all-append}
+use Rattle.std.proofs.lemmas.List.Elements.{All-nil}
+use Rattle.std.specs.List.{list_all}
+use Rattle.model_line.specs.{declared.line.Line.Line, declared.script.Script.Script}
+use Rattle.model_line.specs.Parameters.{terminal_count}
+use Rattle.model_logic.specs.Choice.{LeastFromOne, declared_box}
+use Rattle.model_settle.specs.CaseTrees.{CaseTree, Yes, Undecided, Split, Case, are_yes}
+use Rattle.model_settle.specs.{CaseLaws.SoundTreesMeet, Assumed.Agrees}
+use Rattle.judge_cases.specs.declared.node.CaseNode.{CaseNode}
+use Rattle.judge_cases.specs.Trees.{branch_count}
+use Rattle.judge_cases.specs.Nodes.{preorder}
+use Rattle.cert_settle.specs.Grammar.{SettleResult, tree, fails}
+use Rattle.judge_cases.specs.Trees.{AreTree}
+use Rattle.cert_settle.specs.declared.fault.ResultFault.{ResultFault}
+use Rattle.cert_settle.specs.declared.fault.ResultFault.TheVariants as wrong
+use Rattle.cert_settle.specs.Results.{IsSupported, IsTold, IsTreeFault}
+use Rattle.cert_settle.specs.{FirstLeaf.IsFirstNotShown, Walks.IsWalkFault}
+use Rattle.cert_settle.specs.{CaseParts.leaves, CaseParts.whole_part, Counts.is_decided}
+
+-- ---- few nodes
+
+-- a tree has twice as many nodes as splits and cases, and one more
+nodes_count : (t : CaseTree) → length (preorder t) ≡ 2 * branch_count t + 1
+nodes_count Yes = omega arith
+nodes_count Undecided = omega arith
+nodes_count (Split param mid first second) =
+    omega (
+      arith,
+      nodes_count first,
+      nodes_count second,
+      length-append (preorder first) (preorder second),
+    )
+nodes_count (Case terminal tick first second) =
+    omega (
+      arith,
+      nodes_count first,
+      nodes_count second,
+      length-append (preorder first) (preorder second),
+    )
+
+-- a tree of the grammar has few nodes
+pub tree_few : (line : Line) (nodes : List CaseNode) → AreTree line nodes
+    → length nodes < 2 ^ 32
+tree_few line nodes are =
+    omega (arith, ap length are.are, nodes_count are.tree, are.few)
+
+-- ---- a whole tree
+
+pub whole_fault : (line : Line) (script : Script) (k : ℕ) (nodes : List CaseNode) (t : CaseTree)
+    (f : ResultFault) → nodes ≡ preorder t
+    → IsWalkFault line script k (whole_part line) t 0 f → IsTreeFault line script k nodes f
+whole_fault line script k nodes t (wrong.NotShown j n) are h =
+    let place : h.1.place ≡ n = omega (arith, h.1.is) in (
+      h.0,
+      record {
+        tree = t;
+        are = are;
+        first = subst (λ (m : ℕ). IsFirstNotShown line script k (leaves (whole_part line) t) m)
+            place h.1.leaf;
+      },
+    )
+whole_fault line script k nodes t (wrong.No j fault) are h = absurd h
+whole_fault line script k nodes t wrong.Memory are h = tt
+
+-- ---- what is supported is so
+
+decided_yes : (t : CaseTree) → list_all is_decided (preorder t) ≡ are_yes t
+decided_yes Yes = refl
+decided_yes Undecided = refl
+decided_yes (Split param mid first second) =
+    list_all-append is_decided (preorder first) (preorder second)
+    ∙ ap (λ (b : Bool). b && list_all is_decided (preorder second)) (decided_yes first)
+    ∙ ap (λ (b : Bool). are_yes first && b) (decided_yes second)
+decided_yes (Case terminal tick first second) =
+    list_all-append is_decided (preorder first) (preorder second)
+    ∙ ap (λ (b : Bool). b && list_all is_decided (preorder second)) (decided_yes first)
+    ∙ ap (λ (b : Bool). are_yes first && b) (decided_yes second)
+
+pub supported_told : SoundTreesMeet → (line : Line) (script : Script) (k : ℕ)
+    (result : SettleResult) → script.deadline < line.horizon → k < terminal_count line
+    → LeastFromOne line (declared_box line) → IsSupported line script k result
+    → IsTold line script k result
+supported_told meet line script k (tree nodes) early there least shown = λ yes choice h inside is.
+    meet line script k (declared_box line) _ shown.tree early least there shown.sound
+    (sym (ap (list_all is_decided) shown.are ∙ decided_yes shown.tree) ∙ yes) choice h inside is
+    (All-nil (Agrees line script choice h))
+supported_told meet line script k (fails steps values) early there least refuted = refuted

@@ -1,0 +1,309 @@
+-- What a walk finds of a tree, from its root and what it finds of both trees below it.
+use Rattle.std.proofs.Common.{◌≡◌, ◌<◌, ◌≤◌, ◌+◌, ℕ, List, [], ◌∷◌, ◌++◌, length, drop, get_or}
+use Rattle.std.proofs.Common.{true, false, refl, sym, ◌∙◌, ap, subst, arith, length-append}
+use Rattle.std.proofs.Common.{append_assoc, Option, None, Some}
+use Rattle.std.proofs.Math.Seq.{drop-append_seam}
+use Rattle.std.proofs.lemmas.List.{drop-drop, get_or-drop, length-drop}
+use Rattle.std.proofs.lemmas.Option.{same_Some}
+use Rattle.model_line.specs.{declared.line.Line.Line, declared.script.Script.Script}
+use Rattle.model_history.specs.Rails.{Ends}
+use Rattle.model_settle.specs.CaseTrees.{CaseTree, Yes, Undecided, Split, Case, CanSplit}
+use Rattle.judge_cases.specs.{declared.view.View.View, Views.view_box}
+use Rattle.judge_cases.specs.declared.node.CaseNode.{CaseNode}
+use Rattle.judge_cases.specs.declared.node.CaseNode.TheVariants as node
+use Rattle.judge_cases.specs.Trees.{Branches}
+use Rattle.judge_cases.specs.Nodes.{preorder}
+use Rattle.cert_settle.specs.declared.fault.ResultFault.{ResultFault}
+use Rattle.cert_settle.specs.declared.fault.ResultFault.TheVariants as wrong
+use Rattle.cert_settle.specs.declared.tree.Passed.{Passed}
+use Rattle.cert_settle.specs.CaseParts.{CasePart, Leaf, leaves, lower_of, upper_of, case_of}
+use Rattle.cert_settle.specs.CaseParts.{parts_below, IsShownOver, AreSoundOver}
+use Rattle.cert_settle.specs.FirstLeaf.{IsFirstNotShown}
+use Rattle.cert_settle.specs.Walks.{IsWalked, IsNotShownFrom, IsWalkFault, IsLeafFault}
+use Rattle.cert_settle.specs.Walks.{IsViewOf, CanStand}
+use Rattle.cert_settle.proofs.FirstLeafLaws.{sound_shown, not_shown_first, not_shown_second}
+
+-- ---- the root
+
+abbrev pub root_of : CaseTree → CaseNode
+root_of Yes = node.Yes
+root_of Undecided = node.Undecided
+root_of (Split param mid first second) = node.Split param mid
+root_of (Case terminal tick first second) = node.Case terminal tick
+
+abbrev below_root : CaseTree → List CaseNode
+below_root Yes = []
+below_root Undecided = []
+below_root (Split param mid first second) = preorder first ++ preorder second
+below_root (Case terminal tick first second) = preorder first ++ preorder second
+
+root_then : (tree : CaseTree) → preorder tree ≡ root_of tree ∷ below_root tree
+root_then Yes = refl
+root_then Undecided = refl
+root_then (Split param mid first second) = refl
+root_then (Case terminal tick first second) = refl
+
+-- the node at the place where a tree begins is its root
+pub root_at : (tree : CaseTree) (after nodes : List CaseNode) (at : ℕ) (d root : CaseNode)
+    → drop at nodes ≡ preorder tree ++ after → root ≡ get_or nodes at d → root_of tree ≡ root
+root_at tree after nodes at d root are is =
+    let here : at + 0 ≡ at = omega arith in
+    sym (ap (λ (l : List CaseNode). get_or l 0 d)
+    (are ∙ ap (λ (l : List CaseNode). l ++ after) (root_then tree)))
+    ∙ get_or-drop at nodes 0 d ∙ ap (λ (n : ℕ). get_or nodes n d) here ∙ sym is
+
+-- so there is one
+pub within : (tree : CaseTree) (after nodes : List CaseNode) (at : ℕ)
+    → drop at nodes ≡ preorder tree ++ after → at < length nodes
+within tree after nodes at are =
+    omega (
+      arith,
+      length-drop at nodes,
+      ap length are,
+      length-append (preorder tree) after,
+      ap length (root_then tree),
+    )
+
+-- ---- two trees below a root
+
+-- two trees are next, over these parts
+pub record AreTwoNext (line : Line) (part : CasePart) (tree : CaseTree) (a b : CasePart)
+    (after nodes : List CaseNode) (at : ℕ) : Type 0 where
+  pub first : CaseTree
+  pub second : CaseTree
+  pub count : length (preorder tree) ≡ 1 + (length (preorder first) + length (preorder second))
+  pub leaves : leaves part tree ≡ leaves a first ++ leaves b second
+  pub lower : Branches line a.box first
+  pub upper : Branches line b.box second
+  pub sound : (script : Script) (k : ℕ) → AreSoundOver line script k a first
+      → AreSoundOver line script k b second → AreSoundOver line script k part tree
+  pub first_next : drop (at + 1) nodes ≡ preorder first ++ (preorder second ++ after)
+  pub second_next : drop ((at + 1) + length (preorder first)) nodes ≡ preorder second ++ after
+
+first_after : (root : CaseNode) (pre post after nodes : List CaseNode) (at : ℕ)
+    → drop at nodes ≡ (root ∷ (pre ++ post)) ++ after
+    → drop (at + 1) nodes ≡ pre ++ (post ++ after)
+first_after root pre post after nodes at are =
+    sym (drop-drop 1 at nodes) ∙ ap (drop 1) are ∙ append_assoc pre post after
+
+second_after : (root : CaseNode) (pre post after nodes : List CaseNode) (at : ℕ)
+    → drop at nodes ≡ (root ∷ (pre ++ post)) ++ after
+    → drop ((at + 1) + length pre) nodes ≡ post ++ after
+second_after root pre post after nodes at are =
+    let past : (at + 1) + length pre ≡ at + length (root ∷ pre) = omega arith in
+    let whole : drop at nodes ≡ (root ∷ pre) ++ (post ++ after) =
+    are ∙ ap (λ (l : List CaseNode). root ∷ l) (append_assoc pre post after) in
+    ap (λ (n : ℕ). drop n nodes) past ∙ sym (drop-drop (length (root ∷ pre)) at nodes)
+    ∙ ap (drop (length (root ∷ pre))) whole ∙ drop-append_seam (root ∷ pre) (post ++ after)
+
+-- two parts, told otherwise
+pair_as : (P : CasePart → CasePart → Type 0) (a b c d : CasePart)
+    → ◌≡◌ {A = Option (CasePart × CasePart)} (Some (a, b)) (Some (c, d)) → P a b → P c d
+pair_as P a b c d same p =
+    let pair : ◌≡◌ {A = CasePart × CasePart} (a, b) (c, d) = same_Some (a, b) (c, d) same in
+    subst (λ (x : CasePart × CasePart). P x.0 x.1) pair p
+
+pub two_next : (line : Line) (part : CasePart) (tree : CaseTree) (root : CaseNode)
+    (a b : CasePart) (after nodes : List CaseNode) (at : ℕ) → Branches line part.box tree
+    → drop at nodes ≡ preorder tree ++ after → root_of tree ≡ root
+    → parts_below part root ≡ Some (a, b) → AreTwoNext line part tree a b after nodes at
+two_next line part Yes root a b after nodes at branches are is below =
+    absurd (let none : None ≡ Some (a, b) =
+    subst (λ (r : CaseNode). parts_below part r ≡ Some (a, b)) (sym is) below in cc)
+two_next line part Undecided root a b after nodes at branches are is below =
+    absurd (let none : None ≡ Some (a, b) =
+    subst (λ (r : CaseNode). parts_below part r ≡ Some (a, b)) (sym is) below in cc)
+two_next line part (Split param mid first second) root a b after nodes at branches are is below =
+    let pre : List CaseNode = preorder first in
+    let post : List CaseNode = preorder second in
+    pair_as (λ x y. AreTwoNext line part (Split param mid first second) x y after nodes at)
+    (lower_of part param mid) (upper_of part param mid) a b
+    (subst (λ (r : CaseNode). parts_below part r ≡ Some (a, b)) (sym is) below) (record {
+      first = first;
+      second = second;
+      count = omega (arith, length-append pre post);
+      leaves = refl;
+      lower = branches.1.0;
+      upper = branches.1.1;
+      sound = λ script k one two. (branches.0, (one, two));
+      first_next = first_after (node.Split param mid) pre post after nodes at are;
+      second_next = second_after (node.Split param mid) pre post after nodes at are;
+    })
+two_next line part (Case terminal tick first second) root a b after nodes at branches are is below =
+    let pre : List CaseNode = preorder first in
+    let post : List CaseNode = preorder second in
+    pair_as (λ x y. AreTwoNext line part (Case terminal tick first second) x y after nodes at)
+    (case_of part terminal tick false) (case_of part terminal tick true) a b
+    (subst (λ (r : CaseNode). parts_below part r ≡ Some (a, b)) (sym is) below) (record {
+      first = first;
+      second = second;
+      count = omega (arith, length-append pre post);
+      leaves = refl;
+      lower = branches.1.0;
+      upper = branches.1.1;
+      sound = λ script k one two. (branches.0, (one, two));
+      first_next = first_after (node.Case terminal tick) pre post after nodes at are;
+      second_next = second_after (node.Case terminal tick) pre post after nodes at are;
+    })
+
+-- a tree has no more leaves than nodes
+pub few_leaves : (tree : CaseTree) (part : CasePart)
+    → length (leaves part tree) ≤ length (preorder tree)
+few_leaves Yes part = omega arith
+few_leaves Undecided part = omega arith
+few_leaves (Split param mid first second) part =
+    omega (
+      arith,
+      few_leaves first (lower_of part param mid),
+      few_leaves second (upper_of part param mid),
+      length-append (leaves (lower_of part param mid) first)
+          (leaves (upper_of part param mid) second),
+      length-append (preorder first) (preorder second),
+    )
+few_leaves (Case terminal tick first second) part =
+    omega (
+      arith,
+      few_leaves first (case_of part terminal tick false),
+      few_leaves second (case_of part terminal tick true),
+      length-append (leaves (case_of part terminal tick false) first)
+          (leaves (case_of part terminal tick true) second),
+      length-append (preorder first) (preorder second),
+    )
+
+module _ (line : Line) (script : Script) (k : ℕ) where
+  -- ---- leaves
+
+  pub walked_leaf : (tree : CaseTree) (part : CasePart) (root : CaseNode) (passed walked : Passed)
+      → root_of tree ≡ root → parts_below part root ≡ None
+      → (root ≡ node.Yes → IsShownOver line script k part) → walked.nodes ≡ passed.nodes + 1
+      → walked.leaves ≡ passed.leaves + 1 → IsWalked line script k part tree passed walked
+  walked_leaf Yes part root passed walked is below shown nodes count = record {
+    nodes = nodes;
+    leaves = count;
+    sound = shown (sym is);
+  }
+  walked_leaf Undecided part root passed walked is below shown nodes count = record {
+    nodes = nodes;
+    leaves = count;
+    sound = tt;
+  }
+  walked_leaf (Split p m first second) part root passed walked is below shown nodes count =
+      absurd (let some : Some (lower_of part p m, upper_of part p m) ≡ None =
+      subst (λ (r : CaseNode). parts_below part r ≡ None) (sym is) below in cc)
+  walked_leaf (Case p m first second) part root passed walked is below shown nodes count =
+      absurd (let some : Some (case_of part p m false, case_of part p m true) ≡ None =
+      subst (λ (r : CaseNode). parts_below part r ≡ None) (sym is) below in cc)
+
+  yes_not_shown : (tree : CaseTree) (part : CasePart) (leaf : ℕ) → root_of tree ≡ node.Yes
+      → ¬ (IsShownOver line script k part) → IsNotShownFrom line script k part tree leaf leaf
+  yes_not_shown Yes part leaf is never = record {
+    place = 0;
+    is = omega arith;
+    leaf = record {
+      leaf = record { part = part; yes = true };
+      at = refl;
+      yes = refl;
+      not_shown = never;
+      before = λ i earlier lt at yes. absurd (omega (arith, lt));
+    };
+  }
+  yes_not_shown Undecided part leaf is never = absurd (cc)
+  yes_not_shown (Split p m first second) part leaf is never = absurd (cc)
+  yes_not_shown (Case p m first second) part leaf is never = absurd (cc)
+
+  -- what is wrong with a leaf is wrong with the tree that it is
+  pub fault_leaf : (tree : CaseTree) (part : CasePart) (root : CaseNode) (leaf : ℕ)
+      (f : ResultFault) → root_of tree ≡ root → IsLeafFault line script k part root leaf f
+      → IsWalkFault line script k part tree leaf f
+  fault_leaf tree part root leaf (wrong.NotShown j n) is h = (
+    h.0,
+    subst (λ (m : ℕ). IsNotShownFrom line script k part tree leaf m) (sym h.1.0)
+        (yes_not_shown tree part leaf (is ∙ h.1.1.0) h.1.1.1),
+  )
+  fault_leaf tree part root leaf (wrong.No j fault) is h = absurd h
+  fault_leaf tree part root leaf wrong.Memory is h = tt
+
+  -- ---- two trees
+
+  module _ (part a b : CasePart) (tree : CaseTree) (after nodes : List CaseNode) (at : ℕ)
+      (two : AreTwoNext line part tree a b after nodes at) where
+    pub walked_two : (passed below between walked : Passed)
+        → below.nodes ≡ passed.nodes + 1 → below.leaves ≡ passed.leaves
+        → IsWalked line script k a two.first below between
+        → IsWalked line script k b two.second between walked
+        → IsWalked line script k part tree passed walked
+    walked_two passed below between walked nodes count one other = record {
+      nodes = omega (arith, nodes, one.nodes, other.nodes, two.count);
+      leaves = omega (
+        arith,
+        count,
+        one.leaves,
+        other.leaves,
+        ap length two.leaves,
+        length-append (leaves a two.first) (leaves b two.second),
+      );
+      sound = two.sound script k one.sound other.sound;
+    }
+
+    pub fault_first : (leaf : ℕ) (f : ResultFault)
+        → IsWalkFault line script k a two.first leaf f
+        → IsWalkFault line script k part tree leaf f
+    fault_first leaf (wrong.NotShown j n) h = (
+      h.0,
+      record {
+        place = h.1.place;
+        is = h.1.is;
+        leaf = subst (λ (l : List Leaf). IsFirstNotShown line script k l h.1.place) (sym two.leaves)
+            (not_shown_first line script k (leaves a two.first) (leaves b two.second) h.1.place
+            h.1.leaf);
+      },
+    )
+    fault_first leaf (wrong.No j fault) h = h
+    fault_first leaf wrong.Memory h = tt
+
+    pub fault_second : (below between : Passed) (f : ResultFault)
+        → IsWalked line script k a two.first below between
+        → IsWalkFault line script k b two.second between.leaves f
+        → IsWalkFault line script k part tree below.leaves f
+    fault_second below between (wrong.NotShown j n) one h = (
+      h.0,
+      record {
+        place = length (leaves a two.first) + h.1.place;
+        is = omega (arith, h.1.is, one.leaves);
+        leaf = subst (λ (l : List Leaf). IsFirstNotShown line script k l (length (leaves a two.first) + h.1.place))
+            (sym two.leaves)
+            (not_shown_second line script k (leaves a two.first) (leaves b two.second) h.1.place
+            (sound_shown line script k two.first a one.sound) h.1.leaf);
+      },
+    )
+    fault_second below between (wrong.No j fault) one h = h
+    fault_second below between wrong.Memory one h = tt
+
+-- ---- what can stand
+
+-- a split of a box that a view is of is one of the view's box
+split_in_view : (line : Line) (part : CasePart) (view : View) (param mid : ℕ)
+    → IsViewOf line part view → CanSplit line part.box param mid
+    → CanSplit line (view_box line view) param mid
+split_in_view line part view param mid is can =
+    let same : (view_box line view).ends param ≡ part.box.ends param =
+    is.same.numbers param can.exists in
+    record {
+      exists = can.exists;
+      number = can.number;
+      above = subst (λ (e : Ends). e.least ≤ mid) (sym same) can.above;
+      below = subst (λ (e : Ends). mid < e.greatest) (sym same) can.below;
+    }
+
+pub can_stand : (line : Line) (part : CasePart) (view : View) (tree : CaseTree) (root : CaseNode)
+    → IsViewOf line part view → Branches line part.box tree → root_of tree ≡ root
+    → CanStand line view root
+can_stand line part view Yes root is branches same =
+    subst (λ (r : CaseNode). CanStand line view r) same tt
+can_stand line part view Undecided root is branches same =
+    subst (λ (r : CaseNode). CanStand line view r) same tt
+can_stand line part view (Split param mid first second) root is branches same =
+    subst (λ (r : CaseNode). CanStand line view r) same
+    (split_in_view line part view param mid is branches.0)
+can_stand line part view (Case terminal tick first second) root is branches same =
+    subst (λ (r : CaseNode). CanStand line view r) same branches.0

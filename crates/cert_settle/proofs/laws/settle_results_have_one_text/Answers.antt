@@ -1,0 +1,10 @@
+use Rattle.base_lines.specs.WholeLaws.{same_bytes}
+use Rattle.cert_text.specs.Grammar.{end_text}
+use Rattle.cert_settle.specs.Grammar.{script_parts, head_text}
+use Rattle.cert_settle.proofs.StandsLaws.{stands_as}
+use Rattle.cert_settle.proofs.laws.settle_results_have_one_text.Goals as goal
+
+pub returns : goal.returns
+returns c = λ line scripts parts bytes others is other.
+    same_bytes (script_parts line) head_text scripts end_text (stands_as line) parts bytes others is
+    other

@@ -1,0 +1,8 @@
+use Rattle.std.proofs.Common.{map}
+use Rattle.cert_settle.specs.Reading.{result_in}
+use Rattle.cert_check.specs.Firsts.{EachOf}
+use Rattle.cert_settle.specs.Results.{IsSupported}
+use Rattle.cert_settle.proofs.result.check_results.Given as goal
+
+abbrev pub invariant-loop-i : goal.invariant-loop-i
+invariant-loop-i l = EachOf (IsSupported l.line l.script) (map result_in l.results) l.i

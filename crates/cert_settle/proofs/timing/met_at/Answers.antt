@@ -1,0 +1,54 @@
+use Rattle.std.proofs.Common.{◌≡◌, ℕ, Bool, List, Some, sym, ◌∙◌, arith, subst}
+use Rattle.std.proofs.lemmas.Option.{slice_get_read}
+use Rattle.std.specs.Prelude.{slice_get, MatchOption}
+use Rattle.model_line.specs.Parameters.{terminal_count}
+use Rattle.model_logic.specs.Histories.{MeetsBy}
+use Rattle.model_timing.specs.{declared.step.Step.Step, Timing.TimingValues, Choice.timing_choice}
+use Rattle.run_changes.specs.PlayedTracks.{played, shown_is}
+use Rattle.run_step.specs.{LaneBox.lane_box, Played.ends_of_tick, Runs.AreDelayed}
+use Rattle.run_step.specs.Runs.{IsPoint}
+use Rattle.cert_check.specs.Refutations.{IsMetAt}
+use Rattle.cert_settle.specs.Results.{timing_of}
+use Rattle.cert_settle.proofs.TimingFaults.{told_by_one}
+use Rattle.cert_settle.proofs.timing.met_at.Goals as goal
+
+pub run_tracks-requires-clause-delayed : goal.run_tracks-requires-clause-delayed
+run_tracks-requires-clause-delayed c =
+    let line = c.args.line.now in
+    let steps : List (Step ℕ) = c.args.steps.now in
+    let P : List ℕ → Type 0 = λ l. AreDelayed 1 ends_of_tick line l steps in
+    subst P (sym (c.as_slice.ensures.value ∙ c.in_ok-numbers.ensures))
+    (c.a_timing_is_one_choice.ensures.delayed line (timing_of steps c.args.values.now) 1
+    c.requires.inside)
+
+pub returns : goal.returns
+returns c =
+    let line = c.args.line.now in
+    let script = c.args.script.now in
+    let values : List ℕ = c.args.values.now in
+    let steps : List (Step ℕ) = c.args.steps.now in
+    let timing : TimingValues = timing_of steps values in
+    let law = c.a_timing_is_one_choice.ensures in
+    let P : List ℕ → Type 0 = λ l.
+    IsPoint line (lane_box ends_of_tick line l steps 0) (timing_choice line timing) in
+    let exact = c.in_ok-tracks.ensures.exact 0 (timing_choice line timing) (omega arith)
+    (subst P (sym (c.as_slice.ensures.value ∙ c.in_ok-numbers.ensures))
+    (law.point line timing 0 c.requires.inside)) in
+    let trips = c.in_ok-tracks.tracks.trips.items in
+    let track = c.index-trip.result.now in
+    let at : slice_get trips c.args.terminal ≡ Some track =
+    slice_get_read trips (terminal_count line) c.args.terminal track
+    (sym (c.in_ok-tracks.ensures.trips.count ∙ c.requires.of_line.laws.same
+    ∙ c.requires.of_line.terminals)) c.requires.terminal c.index-trip.ensures in
+    let told = subst
+    (λ (u : ℕ → Bool). MatchOption c.met_tick.result
+    (¬ (MeetsBy script.kind script.deadline line.horizon u))
+    (λ t. IsMetAt script.kind script.deadline line.horizon u t))
+    (sym (shown_is trips c.args.terminal track at)) c.met_tick.ensures in
+    told_by_one line script timing
+    (λ g h is_g is_h. c.each_choice_has_one_history.ensures.only line script
+    (timing_choice line timing) g h (law.choice line timing c.requires.inside) is_g is_h)
+    (c.deadlines_are_below_the_horizon.ensures line script c.requires.fits) c.args.terminal
+    c.requires.terminal
+    (played c.in_ok-tracks.tracks.keys.items c.in_ok-tracks.tracks.trips.items) exact.is
+    c.met_tick.result told

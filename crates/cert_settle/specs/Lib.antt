@@ -1,0 +1,12 @@
+pub mod Known
+pub mod Grammar
+pub mod Text
+pub mod Reading
+pub mod OfSplits
+pub mod CaseParts
+pub mod FirstLeaf
+pub mod Walks
+pub mod Timings
+pub mod Results
+pub mod Counts
+pub mod Check

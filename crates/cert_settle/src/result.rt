@@ -1,0 +1,105 @@
+//! The check of what is said of a script.
+
+ghost use Rattle.std.specs.Prelude.{◌<◌, map, IfOk, MatchResult};
+ghost use Rattle.model_line.specs.{Fits.Fits, Parameters.terminal_count};
+ghost use Rattle.net_gates.specs.NetOf.{IsNetOf};
+ghost use Rattle.judge_cases.specs.Trees.{AreTree};
+ghost use Rattle.cert_settle.specs.Grammar.{IsSettleResult, HasOneEach};
+ghost use Rattle.cert_settle.specs.Reading.{result_in};
+ghost use Rattle.cert_settle.specs.FirstLeaf.{IsTreeShown};
+ghost use Rattle.cert_settle.specs.Results.{IsSupported, IsTreeFault, IsFaultOf, AreSupported};
+ghost use Rattle.cert_settle.specs.Results.{AreTold, IsFirstFault};
+
+use crate::claim::TreeClaim;
+use crate::fault::ResultFault;
+use crate::timing::check_timing;
+use crate::tree::{Obligation, Passed, walk};
+use judge_cases::{CaseNode, declared_view};
+use model_line::laws::deadlines_are_below_the_horizon;
+use model_line::{Line, Script};
+use model_logic::laws::each_line_has_a_choice_inside;
+use model_settle::case_laws::sound_trees_meet;
+use net_gates::Net;
+use std::alloc::Global;
+
+/// Checks the results of a script, by terminal. The error is the first fault.
+pub(crate) fn check_results(
+    alloc: Global,
+    line: &Line,
+    net: &Net,
+    script: &Script,
+    results: &[TreeClaim],
+) -> Result<(), ResultFault>
+    requires of_line { IsNetOf line.now net.now }
+    requires fits { Fits line.now script.now }
+    requires one_each { HasOneEach line.now (map result_in results.now) }
+    ensures exact { MatchResult result
+        (λ _. AreSupported line.now script.now (map result_in results.now))
+        (λ fault. IsFirstFault line.now script.now (map result_in results.now) fault) }
+    // What is said of each terminal is so.
+    ensures told { IfOk result (λ _. AreTold line.now script.now (map result_in results.now)) }
+{
+    sound_trees_meet();
+    deadlines_are_below_the_horizon();
+    each_line_has_a_choice_inside();
+    for i in 0..results.len() {
+        check_result(alloc, line, net, script, i as u32, &results[i])?;
+    }
+    Ok(())
+}
+
+// Checks the result of a terminal.
+fn check_result(
+    alloc: Global,
+    line: &Line,
+    net: &Net,
+    script: &Script,
+    terminal: u32,
+    claim: &TreeClaim,
+) -> Result<(), ResultFault>
+    requires of_line { IsNetOf line.now net.now }
+    requires fits { Fits line.now script.now }
+    requires terminal { terminal < terminal_count line.now }
+    requires said { IsSettleResult line.now (result_in claim.now) }
+    ensures { MatchResult result
+        (λ _. IsSupported line.now script.now terminal (result_in claim.now))
+        (λ fault. IsFaultOf line.now script.now terminal (result_in claim.now) fault) }
+{
+    match claim {
+        TreeClaim::Tree(nodes) => {
+            let of = Obligation {
+                line,
+                net,
+                script,
+                terminal,
+            };
+            check_tree(alloc, &of, nodes.as_slice())
+        }
+        TreeClaim::Fails { steps, numbers } => {
+            let (steps, numbers) = (steps.as_slice(), numbers.as_slice());
+            match check_timing(alloc, line, net, script, terminal, steps, numbers)? {
+                Some(fault) => Err(ResultFault::No { terminal, fault }),
+                None => Ok(()),
+            }
+        }
+    }
+}
+
+// Checks a tree over the declared box.
+fn check_tree(alloc: Global, of: &Obligation<'_>, nodes: &[CaseNode]) -> Result<(), ResultFault>
+    requires of_line { IsNetOf of.now.line.now of.now.net.now }
+    requires fits { Fits of.now.line.now of.now.script.now }
+    requires terminal { of.now.terminal < terminal_count of.now.line.now }
+    requires tree { AreTree of.now.line.now nodes.now }
+    ensures { MatchResult result
+        (λ _. IsTreeShown of.now.line.now of.now.script.now of.now.terminal nodes.now)
+        (λ fault. IsTreeFault of.now.line.now of.now.script.now of.now.terminal nodes.now fault) }
+{
+    let view = declared_view(alloc, of.line)?;
+    let none = Passed {
+        nodes: 0,
+        leaves: 0,
+    };
+    walk(alloc, of, &view, nodes, none)?;
+    Ok(())
+}

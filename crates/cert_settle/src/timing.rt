@@ -1,0 +1,122 @@
+//! The check of the timing of a `no`.
+
+ghost use Rattle.std.specs.Prelude.{◌≡◌, ◌<◌, ℕ, length, IfOk, MatchOption};
+ghost use Rattle.model_line.specs.{declared.line.Line.Line, declared.script.Script.Script};
+ghost use Rattle.model_line.specs.{Parameters.terminal_count, Parameters.param_count, Fits.Fits};
+ghost use Rattle.net_gates.specs.NetOf.{IsNetOf};
+ghost use Rattle.model_timing.specs.{Inside.IsTimingInside, Timing.TimingValues};
+ghost use Rattle.cert_check.specs.Firsts.{IsFirstFailing};
+ghost use Rattle.cert_check.specs.Refutations.{IsNumberIn};
+ghost use Rattle.cert_check.specs.declared.no.NoFault.{NoFault};
+ghost use Rattle.cert_settle.specs.Grammar.{AreTiming};
+ghost use Rattle.cert_settle.specs.Results.{timing_of};
+ghost use Rattle.cert_settle.specs.Timings.{FailsAt, PassesAt, IsRefutation, IsNoFault};
+
+use cert_check::{NoFault, met_tick};
+use model_line::laws::deadlines_are_below_the_horizon;
+use model_line::{Line, Memory, Script};
+use model_logic::laws::{each_choice_has_one_history, each_line_has_a_choice_inside};
+use model_timing::{Step, is_in, timings_inside_are_choices_inside};
+use net_gates::Net;
+use run_changes::run_tracks;
+use run_signal::{Level, Tick};
+use run_step::laws::a_timing_is_one_choice;
+use std::alloc::Global;
+
+/// What is wrong with the timing of a `no`. None where it refutes the obligation of the terminal.
+pub(crate) fn check_timing(
+    alloc: Global,
+    line: &Line,
+    net: &Net,
+    script: &Script,
+    terminal: u32,
+    steps: &[Step<Tick>],
+    values: &[u32],
+) -> Result<Option<NoFault>, Memory>
+    requires of_line { IsNetOf line.now net.now }
+    requires fits { Fits line.now script.now }
+    requires terminal { terminal < terminal_count line.now }
+    requires timing { AreTiming line.now steps.now values.now }
+    ensures { IfOk result (λ wrong. MatchOption wrong
+        (IsRefutation line.now script.now terminal (timing_of steps.now values.now))
+        (λ fault. IsNoFault line.now script.now terminal (timing_of steps.now values.now) fault)) }
+{
+    if let Some(param) = first_outside(line, values) {
+        let value = values[param as usize];
+        return Ok(Some(NoFault::Outside { param, value }));
+    }
+    match met_at(alloc, line, net, script, terminal, steps, values)? {
+        Some(tick) => Ok(Some(NoFault::Passes { tick })),
+        None => Ok(None),
+    }
+}
+
+// The first parameter whose number is not in its interval.
+fn first_outside(line: &Line, values: &[u32]) -> Option<u32>
+    requires { length values.now ≡ param_count line.now }
+    ensures { MatchOption result
+        ((i : ℕ) → i < param_count line.now → IsNumberIn line.now values.now i)
+        (λ i. IsFirstFailing (IsNumberIn line.now values.now) (param_count line.now) i) }
+{
+    for param in 0..line.param_count() {
+        if !is_in(line, param, values[param as usize]) {
+            return Some(param);
+        }
+    }
+    None
+}
+
+// Whether the history at the timing meets the obligation of a terminal, and the tick that shows it.
+fn met_at(
+    alloc: Global,
+    line: &Line,
+    net: &Net,
+    script: &Script,
+    terminal: u32,
+    steps: &[Step<Tick>],
+    values: &[u32],
+) -> Result<Option<u32>, Memory>
+    requires of_line { IsNetOf line.now net.now }
+    requires fits { Fits line.now script.now }
+    requires terminal { terminal < terminal_count line.now }
+    requires timing { AreTiming line.now steps.now values.now }
+    requires inside { IsTimingInside line.now (timing_of steps.now values.now) }
+    ensures { IfOk result (λ met. MatchOption met
+        (FailsAt line.now script.now terminal (timing_of steps.now values.now))
+        (λ t. PassesAt line.now script.now terminal (timing_of steps.now values.now) t)) }
+{
+    a_timing_is_one_choice();
+    each_choice_has_one_history();
+    deadlines_are_below_the_horizon();
+    let numbers = ticks_of(alloc, line, values)?;
+    let tracks = run_tracks::<Level>(alloc, net, line, script, numbers.as_slice(), steps)?;
+    let trip = &tracks.trips[terminal as usize];
+    Ok(met_tick(trip, script, line.horizon))
+}
+
+// The numbers as ticks.
+fn ticks_of(alloc: Global, line: &Line, values: &[u32]) -> Result<Vec<Tick>, Memory>
+    requires count { length values.now ≡ param_count line.now }
+    requires inside { (i : ℕ) → i < param_count line.now → IsNumberIn line.now values.now i }
+    ensures { IfOk result (λ ticks. ticks.items ≡ values.now) }
+{
+    let mut ticks = Vec::with_capacity(alloc, values.len())?;
+    for value in values {
+        ticks.push(Tick::new(*value))?;
+    }
+    Ok(ticks)
+}
+
+/// The timing of a `no` has at most one fault, and where it has one it does not refute.
+pub(crate) fn a_timing_has_one_fault()
+    ensures one { (line : Line) (script : Script) (k : ℕ) (timing : TimingValues)
+        (fault other : NoFault) → IsNoFault line script k timing fault →
+        IsNoFault line script k timing other → fault ≡ other }
+    ensures refused { (line : Line) (script : Script) (k : ℕ) (timing : TimingValues)
+        (fault : NoFault) → IsNoFault line script k timing fault →
+        ¬ (IsRefutation line script k timing) }
+{
+    each_choice_has_one_history();
+    each_line_has_a_choice_inside();
+    timings_inside_are_choices_inside();
+}

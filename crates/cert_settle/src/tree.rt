@@ -1,0 +1,148 @@
+//! The check of a tree: a walk through its nodes, each leaf with its part of the box and what is
+//! assumed there.
+
+ghost use Rattle.std.specs.Prelude.{◌≡◌, ◌≤◌, ◌<◌, ◌+◌, ◌++◌, ◌^◌, List, length, drop, MatchResult};
+ghost use Rattle.std.specs.Prelude.{IfOk, MatchOption, None};
+ghost use Rattle.model_line.specs.{Fits.Fits, Parameters.terminal_count};
+ghost use Rattle.model_settle.specs.CaseTrees.{CaseTree};
+ghost use Rattle.net_gates.specs.NetOf.{IsNetOf};
+ghost use Rattle.judge_cases.specs.Views.{IsView};
+ghost use Rattle.judge_cases.specs.declared.node.CaseNode.{CaseNode};
+ghost use Rattle.judge_cases.specs.Trees.{Branches};
+ghost use Rattle.judge_cases.specs.Nodes.{preorder};
+ghost use Rattle.cert_settle.specs.CaseParts.{CasePart, parts_below, IsShownOver};
+ghost use Rattle.cert_settle.specs.Walks.{BeginWithTree, IsWalked, IsWalkFault, IsLeafFault};
+ghost use Rattle.cert_settle.specs.Walks.{IsViewOf, CanStand, AreViewsBelow};
+
+use crate::fault::ResultFault;
+use judge_cases::{CaseNode, View, case_view, is_shown, lower_view, upper_view};
+use model_line::laws::deadlines_are_below_the_horizon;
+use model_line::{Line, Memory, Script};
+use net_gates::Net;
+use std::alloc::Global;
+
+/// How many nodes and how many leaves of a tree a walk has passed.
+#[derive(Clone, Copy)]
+pub(crate) struct Passed {
+    pub nodes: usize,
+    pub leaves: u32,
+}
+
+/// An obligation: a script at a terminal of a line, and the line's net.
+#[derive(Clone, Copy)]
+pub(crate) struct Obligation<'a> {
+    pub line: &'a Line,
+    pub net: &'a Net,
+    pub script: &'a Script,
+    pub terminal: u32,
+}
+
+/// Walks through the tree that comes next among the nodes, over the box of a view under what it
+/// assumes. The error is its first yes leaf that is not shown.
+pub(crate) fn walk(
+    alloc: Global,
+    of: &Obligation<'_>,
+    view: &View,
+    nodes: &[CaseNode],
+    passed: Passed,
+) -> Result<Passed, ResultFault>
+    requires of_line { IsNetOf of.now.line.now of.now.net.now }
+    requires fits { Fits of.now.line.now of.now.script.now }
+    requires terminal { of.now.terminal < terminal_count of.now.line.now }
+    requires few { length nodes.now < 2 ^ 32 }
+    requires leaves { passed.leaves ≤ passed.nodes }
+    requires tree { BeginWithTree of.now.line.now view.now (drop passed.nodes nodes.now) }
+    ensures { (part : CasePart) (tree : CaseTree) (after : List CaseNode) →
+        IsViewOf of.now.line.now part view.now → Branches of.now.line.now part.box tree →
+        drop passed.nodes nodes.now ≡ preorder tree ++ after → MatchResult result
+        (λ walked. IsWalked of.now.line.now of.now.script.now of.now.terminal part tree passed walked)
+        (λ fault. IsWalkFault of.now.line.now of.now.script.now of.now.terminal part tree passed.leaves fault) }
+{
+    let root = nodes[passed.nodes];
+    let Some((first, second)) = views_below(alloc, of.line, view, root)? else {
+        check_leaf(alloc, of, view, root, passed.leaves)?;
+        return Ok(after_leaf(passed));
+    };
+    let between = walk(alloc, of, &first, nodes, after_branch(passed))?;
+    walk(alloc, of, &second, nodes, between)
+}
+
+// The views of the two trees below a node, where it is a split or a pair of cases.
+fn views_below(
+    alloc: Global,
+    line: &Line,
+    view: &View,
+    root: CaseNode,
+) -> Result<Option<(View, View)>, Memory>
+    requires stands { CanStand line.now view.now root }
+    requires view { IsView line.now view.now }
+    ensures { IfOk result (λ two. (part : CasePart) → IsViewOf line.now part view.now →
+        MatchOption two (parts_below part root ≡ None)
+        (λ views. AreViewsBelow line.now part root views.0 views.1)) }
+{
+    match root {
+        CaseNode::Split { param, mid } => {
+            let lower = lower_view(alloc, line, view, param, mid)?;
+            let upper = upper_view(alloc, line, view, param, mid)?;
+            Ok(Some((lower, upper)))
+        }
+        CaseNode::Case { terminal, tick } => {
+            let off = case_view(alloc, line, view, terminal, tick, false)?;
+            let on = case_view(alloc, line, view, terminal, tick, true)?;
+            Ok(Some((off, on)))
+        }
+        CaseNode::Yes => Ok(None),
+        CaseNode::Undecided => Ok(None),
+    }
+}
+
+fn after_leaf(passed: Passed) -> Passed
+    requires few { passed.nodes + 1 < 2 ^ 32 }
+    requires leaves { passed.leaves ≤ passed.nodes }
+    ensures nodes { result.nodes ≡ passed.nodes + 1 }
+    ensures leaves { result.leaves ≡ passed.leaves + 1 }
+{
+    Passed {
+        nodes: passed.nodes + 1,
+        leaves: passed.leaves + 1,
+    }
+}
+
+fn after_branch(passed: Passed) -> Passed
+    requires { passed.nodes < 2 ^ 32 }
+    ensures nodes { result.nodes ≡ passed.nodes + 1 }
+    ensures leaves { result.leaves ≡ passed.leaves }
+{
+    Passed {
+        nodes: passed.nodes + 1,
+        leaves: passed.leaves,
+    }
+}
+
+// Checks the leaf of this number: where it is yes, the obligation is shown over the view.
+fn check_leaf(
+    alloc: Global,
+    of: &Obligation<'_>,
+    view: &View,
+    root: CaseNode,
+    leaf: u32,
+) -> Result<(), ResultFault>
+    requires of_line { IsNetOf of.now.line.now of.now.net.now }
+    requires fits { Fits of.now.line.now of.now.script.now }
+    requires terminal { of.now.terminal < terminal_count of.now.line.now }
+    requires view { (part : CasePart) × IsViewOf of.now.line.now part view.now }
+    ensures { (part : CasePart) → IsViewOf of.now.line.now part view.now → MatchResult result
+        (λ _. root ≡ CaseNode.Yes → IsShownOver of.now.line.now of.now.script.now of.now.terminal part)
+        (λ fault. IsLeafFault of.now.line.now of.now.script.now of.now.terminal part root leaf fault) }
+{
+    deadlines_are_below_the_horizon();
+    if root != CaseNode::Yes {
+        return Ok(());
+    }
+    let terminal = of.terminal;
+    if is_shown(alloc, of.line, of.net, of.script, terminal, view)? {
+        Ok(())
+    } else {
+        Err(ResultFault::NotShown { terminal, leaf })
+    }
+}

@@ -1,0 +1,90 @@
+//! The check of a text of settled trees.
+
+ghost use Rattle.std.specs.Prelude.{◌≡◌, ◌≤◌, ℕ, List, length, map, IfOk, MatchResult};
+ghost use Rattle.std.specs.List.{All};
+ghost use Rattle.model_line.specs.Fits.{Fits};
+ghost use Rattle.net_gates.specs.NetOf.{IsNetOf};
+ghost use Rattle.cert_check.specs.Scripts.{EachBelow};
+ghost use Rattle.cert_settle.specs.Grammar.{HasOneEach, IsSettleText};
+ghost use Rattle.cert_settle.specs.Reading.{results_in, IsSettleTextFault};
+ghost use Rattle.cert_settle.specs.Check.{IsAccepted, IsSettleFault, IsSound};
+ghost use Rattle.cert_settle.specs.Results.{AreTold};
+
+use crate::claim::TreeClaim;
+use crate::counts::counts_of;
+use crate::fault::{SettleFault, in_script};
+use crate::laws::a_settle_text_has_one_meaning;
+use crate::read::read_settle_text;
+use crate::result::check_results;
+use base_lines::TextFault;
+use cert_check::Counts;
+use model_line::{Line, Script};
+use net_gates::Net;
+use std::alloc::Global;
+
+/// Checks the settled trees of the scripts, and counts what each obligation comes to: `no` where its
+/// result is a `no`, yes where each leaf of its tree is yes, else undecided. The error is the first
+/// fault: the first line that leaves the grammar; else, by script and terminal, the first yes leaf
+/// that is not shown over its part, or what is wrong with the timing of a `no`.
+pub fn check_settle(
+    alloc: Global,
+    line: &Line,
+    net: &Net,
+    scripts: &[Script],
+    cert: &[u8],
+) -> Result<Counts, SettleFault>
+    requires of_line { IsNetOf line.now net.now }
+    requires fits { All (Fits line.now) scripts.now }
+    requires few { length scripts.now ≤ 64 }
+    ensures exact { MatchResult result
+        (λ counts. IsAccepted line.now scripts.now cert.now counts)
+        (λ fault. IsSettleFault line.now scripts.now cert.now fault) }
+    // Whatever the trees are: each history of each choice inside meets an obligation whose tree has
+    // yes leaves alone; the timing of a `no` is inside, and its history fails it.
+    ensures sound { IfOk result (λ _. IsSound line.now scripts.now cert.now) }
+{
+    a_settle_text_has_one_meaning();
+    match read_settle_text(alloc, line, scripts, cert) {
+        Ok(parts) => check_scripts(alloc, line, net, scripts, parts.as_slice()),
+        Err(fault) => Err(of_text(line, scripts, cert, fault)),
+    }
+}
+
+// The fault of the text.
+fn of_text(line: &Line, scripts: &[Script], cert: &[u8], fault: TextFault) -> SettleFault
+    requires { IsSettleTextFault line.now scripts.now cert.now fault }
+    ensures { IsSettleFault line.now scripts.now cert.now result }
+{
+    match fault {
+        TextFault::Line(number) => SettleFault::Line(number),
+        TextFault::Memory => SettleFault::Memory,
+    }
+}
+
+// Checks what is said of each script, in order.
+fn check_scripts(
+    alloc: Global,
+    line: &Line,
+    net: &Net,
+    scripts: &[Script],
+    parts: &[Vec<TreeClaim>],
+) -> Result<Counts, SettleFault>
+    requires of_line { IsNetOf line.now net.now }
+    requires fits { All (Fits line.now) scripts.now }
+    requires few { length scripts.now ≤ 64 }
+    requires many { length parts.now ≡ length scripts.now }
+    requires one_each { All (HasOneEach line.now) (map results_in parts.now) }
+    ensures exact { (bytes : List ℕ) →
+        IsSettleText line.now scripts.now (map results_in parts.now) bytes → MatchResult result
+        (λ counts. IsAccepted line.now scripts.now bytes counts)
+        (λ fault. IsSettleFault line.now scripts.now bytes fault) }
+    ensures told { IfOk result (λ _. EachBelow (AreTold line.now) scripts.now
+        (map results_in parts.now) (length scripts.now)) }
+{
+    for i in 0..scripts.len() {
+        if let Err(fault) = check_results(alloc, line, net, &scripts[i], parts[i].as_slice()) {
+            return Err(in_script(i as u32, fault));
+        }
+    }
+    Ok(counts_of(parts))
+}

@@ -1,9 +1,0 @@
-pub mod FirstLeafLaws
-pub mod WalkLaws
-pub mod ResultLaws
-pub mod FirstVerdicts
-pub mod OneTree
-pub mod OneFault
-pub mod OneSettleFault
-pub mod TimingFaults
-pub mod Told

@@ -1,5 +1,0 @@
-pub mod Words
-pub mod Elements
-pub mod Bare
-pub mod Badges
-pub mod Figures

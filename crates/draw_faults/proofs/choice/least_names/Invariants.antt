@@ -1,8 +1,0 @@
-use Rattle.std.proofs.Common.{◌≡◌, take}
-use Rattle.std.specs.List.{flat_map}
-use Rattle.draw_faults.specs.Choices.{least_name_html}
-use Rattle.draw_faults.proofs.choice.least_names.Given as goal
-
-abbrev pub invariant-loop-name : goal.invariant-loop-name
-invariant-loop-name l =
-    l.made.text.items ≡ flat_map least_name_html (take l.name-index l.least)

@@ -1,8 +1,0 @@
-use Rattle.std.proofs.Common.{◌≡◌, take}
-use Rattle.std.specs.List.{flat_map}
-use Rattle.draw_faults.specs.Choices.{told_row_html}
-use Rattle.draw_faults.proofs.choice.told_rows.Given as goal
-
-abbrev pub invariant-loop-time : goal.invariant-loop-time
-invariant-loop-time l =
-    l.made.text.items ≡ flat_map (told_row_html l.tick_us) (take l.time-index l.told)

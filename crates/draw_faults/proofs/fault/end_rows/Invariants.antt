@@ -1,8 +1,0 @@
-use Rattle.std.proofs.Common.{◌≡◌, take}
-use Rattle.std.specs.List.{flat_map}
-use Rattle.draw_faults.specs.Faults.{end_row_html}
-use Rattle.draw_faults.proofs.fault.end_rows.Given as goal
-
-abbrev pub invariant-loop-verdict : goal.invariant-loop-verdict
-invariant-loop-verdict l =
-    l.made.text.items ≡ flat_map (end_row_html l.tick_us) (take l.verdict-index l.verdicts)

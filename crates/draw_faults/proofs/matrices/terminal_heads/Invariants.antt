@@ -1,7 +1,0 @@
-use Rattle.std.proofs.Common.{◌≡◌, take}
-use Rattle.draw_faults.specs.Matrices.{terminal_heads_html}
-use Rattle.draw_faults.proofs.matrices.terminal_heads.Given as goal
-
-abbrev pub invariant-loop-terminal : goal.invariant-loop-terminal
-invariant-loop-terminal l =
-    l.made.text.items ≡ terminal_heads_html (take l.terminal-index l.terminals)

@@ -1,8 +1,0 @@
-use Rattle.draw_grid.specs.Cells.{bars_at}
-use Rattle.draw_grid.proofs.Lists.{list_more}
-use Rattle.draw_grid.proofs.border.put_border.Goals as goal
-
-pub loop-place-preserved : goal.loop-place-preserved
-loop-place-preserved c =
-    list_more _ _ _ (bars_at c.args.scale c.args.cells.now) c.loop-place.place
-    c.loop-place.invariant c.in_ok-put_bars.ensures

@@ -1,9 +1,0 @@
-use Rattle.std.proofs.Common.{◌≡◌, ◌++◌}
-use Rattle.draw_shapes.specs.Seen.{figures_seen}
-use Rattle.draw_grid.specs.{Cells.bars_at, Numbers.each_below}
-use Rattle.draw_grid.proofs.border.put_border.Given as goal
-
-abbrev pub invariant-loop-place : goal.invariant-loop-place
-invariant-loop-place l =
-    figures_seen l.figures.items
-    ≡ figures_seen l.initial.figures.items ++ each_below l.place (bars_at l.scale l.cells)

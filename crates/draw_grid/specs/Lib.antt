@@ -1,5 +1,0 @@
-pub mod Scale
-pub mod Cells
-pub mod Numbers
-pub mod Legend
-pub mod Drawings

@@ -1,0 +1,62 @@
+-- The matrix of faults and terminals.
+use Rattle.std.specs.Prelude.{◌++◌, ℕ, List, [], ◌∷◌, codes, Vec}
+use Rattle.std.specs.declared.alloc.Global.{Global}
+use Rattle.std.specs.List.{flat_map}
+use Rattle.base_html.specs.declared.tag.Tag.TheVariants as tag
+use Rattle.base_html.specs.declared.attribute.Key.TheVariants as key
+use Rattle.base_html.specs.{Content.element_text, Words.words_text}
+use Rattle.draw_page.specs.declared.anchor.Anchor.TheVariants as anchor
+use Rattle.draw_page.specs.declared.page.{Page.Page, Fault.Fault, Verdict.Verdict}
+use Rattle.draw_page.specs.Elements.{numbered, plain_html, cell_html, number_cell_html, column_html}
+use Rattle.draw_page.specs.Elements.{head_cell_html, link_html, section_html, table_html}
+use Rattle.draw_page.specs.Words.{kind_said, margin_said, trip_said}
+use Rattle.draw_page.specs.Badges.{badge_html}
+
+-- ---- the head: the terminals, and below each its three columns
+
+unfoldable pub corner_html : List ℕ → List ℕ
+corner_html words =
+    element_text tag.HeadCell ((key.Scope, codes "col") ∷ ((key.Rowspan, codes "2") ∷ []))
+    (words_text words)
+
+unfoldable pub over_html : List ℕ → List ℕ
+over_html terminal =
+    element_text tag.HeadCell ((key.Scope, codes "colgroup") ∷ ((key.Colspan, codes "3") ∷ []))
+    (words_text terminal)
+
+abbrev pub terminal_heads_html : List (Vec ℕ Global) → List ℕ
+terminal_heads_html terminals = flat_map (λ terminal. over_html terminal.items) terminals
+
+unfoldable pub three_heads_html : List ℕ
+three_heads_html =
+    column_html (codes "verdict") ++ column_html (codes "first trip") ++ column_html (codes "margin")
+
+unfoldable pub matrix_head_html : List (Vec ℕ Global) → List ℕ
+matrix_head_html terminals =
+    plain_html tag.TableHead
+    (plain_html tag.Row
+    (corner_html (codes "Fault") ++ corner_html (codes "Kind") ++ terminal_heads_html terminals)
+    ++ plain_html tag.Row (flat_map (λ terminal. three_heads_html) terminals))
+
+-- ---- the rows
+
+-- how a fault stands at a terminal, its first trip and its margin
+unfoldable pub verdict_cells_html : ℕ → Verdict → List ℕ
+verdict_cells_html tick_us v =
+    cell_html (codes "state") v.terminal.items (badge_html v.standings.items)
+    ++ number_cell_html (codes "first trip") (trip_said tick_us v.may v.must)
+    ++ number_cell_html (codes "margin") (margin_said tick_us v.deadline v.must)
+
+-- the fault of this number, with a link to its section
+unfoldable pub fault_row_html : ℕ → ℕ → Fault → List ℕ
+fault_row_html tick_us n fault =
+    plain_html tag.Row
+    (head_cell_html (codes "row") (link_html (anchor.Fault n) fault.name.items)
+    ++ cell_html (codes "kind") (codes "kind") (words_text (kind_said fault.kind))
+    ++ flat_map (verdict_cells_html tick_us) fault.verdicts.items)
+
+unfoldable pub matrix_html : Page → List ℕ
+matrix_html page =
+    section_html anchor.Verdicts (codes "Verdicts") (table_html (codes "matrix")
+    (matrix_head_html page.terminals.items)
+    (numbered (fault_row_html page.tick_us) 0 page.faults.items))

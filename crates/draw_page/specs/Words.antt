@@ -1,0 +1,60 @@
+-- Times and answers in words.
+use Rattle.std.specs.Prelude.{◌-◌, ◌==◌, ◌++◌, ℕ, List, [], Option, None, Some}
+use Rattle.std.specs.Prelude.{codes, decimal, nat_le, if◌then◌else◌}
+use Rattle.base_lines.specs.Milliseconds as milliseconds
+use Rattle.model_line.specs.declared.script.Kind.{Kind}
+use Rattle.model_line.specs.declared.script.Kind.TheVariants.{Internal, External}
+use Rattle.draw_page.specs.declared.page.Means.{Means}
+use Rattle.draw_page.specs.declared.page.Means.TheVariants as means
+
+-- ---- times
+
+abbrev pub number_said : ℕ → List ℕ
+number_said n = decimal n
+
+-- ticks in milliseconds
+unfoldable pub ticks_text : ℕ → ℕ → List ℕ
+ticks_text tick_us t = milliseconds.ticks_text tick_us t
+
+abbrev pub time_said : ℕ → ℕ → List ℕ
+time_said tick_us t = ticks_text tick_us t ++ codes " ms"
+
+-- an interval, one time where both ends are the same
+abbrev pub interval_said : ℕ → ℕ → ℕ → List ℕ
+interval_said tick_us low high =
+    if low == high then time_said tick_us low
+    else ticks_text tick_us low ++ codes " to " ++ time_said tick_us high
+
+-- when a trip may come first, and when it must have
+abbrev pub trip_said : ℕ → Option ℕ → Option ℕ → List ℕ
+trip_said tick_us None must = codes "none"
+trip_said tick_us (Some may) None = codes "from " ++ time_said tick_us may
+trip_said tick_us (Some may) (Some must) = interval_said tick_us may must
+
+-- the deadline less when the trip must have come, below 0 where it is late
+abbrev pub margin_of : ℕ → ℕ → ℕ → List ℕ
+margin_of tick_us deadline must =
+    if nat_le must deadline then time_said tick_us (deadline - must)
+    else codes "-" ++ time_said tick_us (must - deadline)
+
+abbrev pub margin_said : ℕ → Option ℕ → Option ℕ → List ℕ
+margin_said tick_us None must = []
+margin_said tick_us (Some deadline) None = []
+margin_said tick_us (Some deadline) (Some must) = margin_of tick_us deadline must
+
+abbrev pub deadline_said : ℕ → Option ℕ → List ℕ
+deadline_said tick_us None = codes "never"
+deadline_said tick_us (Some deadline) = time_said tick_us deadline
+
+-- ---- answers
+
+abbrev pub kind_said : Kind → List ℕ
+kind_said Internal = codes "internal"
+kind_said External = codes "external"
+
+abbrev pub by_said : Means → List ℕ
+by_said means.Rules = codes "interval rules"
+by_said means.Candidate = codes "a timing tried"
+by_said means.Corner = codes "the worst corner"
+by_said means.Parts = codes "parts of the intervals"
+by_said means.Cases = codes "cases of echoes"

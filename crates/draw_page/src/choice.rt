@@ -1,0 +1,222 @@
+//! The choices of delays that fail an obligation.
+
+ghost use Rattle.std.specs.Prelude.{◌≡◌, IfOk};
+ghost use Rattle.std.specs.List.{flat_map};
+ghost use Rattle.draw_page.specs.Choices.{choice_heading_html, choice_html, failing_html};
+ghost use Rattle.draw_page.specs.Choices.{least_html, least_name_html, middle_html, name_html};
+ghost use Rattle.draw_page.specs.Choices.{none_failing_html, some_failing_html, some_least_html};
+ghost use Rattle.draw_page.specs.Choices.{some_steps_html, step_row_html, steps_html, told_html};
+ghost use Rattle.draw_page.specs.Choices.{none_told_html, some_told_html, told_row_html};
+
+use crate::anchor::Anchor;
+use crate::drawings::figure;
+use crate::elements::{columns, link, said_in, section, table, words_in};
+use crate::page::{FailingChoice, Page, ToldStep, ToldTime};
+use crate::parts::{around, classed_around, joined, number_in, row_head};
+use crate::words::{interval_words, time_words};
+use base_html::{Html, Tag};
+use std::alloc::{AllocError, Global};
+
+/// The section of the choices that fail.
+#[tactic(auto, unfolding(crate::specs::Choices::failing_html))]
+pub fn failing(alloc: Global, page: &Page) -> Result<Html, AllocError>
+    ensures { IfOk result (λ html. html.text.items ≡ failing_html page.now) }
+{
+    let inside = some_failing(alloc, page.tick_us, page.failing.as_slice())?;
+    section(alloc, Anchor::Failing, b"Choices that fail", &inside)
+}
+
+fn some_failing(alloc: Global, tick_us: u32, failing: &[FailingChoice]) -> Result<Html, AllocError>
+    ensures { IfOk result (λ html. html.text.items ≡ some_failing_html tick_us failing.now) }
+{
+    match failing {
+        [] => none_failing(alloc),
+        [_, ..] => choices(alloc, tick_us, failing),
+    }
+}
+
+#[tactic(auto, unfolding(crate::specs::Choices::none_failing_html))]
+fn none_failing(alloc: Global) -> Result<Html, AllocError>
+    ensures { IfOk result (λ html. html.text.items ≡ none_failing_html) }
+{
+    words_in(alloc, Tag::Paragraph, b"No obligation fails.")
+}
+
+fn choices(alloc: Global, tick_us: u32, failing: &[FailingChoice]) -> Result<Html, AllocError>
+    ensures { IfOk result (λ html. html.text.items
+        ≡ flat_map (choice_html tick_us) failing.now) }
+{
+    let mut made = Html::new(alloc);
+    for choice in failing {
+        made = made.and(&one_choice(alloc, tick_us, choice)?)?;
+    }
+    Ok(made)
+}
+
+// A choice: its heading, its times and steps, and its play.
+fn one_choice(alloc: Global, tick_us: u32, choice: &FailingChoice) -> Result<Html, AllocError>
+    ensures { IfOk result (λ html. html.text.items ≡ choice_html tick_us choice.now) }
+{
+    let told = joined(
+        heading(alloc, choice),
+        some_told(alloc, tick_us, choice.told.as_slice()),
+    );
+    let steps = joined(told, some_steps(alloc, tick_us, choice.steps.as_slice()));
+    let all = joined(steps, rest(alloc, choice.least.as_slice()));
+    around(
+        alloc,
+        Tag::Section,
+        joined(all, figure(alloc, &choice.play)),
+    )
+}
+
+// The script, with a link to its fault, and the terminal.
+fn heading(alloc: Global, choice: &FailingChoice) -> Result<Html, AllocError>
+    ensures { IfOk result (λ html. html.text.items ≡ choice_heading_html choice.now) }
+{
+    let to = Anchor::Fault(choice.fault as usize);
+    let script = link(alloc, to, choice.script.as_slice());
+    let at = joined(script, Html::words(alloc, b" at "));
+    let terminal = Html::words(alloc, choice.terminal.as_slice());
+    around(alloc, Tag::Heading3, joined(at, terminal))
+}
+
+// The times that matter, if any does.
+fn some_told(alloc: Global, tick_us: u32, times: &[ToldTime]) -> Result<Html, AllocError>
+    ensures { IfOk result (λ html. html.text.items ≡ some_told_html tick_us times.now) }
+{
+    match times {
+        [] => none_told(alloc),
+        [_, ..] => told(alloc, tick_us, times),
+    }
+}
+
+#[tactic(auto, unfolding(crate::specs::Choices::none_told_html))]
+fn none_told(alloc: Global) -> Result<Html, AllocError>
+    ensures { IfOk result (λ html. html.text.items ≡ none_told_html) }
+{
+    words_in(
+        alloc,
+        Tag::Paragraph,
+        b"It fails with each time in the middle of its interval or at its declared least.",
+    )
+}
+
+#[tactic(auto, unfolding(crate::specs::Choices::told_html))]
+fn told(alloc: Global, tick_us: u32, told: &[ToldTime]) -> Result<Html, AllocError>
+    ensures { IfOk result (λ html. html.text.items ≡ told_html tick_us told.now) }
+{
+    let head = columns(alloc, &[b"Time that matters", b"here", b"declared"])?;
+    let rows = told_rows(alloc, tick_us, told)?;
+    table(alloc, b"told", &head, &rows)
+}
+
+fn told_rows(alloc: Global, tick_us: u32, told: &[ToldTime]) -> Result<Html, AllocError>
+    ensures { IfOk result (λ html. html.text.items
+        ≡ flat_map (told_row_html tick_us) told.now) }
+{
+    let mut made = Html::new(alloc);
+    for time in told {
+        made = made.and(&told_row(alloc, tick_us, time)?)?;
+    }
+    Ok(made)
+}
+
+fn told_row(alloc: Global, tick_us: u32, time: &ToldTime) -> Result<Html, AllocError>
+    ensures { IfOk result (λ html. html.text.items ≡ told_row_html tick_us time.now) }
+{
+    let name = row_head(alloc, words_in(alloc, Tag::Code, time.name.as_slice()));
+    let here = number_in(alloc, b"here", time_words(alloc, tick_us, time.number));
+    let words = interval_words(alloc, tick_us, time.low, time.high);
+    let cells = joined(joined(name, here), number_in(alloc, b"declared", words));
+    around(alloc, Tag::Row, cells)
+}
+
+// Where delays move; nothing where none does.
+fn some_steps(alloc: Global, tick_us: u32, steps: &[ToldStep]) -> Result<Html, AllocError>
+    ensures { IfOk result (λ html. html.text.items ≡ some_steps_html tick_us steps.now) }
+{
+    match steps {
+        [] => Ok(Html::new(alloc)),
+        [_, ..] => step_table(alloc, tick_us, steps),
+    }
+}
+
+#[tactic(auto, unfolding(crate::specs::Choices::steps_html))]
+fn step_table(alloc: Global, tick_us: u32, steps: &[ToldStep]) -> Result<Html, AllocError>
+    ensures { IfOk result (λ html. html.text.items ≡ steps_html tick_us steps.now) }
+{
+    let head = columns(alloc, &[b"Delay that moves", b"from", b"is"])?;
+    let rows = step_rows(alloc, tick_us, steps)?;
+    table(alloc, b"told", &head, &rows)
+}
+
+fn step_rows(alloc: Global, tick_us: u32, steps: &[ToldStep]) -> Result<Html, AllocError>
+    ensures { IfOk result (λ html. html.text.items
+        ≡ flat_map (step_row_html tick_us) steps.now) }
+{
+    let mut made = Html::new(alloc);
+    for step in steps {
+        made = made.and(&step_row(alloc, tick_us, step)?)?;
+    }
+    Ok(made)
+}
+
+fn step_row(alloc: Global, tick_us: u32, step: &ToldStep) -> Result<Html, AllocError>
+    ensures { IfOk result (λ html. html.text.items ≡ step_row_html tick_us step.now) }
+{
+    let name = row_head(alloc, words_in(alloc, Tag::Code, step.name.as_slice()));
+    let from = number_in(alloc, b"from", time_words(alloc, tick_us, step.from));
+    let is = number_in(alloc, b"is", time_words(alloc, tick_us, step.number));
+    around(alloc, Tag::Row, joined(joined(name, from), is))
+}
+
+// Where the other times stand.
+fn rest(alloc: Global, least: &[Vec<u8>]) -> Result<Html, AllocError>
+    ensures { IfOk result (λ html. html.text.items ≡ least_html least.now) }
+{
+    match least {
+        [] => all_in_the_middle(alloc),
+        [_, ..] => some_least(alloc, least),
+    }
+}
+
+#[tactic(auto, unfolding(crate::specs::Choices::middle_html))]
+fn all_in_the_middle(alloc: Global) -> Result<Html, AllocError>
+    ensures { IfOk result (λ html. html.text.items ≡ middle_html) }
+{
+    said_in(
+        alloc,
+        Tag::Paragraph,
+        b"small",
+        b"All other times stand in the middle of their intervals.",
+    )
+}
+
+fn some_least(alloc: Global, least: &[Vec<u8>]) -> Result<Html, AllocError>
+    ensures { IfOk result (λ html. html.text.items ≡ some_least_html least.now) }
+{
+    let words = Html::words(
+        alloc,
+        b"All other times stand in the middle of their intervals, but these at their declared least:",
+    );
+    let inside = joined(words, least_names(alloc, least));
+    classed_around(alloc, Tag::Paragraph, b"small", inside)
+}
+
+fn least_names(alloc: Global, least: &[Vec<u8>]) -> Result<Html, AllocError>
+    ensures { IfOk result (λ html. html.text.items ≡ flat_map least_name_html least.now) }
+{
+    let mut made = Html::new(alloc);
+    for name in least {
+        made = made.and(&least_name(alloc, name.as_slice())?)?;
+    }
+    Ok(made)
+}
+
+#[tactic(auto, unfolding(crate::specs::Choices::name_html))]
+fn least_name(alloc: Global, name: &[u8]) -> Result<Html, AllocError>
+    ensures { IfOk result (λ html. html.text.items ≡ name_html name.now) }
+{
+    Html::words(alloc, b" ")?.and(&words_in(alloc, Tag::Code, name)?)
+}

@@ -1,0 +1,53 @@
+//! Drawings within the page: their looks and hatchings stand in the page once.
+
+ghost use Rattle.std.specs.Prelude.{◌≡◌, IfOk};
+ghost use Rattle.draw_shapes.specs.Seen.{drawing_seen};
+ghost use Rattle.draw_page.specs.Figures.{drawing_html, drawn_inside, figure_html};
+
+use crate::elements::classed;
+use crate::words::number_words;
+use base_html::{Html, Tag};
+use base_markup::{Key, Markup, words};
+use draw_shapes::{Drawing, shapes, title};
+use std::alloc::{AllocError, Global};
+
+/// A drawing as a figure.
+#[tactic(auto, unfolding(crate::specs::Figures::figure_html))]
+pub fn figure(alloc: Global, of: &Drawing) -> Result<Html, AllocError>
+    ensures { IfOk result (λ html. html.text.items ≡ figure_html (drawing_seen of.now)) }
+{
+    let inside = drawing(alloc, of)?;
+    classed(alloc, Tag::Figure, b"drawing", &inside)
+}
+
+/// A drawing as one element.
+#[tactic(auto, unfolding(crate::specs::Figures::drawing_html))]
+pub fn drawing(alloc: Global, of: &Drawing) -> Result<Html, AllocError>
+    ensures { IfOk result (λ html. html.text.items ≡ drawing_html (drawing_seen of.now)) }
+{
+    let height = number_words(alloc, (of.height / 10) as usize)?;
+    let mut view = Vec::from_slice(alloc, b"0 0 1000 ")?;
+    view.extend_from_slice(height.as_slice())?;
+    let inside = inside(alloc, of)?;
+    Html::drawing(
+        alloc,
+        &[
+            words(Key::Xmlns, b"http://www.w3.org/2000/svg"),
+            words(Key::ViewBox, view.as_slice()),
+            words(Key::Width, b"1000"),
+            words(Key::Height, height.as_slice()),
+            words(Key::Role, b"img"),
+        ],
+        &inside,
+    )
+}
+
+// What stands in the one element.
+fn inside(alloc: Global, of: &Drawing) -> Result<Markup, AllocError>
+    ensures { IfOk result (λ markup.
+        markup.text.items ≡ drawn_inside (drawing_seen of.now)) }
+{
+    Markup::line_end(alloc)?
+        .and(&title(alloc, of.title.as_slice())?)?
+        .and(&shapes(alloc, of.shapes.as_slice())?)
+}

@@ -1,0 +1,69 @@
+//! The obligations that are open.
+
+ghost use Rattle.std.specs.Prelude.{◌≡◌, IfOk};
+ghost use Rattle.std.specs.List.{flat_map};
+ghost use Rattle.draw_page.specs.Opens.{none_open_html, open_html, open_row_html, open_table_html};
+ghost use Rattle.draw_page.specs.Opens.{some_open_html};
+
+use crate::anchor::Anchor;
+use crate::elements::{columns, link, number_cell, section, table, words_in};
+use crate::page::{Page, Undecided};
+use crate::parts::{around, joined, number_in, row_head};
+use crate::words::number_words;
+use base_html::{Html, Tag};
+use std::alloc::{AllocError, Global};
+
+/// The section of what is open.
+#[tactic(auto, unfolding(crate::specs::Opens::open_html))]
+pub fn undecided(alloc: Global, page: &Page) -> Result<Html, AllocError>
+    ensures { IfOk result (λ html. html.text.items ≡ open_html page.now) }
+{
+    let inside = some_open(alloc, page.undecided.as_slice())?;
+    section(alloc, Anchor::Open, b"Open obligations", &inside)
+}
+
+fn some_open(alloc: Global, all: &[Undecided]) -> Result<Html, AllocError>
+    ensures { IfOk result (λ html. html.text.items ≡ some_open_html all.now) }
+{
+    match all {
+        [] => none_open(alloc),
+        [_, ..] => open_table(alloc, all),
+    }
+}
+
+#[tactic(auto, unfolding(crate::specs::Opens::none_open_html))]
+fn none_open(alloc: Global) -> Result<Html, AllocError>
+    ensures { IfOk result (λ html. html.text.items ≡ none_open_html) }
+{
+    words_in(alloc, Tag::Paragraph, b"No obligation is open.")
+}
+
+#[tactic(auto, unfolding(crate::specs::Opens::open_table_html))]
+fn open_table(alloc: Global, all: &[Undecided]) -> Result<Html, AllocError>
+    ensures { IfOk result (λ html. html.text.items ≡ open_table_html all.now) }
+{
+    let head = columns(alloc, &[b"Script", b"terminal", b"analyses tried"])?;
+    let rows = open_rows(alloc, all)?;
+    table(alloc, b"told", &head, &rows)
+}
+
+fn open_rows(alloc: Global, all: &[Undecided]) -> Result<Html, AllocError>
+    ensures { IfOk result (λ html. html.text.items ≡ flat_map open_row_html all.now) }
+{
+    let mut made = Html::new(alloc);
+    for one in all {
+        made = made.and(&open_row(alloc, one)?)?;
+    }
+    Ok(made)
+}
+
+fn open_row(alloc: Global, one: &Undecided) -> Result<Html, AllocError>
+    ensures { IfOk result (λ html. html.text.items ≡ open_row_html one.now) }
+{
+    let to = Anchor::Fault(one.fault as usize);
+    let script = row_head(alloc, link(alloc, to, one.script.as_slice()));
+    let terminal = number_cell(alloc, b"terminal", one.terminal.as_slice());
+    let words = number_words(alloc, one.analyses as usize);
+    let analyses = number_in(alloc, b"analyses tried", words);
+    around(alloc, Tag::Row, joined(joined(script, terminal), analyses))
+}

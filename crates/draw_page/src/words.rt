@@ -1,0 +1,146 @@
+//! Times and answers in words.
+
+ghost use Rattle.std.specs.Prelude.{◌≡◌, ◌++◌, IfOk, OnOk, codes};
+ghost use Rattle.draw_page.specs.Words.{by_said, deadline_said, interval_said, kind_said};
+ghost use Rattle.draw_page.specs.Words.{margin_of, margin_said, number_said, ticks_text, time_said};
+ghost use Rattle.draw_page.specs.Words.{trip_said};
+
+use crate::page::Means;
+use itoa::Buffer;
+use model_line::Kind;
+use std::alloc::{AllocError, Global};
+
+/// A number in decimal digits.
+pub fn number_words(alloc: Global, number: usize) -> Result<Vec<u8>, AllocError>
+    ensures { IfOk result (λ text. text.items ≡ number_said number) }
+{
+    Vec::from_slice(alloc, Buffer::new().format(number).as_bytes())
+}
+
+/// Appends ticks in milliseconds.
+#[tactic(auto, unfolding(crate::specs::Words::ticks_text))]
+pub fn push_ticks(text: &mut Vec<u8>, tick_us: u32, t: u32) -> Result<(), AllocError>
+    ensures { OnOk result (text.new.items ≡ text.old.items ++ ticks_text tick_us t) }
+{
+    base_lines::push_ticks(text, tick_us, t)
+}
+
+/// A time, as `12.25 ms`.
+pub fn time_words(alloc: Global, tick_us: u32, t: u32) -> Result<Vec<u8>, AllocError>
+    ensures { IfOk result (λ text. text.items ≡ time_said tick_us t) }
+{
+    let mut text = Vec::new(alloc);
+    push_ticks(&mut text, tick_us, t)?;
+    text.extend_from_slice(b" ms")?;
+    Ok(text)
+}
+
+/// An interval, as `8 to 16 ms`; one time where both ends are the same.
+pub fn interval_words(
+    alloc: Global,
+    tick_us: u32,
+    low: u32,
+    high: u32,
+) -> Result<Vec<u8>, AllocError>
+    ensures { IfOk result (λ text. text.items ≡ interval_said tick_us low high) }
+{
+    if low == high {
+        return time_words(alloc, tick_us, low);
+    }
+    let mut text = Vec::new(alloc);
+    push_ticks(&mut text, tick_us, low)?;
+    text.extend_from_slice(b" to ")?;
+    push_ticks(&mut text, tick_us, high)?;
+    text.extend_from_slice(b" ms")?;
+    Ok(text)
+}
+
+/// When the trip may come first and when it must have: `58 to 66 ms`, `from 58 ms`, or `none`.
+pub fn trip_words(
+    alloc: Global,
+    tick_us: u32,
+    may: Option<u32>,
+    must: Option<u32>,
+) -> Result<Vec<u8>, AllocError>
+    ensures { IfOk result (λ text. text.items ≡ trip_said tick_us may must) }
+{
+    match (may, must) {
+        (None, _) => Vec::from_slice(alloc, b"none"),
+        (Some(may), None) => from_words(alloc, tick_us, may),
+        (Some(may), Some(must)) => interval_words(alloc, tick_us, may, must),
+    }
+}
+
+fn from_words(alloc: Global, tick_us: u32, t: u32) -> Result<Vec<u8>, AllocError>
+    ensures { IfOk result (λ text. text.items ≡ codes "from " ++ time_said tick_us t) }
+{
+    let mut text = Vec::from_slice(alloc, b"from ")?;
+    push_ticks(&mut text, tick_us, t)?;
+    text.extend_from_slice(b" ms")?;
+    Ok(text)
+}
+
+/// The deadline less the tick at which the trip must have come; nothing where there are not both.
+pub fn margin_words(
+    alloc: Global,
+    tick_us: u32,
+    deadline: Option<u32>,
+    must: Option<u32>,
+) -> Result<Vec<u8>, AllocError>
+    ensures { IfOk result (λ text. text.items ≡ margin_said tick_us deadline must) }
+{
+    match (deadline, must) {
+        (Some(deadline), Some(must)) => margin(alloc, tick_us, deadline, must),
+        (None, _) => Ok(Vec::new(alloc)),
+        (Some(_), None) => Ok(Vec::new(alloc)),
+    }
+}
+
+fn margin(alloc: Global, tick_us: u32, deadline: u32, must: u32) -> Result<Vec<u8>, AllocError>
+    ensures { IfOk result (λ text. text.items ≡ margin_of tick_us deadline must) }
+{
+    if must <= deadline {
+        return time_words(alloc, tick_us, deadline - must);
+    }
+    let mut text = Vec::from_slice(alloc, b"-")?;
+    push_ticks(&mut text, tick_us, must - deadline)?;
+    text.extend_from_slice(b" ms")?;
+    Ok(text)
+}
+
+/// A deadline; `never` where there is none.
+pub fn deadline_words(
+    alloc: Global,
+    tick_us: u32,
+    deadline: Option<u32>,
+) -> Result<Vec<u8>, AllocError>
+    ensures { IfOk result (λ text. text.items ≡ deadline_said tick_us deadline) }
+{
+    match deadline {
+        Some(deadline) => time_words(alloc, tick_us, deadline),
+        None => Vec::from_slice(alloc, b"never"),
+    }
+}
+
+/// `internal` or `external`.
+pub fn kind_words(kind: Kind) -> &'static [u8]
+    ensures { result.now ≡ kind_said kind }
+{
+    match kind {
+        Kind::Internal => b"internal",
+        Kind::External => b"external",
+    }
+}
+
+/// By what an obligation was settled.
+pub fn by_words(means: Means) -> &'static [u8]
+    ensures { result.now ≡ by_said means }
+{
+    match means {
+        Means::Rules => b"interval rules",
+        Means::Candidate => b"a timing tried",
+        Means::Corner => b"the worst corner",
+        Means::Parts => b"parts of the intervals",
+        Means::Cases => b"cases of echoes",
+    }
+}

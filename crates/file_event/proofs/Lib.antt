@@ -1,2 +1,0 @@
-pub mod TrackLevels
-pub mod SameData

@@ -1,9 +1,0 @@
-use Rattle.std.proofs.Common.{◌≡◌, ◌++◌}
-use Rattle.run_rows.specs.PlayRows.{each_below}
-use Rattle.run_changes.specs.PlayedTracks.{played}
-use Rattle.file_event.specs.Data.{terminal_fields}
-use Rattle.file_event.proofs.data.put_terminals.Given as goal
-
-abbrev pub invariant-loop-k : goal.invariant-loop-k
-invariant-loop-k l =
-    l.text.items ≡ l.initial.text.items ++ each_below l.k (terminal_fields l.script (played l.tracks.keys.items l.tracks.trips.items) l.t)

@@ -1,4 +1,0 @@
-pub mod Channels
-pub mod ReadBack
-pub mod Told
-pub mod Recorded

@@ -1,5 +1,0 @@
-use Rattle.file_mistakes.specs.Places.{BeginsLine}
-use Rattle.file_mistakes.proofs.place.line_start.Given as goal
-
-abbrev pub invariant-loop-i : goal.invariant-loop-i
-invariant-loop-i l = BeginsLine l.bytes l.start l.i

@@ -1,3 +1,0 @@
-pub mod Mistakes
-pub mod Places
-pub mod Slips

@@ -1,0 +1,12 @@
+use Rattle.run_rows.specs.RowLaws.{texts_more}
+use Rattle.std.proofs.Common.{◌++◌, ◌∙◌, Bool, ap}
+use Rattle.file_recorded.specs.Data.{level_field, loss_field}
+use Rattle.file_recorded.proofs.data.put_losses.Goals as goal
+
+pub loop-c-preserved : goal.loop-c-preserved
+loop-c-preserved c =
+    texts_more c.args.text.now.items c.loop-c.text.items c.put_level.new.text.items
+    (loss_field c.args.script.now c.args.t) c.loop-c.c
+    c.loop-c.invariant
+    (c.in_ok-put_level.ensures
+    ∙ ap (λ (b : Bool). c.loop-c.text.items ++ level_field b) c.loss.ensures)

@@ -1,0 +1,11 @@
+use Rattle.run_rows.specs.RowLaws.{texts_more}
+use Rattle.run_changes.specs.PlayedTracks.{played}
+use Rattle.file_recorded.specs.Data.{sample_text}
+use Rattle.file_recorded.proofs.data.put_samples.Goals as goal
+
+pub loop-t-preserved : goal.loop-t-preserved
+loop-t-preserved c =
+    texts_more c.args.text.now.items c.loop-t.text.items c.put_sample.new.text.items
+    (sample_text c.args.line.now c.args.script.now
+    (played c.args.tracks.now.keys.items c.args.tracks.now.trips.items)) c.loop-t.t
+    c.loop-t.invariant c.in_ok-put_sample.ensures

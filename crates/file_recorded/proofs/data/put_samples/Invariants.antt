@@ -1,0 +1,9 @@
+use Rattle.std.proofs.Common.{◌≡◌, ◌++◌}
+use Rattle.run_rows.specs.PlayRows.{each_below}
+use Rattle.run_changes.specs.PlayedTracks.{played}
+use Rattle.file_recorded.specs.Data.{sample_text}
+use Rattle.file_recorded.proofs.data.put_samples.Given as goal
+
+abbrev pub invariant-loop-t : goal.invariant-loop-t
+invariant-loop-t l =
+    l.text.items ≡ l.initial.text.items ++ each_below l.t (sample_text l.line l.script (played l.tracks.keys.items l.tracks.trips.items))

@@ -1,4 +1,0 @@
-mod Order
-mod Played
-mod Weights
-mod Tries

@@ -1,4 +1,0 @@
-pub mod Failing
-pub mod Cuts
-pub mod Obligations
-pub mod Rounds

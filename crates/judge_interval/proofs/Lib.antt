@@ -1,4 +1,0 @@
-pub mod ToldHistory
-pub mod TrackLaws
-pub mod FirstWithin
-pub mod FirstTicks

@@ -1,5 +1,0 @@
-pub mod PairWavesOf
-pub mod Rules
-pub mod RuleLaws
-pub mod Spans
-pub mod DeclaredLaws

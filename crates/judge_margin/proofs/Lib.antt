@@ -1,4 +1,0 @@
-pub mod RaisedLaws
-pub mod MarginLaws
-pub mod LossLaws
-pub mod OneMargin

@@ -1,5 +1,0 @@
-use Rattle.judge_margin.proofs.OneMargin.{one_margin}
-use Rattle.judge_margin.proofs.laws.a_parameter_has_one_margin.Goals as goal
-
-pub returns : goal.returns
-returns c = one_margin

@@ -1,6 +1,0 @@
-use Rattle.model_logic.specs.Choice.{declared_box}
-use Rattle.judge_margin.specs.Lost.{AreHeld}
-use Rattle.judge_margin.proofs.loss.first_lost.Given as goal
-
-abbrev pub invariant-loop-s : goal.invariant-loop-s
-invariant-loop-s l = AreHeld l.line l.scripts (declared_box l.line) l.s

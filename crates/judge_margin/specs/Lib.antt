@@ -1,6 +1,0 @@
-pub mod Known
-pub mod Raised
-pub mod Lost
-pub mod Margin
-pub mod MarginText
-pub mod Answer

@@ -1,5 +1,0 @@
-pub mod SameTree
-pub mod Assumed
-pub mod Under
-pub mod CaseTrees
-pub mod Laws

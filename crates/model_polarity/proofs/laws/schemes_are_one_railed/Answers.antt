@@ -1,8 +1,0 @@
-use Rattle.model_polarity.proofs.SchemeSides.{reads_key_tree, reads_trip_tree}
-use Rattle.model_polarity.proofs.laws.schemes_are_one_railed.Goals as goal
-
-pub returns : goal.returns
-returns c = record {
-  keys = λ line rail h k kn in_cone. reads_key_tree line c.line_laws.ensures rail k kn h;
-  trips = λ line rail k h kn. reads_trip_tree line c.line_laws.ensures rail k kn h;
-}

@@ -1,0 +1,14 @@
+pub mod SameTree
+pub mod Assumed
+pub mod Under
+pub mod CaseTrees
+pub mod CaseLaws
+pub mod Sides
+pub mod Demands
+pub mod Worst
+pub mod Known
+pub mod Choices
+pub mod PolarityLaws
+pub mod Schemes
+pub mod Leads
+pub mod Limits

@@ -1,0 +1,73 @@
+-- The interval history of a line over a box under assumptions.
+use Rattle.std.specs.Prelude.{◌≡◌, ◌<◌, ℕ, Bool, true, false, IsTrue, IsFalse, List, Option, None}
+use Rattle.std.specs.Prelude.{Some, Contains}
+use Rattle.model_history.specs.Rails.{Rails, both, rails_not, rails_and, rails_or, rails_timed}
+use Rattle.model_history.specs.Rails.{rails_sealed, rails_delayed}
+use Rattle.model_line.specs.{declared.line.Line.Line, declared.script.Script.Script}
+use Rattle.model_line.specs.Parameters.{terminal_count}
+use Rattle.model_logic.specs.Tree.{Tree, Const, Seen, Loss, Raw, Not, And, Or, Timer, Seal}
+use Rattle.model_logic.specs.PairMean.{PairWorld, PairSignals}
+use Rattle.model_logic.specs.Choice.{Box, pair_world_of}
+use Rattle.model_logic.specs.Histories.{PairHistory}
+use Rattle.model_logic.specs.Logic.{key_tree, trip_tree}
+use Rattle.model_settle.specs.Assumed.{Assumption, wanted, assumed_level}
+
+-- the level that is assumed, if one is, else the pair
+abbrev pub assumed_or : Option Bool → Rails → Rails
+assumed_or (Some v) own = both v
+assumed_or None own = own
+
+-- the pair of a tree at a tick: that of the interval rules, but a timer of which a level is assumed
+-- at a tick has this level on both rails there, wherever it is read
+unfoldable pub pair_under : (Tree → ℕ → Option Bool) → PairWorld → PairSignals → Tree → ℕ → Rails
+pair_under level w keys (Const v) t = both v
+pair_under level w keys (Seen p) t = both (w.seen p t)
+pair_under level w keys (Loss c) t = both (w.lost c t)
+pair_under level w keys (Raw c) t = rails_delayed (keys (w.from c)) (w.delay c t) t
+pair_under level w keys (Not x) t = rails_not (pair_under level w keys x t)
+pair_under level w keys (And x y) t =
+    rails_and (pair_under level w keys x t) (pair_under level w keys y t)
+pair_under level w keys (Or x y) t =
+    rails_or (pair_under level w keys x t) (pair_under level w keys y t)
+pair_under level w keys (Timer x p d) t =
+    assumed_or (level (Timer x p d) t)
+    (rails_timed (pair_under level w keys x) (w.time p) (w.time d) t)
+pair_under level w keys (Seal a b) t =
+    rails_sealed (pair_under level w keys a) (pair_under level w keys b) t
+
+-- the pair that a tree has by its own rule, whatever is assumed of the tree itself
+unfoldable pub own_pair : (Tree → ℕ → Option Bool) → PairWorld → PairSignals → Tree → ℕ → Rails
+own_pair level w keys (Timer x p d) t =
+    rails_timed (pair_under level w keys x) (w.time p) (w.time d) t
+own_pair level w keys x t = pair_under level w keys x t
+
+-- the interval history of a line under a script over a box, under assumptions
+pub record IsPairHistoryUnder (line : Line) (script : Script) (box : Box)
+    (assumed : List Assumption) (w : PairHistory) : Type 0 where
+  pub keys : (k t : ℕ) → k < terminal_count line → t < line.horizon
+      → w.key k t ≡ pair_under (assumed_level line assumed) (pair_world_of line script box) w.key
+      (key_tree line k) t
+  pub trips : (k t : ℕ) → k < terminal_count line → t < line.horizon
+      → w.trip k t ≡ pair_under (assumed_level line assumed) (pair_world_of line script box) w.key
+      (trip_tree line k) t
+
+-- the rails exclude a level
+abbrev pub Excludes : Rails → Bool → Type 0
+Excludes x true = IsFalse x.may
+Excludes x false = IsTrue x.must
+
+-- over an interval history under assumptions, what the interval rules say of an echo that is wanted
+-- excludes this assumption
+abbrev pub IsExcluded : Line → Script → Box → List Assumption → PairHistory → Assumption → Type 0
+IsExcluded line script box assumed w a =
+    Excludes (own_pair (assumed_level line assumed) (pair_world_of line script box) w.key
+    (wanted line a.terminal) a.tick) a.level
+
+-- an assumption, at a tick of the run, that is excluded over the interval history under all of them
+pub record SomeIsExcluded (line : Line) (script : Script) (box : Box) (assumed : List Assumption)
+    (w : PairHistory) : Type 0 where
+  pub one : Assumption
+  pub is : Contains assumed one
+  pub terminal : one.terminal < terminal_count line
+  pub tick : one.tick < line.horizon
+  pub excluded : IsExcluded line script box assumed w one

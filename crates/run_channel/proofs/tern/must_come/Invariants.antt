@@ -1,7 +1,0 @@
-use Rattle.std.proofs.Common.{ℕ, ◌≤◌, ◌<◌, length}
-use Rattle.model_history.specs.Comes.{Comes}
-use Rattle.run_channel.specs.Sent.{sent_must}
-use Rattle.run_channel.proofs.tern.must_come.Given as goal
-
-abbrev pub invariant-loop-c : goal.invariant-loop-c
-invariant-loop-c l = (k : ℕ) → l.least ≤ k → k < l.c → Comes (sent_must l.sent.keys) k (length l.sent.keys)

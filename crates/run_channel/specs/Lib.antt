@@ -1,3 +1,0 @@
-pub mod SentKeys
-pub mod Sent
-pub mod Tracks

@@ -1,5 +1,0 @@
-use Rattle.run_timers.proofs.StretchLaws.{elements_in_a_stretch}
-use Rattle.run_timers.proofs.laws.elements_stay_in_a_stretch.Goals as goal
-
-pub returns : goal.returns
-returns c = elements_in_a_stretch c.history_laws.ensures
