@@ -9,3 +9,5 @@ pub mod ReadLaws
 pub mod AnswerLaws
 pub mod WholeLaws
 pub mod Milliseconds
+pub mod SpacedNumbers
+pub mod SpacedLaws

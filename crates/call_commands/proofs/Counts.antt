@@ -3,7 +3,7 @@ use Rattle.std.proofs.Common.{◌≡◌, ℕ, ◌+◌, ◌*◌, ◌≤◌, subst
 use Rattle.std.proofs.Math.Nat.{min-le_left, min-le_right, le-min, min-eq_left, min-eq_right}
 use Rattle.std.proofs.lemmas.Bool.{cases_lt}
 use Rattle.std.specs.Prelude.{min}
-use Rattle.call_answer.specs.Calls.{Calls, NoneFell}
+use Rattle.call_engine.specs.Calls.{Calls, NoneFell}
 use Rattle.base_store.specs.Counts.{Grew, Rose, last_count}
 
 -- no calls

@@ -1,6 +1,6 @@
 -- What may have been asked of the engine: a relation of its counts before and after.
 use Rattle.std.specs.Prelude.{⊤}
-use Rattle.call_answer.specs.Calls.{Calls}
+use Rattle.call_engine.specs.Calls.{Calls}
 
 abbrev pub Asks : Type 1
 Asks = Calls → Calls → Type 0

@@ -6,7 +6,7 @@ use Rattle.cert_text.specs.{Grammar.Claims, Text.certificate_text, Text.part_tex
 use Rattle.cert_own.specs.Certified.{AreCertified, IsCertified}
 use Rattle.call_commands.specs.BenchLine.{IsBenchLine}
 use Rattle.call_commands.specs.Answer.{IsBenchText}
-use Rattle.call_answer.specs.Calls.{AskedCheck, AskedVerdicts}
+use Rattle.call_engine.specs.Calls.{AskedCheck, AskedVerdicts}
 use Rattle.call_commands.specs.Asked.{Asks}
 use Rattle.call_answer.specs.{Answers.Answers, Answers.prints}
 

@@ -5,7 +5,7 @@ use Rattle.model_line.specs.{declared.line.Line.Line, declared.script.Script.Scr
 use Rattle.cert_text.specs.{Grammar.Claims, Text.certificate_text}
 use Rattle.cert_check.specs.Counts.{all_verdicts}
 use Rattle.cert_own.specs.Certified.{AreCertified}
-use Rattle.call_answer.specs.Calls.{AskedVerdicts}
+use Rattle.call_engine.specs.Calls.{AskedVerdicts}
 use Rattle.call_commands.specs.{Asked.Asks, Verdicts.verdicts_status}
 use Rattle.call_answer.specs.Answers.{Answers}
 use Rattle.call_answer.specs.declared.done.Done.{Done}

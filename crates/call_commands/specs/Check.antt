@@ -5,10 +5,11 @@ use Rattle.run_waves.specs.Text.{tern_word}
 use Rattle.cert_check.specs.Check.{IsAccepted, IsCheckFault}
 use Rattle.cert_check.specs.declared.fault.CheckFault.{CheckFault}
 use Rattle.cert_check.specs.declared.fault.CheckFault.TheVariants as fault
-use Rattle.call_answer.specs.Calls.{AskedCheck}
-use Rattle.call_answer.specs.Checked.{line_pieces, outside_pieces, passes_pieces, place}
+use Rattle.call_engine.specs.Calls.{AskedCheck}
+use Rattle.call_engine.specs.Checked.{line_pieces, outside_pieces, passes_pieces, place}
 use Rattle.call_commands.specs.Asked.{Asks}
-use Rattle.call_answer.specs.{Checked.IsCheckedText, Answers.Answers}
+use Rattle.call_engine.specs.Checked.{IsCheckedText}
+use Rattle.call_answer.specs.Answers.{Answers}
 
 -- ---- the lines
 

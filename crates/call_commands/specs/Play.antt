@@ -1,6 +1,6 @@
 -- The command `play`: its text has the header, and then the rows of each timing over each script.
 use Rattle.std.specs.Prelude.{◌≡◌, ◌∷◌, ◌++◌, ◌*◌, ℕ, List, [], codes, length}
-use Rattle.call_answer.specs.Calls.{AskedPlays}
+use Rattle.call_engine.specs.Calls.{AskedPlays}
 use Rattle.model_line.specs.{declared.script.Script.Script, declared.line.Line.Line}
 use Rattle.model_logic.specs.Histories.{History, IsLineHistory}
 use Rattle.run_rows.specs.PlayRows.{run_rows}

@@ -6,10 +6,11 @@ ghost use Rattle.call_answer.specs.Answers.{Says};
 ghost use Rattle.call_commands.specs.{Check.check_answer, Check.check_asks, Check.rejected_pieces};
 ghost use Rattle.call_answer.specs.Study.{IsStudy};
 
-use call_answer::checked::{
+use call_answer::{Said, Study, text_of};
+use call_engine::Engine;
+use call_engine::checked::{
     accepted_text, place, rejected_line, rejected_outside, rejected_passes,
 };
-use call_answer::{Engine, Said, Study, text_of};
 use cert_check::CheckFault;
 use itoa::Buffer;
 use model_line::Memory;

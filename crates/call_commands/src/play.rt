@@ -4,7 +4,7 @@ ghost use Rattle.std.specs.List.{All};
 ghost use Rattle.net_gates.specs.NetOf.{IsNetOf};
 ghost use Rattle.model_timing.specs.{Inside.IsTimingInside};
 ghost use Rattle.model_timing.specs.NamedValues.{values_of};
-ghost use Rattle.call_answer.specs.Calls.{AskedPlay, AskedPlays};
+ghost use Rattle.call_engine.specs.Calls.{AskedPlay, AskedPlays};
 ghost use Rattle.call_commands.specs.Play.{IsRunText};
 ghost use Rattle.call_answer.specs.Answers.{WritesAnswer};
 ghost use Rattle.call_commands.specs.{Play.IsTimingText, Play.Pieces, Play.play_answer};
@@ -13,7 +13,8 @@ ghost use Rattle.call_answer.specs.{Sinks.Writes, Sinks.sink_view, Study.IsStudy
 
 use crate::laws::each_play_has_one_text;
 use base_store::Sink;
-use call_answer::{Done, Engine, Study, WriteStop, put_text};
+use call_answer::{Done, Study, WriteStop, put_text};
+use call_engine::Engine;
 use model_line::{Line, Script};
 use model_timing::NamedTiming;
 use net_gates::Net;

@@ -6,10 +6,10 @@ ghost use Rattle.call_answer.specs.Answers.{Says};
 ghost use Rattle.call_commands.specs.{Recheck.recheck_answer, Recheck.rejected_pieces};
 ghost use Rattle.call_answer.specs.Study.{IsStudy};
 
-use call_answer::checked::{
+use call_answer::{Said, Study, text_of};
+use call_engine::checked::{
     accepted_text, place, rejected_line, rejected_outside, rejected_passes,
 };
-use call_answer::{Said, Study, text_of};
 use cert_split_check::{SplitFault, check_split};
 use itoa::Buffer;
 use model_line::Memory;

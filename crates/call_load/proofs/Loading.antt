@@ -10,9 +10,9 @@ use Rattle.file_study.specs.declared.study.Study.{Study}
 use Rattle.file_sweeps.specs.Studies.{IsStudyRefused, script_names}
 use Rattle.file_sweeps.specs.declared.study_fault.StudySweepFault.{StudySweepFault}
 use Rattle.file_sweeps.specs.declared.study_fault.StudySweepFault.TheVariants as sweep
-use Rattle.call_pilot.specs.Study.{ReadsStudy}
-use Rattle.call_pilot.specs.declared.stop.Stop.{Stop}
-use Rattle.call_pilot.specs.declared.stop.Stop.TheVariants as stop
+use Rattle.call_files.specs.Study.{ReadsStudy}
+use Rattle.call_files.specs.declared.stop.Stop.{Stop}
+use Rattle.call_files.specs.declared.stop.Stop.TheVariants as stop
 use Rattle.call_load.specs.Loaded.{Loads, scripts_halt, study_halt}
 use Rattle.call_load.specs.Studied.{of_files, of_study_file, refused_by}
 use Rattle.call_load.specs.declared.halt.Halt.TheVariants as halt

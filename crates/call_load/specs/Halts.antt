@@ -2,8 +2,8 @@
 use Rattle.std.specs.Prelude.{ℕ, List, [], Result, Ok, Err}
 use Rattle.call_answer.specs.declared.done.Done.{Done}
 use Rattle.call_answer.specs.declared.done.Done.TheVariants as done
-use Rattle.call_pilot.specs.Messages.{message_of}
-use Rattle.call_pilot.specs.declared.stop.Stop.TheVariants as stop
+use Rattle.call_files.specs.Messages.{message_of}
+use Rattle.call_files.specs.declared.stop.Stop.TheVariants as stop
 use Rattle.call_load.specs.Denials.{denial_line, denial_status}
 use Rattle.call_load.specs.declared.halt.Halt.{Halt}
 use Rattle.call_load.specs.declared.halt.Halt.TheVariants as halt

@@ -1,5 +1,5 @@
 -- What is read of a source.
-use Rattle.std.specs.Prelude.{◌≡◌, ⊤, ℕ, List, [], Result, Ok, Err, map, string_bytes}
+use Rattle.std.specs.Prelude.{◌≡◌, ⊤, ℕ, List, Result, Ok, Err, map, string_bytes}
 use Rattle.std.specs.List.{All}
 use Rattle.model_line.specs.Fits.{Fits}
 use Rattle.file_script.specs.SoFar.{AreOnce}
@@ -7,8 +7,8 @@ use Rattle.file_sweeps.specs.Studies.{script_names}
 use Rattle.net_gates.specs.NetOf.{IsNetOf}
 use Rattle.file_study.specs.Studies.{StudyValues, study_of}
 use Rattle.file_sweeps.specs.Groups.{group_values, single_group}
-use Rattle.call_pilot.specs.Study.{IsSaid}
-use Rattle.call_pilot.specs.declared.stop.Stop.TheVariants as stop
+use Rattle.call_files.specs.Study.{IsSaid}
+use Rattle.call_files.specs.declared.stop.Stop.TheVariants as stop
 use Rattle.file_study.specs.declared.fault.StudyFault.{StudyFault}
 use Rattle.file_study.specs.declared.fault.StudyFault.TheVariants as study_fault
 use Rattle.file_sweeps.specs.declared.study_fault.StudySweepFault.{StudySweepFault}

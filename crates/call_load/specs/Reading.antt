@@ -11,16 +11,16 @@ use Rattle.call_ask.specs.declared.explain.ExplainForm.{ExplainForm}
 use Rattle.call_explain.specs.Picked.{picked}
 use Rattle.call_explain.specs.declared.{stop.ExplainStop.ExplainStop, unpicked.Unpicked.Unpicked}
 use Rattle.call_explain.specs.declared.stop.ExplainStop.TheVariants as explain_stop
-use Rattle.call_pilot.specs.Stops.{record_stop}
+use Rattle.call_files.specs.Stops.{record_stop}
 use Rattle.judge_match.specs.Waves.{SeenValues, records_said}
 use Rattle.call_ask.specs.declared.map.MapForm.{MapForm}
 use Rattle.call_map.specs.Asked.{Both, asked_of}
 use Rattle.call_map.specs.declared.denial.{MapDenial.MapDenial, MapStop.MapStop}
 use Rattle.call_map.specs.declared.denial.MapStop.TheVariants as map_stop
-use Rattle.call_pilot.specs.Reading.{of_record, of_timings}
-use Rattle.call_pilot.specs.declared.stop.File.{File}
-use Rattle.call_pilot.specs.declared.refusal.Refusal.TheVariants as refusal
-use Rattle.call_pilot.specs.declared.stop.Stop.TheVariants as stop
+use Rattle.call_files.specs.Said.{of_record, of_timings}
+use Rattle.call_files.specs.declared.stop.File.{File}
+use Rattle.call_files.specs.declared.refusal.Refusal.TheVariants as refusal
+use Rattle.call_files.specs.declared.stop.Stop.TheVariants as stop
 use Rattle.call_ask.specs.{declared.ask.Form.Form, declared.ask.Table.Table}
 use Rattle.call_load.specs.{declared.halt.Halt.Halt}
 use Rattle.call_ask.specs.declared.ask.Table.TheVariants as tables

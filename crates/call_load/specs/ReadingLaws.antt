@@ -7,8 +7,8 @@ use Rattle.file_script.specs.{Scripts.scripts_of, Values.ScriptValues}
 use Rattle.file_script.specs.declared.fault.ScriptFault.{ScriptFault}
 use Rattle.file_sweeps.specs.Groups.{group_values, single_group}
 use Rattle.file_sweeps.specs.declared.group.Group.{Group}
-use Rattle.call_pilot.specs.Reading.{of_line, of_scripts, of_study}
-use Rattle.call_pilot.specs.declared.refusal.Refusal.{Refusal}
+use Rattle.call_files.specs.Said.{of_line, of_scripts, of_study}
+use Rattle.call_files.specs.declared.refusal.Refusal.{Refusal}
 
 -- what holds of groups of which each is one script
 abbrev pub HasGroups : List Script → (List Group → Type 0) → Type 0

@@ -1,8 +1,8 @@
 -- What is asked for, by the names of files and of what is in them.
 use Rattle.std.specs.Prelude.{◌++◌, ℕ, List, [], ◌∷◌, Option}
 use Rattle.std.specs.Option.{option_copied}
-use Rattle.call_pilot.specs.{Files.NamedFile, Words.named}
-use Rattle.call_pilot.specs.declared.stop.File.TheVariants as file
+use Rattle.call_files.specs.Files.{NamedFile, named}
+use Rattle.call_files.specs.declared.stop.File.TheVariants as file
 use Rattle.draw_shapes.specs.declared.rows.Rows.{Rows}
 use Rattle.call_ask.specs.declared.explain.ExplainForm.{ExplainForm}
 use Rattle.call_ask.specs.declared.map.MapForm.{MapForm}

@@ -10,9 +10,9 @@ use Rattle.file_sweeps.specs.declared.group.Group.{Group}
 use Rattle.file_sweeps.specs.Studies.{AreScriptsOf, IsStudyRefused}
 use Rattle.file_sweeps.specs.declared.study_fault.StudySweepFault.{StudySweepFault}
 use Rattle.file_sweeps.specs.declared.study_fault.StudySweepFault.TheVariants as sweep_fault
-use Rattle.call_pilot.specs.Reading.{of_study}
-use Rattle.call_pilot.specs.declared.refusal.Refusal.{Refusal}
-use Rattle.call_pilot.specs.declared.stop.Stop.TheVariants as stop
+use Rattle.call_files.specs.Said.{of_study}
+use Rattle.call_files.specs.declared.refusal.Refusal.{Refusal}
+use Rattle.call_files.specs.declared.stop.Stop.TheVariants as stop
 use Rattle.call_load.specs.declared.denial.Denial.TheVariants as denial
 use Rattle.call_load.specs.declared.halt.Halt.{Halt}
 use Rattle.call_load.specs.declared.halt.Halt.TheVariants as halt

@@ -2,7 +2,7 @@
 
 ghost use Rattle.std.specs.Prelude.{◌≡◌};
 ghost use Rattle.call_answer.specs.Sinks.{Puts, sink_view};
-ghost use Rattle.call_pilot.specs.declared.stop.Stop.TheVariants.{Memory, Sink};
+ghost use Rattle.call_files.specs.declared.stop.Stop.TheVariants.{Memory, Sink};
 ghost use Rattle.call_load.specs.Halts.{halt_line, status_of as end_status};
 ghost use Rattle.call_load.specs.declared.halt.Halt.TheVariants.{Denied, Stopped};
 
@@ -10,8 +10,8 @@ use crate::denial::{Denial, put_denial};
 use base_store::{PutFailed, Sink};
 use call_answer::Done;
 use call_explain::ExplainStop;
+use call_files::{Stop, put_message};
 use call_map::MapStop;
-use call_pilot::{Stop, put_message};
 use file_study::StudyFault;
 use file_sweeps::StudySweepFault;
 use file_timing::TimingFault;
@@ -100,7 +100,7 @@ impl From<PutFailed> for Halt {
 }
 
 impl From<TimingFault> for Halt {
-    ghost use Rattle.call_pilot.specs.Stops.{timing_stop};
+    ghost use Rattle.call_files.specs.Stops.{timing_stop};
 
     ghost from_gives = { λ fault halt. halt ≡ Stopped (timing_stop fault) };
 

@@ -12,10 +12,10 @@ use Rattle.file_timing.specs.declared.fault.TimingFault.{TimingFault}
 use Rattle.model_timing.specs.{Inside.IsTimingInside}
 use Rattle.model_timing.specs.NamedValues.{NamedValues}
 use Rattle.judge_match.specs.{Waves.SeenValues, declared.fault.SeenFault.SeenFault}
-use Rattle.call_pilot.specs.Reading.{of_line, of_parameter, of_record, of_scripts, of_study}
-use Rattle.call_pilot.specs.Reading.{of_timings}
-use Rattle.call_pilot.specs.{declared.refusal.Refusal.Refusal}
-use Rattle.call_pilot.specs.declared.refusal.Refusal.TheVariants as refusal
+use Rattle.call_files.specs.Said.{of_line, of_parameter, of_record, of_scripts, of_study}
+use Rattle.call_files.specs.Said.{of_timings}
+use Rattle.call_files.specs.{declared.refusal.Refusal.Refusal}
+use Rattle.call_files.specs.declared.refusal.Refusal.TheVariants as refusal
 use Rattle.call_pilot.specs.{SameScriptLaws.scripts_same, SameValueLaws.same_but_params}
 
 -- R and S are of two refusals, and G is what comes of both readings

@@ -11,6 +11,7 @@ use Rattle.model_history.specs.Rails.{Ends, IsSound, Rails, RailsCover}
 use Rattle.run_signal.specs.Terns.{tern_with}
 use Rattle.run_signal.specs.TernLaws.{rails_told, tern_sound}
 use Rattle.run_signal.specs.declared.tern.Tern.{Tern}
+use Rattle.model_history.specs.TruthLaws.{not_both}
 use Rattle.model_line.specs.declared.script.Kind.TheVariants.{Internal, External}
 use Rattle.model_line.specs.Parameters.{declared_ends, param_count, terminal_count}
 use Rattle.model_line.specs.declared.script.Kind.{Kind}
@@ -25,15 +26,16 @@ use Rattle.cert_text.specs.Grammar.{AreNumbers, Claims, HasNumbers, HasOneEach, 
 use Rattle.cert_text.specs.Grammar.{Verdict, no, undecided, yes}
 use Rattle.cert_text.specs.Text.{CanBeWritten}
 use Rattle.cert_check.specs.Check.{IsAccepted, IsCheckFault, IsScriptFault}
-use Rattle.cert_check.specs.Claims.{pairs_of}
+use Rattle.run_derived.specs.Claims.{pairs_of}
 use Rattle.cert_check.specs.Counts.{all_verdicts, are_counts, counts_in}
-use Rattle.cert_check.specs.Firsts.{IsFirstFailing}
+use Rattle.run_derived.specs.Firsts.{IsFirstFailing}
 use Rattle.cert_check.specs.NoFaults.{IsNoFault}
 use Rattle.cert_check.specs.Refutations.{IsMetAt, IsNumberIn, IsRefutation, choice_of}
 use Rattle.cert_check.specs.Refutations.{steady_timing}
 use Rattle.cert_check.specs.Verdicts.{AreAccepted, IsCovered, IsFaultOf, IsFirstFault}
 use Rattle.cert_check.specs.Verdicts.{IsFirstUncovered, IsKeyCovered, IsSupported, AreSupported}
-use Rattle.cert_check.specs.Verdicts.{IsVerdictFault, derived_key, derived_trip}
+use Rattle.cert_check.specs.Verdicts.{IsVerdictFault}
+use Rattle.run_derived.specs.Claims.{derived_key, derived_trip}
 use Rattle.cert_check.specs.declared.claim.ClaimFault.{ClaimFault}
 use Rattle.cert_check.specs.declared.claim.ClaimFault.TheVariants as wrong
 use Rattle.cert_check.specs.declared.claim.Uncovered.{Uncovered}
@@ -43,7 +45,7 @@ use Rattle.cert_check.specs.declared.fault.CheckFault.TheVariants as fault
 use Rattle.cert_check.specs.declared.no.NoFault.{NoFault}
 use Rattle.cert_check.specs.declared.no.NoFault.TheVariants as number
 use Rattle.call_commands.specs.{Check.check_answer, Check.rejected_pieces}
-use Rattle.call_answer.specs.Checked.{accepted_pieces}
+use Rattle.call_engine.specs.Checked.{accepted_pieces}
 use Rattle.call_answer.specs.declared.done.Done.{Done}
 use Rattle.call_answer.specs.declared.done.Done.TheVariants as done
 use Rattle.call_once.proofs.EachMargin.{at_place, first_of, fits_at, rule_told}
@@ -78,9 +80,6 @@ off_or_on : (b : Bool) → (b ≡ false) ⊎ (b ≡ true)
 off_or_on false = inl refl
 off_or_on true = inr refl
 
-both_values : (b : Bool) → b ≡ false → b ≡ true → ⊥
-both_values b off on = let e : false ≡ true = sym off ∙ on in cc
-
 wave_sound : (wave : List Tern) (t : ℕ) → IsSound (wave_at wave t)
 wave_sound [] t = λ on. on
 wave_sound (x ∷ wave) zero = tern_sound x
@@ -93,7 +92,7 @@ met_told : (kind : Kind) (deadline horizon : ℕ) (trip : ℕ → Bool)
     ⊎ (¬ (MeetsBy kind deadline horizon trip))
 met_told Internal deadline horizon trip = elim (first_of (λ t. trip t ≡ false)
     (λ t. trip t ≡ true) (suc deadline) (λ t lt. off_or_on (trip t))) [
-      | inl off ↦ inr (λ met. both_values (trip met.0) (off met.0 (omega (arith, met.1))) met.2)
+      | inl off ↦ inr (λ met. not_both (trip met.0) (off met.0 (omega (arith, met.1))) met.2)
       | inr first ↦ inl (
         first.0,
         record {
@@ -107,7 +106,7 @@ met_told Internal deadline horizon trip = elim (first_of (λ t. trip t ≡ false
 met_told External deadline horizon trip = elim (first_of (λ t. trip t ≡ false)
     (λ t. trip t ≡ true) horizon (λ t lt. off_or_on (trip t))) [
       | inl off ↦ inl (horizon, (refl, λ r from lt. off r lt))
-      | inr first ↦ inr (λ met. both_values (trip first.0) (met first.0 first.1) first.2)
+      | inr first ↦ inr (λ met. not_both (trip first.0) (met first.0 first.1) first.2)
     ]
 
 met_on : (kind : Kind) (deadline horizon : ℕ) (u v : ℕ → Bool) (t : ℕ) → deadline < horizon

@@ -23,19 +23,21 @@ use Rattle.call_commands.specs.{Report.report_answer, Split.split_answer}
 use Rattle.call_answer.specs.declared.done.Done.{Done}
 use Rattle.call_pilot.specs.{Call.answer_by, Call.answers, CallAnswers.done_with}
 use Rattle.call_pilot.specs.{CallAnswers.refuses}
-use Rattle.call_pilot.specs.{Commands.answer, Files.contents}
+use Rattle.call_pilot.specs.Commands.{answer}
+use Rattle.call_files.specs.Files.{contents}
 use Rattle.call_once.specs.{Fixed.IsTextFixed}
-use Rattle.call_pilot.specs.Status.{status_of_done}
-use Rattle.call_pilot.specs.Reading.{no_other_file, of_parameter, of_record, over_files}
+use Rattle.call_files.specs.Status.{status_of_done}
+use Rattle.call_pilot.specs.Reading.{no_other_file, over_files}
+use Rattle.call_files.specs.Said.{of_parameter, of_record}
 use Rattle.call_pilot.specs.Reading.{third_file, work_of_one}
 use Rattle.call_pilot.specs.Words as words
 use Rattle.call_pilot.specs.Words.{Command, TwoFiles, files_of}
 use Rattle.call_pilot.specs.Work as work
 use Rattle.call_pilot.specs.Work.{Work}
-use Rattle.call_pilot.specs.declared.refusal.Refusal.{Refusal}
-use Rattle.call_pilot.specs.declared.refusal.Refusal.TheVariants as refusal
-use Rattle.call_pilot.specs.declared.stop.File.{File}
-use Rattle.call_pilot.specs.declared.stop.Status.{Status}
+use Rattle.call_files.specs.declared.refusal.Refusal.{Refusal}
+use Rattle.call_files.specs.declared.refusal.Refusal.TheVariants as refusal
+use Rattle.call_files.specs.declared.stop.File.{File}
+use Rattle.call_files.specs.declared.stop.Status.{Status}
 use Rattle.call_pilot.specs.declared.words.OneFile.{OneFile}
 use Rattle.call_pilot.specs.declared.words.OneFile.TheVariants as one
 use Rattle.call_pilot.specs.declared.words.ThreeFiles.{ThreeFiles}

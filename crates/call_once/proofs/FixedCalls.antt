@@ -4,9 +4,10 @@ use Rattle.std.specs.Io.KnownBytes.{Appends}
 use Rattle.call_pilot.specs.Clauses.{Call, Clauses, IsLine, IsTold}
 use Rattle.call_pilot.specs.{Call.Told, Call.answers}
 use Rattle.call_once.specs.{Fixed.AreAlike, Fixed.IsTextFixed}
-use Rattle.call_pilot.specs.{Status.IsAnswer, Words.Command}
-use Rattle.call_pilot.specs.declared.stop.Status.{Status}
-use Rattle.call_pilot.specs.declared.stop.Status.TheVariants as status
+use Rattle.call_files.specs.Status.{IsAnswer}
+use Rattle.call_pilot.specs.Words.{Command}
+use Rattle.call_files.specs.declared.stop.Status.{Status}
+use Rattle.call_files.specs.declared.stop.Status.TheVariants as status
 
 -- answers of these files are one
 abbrev pub AreOne : Option Command → Type 0

@@ -27,7 +27,7 @@ use Rattle.judge_report.specs.declared.upper_end.UpperEnd.{UpperEnd}
 use Rattle.cert_split_text.specs.{Grammar.SplitResult, Text.split_text}
 use Rattle.cert_split_check.specs.Counts.{all_verdicts}
 use Rattle.cert_own.specs.Searched.{AllSearched}
-use Rattle.call_answer.specs.{Checked.IsCheckedText, Checked.accepted_pieces}
+use Rattle.call_engine.specs.Checked.{IsCheckedText, accepted_pieces}
 use Rattle.call_commands.specs.Margin.{margin_answer}
 use Rattle.call_commands.specs.{Split.split_answer, Verdicts.verdicts_status}
 use Rattle.call_answer.specs.declared.done.Done.{Done}

@@ -14,13 +14,13 @@ use Rattle.model_logic.specs.IntervalLaws.{HistoriesRestOnNoInterval}
 use Rattle.model_names.specs.NamesByNumber.{parameter_name, script_name, terminal_name}
 use Rattle.file_line.specs.Lines.{line_values}
 use Rattle.file_script.specs.Values.{ScriptValues, values_of}
-use Rattle.cert_check.specs.Firsts.{IsFirstFailing}
+use Rattle.run_derived.specs.Firsts.{IsFirstFailing}
 use Rattle.cert_check.specs.{NoFaults.IsNoFault}
 use Rattle.cert_check.specs.Refutations.{IsFirstOutside, IsMetAt, IsMetInside, IsNumberIn}
 use Rattle.cert_check.specs.Refutations.{choice_of, steady_timing}
 use Rattle.cert_check.specs.declared.no.NoFault.{NoFault}
 use Rattle.cert_check.specs.declared.no.NoFault.TheVariants.{Outside, Passes}
-use Rattle.call_answer.specs.Checked.{outside_pieces, passes_pieces, place}
+use Rattle.call_engine.specs.Checked.{outside_pieces, passes_pieces, place}
 use Rattle.call_pilot.specs.SameFactLaws.{choice_same, ends_same, same_params}
 use Rattle.call_pilot.specs.{SamePlayLaws.timing_inside}
 use Rattle.call_pilot.specs.SameTextLaws.{script_names_same, terminal_same}

@@ -4,7 +4,7 @@ use Rattle.std.specs.Io.KnownBytes.{Appends}
 use Rattle.call_pilot.specs.Clauses.{Call}
 use Rattle.call_pilot.specs.Words as words
 use Rattle.call_pilot.specs.Words.{Command}
-use Rattle.call_pilot.specs.declared.stop.Status.{Status}
+use Rattle.call_files.specs.declared.stop.Status.{Status}
 
 -- the text of a net and of a line file may be spelt in more than one way, every other in one alone
 abbrev pub IsTextFixed : Option Command → Type 0

@@ -3,8 +3,9 @@ ghost use Rattle.std.specs.Prelude.{◌≡◌, ℕ, List, Option};
 ghost use Rattle.call_pilot.specs.Clauses.{Call, Clauses, IsTold};
 ghost use Rattle.call_pilot.specs.{Call.answers};
 ghost use Rattle.call_once.specs.{Fixed.AreAlike, Fixed.IsTextFixed};
-ghost use Rattle.call_pilot.specs.{Status.IsAnswer, Words.command_of};
-ghost use Rattle.call_pilot.specs.declared.stop.Status.{Status};
+ghost use Rattle.call_files.specs.Status.{IsAnswer};
+ghost use Rattle.call_pilot.specs.Words.{command_of};
+ghost use Rattle.call_files.specs.declared.stop.Status.{Status};
 
 use crate::one_answer::{
     each_bench_has_one_answer, each_check_has_one_answer, each_margin_has_one_answer,

@@ -4,18 +4,19 @@ use Rattle.std.proofs.Common.{Err, refl, ap, subst, inl, inr, arith}
 use Rattle.std.specs.Io.KnownBytes.{Appends, Keeps}
 use Rattle.base_store.specs.{Counts.Rose, Sink.GrewByPart, Sink.GrewByProper}
 use Rattle.base_store.specs.{SinkLaws.part_of_proper}
-use Rattle.call_answer.specs.Calls.{Calls}
-use Rattle.call_pilot.specs.Files.{NamedFile, NoneRose, StoreCause}
-use Rattle.call_pilot.specs.Status.{IsAnswer, IsDone, IsEarly, status_of, stop_status}
+use Rattle.call_engine.specs.Calls.{Calls}
+use Rattle.call_files.specs.Files.{NamedFile, NoneRose, StoreCause}
+use Rattle.call_files.specs.Status.{IsAnswer, IsDone, IsEarly, status_of, stop_status}
 use Rattle.call_pilot.specs.{Call.Asked, Call.Told, Clauses.Call, Clauses.Clauses, Clauses.IsLine}
 use Rattle.call_pilot.specs.{Clauses.OutIsAnswer, Clauses.OutGrew}
-use Rattle.call_pilot.specs.{Ends.EndsOf, Headline.Headline, Messages.message_of, Words.Command}
+use Rattle.call_pilot.specs.{Ends.EndsOf, Headline.Headline, Words.Command}
+use Rattle.call_files.specs.Messages.{message_of}
 use Rattle.call_pilot.specs.{Words.files_named}
-use Rattle.call_pilot.specs.{declared.stop.File.File, declared.stop.Status.Status}
+use Rattle.call_files.specs.{declared.stop.File.File, declared.stop.Status.Status}
 use Rattle.call_answer.specs.Sinks.{SinkView, GrewByAll, Puts}
-use Rattle.call_pilot.specs.declared.stop.Status.TheVariants as status
-use Rattle.call_pilot.specs.declared.stop.Stop.{Stop}
-use Rattle.call_pilot.specs.declared.stop.Stop.TheVariants as stop
+use Rattle.call_files.specs.declared.stop.Status.TheVariants as status
+use Rattle.call_files.specs.declared.stop.Stop.{Stop}
+use Rattle.call_files.specs.declared.stop.Stop.TheVariants as stop
 use Rattle.call_answer.specs.SinkLaws.{appends_none}
 
 -- 0 to 3 is none of the other statuses

@@ -4,11 +4,11 @@ use Rattle.std.proofs.Common.{Result, Ok, Err, length, nat_lt, unwrap_or, refl, 
 use Rattle.std.proofs.Common.{subst, ap, arith}
 use Rattle.base_store.specs.Store.{SameCounts}
 use Rattle.call_answer.specs.Sinks.{SinkView}
-use Rattle.call_pilot.specs.Files.{contents, in_front, limit_of, AllTold, NamedFile, StoreCause}
-use Rattle.call_pilot.specs.declared.stop.File.{File}
+use Rattle.call_files.specs.Files.{contents, in_front, limit_of, AllTold, NamedFile, StoreCause}
+use Rattle.call_files.specs.declared.stop.File.{File}
 use Rattle.call_pilot.specs.{CallAnswers.CallAnswers, Ends.Works, Ends.Ends}
-use Rattle.call_pilot.specs.{declared.stop.Status.Status, declared.stop.Stop.Stop}
-use Rattle.call_pilot.specs.declared.stop.Stop.TheVariants as stop
+use Rattle.call_files.specs.{declared.stop.Status.Status, declared.stop.Stop.Stop}
+use Rattle.call_files.specs.declared.stop.Stop.TheVariants as stop
 
 -- a work may answer what a wider relation allows
 pub works_wider : {K : Type 0} (view : K → SinkView) (A B : CallAnswers) (old new : K)

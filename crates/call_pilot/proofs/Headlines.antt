@@ -1,14 +1,14 @@
 -- What is put on out, and a certificate that is accepted, is true of every choice of delays.
 use Rattle.std.proofs.Common.{◌≡◌, ℕ, Bool, true, false, List, [], ◌∷◌, ◌++◌, Option, None}
 use Rattle.std.proofs.Common.{Some, Result, Ok, Err, length, map, refl, sym, ◌∙◌, ap, subst}
-use Rattle.std.proofs.Common.{zero, suc}
 use Rattle.std.proofs.lemmas.List.{length-map}
-use Rattle.std.proofs.lemmas.List.Elements.{All-head, All-tail}
-use Rattle.std.specs.Prelude.{MatchOption, slice_get}
+use Rattle.std.specs.Prelude.{MatchOption}
 use Rattle.model_names.specs.NumbersByName.{param_named}
+use Rattle.model_history.specs.ListLaws.{all_at}
 use Rattle.model_line.specs.{Parameters.terminal_count, declared.line.Line.Line}
 use Rattle.model_line.specs.{declared.script.Script.Script, Fits.Fits}
-use Rattle.cert_check.specs.{Check.IsCheckFault, ZipLaws.zip_each}
+use Rattle.cert_check.specs.Check.{IsCheckFault}
+use Rattle.model_history.specs.ZipLaws.{zip_each}
 use Rattle.cert_check.specs.declared.fault.CheckFault.TheVariants as check_fault
 use Rattle.judge_report.specs.Answer.{IsMarginAnswer}
 use Rattle.judge_report.specs.Margin.{HasNoMargin, IsLostAbove, IsLostAtLeast, IsMargin}
@@ -17,12 +17,13 @@ use Rattle.cert_split_check.specs.Check as split_check
 use Rattle.cert_split_check.specs.declared.fault.SplitFault.TheVariants as split_fault
 use Rattle.cert_own.specs.Searched.{AreSearched}
 use Rattle.call_commands.specs.{Margin.IsMarginText, Margin.margin_answer}
-use Rattle.call_answer.specs.Checked.{IsCheckedText}
+use Rattle.call_engine.specs.Checked.{IsCheckedText}
 use Rattle.call_commands.specs.Check as check
 use Rattle.call_commands.specs.Recheck as recheck
 use Rattle.call_commands.specs.Split.{IsSplitOf}
 use Rattle.call_pilot.specs.{HeadlineLaws.HeadlineLaws, Reading.no_other_file}
-use Rattle.call_pilot.specs.{Reading.of_parameter, Reading.third_file}
+use Rattle.call_files.specs.Said.{of_parameter}
+use Rattle.call_pilot.specs.Reading.{third_file}
 use Rattle.call_pilot.specs.Truths.{MarginIsTrue, ReportIsTrue, SplitIsTrue}
 use Rattle.call_pilot.proofs.Told.{IsAnswerFront, all_three, all_two, bytes_told, done_answer}
 use Rattle.call_pilot.proofs.Told.{front_of, front_of_nothing, no_line, study_said, three_told}
@@ -31,7 +32,6 @@ use Rattle.call_pilot.proofs.{Matched.match_says, Matched.match_true, Played.pla
 use Rattle.call_pilot.specs.Words.{TwoFiles, margin, report, split}
 use Rattle.call_pilot.specs.declared.words.ThreeFiles.{ThreeFiles}
 use Rattle.std.proofs.Common.{⊎_elim}
-use Rattle.std.proofs.lemmas.Option.{same_Some}
 use Rattle.std.specs.Prelude.{nat_lt, unwrap_or}
 use Rattle.std.specs.List.{All, list_any}
 use Rattle.file_line.specs.{LineFiles.line_of, Lines.line_values}
@@ -43,28 +43,30 @@ use Rattle.cert_check.specs.{declared.counts.Counts.Counts, Check.IsAccepted}
 use Rattle.cert_check.specs.Counts.{all_verdicts, is_no, is_undecided}
 use Rattle.cert_own.specs.Certified.{AreCertified}
 use Rattle.call_commands.specs.Certify.{certify_answer}
-use Rattle.call_commands.specs.Check.{check_answer}
 use Rattle.call_answer.specs.{Answers.status_by, Sinks.SinkView}
 use Rattle.call_answer.specs.declared.done.Done.{Done}
 use Rattle.call_answer.specs.declared.done.Done.TheVariants as done
 use Rattle.cert_own.specs.Obligations.{HoldsAsAccepted, HoldsAsCertified}
 use Rattle.cert_own.specs.{Printed.HasVerdict, Printed.HoldsOf, WholeLines.whole_lines}
 use Rattle.call_pilot.specs.{Call.answers, CallAnswers.done_with}
-use Rattle.call_pilot.specs.{CallAnswers.refuses, Commands.answer, Ends.EndsOf, Files.AllTold}
-use Rattle.call_pilot.specs.{Files.limit_of, Headline.Headline, Truths.IsToldBy}
+use Rattle.call_pilot.specs.{CallAnswers.refuses, Commands.answer, Ends.EndsOf}
+use Rattle.call_files.specs.Files.{AllTold}
+use Rattle.call_files.specs.Files.{limit_of}
+use Rattle.call_pilot.specs.{Headline.Headline, Truths.IsToldBy}
 use Rattle.call_pilot.specs.CallOver.{HasPut, IsFrontOfText, IsOverThree, IsOverTwo}
 use Rattle.call_pilot.specs.{SaidByFiles.HoldsInFiles}
 use Rattle.call_pilot.specs.SaidByFiles.{InFiles}
-use Rattle.call_pilot.specs.{Reading.of_study, Reading.over_files, Status.status_of}
-use Rattle.call_pilot.specs.{Status.status_of_done, declared.refusal.Refusal.Refusal}
-use Rattle.call_pilot.specs.declared.refusal.Refusal.TheVariants as refusal
+use Rattle.call_files.specs.{Said.of_study, Status.status_of}
+use Rattle.call_pilot.specs.Reading.{over_files}
+use Rattle.call_files.specs.{Status.status_of_done, declared.refusal.Refusal.Refusal}
+use Rattle.call_files.specs.declared.refusal.Refusal.TheVariants as refusal
 use Rattle.call_pilot.specs.Words.{Command, certify, files_of, three_files, two_files}
-use Rattle.call_pilot.specs.Status.{IsDone}
-use Rattle.call_pilot.specs.declared.stop.File.TheVariants as file
-use Rattle.call_pilot.specs.declared.stop.Status.{Status}
-use Rattle.call_pilot.specs.declared.stop.Status.TheVariants as status
-use Rattle.call_pilot.specs.declared.stop.Stop.{Stop}
-use Rattle.call_pilot.specs.declared.stop.Stop.TheVariants as stop
+use Rattle.call_files.specs.Status.{IsDone}
+use Rattle.call_files.specs.declared.stop.File.TheVariants as file
+use Rattle.call_files.specs.declared.stop.Status.{Status}
+use Rattle.call_files.specs.declared.stop.Status.TheVariants as status
+use Rattle.call_files.specs.declared.stop.Stop.{Stop}
+use Rattle.call_files.specs.declared.stop.Stop.TheVariants as stop
 use Rattle.call_pilot.specs.declared.words.ThreeFiles.TheVariants as three
 use Rattle.call_pilot.proofs.Reported.{report_true}
 use Rattle.call_pilot.proofs.SameFiles.{Moves, accepted_in, certified_in, in_files, margin_on}
@@ -239,13 +241,6 @@ module _ (files : List ℕ → Option (List ℕ))
       is
 
 -- ---- report, margin and split
-
--- what holds of all holds of the one at a place
-all_at : {X : Type 0} (P : X → Type 0) (xs : List X) (i : ℕ) (x : X) → All P xs
-    → slice_get xs i ≡ Some x → P x
-all_at P [] i x every at = absurd (cc)
-all_at P (y ∷ xs) zero x every at = subst P (same_Some y x at) (All-head P y xs every)
-all_at P (y ∷ xs) (suc i) x every at = all_at P xs i x (All-tail P y xs every) at
 
 module _ (known : HeadlineLaws) (of : Line) (all : List Script) (fit : All (Fits of) all) where
   margin_of : (name text : List ℕ) (param : ℕ) (found : Bool) → param_named of name ≡ Some param

@@ -15,12 +15,13 @@ use Rattle.call_pilot.specs.{Call.answers, Ends.EndsOf}
 use Rattle.call_pilot.specs.CallOver.{HasPut, IsOverThree}
 use Rattle.call_pilot.specs.HeadlineLaws.{HeadlineLaws}
 use Rattle.call_pilot.specs.MatchTruths.{InRecords, IsMatchToldBy, IsMatchTrue, OfRecords}
-use Rattle.call_pilot.specs.{Reading.of_record, Status.IsDone, Status.status_of}
-use Rattle.call_pilot.specs.{Status.status_of_done, Words.Command, Words.three_files}
-use Rattle.call_pilot.specs.declared.refusal.Refusal.{Refusal}
-use Rattle.call_pilot.specs.declared.refusal.Refusal.TheVariants as refusal
-use Rattle.call_pilot.specs.declared.stop.Status.{Status}
-use Rattle.call_pilot.specs.declared.stop.Stop.{Stop}
+use Rattle.call_files.specs.{Said.of_record, Status.IsDone, Status.status_of}
+use Rattle.call_files.specs.Status.{status_of_done}
+use Rattle.call_pilot.specs.Words.{Command, three_files}
+use Rattle.call_files.specs.declared.refusal.Refusal.{Refusal}
+use Rattle.call_files.specs.declared.refusal.Refusal.TheVariants as refusal
+use Rattle.call_files.specs.declared.stop.Status.{Status}
+use Rattle.call_files.specs.declared.stop.Stop.{Stop}
 use Rattle.call_pilot.specs.declared.words.ThreeFiles.TheVariants as three
 use Rattle.call_pilot.proofs.Told.{IsAnswerFront, all_three, done_answer, front_of_nothing}
 use Rattle.call_pilot.proofs.Told.{three_told, what_was_put}

@@ -15,13 +15,15 @@ use Rattle.call_answer.specs.Sinks.{SinkView}
 use Rattle.call_pilot.specs.{Call.answers, Ends.EndsOf}
 use Rattle.call_pilot.specs.CallOver.{HasPut, IsFrontOfText, IsOverThree}
 use Rattle.call_pilot.specs.{HeadlineLaws.HeadlineLaws, PlayTruths.AreTheHistories}
-use Rattle.call_pilot.specs.{PlayTruths.IsPlayTrue, PlayTruths.rows_of_all, Reading.of_timings}
-use Rattle.call_pilot.specs.{Status.status_of, Words.Command, Words.three_files}
-use Rattle.call_pilot.specs.declared.refusal.Refusal.{Refusal}
-use Rattle.call_pilot.specs.declared.refusal.Refusal.TheVariants as refusal
-use Rattle.call_pilot.specs.declared.stop.Status.{Status}
-use Rattle.call_pilot.specs.declared.stop.Status.TheVariants as status
-use Rattle.call_pilot.specs.declared.stop.Stop.{Stop}
+use Rattle.call_pilot.specs.PlayTruths.{IsPlayTrue, rows_of_all}
+use Rattle.call_files.specs.Said.{of_timings}
+use Rattle.call_files.specs.Status.{status_of}
+use Rattle.call_pilot.specs.Words.{Command, three_files}
+use Rattle.call_files.specs.declared.refusal.Refusal.{Refusal}
+use Rattle.call_files.specs.declared.refusal.Refusal.TheVariants as refusal
+use Rattle.call_files.specs.declared.stop.Status.{Status}
+use Rattle.call_files.specs.declared.stop.Status.TheVariants as status
+use Rattle.call_files.specs.declared.stop.Stop.{Stop}
 use Rattle.call_pilot.specs.declared.words.ThreeFiles.TheVariants as three
 use Rattle.call_pilot.specs.SaidByFiles.{InFiles}
 use Rattle.call_pilot.proofs.{SameFiles.Moves, SameFiles.in_files, SameFiles.in_files_then}

@@ -11,7 +11,7 @@ use Rattle.cert_split_check.specs.declared.fault.SplitFault.{SplitFault}
 use Rattle.cert_split_check.specs.declared.fault.SplitFault.TheVariants as fault
 use Rattle.cert_own.specs.Searched.{AllSearched}
 use Rattle.call_commands.specs.{Recheck.recheck_answer, Split.split_answer}
-use Rattle.call_answer.specs.Checked.{accepted_pieces}
+use Rattle.call_engine.specs.Checked.{accepted_pieces}
 use Rattle.call_answer.specs.declared.done.Done.{Done}
 use Rattle.call_answer.specs.declared.done.Done.TheVariants as done
 use Rattle.call_pilot.specs.Accepted.{counted_line}

@@ -8,12 +8,10 @@ use Rattle.file_line.specs.{LineFiles.line_of, Lines.LineValues, Lines.line_valu
 use Rattle.file_line.specs.Reading as line_reading
 use Rattle.file_line.specs.declared.fault.LineFault.{LineFault}
 use Rattle.file_line.specs.declared.fault.LineFault.TheVariants as line_fault
-use Rattle.file_script.specs.Gives as script_reading
 use Rattle.file_script.specs.Scripts.{scripts_of}
 use Rattle.file_script.specs.{Values.ScriptValues, declared.fault.ScriptFault.ScriptFault}
-use Rattle.file_script.specs.declared.fault.ScriptFault.TheVariants as script_fault
 use Rattle.file_timing.specs.Gives as timing_reading
-use Rattle.call_answer.specs.Calls.{Calls}
+use Rattle.call_engine.specs.Calls.{Calls}
 use Rattle.model_timing.specs.Inside.{IsTimingInside}
 use Rattle.model_timing.specs.NamedValues.{NamedValues}
 use Rattle.file_timing.specs.declared.fault.TimingFault.{TimingFault}
@@ -22,15 +20,17 @@ use Rattle.judge_match.specs.Gives as record_reading
 use Rattle.judge_match.specs.{Waves.SeenValues, declared.fault.SeenFault.SeenFault}
 use Rattle.judge_match.specs.declared.fault.SeenFault.TheVariants as seen_fault
 use Rattle.call_pilot.specs.CallAnswers.{CallAnswers, refuses}
-use Rattle.call_pilot.specs.Reading.{of_line, of_parameter, of_record, of_scripts, of_study}
-use Rattle.call_pilot.specs.Reading.{of_timings, work_of_one}
-use Rattle.call_pilot.specs.Stops.{line_stop, record_stop, script_stop, timing_stop}
-use Rattle.call_pilot.specs.Study.{IsSaid, ReadsStudy}
-use Rattle.call_pilot.specs.{Commands.asks, Ends.Works, declared.refusal.Refusal.Refusal}
+use Rattle.call_files.specs.Said.{of_line, of_parameter, of_record, of_scripts, of_study}
+use Rattle.call_files.specs.Said.{of_timings}
+use Rattle.call_pilot.specs.Reading.{work_of_one}
+use Rattle.call_files.specs.Stops.{line_stop, record_stop, timing_stop}
+use Rattle.call_files.specs.Study.{IsSaid, ReadsStudy}
+use Rattle.call_pilot.specs.{Commands.asks, Ends.Works}
+use Rattle.call_files.specs.declared.refusal.Refusal.{Refusal}
 use Rattle.call_answer.specs.{Sinks.SinkView, Study.IsStudy}
-use Rattle.call_pilot.specs.declared.refusal.Refusal.TheVariants as refusal
-use Rattle.call_pilot.specs.{declared.stop.Status.Status, declared.stop.Stop.Stop}
-use Rattle.call_pilot.specs.declared.stop.Stop.TheVariants as stop
+use Rattle.call_files.specs.declared.refusal.Refusal.TheVariants as refusal
+use Rattle.call_files.specs.{declared.stop.Status.Status, declared.stop.Stop.Stop}
+use Rattle.call_files.specs.declared.stop.Stop.TheVariants as stop
 use Rattle.call_answer.specs.declared.study.Study.{Study}
 use Rattle.call_pilot.specs.declared.words.OneFile.{OneFile}
 use Rattle.call_pilot.specs.declared.words.OneFile.TheVariants as one
@@ -118,36 +118,6 @@ study_refused line_bytes scripts_bytes why refused holds first r =
     (λ l h. scripts_wider l (scripts_of l scripts_bytes) (λ f. f ≡ why) refused
     (λ scripts. ⊥) (holds l) here (λ scripts bad. absurd bad) h)
     first
-
--- a line file that is refused, before scripts
-pub line_refused : (line_bytes scripts_bytes : List ℕ) (e : LineFault)
-    → line_reading.Fails e (line_of line_bytes)
-    → ReadsStudy line_bytes scripts_bytes (Err (line_stop e))
-line_refused line_bytes scripts_bytes line_fault.NotToml f = rw f refl
-line_refused line_bytes scripts_bytes (line_fault.Unknown p) f = rw f refl
-line_refused line_bytes scripts_bytes (line_fault.Missing p) f = rw f refl
-line_refused line_bytes scripts_bytes (line_fault.WrongKind p) f = rw f refl
-line_refused line_bytes scripts_bytes (line_fault.Range p) f = rw f refl
-line_refused line_bytes scripts_bytes (line_fault.BadName p) f = rw f refl
-line_refused line_bytes scripts_bytes (line_fault.Twice p) f = rw f refl
-line_refused line_bytes scripts_bytes (line_fault.Channels a b) f = rw f refl
-line_refused line_bytes scripts_bytes line_fault.Memory f = tt
-
--- a scripts file that is refused
-pub scripts_refused : (line_bytes scripts_bytes : List ℕ) (l : Line) (e : ScriptFault)
-    → line_of line_bytes ≡ Ok (line_values l)
-    → script_reading.Fails e (scripts_of l scripts_bytes)
-    → ReadsStudy line_bytes scripts_bytes (Err (script_stop e))
-scripts_refused lb sb l script_fault.Header is f = rw is (l, refl, rw f refl)
-scripts_refused lb sb l (script_fault.Fields n) is f = rw is (l, refl, rw f refl)
-scripts_refused lb sb l (script_fault.Item n) is f = rw is (l, refl, rw f refl)
-scripts_refused lb sb l (script_fault.BadPlace n) is f = rw is (l, refl, rw f refl)
-scripts_refused lb sb l (script_fault.Ticks n) is f = rw is (l, refl, rw f refl)
-scripts_refused lb sb l (script_fault.Order n) is f = rw is (l, refl, rw f refl)
-scripts_refused lb sb l (script_fault.BadName n) is f = rw is (l, refl, rw f refl)
-scripts_refused lb sb l script_fault.TooMany is f = rw is (l, refl, rw f refl)
-scripts_refused lb sb l script_fault.Empty is f = rw is (l, refl, rw f refl)
-scripts_refused lb sb l script_fault.Memory is f = tt
 
 module _ {K : Type 0} (view : K → SinkView) where
   -- want of memory before anything is written

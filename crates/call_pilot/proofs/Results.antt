@@ -1,7 +1,7 @@
 -- Results, by cases.
 use Rattle.std.proofs.Common.{OnOk, Result, Ok, Err}
 use Rattle.call_answer.specs.{declared.done.Done.Done, declared.put.WriteStop.WriteStop}
-use Rattle.call_pilot.specs.Status.{ended}
+use Rattle.call_files.specs.Status.{ended}
 
 -- what follows, where there is a value
 pub on_ok : {X Fault P Q : Type 0} (r : Result X Fault) → (P → Q) → OnOk r P → OnOk r Q

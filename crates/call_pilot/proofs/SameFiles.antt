@@ -21,8 +21,8 @@ use Rattle.cert_own.specs.Obligations.{IsFailedBySome, IsUnknown}
 use Rattle.cert_own.specs.Printed.{HoldsOf}
 use Rattle.call_pilot.specs.{SaidByFiles.InFiles, Truths.IsToldBy}
 use Rattle.call_pilot.specs.Truths.{MarginIsTrue, ReportIsTrue, RowIsTrue, SplitIsTrue}
-use Rattle.call_pilot.specs.declared.stop.Status.{Status}
-use Rattle.call_pilot.specs.declared.stop.Status.TheVariants as status
+use Rattle.call_files.specs.declared.stop.Status.{Status}
+use Rattle.call_files.specs.declared.stop.Status.TheVariants as status
 use Rattle.call_pilot.specs.SameFactLaws.{accepted_on, are_told_on, certified_on, failed_by_all}
 use Rattle.call_pilot.specs.SameFactLaws.{failed_on, raised_same, same_params, unknown_by}
 use Rattle.call_pilot.specs.SameFactLaws.{within_back}

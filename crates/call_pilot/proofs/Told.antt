@@ -1,15 +1,17 @@
 -- What was put on out, and what the files say.
-use Rattle.call_pilot.specs.declared.refusal.Refusal.TheVariants as refusal
-use Rattle.call_pilot.specs.declared.stop.File.TheVariants as file
-use Rattle.call_pilot.specs.declared.stop.Stop.TheVariants as stop
+use Rattle.call_files.specs.declared.refusal.Refusal.TheVariants as refusal
+use Rattle.call_files.specs.declared.stop.File.TheVariants as file
+use Rattle.call_files.specs.declared.stop.Stop.TheVariants as stop
 use Rattle.std.proofs.Common.{◌≡◌, ◌⊎◌, ℕ, Bool, true, false, cond, List, [], ◌∷◌, ◌++◌, Option}
 use Rattle.std.proofs.Common.{None, Some, Result, Ok, Err, drop, take, length, map, refl, sym, ◌∙◌}
 use Rattle.std.proofs.Common.{ap, subst, inl, inr, ⊎_elim}
 use Rattle.call_pilot.specs.{Reading.third_file, Call.answers, CallAnswers.CallAnswers}
 use Rattle.call_pilot.specs.{CallAnswers.done_with, CallAnswers.refuses, Commands.answer}
-use Rattle.call_pilot.specs.{Ends.EndsOf, Files.AllTold, Files.in_front, Files.limit_of}
-use Rattle.call_pilot.specs.{Reading.of_line, Reading.of_scripts, Reading.of_study}
-use Rattle.call_pilot.specs.{Reading.over_files, declared.refusal.Refusal.Refusal}
+use Rattle.call_pilot.specs.Ends.{EndsOf}
+use Rattle.call_files.specs.Files.{AllTold, in_front, limit_of}
+use Rattle.call_files.specs.Said.{of_line, of_scripts, of_study}
+use Rattle.call_pilot.specs.Reading.{over_files}
+use Rattle.call_files.specs.declared.refusal.Refusal.{Refusal}
 use Rattle.call_pilot.specs.Words.{own_file, Command, TwoFiles, files_of, three_files, two_files}
 use Rattle.call_pilot.specs.declared.words.ThreeFiles.{ThreeFiles}
 use Rattle.std.proofs.lemmas.List.{append-nil, append_cancel_left, take-append-drop}
@@ -26,10 +28,10 @@ use Rattle.file_script.specs.declared.fault.ScriptFault.{ScriptFault}
 use Rattle.call_answer.specs.Sinks.{SinkView}
 use Rattle.call_answer.specs.SinkLaws.{keeps_same}
 use Rattle.call_pilot.specs.CallOver.{HasPut, IsFrontOfText, IsOverThree, IsOverTwo}
-use Rattle.call_pilot.specs.declared.stop.File.{File}
-use Rattle.call_pilot.specs.declared.stop.Status.TheVariants as status
-use Rattle.call_pilot.specs.{Status.IsDone, Status.status_of, declared.stop.Status.Status}
-use Rattle.call_pilot.specs.declared.stop.Stop.{Stop}
+use Rattle.call_files.specs.declared.stop.File.{File}
+use Rattle.call_files.specs.declared.stop.Status.TheVariants as status
+use Rattle.call_files.specs.{Status.IsDone, Status.status_of, declared.stop.Status.Status}
+use Rattle.call_files.specs.declared.stop.Stop.{Stop}
 
 -- ---- what was put is nothing, or a front of a text that may be answered
 

@@ -7,7 +7,8 @@ use Rattle.call_answer.specs.declared.put.WriteStop.{WriteStop}
 use Rattle.call_answer.specs.declared.put.WriteStop.TheVariants as write_stop
 use Rattle.call_answer.specs.declared.said.Said.{Said}
 use Rattle.call_pilot.specs.CallAnswers.{done_with}
-use Rattle.call_pilot.specs.{Ends.Works, Status.IsDone, Status.ended, Status.status_of_done}
+use Rattle.call_pilot.specs.Ends.{Works}
+use Rattle.call_files.specs.Status.{IsDone, ended, status_of_done}
 
 -- the statuses of commands that are done
 is_done : (d : Done) → IsDone (status_of_done d)

@@ -3,7 +3,7 @@ use Rattle.std.specs.Prelude.{ℕ, List}
 use Rattle.std.specs.List.{concat}
 use Rattle.cert_text.specs.Grammar.{Verdict}
 use Rattle.cert_check.specs.Counts.{counts_in}
-use Rattle.call_answer.specs.Checked.{accepted_pieces}
+use Rattle.call_engine.specs.Checked.{accepted_pieces}
 
 -- `accepted Y N U`, with the counts of these verdicts
 abbrev pub counted_line : List Verdict → List ℕ

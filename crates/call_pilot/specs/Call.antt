@@ -1,13 +1,14 @@
 -- What a call answers when nothing fails, and what it has then asked of the engine.
 use Rattle.std.specs.Prelude.{◌≡◌, ⊤, ℕ, List, [], Option, None, Some}
-use Rattle.call_answer.specs.Calls.{Calls}
+use Rattle.call_engine.specs.Calls.{Calls}
 use Rattle.call_commands.specs.Asked.{Asks}
 use Rattle.call_pilot.specs.CallAnswers.{CallAnswers, done_with, refuses}
 use Rattle.call_pilot.specs.Commands.{answer, asks}
-use Rattle.call_pilot.specs.{Files.AllTold, Files.contents, Messages.message_of, Reading.Reading}
+use Rattle.call_files.specs.{Files.AllTold, Files.contents, Messages.message_of}
+use Rattle.call_pilot.specs.Reading.{Reading}
 use Rattle.call_pilot.specs.{Reading.over_files, Words.Command, Words.files_of, Words.files_named}
-use Rattle.call_pilot.specs.declared.stop.Status.TheVariants as status
-use Rattle.call_pilot.specs.declared.stop.Stop.TheVariants as stop
+use Rattle.call_files.specs.declared.stop.Status.TheVariants as status
+use Rattle.call_files.specs.declared.stop.Stop.TheVariants as stop
 
 -- the answer of a command over what its files say, or the refusal of one
 abbrev pub answer_by : Reading → CallAnswers

@@ -1,10 +1,10 @@
 -- What a call may answer: a relation of the status, the text on out and the line on err.
 use Rattle.std.specs.Prelude.{◌≡◌, ℕ, List, []}
 use Rattle.call_answer.specs.{Answers.Answers, declared.done.Done.Done}
-use Rattle.call_pilot.specs.{Messages.message_of, Status.status_of_done}
-use Rattle.call_pilot.specs.{declared.refusal.Refusal.Refusal, declared.stop.Status.Status}
-use Rattle.call_pilot.specs.declared.stop.Status.TheVariants as status
-use Rattle.call_pilot.specs.declared.stop.Stop.TheVariants as stop
+use Rattle.call_files.specs.{Messages.message_of, Status.status_of_done}
+use Rattle.call_files.specs.{declared.refusal.Refusal.Refusal, declared.stop.Status.Status}
+use Rattle.call_files.specs.declared.stop.Status.TheVariants as status
+use Rattle.call_files.specs.declared.stop.Stop.TheVariants as stop
 
 abbrev pub CallAnswers : Type 1
 CallAnswers = Status → List ℕ → List ℕ → Type 0

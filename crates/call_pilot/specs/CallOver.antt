@@ -2,7 +2,7 @@
 use Rattle.std.specs.Prelude.{◌≡◌, ◌≢◌, ◌++◌, ℕ, List, [], Option, Some}
 use Rattle.call_answer.specs.Sinks.{SinkView}
 use Rattle.call_pilot.specs.Words.{Command, TwoFiles, three_files, two_files}
-use Rattle.call_pilot.specs.{Status.IsDone, declared.stop.Status.Status}
+use Rattle.call_files.specs.{Status.IsDone, declared.stop.Status.Status}
 use Rattle.call_pilot.specs.declared.words.ThreeFiles.{ThreeFiles}
 
 -- the command is this one over a line file and a scripts file, and the store tells these bytes of

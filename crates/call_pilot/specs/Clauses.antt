@@ -2,15 +2,18 @@
 use Rattle.std.specs.Prelude.{◌≡◌, ◌⊎◌, ◌<◌, ℕ, List, [], Option}
 use Rattle.std.specs.Io.KnownBytes.{Appends, Keeps}
 use Rattle.base_store.specs.{Counts.Rose, Sink.GrewByProper, Sink.GrewByPart}
-use Rattle.call_answer.specs.Calls.{Calls}
-use Rattle.call_pilot.specs.{Call.Asked, Call.Told, Call.answers, Files.StoreCause, Files.NoneRose}
-use Rattle.call_pilot.specs.{Headline.Headline, Messages.message_of, Status.IsAnswer, Status.IsDone}
+use Rattle.call_engine.specs.Calls.{Calls}
+use Rattle.call_pilot.specs.Call.{Asked, Told, answers}
+use Rattle.call_files.specs.Files.{StoreCause, NoneRose}
+use Rattle.call_pilot.specs.Headline.{Headline}
+use Rattle.call_files.specs.{Messages.message_of, Status.IsAnswer, Status.IsDone}
 use Rattle.call_pilot.specs.{Words.Command}
-use Rattle.call_pilot.specs.{Words.files_named, declared.refusal.Refusal.Refusal}
-use Rattle.call_pilot.specs.{declared.stop.File.File, declared.stop.Status.Status}
+use Rattle.call_pilot.specs.Words.{files_named}
+use Rattle.call_files.specs.declared.refusal.Refusal.{Refusal}
+use Rattle.call_files.specs.{declared.stop.File.File, declared.stop.Status.Status}
 use Rattle.call_answer.specs.Sinks.{SinkView, GrewByAll}
-use Rattle.call_pilot.specs.declared.stop.Status.TheVariants as status
-use Rattle.call_pilot.specs.declared.stop.Stop.TheVariants as stop
+use Rattle.call_files.specs.declared.stop.Status.TheVariants as status
+use Rattle.call_files.specs.declared.stop.Stop.TheVariants as stop
 
 -- what a clause sees of a call: the command that its words are, the bytes that the store tells under
 -- each name, and before and after the call the store's count of faults of each name, what the engine

@@ -4,13 +4,15 @@ use Rattle.std.specs.Prelude.{◌≡◌, ◌⊎◌, None, Some, ℕ, List, [], O
 use Rattle.std.specs.Io.KnownBytes.{Keeps}
 use Rattle.base_store.specs.{Counts.Rose, Sink.GrewByProper, Sink.GrewByPart, Store.SameCounts}
 use Rattle.call_answer.specs.Sinks.{SinkView, GrewByAll}
-use Rattle.call_pilot.specs.Files.{AllTold, NamedFile, StoreCause, contents}
-use Rattle.call_pilot.specs.{Call.answer_by, CallAnswers.CallAnswers, Messages.message_of}
-use Rattle.call_pilot.specs.{Reading.over_files, Status.IsDone, Words.Command, Words.files_of}
-use Rattle.call_pilot.specs.{declared.stop.File.File, declared.stop.Status.Status}
-use Rattle.call_pilot.specs.declared.stop.Status.TheVariants as status
-use Rattle.call_pilot.specs.declared.stop.Stop.{Stop}
-use Rattle.call_pilot.specs.declared.stop.Stop.TheVariants as stop
+use Rattle.call_files.specs.Files.{AllTold, NamedFile, StoreCause, contents}
+use Rattle.call_pilot.specs.{Call.answer_by, CallAnswers.CallAnswers}
+use Rattle.call_files.specs.Messages.{message_of}
+use Rattle.call_pilot.specs.{Reading.over_files, Words.Command, Words.files_of}
+use Rattle.call_files.specs.Status.{IsDone}
+use Rattle.call_files.specs.{declared.stop.File.File, declared.stop.Status.Status}
+use Rattle.call_files.specs.declared.stop.Status.TheVariants as status
+use Rattle.call_files.specs.declared.stop.Stop.{Stop}
+use Rattle.call_files.specs.declared.stop.Stop.TheVariants as stop
 
 -- a work that asks no store: its answers are those that are allowed. A sink is as it was, in all
 -- that it has, where a file or the parameter is refused.

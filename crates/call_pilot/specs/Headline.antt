@@ -11,8 +11,8 @@ use Rattle.call_pilot.specs.Truths.{IsToldBy, MarginIsTrue, ReportIsTrue, SplitI
 use Rattle.call_pilot.specs.Words.{Command, certify, margin, report, split}
 use Rattle.call_pilot.specs.MatchTruths.{InRecords, IsMatchToldBy, IsMatchTrue}
 use Rattle.call_pilot.specs.PlayTruths.{IsPlayTrue}
-use Rattle.call_pilot.specs.{Status.IsDone, declared.stop.Status.Status}
-use Rattle.call_pilot.specs.declared.stop.Status.TheVariants as status
+use Rattle.call_files.specs.{Status.IsDone, declared.stop.Status.Status}
+use Rattle.call_files.specs.declared.stop.Status.TheVariants as status
 use Rattle.call_pilot.specs.declared.words.ThreeFiles.TheVariants as three
 
 -- of a call of this command over these files, which put this on out, and ended with status s

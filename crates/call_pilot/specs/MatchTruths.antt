@@ -4,8 +4,9 @@ use Rattle.model_line.specs.{declared.line.Line.Line, declared.script.Script.Scr
 use Rattle.judge_match.specs.Waves.{SeenValues, records_said}
 use Rattle.cert_own.specs.Matched.{AllGiven, HoldsOfRecord, HoldsOfRecordAt, HoldsOfSomeRecord}
 use Rattle.cert_own.specs.Matched.{IsGivenByNone, IsOpenRecord, Matched}
-use Rattle.call_pilot.specs.{SaidByFiles.InFiles, declared.stop.Status.Status}
-use Rattle.call_pilot.specs.declared.stop.Status.TheVariants as status
+use Rattle.call_pilot.specs.SaidByFiles.{InFiles}
+use Rattle.call_files.specs.declared.stop.Status.{Status}
+use Rattle.call_files.specs.declared.stop.Status.TheVariants as status
 
 -- the bytes say records of the field, for a line and scripts, and this holds of them
 pub record OfRecords (record_bytes : List ℕ) (Fact : Line → List Script → List SeenValues → Type 0)

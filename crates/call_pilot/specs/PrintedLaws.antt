@@ -9,7 +9,7 @@ use Rattle.cert_check.specs.declared.fault.CheckFault.{CheckFault}
 use Rattle.cert_check.specs.declared.fault.CheckFault.TheVariants as fault
 use Rattle.cert_own.specs.Certified.{AreCertified}
 use Rattle.call_commands.specs.{Certify.certify_answer, Check.check_answer}
-use Rattle.call_answer.specs.Checked.{accepted_pieces}
+use Rattle.call_engine.specs.Checked.{accepted_pieces}
 use Rattle.call_answer.specs.declared.done.Done.{Done}
 use Rattle.call_answer.specs.declared.done.Done.TheVariants as done
 use Rattle.call_pilot.specs.Accepted.{counted_line}

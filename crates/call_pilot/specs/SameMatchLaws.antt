@@ -16,15 +16,15 @@ use Rattle.file_line.specs.Lines.{line_values}
 use Rattle.file_script.specs.Values.{ScriptValues, values_of}
 use Rattle.model_timing.specs.Candidates.{candidate}
 use Rattle.model_timing.specs.Timing.{TimingValues}
-use Rattle.cert_check.specs.{Claims.declared_world, Claims.pairs_of}
+use Rattle.run_derived.specs.Claims.{declared_world, pairs_of}
 use Rattle.judge_match.specs.{Recorded.recorded, Waves.SeenValues}
 use Rattle.cert_own.specs.Matched.{HoldsOfRecord, HoldsOfRecordAt}
 use Rattle.cert_own.specs.Matched.{IsGivenBy, IsGivenByNone, IsGivenBySome, IsOpenRecord}
 use Rattle.cert_own.specs.Matched.{Matched}
 use Rattle.cert_own.specs.Matched.{explained, impossible, unsettled}
 use Rattle.call_pilot.specs.MatchTruths.{IsMatchToldBy, OfRecords}
-use Rattle.call_pilot.specs.declared.stop.Status.{Status}
-use Rattle.call_pilot.specs.declared.stop.Status.TheVariants as status
+use Rattle.call_files.specs.declared.stop.Status.{Status}
+use Rattle.call_files.specs.declared.stop.Status.TheVariants as status
 use Rattle.call_pilot.specs.SameFactLaws.{box_same, candidate_same, count_same, pair_world_same}
 use Rattle.call_pilot.specs.SameRecordLaws.{records_same}
 use Rattle.call_pilot.specs.SameValueLaws.{history_back, history_on, inside_back, inside_on}

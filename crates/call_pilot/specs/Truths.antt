@@ -16,8 +16,8 @@ use Rattle.cert_split_text.specs.{Grammar.SplitResult, Text.split_text}
 use Rattle.cert_split_check.specs.Results.{AreTold}
 use Rattle.cert_own.specs.Obligations.{AllMet, HoldsSomewhere, IsFailedBySome, IsMetByAll}
 use Rattle.cert_own.specs.Obligations.{IsUnknown}
-use Rattle.call_pilot.specs.declared.stop.Status.{Status}
-use Rattle.call_pilot.specs.declared.stop.Status.TheVariants as status
+use Rattle.call_files.specs.declared.stop.Status.{Status}
+use Rattle.call_files.specs.declared.stop.Status.TheVariants as status
 
 -- what the status of `certify` says. 0: every obligation is met, whatever the choice. 1: some choice
 -- fails one. 2: one is unknown.

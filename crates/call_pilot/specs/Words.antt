@@ -3,8 +3,9 @@ use Rattle.std.specs.Prelude.{◌∷◌, ◌&&◌, ℕ, List, [], Option, None, 
 use Rattle.std.specs.Prelude.{if◌then◌else◌}
 use Rattle.std.specs.Str.{bytes_eq}
 use Rattle.base_store.specs.Number.{number_of}
-use Rattle.call_pilot.specs.{Files.NamedFile, declared.stop.File.File}
-use Rattle.call_pilot.specs.declared.stop.File.TheVariants as file
+use Rattle.call_files.specs.Files.{NamedFile, named}
+use Rattle.call_files.specs.declared.stop.File.{File}
+use Rattle.call_files.specs.declared.stop.File.TheVariants as file
 use Rattle.call_pilot.specs.declared.words.OneFile.{OneFile}
 use Rattle.call_pilot.specs.declared.words.OneFile.TheVariants as one
 use Rattle.call_pilot.specs.declared.words.ThreeFiles.{ThreeFiles}
@@ -85,9 +86,6 @@ own_file three.Play = file.Timings
 own_file three.Check = file.Cert
 own_file three.Match = file.Record
 own_file three.Recheck = file.Trees
-
-abbrev pub named : File → List ℕ → NamedFile
-named f name = record { file = f; name = name }
 
 -- the files of a command in word order
 abbrev pub files_of : Command → List NamedFile

@@ -1,26 +1,26 @@
 //! The work of each command, over the bytes of its files.
 ghost use Rattle.std.specs.Prelude.{◌≤◌, IfOk, OnOk, length};
 ghost use Rattle.call_answer.specs.{Answers.Says, Sinks.sink_view, Study.IsStudy};
-ghost use Rattle.call_answer.specs.Calls.{Calls};
+ghost use Rattle.call_engine.specs.Calls.{Calls};
 ghost use Rattle.call_pilot.specs.Call.{answer_by, asks_by};
 ghost use Rattle.call_pilot.specs.Reading.{bench as of_bench, no_other_file};
 ghost use Rattle.call_pilot.specs.Reading.{one_file as of_one_file, three_files as of_three_files};
 ghost use Rattle.call_pilot.specs.Reading.{two_files as of_two_files, third_file, work_of_one};
 ghost use Rattle.call_pilot.specs.{Commands.answer, CommandView.two_files_view, Ends.Works};
-ghost use Rattle.call_pilot.specs.{Files.limit_of, Words.own_file, Words.margin as margin_words};
+ghost use Rattle.call_files.specs.Files.{limit_of};
+ghost use Rattle.call_pilot.specs.Words.{own_file, margin as margin_words};
 ghost use Rattle.call_pilot.specs.declared.words.ThreeFiles.TheVariants as three;
 
 use crate::bench_size::BenchSize;
-use crate::refusal::Refusal;
-use crate::stop::{Status, Stop, ended};
-use crate::study::read_study;
 use crate::words::{OneFile, ThreeFiles, TwoFiles};
 use base_store::Sink;
-use call_answer::{Engine, Said, Study, put_said};
+use call_answer::{Said, Study, put_said};
 use call_commands::{
     certify, check, line, margin, match_records, migrate, net, play, recheck, report, run_bench,
     split,
 };
+use call_engine::Engine;
+use call_files::{Refusal, Status, Stop, ended, read_study};
 use file_line::read_line;
 use file_timing::read_timings;
 use judge_match::read_seen;

@@ -1,6 +1,6 @@
 //! The command that the words are, over a store.
 ghost use Rattle.std.specs.Prelude.{◌≡◌, OnOk, map, string_bytes};
-ghost use Rattle.call_answer.specs.Calls.{Calls};
+ghost use Rattle.call_engine.specs.Calls.{Calls};
 ghost use Rattle.call_pilot.specs.Words.{command_of, own_file as file_of_work};
 ghost use Rattle.call_pilot.specs.Words.{one_file as one_file_command};
 ghost use Rattle.call_pilot.specs.Words.{three_files as three_files_command};
@@ -10,11 +10,10 @@ ghost use Rattle.call_pilot.specs.{Call.Asked, Ends.EndsOf};
 ghost use Rattle.call_answer.specs.Sinks.{sink_view};
 
 use crate::dispatch::{no_file, one_file, three_files, two_files};
-use crate::files::fetch_file;
-use crate::stop::{File, Status, Stop};
 use crate::words::{Command, OneFile, ThreeFiles, TwoFiles, command_of_words};
 use base_store::{Sink, Store};
-use call_answer::Engine;
+use call_engine::Engine;
+use call_files::{File, Status, Stop, fetch_file};
 use std::alloc::Global;
 
 /// All of the call but the line to err.

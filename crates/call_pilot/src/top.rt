@@ -1,15 +1,15 @@
 //! The top call.
 ghost use Rattle.std.specs.Prelude.{◌≡◌, ◌↔◌, map, string_bytes};
 ghost use Rattle.call_pilot.specs.Clauses.{Clauses};
-ghost use Rattle.call_pilot.specs.{Status.IsDone, Status.IsEarly, Words.command_of};
+ghost use Rattle.call_files.specs.Status.{IsDone, IsEarly};
+ghost use Rattle.call_pilot.specs.Words.{command_of};
 ghost use Rattle.call_answer.specs.Sinks.{sink_view};
 
 use crate::laws::what_is_answered_is_true;
-use crate::messages::put_message;
 use crate::run::answer;
-use crate::stop::Status;
 use base_store::{Sink, Store};
-use call_answer::Engine;
+use call_engine::Engine;
+use call_files::{Status, put_message};
 use std::alloc::Global;
 
 /// Does the command that the words are, by the engine, over the store, with its text on `out` and,

@@ -5,9 +5,9 @@ use Rattle.std.specs.Io.KnownBytes.{Appends}
 use Rattle.base_store.specs.{Counts.Rose, Sink.GrewByPart, SinkLaws.part_of_proper}
 use Rattle.call_answer.specs.{Sinks.GrewByAll, Sinks.Puts, Sinks.SinkView}
 use Rattle.call_answer.specs.SinkLaws.{appends_none}
-use Rattle.call_pilot.specs.Files.{NamedFile, NoneRose, StoreCause}
-use Rattle.call_pilot.specs.declared.stop.File.{File}
-use Rattle.call_pilot.specs.declared.stop.Stop.TheVariants as stop
+use Rattle.call_files.specs.Files.{NamedFile, NoneRose, StoreCause}
+use Rattle.call_files.specs.declared.stop.File.{File}
+use Rattle.call_files.specs.declared.stop.Stop.TheVariants as stop
 use Rattle.call_study.specs.{Answers.answer_over, Clauses.Call, Clauses.Clauses, Clauses.IsTold}
 use Rattle.call_study.specs.{Clauses.OutIsAnswer, Clauses.OutIsFront, Ends.EndsOf}
 use Rattle.call_load.specs.Halts.{End, IsAnswer, IsEarly, line_of}

@@ -8,7 +8,7 @@ use Rattle.call_explain.specs.Explain.{IsExplainStop}
 use Rattle.call_ask.specs.declared.explain.ExplainForm.{ExplainForm}
 use Rattle.call_explain.specs.declared.stop.ExplainStop.{ExplainStop}
 use Rattle.call_explain.specs.declared.stop.ExplainStop.TheVariants as explain_stop
-use Rattle.call_pilot.specs.Stops.{record_stop}
+use Rattle.call_files.specs.Stops.{record_stop}
 use Rattle.call_study.specs.{Answers.answer_by, Ends.Gives}
 use Rattle.call_load.specs.Reading.{explain_halt, explain_in, which_script}
 use Rattle.call_load.specs.declared.halt.Halt.TheVariants as halt

@@ -4,12 +4,12 @@ use Rattle.std.proofs.Common.{Result, Ok, Err, length, nat_lt, unwrap_or, refl, 
 use Rattle.std.proofs.Common.{inl, inr, subst, arith}
 use Rattle.call_answer.specs.declared.said.Said.{Said}
 use Rattle.base_store.specs.Store.{SameCounts}
-use Rattle.call_pilot.specs.Files.{AllTold, Fetches, NamedFile, StoreCause, contents, in_front}
-use Rattle.call_pilot.specs.Files.{limit_of}
-use Rattle.call_pilot.specs.declared.refusal.Refusal.TheVariants as refusal
-use Rattle.call_pilot.specs.declared.stop.File.{File}
-use Rattle.call_pilot.specs.declared.stop.Stop.{Stop}
-use Rattle.call_pilot.specs.declared.stop.Stop.TheVariants as stop
+use Rattle.call_files.specs.Files.{AllTold, Fetches, NamedFile, StoreCause, contents, in_front}
+use Rattle.call_files.specs.Files.{limit_of}
+use Rattle.call_files.specs.declared.refusal.Refusal.TheVariants as refusal
+use Rattle.call_files.specs.declared.stop.File.{File}
+use Rattle.call_files.specs.declared.stop.Stop.{Stop}
+use Rattle.call_files.specs.declared.stop.Stop.TheVariants as stop
 use Rattle.call_study.specs.{Answers.Answers, Answers.answer_by, Answers.answer_over}
 use Rattle.call_study.specs.{Ends.Fetched, Ends.Gives, Ends.over_told}
 use Rattle.call_load.specs.{Reading.over_further, Request.Asked}

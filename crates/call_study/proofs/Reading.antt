@@ -10,11 +10,11 @@ use Rattle.file_timing.specs.declared.fault.TimingFault.{TimingFault}
 use Rattle.file_timing.specs.declared.fault.TimingFault.TheVariants as timing_fault
 use Rattle.model_timing.specs.{Inside.IsTimingInside, NamedValues.NamedValues}
 use Rattle.call_answer.specs.declared.said.Said.{Said}
-use Rattle.call_pilot.specs.Reading.{of_timings}
-use Rattle.call_pilot.specs.Stops.{timing_stop}
-use Rattle.call_pilot.specs.declared.refusal.Refusal.{Refusal}
-use Rattle.call_pilot.specs.declared.refusal.Refusal.TheVariants as refusal
-use Rattle.call_pilot.specs.declared.stop.Stop.TheVariants as stop
+use Rattle.call_files.specs.Said.{of_timings}
+use Rattle.call_files.specs.Stops.{timing_stop}
+use Rattle.call_files.specs.declared.refusal.Refusal.{Refusal}
+use Rattle.call_files.specs.declared.refusal.Refusal.TheVariants as refusal
+use Rattle.call_files.specs.declared.stop.Stop.TheVariants as stop
 use Rattle.call_study.specs.{Answers.Answers, Ends.Gives}
 use Rattle.call_load.specs.Halts.{End}
 use Rattle.call_load.specs.{Reading.of_place, declared.halt.Halt.Halt}

@@ -15,7 +15,7 @@ use Rattle.call_tables.specs.Settled.{settle_answer}
 use Rattle.call_verdicts.specs.{Faults.faults_answer, Verdicts.verdicts_answer}
 use Rattle.call_study.specs.{Linted.lint_answer, Settled.failing_answer, Settled.trees_answer}
 use Rattle.call_ask.specs.declared.ask.Table.TheVariants as table
-use Rattle.call_pilot.specs.{Files.contents, declared.stop.File.File}
+use Rattle.call_files.specs.{Files.contents, declared.stop.File.File}
 use Rattle.call_load.specs.{Halts.End, declared.halt.Halt.Halt}
 use Rattle.call_ask.specs.declared.ask.Form.TheVariants as form
 use Rattle.call_study.specs.Pictures.{IsBandsText, IsDataText, IsDumpText, IsRunText}

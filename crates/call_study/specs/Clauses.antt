@@ -3,9 +3,9 @@ use Rattle.std.specs.Prelude.{◌≡◌, ◌⊎◌, ◌<◌, ℕ, List, Option, 
 use Rattle.std.specs.Io.KnownBytes.{Appends}
 use Rattle.base_store.specs.{Counts.Rose, Sink.GrewByPart, Sink.GrewByProper}
 use Rattle.call_answer.specs.Sinks.{GrewByAll, SinkView}
-use Rattle.call_pilot.specs.Files.{AllTold, NoneRose, StoreCause}
-use Rattle.call_pilot.specs.declared.stop.File.{File}
-use Rattle.call_pilot.specs.declared.stop.Stop.TheVariants as stop
+use Rattle.call_files.specs.Files.{AllTold, NoneRose, StoreCause}
+use Rattle.call_files.specs.declared.stop.File.{File}
+use Rattle.call_files.specs.declared.stop.Stop.TheVariants as stop
 use Rattle.call_load.specs.declared.halt.Halt.TheVariants as halt
 use Rattle.call_study.specs.{Answers.answers, Ends.WithSomeStatus}
 use Rattle.call_load.specs.{Halts.End, Halts.IsAnswer}

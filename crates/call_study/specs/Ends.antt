@@ -3,9 +3,9 @@ use Rattle.std.specs.Prelude.{◌≡◌, ℕ, List, [], Option, Result, Ok, Err,
 use Rattle.base_store.specs.{Counts.Rose, Sink.GrewByProper, Store.SameCounts}
 use Rattle.call_answer.specs.{declared.done.Done.Done, declared.said.Said.Said}
 use Rattle.call_answer.specs.Sinks.{GrewByAll, SinkView}
-use Rattle.call_pilot.specs.Files.{AllTold, NamedFile, StoreCause, contents}
-use Rattle.call_pilot.specs.declared.stop.{File.File}
-use Rattle.call_pilot.specs.declared.stop.Stop.TheVariants as stop
+use Rattle.call_files.specs.Files.{AllTold, NamedFile, StoreCause, contents}
+use Rattle.call_files.specs.declared.stop.{File.File}
+use Rattle.call_files.specs.declared.stop.Stop.TheVariants as stop
 use Rattle.call_study.specs.Answers.{Answers}
 use Rattle.call_load.specs.{Halts.End, declared.halt.Halt.Halt}
 use Rattle.call_load.specs.declared.halt.Halt.TheVariants as halt

@@ -16,8 +16,8 @@ use crate::read::{bands, play, recheck, table, timings};
 use base_store::{Sink, Store, put_all};
 use call_answer::{Done, Said};
 use call_ask::{Ask, Source, Work};
+use call_files::{File, fetch_file};
 use call_load::{Bytes, Halt, put_halt};
-use call_pilot::{File, fetch_file};
 use std::alloc::Global;
 
 /// Does what is asked for over the store, with its text on `out` and, where there is none, one

@@ -5,8 +5,9 @@ use Rattle.model_line.specs.{declared.line.Line.Line, declared.script.Script.Scr
 use Rattle.cert_settle.specs.Check.{IsAccepted, IsSettleFault}
 use Rattle.cert_settle.specs.declared.fault.SettleFault.{SettleFault}
 use Rattle.cert_settle.specs.declared.fault.SettleFault.TheVariants as fault
-use Rattle.call_answer.specs.Checked.{line_pieces, outside_pieces, passes_pieces, place}
-use Rattle.call_answer.specs.{Checked.IsCheckedText, Answers.Answers}
+use Rattle.call_engine.specs.Checked.{line_pieces, outside_pieces, passes_pieces, place}
+use Rattle.call_engine.specs.Checked.{IsCheckedText}
+use Rattle.call_answer.specs.Answers.{Answers}
 
 -- `rejected` and the fault; want of memory is none
 abbrev pub rejected_pieces : Line → List Script → SettleFault → List (List ℕ)

@@ -3,11 +3,12 @@
 ghost use Rattle.std.specs.Prelude.{◌≡◌, ◌≢◌, IfOk};
 ghost use Rattle.std.specs.List.{concat};
 ghost use Rattle.cert_settle.specs.declared.fault.SettleFault.{SettleFault};
-ghost use Rattle.call_answer.specs.{Answers.Says, Checked.line_pieces, Study.IsStudy};
+ghost use Rattle.call_answer.specs.{Answers.Says, Study.IsStudy};
+ghost use Rattle.call_engine.specs.Checked.{line_pieces};
 ghost use Rattle.call_tables.specs.Recheck.{recheck_answer, rejected_pieces};
 
-use call_answer::checked::{accepted_text, place, rejected_outside, rejected_passes};
 use call_answer::{Said, Study, text_of};
+use call_engine::checked::{accepted_text, place, rejected_outside, rejected_passes};
 use cert_settle::{SettleFault, check_settle};
 use itoa::Buffer;
 use model_line::Memory;

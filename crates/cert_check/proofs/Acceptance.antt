@@ -11,7 +11,7 @@ use Rattle.cert_text.specs.Grammar.{Claims}
 use Rattle.cert_check.specs.declared.claim.ClaimFault.{ClaimFault}
 use Rattle.cert_check.specs.declared.claim.ClaimFault.TheVariants.{NotCovered, NotHeld, No}
 use Rattle.cert_check.specs.declared.claim.ClaimFault.TheVariants.{Memory}
-use Rattle.cert_check.specs.Claims.{AreGateWaves, declared_world, pairs_of}
+use Rattle.run_derived.specs.Claims.{AreGateWaves, declared_world, pairs_of}
 use Rattle.cert_check.specs.Verdicts.{IsVerdictFault, IsFirstFault, AreSupported, AreAccepted}
 
 -- the wave of a gate has the pairs of its tree

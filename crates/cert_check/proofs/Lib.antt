@@ -1,6 +1,3 @@
-pub mod Waves
-pub mod GateLaws
-pub mod Firsts
 pub mod HeldRules
 pub mod Refutations
 pub mod Acceptance
@@ -8,4 +5,3 @@ pub mod Refusal
 pub mod FirstVerdicts
 pub mod OneFault
 pub mod OneCheckFault
-pub mod StretchLaws

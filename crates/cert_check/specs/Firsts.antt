@@ -1,11 +1,5 @@
--- The first of several numbers, and of several things.
+-- The first of several things that is wrong.
 use Rattle.std.specs.Prelude.{◌≡◌, ◌<◌, ℕ, List, Some, slice_get}
-
--- n is the first number below `count` of which the fact does not hold
-pub record IsFirstFailing (fact : ℕ → Type 0) (count n : ℕ) : Type 0 where
-  pub inside : n < count
-  pub fails : ¬ (fact n)
-  pub before : (i : ℕ) → i < n → fact i
 
 -- this holds of each of the first of several, so many
 abbrev pub EachOf : {X : Type 0} → (ℕ → X → Type 0) → List X → ℕ → Type 0

@@ -1,5 +1,4 @@
 pub mod Check
-pub mod Claims
 pub mod Counts
 pub mod CountLaws
 pub mod Firsts
@@ -8,5 +7,3 @@ pub mod Refutations
 pub mod ScriptLaws
 pub mod Scripts
 pub mod Verdicts
-pub mod Stretches
-pub mod ZipLaws

@@ -8,7 +8,7 @@ use Rattle.model_logic.specs.Histories.{History, IsLineHistory, Meets}
 use Rattle.model_logic.specs.Choice.{Choice, IsIn}
 use Rattle.model_timing.specs.{Timing.TimingValues, Inside.IsTimingInside, Choice.timing_choice}
 use Rattle.run_waves.specs.FirstTick.{IsFirstOnAt, IsOffFrom}
-use Rattle.cert_check.specs.Firsts.{IsFirstFailing}
+use Rattle.run_derived.specs.Firsts.{IsFirstFailing}
 
 -- one number for each parameter: a timing whose delays stay as they are
 abbrev pub steady_timing : List ℕ → TimingValues

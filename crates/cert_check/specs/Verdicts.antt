@@ -4,8 +4,7 @@ use Rattle.model_history.specs.Rails.{Rails, RailsCover}
 use Rattle.run_signal.specs.Terns.{tern_rails}
 use Rattle.model_logic.specs.Choice.{Choice, IsInside, declared_box}
 use Rattle.model_logic.specs.Histories.{AreCovered, History, IsLineHistory, Meets}
-use Rattle.model_logic.specs.PairMean.{PairSignals, pair_mean}
-use Rattle.model_logic.specs.Logic.{key_tree, trip_tree}
+use Rattle.model_logic.specs.PairMean.{PairSignals}
 use Rattle.model_logic.specs.Rule.{Held, rule_of}
 use Rattle.model_line.specs.{declared.line.Line.Line, declared.script.Script.Script}
 use Rattle.model_line.specs.Parameters.{terminal_count}
@@ -14,21 +13,13 @@ use Rattle.cert_check.specs.declared.claim.ClaimFault.{ClaimFault}
 use Rattle.cert_check.specs.declared.claim.ClaimFault.TheVariants.{NotCovered, NotHeld, No}
 use Rattle.cert_check.specs.declared.claim.ClaimFault.TheVariants.{Memory}
 use Rattle.cert_check.specs.declared.no.NoFault.{NoFault}
-use Rattle.cert_check.specs.Claims.{declared_world, pairs_of}
+use Rattle.run_derived.specs.Claims.{pairs_of}
 use Rattle.cert_check.specs.{NoFaults.IsNoFault, Refutations.IsRefutation}
-use Rattle.cert_check.specs.{declared.claim.Uncovered.Uncovered, Firsts.IsFirstFailing}
+use Rattle.cert_check.specs.declared.claim.Uncovered.{Uncovered}
+use Rattle.run_derived.specs.Firsts.{IsFirstFailing}
 use Rattle.cert_check.specs.Firsts.{IsWrongFirst}
 
 -- ---- keys
-
--- what follows from the claims for each terminal's key, and for its trip
-abbrev pub derived_key : Line → Script → PairSignals → PairSignals
-derived_key line script claims k t =
-    pair_mean (declared_world line script) claims (key_tree line k) t
-
-abbrev pub derived_trip : Line → Script → PairSignals → PairSignals
-derived_trip line script claims k t =
-    pair_mean (declared_world line script) claims (trip_tree line k) t
 
 -- terminal k's claim covers what follows for its key at tick t
 abbrev pub IsCovered : Line → Script → PairSignals → ℕ → ℕ → Type 0

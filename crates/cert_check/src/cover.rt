@@ -1,20 +1,17 @@
 //! Whether claimed keys cover what follows from them.
 
-ghost use Rattle.std.specs.Prelude.{◌≡◌, ◌<◌, ℕ, length, MatchOption};
-ghost use Rattle.model_history.specs.Rails.{RailsCover};
+ghost use Rattle.std.specs.Prelude.{length, MatchOption};
 ghost use Rattle.model_line.specs.{declared.script.Script.Script, Parameters.terminal_count};
 ghost use Rattle.model_logic.specs.{Choice.declared_box, Histories.AreCovered};
 ghost use Rattle.net_gates.specs.NetOf.{IsNetOf};
-ghost use Rattle.run_waves.specs.Waves.{wave_at, AreWaves};
-ghost use Rattle.cert_check.specs.Claims.{AreGateWaves, pairs_of};
-ghost use Rattle.cert_check.specs.{Firsts.IsFirstFailing, Verdicts.IsFirstUncovered};
+ghost use Rattle.run_waves.specs.Waves.{AreWaves};
+ghost use Rattle.run_derived.specs.Claims.{AreGateWaves, pairs_of};
+ghost use Rattle.cert_check.specs.{Verdicts.IsFirstUncovered};
 
 use crate::claim::Uncovered;
-use crate::gate::nth;
-use model_history::rails_laws::covering_is_an_order;
 use model_line::Line;
 use net_gates::Net;
-use run_signal::covers;
+use run_derived::{first_uncovered_tick, nth};
 use run_waves::Runs;
 
 /// The first terminal, and in it the first tick, where the claimed key does not cover that of the
@@ -41,32 +38,6 @@ pub fn first_uncovered(line: &Line, net: &Net, keys: &[Runs], waves: &[Runs]) ->
                 derived: derived.at(tick),
             });
         }
-    }
-    None
-}
-
-/// The first tick at which one wave does not cover the other.
-pub fn first_uncovered_tick(wide: &Runs, narrow: &Runs) -> Option<u32>
-    requires { length narrow.now ≡ length wide.now }
-    ensures { MatchOption result
-        ((t : ℕ) → t < length wide.now → RailsCover (wave_at wide.now t) (wave_at narrow.now t))
-        (λ t. IsFirstFailing (λ r. RailsCover (wave_at wide.now r) (wave_at narrow.now r))
-        (length wide.now) t) }
-{
-    covering_is_an_order();
-    if wide.is_like(narrow) {
-        return None;
-    }
-    let mut wides = wide.cursor();
-    let mut narrows = narrow.cursor();
-    let mut t = 0;
-    'stretches: while t < wide.len() {
-        let first = wides.stretch(t);
-        let second = narrows.stretch(t);
-        if !covers(first.level, second.level) {
-            return Some(t);
-        }
-        t = first.end.min(second.end);
     }
     None
 }

@@ -9,15 +9,13 @@ ghost use Rattle.net_gates.specs.NetOf.{IsNetOf};
 ghost use Rattle.run_waves.specs.Waves.{wave_at, AreWaves};
 ghost use Rattle.cert_text.specs.Grammar.{HasNumbers, claims_in, verdict_in};
 ghost use Rattle.cert_text.specs.Text.{CanBeWritten};
-ghost use Rattle.cert_check.specs.Claims.{AreGateWaves};
+ghost use Rattle.run_derived.specs.Claims.{AreGateWaves};
 ghost use Rattle.cert_check.specs.Verdicts.{IsSupported, IsFaultOf, AreSound, IsVerdictFault};
 ghost use Rattle.cert_check.specs.Verdicts.{AreSupported, AreAccepted, IsFirstFault};
 
 use crate::claim::ClaimFault;
 use crate::cover::first_uncovered;
-use crate::gate::nth;
 use crate::held::is_held;
-use crate::net_waves::gate_waves;
 use crate::no::check_no;
 use cert_text::{Claim, ScriptClaims};
 use model_line::laws::deadlines_are_below_the_horizon;
@@ -27,6 +25,7 @@ use model_logic::laws::{
     the_rule_speaks_for_what_is_covered,
 };
 use net_gates::Net;
+use run_derived::{gate_waves, nth};
 use run_waves::Runs;
 use std::alloc::Global;
 

@@ -15,7 +15,7 @@ use Rattle.cert_check.specs.{declared.counts.Counts.Counts, declared.fault.Check
 use Rattle.cert_check.specs.declared.fault.CheckFault.TheVariants as wrong
 use Rattle.cert_check.specs.Check.{IsAccepted, IsCheckFault}
 use Rattle.cert_check.specs.Counts.{AreCounts, all_verdicts, counts_in, are_counts}
-use Rattle.cert_check.specs.ZipLaws.{zip_all, zip_each, zip_exists, zip_once}
+use Rattle.model_history.specs.ZipLaws.{zip_all, zip_each, zip_exists, zip_once}
 use Rattle.cert_check.specs.Verdicts.{AreAccepted}
 use Rattle.cert_own.specs.{Certified.AreCertified, Certified.IsCertified, Known.Known}
 use Rattle.cert_own.proofs.Accepted.{accepted, can_be_written}

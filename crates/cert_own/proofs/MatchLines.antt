@@ -21,7 +21,8 @@ use Rattle.model_timing.specs.Candidates.{candidate, candidate_count}
 use Rattle.model_timing.specs.{Choice.timing_choice, Timing.TimingValues}
 use Rattle.base_lines.specs.{Lines.BeginsWith, Lines.is_one_line}
 use Rattle.base_lines.specs.NamedLaws.{decimal_whole, whole_append}
-use Rattle.cert_text.specs.Grammar.{numbers_text, spaced, terminal_names}
+use Rattle.base_lines.specs.SpacedNumbers.{numbers_text, spaced}
+use Rattle.cert_text.specs.Grammar.{terminal_names}
 use Rattle.cert_text.specs.NameLaws.{name_whole, names_count}
 use Rattle.cert_text.specs.NumberLaws.{numbers_tell, numbers_whole}
 use Rattle.run_rows.specs.PlayRows.{level_word}
@@ -38,7 +39,8 @@ use Rattle.cert_own.specs.Matched.{IsGivenBy, Matched, explained, impossible, un
 use Rattle.cert_own.specs.Matched.{matched_words}
 use Rattle.cert_own.specs.WholeLines.{whole_lines}
 use Rattle.cert_own.proofs.CertificateLines.{all_plain, names_plain, names_tell}
-use Rattle.cert_own.specs.LineLaws.{all_at, first_whole, front_whole}
+use Rattle.model_history.specs.ListLaws.{all_at}
+use Rattle.cert_own.specs.LineLaws.{first_whole, front_whole}
 use Rattle.cert_own.proofs.Truth.{same_choice}
 
 -- what is settled of a record, as its line says it

@@ -4,7 +4,7 @@ use Rattle.std.proofs.Common.{arith}
 use Rattle.std.specs.Prelude.{slice_get}
 use Rattle.model_line.specs.{declared.line.Line.Line, declared.script.Script.Script}
 use Rattle.model_timing.specs.Timing.{TimingValues}
-use Rattle.cert_check.specs.ZipLaws.{zip_once}
+use Rattle.model_history.specs.ZipLaws.{zip_once}
 use Rattle.judge_split.specs.declared.node.Outcome.{Outcome}
 use Rattle.judge_split.specs.declared.node.Outcome.TheVariants as outcome
 use Rattle.judge_split.specs.{Trees.preorder, Search.Tree, Search.Fails, Found.IsFound}

@@ -12,7 +12,7 @@ use Rattle.cert_own.specs.Certified.{AreCertified, IsCertified}
 use Rattle.cert_own.specs.Obligations.{AllMet, HoldsAsCertified, HoldsSomewhere}
 use Rattle.cert_own.specs.Obligations.{IsFailedBySome}
 use Rattle.cert_own.specs.Obligations.{IsUnknown}
-use Rattle.cert_own.specs.LineLaws.{all_at}
+use Rattle.model_history.specs.ListLaws.{all_at}
 
 -- ---- lists
 

@@ -1,23 +1,14 @@
 -- Laws of whole lines: the first one, those of a front, and what is so of each line under a script.
-use Rattle.std.proofs.Common.{◌≡◌, ℕ, zero, suc, Some, Bool, true, false, cond, not, List, [], ◌∷◌}
+use Rattle.std.proofs.Common.{◌≡◌, ℕ, Bool, true, false, cond, not, List, [], ◌∷◌}
 use Rattle.std.proofs.Common.{◌++◌}
 use Rattle.std.proofs.Common.{refl, sym, ◌∙◌, ap, subst, append_assoc}
 use Rattle.std.proofs.lemmas.List.{append-nil}
 use Rattle.std.proofs.lemmas.List.Elements.{All-head, All-tail}
-use Rattle.std.proofs.lemmas.Option.{same_Some}
-use Rattle.std.specs.Prelude.{slice_get}
 use Rattle.std.specs.List.{All}
 use Rattle.base_lines.specs.Lines.{BeginsWith, is_feed, is_no_feed, is_one_line}
 use Rattle.base_lines.specs.LineLaws.{both_true}
 use Rattle.cert_text.specs.Grammar.{script_text}
 use Rattle.cert_own.specs.WholeLines.{IsScriptLine, StandsUnder, lines_from, whole_lines}
-
--- what holds of all holds of the one at a place
-pub all_at : {X : Type 0} (P : X → Type 0) (xs : List X) (i : ℕ) (x : X) → All P xs
-    → slice_get xs i ≡ Some x → P x
-all_at P [] i x all at = absurd (cc)
-all_at P (y ∷ xs) zero x all at = subst P (same_Some y x at) (All-head P y xs all)
-all_at P (y ∷ xs) (suc i) x all at = all_at P xs i x (All-tail P y xs all) at
 
 no_feed : (o : Bool) → not o ≡ true → o ≡ false
 no_feed true e = absurd (cc)

@@ -18,4 +18,3 @@ pub mod OneTree
 pub mod OneFault
 pub mod OneSettleFault
 pub mod TimingFaults
-pub mod Told

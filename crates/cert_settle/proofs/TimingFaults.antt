@@ -1,7 +1,8 @@
 -- What a run at a timing shows of an obligation, and what is wrong with the timing of a `no`.
 use Rattle.std.proofs.Common.{◌≡◌, ℕ, suc, ◌<◌, ◌≤◌, Bool, List, Option, Some, None, sym, ◌∙◌}
-use Rattle.std.proofs.Common.{arith, ap, get_or, true, false}
+use Rattle.std.proofs.Common.{arith, ap, get_or}
 use Rattle.std.specs.Prelude.{MatchOption}
+use Rattle.model_history.specs.TruthLaws.{not_both}
 use Rattle.model_line.specs.declared.script.Kind.TheVariants.{Internal, External}
 use Rattle.model_line.specs.{declared.line.Line.Line, declared.script.Kind.Kind}
 use Rattle.model_line.specs.{declared.script.Script.Script, Parameters.terminal_count}
@@ -9,15 +10,12 @@ use Rattle.model_line.specs.Parameters.{param_count}
 use Rattle.model_logic.specs.Histories.{History, IsLineHistory, IsSameHistory, MeetsBy}
 use Rattle.model_timing.specs.{Timing.TimingValues, Inside.IsTimingInside, Choice.timing_choice}
 use Rattle.run_waves.specs.FirstTick.{IsFirstOnAt}
-use Rattle.cert_check.specs.{Firsts.IsFirstFailing, ScriptLaws.same_number}
+use Rattle.run_derived.specs.Firsts.{IsFirstFailing}
+use Rattle.cert_check.specs.ScriptLaws.{same_number}
 use Rattle.cert_check.specs.Refutations.{IsMetAt, IsNumberIn, IsFirstOutside}
 use Rattle.cert_check.specs.declared.no.NoFault.{NoFault}
 use Rattle.cert_check.specs.declared.no.NoFault.TheVariants.{Outside, Passes}
 use Rattle.cert_settle.specs.Timings.{FailsAt, PassesAt, IsMetInside, IsNoFault, IsRefutation}
-
--- a level is one
-not_both : (b : Bool) → b ≡ false → b ≡ true → ⊥
-not_both b off on = let both : true ≡ false = sym on ∙ off in absurd (cc)
 
 -- ---- trips that are the same over the run
 

@@ -5,7 +5,7 @@ ghost use Rattle.model_line.specs.{declared.line.Line.Line, declared.script.Scri
 ghost use Rattle.model_line.specs.{Parameters.terminal_count, Parameters.param_count, Fits.Fits};
 ghost use Rattle.net_gates.specs.NetOf.{IsNetOf};
 ghost use Rattle.model_timing.specs.{Inside.IsTimingInside, Timing.TimingValues};
-ghost use Rattle.cert_check.specs.Firsts.{IsFirstFailing};
+ghost use Rattle.run_derived.specs.Firsts.{IsFirstFailing};
 ghost use Rattle.cert_check.specs.Refutations.{IsNumberIn};
 ghost use Rattle.cert_check.specs.declared.no.NoFault.{NoFault};
 ghost use Rattle.cert_settle.specs.Grammar.{AreTiming};

@@ -5,4 +5,3 @@ pub mod FirstVerdicts
 pub mod OneTree
 pub mod OneFault
 pub mod OneSplitFault
-pub mod Told

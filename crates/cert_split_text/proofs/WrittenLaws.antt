@@ -11,7 +11,8 @@ use Rattle.model_history.specs.Rails.{Ends}
 use Rattle.model_line.specs.{declared.line.Line.Line, declared.script.Script.Script}
 use Rattle.model_line.specs.{Parameters.param_count, Fits.Fits}
 use Rattle.model_logic.specs.Choice.{Box, declared_box}
-use Rattle.cert_text.specs.Grammar.{script_text, end_text, terminal_names, numbers_text, no_words}
+use Rattle.cert_text.specs.Grammar.{script_text, end_text, terminal_names, no_words}
+use Rattle.base_lines.specs.SpacedNumbers.{numbers_text}
 use Rattle.cert_text.specs.Text.{fed}
 use Rattle.judge_split.specs.declared.node.Node.{Node}
 use Rattle.judge_split.specs.declared.node.Node.TheVariants as node

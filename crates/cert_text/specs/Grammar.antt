@@ -1,12 +1,13 @@
 -- The text of a certificate: the lines that one of a line's scripts has, and what each can say.
-use Rattle.std.specs.Prelude.{◌≡◌, ◌<◌, ◌^◌, ◌++◌, ℕ, List, [], ◌∷◌, length, map, codes, decimal}
+use Rattle.std.specs.Prelude.{◌≡◌, ◌<◌, ◌^◌, ◌++◌, ℕ, List, [], ◌∷◌, length, map, codes}
 use Rattle.std.specs.Prelude.{refl}
-use Rattle.std.specs.List.{All, flat_map}
+use Rattle.std.specs.List.{All}
 use Rattle.run_signal.specs.declared.tern.Tern.{Tern}
 use Rattle.model_line.specs.Parameters.{terminal_count, param_count}
 use Rattle.model_line.specs.{declared.line.Line.Line, declared.script.Script.Script}
 use Rattle.run_waves.specs.Text.{runs_text}
 use Rattle.base_lines.specs.{Named.named, declared.fault.TextFault.TextFault}
+use Rattle.base_lines.specs.SpacedNumbers.{numbers_text}
 use Rattle.base_lines.specs.Grammar.{Grammar, IsFixed, Parts, IsText, LeavesText, IsTextFault}
 use Rattle.cert_text.specs.declared.claim.Claim.TheVariants.{Yes, No, Undecided}
 use Rattle.cert_text.specs.{declared.claim.Claim.Claim, declared.claim.ScriptClaims.ScriptClaims}
@@ -68,13 +69,6 @@ pub data Said : Type 0 where
 -- `key NAME RUNS`
 abbrev pub key_text : List ℕ → List Tern → List ℕ
 key_text name wave = named (codes "key") name (runs_text wave)
-
--- each number after one space
-abbrev pub spaced : ℕ → List ℕ
-spaced number = codes " " ++ decimal number
-
-abbrev pub numbers_text : List ℕ → List ℕ
-numbers_text numbers = flat_map spaced numbers
 
 -- `no` and its numbers
 abbrev pub no_words : List ℕ → List ℕ

@@ -1,10 +1,9 @@
 -- Laws of numbers in a row, each after one space: their text tells them, and has no line feed.
 use Rattle.std.proofs.Common.{◌≡◌, ℕ, ◌+◌, ◌<◌, ◌^◌, true, cond, not, List, [], ◌∷◌, ◌++◌, length}
-use Rattle.std.proofs.Common.{take, drop, get_or, refl, sym, ◌∙◌, ap, arith, decimal, Some, ne_eqb}
+use Rattle.std.proofs.Common.{take, drop, refl, sym, ◌∙◌, ap, arith, decimal, Some, ne_eqb}
 use Rattle.std.proofs.Common.{inl, inr}
 use Rattle.std.proofs.lemmas.Bool.Decides.{leb_tells}
-use Rattle.std.proofs.lemmas.List.Concat.{flat_map-append}
-use Rattle.std.proofs.lemmas.List.{append-nil, take_at, take_more, drop_at}
+use Rattle.std.proofs.lemmas.List.{take_at, drop_at}
 use Rattle.std.proofs.lemmas.Option.{same_Some}
 use Rattle.std.proofs.lemmas.List.Elements.{All-head, All-tail}
 use Rattle.std.specs.Prelude.{nat_le, ◌==◌}
@@ -14,17 +13,7 @@ use Rattle.base_store.specs.DecimalLaws.{are_digits, number_of-decimal}
 use Rattle.run_waves.specs.Text.{is_space}
 use Rattle.base_lines.specs.{Lines.is_one_line, LineLaws.both_true}
 use Rattle.base_lines.specs.NamedLaws.{whole_append, decimal_whole}
-use Rattle.cert_text.specs.Grammar.{spaced, numbers_text}
-
--- the text of one number more
-pub one_number_more : (numbers : List ℕ) (i d : ℕ) → i < length numbers
-    → numbers_text (take (i + 1) numbers)
-    ≡ numbers_text (take i numbers) ++ spaced (get_or numbers i d)
-one_number_more numbers i d inside =
-    ap numbers_text (take_more numbers i d inside)
-    ∙ flat_map-append spaced (take i numbers) (get_or numbers i d ∷ [])
-    ∙ ap (λ (l : List ℕ). numbers_text (take i numbers) ++ l)
-    (append-nil (spaced (get_or numbers i d)))
+use Rattle.base_lines.specs.SpacedNumbers.{spaced, numbers_text}
 
 -- ---- digits
 

@@ -17,7 +17,7 @@ pub use laws::{
     a_text_has_one_meaning, a_text_leaves_at_one_line, certificates_can_be_written,
     claims_have_one_text, printed_claims_are_a_certificate,
 };
-pub use print::{push_named, push_no, push_number, push_part, push_start};
+pub use print::{push_named, push_no, push_part, push_start};
 pub use read::{name_at, read_certificate};
 pub use ticks::numbers_of;
 pub use words::read_no;

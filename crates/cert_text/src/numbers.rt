@@ -1,9 +1,10 @@
 //! The numbers of a `no`, read.
 
-ghost use Rattle.std.specs.Prelude.{◌≡◌, ◌≢◌, ◌<◌, ◌^◌, ◌++◌, ℕ, List, Some, length, take};
-ghost use Rattle.std.specs.Prelude.{drop, IfOk, MatchOption};
+ghost use Rattle.std.specs.Prelude.{◌≡◌, ◌≢◌, ◌<◌, ◌^◌, ℕ, List, Some};
+ghost use Rattle.std.specs.Prelude.{IfOk, MatchOption};
 ghost use Rattle.std.specs.List.{All};
-ghost use Rattle.cert_text.specs.Grammar.{AreNumbers, numbers_text, spaced};
+ghost use Rattle.cert_text.specs.Grammar.{AreNumbers};
+ghost use Rattle.base_lines.specs.SpacedNumbers.{numbers_text};
 ghost use Rattle.cert_text.specs.Numbers.{BeginsNumber};
 
 use crate::print::push_numbers;

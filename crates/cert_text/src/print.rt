@@ -1,9 +1,10 @@
 //! A script's part of a certificate, printed.
 
-ghost use Rattle.std.specs.Prelude.{◌≡◌, ◌<◌, ◌++◌, ℕ, List, [], length, map, get_or, OnOk};
+ghost use Rattle.std.specs.Prelude.{◌≡◌, ◌<◌, ◌++◌, ℕ, List, [], length, map, OnOk};
 ghost use Rattle.model_line.specs.Parameters.{terminal_count};
 ghost use Rattle.base_lines.specs.Named.{named};
-ghost use Rattle.cert_text.specs.Grammar.{spaced, numbers_text, no_words, verdict_words};
+ghost use Rattle.base_lines.specs.SpacedNumbers.{numbers_text};
+ghost use Rattle.cert_text.specs.Grammar.{no_words, verdict_words};
 ghost use Rattle.cert_text.specs.Grammar.{verdict_in};
 ghost use Rattle.cert_text.specs.Grammar.{terminal_names, Place, Said, key_of, verdict_of};
 ghost use Rattle.cert_text.specs.Grammar.{says_key, says_verdict};
@@ -11,7 +12,7 @@ ghost use Rattle.cert_text.specs.Text.{fed, line_text, lines_text, part_text};
 
 use crate::claim::Claim;
 use crate::read::name_at;
-use itoa::Buffer;
+use base_lines::push_number;
 use model_line::{Line, Memory, Name, Script};
 use run_waves::{Runs, print_runs};
 use std::alloc::Global;
@@ -23,16 +24,6 @@ pub(crate) fn push_numbers(text: &mut Vec<u8>, numbers: &[u32]) -> Result<(), Me
     for number in numbers {
         push_number(text, *number)?;
     }
-    Ok(())
-}
-
-/// Appends a number after one space.
-pub fn push_number(text: &mut Vec<u8>, number: u32) -> Result<(), Memory>
-    ensures { OnOk result (text.new.items ≡ text.old.items ++ spaced number) }
-{
-    let mut digits = Buffer::new();
-    text.extend_from_slice(b" ")?;
-    text.extend_from_slice(digits.format(number).as_bytes())?;
     Ok(())
 }
 

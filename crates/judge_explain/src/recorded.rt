@@ -4,13 +4,13 @@ ghost use Rattle.std.specs.Prelude.{◌≡◌, ◌≤◌, ◌<◌, ℕ, IfOk, If
 ghost use Rattle.model_line.specs.declared.line.Line.{Line};
 ghost use Rattle.model_line.specs.Parameters.{terminal_count};
 ghost use Rattle.run_waves.specs.Waves.{AreWaves, wave_at};
-ghost use Rattle.cert_check.specs.Claims.{pairs_of};
-ghost use Rattle.judge_explain.specs.Changes.{changes as changes_of, StaysAround};
+ghost use Rattle.run_derived.specs.Claims.{pairs_of};
+ghost use Rattle.judge_explain.specs.Changes.{StaysAround};
 ghost use Rattle.judge_explain.specs.Asked.{AreLevels, AreRecorded, IsRecorded, level_in};
 
 use crate::changes::changes;
-use cert_check::nth;
 use model_line::{Line, Memory};
+use run_derived::nth;
 use run_signal::Signal;
 use run_waves::Runs;
 use std::alloc::Global;

@@ -5,10 +5,9 @@ use Rattle.std.proofs.Math.Nat.{mul-le-mul_right}
 use Rattle.std.proofs.lemmas.Nat.{div-mul-add, mod-mul-add}
 use Rattle.std.proofs.lemmas.Option.{slice_get_within}
 use Rattle.std.specs.Prelude.{slice_get}
-use Rattle.std.proofs.lemmas.Option.{get_or_from_slice_get}
-use Rattle.std.proofs.lemmas.List.Elements.{All-get_or}
-use Rattle.std.specs.List.{All, list_all, list_any}
+use Rattle.std.specs.List.{list_all, list_any}
 use Rattle.model_history.specs.ListLaws.{exists_at}
+use Rattle.model_history.specs.ListLaws.{all_at}
 use Rattle.model_line.specs.Parameters.{terminal_count}
 use Rattle.model_line.specs.{declared.line.Line.Line, declared.script.Script.Script, Fits.Fits}
 use Rattle.model_logic.specs.{Choice.Box, Choice.LeastFromOne, HeldOver.IsHeldOver}
@@ -43,13 +42,6 @@ held_named : (r : Rule) → is_held r ≡ true → rule_named r ≡ of_line.Held
 held_named rule.Held on = refl
 held_named rule.Broken on = absurd (cc)
 held_named rule.Unknown on = absurd (cc)
-
--- the fact of each element of a list
-all_at : {X : Type 0} (P : X → Type 0) (xs : List X) (i : ℕ) (x : X) → All P xs
-    → slice_get xs i ≡ Some x → P x
-all_at P xs i x all at =
-    subst P (get_or_from_slice_get xs i x x at)
-    (All-get_or P xs i x (slice_get_within xs i x at) all)
 
 module _ (known : Known) (line : Line) (scripts : List Script) (box : Box)
     (from_one : LeastFromOne line box) (cell : Cell) (is : IsCell line scripts box cell)

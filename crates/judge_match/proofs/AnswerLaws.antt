@@ -5,7 +5,7 @@ use Rattle.std.proofs.lemmas.List.{append-nil, map-append}
 use Rattle.std.proofs.lemmas.List.Folds.{concat-append}
 use Rattle.std.specs.List.{AllZip, concat, list_any}
 use Rattle.model_line.specs.{declared.line.Line.Line, declared.script.Script.Script}
-use Rattle.cert_check.specs.ZipLaws.{zip_push}
+use Rattle.model_history.specs.ZipLaws.{zip_push}
 use Rattle.judge_match.specs.Answer.{Head, IsHead, IsMatchAnswer, is_impossible, is_unsettled}
 use Rattle.judge_match.specs.Waves.{SeenValues}
 

@@ -1,18 +1,18 @@
 //! Where a record cannot be.
 
-ghost use Rattle.std.specs.Prelude.{◌≡◌, ◌<◌, ℕ, length, MatchOption};
+ghost use Rattle.std.specs.Prelude.{◌≡◌, ◌<◌, length, MatchOption};
 ghost use Rattle.model_line.specs.{declared.script.Script.Script, Parameters.terminal_count};
 ghost use Rattle.net_gates.specs.NetOf.{IsNetOf};
 ghost use Rattle.run_waves.specs.Waves.{AreWaves};
-ghost use Rattle.cert_check.specs.Claims.{AreGateWaves, pairs_of};
+ghost use Rattle.run_derived.specs.Claims.{AreGateWaves, pairs_of};
 ghost use Rattle.judge_match.specs.Signal.{IsSignalChecked};
 ghost use Rattle.judge_match.specs.{Seen.AreSeen, Clash.AllAllowed, Clash.IsTerminalAllowed};
 ghost use Rattle.judge_match.specs.{Clash.IsTerminalClash, Clash.IsFirstClash};
 
 use crate::seen::Seen;
-use cert_check::{first_uncovered_tick, nth};
 use model_line::Line;
 use net_gates::Net;
+use run_derived::{first_uncovered_tick, nth};
 use run_signal::{Signal, Tern};
 use run_waves::Runs;
 

@@ -1,6 +1,6 @@
 //! A record as tracks.
 
-ghost use Rattle.std.specs.Prelude.{◌≡◌, ◌≤◌, length, IfOk};
+ghost use Rattle.std.specs.Prelude.{length, IfOk};
 ghost use Rattle.model_line.specs.Parameters.{terminal_count};
 ghost use Rattle.model_logic.specs.Histories.{IsSameHistory};
 ghost use Rattle.run_waves.specs.Waves.{AreWaves};
@@ -9,9 +9,9 @@ ghost use Rattle.run_step.specs.{Ticks.AreSent, Ticks.HasKeys};
 ghost use Rattle.judge_match.specs.Seen.{AreSeen, IsAsSeen, AreAsSeen, seen_history};
 
 use crate::seen::Seen;
-use cert_check::nth;
 use model_line::{Line, Memory};
 use run_changes::Tracks;
+use run_derived::nth;
 use run_signal::{Level, Signal, Track};
 use run_waves::Runs;
 use std::alloc::Global;

@@ -12,10 +12,10 @@ use crate::clash::first_clash;
 use crate::giving::first_giving;
 use crate::laws::what_a_choice_gives_is_allowed;
 use crate::seen::{Match, Seen};
-use cert_check::gate_waves;
 use model_line::{Line, Memory, Script};
 use model_timing::{candidate, candidates_are_inside};
 use net_gates::Net;
+use run_derived::gate_waves;
 use std::alloc::Global;
 
 /// Settles a record of a script: impossible at the first place where what follows from the keys

@@ -1,12 +1,12 @@
 //! The line of what is settled of a record.
 
 ghost use Rattle.std.specs.Prelude.{◌≡◌, ◌++◌, ◌<◌, OnOk, IfOk};
-ghost use Rattle.cert_text.specs.Grammar.{numbers_text, spaced};
+ghost use Rattle.base_lines.specs.SpacedNumbers.{numbers_text, spaced};
 ghost use Rattle.judge_match.specs.MatchText.{IsWritten, match_line, match_words, clash_words};
 ghost use Rattle.judge_match.specs.MatchText.{signal_word as word_of_signal};
 
 use crate::seen::Match;
-use cert_text::push_number;
+use base_lines::push_number;
 use model_line::{Line, Memory, Script};
 use model_names::name_of_terminal;
 use run_rows::level_word;
@@ -99,5 +99,6 @@ fn push_values(text: &mut Vec<u8>, values: &[Tick]) -> Result<(), Memory>
 fn push_value(text: &mut Vec<u8>, value: Tick) -> Result<(), Memory>
     ensures { OnOk result (text.new.items ≡ text.old.items ++ spaced value) }
 {
-    push_number(text, value.value())
+    push_number(text, value.value())?;
+    Ok(())
 }

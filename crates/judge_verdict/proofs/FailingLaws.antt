@@ -2,6 +2,7 @@
 use Rattle.std.proofs.Common.{◌≡◌, ℕ, suc, ◌<◌, Bool, true, false, not, refl, sym, ◌∙◌, arith}
 use Rattle.std.specs.Prelude.{Decides}
 use Rattle.model_history.specs.{Elements.some_below, Rails.both}
+use Rattle.model_history.specs.TruthLaws.{not_both}
 use Rattle.model_line.specs.declared.script.Kind.TheVariants.{Internal, External}
 use Rattle.model_line.specs.{declared.line.Line.Line, declared.script.Script.Script}
 use Rattle.model_line.specs.{declared.script.Kind.Kind, Parameters.terminal_count}
@@ -9,9 +10,6 @@ use Rattle.model_logic.specs.Histories.{History, MeetsBy, Meets, IsSameHistory}
 use Rattle.judge_verdict.specs.Rules.{counted_ticks}
 use Rattle.model_logic.specs.{Laws.TheRuleIsTested, Rule.is_held}
 use Rattle.judge_verdict.specs.Candidates.{TellsFailing, looked_at}
-
-on_off : (b : Bool) → b ≡ true → b ≡ false → ⊥
-on_off b on off = let same : true ≡ false = sym on ∙ off in cc
 
 not_off : (b : Bool) → not b ≡ false → b ≡ true
 not_off true e = refl
@@ -29,7 +27,7 @@ not_not false = refl
 denial_tells : (failing test : Bool) (met : Type 0) → failing ≡ not test → Decides test met
     → TellsFailing failing met
 denial_tells failing test met is decides = record {
-  fails = λ on m. on_off test (decides.1 m) (not_on test (sym is ∙ on));
+  fails = λ on m. not_both test (not_on test (sym is ∙ on)) (decides.1 m);
   passes = λ off. decides.0 (not_off test (sym is ∙ off));
 }
 

@@ -2,10 +2,8 @@
 use Rattle.std.proofs.Common.{◌≡◌, ◌<◌, ℕ, Bool, true, false, refl, sym, ◌∙◌, arith, ⊎_elim}
 use Rattle.std.proofs.lemmas.Bool.{cases_lt, lt-ltb, le-ltb}
 use Rattle.std.specs.Prelude.{nat_lt, IsTrue, IsFalse}
+use Rattle.model_history.specs.TruthLaws.{not_both}
 use Rattle.model_history.specs.{Elements.some_below, Laws.TestsAreTheirFacts}
-
-on_and_off : (b : Bool) → b ≡ true → b ≡ false → ⊥
-on_and_off b on off = let same : true ≡ false = sym on ∙ off in cc
 
 never_on : (b : Bool) → (b ≡ true → ⊥) → b ≡ false
 never_on true never = absurd (never refl)
@@ -16,7 +14,7 @@ module _ (facts : TestsAreTheirFacts) (u : ℕ → Bool) (ticks : ℕ) where
   pub off_below : ((t : ℕ) → t < ticks → IsFalse (u t)) → false ≡ some_below u ticks
   off_below off =
       sym (never_on (some_below u ticks)
-      (λ on. let (t, early, here) = (facts.some u ticks).0 on in on_and_off (u t) here (off t early)))
+      (λ on. let (t, early, here) = (facts.some u ticks).0 on in not_both (u t) (off t early) here))
 
   -- on first at t
   pub on_first : (t : ℕ) → IsTrue (u t) → ((r : ℕ) → r < t → IsFalse (u r))

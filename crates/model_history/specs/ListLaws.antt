@@ -1,7 +1,18 @@
--- Elements of lists that grow, that are joined, or of which one is written.
+-- Elements of lists: what holds of each, and those of lists that grow, that are joined, or of which
+-- one is written.
 use Rattle.std.proofs.Common.{◌≡◌, ◌≢◌, ◌⊎◌, ◌<◌, ◌+◌, ℕ, zero, suc, List, [], ◌∷◌, ◌++◌, length, Some}
 use Rattle.std.proofs.Common.{refl, sym, ◌∙◌, ap, subst, arith, inl, inr, ⊎_elim}
+use Rattle.std.proofs.lemmas.List.Elements.{All-head, All-tail}
+use Rattle.std.proofs.lemmas.Option.{same_Some}
 use Rattle.std.specs.Prelude.{slice_get, slice_set}
+use Rattle.std.specs.List.{All}
+
+-- what holds of all holds of the one at a place
+pub all_at : {X : Type 0} (P : X → Type 0) (xs : List X) (i : ℕ) (x : X) → All P xs
+    → slice_get xs i ≡ Some x → P x
+all_at P [] i x all at = absurd (cc)
+all_at P (y ∷ xs) zero x all at = subst P (same_Some y x at) (All-head P y xs all)
+all_at P (y ∷ xs) (suc i) x all at = all_at P xs i x (All-tail P y xs all) at
 
 module _ {X : Type 0} where
   pub one_value : (xs : List X) (i j : ℕ) (a b : X) → i ≡ j → slice_get xs i ≡ Some a

@@ -1,9 +1,9 @@
 -- The exit status that each answer of the top call is.
 use Rattle.std.specs.Prelude.{ℕ}
-use Rattle.call_pilot.specs.declared.stop.Status.{Status}
-use Rattle.call_pilot.specs.declared.stop.Status.TheVariants.{Good, SomeNo, SomeUndecided, Rejected}
-use Rattle.call_pilot.specs.declared.stop.Status.TheVariants.{Usage, BadInput, StoreFault}
-use Rattle.call_pilot.specs.declared.stop.Status.TheVariants.{SinkFault, Memory}
+use Rattle.call_files.specs.declared.stop.Status.{Status}
+use Rattle.call_files.specs.declared.stop.Status.TheVariants.{Good, SomeNo, SomeUndecided, Rejected}
+use Rattle.call_files.specs.declared.stop.Status.TheVariants.{Usage, BadInput, StoreFault}
+use Rattle.call_files.specs.declared.stop.Status.TheVariants.{SinkFault, Memory}
 
 abbrev pub exit_number : Status → ℕ
 exit_number Good = 0

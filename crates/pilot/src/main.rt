@@ -6,8 +6,9 @@ ghost use Rattle.std.specs.Process.{exit_status};
 ghost use Rattle.pilot.specs.Exit.{exit_number};
 
 use base_store::{FileStore, StdSink};
-use call_answer::NetEngine;
-use call_pilot::{Status, pilot};
+use call_engine::NetEngine;
+use call_files::Status;
+use call_pilot::pilot;
 use std::io::ErrorKind;
 use std::process::ExitCode;
 use std::rt::Env;

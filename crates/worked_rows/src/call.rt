@@ -1,14 +1,18 @@
 //! A call of a program over files, and how it ends.
 
 use crate::change::{Change, changed};
+use crate::failing::{Failings, fail_store, failing_sink};
 use crate::fault::Fault;
 use crate::programs::call;
-use base_store::{FetchFault, MemorySink, MemoryStore, Sink, Store, fetch, put_all};
+use base_store::{FetchFault, MemoryStore, Sink, Store, fetch, put_all};
 use itoa::Buffer;
 use std::alloc::{AllocError, Global};
 
 /// The longest file that is read.
 pub const LONGEST: u32 = 4_194_304;
+
+// More than any text has.
+const LONGEST_TEXT: u32 = 4_194_304;
 
 // More than any line on standard error has.
 const LONGEST_MESSAGE: u32 = 400;
@@ -28,25 +32,37 @@ pub fn read_words(alloc: Global, line: &str) -> Result<Option<Vec<String>>, Allo
     Ok(Some(words))
 }
 
-/// Makes the call over the files, as the changes make them: its text goes to `out`, and then its line
-/// on standard error, behind `err: `, and its status.
+/// Makes the call over the files, as the changes make them, with a store and sinks that fail so: its
+/// text goes to `out`, and then its line on standard error, behind `err: `, and its status.
 pub fn make_call<F: Store, O: Sink>(
     alloc: Global,
     words: &[String],
     changes: &[Change],
+    failing: Failings,
     files: &mut F,
     out: &mut O,
 ) -> Result<(), Fault> {
     let mut store = store_of(alloc, words, changes, files)?;
-    let mut err = MemorySink::new(alloc, LONGEST_MESSAGE)?;
-    let status = call(alloc, words, &mut store, out, &mut err)?;
-    if !err.written().is_empty() {
-        put_all(out, b"err: ")?;
-        put_all(out, err.written())?;
+    fail_store(&mut store, failing.store)?;
+    let mut text = failing_sink(alloc, LONGEST_TEXT, failing.out)?;
+    let mut err = failing_sink(alloc, LONGEST_MESSAGE, failing.err)?;
+    let status = call(alloc, words, &mut store, &mut text, &mut err)?;
+    put_lines(out, b"", text.written())?;
+    put_lines(out, b"err: ", err.written())?;
+    put_lines(out, b"status ", Buffer::new().format(status).as_bytes())
+}
+
+// Puts what was written behind these words, if there is anything. Where it ends within a line, that
+// line is ended.
+fn put_lines<O: Sink>(out: &mut O, words: &[u8], written: &[u8]) -> Result<(), Fault> {
+    if written.is_empty() {
+        return Ok(());
     }
-    put_all(out, b"status ")?;
-    put_all(out, Buffer::new().format(status).as_bytes())?;
-    put_all(out, b"\n")?;
+    put_all(out, words)?;
+    put_all(out, written)?;
+    if !written.ends_with(b"\n") {
+        put_all(out, b"\n")?;
+    }
     Ok(())
 }
 

@@ -10,11 +10,11 @@ use thiserror::Error;
 pub enum Fault {
     #[error("the file `cases` cannot be read as a text")]
     Cases,
-    #[error("this line is no heading, no change and no call")]
+    #[error("this line is no heading, no change, no failing and no call")]
     Line,
     #[error("a change is of a file that the call does not name, or that is not there")]
     File,
-    #[error("no call comes after this change")]
+    #[error("no call comes after this line")]
     NoCall,
     #[error("the file is no text, or longer than 4194304 bytes")]
     Text,

@@ -8,7 +8,11 @@
 //!   one, which stands there once.
 //! - `throughout FILE: OLD -> NEW`: the same wherever the old text stands, at least once.
 //! - `fill FILE: BYTE -> LENGTH`: in the next call alone, the file is filled up with the byte.
-//! - `$ PROGRAM WORDS`: the call, its text, its line on standard error behind `err: `, its status.
+//! - `fail WHAT: NUMBER`, where WHAT is `store`, `out` or `err`: in the next call alone, the pull from
+//!   the store, or the push to standard output or error, of that number fails, from 1 on;
+//!   `refuse WHAT: NUMBER`: it takes nothing; `slow WHAT: NUMBER`: each moves at most so many bytes.
+//! - `$ PROGRAM WORDS`: the call, its text, its line on standard error behind `err: `, its status. A
+//!   text or line that was cut off within a line is ended by a line end of its own.
 //!
 //! Any other line, and a call with a change that cannot be made, ends the rows. They end at the line
 //! that was printed last.
@@ -16,6 +20,7 @@
 
 mod call;
 mod change;
+mod failing;
 mod fault;
 mod programs;
 mod rows;

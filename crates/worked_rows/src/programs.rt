@@ -3,19 +3,19 @@
 
 use crate::call::LONGEST;
 use crate::fault::Fault;
-use base_store::{MemorySink, MemoryStore, Sink, fetch, put_all};
-use call_answer::NetEngine;
+use base_store::{MemorySink, MemoryStore, fetch, put_all};
+use call_engine::NetEngine;
 use call_lint::{Linted, Names, lint_line, lint_study};
 use call_pilot::pilot;
 use std::alloc::Global;
 
 /// Makes a call of these words over the store, the first of which names the program, and gives its
 /// status.
-pub fn call<O: Sink>(
+pub fn call(
     alloc: Global,
     words: &[String],
     store: &mut MemoryStore,
-    out: &mut O,
+    out: &mut MemorySink,
     err: &mut MemorySink,
 ) -> Result<u8, Fault> {
     let Some((program, words)) = words.split_first() else {

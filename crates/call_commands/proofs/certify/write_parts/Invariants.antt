@@ -1,5 +1,5 @@
 use Rattle.std.proofs.Common.{Ok, take}
-use Rattle.call_answer.specs.Calls.{AskedVerdicts, NoneFell}
+use Rattle.call_engine.specs.Calls.{AskedVerdicts, NoneFell}
 use Rattle.call_commands.specs.PartWrites.{WritesParts}
 use Rattle.call_answer.specs.Sinks.{sink_view}
 use Rattle.call_commands.proofs.certify.write_parts.Given as goal

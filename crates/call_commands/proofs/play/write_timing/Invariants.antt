@@ -1,5 +1,5 @@
 use Rattle.std.proofs.Common.{ℕ, List}
-use Rattle.call_answer.specs.Calls.{AskedPlays}
+use Rattle.call_engine.specs.Calls.{AskedPlays}
 use Rattle.model_timing.specs.NamedValues.{values_of}
 use Rattle.call_commands.specs.{Play.IsRunText, Play.IsTimingText}
 use Rattle.call_answer.specs.Sinks.{sink_view}

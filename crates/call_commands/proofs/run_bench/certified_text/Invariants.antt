@@ -1,5 +1,5 @@
 use Rattle.std.proofs.Common.{take}
-use Rattle.call_answer.specs.Calls.{AskedVerdicts, NoneFell}
+use Rattle.call_engine.specs.Calls.{AskedVerdicts, NoneFell}
 use Rattle.call_commands.proofs.Benched.{IsBegun}
 use Rattle.call_commands.proofs.run_bench.certified_text.Given as goal
 

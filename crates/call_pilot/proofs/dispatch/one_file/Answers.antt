@@ -1,5 +1,5 @@
 use Rattle.std.proofs.lemmas.Result.{err_from_is_err_and}
-use Rattle.call_answer.specs.Calls.{Calls}
+use Rattle.call_engine.specs.Calls.{Calls}
 use Rattle.model_line.specs.declared.line.Line.{Line}
 use Rattle.file_line.specs.LineFiles.{line_of}
 use Rattle.call_answer.specs.Sinks.{sink_view}

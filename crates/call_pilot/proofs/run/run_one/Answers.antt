@@ -1,8 +1,9 @@
-use Rattle.call_answer.specs.Calls.{Calls}
+use Rattle.call_engine.specs.Calls.{Calls}
 use Rattle.call_pilot.specs.Call.{answer_by, asks_by}
-use Rattle.call_pilot.specs.{Reading.over_files, Words.named, Words.one_file}
+use Rattle.call_pilot.specs.{Reading.over_files, Words.one_file}
+use Rattle.call_files.specs.Files.{named}
 use Rattle.call_answer.specs.Sinks.{sink_view}
-use Rattle.call_pilot.specs.declared.stop.File.TheVariants as file
+use Rattle.call_files.specs.declared.stop.File.TheVariants as file
 use Rattle.call_pilot.proofs.{Fetching.ends_of_one, Fetching.told_one, Results.on_ok}
 use Rattle.call_pilot.proofs.run.run_one.Goals as goal
 

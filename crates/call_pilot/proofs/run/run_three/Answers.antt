@@ -1,7 +1,8 @@
 use Rattle.call_pilot.specs.Call.{answer_by, asks_by}
-use Rattle.call_pilot.specs.{Reading.over_files, Words.named, Words.own_file, Words.three_files}
+use Rattle.call_pilot.specs.{Reading.over_files, Words.own_file, Words.three_files}
+use Rattle.call_files.specs.Files.{named}
 use Rattle.call_answer.specs.Sinks.{sink_view}
-use Rattle.call_pilot.specs.declared.stop.File.TheVariants as file
+use Rattle.call_files.specs.declared.stop.File.TheVariants as file
 use Rattle.call_pilot.proofs.{Fetching.ends_of_three, Fetching.told_three, Results.on_ok}
 use Rattle.call_pilot.proofs.run.run_three.Goals as goal
 

@@ -7,7 +7,7 @@ use Rattle.call_study.specs.Answers.{answer_by}
 use Rattle.call_load.specs.{Loaded.given_of, Reading.timings_over}
 use Rattle.call_study.proofs.Reading.{given_read, given_refused, load_halts, none_placed, one_placed}
 use Rattle.call_study.proofs.Reading.{placed_at}
-use Rattle.cert_own.specs.LineLaws.{all_at}
+use Rattle.model_history.specs.ListLaws.{all_at}
 use Rattle.model_line.specs.Fits.{Fits}
 use Rattle.call_study.proofs.read.timings.Goals as goal
 

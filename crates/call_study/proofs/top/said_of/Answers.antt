@@ -1,7 +1,7 @@
 use Rattle.std.specs.Prelude.{◌∷◌}
 use Rattle.std.specs.Option.{option_copied}
-use Rattle.call_pilot.specs.{Files.NamedFile, Files.in_front, Words.named}
-use Rattle.call_pilot.specs.declared.stop.File.TheVariants as file
+use Rattle.call_files.specs.Files.{NamedFile, in_front, named}
+use Rattle.call_files.specs.declared.stop.File.TheVariants as file
 use Rattle.call_study.specs.{Answers.answer_by, Answers.answer_over}
 use Rattle.call_load.specs.Reading.{over_further}
 use Rattle.call_load.specs.Request.{Request, asked_of, files, files_beside, study}

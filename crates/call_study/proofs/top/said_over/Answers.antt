@@ -1,8 +1,8 @@
 use Rattle.std.specs.Prelude.{[], ℕ, List, Result}
-use Rattle.call_pilot.specs.declared.stop.File.{File}
+use Rattle.call_files.specs.declared.stop.File.{File}
 use Rattle.std.specs.Option.{option_copied}
-use Rattle.call_pilot.specs.{Files.NamedFile, Files.in_front, Words.named}
-use Rattle.call_pilot.specs.declared.stop.File.TheVariants as file
+use Rattle.call_files.specs.Files.{NamedFile, in_front, named}
+use Rattle.call_files.specs.declared.stop.File.TheVariants as file
 use Rattle.call_study.specs.{Answers.Answers, Answers.answer_by}
 use Rattle.call_load.specs.{Loaded.source_in, Reading.over_further}
 use Rattle.call_load.specs.Request.{explain as asked_explain, play as asked_play, recheck as asked_recheck}

@@ -1,6 +1,7 @@
 use Rattle.std.proofs.Common.{ℕ, ◌<◌}
 use Rattle.model_line.specs.declared.script.Script.{Script}
-use Rattle.cert_check.specs.{Claims.AreGateWaves, Claims.pairs_of, Verdicts.IsKeyCovered}
+use Rattle.run_derived.specs.Claims.{AreGateWaves, pairs_of}
+use Rattle.cert_check.specs.Verdicts.{IsKeyCovered}
 use Rattle.cert_check.proofs.cover.first_uncovered.Given as goal
 
 abbrev pub invariant-loop-k : goal.invariant-loop-k

@@ -1,6 +1,6 @@
 use Rattle.std.proofs.Common.{◌≤◌, ℕ, sym, ◌∙◌, arith, ⊎_elim}
 use Rattle.std.proofs.lemmas.Bool.{cases_lt, leb-true, le-leb}
-use Rattle.cert_check.proofs.Firsts.{not_both}
+use Rattle.model_history.specs.TruthLaws.{not_both}
 use Rattle.cert_check.proofs.held.comes_by.Goals as goal
 
 pub returns-in-Some : goal.returns-in-Some

@@ -4,7 +4,8 @@ use Rattle.run_waves.specs.Waves.{wave_at}
 use Rattle.cert_text.specs.{declared.claim.Claim.Claim, Grammar.verdict_in}
 use Rattle.cert_check.specs.declared.claim.ClaimFault.TheVariants.{NotHeld}
 use Rattle.cert_check.specs.Verdicts.{IsSupported, IsFaultOf}
-use Rattle.cert_check.proofs.{Firsts.not_both, HeldRules.held_same}
+use Rattle.model_history.specs.TruthLaws.{not_both}
+use Rattle.cert_check.proofs.HeldRules.{held_same}
 use Rattle.cert_check.proofs.script_check.check_claim.Goals as goal
 
 pub returns-then-is_held : goal.returns-then-is_held

@@ -7,7 +7,8 @@ use Rattle.model_logic.specs.Logic.{trip_tree}
 use Rattle.net_gates.specs.Formulas.{formula_of}
 use Rattle.cert_text.specs.declared.claim.Claim.{Claim}
 use Rattle.cert_text.specs.Grammar.{HasNumbers, Verdict, verdict_in}
-use Rattle.cert_check.specs.Verdicts.{IsSupported, derived_trip}
+use Rattle.cert_check.specs.Verdicts.{IsSupported}
+use Rattle.run_derived.specs.Claims.{derived_trip}
 use Rattle.cert_check.specs.ScriptLaws.{each_mapped, slice_mapped, one_more}
 use Rattle.cert_check.proofs.Acceptance.{tree_pairs}
 use Rattle.cert_check.proofs.script_check.check_verdicts.Goals as goal

@@ -7,7 +7,7 @@ use Rattle.cert_own.specs.Obligations.{HoldsAsAccepted}
 use Rattle.cert_own.specs.Printed.{HoldsOf}
 use Rattle.cert_own.proofs.CertificateLines.{names_plain, said_there, says_of}
 use Rattle.cert_own.proofs.Truth.{accepted_is_true}
-use Rattle.cert_own.specs.LineLaws.{all_at}
+use Rattle.model_history.specs.ListLaws.{all_at}
 use Rattle.cert_own.proofs.headline_laws.what_is_accepted_is_true.Goals as goal
 
 pub returns-clause-script : goal.returns-clause-script

@@ -1,13 +1,13 @@
 use Rattle.model_line.specs.Fits.{Fits}
 use Rattle.cert_text.specs.Text.{certificate_text}
-use Rattle.cert_check.specs.ZipLaws.{zip_each}
+use Rattle.model_history.specs.ZipLaws.{zip_each}
 use Rattle.cert_own.specs.Certified.{IsCertified}
 use Rattle.cert_own.specs.Obligations.{HoldsAsCertified}
 use Rattle.cert_own.specs.Printed.{HoldsOf}
 use Rattle.cert_own.proofs.CertificateLines.{names_plain, said_there, says_of}
 use Rattle.cert_own.proofs.Statuses.{all_met, some_failed, some_unknown}
 use Rattle.cert_own.proofs.Truth.{certified_is_true}
-use Rattle.cert_own.specs.LineLaws.{all_at}
+use Rattle.model_history.specs.ListLaws.{all_at}
 use Rattle.cert_own.proofs.headline_laws.what_is_certified_is_true.Goals as goal
 
 pub returns-clause-script : goal.returns-clause-script

@@ -1,5 +1,5 @@
 use Rattle.std.proofs.lemmas.Slice.Zip.{AllZip-long}
-use Rattle.cert_check.specs.ZipLaws.{zip_push}
+use Rattle.model_history.specs.ZipLaws.{zip_push}
 use Rattle.cert_own.specs.Certified.{IsCertified}
 use Rattle.cert_own.proofs.Certificates.{text_more}
 use Rattle.cert_own.proofs.laws.a_certificate_grows_by_parts.Goals as goal

@@ -1,5 +1,5 @@
 use Rattle.std.proofs.lemmas.Slice.Zip.{AllZip-long}
-use Rattle.cert_check.specs.ZipLaws.{zip_push}
+use Rattle.model_history.specs.ZipLaws.{zip_push}
 use Rattle.cert_own.specs.Searched.{AreSearched}
 use Rattle.cert_own.proofs.split_laws.what_is_searched_grows_by_parts.Goals as goal
 

@@ -3,7 +3,7 @@ use Rattle.std.specs.Prelude.{slice_get}
 use Rattle.model_line.specs.Fits.{Fits}
 use Rattle.cert_split_text.specs.Grammar.{HasOneEach, SplitResult}
 use Rattle.cert_split_check.proofs.ResultLaws.{supported_told}
-use Rattle.cert_split_check.proofs.Told.{all_at}
+use Rattle.model_history.specs.ListLaws.{all_at}
 use Rattle.cert_split_check.proofs.laws.accepted_split_trees_are_so.Goals as goal
 
 pub returns-clause-script : goal.returns-clause-script

@@ -1,5 +1,6 @@
 use Rattle.std.proofs.Common.{◌≡◌, ℕ, List, take, drop}
-use Rattle.cert_text.specs.Grammar.{numbers_text, AreNumbers}
+use Rattle.base_lines.specs.SpacedNumbers.{numbers_text}
+use Rattle.cert_text.specs.Grammar.{AreNumbers}
 use Rattle.cert_text.proofs.numbers.numbers_in.Given as goal
 
 -- of any numbers with this text the first are read

@@ -1,5 +1,5 @@
-use Rattle.std.proofs.Common.{◌≡◌, ◌∙◌, ap, subst, sym, refl, List, ℕ, Bool, length}
-use Rattle.cert_check.specs.Claims.{pairs_of}
+use Rattle.std.proofs.Common.{subst, sym, refl, List}
+use Rattle.run_derived.specs.Claims.{pairs_of}
 use Rattle.run_signal.specs.declared.tern.Tern.{Tern}
 use Rattle.run_waves.specs.Waves.{wave_at}
 use Rattle.judge_explain.specs.Asked.{IsRecorded}

@@ -5,7 +5,7 @@ use Rattle.run_signal.specs.SentKeys.{SentKeys}
 use Rattle.run_signal.specs.declared.level.Level.{Level}
 use Rattle.run_step.specs.Ticks.{HasKeys}
 use Rattle.run_waves.specs.Waves.{wave_at}
-use Rattle.cert_check.specs.Claims.{pairs_of}
+use Rattle.run_derived.specs.Claims.{pairs_of}
 use Rattle.judge_match.proofs.RecordedLaws.{sent_more, shown_more}
 use Rattle.judge_match.proofs.recorded.tracks_of.Goals as goal
 

@@ -1,6 +1,6 @@
-use Rattle.std.proofs.Common.{◌≡◌, ◌∙◌, subst, sym, List}
+use Rattle.std.proofs.Common.{subst, List}
 use Rattle.run_signal.specs.declared.tern.Tern.{Tern}
-use Rattle.cert_check.specs.Claims.{pairs_of}
+use Rattle.run_derived.specs.Claims.{pairs_of}
 use Rattle.judge_explain.specs.Asked.{AreRecorded}
 use Rattle.judge_explain.proofs.question.Question.new.Goals as goal
 

@@ -1,0 +1,122 @@
+//! The engine over nets.
+
+ghost use Rattle.std.specs.Prelude.{◌≡◌, ◌≤◌, IfOk, MatchResult, length};
+ghost use Rattle.std.specs.List.{All};
+ghost use Rattle.model_line.specs.Fits.{Fits};
+ghost use Rattle.model_logic.specs.Histories.{History, IsLineHistory};
+ghost use Rattle.net_gates.specs.NetOf.{IsNetOf};
+ghost use Rattle.run_rows.specs.PlayRows.{run_rows};
+ghost use Rattle.model_timing.specs.{Choice.timing_choice, Inside.IsTimingInside};
+ghost use Rattle.cert_check.specs.Check.{IsAccepted, IsCheckFault, IsSound};
+ghost use Rattle.call_engine.specs.Calls.{AskedCertify, AskedCheck, AskedPlay, NoneFell};
+ghost use Rattle.call_engine.specs.ScriptVerdicts.{IsScriptVerdict};
+ghost use Rattle.call_engine.specs.NetCalls.{after_certify, after_check, after_play, calls_of};
+
+use crate::engine::Engine;
+use cert_check::{CheckFault, Counts, check};
+use judge_verdict::{ScriptVerdict, certify};
+use model_line::{Line, Memory, Script};
+use model_timing::NamedTiming;
+use net_gates::Net;
+use run_rows::play_rows;
+use std::alloc::Global;
+use std::marker::Model;
+
+/// Passes each call on to the simulator, the certifier or the checker, and counts it for every line.
+#[derive(Drop)]
+pub struct NetEngine {
+    plays: u64,
+    certifies: u64,
+    checks: u64,
+}
+
+impl Model for NetEngine {
+    ghost use Rattle.call_engine.specs.NetCalls.{NetCalls};
+
+    ghost Value = { NetCalls };
+
+    ghost view = { λ e. record { plays = e.plays; certifies = e.certifies; checks = e.checks } };
+}
+
+impl NetEngine {
+    /// All counts at 0.
+    pub fn new() -> NetEngine
+        ensures { result ≡ record { plays = 0; certifies = 0; checks = 0 } }
+    {
+        NetEngine {
+            plays: 0,
+            certifies: 0,
+            checks: 0,
+        }
+    }
+}
+
+impl Engine for NetEngine {
+    ghost use Rattle.call_engine.specs.NetCalls.{calls_of};
+
+    ghost calls = { λ e. calls_of e };
+
+    fn play(
+        &mut self,
+        alloc: Global,
+        line: &Line,
+        net: &Net,
+        script: &Script,
+        timing: &NamedTiming,
+    ) -> Result<Vec<u8>, Memory>
+        requires of_line { IsNetOf line.now net.now }
+        requires inside { IsTimingInside line.now timing.now.timing }
+        ensures rows { IfOk result (λ text. (h : History) →
+            IsLineHistory line.now script.now (timing_choice line.now timing.now.timing) h →
+            text.items ≡ run_rows timing.now.name script.now.name line.now h) }
+        ensures asked { AskedPlay line.now (calls_of self.old) (calls_of self.new) }
+        ensures kept { NoneFell (calls_of self.old) (calls_of self.new) }
+
+        // Its own number is raised by one, and no other.
+        ensures counted { self.new ≡ after_play self.old }
+    {
+        self.plays = self.plays.saturating_add(1);
+        play_rows(alloc, line, net, script, timing)
+    }
+
+    fn certify(
+        &mut self,
+        alloc: Global,
+        line: &Line,
+        net: &Net,
+        script: &Script,
+    ) -> Result<ScriptVerdict, Memory>
+        requires of_line { IsNetOf line.now net.now }
+        requires fits { Fits line.now script.now }
+        ensures certified { IfOk result (λ said. IsScriptVerdict line.now script.now said) }
+        ensures asked { AskedCertify line.now (calls_of self.old) (calls_of self.new) }
+        ensures kept { NoneFell (calls_of self.old) (calls_of self.new) }
+        ensures counted { self.new ≡ after_certify self.old }
+    {
+        self.certifies = self.certifies.saturating_add(1);
+        certify(alloc, line, net, script)
+    }
+
+    fn check(
+        &mut self,
+        alloc: Global,
+        line: &Line,
+        net: &Net,
+        scripts: &[Script],
+        cert: &[u8],
+    ) -> Result<Counts, CheckFault>
+        requires of_line { IsNetOf line.now net.now }
+        requires fits { All (Fits line.now) scripts.now }
+        requires few { length scripts.now ≤ 64 }
+        ensures exact { MatchResult result
+            (λ counts. IsAccepted line.now scripts.now cert.now counts)
+            (λ fault. IsCheckFault line.now scripts.now cert.now fault) }
+        ensures yes { IfOk result (λ _. IsSound line.now scripts.now cert.now) }
+        ensures asked { AskedCheck line.now (calls_of self.old) (calls_of self.new) }
+        ensures kept { NoneFell (calls_of self.old) (calls_of self.new) }
+        ensures counted { self.new ≡ after_check self.old }
+    {
+        self.checks = self.checks.saturating_add(1);
+        check(alloc, line, net, scripts, cert)
+    }
+}

@@ -1,0 +1,153 @@
+//! How a call ends: its exit status, and why it stopped.
+ghost use Rattle.std.specs.Prelude.{◌≡◌};
+ghost use Rattle.call_files.specs.{Status.ended as end_of, declared.stop.Stop.TheVariants.Memory};
+
+use crate::refusal::Refusal;
+use call_answer::{Done, WriteStop};
+use file_line::LineFault;
+use file_script::ScriptFault;
+use file_timing::TimingFault;
+use judge_match::SeenFault;
+
+/// The exit statuses, 0 to 8 in this order.
+#[derive(Clone, Copy, Debug, PartialEq, Eq)]
+pub enum Status {
+    /// All text is written.
+    Good,
+    /// Some obligation fails at a choice of delays, or some record of the field is impossible.
+    SomeNo,
+    /// No obligation is known to fail, and some is undecided; no record of the field is impossible,
+    /// and some is open; or a parameter has no margin.
+    SomeUndecided,
+    /// A certificate is rejected, or split trees are.
+    Rejected,
+    /// The words are no command.
+    Usage,
+    /// A file is too long or refused, or the line has no such parameter.
+    BadInput,
+    /// A file could not be read.
+    StoreFault,
+    /// The text could not be written.
+    SinkFault,
+    /// No memory was left.
+    Memory,
+}
+
+/// A file of the command.
+#[derive(Clone, Copy)]
+pub enum File {
+    Line,
+    Scripts,
+    Timings,
+    Cert,
+    Record,
+    Trees,
+    /// A study file, which the program beside this one reads alone.
+    Study,
+}
+
+/// Why a call stopped, as its line to standard error says it.
+#[derive(Clone, Copy)]
+pub enum Stop {
+    /// The words are no command.
+    Usage,
+    /// A file, or the parameter, is refused.
+    Refused(Refusal),
+    /// The file could not be read.
+    Store(File),
+    /// The text could not be written.
+    Sink,
+    /// Memory ran out.
+    Memory,
+}
+
+/// What a call ends with, once its command ended.
+pub fn ended(written: Result<Done, WriteStop>) -> Result<Status, Stop>
+    ensures { result ≡ end_of written }
+{
+    match written {
+        Ok(Done::Good) => Ok(Status::Good),
+        Ok(Done::SomeNo) => Ok(Status::SomeNo),
+        Ok(Done::SomeUndecided) => Ok(Status::SomeUndecided),
+        Ok(Done::Rejected) => Ok(Status::Rejected),
+        Err(WriteStop::Sink) => Err(Stop::Sink),
+        Err(WriteStop::Memory) => Err(Stop::Memory),
+    }
+}
+
+impl Stop {
+    ghost use Rattle.call_files.specs.Status.{stop_status};
+
+    /// The exit status of a call that stopped so.
+    pub fn status(&self) -> Status
+        ensures { result ≡ stop_status self.now }
+    {
+        match self {
+            Stop::Usage => Status::Usage,
+            Stop::Refused(_) => Status::BadInput,
+            Stop::Store(_) => Status::StoreFault,
+            Stop::Sink => Status::SinkFault,
+            Stop::Memory => Status::Memory,
+        }
+    }
+}
+
+impl From<model_line::Memory> for Stop {
+    ghost from_gives = { λ _ stop. stop ≡ Memory };
+
+    fn from(_: model_line::Memory) -> Self {
+        Stop::Memory
+    }
+}
+
+impl From<LineFault> for Stop {
+    ghost use Rattle.call_files.specs.Stops.{line_stop};
+
+    ghost from_gives = { λ fault stop. stop ≡ line_stop fault };
+
+    fn from(fault: LineFault) -> Self {
+        match fault {
+            LineFault::Memory => Stop::Memory,
+            fault => Stop::Refused(Refusal::Line(fault)),
+        }
+    }
+}
+
+impl From<ScriptFault> for Stop {
+    ghost use Rattle.call_files.specs.Stops.{script_stop};
+
+    ghost from_gives = { λ fault stop. stop ≡ script_stop fault };
+
+    fn from(fault: ScriptFault) -> Self {
+        match fault {
+            ScriptFault::Memory => Stop::Memory,
+            fault => Stop::Refused(Refusal::Scripts(fault)),
+        }
+    }
+}
+
+impl From<TimingFault> for Stop {
+    ghost use Rattle.call_files.specs.Stops.{timing_stop};
+
+    ghost from_gives = { λ fault stop. stop ≡ timing_stop fault };
+
+    fn from(fault: TimingFault) -> Self {
+        match fault {
+            TimingFault::Memory => Stop::Memory,
+            fault => Stop::Refused(Refusal::Timings(fault)),
+        }
+    }
+}
+
+impl From<SeenFault> for Stop {
+    ghost use Rattle.call_files.specs.Stops.{record_stop};
+
+    ghost from_gives = { λ fault stop. stop ≡ record_stop fault };
+
+    fn from(fault: SeenFault) -> Self {
+        match fault {
+            SeenFault::Memory => Stop::Memory,
+            fault => Stop::Refused(Refusal::Record(fault)),
+        }
+    }
+}

@@ -1,0 +1,4 @@
+pub mod Waves
+pub mod GateLaws
+pub mod StretchLaws
+pub mod CoverLaws
