@@ -10,7 +10,7 @@ use model_line::Line;
 use run_derived::declared_param;
 
 /// The first parameter whose number is not in its interval.
-pub(crate) fn first_outside(line: &Line, values: &[u32]) -> Option<u32>
+pub fn first_outside(line: &Line, values: &[u32]) -> Option<u32>
     requires { length values.now ≡ param_count line.now }
     ensures { MatchOption result
         ((i : ℕ) → i < param_count line.now → IsNumberIn line.now values.now i)

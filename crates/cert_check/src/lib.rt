@@ -18,6 +18,7 @@ pub use cert_text::{Claim, ScriptClaims};
 pub use claim::{ClaimFault, Uncovered};
 pub use counts::Counts;
 pub use fault::CheckFault;
+pub use inside::first_outside;
 pub use laws::{
     a_certificate_has_one_first_fault, a_fault_refuses_the_certificate, a_fault_refuses_the_claims,
     a_no_has_one_fault, claims_have_one_first_fault,

@@ -5,18 +5,17 @@ ghost use Rattle.model_line.specs.{declared.line.Line.Line, declared.script.Scri
 ghost use Rattle.model_line.specs.{Parameters.terminal_count, Parameters.param_count, Fits.Fits};
 ghost use Rattle.net_gates.specs.NetOf.{IsNetOf};
 ghost use Rattle.model_timing.specs.{Inside.IsTimingInside, Timing.TimingValues};
-ghost use Rattle.run_derived.specs.Firsts.{IsFirstFailing};
 ghost use Rattle.cert_check.specs.Refutations.{IsNumberIn};
 ghost use Rattle.cert_check.specs.declared.no.NoFault.{NoFault};
 ghost use Rattle.cert_settle.specs.Grammar.{AreTiming};
 ghost use Rattle.cert_settle.specs.Results.{timing_of};
 ghost use Rattle.cert_settle.specs.Timings.{FailsAt, PassesAt, IsRefutation, IsNoFault};
 
-use cert_check::{NoFault, met_tick};
+use cert_check::{NoFault, first_outside, met_tick};
 use model_line::laws::deadlines_are_below_the_horizon;
 use model_line::{Line, Memory, Script};
 use model_logic::laws::{each_choice_has_one_history, each_line_has_a_choice_inside};
-use model_timing::{Step, is_in, timings_inside_are_choices_inside};
+use model_timing::{Step, timings_inside_are_choices_inside};
 use net_gates::Net;
 use run_changes::run_tracks;
 use run_signal::{Level, Tick};
@@ -49,21 +48,6 @@ pub(crate) fn check_timing(
         Some(tick) => Ok(Some(NoFault::Passes { tick })),
         None => Ok(None),
     }
-}
-
-// The first parameter whose number is not in its interval.
-fn first_outside(line: &Line, values: &[u32]) -> Option<u32>
-    requires { length values.now ≡ param_count line.now }
-    ensures { MatchOption result
-        ((i : ℕ) → i < param_count line.now → IsNumberIn line.now values.now i)
-        (λ i. IsFirstFailing (IsNumberIn line.now values.now) (param_count line.now) i) }
-{
-    for param in 0..line.param_count() {
-        if !is_in(line, param, values[param as usize]) {
-            return Some(param);
-        }
-    }
-    None
 }
 
 // Whether the history at the timing meets the obligation of a terminal, and the tick that shows it.
