@@ -6,6 +6,15 @@ use Rattle.model_history.specs.ListLaws.{at_push}
 use Rattle.judge_margins.specs.Each.{OneForEach}
 
 module _ {X Y : Type 0} (said : ℕ → X → Y → Type 0) (xs : List X) where
+  -- none yet
+  pub none_yet : (ys : List Y) → ys ≡ [] → OneForEach said xs ys 0
+  none_yet ys is = record {
+    count = ap length is;
+    each = λ i x y at there.
+        let none : slice_get [] i ≡ Some y =
+        subst (λ (l : List Y). slice_get l i ≡ Some y) is there in absurd (cc);
+  }
+
   -- one more
   pub one_more : (ys new : List Y) (y : Y) (n : ℕ) → OneForEach said xs ys n
       → new ≡ ys ++ y ∷ [] → ((x : X) → slice_get xs n ≡ Some x → said n x y)
