@@ -12,7 +12,7 @@ use std::alloc::{AllocError, Global};
 pub const LONGEST: u32 = 4_194_304;
 
 // More than any text has.
-const LONGEST_TEXT: u32 = 4_194_304;
+const LONGEST_TEXT: u32 = 65_536;
 
 // More than any line on standard error has.
 const LONGEST_MESSAGE: u32 = 400;
