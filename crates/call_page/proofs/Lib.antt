@@ -1,2 +1,4 @@
 mod Chains
+mod Nearest
 mod Shares
+mod There

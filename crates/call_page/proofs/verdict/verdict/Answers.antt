@@ -1,0 +1,29 @@
+use Rattle.std.proofs.Common.{◌≡◌, ◌+◌, ◌<◌, ◌∙◌, ℕ, List, length, refl, arith}
+use Rattle.model_line.specs.declared.script.Script.{Script}
+use Rattle.judge_report.specs.Deadlines.{deadline_of}
+use Rattle.call_facts.specs.FirstTicks.{place}
+use Rattle.call_facts.specs.declared.firsts.Firsts.{Firsts}
+use Rattle.call_page.proofs.There.{at_this, at_read}
+use Rattle.call_page.proofs.verdict.verdict.Goals as goal
+
+pub returns : goal.returns
+returns c =
+    let known = c.args.known.now in
+    let script : ℕ = c.args.part.start + c.worst.result in
+    let i : ℕ = place known.study.now.line script c.args.terminal in
+    let firsts : Firsts = c.firsts_at-firsts.result in
+    let scripts : List Script = known.study.now.scripts.items in
+    let there : script < length scripts =
+    omega (arith, c.requires.within, c.worst.ensures.among) in
+    record {
+      terminal = c.in_ok-name.ensures.items ∙ c.name_of_terminal.ensures;
+      standings = c.in_ok-standings.ensures;
+      worst = c.worst.result;
+      is_worst = c.worst.ensures;
+      deadline = at_read scripts scripts script c.index-of.result.now
+          (λ (s : Script). c.deadline.result ≡ deadline_of s.kind s.deadline) refl there
+          c.index-of.ensures c.deadline.ensures;
+      ticks = at_this known.firsts.now i firsts
+          (λ (f : Firsts). (firsts.may ≡ f.may) × (firsts.must ≡ f.must))
+          c.firsts_at-firsts.ensures (refl, refl);
+    }
