@@ -1,7 +1,7 @@
 //! A call of a program over files, and how it ends.
 
 use crate::change::{Change, changed};
-use crate::failing::{Failings, fail_store, failing_sink};
+use crate::failing::{Failing, Failings, failing_sink, failing_store};
 use crate::fault::Fault;
 use crate::programs::call;
 use base_store::{FetchFault, MemoryStore, Sink, Store, fetch, put_all};
@@ -42,13 +42,17 @@ pub fn make_call<F: Store, O: Sink>(
     files: &mut F,
     out: &mut O,
 ) -> Result<(), Fault> {
-    let mut store = store_of(alloc, words, changes, files)?;
-    fail_store(&mut store, failing.store)?;
+    let mut store = store_of(alloc, words, changes, failing.store, files)?;
     let mut text = failing_sink(alloc, LONGEST_TEXT, failing.out)?;
     let mut err = failing_sink(alloc, LONGEST_MESSAGE, failing.err)?;
     let status = call(alloc, words, &mut store, &mut text, &mut err)?;
-    put_lines(out, b"", text.written())?;
-    put_lines(out, b"err: ", err.written())?;
+    put_end(out, text.written(), err.written(), status)
+}
+
+// Puts how a call ended.
+fn put_end<O: Sink>(out: &mut O, text: &[u8], err: &[u8], status: u8) -> Result<(), Fault> {
+    put_lines(out, b"", text)?;
+    put_lines(out, b"err: ", err)?;
     put_lines(out, b"status ", Buffer::new().format(status).as_bytes())
 }
 
@@ -66,14 +70,16 @@ fn put_lines<O: Sink>(out: &mut O, words: &[u8], written: &[u8]) -> Result<(), F
     Ok(())
 }
 
-// The files that the words behind the program and its command name, as the changes make them.
+// The files that the words behind the program and its command name, as the changes make them, in a
+// store that fails so.
 fn store_of<F: Store>(
     alloc: Global,
     words: &[String],
     changes: &[Change],
+    failing: Failing,
     files: &mut F,
 ) -> Result<MemoryStore, Fault> {
-    let mut store = MemoryStore::new(alloc);
+    let mut store = failing_store(alloc, failing)?;
     for change in changes {
         if !words.contains(&change.file) {
             return Err(Fault::File);

@@ -75,13 +75,14 @@ fn with(how: &str, number: u32, old: Failing) -> Option<Failing> {
     }
 }
 
-/// Has the store fail so.
-pub fn fail_store(store: &mut MemoryStore, failing: Failing) -> Result<(), Fault> {
+/// An empty store, which fails so.
+pub fn failing_store(alloc: Global, failing: Failing) -> Result<MemoryStore, Fault> {
+    let mut store = MemoryStore::new(alloc);
     store.fail_at(failing.at as u64)?;
     if failing.most > 0 {
         store.give_at_most(failing.most);
     }
-    Ok(())
+    Ok(store)
 }
 
 /// A sink with memory for so many bytes, which fails so.

@@ -3,31 +3,49 @@
 use base_memory::Memory;
 use base_store::{FetchFault, PutFailed};
 use std::alloc::AllocError;
-use thiserror::Error;
 
 /// Why a line of `cases` is not done, or nothing of it can be read.
-#[derive(Debug, Drop, Error)]
+#[derive(Clone, Copy)]
 pub enum Fault {
-    #[error("the file `cases` cannot be read as a text")]
+    /// The file `cases` cannot be read as a text.
     Cases,
-    #[error("this line is no heading, no change, no failing and no call")]
+    /// A line is no heading, says nothing of the next call and is none.
     Line,
-    #[error("a change is of a file that the call does not name, or that is not there")]
+    /// A change is of a file that the call does not name, or that is not there.
     File,
-    #[error("no call comes after this line")]
+    /// No call comes after what is said of the next one.
     NoCall,
-    #[error("the file is no text, or longer than 4194304 bytes")]
+    /// A file is no text, or too long.
     Text,
-    #[error("the old text does not stand in the file")]
+    /// The old text does not stand in the file.
     Absent,
-    #[error("the old text stands in the file more than once: write `throughout`")]
+    /// It stands there more than once.
     Twice,
-    #[error("a file is filled up with one byte, to a number of at most 4194305 bytes")]
+    /// A file is filled up with no byte, or to no such length.
     Fill,
-    #[error("standard output takes no more")]
+    /// Standard output takes no more.
     Closed,
-    #[error("no memory")]
     Memory,
+}
+
+impl Fault {
+    /// What is told of it.
+    pub fn words(&self) -> &'static str {
+        match self {
+            Fault::Cases => "the file `cases` cannot be read as a text",
+            Fault::Line => "this line is no heading, says nothing of the next call and is none",
+            Fault::File =>
+                "a change is of a file that the call does not name, or that is not there",
+            Fault::NoCall => "no call comes after this line",
+            Fault::Text => "the file is no text, or longer than 4194304 bytes",
+            Fault::Absent => "the old text does not stand in the file",
+            Fault::Twice => "the old text stands in the file more than once: write `throughout`",
+            Fault::Fill =>
+                "a file is filled up with one byte, to a number of at most 4194305 bytes",
+            Fault::Closed => "standard output takes no more",
+            Fault::Memory => "no memory",
+        }
+    }
 }
 
 impl From<AllocError> for Fault {

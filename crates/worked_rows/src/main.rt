@@ -36,7 +36,8 @@ fn main(rt: HostRuntime) -> ExitCode {
         Ok(()) => ExitCode::from(0),
         Err(fault) => {
             // The status says it too, where standard error takes nothing.
-            let _ = eprintln!(rt; "worked_rows: {fault}");
+            let words = fault.words();
+            let _ = eprintln!(rt; "worked_rows: {words}");
             ExitCode::from(1)
         }
     }
