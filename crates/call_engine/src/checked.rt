@@ -4,14 +4,14 @@ ghost use Rattle.std.specs.Prelude.{◌≡◌, IfOk};
 ghost use Rattle.std.specs.List.{concat};
 ghost use Rattle.call_engine.specs.Checked.{accepted_pieces, line_pieces, outside_pieces};
 ghost use Rattle.call_engine.specs.Checked.{passes_pieces, place as place_of};
-ghost use Rattle.model_names.specs.NamesByNumber.{script_name as name_of_script};
-ghost use Rattle.model_names.specs.NamesByNumber.{terminal_name as name_of_terminal};
+ghost use Rattle.model_line.specs.NamesByNumber.{script_name as name_of_script};
+ghost use Rattle.model_line.specs.NamesByNumber.{terminal_name as name_of_terminal};
 
 use call_answer::{Study, text_of};
 use cert_check::Counts;
 use itoa::Buffer;
 use model_line::Memory;
-use model_names::{name_of_parameter, name_of_script, name_of_terminal};
+use model_line::{name_of_parameter, name_of_script, name_of_terminal};
 use std::alloc::Global;
 
 /// The counts of a text that is accepted.

@@ -4,7 +4,7 @@ use Rattle.std.specs.Prelude.{nat_le, if◌then◌else◌}
 use Rattle.std.specs.List.{flat_map}
 use Rattle.csv.specs.Writing.{row_text, default_writer}
 use Rattle.model_line.specs.declared.line.Line.{Line}
-use Rattle.model_names.specs.NamesByNumber.{terminal_name}
+use Rattle.model_line.specs.NamesByNumber.{terminal_name}
 use Rattle.model_timing.specs.{Timing.TimingValues, NamedValues.NamedValues}
 use Rattle.file_timing.specs.Printed.{file_records, records_text}
 use Rattle.judge_match.specs.MatchText.{signal_word}

@@ -11,7 +11,7 @@ use base_records::push_record;
 use itoa::Buffer;
 use judge_explain::Paired;
 use model_line::{Line, Memory};
-use model_names::name_of_terminal;
+use model_line::name_of_terminal;
 use std::alloc::Global;
 
 /// The table: a header, and a record for each change.

@@ -4,7 +4,7 @@ use Rattle.std.specs.Prelude.{MatchOption, slice_get, nat_le, if◌then◌else�
 use Rattle.model_line.specs.{declared.line.Line.Line, declared.script.Script.Script}
 use Rattle.model_line.specs.declared.script.Kind.{Kind}
 use Rattle.model_line.specs.declared.script.Kind.TheVariants.{Internal, External}
-use Rattle.model_names.specs.NamesByNumber.{script_name, terminal_name}
+use Rattle.model_line.specs.NamesByNumber.{script_name, terminal_name}
 use Rattle.draw_page.specs.declared.page.LeastMargin.{LeastMargin}
 use Rattle.call_facts.specs.Lists.{At}
 use Rattle.call_facts.specs.declared.least.Spare.{Spare}

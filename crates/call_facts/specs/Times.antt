@@ -2,7 +2,7 @@
 use Rattle.std.specs.Prelude.{◌≡◌, ℕ, List, option_map, length}
 use Rattle.model_line.specs.{declared.line.Line.Line, declared.script.Script.Script}
 use Rattle.model_line.specs.Parameters.{declared_ends, param_count}
-use Rattle.model_names.specs.NamesByNumber.{parameter_name}
+use Rattle.model_line.specs.NamesByNumber.{parameter_name}
 use Rattle.judge_report.specs.declared.upper_end.Lost.{Lost}
 use Rattle.judge_margins.specs.{Ends.IsEnd, Today.AreToday}
 use Rattle.judge_margins.specs.declared.end.{End.End, Side.Side}

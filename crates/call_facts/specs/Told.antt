@@ -2,7 +2,7 @@
 use Rattle.std.specs.Prelude.{◌≡◌, ◌&&◌, ◌==◌, ℕ, Bool, not}
 use Rattle.model_line.specs.declared.line.Line.{Line}
 use Rattle.model_line.specs.Parameters.{declared_ends}
-use Rattle.model_names.specs.NamesByNumber.{parameter_name}
+use Rattle.model_line.specs.NamesByNumber.{parameter_name}
 use Rattle.model_timing.specs.{Timing.TimingValues, declared.step.Step.Step}
 use Rattle.judge_corner.specs.Cuts.{least_of, nominal_of, number}
 use Rattle.draw_page.specs.declared.page.{ToldTime.ToldTime, ToldStep.ToldStep}

@@ -2,7 +2,7 @@
 
 ghost use Rattle.std.specs.Prelude.{◌≡◌, ◌<◌, ◌++◌, ℕ, List, IfOk, OnOk, map};
 ghost use Rattle.model_line.specs.Parameters.{param_count};
-ghost use Rattle.model_names.specs.NamesByNumber.{parameter_name};
+ghost use Rattle.model_line.specs.NamesByNumber.{parameter_name};
 ghost use Rattle.model_timing.specs.Inside.{IsTimingInside};
 ghost use Rattle.call_facts.specs.Told.{IsToldTime, IsToldStep, is_told as is_told_of};
 ghost use Rattle.call_facts.specs.Told.{is_at_least as is_at_least_of};
@@ -11,7 +11,7 @@ ghost use Rattle.call_facts.specs.Lists.{EachOf, if_one, those_below};
 use draw_page::{ToldStep, ToldTime};
 use judge_corner::{nominal, number_of};
 use model_line::{Line, Memory};
-use model_names::name_of_parameter;
+use model_line::name_of_parameter;
 use model_timing::{Step, Timing};
 use run_signal::Tick;
 use std::alloc::Global;

@@ -9,7 +9,7 @@ use crate::text::push_all;
 use file_study::Study;
 use file_times::{Interval, Time, read_time};
 use model_line::{Channel, Line, Memory, Setting, groups_of_channel, groups_of_terminal};
-use model_names::name_of_terminal;
+use model_line::name_of_terminal;
 use std::alloc::Global;
 use toml::Table;
 

@@ -3,7 +3,7 @@ use Rattle.std.specs.Prelude.{◌≡◌, ◌+◌, ◌-◌, ◌*◌, ◌/◌, ◌
 use Rattle.std.specs.Prelude.{Result, Ok, Err, nat_lt, if◌then◌else◌}
 use Rattle.std.specs.List.{list_any}
 use Rattle.model_line.specs.declared.line.Line.{Line}
-use Rattle.model_names.specs.NamesByNumber.{parameter_name}
+use Rattle.model_line.specs.NamesByNumber.{parameter_name}
 use Rattle.judge_map.specs.{declared.axis.Axis.Axis, declared.axis.Axes.Axes}
 use Rattle.judge_map.specs.declared.fault.MapFault.{MapFault}
 use Rattle.judge_map.specs.declared.fault.MapFault.TheVariants.{TooMany}

@@ -11,7 +11,7 @@ use Rattle.model_line.specs.{Parameters.param_count, SetBounds.SameButParams}
 use Rattle.model_logic.specs.Choice.{Choice, IsIn}
 use Rattle.model_logic.specs.Histories.{IsLineHistory}
 use Rattle.model_logic.specs.IntervalLaws.{HistoriesRestOnNoInterval}
-use Rattle.model_names.specs.NamesByNumber.{parameter_name, script_name, terminal_name}
+use Rattle.model_line.specs.NamesByNumber.{parameter_name, script_name, terminal_name}
 use Rattle.file_line.specs.Lines.{line_values}
 use Rattle.file_script.specs.Values.{ScriptValues, values_of}
 use Rattle.run_derived.specs.Firsts.{IsFirstFailing}

@@ -2,7 +2,7 @@
 use Rattle.std.specs.Prelude.{◌≡◌, ◌≤◌, ◌<◌, ◌+◌, ◌&&◌, ◌==◌, ℕ, List, map}
 use Rattle.model_line.specs.{declared.line.Line.Line, declared.script.Script.Script}
 use Rattle.model_line.specs.Parameters.{param_count}
-use Rattle.model_names.specs.NamesByNumber.{parameter_name, script_name, terminal_name}
+use Rattle.model_line.specs.NamesByNumber.{parameter_name, script_name, terminal_name}
 use Rattle.model_timing.specs.Timing.{TimingValues}
 use Rattle.judge_corner.specs.Cuts.{IsCut}
 use Rattle.draw_page.specs.declared.page.FailingChoice.{FailingChoice}

@@ -3,7 +3,7 @@ use Rattle.std.specs.Prelude.{◌≡◌, ◌≤◌, ◌+◌, ◌-◌, ℕ, List,
 use Rattle.std.specs.Prelude.{get_or}
 use Rattle.std.specs.List.{All}
 use Rattle.model_line.specs.declared.script.Script.{Script}
-use Rattle.model_names.specs.NamesByNumber.{script_name}
+use Rattle.model_line.specs.NamesByNumber.{script_name}
 use Rattle.file_sweeps.specs.declared.group.Group.{Group}
 use Rattle.file_sweeps.specs.Places.{PlaceValues, place_in}
 use Rattle.call_page.specs.declared.parts.Part.{Part}

@@ -15,7 +15,7 @@ use call_tables::Row;
 use draw_page::FailingChoice;
 use judge_corner::{Obligation, cut};
 use model_line::Memory;
-use model_names::name_of_terminal;
+use model_line::name_of_terminal;
 use model_timing::{NamedTiming, Timing};
 use std::alloc::Global;
 

@@ -2,7 +2,7 @@
 
 ghost use Rattle.std.specs.Prelude.{◌≡◌, ◌<◌, ◌*◌, Some, length, slice_get};
 ghost use Rattle.model_line.specs.Parameters.{terminal_count};
-ghost use Rattle.model_names.specs.NamesByNumber.{terminal_name};
+ghost use Rattle.model_line.specs.NamesByNumber.{terminal_name};
 ghost use Rattle.call_page.specs.Facts.{IsKnown};
 ghost use Rattle.call_facts.specs.FirstTicks.{place as place_in_order};
 

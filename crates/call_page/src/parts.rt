@@ -7,7 +7,7 @@ ghost use Rattle.file_sweeps.specs.Places.{place_in};
 
 use file_sweeps::{Group, place_of_script};
 use model_line::{Memory, Script};
-use model_names::name_of_script;
+use model_line::name_of_script;
 use std::alloc::Global;
 
 /// So many scripts, one after another, from this place on.

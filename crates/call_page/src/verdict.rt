@@ -14,7 +14,7 @@ use draw_page::{Means, Standing, Verdict};
 use judge_report::deadline;
 use judge_settle::{Answer, By};
 use model_line::Memory;
-use model_names::name_of_terminal;
+use model_line::name_of_terminal;
 use std::alloc::Global;
 
 /// The verdicts of a part, one for each terminal in line order.

@@ -8,8 +8,7 @@ use Rattle.model_line.specs.{declared.line.Line.Line, declared.script.Script.Scr
 use Rattle.model_line.specs.{declared.line.Param.Param, declared.line.Terminal.Terminal}
 use Rattle.model_line.specs.{declared.script.Kind.Kind, ParamNames.name_at}
 use Rattle.model_line.specs.{Parameters.declared_ends, SetBounds.SameButParams}
-use Rattle.model_names.specs.NamesByNumber.{parameter_name, terminal_name}
-use Rattle.model_names.specs.ParamNamesApart.{name_of_param}
+use Rattle.model_line.specs.NamesByNumber.{parameter_name, terminal_name}
 use Rattle.file_script.specs.Values.{ScriptValues, values_of}
 use Rattle.cert_text.specs.Grammar.{end_text, script_text, terminal_names}
 use Rattle.cert_text.specs.Text.{fed}
@@ -45,7 +44,7 @@ module _ (a b : Line) (rest : SameButParams a b) (params : b.params.items ≡ a.
   pub terminal_same : (k : ℕ) → terminal_name b k ≡ terminal_name a k
   terminal_same k = ap (λ (ts : List Terminal). name_at ts k) rest.terminals
 
-  param_same : (i : ℕ) → name_of_param b i ≡ name_of_param a i
+  param_same : (i : ℕ) → parameter_name b i ≡ parameter_name a i
   param_same i =
       ap (λ (ps : List Param). get_or (map (λ (p : Param). p.name) ps) i []) params
 

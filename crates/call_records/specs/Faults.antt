@@ -3,7 +3,7 @@ use Rattle.std.specs.Prelude.{◌∷◌, ◌++◌, ℕ, Bool, true, false, List,
 use Rattle.std.specs.Prelude.{decimal}
 use Rattle.std.specs.List.{concat}
 use Rattle.model_line.specs.declared.line.Line.{Line}
-use Rattle.model_names.specs.NamesByNumber.{terminal_name}
+use Rattle.model_line.specs.NamesByNumber.{terminal_name}
 use Rattle.file_line.specs.{Faults.fault_name, declared.fault.LineFault.LineFault}
 use Rattle.file_line.specs.declared.fault.LineFault.TheVariants as line_fault
 use Rattle.file_comtrade.specs.declared.fault.{ConfigFault.ConfigFault, DataFault.DataFault}

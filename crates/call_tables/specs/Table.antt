@@ -3,7 +3,7 @@ use Rattle.std.specs.Prelude.{ℕ, Bool, true, false, List, [], ◌∷◌, map, 
 use Rattle.std.specs.List.{flat_map}
 use Rattle.csv.specs.Writing.{row_text, default_writer}
 use Rattle.model_line.specs.{declared.line.Line.Line, declared.script.Script.Script}
-use Rattle.model_names.specs.NamesByNumber.{script_name, terminal_name}
+use Rattle.model_line.specs.NamesByNumber.{script_name, terminal_name}
 use Rattle.judge_settle.specs.{declared.answer.Answer.Answer, declared.answer.By.By}
 use Rattle.judge_settle.specs.declared.answer.Answer.TheVariants.{Held, Fails, Open}
 use Rattle.judge_settle.specs.declared.answer.By.TheVariants.{Rules, Candidate, Corner, Parts, Cases}

@@ -3,7 +3,7 @@ use Rattle.std.specs.Prelude.{◌≡◌, ◌+◌, ◌*◌, ℕ, List, [], ◌∷
 use Rattle.std.specs.List.{All, flat_map, range_with_len, slice_range}
 use Rattle.model_line.specs.{declared.line.Line.Line, declared.script.Script.Script}
 use Rattle.model_line.specs.Parameters.{terminal_count}
-use Rattle.model_names.specs.NamesByNumber.{terminal_name}
+use Rattle.model_line.specs.NamesByNumber.{terminal_name}
 use Rattle.model_timing.specs.NamedValues.{NamedValues}
 use Rattle.file_timing.specs.Printed.{file_records, records_text}
 use Rattle.file_timing.specs.Timings.{timings_in}

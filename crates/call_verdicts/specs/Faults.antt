@@ -6,7 +6,7 @@ use Rattle.std.specs.List.{count_by, filter_map, list_any}
 use Rattle.csv.specs.Writing.{row_text, default_writer}
 use Rattle.model_line.specs.{declared.line.Line.Line, declared.script.Script.Script}
 use Rattle.model_line.specs.Parameters.{terminal_count}
-use Rattle.model_names.specs.NamesByNumber.{terminal_name}
+use Rattle.model_line.specs.NamesByNumber.{terminal_name}
 use Rattle.judge_report.specs.ReportText.{kind_word}
 use Rattle.file_sweeps.specs.declared.group.Group.{Group}
 use Rattle.call_answer.specs.{Answers.Answers, Answers.status_by, declared.done.Done.Done}

@@ -6,7 +6,7 @@ use Rattle.csv.specs.Writing.{row_text, default_writer}
 use Rattle.model_line.specs.{declared.line.Line.Line, declared.script.Script.Script}
 use Rattle.model_line.specs.declared.script.Kind.{Kind}
 use Rattle.model_line.specs.declared.script.Kind.TheVariants.{Internal, External}
-use Rattle.model_names.specs.NamesByNumber.{script_name, terminal_name}
+use Rattle.model_line.specs.NamesByNumber.{script_name, terminal_name}
 use Rattle.judge_report.specs.ReportText.{kind_word}
 use Rattle.file_sweeps.specs.declared.group.Group.{Group}
 use Rattle.call_tables.specs.Table.{by_word}

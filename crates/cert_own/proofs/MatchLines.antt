@@ -15,7 +15,7 @@ use Rattle.model_line.specs.{Laws.DeclaredIntervalsAreInOrder, PlainNames.is_pla
 use Rattle.model_logic.specs.Choice.{Choice, IsInside}
 use Rattle.model_logic.specs.Histories.{History, IsLineHistory, IsSameHistory}
 use Rattle.model_logic.specs.Laws.{LineLaws}
-use Rattle.model_names.specs.NamesByNumber.{terminal_name}
+use Rattle.model_line.specs.NamesByNumber.{terminal_name}
 use Rattle.model_timing.specs.Laws.{CandidatesAreInside, TimingsInsideAreChoicesInside}
 use Rattle.model_timing.specs.Candidates.{candidate, candidate_count}
 use Rattle.model_timing.specs.{Choice.timing_choice, Timing.TimingValues}

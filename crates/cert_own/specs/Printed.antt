@@ -3,7 +3,7 @@ use Rattle.std.specs.Prelude.{◌≡◌, ◌<◌, ◌^◌, ℕ, List, Some, IsTr
 use Rattle.std.specs.List.{All}
 use Rattle.model_line.specs.{declared.line.Line.Line, declared.script.Script.Script}
 use Rattle.model_line.specs.{Parameters.terminal_count, PlainNames.is_plain_name}
-use Rattle.model_names.specs.NamesByNumber.{terminal_name}
+use Rattle.model_line.specs.NamesByNumber.{terminal_name}
 use Rattle.cert_text.specs.Grammar.{Verdict, yes, no, undecided, verdict_text}
 use Rattle.cert_own.specs.WholeLines.{StandsUnder, whole_lines}
 

@@ -5,7 +5,7 @@ use Rattle.std.proofs.lemmas.Bool.{cases_order}
 use Rattle.std.proofs.lemmas.List.{append_cancel_left}
 use Rattle.model_line.specs.{declared.line.Line.Line, Parameters.param_count}
 use Rattle.model_line.specs.Parameters.{terminal_count}
-use Rattle.model_names.specs.ParamNamesApart.{name_of_param}
+use Rattle.model_line.specs.NamesByNumber.{parameter_name}
 use Rattle.model_timing.specs.{declared.step.Step.Step, Inside.IsStepInside}
 use Rattle.base_lines.specs.Named.{named}
 use Rattle.cert_settle.specs.Known.{Known}
@@ -24,7 +24,7 @@ one_named word name other n m small little same =
     (parts.0, one_number n m small little parts.1)
 
 pub one_param : Known → (line : Line) (p q : ℕ) → p < param_count line → q < param_count line
-    → name_of_param line p ≡ name_of_param line q → p ≡ q
+    → parameter_name line p ≡ parameter_name line q → p ≡ q
 one_param known line p q here there same =
     elim (cases_order p q) [
       | inl is ↦ is
@@ -80,10 +80,10 @@ pub one_step : Known → (line : Line) (s t : Step ℕ) → IsStepInside line s 
 one_step known line s t a b same =
     let x = step_small known line s a in
     let y = step_small known line t b in
-    let parts = one_step_line (name_of_param line s.param) (name_of_param line t.param) s.from
+    let parts = one_step_line (parameter_name line s.param) (parameter_name line t.param) s.from
     t.from s.value t.value x.1.0 y.1.0 x.1.1 y.1.1
-    (no_at (name_of_param line s.param) ((known.names line).no_at s.param x.0))
-    (no_at (name_of_param line t.param) ((known.names line).no_at t.param y.0)) same in
+    (no_at (parameter_name line s.param) ((known.names line).no_at s.param x.0))
+    (no_at (parameter_name line t.param) ((known.names line).no_at t.param y.0)) same in
     let param : s.param ≡ t.param =
     one_param known line s.param t.param x.0 y.0 parts.0 in
     ap (λ (p : ℕ). record { param = p; from = s.from; value = s.value }) param
@@ -98,14 +98,14 @@ one_after word name n m small little same = (one_named word name name n m small 
 -- a line of a delay, a tick and a number tells the step that it is of
 pub told_step : Known → (line : Line) (step : Step ℕ) (param from value : ℕ)
     → step.param ≡ param → IsStepInside line step → param < param_count line → from < 2 ^ 32
-    → value < 2 ^ 32 → step_text line step ≡ step_line (name_of_param line param) from value
+    → value < 2 ^ 32 → step_text line step ≡ step_line (parameter_name line param) from value
     → step ≡ record { param = param; from = from; value = value }
 told_step known line step param from value here inside exists small little same =
     let x = step_small known line step inside in
-    let parts = one_step_line (name_of_param line step.param) (name_of_param line param) step.from
+    let parts = one_step_line (parameter_name line step.param) (parameter_name line param) step.from
     from step.value value x.1.0 small x.1.1 little
-    (no_at (name_of_param line step.param) ((known.names line).no_at step.param x.0))
-    (no_at (name_of_param line param) ((known.names line).no_at param exists)) same in
+    (no_at (parameter_name line step.param) ((known.names line).no_at step.param x.0))
+    (no_at (parameter_name line param) ((known.names line).no_at param exists)) same in
     ap (λ (p : ℕ). record { param = p; from = step.from; value = step.value }) here
     ∙ ap (λ (f : ℕ). record { param = param; from = f; value = step.value }) parts.1.0
     ∙ ap (λ (v : ℕ). record { param = param; from = from; value = v }) parts.1.1

@@ -3,7 +3,7 @@ use Rattle.std.proofs.Common.{◌≡◌, ◌≢◌, ◌<◌, ◌^◌, ℕ, List,
 use Rattle.std.specs.Prelude.{codes}
 use Rattle.std.specs.Bool.{Decides}
 use Rattle.model_line.specs.{declared.line.Line.Line, SetBounds.SameButParams}
-use Rattle.model_names.specs.ParamNamesApart.{name_of_param}
+use Rattle.model_line.specs.NamesByNumber.{parameter_name}
 use Rattle.model_logic.specs.Choice.{Box, declared_box}
 use Rattle.model_settle.specs.CaseTrees.{CanSplit, HasCases}
 use Rattle.judge_split.specs.{Leaves.CanSplit as CanSplitPart, Parts.IsPart}
@@ -52,7 +52,7 @@ tick_small line terminal tick has =
 pub no_node : (line : Line) (room : ℕ) (root : Root) (bytes : List ℕ) (a b : Bool) → a ≡ false
     → b ≡ false → Decides a (bytes ≡ codes "yes") → Decides b (bytes ≡ codes "undecided")
     → ((param mid : ℕ) → 0 < root.depth → 0 < room → CanSplit line root.box param mid
-    → bytes ≢ split_line (name_of_param line param) mid)
+    → bytes ≢ split_line (parameter_name line param) mid)
     → ((terminal tick : ℕ) → 0 < root.depth → 0 < room → HasCases line terminal tick
     → bytes ≢ case_line (name_of_terminal line terminal) tick)
     → (n : CaseNode) → MayStand line room root n → bytes ≢ node_text line n

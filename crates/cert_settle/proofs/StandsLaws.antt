@@ -3,7 +3,7 @@ use Rattle.std.proofs.Common.{◌≡◌, ◌<◌, ◌^◌, ℕ, List, [], refl, 
 use Rattle.std.proofs.Common.{◌⊎◌, inl, inr, subst}
 use Rattle.model_line.specs.{declared.line.Line.Line, Parameters.param_count}
 use Rattle.model_timing.specs.{declared.step.Step.Step, Inside.IsStepInside}
-use Rattle.model_names.specs.ParamNamesApart.{name_of_param}
+use Rattle.model_line.specs.NamesByNumber.{parameter_name}
 use Rattle.model_settle.specs.CaseTrees.{HasCases}
 use Rattle.std.specs.Prelude.{codes}
 use Rattle.base_lines.specs.NamedLaws.{first_same}
@@ -84,7 +84,7 @@ module _ (known : Known) (line : Line) where
   one_node (node.Split p mid) node.Undecided may can same =
       absurd (let e : ◌≡◌ {A = ℕ} 115 117 = first_same _ _ same in omega arith)
   one_node (node.Split p mid) (node.Split q middle) may can same =
-      let parts = one_named (codes "split") (name_of_param line p) (name_of_param line q) mid middle
+      let parts = one_named (codes "split") (parameter_name line p) (parameter_name line q) mid middle
       may.1 can.1 same in
       let param : p ≡ q = one_param known line p q may.0 can.0 parts.0 in
       ap (λ (i : ℕ). node.Split i mid) param ∙ ap (λ (i : ℕ). node.Split q i) parts.1

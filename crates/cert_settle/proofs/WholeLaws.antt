@@ -5,7 +5,7 @@ use Rattle.std.proofs.lemmas.List.Elements.{All-head, All-tail}
 use Rattle.std.specs.Prelude.{codes}
 use Rattle.std.specs.List.{All}
 use Rattle.model_line.specs.declared.line.Line.{Line}
-use Rattle.model_names.specs.ParamNamesApart.{name_of_param}
+use Rattle.model_line.specs.NamesByNumber.{parameter_name}
 use Rattle.model_timing.specs.{declared.step.Step.Step, Inside.IsStepInside}
 use Rattle.base_lines.specs.Lines.{is_one_line}
 use Rattle.base_lines.specs.NamedLaws.{named_whole, decimal_whole, whole_append, whole_more}
@@ -29,7 +29,7 @@ node_whole line node.Yes may = refl
 node_whole line node.Undecided may = refl
 node_whole line (node.Split param mid) may =
     let small = may.1 in
-    named_whole (codes "split") (name_of_param line param) (decimal mid) refl
+    named_whole (codes "split") (parameter_name line param) (decimal mid) refl
     (param_stands line param).whole (decimal_whole mid (omega arith))
 node_whole line (node.Case terminal tick) may =
     let early = may.run in
@@ -45,8 +45,8 @@ step_whole known line step inside =
     let early = small.1.0 in
     let low = small.1.1 in
     whole_append (codes "step ")
-    (name_of_param line step.param ++ (64 ∷ (decimal step.from ++ (32 ∷ decimal step.value)))) refl
-    (whole_append (name_of_param line step.param)
+    (parameter_name line step.param ++ (64 ∷ (decimal step.from ++ (32 ∷ decimal step.value)))) refl
+    (whole_append (parameter_name line step.param)
     (64 ∷ (decimal step.from ++ (32 ∷ decimal step.value))) (param_stands line step.param).whole
     (whole_more 64 (decimal step.from ++ (32 ∷ decimal step.value)) refl
     (whole_append (decimal step.from) (32 ∷ decimal step.value)

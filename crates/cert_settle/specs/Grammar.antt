@@ -5,7 +5,7 @@ use Rattle.std.specs.List.{All, flat_map}
 use Rattle.model_line.specs.Parameters.{terminal_count, param_count}
 use Rattle.model_line.specs.declared.script.Script.{Script}
 use Rattle.model_line.specs.{declared.line.Line.Line, declared.line.Terminal.Terminal}
-use Rattle.model_names.specs.ParamNamesApart.{name_of_param}
+use Rattle.model_line.specs.NamesByNumber.{parameter_name}
 use Rattle.model_logic.specs.Choice.{Box, declared_box}
 use Rattle.model_timing.specs.{declared.step.Step.Step, Timing.comes_before, Timing.ascend}
 use Rattle.model_timing.specs.Inside.{IsStepInside}
@@ -100,7 +100,7 @@ name_of_terminal line k = get_or (terminal_names line) k []
 abbrev pub node_text : Line → CaseNode → List ℕ
 node_text line node.Yes = codes "yes"
 node_text line node.Undecided = codes "undecided"
-node_text line (node.Split param mid) = split_line (name_of_param line param) mid
+node_text line (node.Split param mid) = split_line (parameter_name line param) mid
 node_text line (node.Case terminal tick) = case_line (name_of_terminal line terminal) tick
 
 -- `step DELAY@TICK VALUE`
@@ -109,7 +109,7 @@ step_line name from value =
     codes "step " ++ (name ++ (codes "@" ++ (decimal from ++ (codes " " ++ decimal value))))
 
 abbrev pub step_text : Line → Step ℕ → List ℕ
-step_text line step = step_line (name_of_param line step.param) step.from step.value
+step_text line step = step_line (parameter_name line step.param) step.from step.value
 
 -- a split or a pair of cases is one of those that are left, both by depth and by number
 pub record MayBranch (depth room : ℕ) : Type 0 where

@@ -5,7 +5,7 @@ ghost use Rattle.std.specs.Bool.{Decides};
 ghost use Rattle.model_logic.specs.Choice.{Box};
 ghost use Rattle.model_line.specs.Parameters.{param_count, terminal_count};
 ghost use Rattle.model_line.specs.{declared.line.Line.Line, SetBounds.SameButParams};
-ghost use Rattle.model_names.specs.ParamNamesApart.{name_of_param};
+ghost use Rattle.model_line.specs.NamesByNumber.{parameter_name};
 ghost use Rattle.model_settle.specs.CaseTrees.{CanSplit, HasCases};
 ghost use Rattle.judge_split.specs.Parts.{IsPart};
 ghost use Rattle.judge_cases.specs.declared.node.CaseNode.{CaseNode};
@@ -31,7 +31,7 @@ pub(crate) struct Limits {
 /// The name of a parameter.
 pub(crate) fn param_name_at(line: &Line, param: u32) -> Name
     requires { param < param_count line.now }
-    ensures { result ≡ name_of_param line.now param }
+    ensures { result ≡ parameter_name line.now param }
 {
     line.params[param as usize].name
 }
@@ -51,9 +51,9 @@ fn split_in(line: &Line, part: &Line, bytes: &[u8]) -> Option<(u32, u32)>
     requires { SameButParams line.now part.now }
     ensures { (box : Box) → IsPart line.now box part.now → MatchOption result
         ((param mid : ℕ) → CanSplit line.now box param mid →
-        bytes.now ≢ split_line (name_of_param line.now param) mid)
+        bytes.now ≢ split_line (parameter_name line.now param) mid)
         (λ at. (at.1 < 2 ^ 32) × CanSplit line.now box at.0 at.1
-        × (bytes.now ≡ split_line (name_of_param line.now at.0) at.1)) }
+        × (bytes.now ≡ split_line (parameter_name line.now at.0) at.1)) }
 {
     laws_below();
     for p in 0..line.param_count() {

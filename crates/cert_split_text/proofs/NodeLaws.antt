@@ -10,7 +10,7 @@ use Rattle.model_line.specs.SetBounds.{SameButParams}
 use Rattle.model_logic.specs.Choice.{Box, declared_box}
 use Rattle.judge_split.specs.declared.node.Node.{Node}
 use Rattle.judge_split.specs.declared.node.Node.TheVariants as node
-use Rattle.model_names.specs.ParamNamesApart.{name_of_param}
+use Rattle.model_line.specs.NamesByNumber.{parameter_name}
 use Rattle.judge_split.specs.{Leaves.CanSplit, Parts.IsPart}
 use Rattle.cert_split_text.specs.Known.{Known}
 use Rattle.cert_split_text.specs.Grammar.{Said, says_nothing, says_fails, says_node, MayStand}
@@ -53,7 +53,7 @@ not_node known line part n box bytes p never (says_node root) is =
 pub no_node : (line part : Line) (n : ℕ) (bytes : List ℕ) (a b : Bool) → a ≡ false → b ≡ false
     → Decides a (bytes ≡ codes "yes") → Decides b (bytes ≡ codes "undecided")
     → ((param mid : ℕ) → 0 < n → CanSplit part (declared_box part) param mid
-    → bytes ≢ split_line (name_of_param line param) mid)
+    → bytes ≢ split_line (parameter_name line param) mid)
     → (root : Node) → MayStand part n (declared_box part) root → bytes ≢ node_text line root
 no_node line part n bytes a b x y da db never node.Yes may is = (let t = da.1 is in cc)
 no_node line part n bytes a b x y da db never node.Undecided may is = (let t = db.1 is in cc)

@@ -8,7 +8,7 @@ use Rattle.std.proofs.lemmas.List.Elements.{All-head, All-tail}
 use Rattle.std.specs.List.{All}
 use Rattle.model_line.specs.{declared.line.Line.Line, declared.script.Script.Script, Fits.Fits}
 use Rattle.model_logic.specs.Choice.{Box, declared_box}
-use Rattle.model_names.specs.ParamNamesApart.{name_of_param}
+use Rattle.model_line.specs.NamesByNumber.{parameter_name}
 use Rattle.base_lines.specs.SpacedNumbers.{numbers_text}
 use Rattle.cert_text.specs.Grammar.{no_words, script_text, end_text, terminal_names}
 use Rattle.cert_text.specs.Text.{fed}
@@ -39,7 +39,7 @@ leaf_bytes (suc n) = omega (arith, leaf_bytes n)
 split_short : (line : Line) (param mid : ℕ) → mid < 4000
     → length (fed (node_text line (node.Split param mid))) ≤ 63
 split_short line param mid small =
-    let name : List ℕ = name_of_param line param in
+    let name : List ℕ = parameter_name line param in
     let digits : List ℕ = decimal mid in
     let four : length digits ≤ 4 = length-decimal-le 4 mid (omega arith) (omega arith) (omega arith)
     in

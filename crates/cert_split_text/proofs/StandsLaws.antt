@@ -3,7 +3,7 @@ use Rattle.std.proofs.Common.{◌≡◌, ◌<◌, ◌^◌, ℕ, List, drop, refl
 use Rattle.std.proofs.Common.{decimal, inl, inr}
 use Rattle.std.proofs.lemmas.Bool.{cases_order}
 use Rattle.model_line.specs.{declared.line.Line.Line, Parameters.param_count}
-use Rattle.model_names.specs.ParamNamesApart.{name_of_param}
+use Rattle.model_line.specs.NamesByNumber.{parameter_name}
 use Rattle.model_logic.specs.Choice.{Box}
 use Rattle.judge_split.specs.declared.node.Node.{Node}
 use Rattle.judge_split.specs.declared.node.Node.TheVariants as node
@@ -28,7 +28,7 @@ one_split name other mid middle small little same =
     (parts.0, one_number mid middle small little parts.1)
 
 one_param : Known → (line : Line) (p q : ℕ) → p < param_count line → q < param_count line
-    → name_of_param line p ≡ name_of_param line q → p ≡ q
+    → parameter_name line p ≡ parameter_name line q → p ≡ q
 one_param known line p q here there same =
     elim (cases_order p q) [
       | inl is ↦ is
@@ -53,7 +53,7 @@ one_node known line n m box other (node.Split p mid) node.Yes may can same =
 one_node known line n m box other (node.Split p mid) node.Undecided may can same =
     absurd (let e : ◌≡◌ {A = ℕ} 115 117 = first_same _ _ same in omega arith)
 one_node known line n m box other (node.Split p mid) (node.Split q middle) may can same =
-    let parts = one_split (name_of_param line p) (name_of_param line q) mid middle may.number
+    let parts = one_split (parameter_name line p) (parameter_name line q) mid middle may.number
     can.number same in
     let param : p ≡ q = one_param known line p q may.can.exists can.can.exists parts.0 in
     ap (λ (i : ℕ). node.Split i mid) param ∙ ap (λ (i : ℕ). node.Split q i) parts.1

@@ -2,7 +2,7 @@
 use Rattle.std.proofs.Common.{◌≡◌, ◌<◌, ◌^◌, ℕ, true, refl, arith, decimal}
 use Rattle.std.specs.Prelude.{codes}
 use Rattle.model_line.specs.declared.line.Line.{Line}
-use Rattle.model_names.specs.ParamNamesApart.{name_of_param}
+use Rattle.model_line.specs.NamesByNumber.{parameter_name}
 use Rattle.base_lines.specs.Lines.{is_one_line}
 use Rattle.base_lines.specs.NamedLaws.{named_whole, decimal_whole}
 use Rattle.judge_split.specs.declared.node.Node.TheVariants as node
@@ -12,5 +12,5 @@ use Rattle.cert_split_text.specs.NameLaws.{param_stands}
 pub split_whole : (line : Line) (param mid : ℕ) → mid < 2 ^ 32
     → is_one_line (node_text line (node.Split param mid)) ≡ true
 split_whole line param mid small =
-    named_whole (codes "split") (name_of_param line param) (decimal mid) refl
+    named_whole (codes "split") (parameter_name line param) (decimal mid) refl
     (param_stands line param).whole (decimal_whole mid (omega arith))

@@ -5,7 +5,7 @@ use Rattle.std.specs.List.{All, flat_map}
 use Rattle.model_line.specs.Parameters.{terminal_count, param_count}
 use Rattle.model_line.specs.declared.script.Script.{Script}
 use Rattle.model_line.specs.{declared.line.Line.Line, declared.line.Terminal.Terminal}
-use Rattle.model_names.specs.ParamNamesApart.{name_of_param}
+use Rattle.model_line.specs.NamesByNumber.{parameter_name}
 use Rattle.model_logic.specs.Choice.{Box, declared_box}
 use Rattle.base_lines.specs.{Named.named, Grammar.Grammar, Grammar.IsFixed, Grammar.Parts}
 use Rattle.base_lines.specs.Grammar.{IsText, LeavesText}
@@ -86,7 +86,7 @@ split_line name mid = named (codes "split") name (decimal mid)
 abbrev pub node_text : Line → Node → List ℕ
 node_text line node.Yes = codes "yes"
 node_text line node.Undecided = codes "undecided"
-node_text line (node.Split param mid) = split_line (name_of_param line param) mid
+node_text line (node.Split param mid) = split_line (parameter_name line param) mid
 
 -- a split is one of the splits that are left, its middle is a number of 32 bits, and it can be made
 pub record MaySplit (line : Line) (n : ℕ) (box : Box) (param mid : ℕ) : Type 0 where

@@ -14,7 +14,7 @@ use Rattle.model_line.specs.{declared.line.Line.Line, declared.line.Terminal.Ter
 use Rattle.model_line.specs.{declared.line.Channel.Channel, declared.line.Owner.Owner}
 use Rattle.model_line.specs.declared.line.Owner.TheVariants as owner
 use Rattle.model_line.specs.declared.line.Setting.TheVariants as setting
-use Rattle.model_names.specs.ParamNamesApart.{name_of_param}
+use Rattle.model_line.specs.NamesByNumber.{parameter_name}
 use Rattle.base_lines.specs.Lines.{is_no_feed, is_one_line}
 use Rattle.base_lines.specs.{LineLaws.both_true, NamedLaws.whole_append, NamedLaws.whole_more}
 use Rattle.cert_text.specs.{Grammar.terminal_names, NameLaws.name_whole}
@@ -99,7 +99,7 @@ each_stands ts cs [] i plain = record { whole = refl; short = omega arith }
 each_stands ts cs (owned ∷ all) zero plain = dotted_stands ts cs owned plain
 each_stands ts cs (owned ∷ all) (suc i) plain = each_stands ts cs all i plain
 
-pub param_stands : (line : Line) (param : ℕ) → IsLineUpTo 51 (name_of_param line param)
+pub param_stands : (line : Line) (param : ℕ) → IsLineUpTo 51 (parameter_name line param)
 param_stands line param =
     subst (λ (names : List (List ℕ)). IsLineUpTo 51 (get_or names param [])) (sym line.param_names)
     (each_stands line.terminals.items line.channels.items

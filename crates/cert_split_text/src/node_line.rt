@@ -3,7 +3,7 @@
 ghost use Rattle.std.specs.Prelude.{◌≡◌, ◌≢◌, ◌<◌, ◌^◌, ℕ, decimal, MatchOption};
 ghost use Rattle.model_logic.specs.Choice.{declared_box};
 ghost use Rattle.model_line.specs.Parameters.{param_count};
-ghost use Rattle.model_names.specs.ParamNamesApart.{name_of_param};
+ghost use Rattle.model_line.specs.NamesByNumber.{parameter_name};
 ghost use Rattle.judge_split.specs.{Leaves.CanSplit, declared.node.Node.Node};
 ghost use Rattle.cert_split_text.specs.Grammar.{MayStand, node_text, split_line};
 
@@ -40,7 +40,7 @@ fn mid_in(bytes: &[u8], name: Name) -> Option<u32>
 /// The name of a parameter.
 pub(crate) fn param_name_at(line: &Line, param: u32) -> Name
     requires { param < param_count line.now }
-    ensures { result ≡ name_of_param line.now param }
+    ensures { result ≡ parameter_name line.now param }
 {
     line.params[param as usize].name
 }
@@ -50,9 +50,9 @@ fn split_in(line: &Line, part: &Line, bytes: &[u8]) -> Option<(u32, u32)>
     requires { param_count part.now ≡ param_count line.now }
     ensures { MatchOption result
         ((param mid : ℕ) → CanSplit part.now (declared_box part.now) param mid →
-        bytes.now ≢ split_line (name_of_param line.now param) mid)
+        bytes.now ≢ split_line (parameter_name line.now param) mid)
         (λ at. (at.1 < 2 ^ 32) × CanSplit part.now (declared_box part.now) at.0 at.1
-        × (bytes.now ≡ split_line (name_of_param line.now at.0) at.1)) }
+        × (bytes.now ≡ split_line (parameter_name line.now at.0) at.1)) }
 {
     middles_are_below_the_greatest_interval();
     for p in 0..line.param_count() {

@@ -7,7 +7,7 @@ use Rattle.std.specs.Char.{is_ascii_alphabetic, is_ascii_alphanumeric}
 use Rattle.std.specs.List.{list_all}
 use Rattle.model_line.specs.Channels.{from_of, to_of}
 use Rattle.model_line.specs.{declared.line.Line.Line, ParamNames.name_at, Parameters.terminal_count}
-use Rattle.model_names.specs.NamesByNumber.{element_text}
+use Rattle.model_line.specs.NamesByNumber.{element_text}
 use Rattle.net_gates.specs.declared.gate.Gate.{Gate}
 use Rattle.net_gates.specs.declared.gate.Gate.TheVariants as gate
 use Rattle.net_gates.specs.NetOf.{NetOf, key_of, trip_of}

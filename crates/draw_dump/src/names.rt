@@ -8,7 +8,7 @@ ghost use Rattle.draw_dump.specs.Variables.{kind_text, channel_text, step_text, 
 use crate::put::{put, put_number};
 use draw_roles::{Role, receiver, sender};
 use model_line::{Line, Memory};
-use model_names::element_word;
+use model_line::element_word;
 use net_gates::Gate;
 use std::alloc::Global;
 

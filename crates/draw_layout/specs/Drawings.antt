@@ -7,7 +7,7 @@ use Rattle.model_line.specs.declared.script.Script.{Script}
 use Rattle.model_line.specs.{declared.line.Line.Line, declared.line.Scheme.Scheme}
 use Rattle.model_line.specs.{declared.script.Element.Element, declared.script.Kind.Kind}
 use Rattle.model_line.specs.declared.line.Scheme.TheVariants as scheme
-use Rattle.model_names.specs.NamesByNumber.{terminal_name}
+use Rattle.model_line.specs.NamesByNumber.{terminal_name}
 use Rattle.draw_diagram.specs.declared.{diagram.Diagram.Diagram, rows.Row.Row, trace.Trace.Trace}
 use Rattle.draw_diagram.specs.declared.trace.Trace.TheVariants.{Seen, Lost, Logic, Key, Trip}
 use Rattle.draw_shapes.specs.declared.class.Class.TheVariants as class

@@ -2,7 +2,7 @@
 use Rattle.std.specs.Prelude.{◌/◌, ◌==◌, ◌&&◌, ◌||◌, ℕ, Bool, List, [], ◌∷◌, max, min}
 use Rattle.std.specs.Prelude.{nat_le, if◌then◌else◌}
 use Rattle.model_line.specs.declared.line.Line.{Line}
-use Rattle.model_names.specs.NamesByNumber.{terminal_name}
+use Rattle.model_line.specs.NamesByNumber.{terminal_name}
 use Rattle.draw_diagram.specs.declared.{diagram.Diagram.Diagram, rows.Row.Row}
 use Rattle.draw_layout.specs.declared.scale.Scale.{Scale}
 use Rattle.draw_layout.specs.{Rows.row_name, Rows.terminal_of, Scale.more}

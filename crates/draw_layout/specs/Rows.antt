@@ -4,7 +4,7 @@ use Rattle.std.specs.Prelude.{decimal, if◌then◌else◌}
 use Rattle.std.specs.List.{flat_map}
 use Rattle.model_line.specs.Channels.{from_of, to_of}
 use Rattle.model_line.specs.declared.line.Line.{Line}
-use Rattle.model_names.specs.NamesByNumber.{terminal_name, element_text}
+use Rattle.model_line.specs.NamesByNumber.{terminal_name, element_text}
 use Rattle.run_signal.specs.declared.tern.Tern.{Tern}
 use Rattle.run_signal.specs.declared.tern.Tern.TheVariants as tern
 use Rattle.draw_diagram.specs.declared.{rows.Row.Row, stretch.Stretch.Stretch, trace.Trace.Trace}

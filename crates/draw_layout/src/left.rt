@@ -8,7 +8,7 @@ use crate::row::{row_name, terminal_of};
 use crate::scale::Scale;
 use draw_diagram::{Diagram, Row};
 use model_line::{Line, Memory};
-use model_names::name_of_terminal;
+use model_line::name_of_terminal;
 use std::alloc::Global;
 
 /// The scale of a diagram: the axis begins behind the longest name, and shows the diagram's ticks.

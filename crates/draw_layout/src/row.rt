@@ -9,7 +9,7 @@ ghost use Rattle.draw_layout.specs.Rows.{stretches_said};
 ghost use Rattle.draw_layout.specs.Rows.{row_title, bar_if_any, bars, row_figures, row_shape};
 ghost use Rattle.draw_shapes.specs.Seen.{figures_seen, shape_seen};
 ghost use Rattle.model_line.specs.Channels.{from_of};
-ghost use Rattle.model_names.specs.NamesByNumber.{terminal_name};
+ghost use Rattle.model_line.specs.NamesByNumber.{terminal_name};
 
 use crate::bar::bar_of;
 use crate::scale::{RIGHT, Scale, x_of};
@@ -18,7 +18,7 @@ use draw_diagram::{Row, Stretch, Trace, is_off};
 use draw_roles::{Role, receiver};
 use draw_shapes::{Class, Figure, Shape, put_line, put_rectangle, put_text};
 use model_line::{Line, Memory};
-use model_names::{element_word, name_of_terminal};
+use model_line::{element_word, name_of_terminal};
 use run_signal::Tern;
 use std::alloc::Global;
 

@@ -12,7 +12,7 @@ use crate::trip::put_trip;
 use draw_diagram::{Diagram, Row, Trace};
 use draw_shapes::{Class, Figure, Shape, put_words};
 use model_line::{Element, Line, Memory};
-use model_names::name_of_terminal;
+use model_line::name_of_terminal;
 use std::alloc::Global;
 
 /// Where the rows begin: below the heading and the words of the marks.

@@ -18,7 +18,7 @@ use Rattle.model_line.specs.Channels.{channel_number, from_of, to_of}
 use Rattle.model_line.specs.{declared.line.Line.Line, Parameters.terminal_count}
 use Rattle.model_line.specs.{PlainNames.is_plain_byte, PlainNames.is_plain_name}
 use Rattle.model_line.specs.declared.line.Terminal.{Terminal}
-use Rattle.model_names.specs.NamesByNumber.{terminal_name}
+use Rattle.model_line.specs.NamesByNumber.{terminal_name}
 use Rattle.file_comtrade.specs.Named.{has_id, named_in}
 use Rattle.file_comtrade.specs.declared.channel.Named.TheVariants.{One}
 use Rattle.file_map.specs.declared.source.Signal.{Signal}

@@ -4,7 +4,7 @@ use Rattle.std.specs.Bool.{beq}
 use Rattle.std.specs.Prelude.{codes, decimal, if◌then◌else◌}
 use Rattle.model_line.specs.{Parameters.terminal_count}
 use Rattle.model_line.specs.declared.script.What.TheVariants as what
-use Rattle.model_names.specs.NamesByNumber.{terminal_name}
+use Rattle.model_line.specs.NamesByNumber.{terminal_name}
 use Rattle.run_rows.specs.PlayRows.{value_before}
 use Rattle.judge_match.specs.Row.{header_record}
 use Rattle.file_map.specs.declared.source.Signal.TheVariants.{Shown, Key, Trip}

@@ -11,7 +11,7 @@ use Rattle.model_line.specs.declared.script.Element.{Element}
 use Rattle.model_line.specs.declared.script.Element.TheVariants.{Z1, Z2, Rv, Uv, Cur}
 use Rattle.model_line.specs.declared.script.What.TheVariants as what
 use Rattle.model_logic.specs.Histories.{History}
-use Rattle.model_names.specs.NamesByNumber.{terminal_name}
+use Rattle.model_line.specs.NamesByNumber.{terminal_name}
 use Rattle.run_rows.specs.PlayRows.{each_below, level_word}
 use Rattle.file_recorded.specs.Config.{channel_count, channel_line, config_text, head_text, loss_line, tail_text}
 use Rattle.file_recorded.specs.Config.{terminal_lines}

@@ -2,7 +2,7 @@
 use Rattle.std.specs.Prelude.{◌++◌, ℕ, Bool, List, [], ◌∷◌, codes, if◌then◌else◌}
 use Rattle.std.specs.{Bool.beq, Fmt.decimal}
 use Rattle.model_line.specs.{declared.line.Line.Line, Parameters.terminal_count}
-use Rattle.model_names.specs.NamesByNumber.{terminal_name}
+use Rattle.model_line.specs.NamesByNumber.{terminal_name}
 use Rattle.run_rows.specs.PlayRows.{value_before}
 use Rattle.judge_match.specs.Row.{header_record}
 use Rattle.file_script.specs.Printed.{records_text}

@@ -8,7 +8,7 @@ use Rattle.model_line.specs.{Parameters.terminal_count, Seen.is_lost, Seen.is_se
 use Rattle.model_line.specs.declared.script.Element.TheVariants.{Z1, Z2, Rv, Uv, Cur}
 use Rattle.model_line.specs.declared.script.What.TheVariants as what
 use Rattle.model_logic.specs.Histories.{History}
-use Rattle.model_names.specs.NamesByNumber.{element_text, terminal_name}
+use Rattle.model_line.specs.NamesByNumber.{element_text, terminal_name}
 use Rattle.file_map.specs.declared.source.Signal.{Signal}
 use Rattle.file_map.specs.declared.source.Signal.TheVariants.{Shown, Key, Trip}
 use Rattle.file_map.specs.Signals.{shown}

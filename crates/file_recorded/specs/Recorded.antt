@@ -8,7 +8,7 @@ use Rattle.model_line.specs.declared.script.Element.{Element}
 use Rattle.model_line.specs.declared.script.What.TheVariants as what
 use Rattle.model_line.specs.Seen.{is_lost, is_seen}
 use Rattle.model_logic.specs.Histories.{History}
-use Rattle.model_names.specs.NamesByNumber.{terminal_name}
+use Rattle.model_line.specs.NamesByNumber.{terminal_name}
 use Rattle.judge_match.specs.Row.{header_record}
 use Rattle.file_map.specs.{declared.source.Signal.Signal, Signals.shown}
 use Rattle.file_map.specs.declared.source.Signal.TheVariants.{Shown, Key, Trip}

@@ -9,7 +9,7 @@ ghost use Rattle.file_recorded.specs.Config.{element_lines, head_text, loss_line
 use crate::put::put;
 use itoa::Buffer;
 use model_line::{Line, Memory, Script};
-use model_names::name_of_terminal;
+use model_line::name_of_terminal;
 use std::alloc::Global;
 
 /// The configuration: a digital channel for each element, key and trip of each terminal, and for the

@@ -9,7 +9,7 @@ ghost use Rattle.file_recorded.specs.Map.{recorder_head, recorder_text, signal_l
 use crate::put::put;
 use itoa::Buffer;
 use model_line::{Kind, Line, Memory, Script};
-use model_names::name_of_terminal;
+use model_line::name_of_terminal;
 use std::alloc::Global;
 
 /// The map under which the record is read back, where its configuration is called `NAME.cfg`. The

@@ -8,7 +8,7 @@ use Rattle.model_line.specs.ParamNames.{name_at, channel_name}
 use Rattle.model_line.specs.{declared.line.Line.Line, declared.script.Kind.Kind}
 use Rattle.model_line.specs.{declared.script.What.What, declared.script.SeenSpan.SeenSpan}
 use Rattle.model_line.specs.declared.script.What.TheVariants as what
-use Rattle.model_names.specs.NamesByNumber.{element_text}
+use Rattle.model_line.specs.NamesByNumber.{element_text}
 use Rattle.file_script.specs.{Row.header_record, Values.ScriptValues}
 
 abbrev pub kind_text : Kind → List ℕ

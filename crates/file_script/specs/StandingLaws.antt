@@ -24,7 +24,8 @@ use Rattle.model_line.specs.{declared.line.Channel.Channel, declared.script.Kind
 use Rattle.model_line.specs.{declared.script.SeenSpan.SeenSpan, PlainNames.is_plain_name}
 use Rattle.model_line.specs.{ParamNames.channel_name, declared.script.Script.Script}
 use Rattle.model_line.specs.declared.script.What.TheVariants as what
-use Rattle.model_names.specs.{NamesByNumber.element_text, NumbersByName.channel_named}
+use Rattle.model_line.specs.NamesByNumber.{element_text}
+use Rattle.model_names.specs.NumbersByName.{channel_named}
 use Rattle.file_script.specs.declared.item.Item.TheVariants.{Head, Seen, Lost}
 use Rattle.base_records.specs.SoFar.{SoFar, all_of, nothing}
 use Rattle.file_script.specs.Values.{ScriptValues, AreOfOneFile, values_of, with_head}

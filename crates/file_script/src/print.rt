@@ -12,7 +12,7 @@ ghost use Rattle.file_script.specs.Scripts.{scripts_in};
 
 use itoa::Buffer;
 use model_line::{Kind, Line, Memory, Script, SeenSpan, What, channel_name};
-use model_names::element_word;
+use model_line::element_word;
 use std::alloc::Global;
 
 /// The file of these scripts: the header and each script's records.

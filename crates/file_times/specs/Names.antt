@@ -6,7 +6,7 @@ use Rattle.std.specs.List.{position_or_len, before_first}
 use Rattle.std.specs.Str.{bytes_eq}
 use Rattle.model_history.specs.Elements.{some_below}
 use Rattle.model_line.specs.{declared.line.Line.Line, Parameters.param_count}
-use Rattle.model_names.specs.NamesByNumber.{parameter_name}
+use Rattle.model_line.specs.NamesByNumber.{parameter_name}
 
 abbrev pub is_comma : ℕ → Bool
 is_comma byte = byte == 44

@@ -21,7 +21,8 @@ use Rattle.base_store.specs.{Number.number_of, DecimalLaws.number_of-decimal}
 use Rattle.model_line.specs.Parameters.{param_count, is_delay, declared_ends}
 use Rattle.model_line.specs.{declared.line.Line.Line, declared.line.Param.Param, Intervals.leasts}
 use Rattle.model_line.specs.{PlainNames.is_plain_name, Laws.DelaysAreParameters}
-use Rattle.model_names.specs.ParamNamesApart.{name_of_param, has_no, ParamNamesApart}
+use Rattle.model_line.specs.NamesByNumber.{parameter_name}
+use Rattle.model_names.specs.ParamNamesApart.{has_no, ParamNamesApart}
 use Rattle.model_names.specs.NumbersByName.{param_named}
 use Rattle.model_logic.specs.Choice.{IsIn}
 use Rattle.model_timing.specs.{declared.step.Step.Step}
@@ -63,9 +64,9 @@ module _ (delays : DelaysAreParameters) (line : Line) (apart : ParamNamesApart l
   named_by (b ∷ bytes) i some found = ap (number_or_step line (b ∷ bytes)) found
 
   number_named : (i : ℕ) → i < param_count line
-      → named_in line (name_of_param line i) ≡ Some (named.Number i)
+      → named_in line (parameter_name line i) ≡ Some (named.Number i)
   number_named i inside =
-      named_by (name_of_param line i) i (apart.some i inside) (apart.found i inside)
+      named_by (parameter_name line i) i (apart.some i inside) (apart.found i inside)
 
   stepped_by : (field : List ℕ) → 0 < length field → param_named line field ≡ None
       → named_in line field ≡ step_named line field
@@ -90,10 +91,10 @@ module _ (delays : DelaysAreParameters) (line : Line) (apart : ParamNamesApart l
   ]
 
   step_field_named : (s : Step ℕ) → s.param < param_count line → IsStepInside line s
-      → named_in line (name_of_param line s.param ++ 64 ∷ decimal s.from)
+      → named_in line (parameter_name line s.param ++ 64 ∷ decimal s.from)
       ≡ Some (named.Step s.param s.from)
   step_field_named s inside stands =
-      let name : List ℕ = name_of_param line s.param in
+      let name : List ℕ = parameter_name line s.param in
       let rest : List ℕ = decimal s.from in
       let field : List ℕ = name ++ 64 ∷ rest in
       let place = at_place name rest (apart.no_at s.param inside) in
@@ -197,7 +198,7 @@ module _ (delays : DelaysAreParameters) (line : Line) (apart : ParamNamesApart l
       let here : IsIn v (declared_ends line i) =
       subst (λ (k : ℕ). IsIn v (declared_ends line k)) zero_more (stand 0 (omega arith)) in
       let t : OpenTiming = opening_by name given (front ++ o ∷ old) [] in
-      let first = row_stands done t n (named.Number i) (name_of_param line i) v (decimal v) plain
+      let first = row_stands done t n (named.Number i) (parameter_name line i) v (decimal v) plain
       (number_named i this) (number_read i v this here) (below_is_new i given below) in
       let written : slice_set (front ++ o ∷ old) i v ≡ front ++ v ∷ old =
       set_at front o old v i (sym place) in
@@ -287,7 +288,7 @@ module _ (delays : DelaysAreParameters) (line : Line) (apart : ParamNamesApart l
       All-head (λ z. All (λ x. comes_before x z ≡ true) front) s steps before in
       let t : OpenTiming = opening_by name given values front in
       let first = row_stands done t n (named.Step s.param s.from)
-      (name_of_param line s.param ++ 64 ∷ decimal s.from) s.value (decimal s.value) plain
+      (parameter_name line s.param ++ 64 ∷ decimal s.from) s.value (decimal s.value) plain
       (step_field_named s inside here) (number_read s.param s.value inside here.value)
       (new_step s front fore) in
       let behind : List (List (List ℕ)) = map (step_record line name) steps ++ rest in

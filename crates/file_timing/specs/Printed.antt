@@ -5,7 +5,7 @@ use Rattle.std.specs.List.{flat_map}
 use Rattle.std.specs.Fmt.{decimal}
 use Rattle.csv.specs.Writing.{row_text, default_writer}
 use Rattle.model_line.specs.{declared.line.Line.Line, PlainNames.is_plain_name}
-use Rattle.model_names.specs.ParamNamesApart.{name_of_param}
+use Rattle.model_line.specs.NamesByNumber.{parameter_name}
 use Rattle.model_timing.specs.declared.step.Step.{Step}
 use Rattle.file_timing.specs.{Row.header_record}
 use Rattle.model_timing.specs.{Timing.ascend, Inside.IsTimingInside}
@@ -17,7 +17,7 @@ name_record name = name ∷ [] ∷ [] ∷ []
 
 -- a parameter and its number
 abbrev pub number_record : Line → List ℕ → ℕ → ℕ → List (List ℕ)
-number_record line name i value = name ∷ name_of_param line i ∷ decimal value ∷ []
+number_record line name i value = name ∷ parameter_name line i ∷ decimal value ∷ []
 
 -- so for each of these numbers, of which the first is that of parameter i
 abbrev pub number_records : Line → List ℕ → ℕ → List ℕ → List (List (List ℕ))
@@ -28,7 +28,7 @@ number_records line name i (value ∷ values) =
 -- a step: the delay, `@` and the tick, and the number from then on
 abbrev pub step_record : Line → List ℕ → Step ℕ → List (List ℕ)
 step_record line name step =
-    name ∷ (name_of_param line step.param ++ 64 ∷ decimal step.from) ∷ decimal step.value ∷ []
+    name ∷ (parameter_name line step.param ++ 64 ∷ decimal step.from) ∷ decimal step.value ∷ []
 
 -- the name alone, each parameter's number, and each step
 abbrev pub timing_records : Line → NamedValues → List (List (List ℕ))

@@ -4,7 +4,7 @@ use Rattle.std.specs.Prelude.{codes, get_or, length, nat_lt, slice_get, if◌the
 use Rattle.std.specs.{Bool.beq, Fmt.decimal}
 use Rattle.model_line.specs.declared.line.{Channel.Channel, Line.Line}
 use Rattle.model_line.specs.declared.script.What.TheVariants as what
-use Rattle.model_names.specs.NamesByNumber.{element_text, terminal_name}
+use Rattle.model_line.specs.NamesByNumber.{element_text, terminal_name}
 use Rattle.draw_shapes.specs.Numbers.{milliseconds_said}
 use Rattle.file_map.specs.declared.source.Signal.{Signal}
 use Rattle.file_map.specs.declared.source.Signal.TheVariants as signal

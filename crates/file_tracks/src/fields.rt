@@ -17,7 +17,7 @@ use draw_shapes::milliseconds;
 use file_map::{ChannelName, Recorder, Signal};
 use itoa::Buffer;
 use model_line::{Line, Memory, Place, What};
-use model_names::{element_word, name_of_terminal};
+use model_line::{element_word, name_of_terminal};
 use std::alloc::Global;
 
 /// What a signal is called: the terminal, what it saw or did, and for a lost channel the terminal

@@ -2,7 +2,7 @@
 use Rattle.std.specs.Prelude.{◌+◌, ◌-◌, ◌==◌, ◌&&◌, ℕ, List, [], ◌∷◌, Option, None, Some, nat_lt}
 use Rattle.std.specs.Prelude.{if◌then◌else◌}
 use Rattle.model_line.specs.{declared.line.Line.Line, Parameters.is_delay}
-use Rattle.model_names.specs.NamesByNumber.{parameter_name}
+use Rattle.model_line.specs.NamesByNumber.{parameter_name}
 use Rattle.judge_map.specs.{declared.axis.Axis.Axis, declared.axis.Axes.Axes}
 use Rattle.judge_map.specs.declared.fault.MapFault.{MapFault}
 use Rattle.judge_map.specs.declared.fault.MapFault.TheVariants.{Late, NoDelay, TooMany}

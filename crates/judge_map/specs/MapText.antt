@@ -4,7 +4,7 @@ use Rattle.std.specs.Prelude.{if◌then◌else◌}
 use Rattle.csv.specs.Writing.{row_text, default_writer}
 use Rattle.model_line.specs.{declared.line.Line.Line, declared.script.Script.Script}
 use Rattle.model_line.specs.Parameters.{terminal_count}
-use Rattle.model_names.specs.NamesByNumber.{script_name, terminal_name}
+use Rattle.model_line.specs.NamesByNumber.{script_name, terminal_name}
 use Rattle.judge_map.specs.{declared.axis.Axis.Axis, declared.axis.Axes.Axes}
 use Rattle.judge_map.specs.{declared.cell.Cell.Cell, declared.cell.Word.Word}
 use Rattle.judge_map.specs.declared.cell.Word.TheVariants.{Held, Open, Fails}

@@ -13,7 +13,7 @@ use base_lines::push_ticks;
 use itoa::Buffer;
 use judge_report::Lost;
 use model_line::{Line, Memory, Script};
-use model_names::{name_of_parameter, name_of_script, name_of_terminal};
+use model_line::{name_of_parameter, name_of_script, name_of_terminal};
 use std::alloc::Global;
 
 const HEADER: &[u8] =

@@ -8,7 +8,7 @@ ghost use Rattle.judge_match.specs.MatchText.{signal_word as word_of_signal};
 use crate::seen::Match;
 use base_lines::push_number;
 use model_line::{Line, Memory, Script};
-use model_names::name_of_terminal;
+use model_line::name_of_terminal;
 use run_rows::level_word;
 use run_signal::{Tern, Tick};
 use run_waves::tern_word;

@@ -1,6 +1,6 @@
 -- The line of a margin.
 use Rattle.std.specs.Prelude.{◌++◌, ℕ, List, codes, decimal, Option, None, Some}
-use Rattle.model_names.specs.NamesByNumber.{terminal_name, parameter_name, script_name}
+use Rattle.model_line.specs.NamesByNumber.{terminal_name, parameter_name, script_name}
 use Rattle.model_line.specs.{declared.script.Script.Script, declared.line.Line.Line}
 use Rattle.model_line.specs.Parameters.{declared_ends}
 use Rattle.judge_report.specs.{declared.upper_end.Lost.Lost, declared.upper_end.UpperEnd.UpperEnd}

@@ -9,7 +9,7 @@ use Rattle.model_line.specs.{declared.script.Kind.Kind, Parameters.terminal_coun
 use Rattle.model_logic.specs.Rule.{Rule, Held, Broken, Unknown, rule_of}
 use Rattle.model_logic.specs.Histories.{PairHistory, IsPairHistory}
 use Rattle.model_logic.specs.Choice.{declared_box}
-use Rattle.model_names.specs.NamesByNumber.{terminal_name}
+use Rattle.model_line.specs.NamesByNumber.{terminal_name}
 use Rattle.run_rows.specs.PlayRows.{each_below}
 use Rattle.run_waves.specs.FirstTick.{first_on}
 use Rattle.judge_report.specs.Deadlines.{deadline_of, margin_of, margin_us_of}

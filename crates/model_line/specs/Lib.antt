@@ -22,3 +22,4 @@ pub mod ChannelLaws
 pub mod Laws
 pub mod ParamNameLaws
 pub mod SettingFlagLaws
+pub mod NamesByNumber

@@ -24,7 +24,8 @@ use Rattle.model_line.specs.Terminals.{are_plain_names}
 use Rattle.model_line.specs.{declared.line.Line.Line, Parameters.param_count}
 use Rattle.model_line.specs.{declared.line.Param.Param, declared.line.Setting.Setting}
 use Rattle.model_line.specs.{declared.line.Terminal.Terminal, declared.line.Channel.Channel}
-use Rattle.model_names.specs.ParamNamesApart.{name_of_param, has_no, ParamNamesApart}
+use Rattle.model_line.specs.NamesByNumber.{parameter_name}
+use Rattle.model_names.specs.ParamNamesApart.{has_no, ParamNamesApart}
 use Rattle.model_names.proofs.SettingTexts.{text_has_no_at, is_other_text, differ}
 use Rattle.model_names.proofs.SettingTexts.{terminal_settings_differ, channel_settings_differ}
 
@@ -408,14 +409,14 @@ module _ (line : Line) where
       ∙ names_of_line line.scheme line.terminals.items line.channels.items
 
   differ_at : (i j : ℕ) → i < j → j < param_count line
-      → name_of_param line i ≢ name_of_param line j
+      → parameter_name line i ≢ parameter_name line j
   differ_at i j less inside same =
       apart_at (terminal_part ++ channel_part) i j [] names_are_apart less
       (omega (arith, ap length their_names, length-map line.params.items (λ (p : Param). p.name)))
       (ap (λ (l : List (List ℕ)). get_or l i []) (sym their_names) ∙ same
       ∙ ap (λ (l : List (List ℕ)). get_or l j []) their_names)
 
-  no_at_in : (i : ℕ) → i < param_count line → has_no 64 (name_of_param line i) ≡ true
+  no_at_in : (i : ℕ) → i < param_count line → has_no 64 (parameter_name line i) ≡ true
   no_at_in i inside =
       subst (λ (l : List (List ℕ)). has_no 64 (get_or l i []) ≡ true) (sym their_names)
       (All-get_or (λ (n : List ℕ). has_no 64 n ≡ true) (terminal_part ++ channel_part) i []
@@ -426,14 +427,14 @@ module _ (line : Line) where
 
   -- the name of a parameter as it stands in the list
   own_name : (i : ℕ) (d : Param) → i < param_count line
-      → name_of_param line i ≡ (get_or line.params.items i d).name
+      → parameter_name line i ≡ (get_or line.params.items i d).name
   own_name i d inside = get_or-map (λ (p : Param). p.name) line.params.items i d [] inside
 
   found_by_name : (i : ℕ) → i < param_count line
-      → position_from (λ p. bytes_eq p.name (name_of_param line i)) 0 line.params.items ≡ Some i
+      → position_from (λ p. bytes_eq p.name (parameter_name line i)) 0 line.params.items ≡ Some i
   found_by_name i inside =
       let d : Param = record { name = []; least = 0; greatest = 0 } in
-      let name : List ℕ = name_of_param line i in
+      let name : List ℕ = parameter_name line i in
       position_from-first (λ p. bytes_eq p.name name) 0 i line.params.items d inside
       (list_any-take_none (λ p. bytes_eq p.name name) i line.params.items d
       (λ j less. bytes_differ (get_or line.params.items j d).name name

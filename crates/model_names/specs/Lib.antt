@@ -1,3 +1,2 @@
-pub mod NamesByNumber
 pub mod NumbersByName
 pub mod ParamNamesApart

@@ -6,8 +6,6 @@
 #![tactic(auto)]
 
 pub mod name_laws;
-mod names;
 mod numbers_by_name;
 
-pub use names::{element_word, name_of_parameter, name_of_script, name_of_terminal};
 pub use numbers_by_name::{channel_of_name, parameter_of_name, script_of_name, terminal_of_name};

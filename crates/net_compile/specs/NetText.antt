@@ -6,7 +6,7 @@ use Rattle.model_logic.specs.declared.time.Time.{Time}
 use Rattle.model_line.specs.ParamNames.{name_at, channel_name}
 use Rattle.model_line.specs.Parameters.{terminal_count}
 use Rattle.model_line.specs.{declared.line.Line.Line, declared.script.Place.Place}
-use Rattle.model_names.specs.NamesByNumber.{element_text, parameter_name}
+use Rattle.model_line.specs.NamesByNumber.{element_text, parameter_name}
 use Rattle.net_gates.specs.declared.gate.Gate.TheVariants.{Const, Seen, Loss, Raw, Not, And, Or}
 use Rattle.net_gates.specs.declared.gate.Gate.TheVariants.{Timer, Seal}
 use Rattle.net_gates.specs.declared.gate.GateId.{GateId}

@@ -12,7 +12,7 @@ ghost use Rattle.net_compile.specs.NetText.{terminal_lines, lines_below, net_tex
 use itoa::Buffer;
 use model_line::{Line, Memory, Place, channel_name};
 use model_logic::Time;
-use model_names::element_word;
+use model_line::element_word;
 use net_gates::{Gate, GateId, Net};
 use std::alloc::Global;
 

@@ -7,7 +7,7 @@ use Rattle.std.specs.List.{concat}
 use Rattle.std.specs.Prelude.{codes}
 use Rattle.model_line.specs.{declared.line.Line.Line, Parameters.terminal_count}
 use Rattle.model_logic.specs.Histories.{History, IsSameHistory}
-use Rattle.model_names.specs.NamesByNumber.{terminal_name}
+use Rattle.model_line.specs.NamesByNumber.{terminal_name}
 use Rattle.run_rows.specs.PlayRows.{change_row, value_before, signal_row, each_below}
 use Rattle.run_rows.specs.PlayRows.{terminal_rows, tick_rows, run_rows}
 

@@ -1,5 +1,5 @@
 use Rattle.std.proofs.Common.{◌≡◌, map}
-use Rattle.model_names.specs.NamesByNumber.{parameter_name}
+use Rattle.model_line.specs.NamesByNumber.{parameter_name}
 use Rattle.call_facts.specs.{Told.is_at_least, Lists.those_below}
 use Rattle.call_facts.proofs.told.least_times.Given as goal
 

@@ -1,6 +1,6 @@
 use Rattle.std.proofs.Common.{◌≡◌, ◌∙◌, ℕ, List, true, false, below_more, subst, sym}
 use Rattle.std.specs.Prelude.{codes}
-use Rattle.model_names.specs.ParamNamesApart.{name_of_param}
+use Rattle.model_line.specs.NamesByNumber.{parameter_name}
 use Rattle.model_settle.specs.CaseTrees.{CanSplit}
 use Rattle.cert_settle.specs.Grammar.{split_line}
 use Rattle.cert_settle.proofs.{LineLaws.one_after, NodeLaws.middle_small}
@@ -12,7 +12,7 @@ loop-p-preserved c =
     let line = c.args.line.now in
     let part = c.args.part.now in
     let bytes : List ℕ = c.args.bytes.now in
-    let name : List ℕ = name_of_param line c.loop-p.p in
+    let name : List ℕ = parameter_name line c.loop-p.p in
     below_more _ _ c.loop-p.invariant (elim c.match-number_after.branch [
       | in-Some+else-is_split w ↦ (λ box mid is can there.
           let here : bytes ≡ split_line name w.in-Some.mid =

@@ -1,6 +1,6 @@
 use Rattle.std.proofs.Common.{◌≢◌, ◌<◌, ℕ}
 use Rattle.model_logic.specs.Choice.{Box}
-use Rattle.model_names.specs.ParamNamesApart.{name_of_param}
+use Rattle.model_line.specs.NamesByNumber.{parameter_name}
 use Rattle.model_settle.specs.CaseTrees.{CanSplit}
 use Rattle.judge_split.specs.Parts.{IsPart}
 use Rattle.cert_settle.specs.Grammar.{split_line}
@@ -10,4 +10,4 @@ use Rattle.cert_settle.proofs.branch_line.split_in.Given as goal
 abbrev pub invariant-loop-p : goal.invariant-loop-p
 invariant-loop-p l =
     (param : ℕ) → param < l.p → (box : Box) (mid : ℕ) → IsPart l.line box l.part
-    → CanSplit l.line box param mid → l.bytes ≢ split_line (name_of_param l.line param) mid
+    → CanSplit l.line box param mid → l.bytes ≢ split_line (parameter_name l.line param) mid

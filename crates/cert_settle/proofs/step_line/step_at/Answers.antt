@@ -1,5 +1,5 @@
 use Rattle.std.proofs.Common.{◌≡◌, ◌≢◌, ◌∙◌, ℕ, List, sym, ap, subst}
-use Rattle.model_names.specs.ParamNamesApart.{name_of_param}
+use Rattle.model_line.specs.NamesByNumber.{parameter_name}
 use Rattle.model_timing.specs.{declared.step.Step.Step, Inside.IsStepInside}
 use Rattle.base_lines.specs.AnswerLaws.{map_option}
 use Rattle.cert_settle.specs.Grammar.{step_line, step_text}
@@ -14,7 +14,7 @@ returns c =
     let value : ℕ = c.in_ok-from.value in
     let bytes : List ℕ = c.args.bytes.now in
     let own : Step ℕ = record { param = param; from = from; value = value } in
-    let here : bytes ≡ step_line (name_of_param line param) from value =
+    let here : bytes ≡ step_line (parameter_name line param) from value =
     subst (λ (n : List ℕ). bytes ≡ step_line n from value) c.param_name_at.ensures
     c.in_ok-from.ensures.1.1 in
     map_option (¬ (IsStepInside line own))

@@ -1,6 +1,6 @@
 use Rattle.std.proofs.Common.{◌≡◌, ◌≢◌, ◌∙◌, ℕ, List, true, false, below_more, arith, subst, sym}
 use Rattle.model_logic.specs.Choice.{declared_box}
-use Rattle.model_names.specs.ParamNamesApart.{name_of_param}
+use Rattle.model_line.specs.NamesByNumber.{parameter_name}
 use Rattle.judge_split.specs.Leaves.{CanSplit}
 use Rattle.cert_split_text.specs.Grammar.{split_line}
 use Rattle.cert_split_text.proofs.NodeLaws.{one_mid}
@@ -11,7 +11,7 @@ pub loop-p-preserved : goal.loop-p-preserved
 loop-p-preserved c =
     let part = c.args.part.now in
     let bytes : List ℕ = c.args.bytes.now in
-    let name : List ℕ = name_of_param c.args.line.now c.loop-p.p in
+    let name : List ℕ = parameter_name c.args.line.now c.loop-p.p in
     let T : List ℕ → ℕ → Type 0 = λ n m. bytes ≢ split_line n m in
     below_more _ _ c.loop-p.invariant (elim c.match-mid_in.branch [
       | in-Some+else-can_split w ↦ (λ mid can is.

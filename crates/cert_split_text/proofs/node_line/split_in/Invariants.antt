@@ -1,6 +1,6 @@
 use Rattle.std.proofs.Common.{◌≢◌, ◌<◌, ℕ}
 use Rattle.model_logic.specs.Choice.{declared_box}
-use Rattle.model_names.specs.ParamNamesApart.{name_of_param}
+use Rattle.model_line.specs.NamesByNumber.{parameter_name}
 use Rattle.judge_split.specs.Leaves.{CanSplit}
 use Rattle.cert_split_text.specs.Grammar.{split_line}
 use Rattle.cert_split_text.proofs.node_line.split_in.Given as goal
@@ -9,4 +9,4 @@ use Rattle.cert_split_text.proofs.node_line.split_in.Given as goal
 abbrev pub invariant-loop-p : goal.invariant-loop-p
 invariant-loop-p l =
     (param : ℕ) → param < l.p → (mid : ℕ) → CanSplit l.part (declared_box l.part) param mid
-    → l.bytes ≢ split_line (name_of_param l.line param) mid
+    → l.bytes ≢ split_line (parameter_name l.line param) mid

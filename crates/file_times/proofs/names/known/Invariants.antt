@@ -1,6 +1,6 @@
 use Rattle.std.proofs.Common.{◌≡◌}
 use Rattle.model_history.specs.Elements.{some_below}
-use Rattle.model_names.specs.NamesByNumber.{parameter_name}
+use Rattle.model_line.specs.NamesByNumber.{parameter_name}
 use Rattle.file_times.specs.Names.{stands_for}
 use Rattle.file_times.proofs.names.known.Given as goal
 

@@ -2,7 +2,7 @@ use Rattle.std.proofs.Common.{[], ◌≡◌, Some, refl, sym, ◌∙◌, ap}
 use Rattle.std.proofs.lemmas.Option.{slice_get_read, slice_get-map, get_or_from_slice_get}
 use Rattle.std.specs.Prelude.{slice_get, option_map}
 use Rattle.model_line.specs.declared.line.Terminal.{Terminal}
-use Rattle.model_names.specs.NamesByNumber.{terminal_name}
+use Rattle.model_line.specs.NamesByNumber.{terminal_name}
 use Rattle.judge_report.specs.Deadlines.{deadline_of, margin_of, margin_us_of}
 use Rattle.judge_report.specs.ReportText.{field, kind_word, tick_text, margin_text}
 use Rattle.judge_report.proofs.Texts.{begun, grown}

@@ -3,7 +3,7 @@ use Rattle.std.proofs.lemmas.Option.{slice_get_read, slice_get-map, get_or_from_
 use Rattle.std.specs.Prelude.{slice_get, option_map, codes, get_or}
 use Rattle.model_line.specs.declared.line.Terminal.{Terminal}
 use Rattle.model_line.specs.Parameters.{terminal_count}
-use Rattle.model_names.specs.NamesByNumber.{terminal_name}
+use Rattle.model_line.specs.NamesByNumber.{terminal_name}
 use Rattle.run_signal.specs.declared.level.Level.{Level}
 use Rattle.run_signal.specs.SentKeys.{SentKeys}
 use Rattle.run_changes.specs.PlayedTracks.{is_on, shown_is}

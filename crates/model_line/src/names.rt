@@ -1,10 +1,11 @@
 //! The names of terminals, parameters and scripts by their numbers, and the word of an element.
 
 ghost use Rattle.std.specs.Prelude.{◌≡◌};
-ghost use Rattle.model_names.specs.NamesByNumber.{terminal_name, parameter_name, script_name};
-ghost use Rattle.model_names.specs.NamesByNumber.{element_text};
+ghost use Rattle.model_line.specs.NamesByNumber.{terminal_name, parameter_name, script_name};
+ghost use Rattle.model_line.specs.NamesByNumber.{element_text};
 
-use model_line::{Element, Line, Script};
+use crate::line::Line;
+use crate::script::{Element, Script};
 
 /// The name of the line's terminal of this number; empty if there is none.
 pub fn name_of_terminal(line: &Line, terminal: u32) -> &[u8]
