@@ -4,22 +4,14 @@ use Rattle.std.specs.List.{flat_map}
 use Rattle.csv.specs.Writing.{row_text, default_writer}
 use Rattle.model_line.specs.{declared.line.Line.Line, declared.script.Script.Script}
 use Rattle.model_line.specs.NamesByNumber.{script_name, terminal_name}
-use Rattle.judge_settle.specs.{declared.answer.Answer.Answer, declared.answer.By.By}
+use Rattle.judge_settle.specs.{declared.answer.Answer.Answer, Words.by_word}
 use Rattle.judge_settle.specs.declared.answer.Answer.TheVariants.{Held, Fails, Open}
-use Rattle.judge_settle.specs.declared.answer.By.TheVariants.{Rules, Candidate, Corner, Parts, Cases}
 use Rattle.call_tables.specs.declared.row.Row.{Row}
 
 abbrev pub answer_word : Answer → List ℕ
 answer_word (Held nodes) = codes "held"
 answer_word (Fails timing) = codes "fails"
 answer_word (Open nodes) = codes "open"
-
-abbrev pub by_word : By → List ℕ
-by_word Rules = codes "rules"
-by_word Candidate = codes "candidate"
-by_word Corner = codes "corner"
-by_word Parts = codes "parts"
-by_word Cases = codes "cases"
 
 -- the name of the timing that fails: that of its terminal
 abbrev pub timing_name : Answer → List ℕ → List ℕ

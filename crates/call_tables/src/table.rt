@@ -4,14 +4,14 @@ ghost use Rattle.std.specs.Prelude.{◌≡◌, ◌<◌, ◌++◌, length, IfOk, 
 ghost use Rattle.csv.specs.Writing.{row_text, default_writer};
 ghost use Rattle.model_line.specs.Parameters.{terminal_count};
 ghost use Rattle.call_tables.specs.Rows.{AreRows};
-ghost use Rattle.call_tables.specs.Table.{answer_word as word_of_answer, by_word as word_of_by};
+ghost use Rattle.call_tables.specs.Table.{answer_word as word_of_answer};
 ghost use Rattle.call_tables.specs.Table.{row_record, table_text as table_text_of, timing_name};
 
 use crate::row::Row;
 use base_records::push_record;
 use call_answer::Study;
 use itoa::Buffer;
-use judge_settle::{Answer, By};
+use judge_settle::{Answer, by_word};
 use model_line::Memory;
 use std::alloc::Global;
 
@@ -75,19 +75,6 @@ fn answer_word(answer: &Answer) -> &'static [u8]
         Answer::Held(_) => b"held",
         Answer::Fails(_) => b"fails",
         Answer::Open(_) => b"open",
-    }
-}
-
-// By what it was settled, as a word.
-fn by_word(by: By) -> &'static [u8]
-    ensures { result.now ≡ word_of_by by }
-{
-    match by {
-        By::Rules => b"rules",
-        By::Candidate => b"candidate",
-        By::Corner => b"corner",
-        By::Parts => b"parts",
-        By::Cases => b"cases",
     }
 }
 

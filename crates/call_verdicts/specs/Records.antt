@@ -9,7 +9,7 @@ use Rattle.model_line.specs.declared.script.Kind.TheVariants.{Internal, External
 use Rattle.model_line.specs.NamesByNumber.{script_name, terminal_name}
 use Rattle.judge_report.specs.ReportText.{kind_word}
 use Rattle.file_sweeps.specs.declared.group.Group.{Group}
-use Rattle.call_tables.specs.Table.{by_word}
+use Rattle.judge_settle.specs.Words.{by_word}
 use Rattle.base_lines.specs.Milliseconds.{ticks_text}
 use Rattle.file_sweeps.specs.Places.{PlaceValues, place_in}
 use Rattle.call_verdicts.specs.declared.finding.{Finding.Finding, Standing.Standing}

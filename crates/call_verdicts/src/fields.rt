@@ -3,7 +3,6 @@
 ghost use Rattle.std.specs.Prelude.{◌≡◌, ◌++◌, ◌∷◌, IfOk, OnOk, Some};
 ghost use Rattle.model_line.specs.declared.script.Kind.TheVariants.{Internal};
 ghost use Rattle.judge_report.specs.ReportText.{kind_word as word_of_kind};
-ghost use Rattle.call_tables.specs.Table.{by_word as word_of_by};
 ghost use Rattle.base_lines.specs.Milliseconds.{ticks_text};
 ghost use Rattle.call_verdicts.specs.Records.{answer_word as word_of_answer};
 ghost use Rattle.call_verdicts.specs.Records.{margin_text as margin_text_of, times_text};
@@ -11,7 +10,6 @@ ghost use Rattle.call_verdicts.specs.Records.{trip_text as trip_text_of};
 
 use crate::finding::Standing;
 use base_lines::push_ticks;
-use judge_settle::By;
 use model_line::{Kind, Memory};
 use std::alloc::Global;
 
@@ -102,18 +100,5 @@ pub fn answer_word(standing: Standing) -> &'static [u8]
         Standing::Held => b"held",
         Standing::Fails => b"fails",
         Standing::Open => b"open",
-    }
-}
-
-/// By what it was settled, as a word.
-pub fn by_word(by: By) -> &'static [u8]
-    ensures { result.now ≡ word_of_by by }
-{
-    match by {
-        By::Rules => b"rules",
-        By::Candidate => b"candidate",
-        By::Corner => b"corner",
-        By::Parts => b"parts",
-        By::Cases => b"cases",
     }
 }

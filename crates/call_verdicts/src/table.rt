@@ -7,10 +7,11 @@ ghost use Rattle.call_verdicts.specs.Findings.{AreFindings};
 ghost use Rattle.call_verdicts.specs.Records.{finding_record, header_record, verdicts_text};
 
 use crate::cases::Cases;
-use crate::fields::{answer_word, by_word, kind_word, margin_text, trip_text};
+use crate::fields::{answer_word, kind_word, margin_text, trip_text};
 use crate::finding::Finding;
 use crate::told::told_of;
 use base_records::push_record;
+use judge_settle::by_word;
 use model_line::Memory;
 use std::alloc::Global;
 

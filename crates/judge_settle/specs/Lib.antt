@@ -5,3 +5,4 @@ pub mod Sides
 pub mod Scenes
 pub mod Answers
 pub mod Trips
+pub mod Words

@@ -1,5 +1,8 @@
 //! Answers.
 
+ghost use Rattle.std.specs.Prelude.{◌≡◌};
+ghost use Rattle.judge_settle.specs.Words.{by_word as word_of_by};
+
 use judge_cases::CaseNode;
 use model_timing::Timing;
 
@@ -27,6 +30,19 @@ pub enum By {
     Parts,
     /// Cases of echoes.
     Cases,
+}
+
+/// The word for what an obligation was settled by, as tables have it.
+pub fn by_word(by: By) -> &'static [u8]
+    ensures { result.now ≡ word_of_by by }
+{
+    match by {
+        By::Rules => b"rules",
+        By::Candidate => b"candidate",
+        By::Corner => b"corner",
+        By::Parts => b"parts",
+        By::Cases => b"cases",
+    }
 }
 
 /// The answer to an obligation, by what, and after how many analyses of boxes and timings.

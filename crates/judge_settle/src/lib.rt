@@ -12,5 +12,5 @@ mod search;
 mod settling;
 mod sides;
 
-pub use answer::{Answer, By, Settled};
+pub use answer::{Answer, By, Settled, by_word};
 pub use settling::settle;
