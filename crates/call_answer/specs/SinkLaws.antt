@@ -2,7 +2,7 @@
 use Rattle.std.proofs.Common.{ℕ, List, [], ◌++◌, Option, None, Some, refl, sym, ◌∙◌}
 use Rattle.std.proofs.lemmas.List.{append-nil}
 use Rattle.std.specs.Io.KnownBytes.{Appends, Keeps}
-use Rattle.base_store.specs.SinkLaws.{appends_both}
+use Rattle.base_text.specs.store.SinkLaws.{appends_both}
 use Rattle.call_answer.specs.Sinks.{SinkView, GrewByAll}
 
 pub appends_none : (a : Option (List ℕ)) → Appends a a []

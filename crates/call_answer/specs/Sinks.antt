@@ -1,7 +1,7 @@
 -- What a sink took of a text.
 use Rattle.std.specs.Prelude.{◌≡◌, MatchResult, ℕ, List, Option, Result, Ok, Err}
 use Rattle.std.specs.Io.KnownBytes.{Appends}
-use Rattle.base_store.specs.{Counts.Rose, Sink.GrewByProper, Sink.GrewByPart}
+use Rattle.base_text.specs.{store.Counts.Rose, store.Sink.GrewByProper, store.Sink.GrewByPart}
 use Rattle.call_answer.specs.declared.put.WriteStop.{WriteStop}
 use Rattle.call_answer.specs.declared.put.WriteStop.TheVariants as stop
 

@@ -4,7 +4,7 @@ ghost use Rattle.std.specs.List.{concat};
 ghost use Rattle.call_answer.specs.Sinks.{Puts, Writes, sink_view};
 ghost use Rattle.call_answer.specs.declared.put.WriteStop.TheVariants as stop;
 
-use base_store::{PutFailed, Sink, put_all};
+use base_text::store::{PutFailed, Sink, put_all};
 use model_line::Memory;
 
 /// Why the writing of a text stopped.

@@ -5,7 +5,7 @@ ghost use Rattle.call_answer.specs.Sinks.{Writes, sink_view};
 
 use crate::done::Done;
 use crate::put::{WriteStop, put_text};
-use base_store::Sink;
+use base_text::store::Sink;
 
 /// A status and the whole text that goes with it.
 #[derive(Drop)]

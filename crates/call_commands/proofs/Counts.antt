@@ -4,7 +4,7 @@ use Rattle.std.proofs.Math.Nat.{min-le_left, min-le_right, le-min, min-eq_left, 
 use Rattle.std.proofs.lemmas.Bool.{cases_lt}
 use Rattle.std.specs.Prelude.{min}
 use Rattle.call_engine.specs.Calls.{Calls, NoneFell}
-use Rattle.base_store.specs.Counts.{Grew, Rose, last_count}
+use Rattle.base_text.specs.store.Counts.{Grew, Rose, last_count}
 
 -- no calls
 pub grew_nothing : (a n : ℕ) → n ≡ 0 → Grew a n a

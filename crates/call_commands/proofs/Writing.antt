@@ -3,8 +3,8 @@ use Rattle.std.proofs.Common.{ℕ, ◌+◌, List, ◌++◌, Option, Result, Ok, 
 use Rattle.std.proofs.Common.{take, ◌≤◌, length-append, arith}
 use Rattle.std.proofs.lemmas.List.{take-append-le}
 use Rattle.std.specs.Io.KnownBytes.{Appends}
-use Rattle.base_store.specs.Sink.{GrewByPart}
-use Rattle.base_store.specs.SinkLaws.{appends_both, proper_later, proper_more, take_past}
+use Rattle.base_text.specs.store.Sink.{GrewByPart}
+use Rattle.base_text.specs.store.SinkLaws.{appends_both, proper_later, proper_more, take_past}
 use Rattle.call_answer.specs.SinkLaws.{appends_none, grew_both}
 use Rattle.call_answer.specs.Sinks.{SinkView, GrewByAll, WriteStops, Writes}
 use Rattle.call_answer.specs.declared.put.WriteStop.{WriteStop}

@@ -14,7 +14,7 @@ ghost use Rattle.call_commands.specs.Verdicts.{IsFoundOf};
 
 use crate::found::{Found, NOTHING};
 use crate::laws::a_certificate_is_made_of_parts;
-use base_store::Sink;
+use base_text::store::Sink;
 use call_answer::{Done, Study, WriteStop, put_text};
 use call_engine::Engine;
 use cert_own::{answers_are_certified, cert_piece};

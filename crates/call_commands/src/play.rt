@@ -12,7 +12,7 @@ ghost use Rattle.call_commands.specs.Play.{play_asks};
 ghost use Rattle.call_answer.specs.{Sinks.Writes, Sinks.sink_view, Study.IsStudy};
 
 use crate::laws::each_play_has_one_text;
-use base_store::Sink;
+use base_text::store::Sink;
 use call_answer::{Done, Study, WriteStop, put_text};
 use call_engine::Engine;
 use model_line::{Line, Script};

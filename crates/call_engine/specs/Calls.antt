@@ -2,7 +2,7 @@
 use Rattle.std.specs.Prelude.{ℕ, ◌≤◌}
 use Rattle.model_line.specs.declared.line.Line.{Line}
 use Rattle.file_line.specs.Lines.{LineValues, line_values}
-use Rattle.base_store.specs.Counts.{Grew, Rose}
+use Rattle.base_text.specs.store.Counts.{Grew, Rose}
 
 -- for each line, by its values, how many plays, verdicts and checks it was asked for
 pub record Calls : Type 0 where

@@ -1,6 +1,6 @@
 -- What contracts see of the engine over nets: its numbers.
 use Rattle.std.specs.Prelude.{ℕ}
-use Rattle.base_store.specs.Counts.{one_more}
+use Rattle.base_text.specs.store.Counts.{one_more}
 use Rattle.call_engine.specs.Calls.{Calls}
 
 pub record NetCalls : Type 0 where

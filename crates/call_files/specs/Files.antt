@@ -2,7 +2,7 @@
 use Rattle.std.specs.Prelude.{◌≡◌, ◌⊎◌, ◌∷◌, ◌<◌, ◌≤◌, ⊤, Vec, ℕ, List, [], Option, IfSome, IsSome}
 use Rattle.std.specs.Prelude.{Result, Ok, Err, length, nat_lt, if◌then◌else◌, unwrap_or}
 use Rattle.std.specs.declared.alloc.Global.{Global}
-use Rattle.base_store.specs.{Counts.Rose, Store.SameCounts}
+use Rattle.base_text.specs.{store.Counts.Rose, store.Store.SameCounts}
 use Rattle.call_files.specs.declared.refusal.Refusal.TheVariants as refusal
 use Rattle.call_files.specs.declared.stop.File.{File}
 use Rattle.call_files.specs.declared.stop.File.TheVariants as file

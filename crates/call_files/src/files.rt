@@ -4,7 +4,7 @@ ghost use Rattle.call_files.specs.Files.{Fetches, limit_of as limit, named};
 
 use crate::refusal::Refusal;
 use crate::stop::{File, Stop};
-use base_store::{FetchFault, Store, fetch};
+use base_text::store::{FetchFault, Store, fetch};
 use std::alloc::Global;
 
 // The most bytes that a file may have.

@@ -6,7 +6,7 @@ ghost use Rattle.call_answer.specs.Sinks.{Puts, sink_view};
 
 use crate::refusal::{Detail, Subject};
 use crate::stop::{File, Stop};
-use base_store::{PutFailed, Sink};
+use base_text::store::{PutFailed, Sink};
 use call_answer::put_pieces;
 use itoa::Buffer;
 

@@ -8,7 +8,7 @@ ghost use Rattle.call_load.specs.Denials.{unpicked_pieces};
 ghost use Rattle.file_sweeps.specs.SweepWords.{horizon_pieces};
 ghost use Rattle.file_sweeps.specs.declared.study_fault.StudySweepFault.TheVariants.{Refused};
 
-use base_store::{PutFailed, Sink};
+use base_text::store::{PutFailed, Sink};
 use call_answer::put_pieces;
 use call_explain::Unpicked;
 use call_map::{MapDenial, put_map_denial};

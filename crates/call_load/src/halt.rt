@@ -7,7 +7,7 @@ ghost use Rattle.call_load.specs.Halts.{halt_line, status_of as end_status};
 ghost use Rattle.call_load.specs.declared.halt.Halt.TheVariants.{Denied, Stopped};
 
 use crate::denial::{Denial, put_denial};
-use base_store::{PutFailed, Sink};
+use base_text::store::{PutFailed, Sink};
 use call_answer::Done;
 use call_explain::ExplainStop;
 use call_files::{Stop, put_message};

@@ -10,7 +10,7 @@ ghost use Rattle.call_map.specs.Denials.{where_words as words_of_place, words_st
 ghost use Rattle.call_map.specs.declared.denial.MapStop.TheVariants.{Memory as NoMemory};
 ghost use Rattle.file_times.specs.AxisWords.{what_words};
 
-use base_store::{PutFailed, Sink};
+use base_text::store::{PutFailed, Sink};
 use call_answer::put_pieces;
 use file_times::AxisFault;
 use itoa::Buffer;

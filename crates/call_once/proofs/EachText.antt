@@ -14,8 +14,8 @@ use Rattle.model_line.specs.Parameters.{param_count, terminal_count}
 use Rattle.model_line.specs.{declared.line.Line.Line, declared.script.Script.Script}
 use Rattle.run_signal.specs.declared.tern.Tern.{Tern}
 use Rattle.run_signal.specs.declared.tern.Tern.TheVariants.{Zero, One, Unknown}
-use Rattle.base_lines.specs.Lines.{BeginsWith, CannotGoOn, Lines, is_one_line}
-use Rattle.base_lines.specs.LineLaws.{both_true, one_line}
+use Rattle.base_text.specs.lines.Lines.{BeginsWith, CannotGoOn, Lines, is_one_line}
+use Rattle.base_text.specs.lines.LineLaws.{both_true, one_line}
 use Rattle.cert_text.specs.Grammar.{Claims, HasOneEach, IsCertificate, LeavesGrammar, Place}
 use Rattle.cert_text.specs.Grammar.{Said, Stands, Verdict, claim_places, claims_said, end_text}
 use Rattle.cert_text.specs.Grammar.{fixed, head_text, key_of, key_text, no}

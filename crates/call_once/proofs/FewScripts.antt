@@ -3,7 +3,7 @@ use Rattle.std.proofs.Common.{◌≡◌, ◌≤◌, ◌&&◌, ℕ, Bool, true, f
 use Rattle.std.proofs.Common.{Some, cond, leb-true, nat_le, refl}
 use Rattle.std.specs.Prelude.{codes, option_map}
 use Rattle.std.specs.Str.{bytes_eq}
-use Rattle.base_store.specs.Number.{number_of}
+use Rattle.base_text.specs.store.Number.{number_of}
 use Rattle.call_pilot.specs.Words.{Command, bench, bench_size, command_of}
 use Rattle.call_pilot.specs.Words.{command_of_four, command_of_three, command_of_two}
 use Rattle.call_pilot.specs.Words.{one_file, split, split_depth, three_files, two_files}

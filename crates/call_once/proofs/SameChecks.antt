@@ -10,8 +10,8 @@ use Rattle.model_logic.specs.IntervalLaws.{HistoriesRestOnNoInterval, TreesRestO
 use Rattle.run_waves.specs.Text.{tern_word}
 use Rattle.file_line.specs.Lines.{line_values}
 use Rattle.file_script.specs.Values.{values_of}
-use Rattle.base_lines.specs.Grammar.{text_places, text_said}
-use Rattle.base_lines.specs.Lines.{LeavesAt, Lines}
+use Rattle.base_text.specs.lines.Grammar.{text_places, text_said}
+use Rattle.base_text.specs.lines.Lines.{LeavesAt, Lines}
 use Rattle.cert_text.specs.Grammar.{Claims, HasNumbers, HasOneEach, IsCertificate, LeavesGrammar}
 use Rattle.cert_text.specs.Grammar.{Place, Said, Stands, Verdict, end_text, fixed, head_text}
 use Rattle.cert_text.specs.Grammar.{key_of, no, opens_none, says_key, says_nothing}

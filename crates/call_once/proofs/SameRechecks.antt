@@ -10,8 +10,8 @@ use Rattle.model_logic.specs.Choice.{Box, declared_box}
 use Rattle.model_logic.specs.IntervalLaws.{HistoriesRestOnNoInterval}
 use Rattle.file_line.specs.Lines.{line_values}
 use Rattle.file_script.specs.Values.{ScriptValues, values_of}
-use Rattle.base_lines.specs.Grammar.{text_places, text_said}
-use Rattle.base_lines.specs.Lines.{LeavesAt, Lines}
+use Rattle.base_text.specs.lines.Grammar.{text_places, text_said}
+use Rattle.base_text.specs.lines.Lines.{LeavesAt, Lines}
 use Rattle.cert_text.specs.Grammar.{AreNumbers, end_text, script_text, terminal_names}
 use Rattle.judge_split.specs.Leaves.{Splits, lower_half, upper_half}
 use Rattle.judge_split.specs.Trees.{Split, SplitTree, Undecided, Yes}

@@ -1,6 +1,6 @@
 -- A text of lines, where each line that can stand at a place can stand there by another rule too.
 use Rattle.std.proofs.Common.{◌++◌, ℕ, List, [], ◌∷◌}
-use Rattle.base_lines.specs.Lines.{CannotGoOn, LeavesAt, Lines}
+use Rattle.base_text.specs.lines.Lines.{CannotGoOn, LeavesAt, Lines}
 
 module _ {K M : Type 0} (S T : K → M → List ℕ → Type 0) (opens : K → M → List K)
     (on : (place : K) (said : M) (line : List ℕ) → S place said line → T place said line) where

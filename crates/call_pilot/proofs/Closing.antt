@@ -2,8 +2,8 @@
 use Rattle.std.proofs.Common.{◌≡◌, ◌⊎◌, ◌<◌, ℕ, List, [], ◌∷◌, Option, None, Some, OnOk, Result, Ok}
 use Rattle.std.proofs.Common.{Err, refl, ap, subst, inl, inr, arith}
 use Rattle.std.specs.Io.KnownBytes.{Appends, Keeps}
-use Rattle.base_store.specs.{Counts.Rose, Sink.GrewByPart, Sink.GrewByProper}
-use Rattle.base_store.specs.{SinkLaws.part_of_proper}
+use Rattle.base_text.specs.{store.Counts.Rose, store.Sink.GrewByPart, store.Sink.GrewByProper}
+use Rattle.base_text.specs.{store.SinkLaws.part_of_proper}
 use Rattle.call_engine.specs.Calls.{Calls}
 use Rattle.call_files.specs.Files.{NamedFile, NoneRose, StoreCause}
 use Rattle.call_files.specs.Status.{IsAnswer, IsDone, IsEarly, status_of, stop_status}

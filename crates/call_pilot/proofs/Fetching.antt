@@ -2,7 +2,7 @@
 use Rattle.std.proofs.Common.{◌≡◌, ℕ, ◌≤◌, false, List, [], ◌∷◌, Option, None, Some, IsSome, IfSome}
 use Rattle.std.proofs.Common.{Result, Ok, Err, length, nat_lt, unwrap_or, refl, sym, ◌∙◌, inl, inr}
 use Rattle.std.proofs.Common.{subst, ap, arith}
-use Rattle.base_store.specs.Store.{SameCounts}
+use Rattle.base_text.specs.store.Store.{SameCounts}
 use Rattle.call_answer.specs.Sinks.{SinkView}
 use Rattle.call_files.specs.Files.{contents, in_front, limit_of, AllTold, NamedFile, StoreCause}
 use Rattle.call_files.specs.declared.stop.File.{File}

@@ -1,7 +1,7 @@
 -- The clauses of the top call.
 use Rattle.std.specs.Prelude.{◌≡◌, ◌⊎◌, ◌<◌, ℕ, List, [], Option}
 use Rattle.std.specs.Io.KnownBytes.{Appends, Keeps}
-use Rattle.base_store.specs.{Counts.Rose, Sink.GrewByProper, Sink.GrewByPart}
+use Rattle.base_text.specs.{store.Counts.Rose, store.Sink.GrewByProper, store.Sink.GrewByPart}
 use Rattle.call_engine.specs.Calls.{Calls}
 use Rattle.call_pilot.specs.Call.{Asked, Told, answers}
 use Rattle.call_files.specs.Files.{StoreCause, NoneRose}

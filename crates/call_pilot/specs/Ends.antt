@@ -2,7 +2,7 @@
 -- also where it stopped in the middle.
 use Rattle.std.specs.Prelude.{◌≡◌, ◌⊎◌, None, Some, ℕ, List, [], Option, Result, Ok, Err}
 use Rattle.std.specs.Io.KnownBytes.{Keeps}
-use Rattle.base_store.specs.{Counts.Rose, Sink.GrewByProper, Sink.GrewByPart, Store.SameCounts}
+use Rattle.base_text.specs.{store.Counts.Rose, store.Sink.GrewByProper, store.Sink.GrewByPart, store.Store.SameCounts}
 use Rattle.call_answer.specs.Sinks.{SinkView, GrewByAll}
 use Rattle.call_files.specs.Files.{AllTold, NamedFile, StoreCause, contents}
 use Rattle.call_pilot.specs.{Call.answer_by, CallAnswers.CallAnswers}

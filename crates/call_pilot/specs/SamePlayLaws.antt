@@ -11,7 +11,7 @@ use Rattle.std.proofs.lemmas.Map.Entries.{option_filter}
 use Rattle.base_records.specs.Gives.{◌>>=◌, passes_or}
 use Rattle.base_records.specs.{RecordFile.RecordFile, RecordFile.said_in, Records.records_of}
 use Rattle.model_history.specs.Rails.{Ends}
-use Rattle.base_store.specs.Number.{number_of}
+use Rattle.base_text.specs.store.Number.{number_of}
 use Rattle.model_line.specs.Parameters.{declared_ends, is_delay}
 use Rattle.model_line.specs.{declared.line.Line.Line, declared.script.Script.Script}
 use Rattle.model_line.specs.{declared.line.Param.Param, declared.line.Terminal.Terminal}

@@ -9,7 +9,7 @@ use Rattle.std.proofs.lemmas.Map.Entries.{option_filter}
 use Rattle.base_records.specs.Gives.{◌>>=◌, passes_or}
 use Rattle.base_records.specs.{SoFar.SoFar, SoFar.all_of, SoFar.nothing}
 use Rattle.base_records.specs.{RecordFile.RecordFile, RecordFile.said_in, Records.records_of}
-use Rattle.base_store.specs.Number.{number_of}
+use Rattle.base_text.specs.store.Number.{number_of}
 use Rattle.model_line.specs.{declared.line.Line.Line, declared.script.Script.Script}
 use Rattle.model_line.specs.{declared.line.Terminal.Terminal, SetBounds.SameButParams}
 use Rattle.model_names.specs.NumbersByName.{script_named}

@@ -7,7 +7,7 @@ use Rattle.std.proofs.lemmas.Map.Entries.{option_filter}
 use Rattle.base_records.specs.Gives.{◌>>=◌, passes_or}
 use Rattle.base_records.specs.{Fields.is_empty, SoFar.SoFar, SoFar.all_of, SoFar.nothing}
 use Rattle.base_records.specs.{RecordFile.RecordFile, RecordFile.said_in, Records.records_of}
-use Rattle.base_store.specs.Number.{number_of}
+use Rattle.base_text.specs.store.Number.{number_of}
 use Rattle.model_line.specs.declared.script.Kind.TheVariants.{Internal, External}
 use Rattle.model_line.specs.{declared.line.Line.Line, declared.script.Kind.Kind}
 use Rattle.model_line.specs.{declared.line.Channel.Channel, declared.line.Terminal.Terminal}

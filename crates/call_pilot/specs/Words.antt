@@ -2,7 +2,7 @@
 use Rattle.std.specs.Prelude.{◌∷◌, ◌&&◌, ℕ, List, [], Option, None, Some, codes, nat_le, option_map}
 use Rattle.std.specs.Prelude.{if◌then◌else◌}
 use Rattle.std.specs.Str.{bytes_eq}
-use Rattle.base_store.specs.Number.{number_of}
+use Rattle.base_text.specs.store.Number.{number_of}
 use Rattle.call_files.specs.Files.{NamedFile, named}
 use Rattle.call_files.specs.declared.stop.File.{File}
 use Rattle.call_files.specs.declared.stop.File.TheVariants as file

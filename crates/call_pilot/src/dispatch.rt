@@ -13,7 +13,7 @@ ghost use Rattle.call_pilot.specs.declared.words.ThreeFiles.TheVariants as three
 
 use crate::bench_size::BenchSize;
 use crate::words::{OneFile, ThreeFiles, TwoFiles};
-use base_store::Sink;
+use base_text::store::Sink;
 use call_answer::{Said, Study, put_said};
 use call_commands::{
     certify, check, line, margin, match_records, migrate, net, play, recheck, report, run_bench,

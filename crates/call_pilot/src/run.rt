@@ -11,7 +11,7 @@ ghost use Rattle.call_answer.specs.Sinks.{sink_view};
 
 use crate::dispatch::{no_file, one_file, three_files, two_files};
 use crate::words::{Command, OneFile, ThreeFiles, TwoFiles, command_of_words};
-use base_store::{Sink, Store};
+use base_text::store::{Sink, Store};
 use call_engine::Engine;
 use call_files::{File, Status, Stop, fetch_file};
 use std::alloc::Global;

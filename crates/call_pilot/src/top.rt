@@ -7,7 +7,7 @@ ghost use Rattle.call_answer.specs.Sinks.{sink_view};
 
 use crate::laws::what_is_answered_is_true;
 use crate::run::answer;
-use base_store::{Sink, Store};
+use base_text::store::{Sink, Store};
 use call_engine::Engine;
 use call_files::{Status, put_message};
 use std::alloc::Global;

@@ -1,6 +1,6 @@
 //! The words of a command.
 ghost use Rattle.std.specs.Prelude.{◌≡◌, map, option_map, string_bytes};
-ghost use Rattle.base_store.specs.Number.{number_of};
+ghost use Rattle.base_text.specs.store.Number.{number_of};
 ghost use Rattle.call_pilot.specs.Words.{bench_size as size_of, bench, command_of};
 ghost use Rattle.call_pilot.specs.Words.{split_depth as depth_of, split, two_files};
 ghost use Rattle.call_pilot.specs.Words.{command_of_four as of_four, command_of_three as of_three};
@@ -9,7 +9,7 @@ ghost use Rattle.call_pilot.specs.CommandView.{command_view};
 
 use crate::bench_size::BenchSize;
 use crate::split_depth::SplitDepth;
-use base_store::number;
+use base_text::store::number;
 
 /// A command over a line file.
 #[derive(Clone, Copy)]

@@ -1,7 +1,7 @@
 -- The clauses of the call, from how it ends.
 use Rattle.std.proofs.Common.{◌≡◌, ◌⊎◌, ◌<◌, ◌∙◌, ℕ, List, [], Option, Result, Ok, Err, refl, ap, inl, inr, arith}
 use Rattle.std.specs.Io.KnownBytes.{Appends}
-use Rattle.base_store.specs.{Counts.Rose, Sink.GrewByPart, SinkLaws.part_of_proper}
+use Rattle.base_text.specs.{store.Counts.Rose, store.Sink.GrewByPart, store.SinkLaws.part_of_proper}
 use Rattle.call_answer.specs.{Sinks.GrewByAll, Sinks.Puts, Sinks.SinkView}
 use Rattle.call_answer.specs.SinkLaws.{appends_none}
 use Rattle.call_records.specs.{Clauses.Call, Clauses.Clauses, Clauses.IsTold, Clauses.OutIsAnswer}

@@ -2,7 +2,7 @@
 use Rattle.std.proofs.Common.{◌≡◌, ◌∷◌, ◌<◌, ◌≤◌, ◌∙◌, ℕ, Bool, true, false, List, [], Option, None, Some}
 use Rattle.std.proofs.Common.{IfSome, Result, Ok, Err, length, nat_lt, refl, sym, ap, subst, arith, inl, inr}
 use Rattle.base_records.specs.Gives.{Unless}
-use Rattle.base_store.specs.{Counts.Rose, Store.SameCounts}
+use Rattle.base_text.specs.{store.Counts.Rose, store.Store.SameCounts}
 use Rattle.model_line.specs.declared.line.Line.{Line}
 use Rattle.file_line.specs.Lines.{LineValues, line_values}
 use Rattle.call_records.specs.{Answers.answer_of, Answers.refuses, Halts.End, Halts.Tells, Halts.told_of}

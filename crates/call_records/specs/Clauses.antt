@@ -1,7 +1,7 @@
 -- The clauses of the call.
 use Rattle.std.specs.Prelude.{◌≡◌, ◌⊎◌, ◌<◌, ℕ, List, Option, Ok, Err}
 use Rattle.std.specs.Io.KnownBytes.{Appends}
-use Rattle.base_store.specs.{Counts.Rose, Sink.GrewByPart, Sink.GrewByProper}
+use Rattle.base_text.specs.{store.Counts.Rose, store.Sink.GrewByPart, store.Sink.GrewByProper}
 use Rattle.call_answer.specs.Sinks.{GrewByAll, SinkView}
 use Rattle.call_records.specs.{Course.course_of, Files.AllTold, Files.Cause, Files.NoneRose}
 use Rattle.call_records.specs.{Files.answers, Request.Request}

@@ -1,6 +1,6 @@
 -- How the call ends but for the line to err, by cases on its result.
 use Rattle.std.specs.Prelude.{◌≡◌, ℕ, List, [], Ok, Err}
-use Rattle.base_store.specs.{Counts.Rose, Sink.GrewByProper, Store.SameCounts}
+use Rattle.base_text.specs.{store.Counts.Rose, store.Sink.GrewByProper, store.Store.SameCounts}
 use Rattle.call_answer.specs.Sinks.{GrewByAll, SinkView}
 use Rattle.call_records.specs.{Course.Course, Files.AllTold, Files.Cause, Files.Held, Files.answers}
 use Rattle.call_records.specs.Halts.{End, told_of}

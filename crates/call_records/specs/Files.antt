@@ -2,7 +2,7 @@
 use Rattle.std.specs.Prelude.{◌≡◌, ◌⊎◌, ◌<◌, ◌≤◌, ℕ, List, [], Option, Some, IfSome, Result, Ok, Err}
 use Rattle.std.specs.Prelude.{Vec, length, nat_lt, cond, ⊤}
 use Rattle.std.specs.declared.alloc.Global.{Global}
-use Rattle.base_store.specs.{Counts.Rose, Store.SameCounts}
+use Rattle.base_text.specs.{store.Counts.Rose, store.Store.SameCounts}
 use Rattle.model_line.specs.declared.line.Line.{Line}
 use Rattle.file_line.specs.Lines.{line_values}
 use Rattle.call_records.specs.{Answers.Answers, Answers.answer_of, Answers.refuses, Halts.told_of}

@@ -11,7 +11,7 @@ ghost use Rattle.call_records.specs.Read.{text_seen};
 use crate::beside::beside;
 use crate::halt::{File, Halt};
 use crate::refusal::too_long;
-use base_store::{FetchFault, Store, fetch};
+use base_text::store::{FetchFault, Store, fetch};
 use file_map::{Recorder, data_name};
 use std::alloc::Global;
 

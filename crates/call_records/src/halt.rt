@@ -5,7 +5,7 @@ ghost use Rattle.call_answer.specs.Sinks.{Puts, sink_view};
 ghost use Rattle.call_records.specs.Halts.{halt_line, status_of as end_status};
 ghost use Rattle.call_records.specs.declared.halt.Halt.TheVariants as halt_of;
 
-use base_store::{PutFailed, Sink};
+use base_text::store::{PutFailed, Sink};
 use call_answer::put_pieces;
 use model_line::Memory;
 use std::alloc::{AllocError, AllocFailed};

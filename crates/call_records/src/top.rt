@@ -14,7 +14,7 @@ use crate::fetch::{SMALL, fetch_file, fetch_recorders};
 use crate::halt::{File, Halt, put_halt};
 use crate::read::{read_line, read_map};
 use crate::refusal::untold_halt;
-use base_store::{Sink, Store, put_all};
+use base_text::store::{Sink, Store, put_all};
 use call_ask::{RecordsAsk, RecordsWork};
 use file_map::{Map, Signal};
 use file_tracks::first_untold;

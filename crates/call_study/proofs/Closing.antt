@@ -2,7 +2,7 @@
 use Rattle.std.proofs.Common.{◌≡◌, ◌⊎◌, ◌<◌, ℕ, List, [], ◌∷◌, Option, Result, Ok, Err, refl, ap}
 use Rattle.std.proofs.Common.{inl, inr, arith}
 use Rattle.std.specs.Io.KnownBytes.{Appends}
-use Rattle.base_store.specs.{Counts.Rose, Sink.GrewByPart, SinkLaws.part_of_proper}
+use Rattle.base_text.specs.{store.Counts.Rose, store.Sink.GrewByPart, store.SinkLaws.part_of_proper}
 use Rattle.call_answer.specs.{Sinks.GrewByAll, Sinks.Puts, Sinks.SinkView}
 use Rattle.call_answer.specs.SinkLaws.{appends_none}
 use Rattle.call_files.specs.Files.{NamedFile, NoneRose, StoreCause}

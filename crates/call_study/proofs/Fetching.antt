@@ -3,7 +3,7 @@ use Rattle.std.proofs.Common.{◌≡◌, ℕ, ◌<◌, ◌≤◌, false, true, L
 use Rattle.std.proofs.Common.{Result, Ok, Err, length, nat_lt, unwrap_or, refl, sym, ◌∙◌}
 use Rattle.std.proofs.Common.{inl, inr, subst, arith}
 use Rattle.call_answer.specs.declared.said.Said.{Said}
-use Rattle.base_store.specs.Store.{SameCounts}
+use Rattle.base_text.specs.store.Store.{SameCounts}
 use Rattle.call_files.specs.Files.{AllTold, Fetches, NamedFile, StoreCause, contents, in_front}
 use Rattle.call_files.specs.Files.{limit_of}
 use Rattle.call_files.specs.declared.refusal.Refusal.TheVariants as refusal

@@ -1,7 +1,7 @@
 -- The clauses of the top call.
 use Rattle.std.specs.Prelude.{◌≡◌, ◌⊎◌, ◌<◌, ℕ, List, Option, Err}
 use Rattle.std.specs.Io.KnownBytes.{Appends}
-use Rattle.base_store.specs.{Counts.Rose, Sink.GrewByPart, Sink.GrewByProper}
+use Rattle.base_text.specs.{store.Counts.Rose, store.Sink.GrewByPart, store.Sink.GrewByProper}
 use Rattle.call_answer.specs.Sinks.{GrewByAll, SinkView}
 use Rattle.call_files.specs.Files.{AllTold, NoneRose, StoreCause}
 use Rattle.call_files.specs.declared.stop.File.{File}

@@ -1,6 +1,6 @@
 -- How each layer of the call ends, by cases on its result.
 use Rattle.std.specs.Prelude.{◌≡◌, ℕ, List, [], Option, Result, Ok, Err, ⊤}
-use Rattle.base_store.specs.{Counts.Rose, Sink.GrewByProper, Store.SameCounts}
+use Rattle.base_text.specs.{store.Counts.Rose, store.Sink.GrewByProper, store.Store.SameCounts}
 use Rattle.call_answer.specs.{declared.done.Done.Done, declared.said.Said.Said}
 use Rattle.call_answer.specs.Sinks.{GrewByAll, SinkView}
 use Rattle.call_files.specs.Files.{AllTold, NamedFile, StoreCause, contents}

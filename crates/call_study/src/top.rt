@@ -13,7 +13,7 @@ use crate::linted::lint_said;
 use crate::map::map;
 use crate::page::page;
 use crate::read::{bands, play, recheck, table, timings};
-use base_store::{Sink, Store, put_all};
+use base_text::store::{Sink, Store, put_all};
 use call_answer::{Done, Said};
 use call_ask::{Ask, Source, Work};
 use call_files::{File, fetch_file};

@@ -2,7 +2,7 @@
 use Rattle.std.proofs.Common.{◌≡◌, ◌<◌, ◌++◌, ℕ, List, [], ◌∷◌, length, drop, refl, arith}
 use Rattle.std.specs.Prelude.{get_or}
 use Rattle.std.specs.List.{flat_map}
-use Rattle.base_lines.specs.Milliseconds.{ticks_text}
+use Rattle.base_text.specs.lines.Milliseconds.{ticks_text}
 use Rattle.call_verdicts.specs.Records.{times_text}
 
 pub times_text_split : (us : ℕ) (ts : List ℕ) (d : ℕ) → 0 < length ts

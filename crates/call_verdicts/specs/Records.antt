@@ -10,7 +10,7 @@ use Rattle.model_line.specs.NamesByNumber.{script_name, terminal_name}
 use Rattle.judge_report.specs.ReportText.{kind_word}
 use Rattle.file_sweeps.specs.declared.group.Group.{Group}
 use Rattle.judge_settle.specs.Words.{by_word}
-use Rattle.base_lines.specs.Milliseconds.{ticks_text}
+use Rattle.base_text.specs.lines.Milliseconds.{ticks_text}
 use Rattle.file_sweeps.specs.Places.{PlaceValues, place_in}
 use Rattle.call_verdicts.specs.declared.finding.{Finding.Finding, Standing.Standing}
 use Rattle.call_verdicts.specs.declared.finding.Standing.TheVariants.{Held, Fails, Open}

@@ -3,13 +3,13 @@
 ghost use Rattle.std.specs.Prelude.{◌≡◌, ◌++◌, ◌∷◌, IfOk, OnOk, Some};
 ghost use Rattle.model_line.specs.declared.script.Kind.TheVariants.{Internal};
 ghost use Rattle.judge_report.specs.ReportText.{kind_word as word_of_kind};
-ghost use Rattle.base_lines.specs.Milliseconds.{ticks_text};
+ghost use Rattle.base_text.specs.lines.Milliseconds.{ticks_text};
 ghost use Rattle.call_verdicts.specs.Records.{answer_word as word_of_answer};
 ghost use Rattle.call_verdicts.specs.Records.{margin_text as margin_text_of, times_text};
 ghost use Rattle.call_verdicts.specs.Records.{trip_text as trip_text_of};
 
 use crate::finding::Standing;
-use base_lines::push_ticks;
+use base_text::lines::push_ticks;
 use model_line::{Kind, Memory};
 use std::alloc::Global;
 

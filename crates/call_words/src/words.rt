@@ -1,7 +1,7 @@
 //! What the words ask for.
 
 use crate::table::{KIT, PROGRAM};
-use base_store::number;
+use base_text::store::number;
 use call_ask::{
     Ask, ExplainForm, Form, MapAsk, MapForm, RecordsAsk, RecordsWork, Source, Table, Work,
 };

@@ -12,7 +12,7 @@ ghost use Rattle.cert_check.specs.{Scripts.EachBelow, Verdicts.AreSound};
 use crate::counts::{Counts, counts_of};
 use crate::fault::{CheckFault, in_script};
 use crate::script_check::check_claims;
-use base_lines::TextFault;
+use base_text::lines::TextFault;
 use cert_text::{
     ScriptClaims, a_text_has_one_meaning, a_text_leaves_at_one_line, certificates_can_be_written,
     read_certificate,

@@ -10,9 +10,9 @@ use Rattle.run_signal.specs.declared.tern.Tern.{Tern}
 use Rattle.model_line.specs.PlainNames.{is_plain_byte, is_plain_name}
 use Rattle.model_line.specs.{declared.line.Line.Line, declared.script.Script.Script}
 use Rattle.model_line.specs.{Terminals.are_plain_names, declared.line.Terminal.Terminal}
-use Rattle.base_lines.specs.Lines.{BeginsWith, Lines}
-use Rattle.base_lines.specs.LineLaws.{both_true}
-use Rattle.base_lines.specs.NamedLaws.{first_same}
+use Rattle.base_text.specs.lines.Lines.{BeginsWith, Lines}
+use Rattle.base_text.specs.lines.LineLaws.{both_true}
+use Rattle.base_text.specs.lines.NamedLaws.{first_same}
 use Rattle.cert_text.specs.Grammar.{Claims, HasNumbers, HasOneEach, IsCertificate, Place, Said}
 use Rattle.cert_text.specs.Grammar.{Stands, Verdict, yes, no, undecided, end_text, fixed}
 use Rattle.cert_text.specs.Grammar.{head_text, key_of, key_text, opens_none}

@@ -19,9 +19,9 @@ use Rattle.model_line.specs.NamesByNumber.{terminal_name}
 use Rattle.model_timing.specs.Laws.{CandidatesAreInside, TimingsInsideAreChoicesInside}
 use Rattle.model_timing.specs.Candidates.{candidate, candidate_count}
 use Rattle.model_timing.specs.{Choice.timing_choice, Timing.TimingValues}
-use Rattle.base_lines.specs.{Lines.BeginsWith, Lines.is_one_line}
-use Rattle.base_lines.specs.NamedLaws.{decimal_whole, whole_append}
-use Rattle.base_lines.specs.SpacedNumbers.{numbers_text, spaced}
+use Rattle.base_text.specs.{lines.Lines.BeginsWith, lines.Lines.is_one_line}
+use Rattle.base_text.specs.lines.NamedLaws.{decimal_whole, whole_append}
+use Rattle.base_text.specs.lines.SpacedNumbers.{numbers_text, spaced}
 use Rattle.cert_text.specs.Grammar.{terminal_names}
 use Rattle.cert_text.specs.NameLaws.{name_whole, names_count}
 use Rattle.cert_text.specs.NumberLaws.{numbers_tell, numbers_whole}

@@ -1,7 +1,7 @@
 -- The whole lines of a text, and what stands under which script.
 use Rattle.std.specs.Prelude.{◌≡◌, ◌++◌, ℕ, List, [], ◌∷◌, if◌then◌else◌}
 use Rattle.std.specs.List.{All}
-use Rattle.base_lines.specs.Lines.{is_feed}
+use Rattle.base_text.specs.lines.Lines.{is_feed}
 use Rattle.cert_text.specs.Grammar.{script_text}
 
 -- the whole lines of a text, after what its first line has already

@@ -7,7 +7,7 @@ use Rattle.model_line.specs.{declared.line.Line.Line, Parameters.param_count}
 use Rattle.model_line.specs.Parameters.{terminal_count}
 use Rattle.model_line.specs.NamesByNumber.{parameter_name}
 use Rattle.model_timing.specs.{declared.step.Step.Step, Inside.IsStepInside}
-use Rattle.base_lines.specs.Named.{named}
+use Rattle.base_text.specs.lines.Named.{named}
 use Rattle.cert_settle.specs.Known.{Known}
 use Rattle.cert_settle.specs.Grammar.{name_of_terminal, step_line, step_text}
 use Rattle.cert_settle.proofs.NumberLaws.{IsSpace, IsAt, no_space, no_at, one_number}

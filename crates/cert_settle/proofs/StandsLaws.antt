@@ -6,7 +6,7 @@ use Rattle.model_timing.specs.{declared.step.Step.Step, Inside.IsStepInside}
 use Rattle.model_line.specs.NamesByNumber.{parameter_name}
 use Rattle.model_settle.specs.CaseTrees.{HasCases}
 use Rattle.std.specs.Prelude.{codes}
-use Rattle.base_lines.specs.NamedLaws.{first_same}
+use Rattle.base_text.specs.lines.NamedLaws.{first_same}
 use Rattle.cert_text.specs.{Grammar.no_words, Grammar.AreNumbers, NumberLaws.numbers_tell}
 use Rattle.judge_cases.specs.declared.node.CaseNode.{CaseNode}
 use Rattle.judge_cases.specs.declared.node.CaseNode.TheVariants as node

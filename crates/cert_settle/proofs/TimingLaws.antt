@@ -11,10 +11,10 @@ use Rattle.model_line.specs.{declared.line.Line.Line, Parameters.param_count}
 use Rattle.model_logic.specs.Choice.{Box}
 use Rattle.model_timing.specs.{declared.step.Step.Step, Inside.IsStepInside}
 use Rattle.model_timing.specs.Timing.{comes_before, ascend}
-use Rattle.base_lines.specs.declared.fault.TextFault.{TextFault}
-use Rattle.base_lines.specs.{Lines.BeginsWith, Grammar.IsFault, ReadLaws.later_fault}
-use Rattle.base_lines.specs.LineLaws.{goes_one, goes_then, refused, absent}
-use Rattle.base_lines.specs.declared.fault.TextFault.TheVariants as fault
+use Rattle.base_text.specs.declared.lines.fault.TextFault.{TextFault}
+use Rattle.base_text.specs.{lines.Lines.BeginsWith, lines.Grammar.IsFault, lines.ReadLaws.later_fault}
+use Rattle.base_text.specs.lines.LineLaws.{goes_one, goes_then, refused, absent}
+use Rattle.base_text.specs.declared.lines.fault.TextFault.TheVariants as fault
 use Rattle.cert_text.specs.Grammar.{AreNumbers, no_words}
 use Rattle.cert_settle.specs.Reading.{GoesOn, AreSteps, AreRead, IsNoNode, last_of}
 use Rattle.cert_settle.specs.Reading.{timing_place}

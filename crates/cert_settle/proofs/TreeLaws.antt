@@ -6,8 +6,8 @@ use Rattle.std.proofs.lemmas.List.{map-append}
 use Rattle.model_line.specs.declared.line.Line.{Line}
 use Rattle.model_settle.specs.CaseTrees.{CaseTree, Yes, Undecided, Split, Case, lower_half}
 use Rattle.model_settle.specs.CaseTrees.{upper_half}
-use Rattle.base_lines.specs.declared.fault.TextFault.{TextFault}
-use Rattle.base_lines.specs.{LineLaws.goes_then, Grammar.IsFault}
+use Rattle.base_text.specs.declared.lines.fault.TextFault.{TextFault}
+use Rattle.base_text.specs.{lines.LineLaws.goes_then, lines.Grammar.IsFault}
 use Rattle.judge_cases.specs.declared.node.CaseNode.{CaseNode}
 use Rattle.judge_cases.specs.declared.node.CaseNode.TheVariants as node
 use Rattle.judge_cases.specs.Nodes.{preorder}

@@ -18,10 +18,10 @@ use Rattle.model_timing.specs.Timing.{comes_before, ascend}
 use Rattle.model_settle.specs.CaseTrees.{CaseTree, Yes, Undecided, Split, Case, lower_half}
 use Rattle.model_settle.specs.CaseTrees.{upper_half}
 use Rattle.cert_text.specs.Grammar.{script_text, end_text, terminal_names, no_words}
-use Rattle.base_lines.specs.SpacedNumbers.{numbers_text}
+use Rattle.base_text.specs.lines.SpacedNumbers.{numbers_text}
 use Rattle.cert_text.specs.Grammar.{AreNumbers}
 use Rattle.cert_text.specs.Text.{fed}
-use Rattle.base_lines.specs.{Lines.Lines, Lines.is_one_line, NamedLaws.whole_append}
+use Rattle.base_text.specs.{lines.Lines.Lines, lines.Lines.is_one_line, lines.NamedLaws.whole_append}
 use Rattle.judge_cases.specs.declared.node.CaseNode.{CaseNode}
 use Rattle.judge_cases.specs.declared.node.CaseNode.TheVariants as node
 use Rattle.judge_cases.specs.Trees.{height, branch_count, Branches}

@@ -10,8 +10,8 @@ use Rattle.model_logic.specs.Choice.{Box, declared_box}
 use Rattle.model_timing.specs.{declared.step.Step.Step, Timing.comes_before, Timing.ascend}
 use Rattle.model_timing.specs.Inside.{IsStepInside}
 use Rattle.model_settle.specs.CaseTrees.{CanSplit, HasCases, lower_half, upper_half}
-use Rattle.base_lines.specs.{Named.named, Grammar.Grammar, Grammar.IsFixed, Grammar.Parts}
-use Rattle.base_lines.specs.Grammar.{IsText, LeavesText}
+use Rattle.base_text.specs.{lines.Named.named, lines.Grammar.Grammar, lines.Grammar.IsFixed, lines.Grammar.Parts}
+use Rattle.base_text.specs.lines.Grammar.{IsText, LeavesText}
 use Rattle.cert_text.specs.Grammar.{AreNumbers, no_words, script_text, end_text}
 use Rattle.cert_text.specs.Grammar.{terminal_names}
 use Rattle.judge_cases.specs.declared.node.CaseNode.{CaseNode}

@@ -8,8 +8,8 @@ use Rattle.model_line.specs.{declared.line.Line.Line, declared.script.Script.Scr
 use Rattle.model_logic.specs.Choice.{Box}
 use Rattle.model_timing.specs.{declared.step.Step.Step, Inside.IsStepInside, Timing.ascend}
 use Rattle.model_settle.specs.CaseTrees.{CaseTree}
-use Rattle.base_lines.specs.{declared.fault.TextFault.TextFault, Grammar.IsTextFault}
-use Rattle.base_lines.specs.Lines.{Goes, BeginsWith}
+use Rattle.base_text.specs.{declared.lines.fault.TextFault.TextFault, lines.Grammar.IsTextFault}
+use Rattle.base_text.specs.lines.Lines.{Goes, BeginsWith}
 use Rattle.judge_cases.specs.declared.node.CaseNode.{CaseNode}
 use Rattle.cert_settle.specs.declared.claim.TreeClaim.{TreeClaim}
 use Rattle.cert_settle.specs.declared.claim.TreeClaim.TheVariants as claim

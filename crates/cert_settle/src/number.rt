@@ -1,10 +1,10 @@
 //! The numbers of a line, read.
 
 ghost use Rattle.std.specs.Prelude.{◌≡◌, ◌≢◌, ◌<◌, ◌^◌, ℕ, List, decimal, codes, MatchOption};
-ghost use Rattle.base_lines.specs.Named.{named};
+ghost use Rattle.base_text.specs.lines.Named.{named};
 
-use base_lines::{after_name, is};
-use base_store::number;
+use base_text::lines::{after_name, is};
+use base_text::store::number;
 use itoa::Buffer;
 use model_line::Name;
 

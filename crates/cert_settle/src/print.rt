@@ -2,7 +2,7 @@
 
 ghost use Rattle.std.specs.Prelude.{◌≡◌, ◌++◌, ℕ, OnOk, decimal};
 ghost use Rattle.std.specs.List.{All};
-ghost use Rattle.base_lines.specs.Named.{named};
+ghost use Rattle.base_text.specs.lines.Named.{named};
 ghost use Rattle.cert_text.specs.{Grammar.no_words, Text.fed};
 ghost use Rattle.cert_settle.specs.Grammar.{node_text, step_text};
 ghost use Rattle.cert_settle.specs.Text.{nodes_text, steps_text, IsKnown, IsKnownStep};

@@ -2,7 +2,7 @@
 
 ghost use Rattle.std.specs.Prelude.{◌++◌, [], ◌∷◌, List, map, MatchResult};
 ghost use Rattle.model_logic.specs.Choice.{declared_box};
-ghost use Rattle.base_lines.specs.Grammar.{Reads, IsFault};
+ghost use Rattle.base_text.specs.lines.Grammar.{Reads, IsFault};
 ghost use Rattle.cert_settle.specs.Grammar.{Place, SettleResult, result_over};
 ghost use Rattle.cert_settle.specs.Grammar.{result_said, terminal_parts, script_parts};
 ghost use Rattle.cert_settle.specs.Grammar.{grammar_of};
@@ -14,7 +14,7 @@ use crate::claim::TreeClaim;
 use crate::known::laws_below;
 use crate::read_timing::read_timing;
 use crate::read_tree::read_below;
-use base_lines::{LineCursor, PartReader, TextFault, read_each, read_text};
+use base_text::lines::{LineCursor, PartReader, TextFault, read_each, read_text};
 use model_line::{Line, Script, Terminal};
 use std::alloc::Global;
 

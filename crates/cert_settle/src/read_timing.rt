@@ -4,7 +4,7 @@ ghost use Rattle.std.specs.Prelude.{◌≡◌, ◌≢◌, ◌+◌, ◌∷◌, �
 ghost use Rattle.std.specs.Prelude.{MatchResult, map};
 ghost use Rattle.model_logic.specs.Choice.{Box};
 ghost use Rattle.model_timing.specs.{declared.step.Step.Step, Inside.IsStepInside};
-ghost use Rattle.base_lines.specs.{Lines.BeginsWith, Grammar.IsFault};
+ghost use Rattle.base_text.specs.{lines.Lines.BeginsWith, lines.Grammar.IsFault};
 ghost use Rattle.cert_settle.specs.Grammar.{Place, Follows, step_text, grammar_of, result_over};
 ghost use Rattle.cert_settle.specs.Grammar.{result_said, IsSettleResult};
 ghost use Rattle.cert_settle.specs.Reading.{GoesOn, IsNoNode, last_of, result_in};
@@ -12,7 +12,7 @@ ghost use Rattle.cert_settle.specs.Reading.{GoesOn, IsNoNode, last_of, result_in
 use crate::claim::TreeClaim;
 use crate::known::laws_below;
 use crate::step_line::{follows, step_in};
-use base_lines::{LineCursor, TextFault};
+use base_text::lines::{LineCursor, TextFault};
 use cert_text::read_no;
 use model_line::Line;
 use model_timing::Step;

@@ -3,7 +3,7 @@
 ghost use Rattle.std.specs.Prelude.{◌≡◌, ◌++◌, ◌-◌, [], ◌∷◌, List, MatchResult};
 ghost use Rattle.model_line.specs.SetBounds.{SameButParams};
 ghost use Rattle.model_logic.specs.Choice.{Box, declared_box};
-ghost use Rattle.base_lines.specs.Grammar.{IsFault};
+ghost use Rattle.base_text.specs.lines.Grammar.{IsFault};
 ghost use Rattle.judge_split.specs.Parts.{IsPart};
 ghost use Rattle.cert_settle.specs.Grammar.{Place, Root, roots, says_node, MayStand, expected};
 ghost use Rattle.cert_settle.specs.Grammar.{after_node, grammar_of};
@@ -11,7 +11,7 @@ ghost use Rattle.cert_settle.specs.Reading.{GoesOn, IsBelow, IsOver, AreTwo};
 
 use crate::branch_line::{Limits, node_in};
 use crate::known::laws_below;
-use base_lines::{LineCursor, TextFault};
+use base_text::lines::{LineCursor, TextFault};
 use judge_cases::CaseNode;
 use judge_split::{lower_part, upper_part};
 use model_line::Line;

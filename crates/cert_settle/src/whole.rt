@@ -16,7 +16,7 @@ use crate::fault::{SettleFault, in_script};
 use crate::laws::a_settle_text_has_one_meaning;
 use crate::read::read_settle_text;
 use crate::result::check_results;
-use base_lines::TextFault;
+use base_text::lines::TextFault;
 use cert_check::Counts;
 use model_line::{Line, Script};
 use net_gates::Net;

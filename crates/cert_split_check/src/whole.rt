@@ -13,7 +13,7 @@ ghost use Rattle.cert_split_check.specs.Results.{AreTold};
 use crate::counts::counts_of;
 use crate::fault::{SplitFault, in_script};
 use crate::result::check_results;
-use base_lines::TextFault;
+use base_text::lines::TextFault;
 use cert_check::Counts;
 use cert_split_text::{
     SplitClaim, a_split_text_has_one_meaning, a_split_text_leaves_at_one_line, read_split_text,

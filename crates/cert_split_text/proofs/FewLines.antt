@@ -7,7 +7,7 @@ use Rattle.model_logic.specs.Choice.{Box}
 use Rattle.cert_text.specs.Grammar.{terminal_names, end_text}
 use Rattle.judge_split.specs.declared.node.Node.{Node}
 use Rattle.judge_split.specs.declared.node.Node.TheVariants as node
-use Rattle.base_lines.specs.Lines.{Lines}
+use Rattle.base_text.specs.lines.Lines.{Lines}
 use Rattle.cert_split_text.specs.Grammar.{Place, fixed, result_over, node_over, Stands, opens}
 use Rattle.cert_split_text.specs.Grammar.{below}
 use Rattle.cert_split_text.specs.Grammar.{Said, says_nothing, says_fails, says_node, LeavesGrammar}

@@ -1,8 +1,8 @@
 -- What a node's line can say, in a part of a box and in the box.
 use Rattle.std.proofs.Common.{◌≡◌, ◌≢◌, ◌<◌, ◌^◌, ◌∙◌, ℕ, List, false, Bool, sym, ap, decimal, refl}
 use Rattle.std.proofs.lemmas.Option.{same_Some}
-use Rattle.base_store.specs.{Number.number_of, DecimalLaws.number_of-decimal}
-use Rattle.base_lines.specs.NamedLaws.{one_text}
+use Rattle.base_text.specs.{store.Number.number_of, store.DecimalLaws.number_of-decimal}
+use Rattle.base_text.specs.lines.NamedLaws.{one_text}
 use Rattle.std.specs.Prelude.{codes}
 use Rattle.std.specs.Bool.{Decides}
 use Rattle.model_line.specs.{declared.line.Line.Line, Parameters.param_count}

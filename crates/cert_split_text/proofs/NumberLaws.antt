@@ -2,8 +2,8 @@
 use Rattle.std.proofs.Common.{◌≡◌, ◌<◌, ◌^◌, ℕ, true, List, [], ◌∷◌, subst, arith, decimal}
 use Rattle.std.proofs.lemmas.Fmt.{decimal_injective}
 use Rattle.std.specs.List.{list_all}
-use Rattle.base_store.specs.{Number.is_digit, DecimalLaws.are_digits}
-use Rattle.base_lines.specs.LineLaws.{both_true}
+use Rattle.base_text.specs.{store.Number.is_digit, store.DecimalLaws.are_digits}
+use Rattle.base_text.specs.lines.LineLaws.{both_true}
 use Rattle.cert_split_text.specs.StretchLaws.{Unmarked}
 
 abbrev pub IsSpace : ℕ → Type 0

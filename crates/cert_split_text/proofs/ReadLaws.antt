@@ -1,7 +1,7 @@
 -- Lines of split trees, read one after another.
 use Rattle.std.proofs.Common.{ℕ, List}
 use Rattle.model_line.specs.declared.line.Line.{Line}
-use Rattle.base_lines.specs.Lines.{Goes}
+use Rattle.base_text.specs.lines.Lines.{Goes}
 use Rattle.cert_split_text.specs.Grammar.{Place, Said, Stands, opens}
 
 -- lines of split trees were read

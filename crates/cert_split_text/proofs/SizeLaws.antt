@@ -9,7 +9,7 @@ use Rattle.std.specs.List.{All}
 use Rattle.model_line.specs.{declared.line.Line.Line, declared.script.Script.Script, Fits.Fits}
 use Rattle.model_logic.specs.Choice.{Box, declared_box}
 use Rattle.model_line.specs.NamesByNumber.{parameter_name}
-use Rattle.base_lines.specs.SpacedNumbers.{numbers_text}
+use Rattle.base_text.specs.lines.SpacedNumbers.{numbers_text}
 use Rattle.cert_text.specs.Grammar.{no_words, script_text, end_text, terminal_names}
 use Rattle.cert_text.specs.Text.{fed}
 use Rattle.judge_split.specs.declared.node.Node.{Node}

@@ -7,7 +7,7 @@ use Rattle.model_line.specs.NamesByNumber.{parameter_name}
 use Rattle.model_logic.specs.Choice.{Box}
 use Rattle.judge_split.specs.declared.node.Node.{Node}
 use Rattle.judge_split.specs.declared.node.Node.TheVariants as node
-use Rattle.base_lines.specs.NamedLaws.{first_same}
+use Rattle.base_text.specs.lines.NamedLaws.{first_same}
 use Rattle.cert_text.specs.{Grammar.no_words, NumberLaws.numbers_tell}
 use Rattle.cert_split_text.specs.Known.{Known}
 use Rattle.cert_split_text.specs.Grammar.{Place, fixed, result_over, node_over, Stands, deepest}

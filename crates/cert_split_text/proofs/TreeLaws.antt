@@ -4,8 +4,8 @@ use Rattle.std.proofs.Common.{arith, append_assoc}
 use Rattle.std.proofs.lemmas.List.{map-append}
 use Rattle.model_line.specs.declared.line.Line.{Line}
 use Rattle.model_logic.specs.Choice.{Box}
-use Rattle.base_lines.specs.declared.fault.TextFault.{TextFault}
-use Rattle.base_lines.specs.{LineLaws.goes_then, Grammar.IsFault}
+use Rattle.base_text.specs.declared.lines.fault.TextFault.{TextFault}
+use Rattle.base_text.specs.{lines.LineLaws.goes_then, lines.Grammar.IsFault}
 use Rattle.judge_split.specs.declared.node.Node.{Node}
 use Rattle.judge_split.specs.declared.node.Node.TheVariants as node
 use Rattle.judge_split.specs.Trees.{Yes, Undecided, Split, preorder}

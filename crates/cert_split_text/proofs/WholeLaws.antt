@@ -3,8 +3,8 @@ use Rattle.std.proofs.Common.{◌≡◌, ◌<◌, ◌^◌, ℕ, true, refl, arit
 use Rattle.std.specs.Prelude.{codes}
 use Rattle.model_line.specs.declared.line.Line.{Line}
 use Rattle.model_line.specs.NamesByNumber.{parameter_name}
-use Rattle.base_lines.specs.Lines.{is_one_line}
-use Rattle.base_lines.specs.NamedLaws.{named_whole, decimal_whole}
+use Rattle.base_text.specs.lines.Lines.{is_one_line}
+use Rattle.base_text.specs.lines.NamedLaws.{named_whole, decimal_whole}
 use Rattle.judge_split.specs.declared.node.Node.TheVariants as node
 use Rattle.cert_split_text.specs.Grammar.{node_text}
 use Rattle.cert_split_text.specs.NameLaws.{param_stands}

@@ -12,13 +12,13 @@ use Rattle.model_line.specs.{declared.line.Line.Line, declared.script.Script.Scr
 use Rattle.model_line.specs.{Parameters.param_count, Fits.Fits}
 use Rattle.model_logic.specs.Choice.{Box, declared_box}
 use Rattle.cert_text.specs.Grammar.{script_text, end_text, terminal_names, no_words}
-use Rattle.base_lines.specs.SpacedNumbers.{numbers_text}
+use Rattle.base_text.specs.lines.SpacedNumbers.{numbers_text}
 use Rattle.cert_text.specs.Text.{fed}
 use Rattle.judge_split.specs.declared.node.Node.{Node}
 use Rattle.judge_split.specs.declared.node.Node.TheVariants as node
 use Rattle.judge_split.specs.Trees.{SplitTree, Yes, Undecided, Split, preorder, height}
 use Rattle.judge_split.specs.Leaves.{Splits, lower_half, upper_half}
-use Rattle.base_lines.specs.{Lines.Lines, NamedLaws.whole_append}
+use Rattle.base_text.specs.{lines.Lines.Lines, lines.NamedLaws.whole_append}
 use Rattle.cert_split_text.specs.Grammar.{SplitResult, tree, fails, IsSplitResult, HasOneEach}
 use Rattle.cert_split_text.specs.Grammar.{deepest}
 use Rattle.cert_split_text.specs.Grammar.{Place, fixed, result_over, node_over, Stands, opens, Said}

@@ -15,8 +15,8 @@ use Rattle.model_line.specs.{declared.line.Channel.Channel, declared.line.Owner.
 use Rattle.model_line.specs.declared.line.Owner.TheVariants as owner
 use Rattle.model_line.specs.declared.line.Setting.TheVariants as setting
 use Rattle.model_line.specs.NamesByNumber.{parameter_name}
-use Rattle.base_lines.specs.Lines.{is_no_feed, is_one_line}
-use Rattle.base_lines.specs.{LineLaws.both_true, NamedLaws.whole_append, NamedLaws.whole_more}
+use Rattle.base_text.specs.lines.Lines.{is_no_feed, is_one_line}
+use Rattle.base_text.specs.{lines.LineLaws.both_true, lines.NamedLaws.whole_append, lines.NamedLaws.whole_more}
 use Rattle.cert_text.specs.{Grammar.terminal_names, NameLaws.name_whole}
 
 -- no byte is a line feed, and there are at most so many

@@ -5,7 +5,7 @@ use Rattle.std.proofs.lemmas.List.{append-nil, take_more, take_all, map-append, 
 use Rattle.std.proofs.lemmas.List.{length-take-le}
 use Rattle.std.proofs.lemmas.List.Elements.{All-head, All-tail}
 use Rattle.std.specs.List.{All, flat_map}
-use Rattle.base_lines.specs.Lines.{Lines, is_one_line}
+use Rattle.base_text.specs.lines.Lines.{Lines, is_one_line}
 use Rattle.cert_text.specs.Text.{fed}
 
 -- ---- the text grows

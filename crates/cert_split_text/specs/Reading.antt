@@ -3,7 +3,7 @@ use Rattle.std.specs.Prelude.{◌≡◌, ◌≤◌, ◌++◌, ℕ, List, [], ◌
 use Rattle.std.specs.declared.alloc.Global.{Global}
 use Rattle.model_line.specs.{declared.line.Line.Line, declared.script.Script.Script}
 use Rattle.model_logic.specs.Choice.{Box}
-use Rattle.base_lines.specs.{declared.fault.TextFault.TextFault, Grammar.Reads, Grammar.IsTextFault}
+use Rattle.base_text.specs.{declared.lines.fault.TextFault.TextFault, lines.Grammar.Reads, lines.Grammar.IsTextFault}
 use Rattle.judge_split.specs.declared.node.Node.{Node}
 use Rattle.judge_split.specs.{Trees.SplitTree, Trees.preorder, Trees.height, Leaves.Splits}
 use Rattle.cert_split_text.specs.declared.claim.SplitClaim.{SplitClaim}

@@ -7,8 +7,8 @@ ghost use Rattle.model_line.specs.NamesByNumber.{parameter_name};
 ghost use Rattle.judge_split.specs.{Leaves.CanSplit, declared.node.Node.Node};
 ghost use Rattle.cert_split_text.specs.Grammar.{MayStand, node_text, split_line};
 
-use base_lines::{after_name, is};
-use base_store::number;
+use base_text::lines::{after_name, is};
+use base_text::store::number;
 use itoa::Buffer;
 use judge_split::{Node, can_split, middles_are_below_the_greatest_interval};
 use model_line::{Line, Name};

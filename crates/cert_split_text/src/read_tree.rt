@@ -3,7 +3,7 @@
 ghost use Rattle.std.specs.Prelude.{◌≡◌, ◌++◌, [], ◌∷◌, List, MatchResult};
 ghost use Rattle.model_line.specs.SetBounds.{SameButParams};
 ghost use Rattle.model_logic.specs.Choice.{Box, declared_box};
-ghost use Rattle.base_lines.specs.{Lines.Goes, Grammar.IsFault};
+ghost use Rattle.base_text.specs.{lines.Lines.Goes, lines.Grammar.IsFault};
 ghost use Rattle.judge_split.specs.Parts.{IsPart};
 ghost use Rattle.cert_split_text.specs.Grammar.{Place, node_over, says_node, MayStand, below};
 ghost use Rattle.cert_split_text.specs.Grammar.{Stands};
@@ -12,7 +12,7 @@ ghost use Rattle.cert_split_text.specs.Reading.{IsBelow, IsOver};
 
 use crate::known::laws_below;
 use crate::node_line::node_in;
-use base_lines::{LineCursor, TextFault};
+use base_text::lines::{LineCursor, TextFault};
 use judge_split::{Node, lower_part, upper_part};
 use model_line::Line;
 use std::alloc::Global;

@@ -2,7 +2,7 @@
 use Rattle.std.proofs.Common.{◌≤◌, ◌+◌, ◌*◌, ℕ, List, [], ◌∷◌, length, map, arith, length-append}
 use Rattle.std.proofs.lemmas.List.{length-map}
 use Rattle.std.specs.List.{flat_map}
-use Rattle.base_lines.specs.Lines.{Lines}
+use Rattle.base_text.specs.lines.Lines.{Lines}
 use Rattle.model_line.specs.{declared.line.Line.Line, declared.script.Script.Script}
 use Rattle.cert_text.specs.Grammar.{Place, Said, Stands, opens_none, fixed, key_of, verdict_of}
 use Rattle.cert_text.specs.Grammar.{end_text, part_places, terminal_names, LeavesGrammar}

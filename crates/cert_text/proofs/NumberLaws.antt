@@ -4,7 +4,7 @@ use Rattle.std.proofs.Common.{get_or, refl, sym, ◌∙◌, ap, decimal}
 use Rattle.std.proofs.lemmas.List.{drop_more}
 use Rattle.std.proofs.lemmas.List.Elements.{All-get_or}
 use Rattle.std.specs.List.{All}
-use Rattle.base_lines.specs.SpacedNumbers.{numbers_text}
+use Rattle.base_text.specs.lines.SpacedNumbers.{numbers_text}
 use Rattle.cert_text.specs.Numbers.{BeginsNumber}
 
 -- the text after the space

@@ -5,7 +5,7 @@ use Rattle.std.proofs.lemmas.List.Elements.{All-head, All-tail, All-nil, All-con
 use Rattle.std.specs.List.{All, flat_map}
 use Rattle.run_signal.specs.declared.tern.Tern.{Tern}
 use Rattle.model_line.specs.{declared.line.Line.Line, declared.script.Script.Script}
-use Rattle.base_lines.specs.Lines.{Lines}
+use Rattle.base_text.specs.lines.Lines.{Lines}
 use Rattle.cert_text.specs.Grammar.{Place, fixed, key_of, verdict_of, Stands, opens_none, Said}
 use Rattle.cert_text.specs.Grammar.{says_nothing, says_key, says_verdict, Claims, Verdict}
 use Rattle.cert_text.specs.Grammar.{HasNumbers, HasOneEach, IsCertificate, terminal_names}

@@ -8,7 +8,7 @@ use Rattle.cert_text.specs.Grammar.{Place, fixed, key_of, verdict_of, Stands, Ha
 use Rattle.cert_text.specs.Grammar.{says_nothing, says_key, says_verdict, verdict_words, Verdict}
 use Rattle.cert_text.specs.Grammar.{yes, no, undecided}
 use Rattle.cert_text.specs.NumberLaws.{numbers_tell}
-use Rattle.base_lines.specs.NamedLaws.{one_text, first_same}
+use Rattle.base_text.specs.lines.NamedLaws.{one_text, first_same}
 
 -- a text is that of one wave
 abbrev pub WavesAreTold : Type 0

@@ -8,9 +8,9 @@ use Rattle.run_signal.specs.declared.tern.Tern.{Tern}
 use Rattle.model_line.specs.{declared.line.Line.Line, declared.line.Terminal.Terminal}
 use Rattle.model_line.specs.{declared.script.Script.Script, Fits.Fits, PlainNames.is_plain_name}
 use Rattle.run_waves.specs.Text.{runs_text}
-use Rattle.base_lines.specs.Grammar.{text_places, text_said}
-use Rattle.base_lines.specs.Lines.{Lines, is_one_line}
-use Rattle.base_lines.specs.{LineLaws.both_true, NamedLaws.named_whole, NamedLaws.whole_append}
+use Rattle.base_text.specs.lines.Grammar.{text_places, text_said}
+use Rattle.base_text.specs.lines.Lines.{Lines, is_one_line}
+use Rattle.base_text.specs.{lines.LineLaws.both_true, lines.NamedLaws.named_whole, lines.NamedLaws.whole_append}
 use Rattle.cert_text.specs.Grammar.{Place, fixed, key_of, verdict_of, Stands, opens_none, Said}
 use Rattle.cert_text.specs.Grammar.{says_nothing, says_key, says_verdict, Claims, Verdict, yes}
 use Rattle.cert_text.specs.Grammar.{no, undecided, HasNumbers, verdict_words, part_places}

@@ -6,8 +6,8 @@ use Rattle.std.specs.Prelude.{nat_le}
 use Rattle.std.specs.List.{list_all}
 use Rattle.model_line.specs.PlainNames.{is_plain_byte, is_plain_name}
 use Rattle.model_line.specs.{declared.line.Line.Line, Parameters.terminal_count}
-use Rattle.base_lines.specs.{Lines.is_no_feed, Lines.is_one_line, LineLaws.both_true}
-use Rattle.base_lines.specs.NamedLaws.{whole_more}
+use Rattle.base_text.specs.{lines.Lines.is_no_feed, lines.Lines.is_one_line, lines.LineLaws.both_true}
+use Rattle.base_text.specs.lines.NamedLaws.{whole_more}
 use Rattle.cert_text.specs.Grammar.{terminal_names}
 
 pub names_count : (line : Line) → length (terminal_names line) ≡ terminal_count line

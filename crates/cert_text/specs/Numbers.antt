@@ -1,6 +1,6 @@
 -- Numbers in a row, each after one space.
 use Rattle.std.specs.Prelude.{◌≡◌, ◌<◌, ◌^◌, ℕ, List, ◌++◌}
-use Rattle.base_lines.specs.SpacedNumbers.{spaced, numbers_text}
+use Rattle.base_text.specs.lines.SpacedNumbers.{spaced, numbers_text}
 
 -- the text is that of a number and of more numbers
 pub record BeginsNumber (text : List ℕ) (n : ℕ) (later : List ℕ) : Type 0 where

@@ -2,7 +2,7 @@
 use Rattle.std.specs.Prelude.{◌≡◌, ◌++◌, ℕ, List, [], ◌∷◌, length}
 use Rattle.std.specs.List.{All}
 use Rattle.model_line.specs.{declared.line.Line.Line, declared.script.Script.Script}
-use Rattle.base_lines.specs.Grammar.{text_places, text_said}
+use Rattle.base_text.specs.lines.Grammar.{text_places, text_said}
 use Rattle.cert_text.specs.Grammar.{Place, fixed, key_of, verdict_of, key_text, verdict_text}
 use Rattle.cert_text.specs.Grammar.{Said, says_nothing, says_key, says_verdict, Claims}
 use Rattle.cert_text.specs.Grammar.{part_places, part_said, script_parts, head_text, end_text}

@@ -4,12 +4,12 @@ ghost use Rattle.std.specs.Prelude.{◌≡◌, ◌≢◌, ◌<◌, ◌^◌, ℕ,
 ghost use Rattle.std.specs.Prelude.{IfOk, MatchOption};
 ghost use Rattle.std.specs.List.{All};
 ghost use Rattle.cert_text.specs.Grammar.{AreNumbers};
-ghost use Rattle.base_lines.specs.SpacedNumbers.{numbers_text};
+ghost use Rattle.base_text.specs.lines.SpacedNumbers.{numbers_text};
 ghost use Rattle.cert_text.specs.Numbers.{BeginsNumber};
 
 use crate::print::push_numbers;
-use base_lines::{after, find_byte, is};
-use base_store::number;
+use base_text::lines::{after, find_byte, is};
+use base_text::store::number;
 use model_line::Memory;
 use std::alloc::Global;
 

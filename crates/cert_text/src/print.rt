@@ -2,8 +2,8 @@
 
 ghost use Rattle.std.specs.Prelude.{◌≡◌, ◌<◌, ◌++◌, ℕ, List, [], length, map, OnOk};
 ghost use Rattle.model_line.specs.Parameters.{terminal_count};
-ghost use Rattle.base_lines.specs.Named.{named};
-ghost use Rattle.base_lines.specs.SpacedNumbers.{numbers_text};
+ghost use Rattle.base_text.specs.lines.Named.{named};
+ghost use Rattle.base_text.specs.lines.SpacedNumbers.{numbers_text};
 ghost use Rattle.cert_text.specs.Grammar.{no_words, verdict_words};
 ghost use Rattle.cert_text.specs.Grammar.{verdict_in};
 ghost use Rattle.cert_text.specs.Grammar.{terminal_names, Place, Said, key_of, verdict_of};
@@ -12,7 +12,7 @@ ghost use Rattle.cert_text.specs.Text.{fed, line_text, lines_text, part_text};
 
 use crate::claim::Claim;
 use crate::read::name_at;
-use base_lines::push_number;
+use base_text::lines::push_number;
 use model_line::{Line, Memory, Name, Script};
 use run_waves::{Runs, print_runs};
 use std::alloc::Global;

@@ -2,7 +2,7 @@
 
 ghost use Rattle.std.specs.Prelude.{◌≡◌, ◌<◌, ◌++◌, [], List, map, get_or, MatchResult, refl};
 ghost use Rattle.model_line.specs.Parameters.{terminal_count};
-ghost use Rattle.base_lines.specs.Grammar.{Reads, IsFault};
+ghost use Rattle.base_text.specs.lines.Grammar.{Reads, IsFault};
 ghost use Rattle.cert_text.specs.Grammar.{Place, key_of, verdict_of, says_key, says_verdict};
 ghost use Rattle.cert_text.specs.Grammar.{Claims, HasOneEach, verdict_in, claims_in, grammar_of};
 ghost use Rattle.cert_text.specs.Grammar.{terminal_names, claim_places, claims_said};
@@ -10,7 +10,7 @@ ghost use Rattle.cert_text.specs.Grammar.{script_parts, IsCertificate, IsCertifi
 
 use crate::claim::{Claim, ScriptClaims};
 use crate::words::read_words;
-use base_lines::{
+use base_text::lines::{
     LineCursor, LineReader, PartReader, TextFault, after_name, read_lines, read_text,
 };
 use model_line::{Line, Memory, Name, Script, Terminal};

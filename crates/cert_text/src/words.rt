@@ -7,7 +7,7 @@ ghost use Rattle.cert_text.specs.Grammar.{AreNumbers, no_words};
 
 use crate::claim::Claim;
 use crate::numbers::read_numbers;
-use base_lines::{after, is};
+use base_text::lines::{after, is};
 use model_line::{Line, Memory};
 use std::alloc::Global;
 

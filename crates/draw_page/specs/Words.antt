@@ -1,7 +1,7 @@
 -- Times and answers in words.
 use Rattle.std.specs.Prelude.{◌-◌, ◌==◌, ◌++◌, ℕ, List, [], Option, None, Some}
 use Rattle.std.specs.Prelude.{codes, decimal, nat_le, if◌then◌else◌}
-use Rattle.base_lines.specs.Milliseconds as milliseconds
+use Rattle.base_text.specs.lines.Milliseconds as milliseconds
 use Rattle.model_line.specs.declared.script.Kind.{Kind}
 use Rattle.model_line.specs.declared.script.Kind.TheVariants.{Internal, External}
 use Rattle.draw_page.specs.declared.page.Means.{Means}

@@ -22,7 +22,7 @@ pub fn number_words(alloc: Global, number: usize) -> Result<Vec<u8>, AllocError>
 pub fn push_ticks(text: &mut Vec<u8>, tick_us: u32, t: u32) -> Result<(), AllocError>
     ensures { OnOk result (text.new.items ≡ text.old.items ++ ticks_text tick_us t) }
 {
-    base_lines::push_ticks(text, tick_us, t)
+    base_text::lines::push_ticks(text, tick_us, t)
 }
 
 /// A time, as `12.25 ms`.

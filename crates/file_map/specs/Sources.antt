@@ -3,7 +3,7 @@ use Rattle.std.specs.Prelude.{◌+◌, ◌++◌, ◌==◌, ℕ, Bool, true, fals
 use Rattle.std.specs.Prelude.{None, Some, Result, Ok, Err, codes, nat_lt, if◌then◌else◌}
 use Rattle.toml.specs.Data.{Data, string, array, table, Members, Items, no_items, item, get_member}
 use Rattle.base_records.specs.Gives.{◌>>=◌}
-use Rattle.base_store.specs.Number.{number_of}
+use Rattle.base_text.specs.store.Number.{number_of}
 use Rattle.file_map.specs.declared.fault.MapFault.{MapFault}
 use Rattle.file_map.specs.declared.fault.MapFault.TheVariants as fault
 use Rattle.file_map.specs.declared.source.{ChannelName.ChannelName, Signal.Signal, Source.Source}

@@ -10,7 +10,7 @@ use crate::fault::MapFault;
 use crate::keys::{find, flag, only, text};
 use crate::path::Path;
 use crate::source::{ChannelName, Signal, Source};
-use base_store::number;
+use base_text::store::number;
 use std::alloc::Global;
 use toml::{Table, Value};
 

@@ -6,8 +6,8 @@ use Rattle.std.proofs.lemmas.Fmt.{decimal_nonempty}
 use Rattle.std.proofs.lemmas.List.{get_or_at, take_at}
 use Rattle.std.specs.List.{list_all}
 use Rattle.std.specs.Prelude.{nat_le, nat_lt, decimal, option_map, if◌then◌else◌}
-use Rattle.base_store.specs.DecimalLaws.{AreDigits, are_digits}
-use Rattle.base_store.specs.Number.{is_digit}
+use Rattle.base_text.specs.store.DecimalLaws.{AreDigits, are_digits}
+use Rattle.base_text.specs.store.Number.{is_digit}
 use Rattle.file_comtrade.specs.{ConfigLines.counted, RawSample.stamp_of}
 use Rattle.file_comtrade.specs.Number.{below_2_32, digits_onto, natural_of, whole_of}
 use Rattle.file_recorded.proofs.Fields.{IsField, all_weaker, solid}

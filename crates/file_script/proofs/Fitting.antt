@@ -7,7 +7,7 @@ use Rattle.std.specs.Prelude.{nat_lt, nat_le, option_map, IsTrue}
 use Rattle.std.specs.List.{list_all}
 use Rattle.std.proofs.lemmas.Map.Entries.{option_filter}
 use Rattle.std.specs.Str.{bytes_eq}
-use Rattle.base_store.specs.Number.{number_of}
+use Rattle.base_text.specs.store.Number.{number_of}
 use Rattle.model_line.specs.declared.script.Kind.TheVariants.{Internal, External}
 use Rattle.model_line.specs.Fits.{exists_in, span_fits, deadline_fits}
 use Rattle.model_line.specs.{declared.line.Line.Line, declared.script.SeenSpan.SeenSpan}

@@ -8,7 +8,7 @@ use Rattle.std.specs.Str.{bytes_eq}
 use Rattle.model_line.specs.{PlainNames.is_plain_name, declared.line.Line.Line}
 use Rattle.model_line.specs.{declared.script.Kind.Kind, declared.script.What.What}
 use Rattle.model_line.specs.declared.script.SeenSpan.{SeenSpan}
-use Rattle.base_store.specs.Number.{number_of}
+use Rattle.base_text.specs.store.Number.{number_of}
 use Rattle.file_script.specs.declared.fault.ScriptFault.{ScriptFault}
 use Rattle.file_script.specs.declared.fault.ScriptFault.TheVariants as fault
 use Rattle.file_script.specs.Values.{ScriptValues, with_head, with_row}

@@ -12,7 +12,7 @@ use Rattle.model_line.specs.{declared.script.What.What, declared.script.SeenSpan
 use Rattle.model_line.specs.declared.script.What.TheVariants as what
 use Rattle.model_names.specs.NumbersByName.{terminal_named, channel_named}
 use Rattle.base_records.specs.{Fields.is_empty, SoFar.SoFar, SoFar.all_of}
-use Rattle.base_store.specs.Number.{number_of}
+use Rattle.base_text.specs.store.Number.{number_of}
 use Rattle.file_script.specs.declared.item.Item.{Item}
 use Rattle.file_script.specs.declared.item.Item.TheVariants.{Head, Seen, Lost}
 use Rattle.file_script.specs.{Row.Row, Values.ScriptValues}

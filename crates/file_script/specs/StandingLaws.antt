@@ -14,7 +14,7 @@ use Rattle.std.proofs.lemmas.List.Folds.{list_any-append}
 use Rattle.std.proofs.lemmas.List.Elements.{All-nil, All-cons, All-head, All-tail, All-get_or}
 use Rattle.std.proofs.lemmas.List.Elements.{All-from_get_or}
 use Rattle.std.proofs.lemmas.List.Concat.{flat_map-cons}
-use Rattle.base_store.specs.Number.{number_of}
+use Rattle.base_text.specs.store.Number.{number_of}
 use Rattle.model_line.specs.declared.script.Element.TheVariants.{Z1, Z2, Rv, Uv, Cur}
 use Rattle.model_line.specs.declared.script.Kind.TheVariants.{Internal, External}
 use Rattle.model_line.specs.Fits.{Fits, exists_in, span_fits, deadline_fits}
@@ -38,7 +38,7 @@ use Rattle.file_script.specs.{Checks.deadline_of, declared.item.Item.Item, Row.R
 use Rattle.file_script.specs.SoFar.{ValuesFit}
 use Rattle.std.proofs.lemmas.Map.Entries.{option_filter}
 use Rattle.base_records.specs.{Gives.◌>>=◌, RecordFile.after_header, RecordFile.after_records}
-use Rattle.base_store.specs.DecimalLaws.{number_of-decimal}
+use Rattle.base_text.specs.store.DecimalLaws.{number_of-decimal}
 use Rattle.file_script.specs.NamingLaws.{bytes_differ, terminal_found, channel_found}
 
 -- the item of what a span shows

@@ -3,7 +3,7 @@
 ghost use Rattle.std.specs.Prelude.{◌≡◌, ◌<◌, ◌↔◌, IsTrue, length, option_map};
 ghost use Rattle.std.specs.List.{list_any};
 ghost use Rattle.std.specs.Str.{bytes_eq};
-ghost use Rattle.base_store.specs.Number.{number_of};
+ghost use Rattle.base_text.specs.store.Number.{number_of};
 ghost use Rattle.file_script.specs.Row.{row_of};
 ghost use Rattle.base_records.specs.SoFar.{all_of, one_or_none, so_far_of};
 ghost use Rattle.file_script.specs.Values.{values_of};
@@ -13,7 +13,7 @@ ghost use Rattle.file_script.specs.Checks.{span_between};
 use crate::fields::Fields;
 use crate::item::{Item, item_named, opens};
 use base_records::{Reading, is, is_nothing};
-use base_store::number;
+use base_text::store::number;
 use model_line::{Kind, Line, Place, Script, SeenSpan, What, is_plain};
 use model_names::{channel_of_name, terminal_of_name};
 

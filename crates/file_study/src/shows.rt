@@ -17,7 +17,7 @@ use crate::path::Path;
 use crate::stage::Shown;
 use crate::ticks::instant;
 use crate::units::Units;
-use base_lines::find_byte;
+use base_text::lines::find_byte;
 use model_line::{Element, Line, Place, Terminal, What};
 use model_names::channel_of_name;
 use std::alloc::Global;

@@ -11,8 +11,8 @@ use Rattle.std.proofs.lemmas.Fmt.{decimal_nonempty, first_decimal, length-decima
 use Rattle.std.specs.Prelude.{nat_lt}
 use Rattle.std.specs.Fmt.{decimal}
 use Rattle.std.specs.List.{list_all, position_or_len, before_first}
-use Rattle.base_store.specs.Number.{is_digit, decimal_value}
-use Rattle.base_store.specs.DecimalLaws.{are_digits}
+use Rattle.base_text.specs.store.Number.{is_digit, decimal_value}
+use Rattle.base_text.specs.store.DecimalLaws.{are_digits}
 use Rattle.file_times.specs.declared.fault.TimeFault.{TimeFault}
 use Rattle.file_times.specs.declared.fault.TimeFault.TheVariants as fault
 use Rattle.file_times.specs.declared.fraction.Fraction.{Fraction}

@@ -2,7 +2,7 @@
 use Rattle.std.specs.Prelude.{◌==◌, ◌&&◌, ◌||◌, ◌+◌, ◌*◌, ◌^◌, ℕ, Bool, not, List, length, get_or}
 use Rattle.std.specs.Prelude.{nat_le, nat_lt, Result, Ok, Err, if◌then◌else◌}
 use Rattle.std.specs.List.{list_all, position_or_len, before_first, after_first}
-use Rattle.base_store.specs.Number.{is_digit, decimal_value}
+use Rattle.base_text.specs.store.Number.{is_digit, decimal_value}
 use Rattle.file_times.specs.declared.fraction.Fraction.{Fraction}
 use Rattle.file_times.specs.declared.fault.TimeFault.{TimeFault}
 use Rattle.file_times.specs.declared.fault.TimeFault.TheVariants as fault

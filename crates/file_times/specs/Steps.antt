@@ -3,7 +3,7 @@ use Rattle.std.specs.Prelude.{◌+◌, ◌/◌, ◌%◌, ◌==◌, ◌&&◌, ◌
 use Rattle.std.specs.Prelude.{Option, None, Some, Result, Ok, Err, length, nat_le, nat_lt}
 use Rattle.std.specs.Prelude.{if◌then◌else◌}
 use Rattle.std.specs.List.{list_any, position_or_len}
-use Rattle.base_store.specs.Number.{number_of as decimal_of}
+use Rattle.base_text.specs.store.Number.{number_of as decimal_of}
 use Rattle.model_line.specs.declared.line.Line.{Line}
 use Rattle.file_times.specs.declared.{fault.TimeFault.TimeFault, fraction.Fraction.Fraction}
 use Rattle.file_times.specs.declared.{time.Interval.Interval, time.Time.Time}

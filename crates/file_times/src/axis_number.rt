@@ -11,7 +11,7 @@ use crate::axis_fault::{AxisFault, Part};
 use crate::fraction::Fraction;
 use crate::read::read_time;
 use crate::time::{Interval, Time};
-use base_store::number;
+use base_text::store::number;
 
 /// Whether a letter stands in the numbers of an axis: then each is a time with its unit.
 pub fn have_units(numbers: &[u8]) -> bool

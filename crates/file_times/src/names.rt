@@ -10,7 +10,7 @@ ghost use Rattle.file_times.specs.Names.{is_meant as is_meant_of, name_count, na
 ghost use Rattle.file_times.specs.Names.{owner_in, params_of as params_for, setting_in};
 ghost use Rattle.file_times.specs.Names.{stands_for as stands_for_of, start_of, unknown_in};
 
-use base_lines::find_byte;
+use base_text::lines::find_byte;
 use model_line::{Line, Memory};
 use model_line::name_of_parameter;
 use std::alloc::Global;

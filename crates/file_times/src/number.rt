@@ -2,7 +2,7 @@
 
 ghost use Rattle.std.specs.Prelude.{◌≡◌, ◌≤◌, ◌<◌, ◌+◌, ◌*◌, ◌^◌, IsTrue, IfOk, length};
 ghost use Rattle.std.specs.List.{list_all};
-ghost use Rattle.base_store.specs.Number.{is_digit, decimal_value};
+ghost use Rattle.base_text.specs.store.Number.{is_digit, decimal_value};
 ghost use Rattle.file_times.specs.Numbers.{whole_part, decimals, is_whole};
 ghost use Rattle.file_times.specs.Numbers.{is_number, is_parted_well};
 ghost use Rattle.file_times.specs.Numbers.{number_in};
@@ -10,7 +10,7 @@ ghost use Rattle.file_times.specs.Fractions.{IsWithin};
 
 use crate::fault::TimeFault;
 use crate::fraction::Fraction;
-use base_lines::find_byte;
+use base_text::lines::find_byte;
 
 /// The number that a word at this place is, of at most nine digits.
 pub fn number_in(place: usize, word: &[u8]) -> Result<Fraction, TimeFault>

@@ -5,7 +5,7 @@ ghost use Rattle.std.specs.List.{after_first};
 ghost use Rattle.file_times.specs.Parts.{behind_of, dots_in, first_of, is_dotted};
 ghost use Rattle.file_times.specs.Parts.{last_of, names_of as names_for, numbers_of, step_of};
 
-use base_lines::find_byte;
+use base_text::lines::find_byte;
 
 /// What stands before the first `=`; all where there is none.
 pub fn names_of(words: &[u8]) -> &[u8]

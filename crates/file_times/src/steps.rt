@@ -8,7 +8,7 @@ use crate::axis_fault::{AxisFault, Part};
 use crate::axis_number::{have_units, ticks};
 use crate::names::unknown;
 use crate::parts::{behind, dots, first, last, names_of, numbers, step};
-use base_lines::find_byte;
+use base_text::lines::find_byte;
 use model_line::Line;
 
 /// Numbers of ticks from the first to the last, step by step.

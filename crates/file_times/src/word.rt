@@ -6,7 +6,7 @@ ghost use Rattle.std.specs.List.{position_or_len};
 ghost use Rattle.file_times.specs.Words.{is_no_space, next_start, next_end, place_of};
 ghost use Rattle.file_times.specs.Words.{word_of, sign_in};
 
-use base_lines::find_byte;
+use base_text::lines::find_byte;
 
 /// What a word that is no number and no unit can be.
 #[derive(Clone, Copy, Drop)]

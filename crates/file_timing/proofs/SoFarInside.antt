@@ -11,7 +11,7 @@ use Rattle.std.specs.Prelude.{Vec, IfOk, IfSome, nat_le, nat_lt, not}
 use Rattle.std.specs.Option.{ok_or}
 use Rattle.std.specs.declared.alloc.Global.{Global}
 use Rattle.std.specs.List.{All, before_first, after_first}
-use Rattle.base_store.specs.Number.{number_of}
+use Rattle.base_text.specs.store.Number.{number_of}
 use Rattle.model_line.specs.Parameters.{is_delay, declared_ends}
 use Rattle.model_line.specs.{declared.line.Line.Line, Intervals.leasts, PlainNames.is_plain_name}
 use Rattle.model_logic.specs.Choice.{IsIn}

@@ -17,7 +17,7 @@ use Rattle.std.specs.List.{All, list_any, flat_map, position_or_len, before_firs
 use Rattle.std.specs.List.{prefix_len}
 use Rattle.std.specs.Str.{bytes_eq}
 use Rattle.std.specs.Fmt.{decimal}
-use Rattle.base_store.specs.{Number.number_of, DecimalLaws.number_of-decimal}
+use Rattle.base_text.specs.{store.Number.number_of, store.DecimalLaws.number_of-decimal}
 use Rattle.model_line.specs.Parameters.{param_count, is_delay, declared_ends}
 use Rattle.model_line.specs.{declared.line.Line.Line, declared.line.Param.Param, Intervals.leasts}
 use Rattle.model_line.specs.{PlainNames.is_plain_name, Laws.DelaysAreParameters}

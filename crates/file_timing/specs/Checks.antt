@@ -8,7 +8,7 @@ use Rattle.model_line.specs.Parameters.{is_delay, declared_ends}
 use Rattle.model_line.specs.declared.line.Line.{Line}
 use Rattle.model_names.specs.NumbersByName.{param_named}
 use Rattle.base_records.specs.Fields.{is_empty}
-use Rattle.base_store.specs.Number.{number_of}
+use Rattle.base_text.specs.store.Number.{number_of}
 use Rattle.file_timing.specs.declared.fault.TimingFault.{TimingFault}
 use Rattle.file_timing.specs.declared.fault.TimingFault.TheVariants as fault
 use Rattle.file_timing.specs.declared.named.Named.{Named}

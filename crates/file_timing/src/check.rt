@@ -10,7 +10,7 @@ ghost use Rattle.file_timing.specs.Checks.{is_given as is_given_in};
 use crate::named::Named;
 use crate::reading::Open;
 use base_records::{is, is_nothing};
-use base_store::number;
+use base_text::store::number;
 use model_line::Line;
 use model_line::laws::parameters_are_numbered;
 use model_names::parameter_of_name;

@@ -1,6 +1,6 @@
 -- The rows of margins: a header, and a row for each end.
 use Rattle.std.specs.Prelude.{◌+◌, ◌-◌, ◌++◌, ℕ, List, [], ◌∷◌, codes, decimal, Option, None, Some}
-use Rattle.base_lines.specs.Milliseconds.{ticks_text}
+use Rattle.base_text.specs.lines.Milliseconds.{ticks_text}
 use Rattle.model_history.specs.Rails.{Ends}
 use Rattle.model_line.specs.NamesByNumber.{terminal_name, parameter_name, script_name}
 use Rattle.model_line.specs.{declared.script.Script.Script, declared.line.Line.Line}

@@ -9,7 +9,7 @@ ghost use Rattle.judge_margins.specs.{Ends.HaveRoom, Widened.room as room_of};
 use crate::end::{End, Side};
 use crate::known::laws_below;
 use crate::widened::{param_at, side_at};
-use base_lines::push_ticks;
+use base_text::lines::push_ticks;
 use itoa::Buffer;
 use judge_report::Lost;
 use model_line::{Line, Memory, Script};

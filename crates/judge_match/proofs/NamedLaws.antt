@@ -6,7 +6,7 @@ use Rattle.std.proofs.lemmas.Map.Entries.{option_filter}
 use Rattle.std.specs.Prelude.{◌&&◌, ◌==◌, nat_lt, IfOk, Vec}
 use Rattle.std.specs.declared.alloc.Global.{Global}
 use Rattle.std.specs.{List.All, Str.bytes_eq}
-use Rattle.base_store.specs.Number.{number_of}
+use Rattle.base_text.specs.store.Number.{number_of}
 use Rattle.model_line.specs.{declared.line.Line.Line, declared.script.Script.Script}
 use Rattle.model_names.specs.NumbersByName.{script_named}
 use Rattle.base_records.specs.{Gives.◌>>=◌, Gives.passes_or, SoFar.SoFar, SoFar.all_of}

@@ -6,7 +6,7 @@ use Rattle.model_line.specs.{declared.line.Line.Line, declared.script.Script.Scr
 use Rattle.model_line.specs.NamesByNumber.{terminal_name}
 use Rattle.run_rows.specs.PlayRows.{level_word}
 use Rattle.run_waves.specs.Text.{tern_word}
-use Rattle.base_lines.specs.SpacedNumbers.{numbers_text, spaced}
+use Rattle.base_text.specs.lines.SpacedNumbers.{numbers_text, spaced}
 use Rattle.judge_match.specs.declared.seen.Match.{Match}
 use Rattle.judge_match.specs.declared.seen.Match.TheVariants.{Explained, Impossible, Unsettled}
 

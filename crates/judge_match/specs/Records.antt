@@ -7,7 +7,7 @@ use Rattle.model_names.specs.NumbersByName.{script_named}
 use Rattle.base_records.specs.{Gives.◌>>=◌, Gives.passes_or, RecordFile.RecordFile}
 use Rattle.base_records.specs.{RecordFile.said_in, Records.records_of, SoFar.SoFar, SoFar.all_of}
 use Rattle.base_records.specs.SoFar.{nothing}
-use Rattle.base_store.specs.Number.{number_of}
+use Rattle.base_text.specs.store.Number.{number_of}
 use Rattle.judge_match.specs.declared.fault.SeenFault.{SeenFault}
 use Rattle.judge_match.specs.declared.fault.SeenFault.TheVariants as fault
 use Rattle.judge_match.specs.Checks.{is_head, name_for, place_at, comes_later, level_of}

@@ -5,7 +5,7 @@ ghost use Rattle.std.specs.List.{list_any};
 ghost use Rattle.std.proofs.lemmas.Map.Entries.{option_filter};
 ghost use Rattle.model_names.specs.NumbersByName.{script_named};
 ghost use Rattle.base_records.specs.SoFar.{one_or_none, so_far_of};
-ghost use Rattle.base_store.specs.Number.{number_of};
+ghost use Rattle.base_text.specs.store.Number.{number_of};
 ghost use Rattle.judge_match.specs.Row.{row_of};
 ghost use Rattle.judge_match.specs.Heads.{values_of, level_after as level_left};
 ghost use Rattle.judge_match.specs.Heads.{is_of as is_of_signal};
@@ -17,7 +17,7 @@ use crate::change::{Change, Place};
 use crate::fields::Fields;
 use crate::heads::Head;
 use base_records::{Reading, is, is_nothing};
-use base_store::number;
+use base_text::store::number;
 use model_line::{Line, Script};
 use model_names::{script_of_name, terminal_of_name};
 

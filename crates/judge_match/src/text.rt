@@ -1,12 +1,12 @@
 //! The line of what is settled of a record.
 
 ghost use Rattle.std.specs.Prelude.{◌≡◌, ◌++◌, ◌<◌, OnOk, IfOk};
-ghost use Rattle.base_lines.specs.SpacedNumbers.{numbers_text, spaced};
+ghost use Rattle.base_text.specs.lines.SpacedNumbers.{numbers_text, spaced};
 ghost use Rattle.judge_match.specs.MatchText.{IsWritten, match_line, match_words, clash_words};
 ghost use Rattle.judge_match.specs.MatchText.{signal_word as word_of_signal};
 
 use crate::seen::Match;
-use base_lines::push_number;
+use base_text::lines::push_number;
 use model_line::{Line, Memory, Script};
 use model_line::name_of_terminal;
 use run_rows::level_word;

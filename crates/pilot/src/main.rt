@@ -5,7 +5,7 @@ ghost use Rattle.std.specs.Prelude.{◌≡◌};
 ghost use Rattle.std.specs.Process.{exit_status};
 ghost use Rattle.pilot.specs.Exit.{exit_number};
 
-use base_store::{FileStore, StdSink};
+use base_text::store::{FileStore, StdSink};
 use call_engine::NetEngine;
 use call_files::Status;
 use call_pilot::pilot;

@@ -4,8 +4,8 @@ use Rattle.std.proofs.Common.{decimal, length-append}
 use Rattle.std.proofs.lemmas.List.{length-replicate}
 use Rattle.run_signal.specs.declared.tern.Tern.{Tern}
 use Rattle.run_signal.specs.declared.tern.Tern.TheVariants.{Zero, One, Unknown}
-use Rattle.base_lines.specs.Lines.{is_no_feed, is_one_line}
-use Rattle.base_lines.specs.NamedLaws.{whole_append, whole_more, decimal_whole}
+use Rattle.base_text.specs.lines.Lines.{is_no_feed, is_one_line}
+use Rattle.base_text.specs.lines.NamedLaws.{whole_append, whole_more, decimal_whole}
 use Rattle.run_waves.specs.Text.{item_text, items_text, level_letter, runs_of, runs_text}
 use Rattle.run_waves.specs.{declared.runs.Run.Run, Waves.levels_of, Waves.ticks_of}
 use Rattle.run_waves.proofs.LongestRuns.{levels_of-runs_of}

@@ -11,7 +11,7 @@ use Rattle.std.proofs.lemmas.Option.{none-some, same_Some, cond_some}
 use Rattle.std.proofs.lemmas.Str.Parse.{IsDigitsTest, FoldsDigits, numerals_by_fold}
 use Rattle.std.specs.Prelude.{nat_le, Option}
 use Rattle.std.specs.List.{list_all, position_or_len}
-use Rattle.base_store.specs.Number.{is_digit, with_digit, digits_value, decimal_value, number_of}
+use Rattle.base_text.specs.store.Number.{is_digit, with_digit, digits_value, decimal_value, number_of}
 use Rattle.run_signal.specs.declared.tern.Tern.{Tern}
 use Rattle.run_signal.specs.declared.tern.Tern.TheVariants.{Zero, One, Unknown}
 use Rattle.run_waves.specs.Waves.{run_of, levels_of, AreApart, ticks_of, AreRunsOf}

@@ -9,8 +9,8 @@ use Rattle.std.proofs.lemmas.Bool.Decides.{leb_tells}
 use Rattle.std.proofs.lemmas.Option.{none-some, same_Some}
 use Rattle.std.specs.Prelude.{nat_le}
 use Rattle.std.specs.List.{list_all, prefix_len, position_or_len}
-use Rattle.base_store.specs.Number.{is_digit, number_of}
-use Rattle.base_store.specs.DecimalLaws.{are_digits, number_of-decimal}
+use Rattle.base_text.specs.store.Number.{is_digit, number_of}
+use Rattle.base_text.specs.store.DecimalLaws.{are_digits, number_of-decimal}
 use Rattle.run_signal.specs.declared.tern.Tern.{Tern}
 use Rattle.run_signal.specs.declared.tern.Tern.TheVariants.{Zero, One, Unknown}
 use Rattle.run_waves.specs.Waves.{levels_of, runs_from, AreApart, ticks_of, AreRunsOf}

@@ -2,7 +2,7 @@
 
 ghost use Rattle.std.specs.Prelude.{◌≡◌, ◌≤◌, true, List, length};
 ghost use Rattle.run_signal.specs.declared.tern.Tern.{Tern};
-ghost use Rattle.base_lines.specs.Lines.{is_one_line};
+ghost use Rattle.base_text.specs.lines.Lines.{is_one_line};
 ghost use Rattle.run_waves.specs.Text.{runs_text};
 
 /// The text of a wave has no line feed.

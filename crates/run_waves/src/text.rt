@@ -11,8 +11,8 @@ ghost use Rattle.run_waves.specs.Text.{runs_text, gap, IsTextOf, level_in, run_i
 
 use crate::laws::texts_tell_waves;
 use crate::runs::{Run, Runs, Stretch};
-use base_lines::find_byte;
-use base_store::number;
+use base_text::lines::find_byte;
+use base_text::store::number;
 use itoa::Buffer;
 use model_line::Memory;
 use run_signal::Tern;

@@ -1,10 +1,10 @@
 //! The sink over a file that takes its name when it is whole. It tells nothing of what the file took.
 
 ghost use Rattle.std.specs.Prelude.{◌≡◌, ◌≤◌, None, length, IfOk, OnErr};
-ghost use Rattle.base_store.specs.Counts.{Rose};
+ghost use Rattle.base_text.specs.store.Counts.{Rose};
 ghost use Rattle.study.specs.NewFile.{FileCounts};
 
-use base_store::{Sink, SinkFailed};
+use base_text::store::{Sink, SinkFailed};
 use std::io::Write;
 use std::marker::Model;
 use std::rt::Files;

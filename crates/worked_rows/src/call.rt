@@ -4,7 +4,7 @@ use crate::change::{Change, changed};
 use crate::failing::{Failing, Failings, failing_sink, failing_store};
 use crate::fault::Fault;
 use crate::programs::call;
-use base_store::{FetchFault, MemoryStore, Sink, Store, fetch, put_all};
+use base_text::store::{FetchFault, MemoryStore, Sink, Store, fetch, put_all};
 use itoa::Buffer;
 use std::alloc::{AllocError, Global};
 

@@ -1,7 +1,7 @@
 //! How the store and the sinks of a call fail.
 
 use crate::fault::Fault;
-use base_store::{MemorySink, MemoryStore};
+use base_text::store::{MemorySink, MemoryStore};
 use std::alloc::Global;
 
 /// How a store or a sink fails: at the pull or push of which number, from 1 on, and how many bytes of

@@ -1,7 +1,7 @@
 //! What ends the rows before their last one.
 
 use base_memory::Memory;
-use base_store::{FetchFault, PutFailed};
+use base_text::store::{FetchFault, PutFailed};
 use std::alloc::AllocError;
 
 /// Why a line of `cases` is not done, or nothing of it can be read.

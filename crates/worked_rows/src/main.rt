@@ -25,7 +25,7 @@ mod fault;
 mod programs;
 mod rows;
 
-use base_store::{FileStore, StdSink};
+use base_text::store::{FileStore, StdSink};
 use rows::run_rows;
 use std::process::ExitCode;
 

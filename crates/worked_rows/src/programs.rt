@@ -3,7 +3,7 @@
 
 use crate::call::LONGEST;
 use crate::fault::Fault;
-use base_store::{MemorySink, MemoryStore, fetch, put_all};
+use base_text::store::{MemorySink, MemoryStore, fetch, put_all};
 use call_engine::NetEngine;
 use call_lint::{Linted, Names, lint_line, lint_study};
 use call_pilot::pilot;

@@ -4,7 +4,7 @@ use crate::call::{make_call, read_words};
 use crate::change::{Change, read_change};
 use crate::failing::{ALL_SOUND, Failings, read_failing};
 use crate::fault::Fault;
-use base_store::{Sink, Store, fetch, put_all};
+use base_text::store::{Sink, Store, fetch, put_all};
 use std::alloc::{AllocError, Global};
 
 const LONGEST: u32 = 1_048_576;

@@ -1,6 +1,6 @@
 //! A store over memory, a store over files and a sink over a writer, as a call uses them.
 
-use base_store::{FetchFault, FileStore, MemoryStore, PutFailed, StdSink, fetch, put_all};
+use base_text::store::{FetchFault, FileStore, MemoryStore, PutFailed, StdSink, fetch, put_all};
 use std::io::Write;
 use std::test::Fail;
 use std::{fs, io};

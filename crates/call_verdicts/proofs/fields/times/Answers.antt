@@ -3,7 +3,7 @@ use Rattle.std.proofs.Common.{append_assoc, length-drop}
 use Rattle.std.specs.Prelude.{get_or}
 use Rattle.std.specs.List.{flat_map}
 use Rattle.std.proofs.lemmas.List.{take_all}
-use Rattle.base_lines.specs.Milliseconds.{ticks_text}
+use Rattle.base_text.specs.lines.Milliseconds.{ticks_text}
 use Rattle.call_verdicts.specs.Records.{times_text}
 use Rattle.call_verdicts.proofs.Kept.{flat_map_more}
 use Rattle.call_verdicts.proofs.Times.{times_text_split}

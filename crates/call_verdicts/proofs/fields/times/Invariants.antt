@@ -1,6 +1,6 @@
 use Rattle.std.proofs.Common.{◌≡◌, ◌++◌, ◌∷◌, take}
 use Rattle.std.specs.List.{flat_map}
-use Rattle.base_lines.specs.Milliseconds.{ticks_text}
+use Rattle.base_text.specs.lines.Milliseconds.{ticks_text}
 use Rattle.call_verdicts.proofs.fields.times.Given as goal
 
 abbrev pub invariant-loop-t : goal.invariant-loop-t

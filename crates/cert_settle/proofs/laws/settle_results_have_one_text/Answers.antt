@@ -1,4 +1,4 @@
-use Rattle.base_lines.specs.WholeLaws.{same_bytes}
+use Rattle.base_text.specs.lines.WholeLaws.{same_bytes}
 use Rattle.cert_text.specs.Grammar.{end_text}
 use Rattle.cert_settle.specs.Grammar.{script_parts, head_text}
 use Rattle.cert_settle.proofs.StandsLaws.{stands_as}

@@ -1,8 +1,8 @@
 use Rattle.std.proofs.Common.{◌≡◌, List, [], ◌∷◌, ◌++◌, map, sym, ◌∙◌, ap, arith}
 use Rattle.std.proofs.lemmas.Result.{err_from_is_err_and}
 use Rattle.model_logic.specs.Choice.{Box, declared_box}
-use Rattle.base_lines.specs.LineLaws.{goes_one}
-use Rattle.base_lines.specs.{Reading.said_as, ReadLaws.later_fault}
+use Rattle.base_text.specs.lines.LineLaws.{goes_one}
+use Rattle.base_text.specs.{lines.Reading.said_as, lines.ReadLaws.later_fault}
 use Rattle.judge_cases.specs.declared.node.CaseNode.{CaseNode}
 use Rattle.judge_cases.specs.Nodes.{preorder}
 use Rattle.cert_settle.specs.Grammar.{Stands, opens, result_over, says_node, after_node}

@@ -1,6 +1,6 @@
 use Rattle.std.proofs.Common.{◌≡◌, ◌+◌, List, ℕ, None, length}
 use Rattle.model_logic.specs.Choice.{Box}
-use Rattle.base_lines.specs.Lines.{BeginsWith}
+use Rattle.base_text.specs.lines.Lines.{BeginsWith}
 use Rattle.cert_settle.specs.Grammar.{Place}
 use Rattle.cert_settle.specs.Reading.{AreSteps, AreRead, last_of}
 use Rattle.cert_settle.proofs.read_timing.read_timing.Given as goal

@@ -3,7 +3,7 @@ use Rattle.std.proofs.lemmas.Result.{err_from_is_err_and, MatchResult-weaker}
 use Rattle.model_logic.specs.Choice.{declared_box}
 use Rattle.model_settle.specs.CaseTrees.{lower_half, upper_half}
 use Rattle.judge_cases.specs.declared.node.CaseNode.TheVariants as node
-use Rattle.base_lines.specs.ReadLaws.{later_fault}
+use Rattle.base_text.specs.lines.ReadLaws.{later_fault}
 use Rattle.judge_cases.specs.Nodes.{preorder}
 use Rattle.cert_settle.specs.Grammar.{Place, Root, roots, says_node, expected, after_node}
 use Rattle.cert_settle.specs.Grammar.{grammar_of}

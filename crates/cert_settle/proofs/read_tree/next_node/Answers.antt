@@ -1,7 +1,7 @@
 use Rattle.std.proofs.Common.{ℕ, ◌∷◌, sym, subst}
 use Rattle.std.proofs.lemmas.Result.{err_from_is_err_and}
-use Rattle.base_lines.specs.{declared.fault.TextFault.TextFault, Grammar.IsFault}
-use Rattle.base_lines.specs.LineLaws.{absent, refused, goes_one}
+use Rattle.base_text.specs.{declared.lines.fault.TextFault.TextFault, lines.Grammar.IsFault}
+use Rattle.base_text.specs.lines.LineLaws.{absent, refused, goes_one}
 use Rattle.cert_settle.specs.Grammar.{Stands, opens, roots, Root, says_node, grammar_of}
 use Rattle.cert_settle.proofs.TreeLaws.{not_root}
 use Rattle.cert_settle.proofs.read_tree.next_node.Goals as goal

@@ -1,7 +1,7 @@
 use Rattle.std.proofs.Common.{◌≡◌, ◌≢◌, ◌∙◌, ℕ, List, sym, ap, subst}
 use Rattle.model_line.specs.NamesByNumber.{parameter_name}
 use Rattle.model_timing.specs.{declared.step.Step.Step, Inside.IsStepInside}
-use Rattle.base_lines.specs.AnswerLaws.{map_option}
+use Rattle.base_text.specs.lines.AnswerLaws.{map_option}
 use Rattle.cert_settle.specs.Grammar.{step_line, step_text}
 use Rattle.cert_settle.proofs.LineLaws.{told_step}
 use Rattle.cert_settle.proofs.step_line.step_at.Goals as goal

@@ -1,6 +1,6 @@
 use Rattle.std.proofs.Common.{◌≡◌, ◌≢◌, ◌<◌, ◌^◌, ℕ, List, sym, ◌∙◌, ap, decimal}
 use Rattle.std.specs.Prelude.{codes}
-use Rattle.base_lines.specs.{Named.named, AnswerLaws.map_option, NamedLaws.one_text}
+use Rattle.base_text.specs.{lines.Named.named, lines.AnswerLaws.map_option, lines.NamedLaws.one_text}
 use Rattle.cert_split_text.proofs.node_line.mid_in.Goals as goal
 
 pub returns-in_err-text : goal.returns-in_err-text

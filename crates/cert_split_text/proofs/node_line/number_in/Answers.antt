@@ -1,6 +1,6 @@
 use Rattle.std.proofs.Common.{◌≡◌, true, false, sym, ◌∙◌, ap, decimal}
 use Rattle.std.proofs.lemmas.Option.{same_Some, none-some}
-use Rattle.base_store.specs.{Number.number_of, DecimalLaws.number_of-decimal}
+use Rattle.base_text.specs.{store.Number.number_of, store.DecimalLaws.number_of-decimal}
 use Rattle.cert_split_text.proofs.node_line.number_in.Goals as goal
 
 pub returns-in_err-n : goal.returns-in_err-n

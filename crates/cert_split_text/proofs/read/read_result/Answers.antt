@@ -2,8 +2,8 @@ use Rattle.std.proofs.Common.{◌≡◌, List, [], ◌∷◌, ◌++◌, map, sym
 use Rattle.std.proofs.lemmas.Result.{err_from_is_err_and}
 use Rattle.model_logic.specs.Choice.{Box, declared_box}
 use Rattle.judge_split.specs.{declared.node.Node.Node, Trees.preorder}
-use Rattle.base_lines.specs.LineLaws.{goes_one, refused}
-use Rattle.base_lines.specs.{Reading.said_as, ReadLaws.later_fault}
+use Rattle.base_text.specs.lines.LineLaws.{goes_one, refused}
+use Rattle.base_text.specs.{lines.Reading.said_as, lines.ReadLaws.later_fault}
 use Rattle.cert_split_text.specs.Grammar.{Stands, opens, result_over, says_node, says_fails, below}
 use Rattle.cert_split_text.specs.Grammar.{grammar_of}
 use Rattle.cert_split_text.proofs.{NodeLaws.not_result, NodeLaws.same_line, TreeLaws.whole_tree}

@@ -2,7 +2,7 @@ use Rattle.std.proofs.Common.{◌-◌, ℕ, List, [], ◌∷◌, ◌++◌, map, 
 use Rattle.std.proofs.lemmas.Result.{err_from_is_err_and, MatchResult-weaker}
 use Rattle.model_logic.specs.Choice.{Box, declared_box}
 use Rattle.judge_split.specs.{Trees.preorder, Leaves.lower_half, Leaves.upper_half}
-use Rattle.base_lines.specs.ReadLaws.{later_fault}
+use Rattle.base_text.specs.lines.ReadLaws.{later_fault}
 use Rattle.cert_split_text.specs.Grammar.{Place, node_over, says_node, below, grammar_of}
 use Rattle.cert_split_text.proofs.TreeLaws.{split_can, halves_fault, whole_tree, below_yes}
 use Rattle.cert_split_text.proofs.TreeLaws.{below_undecided, below_split}

@@ -1,7 +1,7 @@
 use Rattle.std.proofs.Common.{ℕ, ◌∷◌, sym, subst}
 use Rattle.std.proofs.lemmas.Result.{err_from_is_err_and}
-use Rattle.base_lines.specs.{declared.fault.TextFault.TextFault, Grammar.IsFault}
-use Rattle.base_lines.specs.LineLaws.{absent, refused}
+use Rattle.base_text.specs.{declared.lines.fault.TextFault.TextFault, lines.Grammar.IsFault}
+use Rattle.base_text.specs.lines.LineLaws.{absent, refused}
 use Rattle.cert_split_text.specs.Grammar.{Stands, opens, node_over, grammar_of}
 use Rattle.cert_split_text.proofs.NodeLaws.{not_node}
 use Rattle.cert_split_text.proofs.read_tree.next_node.Goals as goal

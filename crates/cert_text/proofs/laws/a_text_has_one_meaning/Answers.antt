@@ -1,7 +1,7 @@
 use Rattle.std.proofs.Common.{sym, ◌∙◌}
 use Rattle.cert_text.specs.Grammar.{script_parts, head_text, end_text}
 use Rattle.cert_text.proofs.{ClaimLaws.parts_tell, StandsLaws.stands_once}
-use Rattle.base_lines.specs.WholeLaws.{one_meaning}
+use Rattle.base_text.specs.lines.WholeLaws.{one_meaning}
 use Rattle.cert_text.proofs.laws.a_text_has_one_meaning.Goals as goal
 
 pub returns : goal.returns

@@ -1,6 +1,6 @@
 use Rattle.cert_text.specs.Grammar.{script_parts, head_text, end_text}
 use Rattle.cert_text.proofs.{FewLines.leaves_early, StandsLaws.stands_once}
-use Rattle.base_lines.specs.WholeLaws.{leaves_at_one_line, is_no_text}
+use Rattle.base_text.specs.lines.WholeLaws.{leaves_at_one_line, is_no_text}
 use Rattle.cert_text.proofs.laws.a_text_leaves_at_one_line.Goals as goal
 
 pub returns-clause-one : goal.returns-clause-one

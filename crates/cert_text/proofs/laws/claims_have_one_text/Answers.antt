@@ -1,6 +1,6 @@
 use Rattle.cert_text.specs.Grammar.{script_parts, head_text, end_text}
 use Rattle.cert_text.proofs.StandsLaws.{stands_as}
-use Rattle.base_lines.specs.WholeLaws.{same_bytes}
+use Rattle.base_text.specs.lines.WholeLaws.{same_bytes}
 use Rattle.cert_text.proofs.laws.claims_have_one_text.Goals as goal
 
 pub returns : goal.returns

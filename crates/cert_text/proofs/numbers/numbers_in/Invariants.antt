@@ -1,5 +1,5 @@
 use Rattle.std.proofs.Common.{◌≡◌, ℕ, List, take, drop}
-use Rattle.base_lines.specs.SpacedNumbers.{numbers_text}
+use Rattle.base_text.specs.lines.SpacedNumbers.{numbers_text}
 use Rattle.cert_text.specs.Grammar.{AreNumbers}
 use Rattle.cert_text.proofs.numbers.numbers_in.Given as goal
 

@@ -1,7 +1,7 @@
 use Rattle.std.proofs.Common.{◌≡◌, ◌^◌, ◌<◌, ◌++◌, List, ℕ, length, sym, ◌∙◌, ap, arith, true}
 use Rattle.std.proofs.Common.{false, subst}
 use Rattle.std.specs.List.{All}
-use Rattle.base_lines.specs.SpacedNumbers.{numbers_text}
+use Rattle.base_text.specs.lines.SpacedNumbers.{numbers_text}
 use Rattle.cert_text.proofs.numbers.read_numbers.Goals as goal
 use Rattle.cert_text.proofs.numbers.read_numbers.Goals.{else-len-count-via-then-len-count+else-is}
 use Rattle.cert_text.proofs.numbers.read_numbers.Goals.{else-len-count-via-else-len-count}

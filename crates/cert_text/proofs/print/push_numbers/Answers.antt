@@ -1,6 +1,6 @@
 use Rattle.std.proofs.Common.{◌++◌, List, ℕ, take, get_or, sym, ◌∙◌, ap, arith, append_assoc}
-use Rattle.base_lines.specs.SpacedNumbers.{spaced, numbers_text}
-use Rattle.base_lines.specs.SpacedLaws.{one_number_more}
+use Rattle.base_text.specs.lines.SpacedNumbers.{spaced, numbers_text}
+use Rattle.base_text.specs.lines.SpacedLaws.{one_number_more}
 use Rattle.cert_text.proofs.print.push_numbers.Goals as goal
 
 pub loop-number-preserved : goal.loop-number-preserved

@@ -3,7 +3,7 @@ use Rattle.std.proofs.lemmas.{List.length-map, Simd.map-map}
 use Rattle.cert_text.specs.Grammar.{key_of, verdict_of, says_key, says_verdict, terminal_names}
 use Rattle.cert_text.specs.Grammar.{Place, Said, Verdict, verdict_in, script_text}
 use Rattle.cert_text.specs.Text.{lines_text, fed}
-use Rattle.base_lines.specs.AnswerLaws.{on_ok}
+use Rattle.base_text.specs.lines.AnswerLaws.{on_ok}
 use Rattle.cert_text.proofs.TextLaws.{lines_append, three_stretches}
 use Rattle.cert_text.specs.NameLaws.{names_count}
 use Rattle.cert_text.proofs.print.push_part.Goals as goal

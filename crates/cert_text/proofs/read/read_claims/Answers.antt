@@ -2,8 +2,8 @@ use Rattle.std.proofs.Common.{◌≡◌, List, ℕ, ◌++◌, map, ◌∙◌, ap
 use Rattle.std.proofs.lemmas.List.{length-map}
 use Rattle.std.proofs.lemmas.Simd.{map-map}
 use Rattle.std.proofs.lemmas.Result.{err_from_is_err_and}
-use Rattle.base_lines.specs.{LineLaws.goes_then, ReadLaws.later_fault}
-use Rattle.base_lines.specs.{Grammar.IsFault, Lines.Goes}
+use Rattle.base_text.specs.{lines.LineLaws.goes_then, lines.ReadLaws.later_fault}
+use Rattle.base_text.specs.{lines.Grammar.IsFault, lines.Lines.Goes}
 use Rattle.cert_text.specs.Grammar.{Place, Said, Stands, opens_none, grammar_of, key_of}
 use Rattle.cert_text.specs.Grammar.{verdict_of, says_key, says_verdict, verdict_in, claim_places}
 use Rattle.cert_text.proofs.ReadLaws.{both_places}

@@ -2,8 +2,8 @@ use Rattle.std.proofs.Common.{◌≡◌, ◌≢◌, ◌++◌, List, ℕ, sym, �
 use Rattle.std.proofs.lemmas.List.{append_cancel_left}
 use Rattle.std.specs.Prelude.{codes}
 use Rattle.cert_text.specs.Grammar.{AreNumbers}
-use Rattle.base_lines.specs.SpacedNumbers.{numbers_text}
-use Rattle.base_lines.specs.AnswerLaws.{map_read}
+use Rattle.base_text.specs.lines.SpacedNumbers.{numbers_text}
+use Rattle.base_text.specs.lines.AnswerLaws.{map_read}
 use Rattle.model_line.specs.Parameters.{param_count}
 use Rattle.cert_text.proofs.words.read_no.Goals as goal
 

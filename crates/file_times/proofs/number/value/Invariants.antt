@@ -1,5 +1,5 @@
 use Rattle.std.proofs.Common.{◌≡◌, ◌<◌, ◌^◌, take}
-use Rattle.base_store.specs.Number.{decimal_value}
+use Rattle.base_text.specs.store.Number.{decimal_value}
 use Rattle.file_times.proofs.number.value.Given as goal
 
 abbrev pub invariant-loop-digit : goal.invariant-loop-digit

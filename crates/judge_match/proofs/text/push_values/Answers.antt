@@ -1,6 +1,6 @@
 use Rattle.std.proofs.Common.{◌++◌, List, ℕ, take, get_or, sym, ◌∙◌, ap, arith, append_assoc}
-use Rattle.base_lines.specs.SpacedNumbers.{numbers_text, spaced}
-use Rattle.base_lines.specs.SpacedLaws.{one_number_more}
+use Rattle.base_text.specs.lines.SpacedNumbers.{numbers_text, spaced}
+use Rattle.base_text.specs.lines.SpacedLaws.{one_number_more}
 use Rattle.judge_match.proofs.text.push_values.Goals as goal
 
 pub loop-value-preserved : goal.loop-value-preserved

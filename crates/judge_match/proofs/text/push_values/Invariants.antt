@@ -1,5 +1,5 @@
 use Rattle.std.proofs.Common.{◌≡◌, ◌++◌, take}
-use Rattle.base_lines.specs.SpacedNumbers.{numbers_text}
+use Rattle.base_text.specs.lines.SpacedNumbers.{numbers_text}
 use Rattle.judge_match.proofs.text.push_values.Given as goal
 
 abbrev pub invariant-loop-value : goal.invariant-loop-value

@@ -1,6 +1,6 @@
 use Rattle.std.proofs.Common.{[], ◌∷◌}
 use Rattle.model_logic.specs.Choice.{declared_box}
-use Rattle.base_lines.specs.ReadLaws.{taken_then}
+use Rattle.base_text.specs.lines.ReadLaws.{taken_then}
 use Rattle.cert_settle.specs.Grammar.{grammar_of, result_over, result_said, IsSettleResult}
 use Rattle.cert_settle.specs.Grammar.{tree_text}
 use Rattle.cert_settle.specs.Reading.{result_in}

@@ -4,7 +4,7 @@ use Rattle.std.proofs.lemmas.List.Folds.{flat_map-map}
 use Rattle.std.proofs.lemmas.Result.{MatchResult-weaker}
 use Rattle.std.specs.List.{flat_map}
 use Rattle.model_line.specs.declared.line.Terminal.{Terminal}
-use Rattle.base_lines.specs.{ReadLaws.taken_then, Grammar.Reads, Grammar.IsFault}
+use Rattle.base_text.specs.{lines.ReadLaws.taken_then, lines.Grammar.Reads, lines.Grammar.IsFault}
 use Rattle.cert_text.specs.Grammar.{script_text, terminal_names}
 use Rattle.cert_split_text.specs.Grammar.{Place, Said, HasOneEach, grammar_of, tree_places}
 use Rattle.cert_split_text.specs.Grammar.{tree_said}

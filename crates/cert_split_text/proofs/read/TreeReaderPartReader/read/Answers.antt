@@ -1,6 +1,6 @@
 use Rattle.std.proofs.Common.{[], ◌∷◌}
 use Rattle.model_logic.specs.Choice.{declared_box}
-use Rattle.base_lines.specs.ReadLaws.{taken_then}
+use Rattle.base_text.specs.lines.ReadLaws.{taken_then}
 use Rattle.cert_split_text.specs.Grammar.{grammar_of, result_over, result_said, IsSplitResult}
 use Rattle.cert_split_text.specs.Grammar.{tree_text}
 use Rattle.cert_split_text.specs.Reading.{result_in}

@@ -1,4 +1,4 @@
-use Rattle.base_lines.specs.ReadLaws.{taken_then}
+use Rattle.base_text.specs.lines.ReadLaws.{taken_then}
 use Rattle.cert_text.specs.Grammar.{HasOneEach, grammar_of, claim_places, claims_said, claims_in}
 use Rattle.cert_text.specs.Grammar.{script_text}
 use Rattle.cert_text.proofs.read.ScriptReaderPartReader.read.Goals as goal

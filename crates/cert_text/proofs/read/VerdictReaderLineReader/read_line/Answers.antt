@@ -2,7 +2,7 @@ use Rattle.std.proofs.Common.{◌≡◌, ◌≢◌, List, ℕ, sym, ◌∙◌, a
 use Rattle.std.specs.Prelude.{codes}
 use Rattle.cert_text.specs.declared.claim.Claim.{Claim}
 use Rattle.cert_text.specs.Grammar.{Verdict, HasNumbers, verdict_words, verdict_in}
-use Rattle.base_lines.specs.{Named.named, AnswerLaws.map_read, NamedLaws.one_text}
+use Rattle.base_text.specs.{lines.Named.named, lines.AnswerLaws.map_read, lines.NamedLaws.one_text}
 use Rattle.cert_text.proofs.ReadLaws.{not_verdict}
 use Rattle.cert_text.proofs.read.VerdictReaderLineReader.read_line.Goals as goal
 

@@ -1,5 +1,0 @@
-use Rattle.base_store.proofs.Digits.{digits_from-digits_value}
-use Rattle.base_store.proofs.numbers.digits_value.Goals as goal
-
-pub loop-byte-init : goal.loop-byte-init
-loop-byte-init c = digits_from-digits_value c.args.bytes.now

@@ -1,7 +1,0 @@
-use Rattle.std.proofs.Common.{◌≡◌, drop}
-use Rattle.base_store.specs.Number.{digits_value}
-use Rattle.base_store.proofs.Digits.{digits_from}
-use Rattle.base_store.proofs.numbers.digits_value.Given as goal
-
-abbrev pub invariant-loop-byte : goal.invariant-loop-byte
-invariant-loop-byte l = digits_from l.value (drop l.byte-index l.bytes) ≡ digits_value l.bytes

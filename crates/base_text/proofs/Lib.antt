@@ -1,0 +1,2 @@
+pub mod lines_lemmas
+pub mod store_lemmas
