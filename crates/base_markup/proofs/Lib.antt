@@ -1,2 +1,2 @@
-pub mod Grown
-pub mod Plain
+pub mod html_lemmas
+pub mod svg_lemmas

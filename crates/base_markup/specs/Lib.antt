@@ -1,4 +1,2 @@
-pub mod Names
-pub mod Escape
-pub mod Attributes
-pub mod Content
+pub mod html
+pub mod svg

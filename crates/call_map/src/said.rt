@@ -2,7 +2,7 @@
 
 ghost use Rattle.std.specs.Prelude.{◌≡◌, ◌≤◌, Err, Ok, IfOk};
 ghost use Rattle.std.specs.Option.{option_copied};
-ghost use Rattle.base_markup.specs.Content.{IsContent};
+ghost use Rattle.base_markup.specs.svg.Content.{IsContent};
 ghost use Rattle.judge_map.specs.Axes.{AreAxes, CanMoveBoth};
 ghost use Rattle.judge_map.specs.Cells.{AreCells};
 ghost use Rattle.draw_map.specs.Maps.{IsSmallSecond};

@@ -4,7 +4,7 @@ ghost use Rattle.std.specs.Prelude.{IfOk};
 ghost use Rattle.net_gates.specs.NetOf.{IsNetOf};
 ghost use Rattle.model_line.specs.Fits.{Fits};
 ghost use Rattle.call_study.specs.Pictures.{IsBandsText, IsDataText, IsDumpText, IsRunText};
-ghost use Rattle.base_markup.specs.Content.{IsContent};
+ghost use Rattle.base_markup.specs.svg.Content.{IsContent};
 ghost use Rattle.model_timing.specs.{Inside.IsTimingInside, NamedValues.values_of};
 
 use draw_diagram::{every_choice_waves, history_diagram, play_diagram};

@@ -1,10 +1,10 @@
 -- How obligations stand, by sign and words.
 use Rattle.std.specs.Prelude.{◌++◌, ◌==◌, ℕ, Bool, true, false, List, codes, decimal, count_by, length}
 use Rattle.std.specs.Prelude.{nat_lt, if◌then◌else◌}
-use Rattle.base_html.specs.declared.tag.Tag.TheVariants as tag
-use Rattle.base_html.specs.declared.sign.Sign.{Sign}
-use Rattle.base_html.specs.declared.sign.Sign.TheVariants as sign
-use Rattle.base_html.specs.{Words.words_text, Names.sign_text}
+use Rattle.base_markup.specs.declared.html.tag.Tag.TheVariants as tag
+use Rattle.base_markup.specs.declared.html.sign.Sign.{Sign}
+use Rattle.base_markup.specs.declared.html.sign.Sign.TheVariants as sign
+use Rattle.base_markup.specs.{html.Words.words_text, html.Names.sign_text}
 use Rattle.draw_page.specs.declared.page.Standing.{Standing}
 use Rattle.draw_page.specs.declared.page.Standing.TheVariants.{Held, Fails, Open}
 use Rattle.draw_page.specs.Elements.{classed_html}

@@ -1,6 +1,6 @@
 -- Cells that say by themselves what they are.
 use Rattle.std.specs.Prelude.{ℕ, List}
-use Rattle.base_html.specs.declared.tag.Tag.TheVariants as tag
+use Rattle.base_markup.specs.declared.html.tag.Tag.TheVariants as tag
 use Rattle.draw_page.specs.Elements.{classed_html}
 
 -- a cell of a class, without a label

@@ -2,8 +2,8 @@
 use Rattle.std.specs.Prelude.{◌++◌, ℕ, List, [], ◌∷◌, codes, Vec}
 use Rattle.std.specs.declared.alloc.Global.{Global}
 use Rattle.std.specs.List.{flat_map}
-use Rattle.base_html.specs.declared.tag.Tag.TheVariants as tag
-use Rattle.base_html.specs.Words.{words_text}
+use Rattle.base_markup.specs.declared.html.tag.Tag.TheVariants as tag
+use Rattle.base_markup.specs.html.Words.{words_text}
 use Rattle.draw_shapes.specs.Seen.{drawing_seen}
 use Rattle.draw_page.specs.declared.anchor.Anchor.TheVariants as anchor
 use Rattle.draw_page.specs.declared.page.{Page.Page, FailingChoice.FailingChoice}

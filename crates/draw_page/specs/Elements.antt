@@ -1,11 +1,11 @@
 -- Elements as the page uses them.
 use Rattle.std.specs.Prelude.{◌++◌, ◌+◌, ℕ, List, [], ◌∷◌, codes, decimal}
 use Rattle.std.specs.List.{flat_map}
-use Rattle.base_html.specs.declared.tag.Tag.{Tag}
-use Rattle.base_html.specs.declared.tag.Tag.TheVariants as tag
-use Rattle.base_html.specs.declared.attribute.Key.TheVariants as key
-use Rattle.base_html.specs.declared.sign.Sign.TheVariants as sign
-use Rattle.base_html.specs.{Content.element_text, Words.words_text, Names.sign_text}
+use Rattle.base_markup.specs.declared.html.tag.Tag.{Tag}
+use Rattle.base_markup.specs.declared.html.tag.Tag.TheVariants as tag
+use Rattle.base_markup.specs.declared.html.attribute.Key.TheVariants as key
+use Rattle.base_markup.specs.declared.html.sign.Sign.TheVariants as sign
+use Rattle.base_markup.specs.{html.Content.element_text, html.Words.words_text, html.Names.sign_text}
 use Rattle.draw_page.specs.declared.anchor.Anchor.{Anchor}
 use Rattle.draw_page.specs.declared.anchor.Anchor.TheVariants as anchor
 

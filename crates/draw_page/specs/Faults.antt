@@ -1,9 +1,9 @@
 -- The sections of the faults.
 use Rattle.std.specs.Prelude.{◌++◌, ℕ, List, [], ◌∷◌, codes, decimal, length, nat_le, if◌then◌else◌}
 use Rattle.std.specs.List.{flat_map}
-use Rattle.base_html.specs.declared.tag.Tag.TheVariants as tag
-use Rattle.base_html.specs.declared.attribute.Key.TheVariants as key
-use Rattle.base_html.specs.{Content.element_text, Words.words_text}
+use Rattle.base_markup.specs.declared.html.tag.Tag.TheVariants as tag
+use Rattle.base_markup.specs.declared.html.attribute.Key.TheVariants as key
+use Rattle.base_markup.specs.{html.Content.element_text, html.Words.words_text}
 use Rattle.draw_shapes.specs.Seen.{drawing_seen}
 use Rattle.draw_page.specs.declared.anchor.Anchor.TheVariants as anchor
 use Rattle.draw_page.specs.declared.page.{Page.Page, Fault.Fault, Verdict.Verdict}

@@ -1,11 +1,11 @@
 -- Drawings within the page, and what they share: the looks and the hatchings, which stand once.
 use Rattle.std.specs.Prelude.{◌++◌, ℕ, List, [], ◌∷◌, codes}
-use Rattle.base_markup.specs.Content as svg_content
-use Rattle.base_markup.specs.declared.tag.Tag.TheVariants as svg_tag
-use Rattle.base_markup.specs.declared.attribute.Key.TheVariants as svg_key
-use Rattle.base_html.specs.declared.tag.Tag.TheVariants as tag
-use Rattle.base_html.specs.declared.attribute.Key.TheVariants as key
-use Rattle.base_html.specs.Content.{element_text}
+use Rattle.base_markup.specs.svg.Content as svg_content
+use Rattle.base_markup.specs.declared.svg.tag.Tag.TheVariants as svg_tag
+use Rattle.base_markup.specs.declared.svg.attribute.Key.TheVariants as svg_key
+use Rattle.base_markup.specs.declared.html.tag.Tag.TheVariants as tag
+use Rattle.base_markup.specs.declared.html.attribute.Key.TheVariants as key
+use Rattle.base_markup.specs.html.Content.{element_text}
 use Rattle.draw_shapes.specs.declared.class.Class.{Class}
 use Rattle.draw_shapes.specs.Seen.{SeenDrawing}
 use Rattle.draw_shapes.specs.Svg.{end_of_line, hatchings_text, root_attributes, rule_text}

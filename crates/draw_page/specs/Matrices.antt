@@ -2,9 +2,9 @@
 use Rattle.std.specs.Prelude.{◌++◌, ℕ, List, [], ◌∷◌, codes, Vec}
 use Rattle.std.specs.declared.alloc.Global.{Global}
 use Rattle.std.specs.List.{flat_map}
-use Rattle.base_html.specs.declared.tag.Tag.TheVariants as tag
-use Rattle.base_html.specs.declared.attribute.Key.TheVariants as key
-use Rattle.base_html.specs.{Content.element_text, Words.words_text}
+use Rattle.base_markup.specs.declared.html.tag.Tag.TheVariants as tag
+use Rattle.base_markup.specs.declared.html.attribute.Key.TheVariants as key
+use Rattle.base_markup.specs.{html.Content.element_text, html.Words.words_text}
 use Rattle.draw_page.specs.declared.anchor.Anchor.TheVariants as anchor
 use Rattle.draw_page.specs.declared.page.{Page.Page, Fault.Fault, Verdict.Verdict}
 use Rattle.draw_page.specs.Elements.{numbered, plain_html, cell_html, number_cell_html, column_html}

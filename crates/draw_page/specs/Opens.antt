@@ -1,7 +1,7 @@
 -- The obligations that are open.
 use Rattle.std.specs.Prelude.{◌++◌, ℕ, List, [], ◌∷◌, codes, decimal}
 use Rattle.std.specs.List.{flat_map}
-use Rattle.base_html.specs.declared.tag.Tag.TheVariants as tag
+use Rattle.base_markup.specs.declared.html.tag.Tag.TheVariants as tag
 use Rattle.draw_page.specs.declared.anchor.Anchor.TheVariants as anchor
 use Rattle.draw_page.specs.declared.page.{Page.Page, Undecided.Undecided}
 use Rattle.draw_page.specs.Elements.{columns_html, head_cell_html, link_html, number_cell_html}

@@ -1,9 +1,9 @@
 -- The page of a study: one document, its sections in this order.
 use Rattle.std.specs.Prelude.{◌++◌, ℕ, List, [], ◌∷◌, codes}
-use Rattle.base_html.specs.declared.tag.Tag.TheVariants as tag
-use Rattle.base_html.specs.declared.tag.Void.TheVariants as void
-use Rattle.base_html.specs.declared.attribute.Key.TheVariants as key
-use Rattle.base_html.specs.Content.{document_text, void_text}
+use Rattle.base_markup.specs.declared.html.tag.Tag.TheVariants as tag
+use Rattle.base_markup.specs.declared.html.tag.Void.TheVariants as void
+use Rattle.base_markup.specs.declared.html.attribute.Key.TheVariants as key
+use Rattle.base_markup.specs.html.Content.{document_text, void_text}
 use Rattle.draw_page.specs.declared.page.Page.{Page}
 use Rattle.draw_page.specs.Elements.{plain_html, words_in_html}
 use Rattle.draw_page.specs.Headings.{header_html}

@@ -2,7 +2,7 @@
 -- drawing.
 use Rattle.std.specs.Prelude.{◌++◌, ℕ, List}
 use Rattle.std.specs.List.{flat_map}
-use Rattle.base_html.specs.Content.{sheet_text}
+use Rattle.base_markup.specs.html.Content.{sheet_text}
 use Rattle.draw_shapes.specs.declared.class.TheConstants.{CLASSES}
 use Rattle.draw_page.specs.declared.style.TheConstants.{DRAWINGS, MARKS, NARROW, PRINT, TABLES, TEXT}
 use Rattle.draw_page.specs.declared.style.Part.{Part}

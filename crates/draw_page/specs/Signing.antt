@@ -1,6 +1,6 @@
 -- By what the page was made, and lines to sign.
 use Rattle.std.specs.Prelude.{◌++◌, ℕ, List, codes}
-use Rattle.base_html.specs.declared.tag.Tag.TheVariants as tag
+use Rattle.base_markup.specs.declared.html.tag.Tag.TheVariants as tag
 use Rattle.draw_page.specs.declared.anchor.Anchor.TheVariants as anchor
 use Rattle.draw_page.specs.declared.page.Page.{Page}
 use Rattle.draw_page.specs.Elements.{classed_html, plain_html, section_html, words_in_html}

@@ -1,11 +1,11 @@
 -- All scripts of a swept fault: a strip for each terminal, and a table.
 use Rattle.std.specs.Prelude.{◌++◌, ℕ, List, [], ◌∷◌, codes, map, get_or}
 use Rattle.std.specs.List.{flat_map}
-use Rattle.base_html.specs.declared.tag.Tag.TheVariants as tag
-use Rattle.base_html.specs.declared.attribute.Key.TheVariants as key
-use Rattle.base_html.specs.declared.sign.Sign.{Sign}
-use Rattle.base_html.specs.declared.sign.Sign.TheVariants as sign
-use Rattle.base_html.specs.{Content.element_text, Words.words_text, Names.sign_text}
+use Rattle.base_markup.specs.declared.html.tag.Tag.TheVariants as tag
+use Rattle.base_markup.specs.declared.html.attribute.Key.TheVariants as key
+use Rattle.base_markup.specs.declared.html.sign.Sign.{Sign}
+use Rattle.base_markup.specs.declared.html.sign.Sign.TheVariants as sign
+use Rattle.base_markup.specs.{html.Content.element_text, html.Words.words_text, html.Names.sign_text}
 use Rattle.draw_page.specs.declared.page.{Case.Case, Standing.Standing, Verdict.Verdict}
 use Rattle.draw_page.specs.declared.page.Standing.TheVariants.{Held, Fails, Open}
 use Rattle.draw_page.specs.Elements.{cell_html, column_html, head_cell_html, numbered}

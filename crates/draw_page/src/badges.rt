@@ -8,7 +8,7 @@ ghost use Rattle.draw_page.specs.Badges.{fails_html, held_html, open_html, stand
 use crate::elements::classed;
 use crate::page::Standing;
 use crate::words::number_words;
-use base_html::{Html, Sign, Tag};
+use base_markup::html::{Html, Sign, Tag};
 use std::alloc::{AllocError, Global};
 
 /// A sign and words behind it.

@@ -4,7 +4,7 @@ ghost use Rattle.std.specs.Prelude.{◌≡◌, IfOk};
 ghost use Rattle.draw_page.specs.Bare.{bare_cell_html};
 
 use crate::elements::classed;
-use base_html::{Html, Tag};
+use base_markup::html::{Html, Tag};
 use std::alloc::{AllocError, Global};
 
 /// A cell of a class, without a label.

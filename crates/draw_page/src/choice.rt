@@ -14,7 +14,7 @@ use crate::elements::{columns, link, said_in, section, table, words_in};
 use crate::page::{FailingChoice, Page, ToldStep, ToldTime};
 use crate::parts::{around, classed_around, joined, number_in, row_head};
 use crate::words::{interval_words, time_words};
-use base_html::{Html, Tag};
+use base_markup::html::{Html, Tag};
 use std::alloc::{AllocError, Global};
 
 /// The section of the choices that fail.

@@ -6,8 +6,8 @@ ghost use Rattle.draw_page.specs.Figures.{drawing_html, drawn_inside, figure_htm
 
 use crate::elements::classed;
 use crate::words::number_words;
-use base_html::{Html, Tag};
-use base_markup::{Key, Markup, words};
+use base_markup::html::{Html, Tag};
+use base_markup::svg::{Key, Markup, words};
 use draw_shapes::{Drawing, shapes, title};
 use std::alloc::{AllocError, Global};
 

@@ -8,7 +8,7 @@ ghost use Rattle.draw_page.specs.Elements.{number_cell_html, plain_html, said_in
 ghost use Rattle.draw_page.specs.Elements.{shown_html, words_in_html};
 
 use crate::anchor::{Anchor, anchor_words, target_words};
-use base_html::{Attribute, Html, Key, Sign, Tag};
+use base_markup::html::{Attribute, Html, Key, Sign, Tag};
 use std::alloc::{AllocError, Global};
 
 /// An element without attributes.

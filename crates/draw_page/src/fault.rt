@@ -2,9 +2,9 @@
 
 ghost use Rattle.std.specs.Prelude.{◌≡◌, ◌∷◌, [], ℕ, List, IfOk, codes};
 ghost use Rattle.std.specs.List.{flat_map};
-ghost use Rattle.base_html.specs.Content.{element_text};
-ghost use Rattle.base_html.specs.declared.attribute.Key.TheVariants as key;
-ghost use Rattle.base_html.specs.declared.tag.Tag.TheVariants as tag;
+ghost use Rattle.base_markup.specs.html.Content.{element_text};
+ghost use Rattle.base_markup.specs.declared.html.attribute.Key.TheVariants as key;
+ghost use Rattle.base_markup.specs.declared.html.tag.Tag.TheVariants as tag;
 ghost use Rattle.draw_page.specs.Badges.{badge_html};
 ghost use Rattle.draw_page.specs.Bare.{bare_cell_html};
 ghost use Rattle.draw_page.specs.Elements.{anchor_said, numbered};
@@ -23,7 +23,7 @@ use crate::parts::{around, cell_around, joined, number_in, row_head};
 use crate::scripts::scripts;
 use crate::strip::strips;
 use crate::words::{by_words, deadline_words, kind_words, margin_words, number_words, trip_words};
-use base_html::{Attribute, Html, Key, Tag};
+use base_markup::html::{Attribute, Html, Key, Tag};
 use std::alloc::{AllocError, Global};
 
 /// The section of the faults, with a section for each.

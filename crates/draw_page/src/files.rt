@@ -1,7 +1,7 @@
 //! The files that were judged, and the digests of all.
 
 ghost use Rattle.std.specs.Prelude.{◌≡◌, IfOk, codes};
-ghost use Rattle.base_html.specs.declared.tag.Tag.TheVariants as tag;
+ghost use Rattle.base_markup.specs.declared.html.tag.Tag.TheVariants as tag;
 ghost use Rattle.draw_page.specs.Bare.{bare_cell_html};
 ghost use Rattle.draw_page.specs.Elements.{words_in_html};
 ghost use Rattle.std.specs.List.{flat_map};
@@ -13,7 +13,7 @@ use crate::bare::bare_cell;
 use crate::elements::{columns, section, table, words_in};
 use crate::page::{Digest, FileText, Page};
 use crate::parts::{around, joined, row_head};
-use base_html::{Html, Tag};
+use base_markup::html::{Html, Tag};
 use std::alloc::{AllocError, Global};
 
 /// The section of the files: the digests, and each file in a fold.

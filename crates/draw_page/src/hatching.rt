@@ -3,8 +3,8 @@
 ghost use Rattle.std.specs.Prelude.{◌≡◌, IfOk};
 ghost use Rattle.draw_page.specs.Figures.{patterns_html};
 
-use base_html::{Attribute, Html, Key, Tag};
-use base_markup::words;
+use base_markup::html::{Attribute, Html, Key, Tag};
+use base_markup::svg::words;
 use draw_shapes::hatchings;
 use std::alloc::{AllocError, Global};
 
@@ -16,9 +16,9 @@ pub fn patterns(alloc: Global) -> Result<Html, AllocError>
     let drawn = Html::drawing(
         alloc,
         &[
-            words(base_markup::Key::Xmlns, b"http://www.w3.org/2000/svg"),
-            words(base_markup::Key::Width, b"0"),
-            words(base_markup::Key::Height, b"0"),
+            words(base_markup::svg::Key::Xmlns, b"http://www.w3.org/2000/svg"),
+            words(base_markup::svg::Key::Width, b"0"),
+            words(base_markup::svg::Key::Height, b"0"),
         ],
         &hatchings(alloc)?,
     )?;

@@ -1,7 +1,7 @@
 //! The head of the page: what it is of, and the counts in large.
 
 ghost use Rattle.std.specs.Prelude.{◌≡◌, ◌++◌, IfOk, Some, codes};
-ghost use Rattle.base_html.specs.declared.tag.Tag.TheVariants as tag;
+ghost use Rattle.base_markup.specs.declared.html.tag.Tag.TheVariants as tag;
 ghost use Rattle.draw_page.specs.Elements.{plain_html, said_in_html};
 ghost use Rattle.draw_page.specs.Headings.{answer_links_html, contents_html, count_html};
 ghost use Rattle.draw_page.specs.Headings.{counts_html, failing_html, header_html, held_html};
@@ -14,7 +14,7 @@ use crate::elements::{link, plain, said_in, words_in};
 use crate::page::{Counts, LeastMargin, Page};
 use crate::parts::{around, classed_around, joined};
 use crate::words::{number_words, push_ticks, time_words};
-use base_html::{Attribute, Html, Key, Tag};
+use base_markup::html::{Attribute, Html, Key, Tag};
 use std::alloc::{AllocError, Global};
 
 /// The head of the page.

@@ -13,7 +13,7 @@ use crate::elements::{column, link, section, table};
 use crate::page::{Fault, Page, Verdict};
 use crate::parts::{around, cell_around, joined, number_in, row_head};
 use crate::words::{kind_words, margin_words, trip_words};
-use base_html::{Attribute, Html, Key, Tag};
+use base_markup::html::{Attribute, Html, Key, Tag};
 use std::alloc::{AllocError, Global};
 
 /// The section with the matrix: a row for each fault, three cells for each terminal.

@@ -10,7 +10,7 @@ use crate::elements::{columns, link, number_cell, section, table, words_in};
 use crate::page::{Page, Undecided};
 use crate::parts::{around, joined, number_in, row_head};
 use crate::words::number_words;
-use base_html::{Html, Tag};
+use base_markup::html::{Html, Tag};
 use std::alloc::{AllocError, Global};
 
 /// The section of what is open.

@@ -5,7 +5,7 @@ ghost use Rattle.draw_page.specs.Elements.{cell_html, classed_html, head_cell_ht
 ghost use Rattle.draw_page.specs.Elements.{number_cell_html, plain_html};
 
 use crate::elements::{cell, classed, head_cell, number_cell, plain};
-use base_html::{Html, Tag};
+use base_markup::html::{Html, Tag};
 use std::alloc::{AllocError, Global};
 
 /// One, and the other behind it.

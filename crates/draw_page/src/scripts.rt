@@ -11,7 +11,7 @@ use crate::elements::{cell, column, plain, table, words_in};
 use crate::page::{Case, Standing, Verdict};
 use crate::parts::{around, joined, number_in, row_head};
 use crate::words::{deadline_words, time_words};
-use base_html::{Html, Tag};
+use base_markup::html::{Html, Tag};
 use std::alloc::{AllocError, Global};
 
 /// The table of all scripts, folded.

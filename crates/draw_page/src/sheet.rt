@@ -6,7 +6,7 @@ ghost use Rattle.draw_page.specs.Figures.{look_rule};
 ghost use Rattle.draw_page.specs.Sheets.{first_words, last_words, sheet_html, sheet_words};
 
 use crate::style::{Part, rules_of};
-use base_html::Html;
+use base_markup::html::Html;
 use draw_shapes::{CLASSES, Class, put_rule};
 use std::alloc::{AllocError, Global};
 

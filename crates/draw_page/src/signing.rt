@@ -6,7 +6,7 @@ ghost use Rattle.draw_page.specs.Signing.{line_html, made_said, signing_html};
 use crate::anchor::Anchor;
 use crate::elements::{classed, plain, section, words_in};
 use crate::page::Page;
-use base_html::{Html, Tag};
+use base_markup::html::{Html, Tag};
 use std::alloc::{AllocError, Global};
 
 /// The section to sign.

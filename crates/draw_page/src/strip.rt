@@ -8,7 +8,7 @@ ghost use Rattle.draw_page.specs.Sweeps.{spot_html, spot_sign as sign_of_spot, s
 
 use crate::elements::words_in;
 use crate::page::{Case, Standing, Verdict};
-use base_html::{Attribute, Html, Key, Sign, Tag};
+use base_markup::html::{Attribute, Html, Key, Sign, Tag};
 use std::alloc::{AllocError, Global};
 
 /// A strip for each terminal, with a spot for each script.

@@ -16,7 +16,7 @@ use crate::elements::{cell, column, said_in, section, table, words_in};
 use crate::page::{Page, Slack, Time};
 use crate::parts::{around, joined, number_in, row_head};
 use crate::words::{interval_words, push_ticks, time_words};
-use base_html::{Html, Tag};
+use base_markup::html::{Html, Tag};
 use std::alloc::{AllocError, Global};
 
 /// The section of the times and their margins.

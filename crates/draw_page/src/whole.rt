@@ -17,7 +17,7 @@ use crate::parts::{around, joined};
 use crate::sheet::sheet;
 use crate::signing::signing;
 use crate::times::times;
-use base_html::{Attribute, Document, Html, Key, Tag, Void};
+use base_markup::html::{Attribute, Document, Html, Key, Tag, Void};
 use std::alloc::{AllocError, Global};
 
 /// The text of the page.

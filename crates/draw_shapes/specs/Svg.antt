@@ -1,11 +1,11 @@
 -- The text of a drawing as SVG: one element.
 use Rattle.std.specs.Prelude.{◌++◌, ◌/◌, ℕ, List, [], ◌∷◌, codes, decimal}
 use Rattle.std.specs.List.{flat_map}
-use Rattle.base_markup.specs.declared.tag.Tag.TheVariants as tag
-use Rattle.base_markup.specs.declared.attribute.Key.{Key}
-use Rattle.base_markup.specs.declared.attribute.Key.TheVariants as key
-use Rattle.base_markup.specs.{Attributes.tenths_said, Content.leaf_text, Content.element_text}
-use Rattle.base_markup.specs.Escape.{escaped}
+use Rattle.base_markup.specs.declared.svg.tag.Tag.TheVariants as tag
+use Rattle.base_markup.specs.declared.svg.attribute.Key.{Key}
+use Rattle.base_markup.specs.declared.svg.attribute.Key.TheVariants as key
+use Rattle.base_markup.specs.{svg.Attributes.tenths_said, svg.Content.leaf_text, svg.Content.element_text}
+use Rattle.base_markup.specs.svg.Escape.{escaped}
 use Rattle.draw_shapes.specs.declared.class.Class.{Class}
 use Rattle.draw_shapes.specs.declared.class.Class.TheVariants as class
 use Rattle.draw_shapes.specs.declared.class.TheConstants.{CLASSES}

@@ -10,7 +10,7 @@ ghost use Rattle.draw_shapes.specs.Svg.{shapes_text, title_text, inside_text, sv
 use crate::figure::{Figure, Label, Rectangle, Stroke};
 use crate::shape::{Drawing, Shape};
 use crate::style::{hatchings, sheet};
-use base_markup::{Key, Markup, Tag, tenths, words};
+use base_markup::svg::{Key, Markup, Tag, tenths, words};
 use itoa::Buffer;
 use std::alloc::{AllocError, Global};
 

@@ -10,7 +10,7 @@ ghost use Rattle.draw_shapes.specs.{Svg.figure_text, Seen.rectangle};
 use crate::class::{CLASSES, Class};
 use crate::document::{ended, rectangle};
 use crate::figure::Rectangle;
-use base_markup::{Key, Markup, Tag, words};
+use base_markup::svg::{Key, Markup, Tag, words};
 use std::alloc::{AllocError, Global};
 
 /// The style sheet.

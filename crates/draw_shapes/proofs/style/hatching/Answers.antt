@@ -1,7 +1,7 @@
 use Rattle.std.proofs.Common.{◌≡◌, ◌++◌, ℕ, List, [], ◌∷◌, IfOk, subst, ap, ◌∙◌}
-use Rattle.base_markup.specs.declared.attribute.Key.{Key}
-use Rattle.base_markup.specs.declared.tag.Tag.TheVariants as tag
-use Rattle.base_markup.specs.{Attributes.said, Content.element_text}
+use Rattle.base_markup.specs.declared.svg.attribute.Key.{Key}
+use Rattle.base_markup.specs.declared.svg.tag.Tag.TheVariants as tag
+use Rattle.base_markup.specs.{svg.Attributes.said, svg.Content.element_text}
 use Rattle.draw_shapes.specs.Svg.{hatching_text, hatching_attributes, end_of_line}
 use Rattle.draw_shapes.proofs.style.hatching.Goals as goal
 

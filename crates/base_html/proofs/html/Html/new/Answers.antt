@@ -1,6 +1,0 @@
-use Rattle.std.proofs.Common.{sym, subst}
-use Rattle.base_html.specs.Content.{IsHtml, nothing}
-use Rattle.base_html.proofs.html.Html.new.Goals as goal
-
-pub invariant_of-result : goal.invariant_of-result
-invariant_of-result c = record { well_formed = ∣ subst IsHtml (sym c.new.ensures.items) nothing ∣₁ }

@@ -1,6 +1,0 @@
-use Rattle.base_html.proofs.Grown.{made_of_sheet}
-use Rattle.base_html.proofs.html.Html.sheet.Goals as goal
-
-pub invariant_of-result : goal.invariant_of-result
-invariant_of-result c =
-    record { well_formed = made_of_sheet _ c.args.sheet.now c.in_ok-text.ensures }

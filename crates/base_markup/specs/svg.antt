@@ -1,0 +1,4 @@
+pub mod Names
+pub mod Escape
+pub mod Attributes
+pub mod Content
