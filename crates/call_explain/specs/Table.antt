@@ -6,7 +6,7 @@ use Rattle.csv.specs.Writing.{row_text, default_writer}
 use Rattle.model_line.specs.declared.line.Line.{Line}
 use Rattle.model_line.specs.NamesByNumber.{terminal_name}
 use Rattle.model_timing.specs.{Timing.TimingValues, NamedValues.NamedValues}
-use Rattle.file_timing.specs.Printed.{file_records, records_text}
+use Rattle.file_tables.specs.timing.Printed.{file_records, records_text}
 use Rattle.judge_match.specs.MatchText.{signal_word}
 use Rattle.run_rows.specs.PlayRows.{level_word}
 use Rattle.judge_explain.specs.declared.paired.Paired.{Paired}

@@ -10,7 +10,7 @@ ghost use Rattle.call_explain.specs.Table.{timing_text as text_of_timing};
 use crate::fields::changes_text;
 use call_answer::{Done, Said};
 use call_ask::ExplainForm;
-use file_timing::print_timings;
+use file_tables::timing::print_timings;
 use itoa::Buffer;
 use judge_explain::Explanation;
 use model_line::{Line, Memory, Name};

@@ -5,10 +5,10 @@ use Rattle.file_line.specs.{LineFiles.line_of, Lines.line_values}
 use Rattle.file_line.specs.Reading as line_reading
 use Rattle.file_line.specs.declared.fault.LineFault.{LineFault}
 use Rattle.file_line.specs.declared.fault.LineFault.TheVariants as line_fault
-use Rattle.file_script.specs.Gives as script_reading
-use Rattle.file_script.specs.Scripts.{scripts_of}
-use Rattle.file_script.specs.declared.fault.ScriptFault.{ScriptFault}
-use Rattle.file_script.specs.declared.fault.ScriptFault.TheVariants as script_fault
+use Rattle.file_tables.specs.script.Gives as script_reading
+use Rattle.file_tables.specs.script.Scripts.{scripts_of}
+use Rattle.file_tables.specs.declared.script.fault.ScriptFault.{ScriptFault}
+use Rattle.file_tables.specs.declared.script.fault.ScriptFault.TheVariants as script_fault
 use Rattle.call_files.specs.Stops.{line_stop, script_stop}
 use Rattle.call_files.specs.Study.{ReadsStudy}
 

@@ -5,11 +5,11 @@ use Rattle.std.specs.List.{All}
 use Rattle.model_line.specs.{declared.line.Line.Line, declared.script.Script.Script, Fits.Fits}
 use Rattle.file_line.specs.LineFiles.{line_of}
 use Rattle.file_line.specs.{Lines.LineValues, Lines.line_values, declared.fault.LineFault.LineFault}
-use Rattle.file_script.specs.Values.{ScriptValues, values_of}
-use Rattle.file_script.specs.{Scripts.scripts_of, declared.fault.ScriptFault.ScriptFault}
+use Rattle.file_tables.specs.script.Values.{ScriptValues, values_of}
+use Rattle.file_tables.specs.{script.Scripts.scripts_of, declared.script.fault.ScriptFault.ScriptFault}
 use Rattle.model_timing.specs.{Inside.IsTimingInside}
 use Rattle.model_timing.specs.NamedValues.{NamedValues}
-use Rattle.file_timing.specs.{declared.fault.TimingFault.TimingFault}
+use Rattle.file_tables.specs.{declared.timing.fault.TimingFault.TimingFault}
 use Rattle.judge_match.specs.Waves.{SeenValues}
 use Rattle.judge_match.specs.declared.fault.SeenFault.{SeenFault}
 use Rattle.call_files.specs.declared.refusal.Refusal.{Refusal}

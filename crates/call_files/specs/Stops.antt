@@ -1,10 +1,10 @@
 -- How a reader's fault stops a call: want of memory as such, every other fault as a refusal.
 use Rattle.file_line.specs.declared.fault.LineFault.{LineFault}
 use Rattle.file_line.specs.declared.fault.LineFault.TheVariants as line_fault
-use Rattle.file_script.specs.declared.fault.ScriptFault.{ScriptFault}
-use Rattle.file_script.specs.declared.fault.ScriptFault.TheVariants as script_fault
-use Rattle.file_timing.specs.declared.fault.TimingFault.{TimingFault}
-use Rattle.file_timing.specs.declared.fault.TimingFault.TheVariants as timing_fault
+use Rattle.file_tables.specs.declared.script.fault.ScriptFault.{ScriptFault}
+use Rattle.file_tables.specs.declared.script.fault.ScriptFault.TheVariants as script_fault
+use Rattle.file_tables.specs.declared.timing.fault.TimingFault.{TimingFault}
+use Rattle.file_tables.specs.declared.timing.fault.TimingFault.TheVariants as timing_fault
 use Rattle.judge_match.specs.declared.fault.SeenFault.{SeenFault}
 use Rattle.judge_match.specs.declared.fault.SeenFault.TheVariants as seen_fault
 use Rattle.call_files.specs.declared.refusal.Refusal.TheVariants as refusal

@@ -2,7 +2,7 @@
 use Rattle.std.specs.Prelude.{◌≡◌, ⊤, ℕ, List, Result, Ok, Err, map}
 use Rattle.call_answer.specs.{Study.IsStudy, declared.study.Study.Study}
 use Rattle.file_line.specs.{LineFiles.line_of, Lines.line_values}
-use Rattle.file_script.specs.{Scripts.scripts_of, Values.values_of}
+use Rattle.file_tables.specs.{script.Scripts.scripts_of, script.Values.values_of}
 use Rattle.call_files.specs.{Said.of_study, declared.stop.Stop.Stop}
 use Rattle.call_files.specs.declared.stop.Stop.TheVariants as stop
 

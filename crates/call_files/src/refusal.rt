@@ -5,8 +5,8 @@ ghost use Rattle.call_files.specs.Refusals.{record_detail};
 
 use crate::stop::File;
 use file_line::{LineFault, Path};
-use file_script::ScriptFault;
-use file_timing::TimingFault;
+use file_tables::script::ScriptFault;
+use file_tables::timing::TimingFault;
 use judge_match::SeenFault;
 use model_line::Name;
 

@@ -5,8 +5,8 @@ ghost use Rattle.call_files.specs.{Status.ended as end_of, declared.stop.Stop.Th
 use crate::refusal::Refusal;
 use call_answer::{Done, WriteStop};
 use file_line::LineFault;
-use file_script::ScriptFault;
-use file_timing::TimingFault;
+use file_tables::script::ScriptFault;
+use file_tables::timing::TimingFault;
 use judge_match::SeenFault;
 
 /// The exit statuses, 0 to 8 in this order.

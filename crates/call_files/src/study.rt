@@ -4,7 +4,7 @@ ghost use Rattle.call_files.specs.Study.{ReadsStudy};
 use crate::stop::Stop;
 use call_answer::Study;
 use file_line::read_line;
-use file_script::read_scripts;
+use file_tables::script::read_scripts;
 use net_compile::compile;
 use std::alloc::Global;
 

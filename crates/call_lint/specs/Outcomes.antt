@@ -1,7 +1,7 @@
 -- What lint finds, and its exit status.
 use Rattle.std.specs.Prelude.{◌≡◌, ◌⊎◌, ◌≢◌, ℕ, List, [], ◌∷◌, Ok, IsErr, map}
 use Rattle.file_line.specs.{Lines.line_values, LineFiles.line_of}
-use Rattle.file_script.specs.{Values.values_of, Scripts.scripts_of}
+use Rattle.file_tables.specs.{script.Values.values_of, script.Scripts.scripts_of}
 use Rattle.file_study.specs.Faults.{FaultValues, fault_values}
 use Rattle.file_study.specs.Studies.{study_of, study_values}
 use Rattle.file_study.specs.declared.study.Study.{Study}

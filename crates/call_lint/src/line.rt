@@ -10,7 +10,7 @@ use crate::refused_scripts::refused_scripts;
 use crate::sheet::{Names, Sheet};
 use crate::warned::warnings_text;
 use file_line::{LineFault, read_line};
-use file_script::{ScriptFault, read_scripts};
+use file_tables::script::{ScriptFault, read_scripts};
 use judge_lint::warnings;
 use model_line::{Line, Memory, Script};
 use std::alloc::Global;

@@ -3,7 +3,7 @@
 use crate::rules::script_rule;
 use crate::spots::push_fault;
 use crate::text::Spot;
-use file_script::ScriptFault;
+use file_tables::script::ScriptFault;
 use judge_lint::{Wanted, place_of_record};
 use model_line::Memory;
 use std::alloc::Global;

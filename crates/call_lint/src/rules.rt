@@ -1,7 +1,7 @@
 //! The rules that a refused file breaks, in words.
 
 use file_line::LineFault;
-use file_script::ScriptFault;
+use file_tables::script::ScriptFault;
 use file_study::StudyFault;
 use file_sweeps::{StudySweepFault, SweepFault};
 

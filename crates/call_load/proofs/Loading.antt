@@ -2,7 +2,7 @@
 use Rattle.std.proofs.Common.{◌≡◌, ◌<◌, ◌∷◌, ℕ, List, [], Ok, Err, refl, ap, inr, map, subst}
 use Rattle.std.proofs.lemmas.List.{length-map}
 use Rattle.model_line.specs.declared.script.Script.{Script}
-use Rattle.file_script.specs.{SoFar.AreOnce, Values.AreOfOneFile, Values.values_of}
+use Rattle.file_tables.specs.{script.SoFar.AreOnce, script.Values.AreOfOneFile, script.Values.values_of}
 use Rattle.file_study.specs.{Reading.FailsSo, Studies.study_of, Studies.study_values}
 use Rattle.file_study.specs.declared.fault.StudyFault.{StudyFault}
 use Rattle.file_study.specs.declared.fault.StudyFault.TheVariants as fault

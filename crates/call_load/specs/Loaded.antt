@@ -2,7 +2,7 @@
 use Rattle.std.specs.Prelude.{◌≡◌, ⊤, ℕ, List, Result, Ok, Err, map, string_bytes}
 use Rattle.std.specs.List.{All}
 use Rattle.model_line.specs.Fits.{Fits}
-use Rattle.file_script.specs.SoFar.{AreOnce}
+use Rattle.file_tables.specs.script.SoFar.{AreOnce}
 use Rattle.file_sweeps.specs.Studies.{script_names}
 use Rattle.net_gates.specs.NetOf.{IsNetOf}
 use Rattle.file_study.specs.Studies.{StudyValues, study_of}

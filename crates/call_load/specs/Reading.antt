@@ -6,7 +6,7 @@ use Rattle.file_sweeps.specs.Parts.{is_part}
 use Rattle.draw_shapes.specs.declared.rows.Rows.{Rows}
 use Rattle.model_line.specs.{declared.line.Line.Line, declared.script.Script.Script}
 use Rattle.model_timing.specs.NamedValues.{NamedValues}
-use Rattle.file_timing.specs.Timings.{timings_of}
+use Rattle.file_tables.specs.timing.Timings.{timings_of}
 use Rattle.call_ask.specs.declared.explain.ExplainForm.{ExplainForm}
 use Rattle.call_explain.specs.Picked.{picked}
 use Rattle.call_explain.specs.declared.{stop.ExplainStop.ExplainStop, unpicked.Unpicked.Unpicked}

@@ -3,8 +3,8 @@ use Rattle.std.proofs.Common.{◌≡◌, List, ℕ, map, Result, Ok, Err}
 use Rattle.model_line.specs.{declared.line.Line.Line, declared.script.Script.Script}
 use Rattle.file_line.specs.{LineFiles.line_of, Lines.LineValues}
 use Rattle.file_line.specs.declared.fault.LineFault.{LineFault}
-use Rattle.file_script.specs.{Scripts.scripts_of, Values.ScriptValues}
-use Rattle.file_script.specs.declared.fault.ScriptFault.{ScriptFault}
+use Rattle.file_tables.specs.{script.Scripts.scripts_of, script.Values.ScriptValues}
+use Rattle.file_tables.specs.declared.script.fault.ScriptFault.{ScriptFault}
 use Rattle.file_sweeps.specs.Groups.{group_values, single_group}
 use Rattle.file_sweeps.specs.declared.group.Group.{Group}
 use Rattle.call_files.specs.Said.{of_line, of_scripts, of_study}

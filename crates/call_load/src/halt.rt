@@ -14,7 +14,7 @@ use call_files::{Stop, put_message};
 use call_map::MapStop;
 use file_study::StudyFault;
 use file_sweeps::StudySweepFault;
-use file_timing::TimingFault;
+use file_tables::timing::TimingFault;
 use model_line::Memory;
 
 /// Why it is not done: what stops `pilot` too, or what the files and the words alone deny.

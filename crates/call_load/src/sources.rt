@@ -7,7 +7,7 @@ ghost use Rattle.call_load.specs.Studied.{of_files, of_study_file, untitled as t
 use crate::halt::Halt;
 use call_answer::Study;
 use call_files::read_study;
-use file_script::a_file_says_scripts_of_one_file;
+use file_tables::script::a_file_says_scripts_of_one_file;
 use file_sweeps::{Group, groups_of_scripts, scripts_of_study};
 use model_line::Memory;
 use net_compile::compile;

@@ -6,9 +6,9 @@ use Rattle.std.specs.List.{All}
 use Rattle.model_line.specs.{declared.line.Line.Line, declared.script.Script.Script, Fits.Fits}
 use Rattle.file_line.specs.{LineFiles.line_of, Lines.LineValues, Lines.line_values}
 use Rattle.file_line.specs.declared.fault.LineFault.{LineFault}
-use Rattle.file_script.specs.{Scripts.scripts_of, Values.ScriptValues, Values.values_of}
-use Rattle.file_script.specs.declared.fault.ScriptFault.{ScriptFault}
-use Rattle.file_timing.specs.declared.fault.TimingFault.{TimingFault}
+use Rattle.file_tables.specs.{script.Scripts.scripts_of, script.Values.ScriptValues, script.Values.values_of}
+use Rattle.file_tables.specs.declared.script.fault.ScriptFault.{ScriptFault}
+use Rattle.file_tables.specs.declared.timing.fault.TimingFault.{TimingFault}
 use Rattle.model_timing.specs.{Inside.IsTimingInside}
 use Rattle.model_timing.specs.NamedValues.{NamedValues}
 use Rattle.judge_match.specs.{Waves.SeenValues, declared.fault.SeenFault.SeenFault}

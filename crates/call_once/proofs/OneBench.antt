@@ -13,7 +13,7 @@ use Rattle.cert_check.specs.Counts.{all_verdicts, is_no, is_undecided, is_yes}
 use Rattle.judge_verdict.specs.declared.verdict.Verdict.{Verdict}
 use Rattle.judge_verdict.specs.{VerdictLaws.verdict_once}
 use Rattle.judge_verdict.specs.Verdicts.{IsRuleHeld, IsVerdict}
-use Rattle.file_script.specs.Values.{ScriptValues, values_of}
+use Rattle.file_tables.specs.script.Values.{ScriptValues, values_of}
 use Rattle.file_line.specs.Lines.{LineValues, intervals_of, line_values}
 use Rattle.model_line.specs.Intervals.{greatests, leasts}
 use Rattle.model_line.specs.Parameters.{terminal_count}

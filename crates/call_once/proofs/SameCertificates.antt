@@ -8,7 +8,7 @@ use Rattle.model_line.specs.{declared.line.Terminal.Terminal, SetBounds.SameButP
 use Rattle.model_logic.specs.IntervalLaws.{HistoriesRestOnNoInterval}
 use Rattle.run_waves.specs.Waves.{IsWaveOf}
 use Rattle.file_line.specs.Lines.{line_values}
-use Rattle.file_script.specs.Values.{ScriptValues, values_of}
+use Rattle.file_tables.specs.script.Values.{ScriptValues, values_of}
 use Rattle.base_text.specs.lines.Grammar.{text_said}
 use Rattle.cert_text.specs.Grammar.{Claims, Place, claim_places, end_text, fixed, head_text}
 use Rattle.cert_text.specs.Grammar.{key_of, part_places, script_parts, script_text, verdict_of}

@@ -9,7 +9,7 @@ use Rattle.model_line.specs.{SetBounds.SameButParams}
 use Rattle.model_logic.specs.IntervalLaws.{HistoriesRestOnNoInterval, TreesRestOnNoInterval}
 use Rattle.run_waves.specs.Text.{tern_word}
 use Rattle.file_line.specs.Lines.{line_values}
-use Rattle.file_script.specs.Values.{values_of}
+use Rattle.file_tables.specs.script.Values.{values_of}
 use Rattle.base_text.specs.lines.Grammar.{text_places, text_said}
 use Rattle.base_text.specs.lines.Lines.{LeavesAt, Lines}
 use Rattle.cert_text.specs.Grammar.{Claims, HasNumbers, HasOneEach, IsCertificate, LeavesGrammar}

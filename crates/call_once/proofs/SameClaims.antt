@@ -11,7 +11,7 @@ use Rattle.model_logic.specs.Logic.{key_tree, trip_tree}
 use Rattle.model_logic.specs.PairMean.{PairSignals}
 use Rattle.model_logic.specs.Rule.{rule_of}
 use Rattle.file_line.specs.Lines.{line_values}
-use Rattle.file_script.specs.Values.{values_of}
+use Rattle.file_tables.specs.script.Values.{values_of}
 use Rattle.cert_text.specs.Grammar.{Claims, Verdict, no, undecided, yes}
 use Rattle.run_derived.specs.Claims.{pairs_of}
 use Rattle.cert_check.specs.declared.claim.Uncovered.{Uncovered}

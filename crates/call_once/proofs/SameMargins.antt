@@ -4,7 +4,7 @@ use Rattle.model_line.specs.Laws.{CountsRestOnNoInterval}
 use Rattle.model_line.specs.{declared.line.Line.Line, declared.script.Script.Script}
 use Rattle.model_logic.specs.IntervalLaws.{HistoriesRestOnNoInterval}
 use Rattle.file_line.specs.Lines.{line_values}
-use Rattle.file_script.specs.Values.{values_of}
+use Rattle.file_tables.specs.script.Values.{values_of}
 use Rattle.judge_report.specs.Answer.{IsMarginAnswer}
 use Rattle.call_commands.specs.Margin.{margin_answer}
 use Rattle.call_answer.specs.declared.done.Done.{Done}

@@ -13,7 +13,7 @@ use Rattle.model_logic.specs.Histories.{IsPairHistory, IsSamePairHistory, PairHi
 use Rattle.model_logic.specs.IntervalLaws.{HistoriesRestOnNoInterval}
 use Rattle.model_logic.specs.Rule.{Rule, rule_of}
 use Rattle.file_line.specs.Lines.{line_values}
-use Rattle.file_script.specs.Values.{values_of}
+use Rattle.file_tables.specs.script.Values.{values_of}
 use Rattle.run_rows.specs.PlayRows.{each_below}
 use Rattle.run_waves.specs.FirstTick.{first_on}
 use Rattle.judge_report.specs.ReportText.{AreHistories, IsReportText, fields_text, report_header}

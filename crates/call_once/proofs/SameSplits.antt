@@ -11,7 +11,7 @@ use Rattle.model_line.specs.{declared.line.Param.Param, SetBounds.SameButParams}
 use Rattle.model_line.specs.{SetBounds.WithBounds, WithBounds.IsWithBounds}
 use Rattle.model_logic.specs.IntervalLaws.{HistoriesRestOnNoInterval}
 use Rattle.file_line.specs.Lines.{line_values}
-use Rattle.file_script.specs.Values.{values_of}
+use Rattle.file_tables.specs.script.Values.{values_of}
 use Rattle.judge_verdict.specs.declared.verdict.Verdict.{Verdict}
 use Rattle.judge_verdict.specs.declared.verdict.Verdict.TheVariants as verdict
 use Rattle.judge_split.specs.{Found.IsFound, Trees.Split, declared.node.Outcome.Outcome}

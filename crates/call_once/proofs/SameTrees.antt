@@ -8,7 +8,7 @@ use Rattle.model_line.specs.{SetBounds.SameButParams}
 use Rattle.model_logic.specs.Choice.{Box, declared_box}
 use Rattle.model_logic.specs.IntervalLaws.{HistoriesRestOnNoInterval}
 use Rattle.file_line.specs.Lines.{line_values}
-use Rattle.file_script.specs.Values.{values_of}
+use Rattle.file_tables.specs.script.Values.{values_of}
 use Rattle.judge_split.specs.Leaves.{AreSound, CanSplit, leaves}
 use Rattle.judge_split.specs.Leaves.{lower_half, upper_half}
 use Rattle.judge_split.specs.Trees.{Split, SplitTree, Undecided, Yes}

@@ -2,7 +2,7 @@
 use Rattle.std.proofs.Common.{◌≡◌, List, [], ◌∷◌, map}
 use Rattle.std.specs.List.{AllZip}
 use Rattle.model_line.specs.declared.script.Script.{Script}
-use Rattle.file_script.specs.Values.{values_of}
+use Rattle.file_tables.specs.script.Values.{values_of}
 use Rattle.call_pilot.specs.SameTextLaws.{heads_same}
 
 pub zip_on : {X : Type 0} (R S : Script → X → Type 0)

@@ -3,7 +3,7 @@
 use Rattle.std.proofs.Common.{◌≡◌, ℕ, List, length, map, sym, ◌∙◌, ap, subst}
 use Rattle.std.proofs.lemmas.List.{length-map}
 use Rattle.model_line.specs.declared.script.Script.{Script}
-use Rattle.file_script.specs.Values.{values_of}
+use Rattle.file_tables.specs.script.Values.{values_of}
 use Rattle.cert_text.specs.Grammar.{Verdict}
 use Rattle.cert_check.specs.declared.counts.Counts.{Counts}
 use Rattle.cert_check.specs.Scripts.{EachBelow, IsAllGood, IsFirstWrong}

@@ -2,7 +2,7 @@
 use Rattle.std.specs.Prelude.{◌≡◌, ◌+◌, ℕ, List, [], ◌∷◌, Ok, length, map}
 use Rattle.model_line.specs.{declared.line.Line.Line, declared.script.Script.Script}
 use Rattle.file_line.specs.{LineFiles.line_of, Lines.line_values}
-use Rattle.file_script.specs.Values.{values_of}
+use Rattle.file_tables.specs.script.Values.{values_of}
 use Rattle.file_sweeps.specs.Parts.{SaysScripts, part, parts_of}
 use Rattle.judge_verdict.specs.OneEach.{OneEach}
 use Rattle.draw_page.specs.declared.page.{Digest.Digest, FileText.FileText}

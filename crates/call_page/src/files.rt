@@ -1,7 +1,7 @@
 //! The files of a study, as they are judged.
 
 ghost use Rattle.std.specs.Prelude.{◌≡◌, ◌≤◌, ◌<◌, ◌+◌, ◌∷◌, [], IfOk, length};
-ghost use Rattle.file_script.specs.SoFar.{AreOnce};
+ghost use Rattle.file_tables.specs.script.SoFar.{AreOnce};
 ghost use Rattle.file_sweeps.specs.{Studies.script_names, Parts.parts_of};
 ghost use Rattle.call_answer.specs.Study.{IsStudy};
 ghost use Rattle.call_tables.specs.Rows.{AreRows};

@@ -2,7 +2,7 @@
 
 ghost use Rattle.std.specs.Prelude.{◌≡◌, IfOk};
 ghost use Rattle.std.specs.List.{list_any};
-ghost use Rattle.file_script.specs.SoFar.{AreOnce};
+ghost use Rattle.file_tables.specs.script.SoFar.{AreOnce};
 ghost use Rattle.file_sweeps.specs.Studies.{script_names};
 ghost use Rattle.call_answer.specs.{Answers.Says, Answers.status_by};
 ghost use Rattle.call_tables.specs.Rows.{AreRows};

@@ -35,8 +35,8 @@ use Rattle.std.proofs.Common.{⊎_elim}
 use Rattle.std.specs.Prelude.{nat_lt, unwrap_or}
 use Rattle.std.specs.List.{All, list_any}
 use Rattle.file_line.specs.{LineFiles.line_of, Lines.line_values}
-use Rattle.file_script.specs.Scripts.{scripts_of}
-use Rattle.file_script.specs.Values.{values_of}
+use Rattle.file_tables.specs.script.Scripts.{scripts_of}
+use Rattle.file_tables.specs.script.Values.{values_of}
 use Rattle.cert_text.specs.{Grammar.Claims, Grammar.Verdict}
 use Rattle.cert_text.specs.Grammar.{script_text, verdict_text}
 use Rattle.cert_check.specs.{declared.counts.Counts.Counts, Check.IsAccepted}

@@ -7,8 +7,8 @@ use Rattle.model_line.specs.{declared.line.Line.Line, declared.script.Script.Scr
 use Rattle.model_logic.specs.Histories.{History}
 use Rattle.model_timing.specs.{Inside.IsTimingInside}
 use Rattle.model_timing.specs.NamedValues.{NamedValues}
-use Rattle.file_timing.specs.Timings.{timings_of}
-use Rattle.file_timing.specs.declared.fault.TimingFault.{TimingFault}
+use Rattle.file_tables.specs.timing.Timings.{timings_of}
+use Rattle.file_tables.specs.declared.timing.fault.TimingFault.{TimingFault}
 use Rattle.run_rows.specs.PlayRows.{run_rows}
 use Rattle.call_commands.specs.Play.{IsPlayText, IsRunText, IsTimingText, Pieces}
 use Rattle.call_answer.specs.Sinks.{SinkView}

@@ -8,14 +8,14 @@ use Rattle.file_line.specs.{LineFiles.line_of, Lines.LineValues, Lines.line_valu
 use Rattle.file_line.specs.Reading as line_reading
 use Rattle.file_line.specs.declared.fault.LineFault.{LineFault}
 use Rattle.file_line.specs.declared.fault.LineFault.TheVariants as line_fault
-use Rattle.file_script.specs.Scripts.{scripts_of}
-use Rattle.file_script.specs.{Values.ScriptValues, declared.fault.ScriptFault.ScriptFault}
-use Rattle.file_timing.specs.Gives as timing_reading
+use Rattle.file_tables.specs.script.Scripts.{scripts_of}
+use Rattle.file_tables.specs.{script.Values.ScriptValues, declared.script.fault.ScriptFault.ScriptFault}
+use Rattle.file_tables.specs.timing.Gives as timing_reading
 use Rattle.call_engine.specs.Calls.{Calls}
 use Rattle.model_timing.specs.Inside.{IsTimingInside}
 use Rattle.model_timing.specs.NamedValues.{NamedValues}
-use Rattle.file_timing.specs.declared.fault.TimingFault.{TimingFault}
-use Rattle.file_timing.specs.declared.fault.TimingFault.TheVariants as timing_fault
+use Rattle.file_tables.specs.declared.timing.fault.TimingFault.{TimingFault}
+use Rattle.file_tables.specs.declared.timing.fault.TimingFault.TheVariants as timing_fault
 use Rattle.judge_match.specs.Gives as record_reading
 use Rattle.judge_match.specs.{Waves.SeenValues, declared.fault.SeenFault.SeenFault}
 use Rattle.judge_match.specs.declared.fault.SeenFault.TheVariants as seen_fault

@@ -9,8 +9,8 @@ use Rattle.model_line.specs.{declared.script.Script.Script, Parameters.terminal_
 use Rattle.model_line.specs.{SetBounds.SameButParams, Laws.CountsRestOnNoInterval}
 use Rattle.model_logic.specs.{Choice.IsWithin, IntervalLaws.HistoriesRestOnNoInterval}
 use Rattle.file_line.specs.{LineFiles.line_of, Lines.line_values}
-use Rattle.file_script.specs.{Scripts.scripts_of, Values.AreOfOneFile, Values.ScriptValues}
-use Rattle.file_script.specs.Values.{values_of}
+use Rattle.file_tables.specs.{script.Scripts.scripts_of, script.Values.AreOfOneFile, script.Values.ScriptValues}
+use Rattle.file_tables.specs.script.Values.{values_of}
 use Rattle.cert_text.specs.Grammar.{Verdict}
 use Rattle.run_rows.specs.PlayRows.{each_below}
 use Rattle.judge_report.specs.ReportText.{report_header, rule_word}

@@ -22,9 +22,9 @@ use Rattle.std.specs.List.{All}
 use Rattle.model_line.specs.{declared.line.Line.Line, declared.script.Script.Script, Fits.Fits}
 use Rattle.file_line.specs.{LineFiles.line_of, Lines.LineValues, Lines.line_values}
 use Rattle.file_line.specs.declared.fault.LineFault.{LineFault}
-use Rattle.file_script.specs.Scripts.{scripts_of}
-use Rattle.file_script.specs.Values.{ScriptValues, values_of}
-use Rattle.file_script.specs.declared.fault.ScriptFault.{ScriptFault}
+use Rattle.file_tables.specs.script.Scripts.{scripts_of}
+use Rattle.file_tables.specs.script.Values.{ScriptValues, values_of}
+use Rattle.file_tables.specs.declared.script.fault.ScriptFault.{ScriptFault}
 use Rattle.call_answer.specs.Sinks.{SinkView}
 use Rattle.call_answer.specs.SinkLaws.{keeps_same}
 use Rattle.call_pilot.specs.CallOver.{HasPut, IsFrontOfText, IsOverThree, IsOverTwo}

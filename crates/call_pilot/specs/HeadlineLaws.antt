@@ -10,7 +10,7 @@ use Rattle.model_logic.specs.IntervalLaws.{HistoriesRestOnNoInterval, TreesRestO
 use Rattle.model_logic.specs.Laws.{AWiderBoxCovers, EachLineHasAChoiceInside}
 use Rattle.model_logic.specs.Laws.{TheRuleSpeaksForEveryChoice}
 use Rattle.model_logic.specs.Choice.{Choice, IsWithin}
-use Rattle.file_script.specs.{Scripts.scripts_of, Values.AreOfOneFile, Values.ScriptValues}
+use Rattle.file_tables.specs.{script.Scripts.scripts_of, script.Values.AreOfOneFile, script.Values.ScriptValues}
 use Rattle.cert_text.specs.{Grammar.Claims, Grammar.Verdict, Text.certificate_text}
 use Rattle.cert_check.specs.{declared.counts.Counts.Counts, Check.IsAccepted}
 use Rattle.cert_check.specs.Counts.{all_verdicts, is_no, is_undecided}

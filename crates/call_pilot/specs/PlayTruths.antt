@@ -5,7 +5,7 @@ use Rattle.model_line.specs.{declared.line.Line.Line, declared.script.Script.Scr
 use Rattle.model_logic.specs.Histories.{History, IsLineHistory}
 use Rattle.model_timing.specs.{Choice.timing_choice, Inside.IsTimingInside}
 use Rattle.model_timing.specs.NamedValues.{NamedValues}
-use Rattle.file_timing.specs.Timings.{timings_of}
+use Rattle.file_tables.specs.timing.Timings.{timings_of}
 use Rattle.run_rows.specs.PlayRows.{run_rows}
 use Rattle.call_commands.specs.Play.{play_header}
 

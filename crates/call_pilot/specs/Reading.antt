@@ -4,7 +4,7 @@ use Rattle.std.specs.Prelude.{◌∷◌, ℕ, List, [], Result, Ok, Err}
 use Rattle.model_line.specs.{declared.line.Line.Line, declared.script.Script.Script}
 use Rattle.model_names.specs.NumbersByName.{param_named}
 use Rattle.file_line.specs.LineFiles.{line_of}
-use Rattle.file_timing.specs.Timings.{timings_of}
+use Rattle.file_tables.specs.timing.Timings.{timings_of}
 use Rattle.judge_match.specs.Waves.{records_said}
 use Rattle.call_files.specs.Said.{of_line, of_parameter, of_record, of_study, of_timings}
 use Rattle.call_files.specs.declared.refusal.Refusal.{Refusal}

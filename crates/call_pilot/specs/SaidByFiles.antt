@@ -2,7 +2,7 @@
 use Rattle.std.specs.Prelude.{◌≡◌, ℕ, List, Ok, map}
 use Rattle.model_line.specs.{declared.line.Line.Line, declared.script.Script.Script}
 use Rattle.file_line.specs.{LineFiles.line_of, Lines.line_values}
-use Rattle.file_script.specs.{Scripts.scripts_of, Values.AreOfOneFile, Values.values_of}
+use Rattle.file_tables.specs.{script.Scripts.scripts_of, script.Values.AreOfOneFile, script.Values.values_of}
 use Rattle.cert_own.specs.Printed.{HoldsOf}
 
 -- the bytes of a line file and of a scripts file say this line and these scripts: all their values,

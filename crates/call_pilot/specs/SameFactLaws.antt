@@ -21,7 +21,7 @@ use Rattle.model_logic.specs.PairMean.{PairWorld, pair_mean}
 use Rattle.model_logic.specs.Rule.{rule_by, rule_of}
 use Rattle.model_logic.specs.{IntervalLaws.HistoriesRestOnNoInterval, Boxes.ends_with}
 use Rattle.file_line.specs.Lines.{LineValues, line_values}
-use Rattle.file_script.specs.Values.{ScriptValues, values_of}
+use Rattle.file_tables.specs.script.Values.{ScriptValues, values_of}
 use Rattle.model_timing.specs.Candidates.{candidate, candidate_count, candidate_value, is_free}
 use Rattle.model_timing.specs.{Choice.timing_choice, Inside.IsStepInside}
 use Rattle.model_timing.specs.Timing.{TimingValues, number_at}

@@ -9,7 +9,7 @@ use Rattle.model_line.specs.{declared.line.Line.Line, declared.script.Script.Scr
 use Rattle.model_logic.specs.{Choice.Box, HeldOver.IsHeldOver}
 use Rattle.model_logic.specs.IntervalLaws.{HistoriesRestOnNoInterval}
 use Rattle.file_line.specs.Lines.{line_values}
-use Rattle.file_script.specs.Values.{values_of}
+use Rattle.file_tables.specs.script.Values.{values_of}
 use Rattle.judge_report.specs.declared.upper_end.Lost.{Lost}
 use Rattle.judge_report.specs.declared.upper_end.UpperEnd.{UpperEnd}
 use Rattle.judge_report.specs.Lost.{AreHeld, IsFirstLost, IsScriptHeld}

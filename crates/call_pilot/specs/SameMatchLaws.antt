@@ -13,7 +13,7 @@ use Rattle.model_logic.specs.Logic.{key_tree, trip_tree}
 use Rattle.model_logic.specs.PairMean.{PairSignals, PairWorld, pair_mean}
 use Rattle.model_logic.specs.Tree.{Tree}
 use Rattle.file_line.specs.Lines.{line_values}
-use Rattle.file_script.specs.Values.{ScriptValues, values_of}
+use Rattle.file_tables.specs.script.Values.{ScriptValues, values_of}
 use Rattle.model_timing.specs.Candidates.{candidate}
 use Rattle.model_timing.specs.Timing.{TimingValues}
 use Rattle.run_derived.specs.Claims.{declared_world, pairs_of}

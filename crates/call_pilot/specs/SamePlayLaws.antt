@@ -22,23 +22,23 @@ use Rattle.model_logic.specs.Histories.{History, IsLineHistory}
 use Rattle.model_logic.specs.IntervalLaws.{HistoriesRestOnNoInterval}
 use Rattle.model_names.specs.NumbersByName.{param_named}
 use Rattle.file_line.specs.Lines.{line_values}
-use Rattle.file_script.specs.Values.{ScriptValues, values_of}
+use Rattle.file_tables.specs.script.Values.{ScriptValues, values_of}
 use Rattle.run_rows.specs.PlayRows.{each_below, run_rows, signal_row}
-use Rattle.file_timing.specs.declared.fault.TimingFault.{TimingFault}
-use Rattle.file_timing.specs.declared.fault.TimingFault.TheVariants as fault
-use Rattle.file_timing.specs.declared.named.Named.{Named}
-use Rattle.file_timing.specs.declared.named.Named.TheVariants as named
+use Rattle.file_tables.specs.declared.timing.fault.TimingFault.{TimingFault}
+use Rattle.file_tables.specs.declared.timing.fault.TimingFault.TheVariants as fault
+use Rattle.file_tables.specs.declared.timing.named.Named.{Named}
+use Rattle.file_tables.specs.declared.timing.named.Named.TheVariants as named
 use Rattle.model_timing.specs.declared.step.Step.{Step}
-use Rattle.file_timing.specs.Checks.{Opening, check_timing, is_at, is_earlier, is_given}
-use Rattle.file_timing.specs.Checks.{named_in, number_or_step, number_within, step_at, step_named}
-use Rattle.file_timing.specs.Checks.{value_for}
+use Rattle.file_tables.specs.timing.Checks.{Opening, check_timing, is_at, is_earlier, is_given}
+use Rattle.file_tables.specs.timing.Checks.{named_in, number_or_step, number_within, step_at, step_named}
+use Rattle.file_tables.specs.timing.Checks.{value_for}
 use Rattle.model_timing.specs.{Choice.timing_choice, Inside.IsStepInside, Inside.IsTimingInside}
-use Rattle.file_timing.specs.{Row.Row, Row.header_record, Row.row_in}
+use Rattle.file_tables.specs.{timing.Row.Row, timing.Row.header_record, timing.Row.row_in}
 use Rattle.model_timing.specs.{Timing.TimingValues}
 use Rattle.model_timing.specs.NamedValues.{NamedValues}
-use Rattle.file_timing.specs.SoFar.{OpenTiming, TimingsSoFar, all_timings, closed}
-use Rattle.file_timing.specs.SoFar.{no_timings, opened, with_row}
-use Rattle.file_timing.specs.Timings.{after_record, after_row, timing_file, timings_in, timings_of}
+use Rattle.file_tables.specs.timing.SoFar.{OpenTiming, TimingsSoFar, all_timings, closed}
+use Rattle.file_tables.specs.timing.SoFar.{no_timings, opened, with_row}
+use Rattle.file_tables.specs.timing.Timings.{after_record, after_row, timing_file, timings_in, timings_of}
 use Rattle.call_commands.specs.Play.{IsPlayText, IsRunText, IsTimingText, Pieces}
 use Rattle.call_pilot.specs.SameFactLaws.{choice_same, ends_same, same_params}
 use Rattle.call_pilot.specs.SameTextLaws.{heads_same}

@@ -13,7 +13,7 @@ use Rattle.base_text.specs.store.Number.{number_of}
 use Rattle.model_line.specs.{declared.line.Line.Line, declared.script.Script.Script}
 use Rattle.model_line.specs.{declared.line.Terminal.Terminal, SetBounds.SameButParams}
 use Rattle.model_names.specs.NumbersByName.{script_named}
-use Rattle.file_script.specs.Values.{values_of}
+use Rattle.file_tables.specs.script.Values.{values_of}
 use Rattle.judge_match.specs.declared.fault.SeenFault.{SeenFault}
 use Rattle.judge_match.specs.declared.fault.SeenFault.TheVariants as fault
 use Rattle.judge_match.specs.Checks.{change_of, comes_later, is_head, level_before, level_of}

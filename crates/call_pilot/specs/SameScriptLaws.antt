@@ -14,16 +14,16 @@ use Rattle.model_line.specs.{declared.line.Channel.Channel, declared.line.Termin
 use Rattle.model_line.specs.{declared.script.What.What, SetBounds.SameButParams}
 use Rattle.model_line.specs.declared.script.What.TheVariants as what
 use Rattle.model_names.specs.NumbersByName.{channel_named, has_name, terminal_named}
-use Rattle.file_script.specs.declared.fault.ScriptFault.{ScriptFault}
-use Rattle.file_script.specs.declared.fault.ScriptFault.TheVariants as fault
-use Rattle.file_script.specs.declared.item.Item.{Item}
-use Rattle.file_script.specs.declared.item.Item.TheVariants.{Head, Seen, Lost}
-use Rattle.file_script.specs.Checks.{deadline_of, has_good_name, item_of, span_between, what_at}
-use Rattle.file_script.specs.{Row.Row, Row.header_record, Row.row_in, Values.ScriptValues}
-use Rattle.file_script.specs.{Values.with_head}
-use Rattle.file_script.specs.Values.{with_row}
-use Rattle.file_script.specs.Scripts.{after_head, after_item, after_record, after_row, script_file}
-use Rattle.file_script.specs.Scripts.{scripts_in, scripts_of}
+use Rattle.file_tables.specs.declared.script.fault.ScriptFault.{ScriptFault}
+use Rattle.file_tables.specs.declared.script.fault.ScriptFault.TheVariants as fault
+use Rattle.file_tables.specs.declared.script.item.Item.{Item}
+use Rattle.file_tables.specs.declared.script.item.Item.TheVariants.{Head, Seen, Lost}
+use Rattle.file_tables.specs.script.Checks.{deadline_of, has_good_name, item_of, span_between, what_at}
+use Rattle.file_tables.specs.{script.Row.Row, script.Row.header_record, script.Row.row_in, script.Values.ScriptValues}
+use Rattle.file_tables.specs.{script.Values.with_head}
+use Rattle.file_tables.specs.script.Values.{with_row}
+use Rattle.file_tables.specs.script.Scripts.{after_head, after_item, after_record, after_row, script_file}
+use Rattle.file_tables.specs.script.Scripts.{scripts_in, scripts_of}
 
 module _ (a b : Line) (same : SameButParams a b) where
   terminals_same : (name : List ℕ) → terminal_named b name ≡ terminal_named a name

@@ -9,7 +9,7 @@ use Rattle.model_line.specs.{declared.line.Param.Param, declared.line.Terminal.T
 use Rattle.model_line.specs.{declared.script.Kind.Kind, ParamNames.name_at}
 use Rattle.model_line.specs.{Parameters.declared_ends, SetBounds.SameButParams}
 use Rattle.model_line.specs.NamesByNumber.{parameter_name, terminal_name}
-use Rattle.file_script.specs.Values.{ScriptValues, values_of}
+use Rattle.file_tables.specs.script.Values.{ScriptValues, values_of}
 use Rattle.cert_text.specs.Grammar.{end_text, script_text, terminal_names}
 use Rattle.cert_text.specs.Text.{fed}
 use Rattle.judge_report.specs.Deadlines.{deadline_of, margin_of, margin_us_of}

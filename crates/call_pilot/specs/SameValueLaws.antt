@@ -16,7 +16,7 @@ use Rattle.model_logic.specs.Mean.{World, mean}
 use Rattle.model_logic.specs.Logic.{key_tree, trip_tree}
 use Rattle.model_logic.specs.IntervalLaws.{HistoriesRestOnNoInterval}
 use Rattle.file_line.specs.Lines.{LineValues, intervals_of, line_values}
-use Rattle.file_script.specs.Values.{ScriptValues, values_of}
+use Rattle.file_tables.specs.script.Values.{ScriptValues, values_of}
 use Rattle.cert_own.specs.Obligations.{IsFailedBy, IsMetByAll}
 
 -- ---- lines of the same values

@@ -3,7 +3,7 @@ use Rattle.std.proofs.Common.{◌≡◌, ℕ, zero, suc, List, [], ◌∷◌, So
 use Rattle.std.proofs.lemmas.Option.{same_Some}
 use Rattle.std.specs.Prelude.{slice_get}
 use Rattle.model_line.specs.declared.script.Script.{Script}
-use Rattle.file_script.specs.Values.{values_of}
+use Rattle.file_tables.specs.script.Values.{values_of}
 use Rattle.call_pilot.specs.SameTextLaws.{heads_same}
 
 -- a script of the same values, at the same place

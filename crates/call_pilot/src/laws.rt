@@ -4,7 +4,7 @@ ghost use Rattle.std.specs.List.{All};
 ghost use Rattle.model_line.specs.{declared.line.Line.Line, declared.script.Script.Script};
 ghost use Rattle.model_line.specs.Fits.{Fits};
 ghost use Rattle.file_line.specs.Lines.{line_values};
-ghost use Rattle.file_script.specs.{Scripts.scripts_of, Values.values_of};
+ghost use Rattle.file_tables.specs.{script.Scripts.scripts_of, script.Values.values_of};
 ghost use Rattle.cert_own.specs.Obligations.{IsFailedBy, IsMetByAll, IsUnknown};
 ghost use Rattle.cert_check.specs.Counts.{all_verdicts};
 ghost use Rattle.cert_split_check.specs.Counts.{all_verdicts as all_split_verdicts};
@@ -20,7 +20,7 @@ use cert_own::{
 };
 use cert_split_check::accepted_split_trees_are_so;
 use cert_split_text::{printed_results_are_a_split_text, split_results_have_one_text};
-use file_script::a_file_says_scripts_of_one_file;
+use file_tables::script::a_file_says_scripts_of_one_file;
 use judge_report::what_is_held_to_a_number_is_met;
 use model_line::laws::{counts_do_not_rest_on_the_intervals, deadlines_are_below_the_horizon};
 use model_logic::interval_laws::{

@@ -5,9 +5,9 @@ use Rattle.std.specs.List.{All}
 use Rattle.model_line.specs.declared.line.Line.{Line}
 use Rattle.file_study.specs.Studies.{StudyValues, study_of}
 use Rattle.file_study.specs.declared.fault.StudyFault.{StudyFault}
-use Rattle.file_timing.specs.Gives as timing_reading
-use Rattle.file_timing.specs.declared.fault.TimingFault.{TimingFault}
-use Rattle.file_timing.specs.declared.fault.TimingFault.TheVariants as timing_fault
+use Rattle.file_tables.specs.timing.Gives as timing_reading
+use Rattle.file_tables.specs.declared.timing.fault.TimingFault.{TimingFault}
+use Rattle.file_tables.specs.declared.timing.fault.TimingFault.TheVariants as timing_fault
 use Rattle.model_timing.specs.{Inside.IsTimingInside, NamedValues.NamedValues}
 use Rattle.call_answer.specs.declared.said.Said.{Said}
 use Rattle.call_files.specs.Said.{of_timings}

@@ -26,7 +26,7 @@ use draw_shapes::Rows;
 use file_line::print_line;
 use file_recorded::{config_text, map_text};
 use file_sweeps::{part_count, part_text};
-use file_timing::read_timings;
+use file_tables::timing::read_timings;
 use model_line::{Line, Memory, Script};
 use model_timing::NamedTiming;
 use net_gates::Net;

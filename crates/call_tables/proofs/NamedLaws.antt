@@ -11,7 +11,7 @@ use Rattle.model_line.specs.{declared.line.Line.Line, declared.script.Script.Scr
 use Rattle.model_line.specs.{Parameters.terminal_count, PlainNames.is_plain_name}
 use Rattle.model_line.specs.NamesByNumber.{terminal_name}
 use Rattle.model_timing.specs.NamedValues.{NamedValues}
-use Rattle.file_timing.specs.Printed.{MayStand, AreOfOneFile}
+use Rattle.file_tables.specs.timing.Printed.{MayStand, AreOfOneFile}
 use Rattle.judge_settle.specs.Answers.{IsAnswer}
 use Rattle.judge_settle.specs.declared.answer.Answer.{Answer}
 use Rattle.judge_settle.specs.declared.answer.Answer.TheVariants.{Held, Fails, Open}

@@ -5,8 +5,8 @@ use Rattle.model_line.specs.{declared.line.Line.Line, declared.script.Script.Scr
 use Rattle.model_line.specs.Parameters.{terminal_count}
 use Rattle.model_line.specs.NamesByNumber.{terminal_name}
 use Rattle.model_timing.specs.NamedValues.{NamedValues}
-use Rattle.file_timing.specs.Printed.{file_records, records_text}
-use Rattle.file_timing.specs.Timings.{timings_in}
+use Rattle.file_tables.specs.timing.Printed.{file_records, records_text}
+use Rattle.file_tables.specs.timing.Timings.{timings_in}
 use Rattle.judge_settle.specs.declared.answer.Answer.{Answer}
 use Rattle.judge_settle.specs.declared.answer.Answer.TheVariants.{Held, Fails, Open}
 use Rattle.judge_settle.specs.Trees.{IsFailing}

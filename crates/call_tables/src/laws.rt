@@ -7,7 +7,7 @@ ghost use Rattle.model_line.specs.declared.script.Script.{Script};
 ghost use Rattle.cert_check.specs.declared.counts.Counts.{Counts};
 ghost use Rattle.cert_settle.specs.Grammar.{HasOneEach};
 ghost use Rattle.cert_settle.specs.Check.{IsAccepted};
-ghost use Rattle.file_timing.specs.Printed.{AreOfOneFile, MayStand};
+ghost use Rattle.file_tables.specs.timing.Printed.{AreOfOneFile, MayStand};
 ghost use Rattle.call_tables.specs.Rows.{AreRows};
 ghost use Rattle.call_tables.specs.declared.row.Row.{Row};
 ghost use Rattle.call_tables.specs.Written.{results_of, rows_of, trees_text, failing_timings};

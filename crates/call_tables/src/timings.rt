@@ -14,7 +14,7 @@ use crate::laws::failing_timings_are_of_one_file;
 use crate::row::Row;
 use crate::trees::rows_of;
 use call_answer::Study;
-use file_timing::print_timings;
+use file_tables::timing::print_timings;
 use judge_settle::Answer;
 use model_line::{Line, Memory};
 use model_timing::{NamedTiming, Timing};

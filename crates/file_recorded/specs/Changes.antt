@@ -5,7 +5,7 @@ use Rattle.model_line.specs.{declared.line.Line.Line, Parameters.terminal_count}
 use Rattle.model_line.specs.NamesByNumber.{terminal_name}
 use Rattle.run_rows.specs.PlayRows.{value_before}
 use Rattle.judge_match.specs.Row.{header_record}
-use Rattle.file_script.specs.Printed.{records_text}
+use Rattle.file_tables.specs.script.Printed.{records_text}
 use Rattle.file_map.specs.declared.source.Signal.TheVariants.{Key, Trip}
 use Rattle.file_tracks.specs.{Below.below, Levels.is_on, Levels.level_text, Tracks.TrackValues}
 

@@ -7,7 +7,7 @@ use Rattle.model_line.specs.declared.script.{Element.Element, SeenSpan.SeenSpan,
 use Rattle.model_line.specs.declared.script.Element.TheVariants.{Z1, Z2, Rv, Uv, Cur}
 use Rattle.model_line.specs.declared.script.What.TheVariants as what
 use Rattle.run_rows.specs.PlayRows.{value_before}
-use Rattle.file_script.specs.Values.{ScriptValues}
+use Rattle.file_tables.specs.script.Values.{ScriptValues}
 use Rattle.file_map.specs.Maps.{MapValues}
 use Rattle.file_map.specs.declared.source.Signal.TheVariants.{Shown}
 use Rattle.file_tracks.specs.{Below.below, Levels.is_on, Tracks.TrackValues}

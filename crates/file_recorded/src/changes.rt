@@ -2,7 +2,7 @@
 
 ghost use Rattle.std.specs.Prelude.{[], ◌∷◌, ◌≡◌, ◌<◌, ◌++◌, IfOk, OnOk, map};
 ghost use Rattle.model_line.specs.Parameters.{terminal_count};
-ghost use Rattle.file_script.specs.Printed.{records_text};
+ghost use Rattle.file_tables.specs.script.Printed.{records_text};
 ghost use Rattle.judge_match.specs.Row.{header_record};
 ghost use Rattle.file_map.specs.declared.source.Signal.TheVariants.{Key, Trip};
 ghost use Rattle.file_tracks.specs.{Levels.is_on as is_signal_on, Tracks.track_values};

@@ -9,7 +9,7 @@ ghost use Rattle.file_recorded.specs.Spans.{script_told, spans_told as all_spans
 
 use crate::spans::spans_told;
 use file_map::Map;
-use file_script::print_scripts;
+use file_tables::script::print_scripts;
 use file_sweeps::printed_scripts_are_read_back;
 use file_tracks::Track;
 use model_line::{Line, Memory, Script};

@@ -8,8 +8,8 @@ use Rattle.std.specs.List.{list_any}
 use Rattle.std.specs.Str.{bytes_eq}
 use Rattle.model_line.specs.declared.script.Script.{Script}
 use Rattle.base_records.specs.ListLaws.{list_any-map}
-use Rattle.file_script.specs.{SoFar.AreOnce, SoFar.names_in, Values.values_of}
-use Rattle.file_script.specs.OnceLaws.{once_more}
+use Rattle.file_tables.specs.{script.SoFar.AreOnce, script.SoFar.names_in, script.Values.values_of}
+use Rattle.file_tables.specs.script.OnceLaws.{once_more}
 use Rattle.file_sweeps.specs.Studies.{script_names}
 
 -- a script with this name is one of two lists

@@ -8,8 +8,8 @@ use Rattle.std.proofs.lemmas.List.{drop-map, get_or-drop, get_or-take, length-dr
 use Rattle.std.proofs.lemmas.List.{length-take, take-map}
 use Rattle.std.proofs.lemmas.List.Elements.{All-drop, All-take}
 use Rattle.model_line.specs.{declared.line.Line.Line, declared.script.Script.Script, Fits.Fits}
-use Rattle.file_script.specs.{SoFar.AreOnce, SoFar.names_in, Values.AreOfOneFile}
-use Rattle.file_script.specs.Values.{ScriptValues, values_of}
+use Rattle.file_tables.specs.{script.SoFar.AreOnce, script.SoFar.names_in, script.Values.AreOfOneFile}
+use Rattle.file_tables.specs.script.Values.{ScriptValues, values_of}
 use Rattle.file_sweeps.specs.{Parts.is_part, Parts.part, Parts.parts_of, Studies.script_names}
 use Rattle.file_sweeps.proofs.Names.{values_names}
 

@@ -12,13 +12,13 @@ use Rattle.csv.proofs.RoundTrip.{read-write}
 use Rattle.model_line.specs.declared.line.Line.{Line}
 use Rattle.model_line.specs.declared.script.SeenSpan.{SeenSpan}
 use Rattle.base_records.specs.Records.{records_of}
-use Rattle.file_script.specs.Row.{header_record}
-use Rattle.file_script.specs.Printed.{file_records, head_record, records_text, row_record}
-use Rattle.file_script.specs.Printed.{script_records}
-use Rattle.file_script.specs.Scripts.{scripts_in, scripts_of}
-use Rattle.file_script.specs.SoFar.{ValuesFit}
-use Rattle.file_script.specs.Values.{AreOfOneFile, ScriptValues}
-use Rattle.file_script.specs.StandingLaws.{printed_stand}
+use Rattle.file_tables.specs.script.Row.{header_record}
+use Rattle.file_tables.specs.script.Printed.{file_records, head_record, records_text, row_record}
+use Rattle.file_tables.specs.script.Printed.{script_records}
+use Rattle.file_tables.specs.script.Scripts.{scripts_in, scripts_of}
+use Rattle.file_tables.specs.script.SoFar.{ValuesFit}
+use Rattle.file_tables.specs.script.Values.{AreOfOneFile, ScriptValues}
+use Rattle.file_tables.specs.script.StandingLaws.{printed_stand}
 
 -- the default reader reads back records that the default writer wrote
 rows_read : (rows : List (List (List ℕ))) (n : ℕ) → length rows ≤ n

@@ -9,8 +9,8 @@ use Rattle.std.proofs.lemmas.List.{take_more}
 use Rattle.std.proofs.lemmas.List.Elements.{All-append, All-push}
 use Rattle.model_line.specs.{declared.line.Line.Line, declared.script.Script.Script}
 use Rattle.model_line.specs.Fits.{Fits}
-use Rattle.file_script.specs.Values.{ScriptValues, values_of}
-use Rattle.file_script.specs.SoFar.{AreOnce, names_in}
+use Rattle.file_tables.specs.script.Values.{ScriptValues, values_of}
+use Rattle.file_tables.specs.script.SoFar.{AreOnce, names_in}
 use Rattle.file_study.specs.declared.stage.SweptFault.{SweptFault}
 use Rattle.file_study.specs.Faults.{FaultValues, fault_values}
 use Rattle.file_sweeps.specs.Groups.{GroupValues, group_of, group_values, own_scripts, swept_from}

@@ -4,7 +4,7 @@ use Rattle.std.proofs.Common.{ap, refl, length, get_or, drop, map, Option, None,
 use Rattle.std.proofs.Common.{append_assoc}
 use Rattle.std.proofs.lemmas.List.{drop_more, map_push}
 use Rattle.model_line.specs.declared.script.Script.{Script}
-use Rattle.file_script.specs.Values.{ScriptValues, values_of}
+use Rattle.file_tables.specs.script.Values.{ScriptValues, values_of}
 use Rattle.file_study.specs.declared.stage.Stage.{Stage}
 use Rattle.file_study.specs.Faults.{FaultValues, stage_values}
 use Rattle.file_sweeps.specs.Choices.{choice_of, lasts_at}

@@ -2,7 +2,7 @@
 use Rattle.std.specs.Prelude.{ℕ, zero, suc, ◌+◌, List, [], ◌∷◌, length, map, nat_lt, unwrap_or}
 use Rattle.std.specs.Prelude.{if◌then◌else◌}
 use Rattle.model_line.specs.declared.script.Script.{Script}
-use Rattle.file_script.specs.Values.{ScriptValues}
+use Rattle.file_tables.specs.script.Values.{ScriptValues}
 use Rattle.file_study.specs.Faults.{FaultValues}
 use Rattle.file_sweeps.specs.Choices.{ChoiceValues, choice_of}
 use Rattle.file_sweeps.specs.Sweeps.{count_of, scripts_of, times_of}

@@ -2,9 +2,9 @@
 use Rattle.std.specs.Prelude.{◌≡◌, ◌*◌, ◌-◌, ◌+◌, ◌/◌, ◌&&◌, ℕ, Bool, List, Ok, drop, nat_le, take}
 use Rattle.std.specs.List.{All}
 use Rattle.model_line.specs.declared.line.Line.{Line}
-use Rattle.file_script.specs.Printed.{file_records, records_text}
-use Rattle.file_script.specs.{Scripts.scripts_of, SoFar.ValuesFit, Values.AreOfOneFile}
-use Rattle.file_script.specs.Values.{ScriptValues}
+use Rattle.file_tables.specs.script.Printed.{file_records, records_text}
+use Rattle.file_tables.specs.{script.Scripts.scripts_of, script.SoFar.ValuesFit, script.Values.AreOfOneFile}
+use Rattle.file_tables.specs.script.Values.{ScriptValues}
 
 -- part n, counted from 1: 64 scripts, and what is left in the last
 abbrev pub part : {X : Type 0} → ℕ → List X → List X

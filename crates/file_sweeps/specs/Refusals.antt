@@ -5,7 +5,7 @@ use Rattle.std.specs.Prelude.{if◌then◌else◌}
 use Rattle.std.specs.List.{list_all}
 use Rattle.model_line.specs.Fits.{deadline_fits, span_fits}
 use Rattle.model_line.specs.{declared.line.Line.Line, PlainNames.is_plain_name}
-use Rattle.file_script.specs.Values.{ScriptValues}
+use Rattle.file_tables.specs.script.Values.{ScriptValues}
 use Rattle.file_study.specs.Faults.{FaultValues}
 use Rattle.file_sweeps.specs.Choices.{choice_of, horizon_for}
 use Rattle.file_sweeps.specs.{Scripts.script_of, Sweeps.count_of, Sweeps.script_name}

@@ -3,7 +3,7 @@ use Rattle.std.specs.Prelude.{◌+◌, ◌++◌, ℕ, List, [], ◌∷◌}
 use Rattle.std.specs.Fmt.{decimal}
 use Rattle.model_line.specs.declared.script.Kind.TheVariants.{Internal, External}
 use Rattle.model_line.specs.{declared.script.Kind.Kind}
-use Rattle.file_script.specs.Values.{ScriptValues}
+use Rattle.file_tables.specs.script.Values.{ScriptValues}
 use Rattle.file_study.specs.Faults.{FaultValues}
 use Rattle.file_sweeps.specs.{Choices.ChoiceValues, Spans.spans_of}
 

@@ -4,8 +4,8 @@ use Rattle.std.specs.Prelude.{get_or, take, slice_get}
 use Rattle.std.specs.List.{All, flat_map, list_any}
 use Rattle.std.specs.Str.{bytes_eq}
 use Rattle.model_line.specs.{declared.line.Line.Line, declared.script.Script.Script, Fits.Fits}
-use Rattle.file_script.specs.Values.{ScriptValues, values_of}
-use Rattle.file_script.specs.SoFar.{AreOnce, names_in}
+use Rattle.file_tables.specs.script.Values.{ScriptValues, values_of}
+use Rattle.file_tables.specs.script.SoFar.{AreOnce, names_in}
 use Rattle.file_study.specs.Faults.{FaultValues}
 use Rattle.file_sweeps.specs.Groups.{group_of, group_values, own_scripts}
 use Rattle.file_sweeps.specs.Refusals.{IsAccepted, IsRefused}

@@ -1,7 +1,7 @@
 -- All scripts of a fault.
 use Rattle.std.specs.Prelude.{◌+◌, ◌*◌, ◌==◌, ℕ, zero, suc, List, [], ◌∷◌, Option, None, Some}
 use Rattle.std.specs.Prelude.{if◌then◌else◌, length, map, nat_le, option_map}
-use Rattle.file_script.specs.Values.{ScriptValues}
+use Rattle.file_tables.specs.script.Values.{ScriptValues}
 use Rattle.file_study.specs.Faults.{FaultValues}
 use Rattle.file_sweeps.specs.{Choices.choice_of, Scripts.place_name, Scripts.script_of}
 

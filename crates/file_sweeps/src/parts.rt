@@ -3,11 +3,11 @@
 ghost use Rattle.std.specs.Prelude.{◌≡◌, ◌&&◌, IfOk, IfSome, is_some, length, map, nat_le, take};
 ghost use Rattle.std.specs.List.{All};
 ghost use Rattle.model_line.specs.Fits.{Fits};
-ghost use Rattle.file_script.specs.{SoFar.AreOnce, Values.values_of};
+ghost use Rattle.file_tables.specs.{script.SoFar.AreOnce, script.Values.values_of};
 ghost use Rattle.file_sweeps.specs.Parts.{AreReadBack, SaysScripts, is_part, part, parts_of};
 ghost use Rattle.file_sweeps.specs.Studies.{script_names};
 
-use file_script::print_scripts;
+use file_tables::script::print_scripts;
 use model_line::{Line, Memory, Script};
 use std::alloc::Global;
 

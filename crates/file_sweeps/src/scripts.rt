@@ -3,7 +3,7 @@
 ghost use Rattle.std.specs.Prelude.{◌≡◌, ◌≤◌, ◌+◌, IfOk, IfSome, IfNone, [], false, map, true};
 ghost use Rattle.std.specs.Prelude.{length, sum};
 ghost use Rattle.model_line.specs.PlainNames.{is_plain_name};
-ghost use Rattle.file_script.specs.Values.{values_of};
+ghost use Rattle.file_tables.specs.script.Values.{values_of};
 ghost use Rattle.file_study.specs.Faults.{fault_values, stage_values};
 ghost use Rattle.file_sweeps.specs.Choices.{choice_values, horizon_for};
 ghost use Rattle.file_sweeps.specs.{Scripts.deadline_of, Scripts.place_name, Scripts.script_of};

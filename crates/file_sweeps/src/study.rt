@@ -4,7 +4,7 @@ ghost use Rattle.std.specs.Prelude.{[], ◌≡◌, ◌<◌, ◌++◌, IfErr, IfN
 ghost use Rattle.std.specs.Prelude.{length, map, take};
 ghost use Rattle.std.specs.List.{list_any};
 ghost use Rattle.std.specs.Str.{bytes_eq};
-ghost use Rattle.file_script.specs.{SoFar.AreOnce, Values.values_of};
+ghost use Rattle.file_tables.specs.{script.SoFar.AreOnce, script.Values.values_of};
 ghost use Rattle.file_study.specs.Faults.{fault_values};
 ghost use Rattle.file_sweeps.specs.Studies.{AreScriptsOf, HasTwice, IsPushed, IsRefusedBehind};
 ghost use Rattle.file_sweeps.specs.Studies.{IsStudyRefused, script_names};

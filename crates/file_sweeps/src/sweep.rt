@@ -5,7 +5,7 @@ ghost use Rattle.std.specs.Prelude.{[], ◌∷◌, false, map, true, vec_len};
 ghost use Rattle.std.specs.List.{All};
 ghost use Rattle.model_line.specs.Fits.{Fits};
 ghost use Rattle.model_line.specs.PlainNames.{is_plain_name};
-ghost use Rattle.file_script.specs.Values.{values_of};
+ghost use Rattle.file_tables.specs.script.Values.{values_of};
 ghost use Rattle.file_study.specs.Faults.{fault_values};
 ghost use Rattle.file_sweeps.specs.Choices.{choice_of};
 ghost use Rattle.file_sweeps.specs.Refusals.{IsAccepted, IsRefused, RefusesSo, choice_refusal};

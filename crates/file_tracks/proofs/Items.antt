@@ -1,7 +1,7 @@
 -- Loops over numbers, one step on.
 use Rattle.std.proofs.Common.{◌≡◌, ◌+◌, ◌++◌, ℕ, suc, List, [], ◌∷◌, refl, ap, sym, ◌∙◌, arith, append_assoc}
 use Rattle.csv.specs.Writing.{row_text, default_writer}
-use Rattle.file_script.specs.Printed.{records_text}
+use Rattle.file_tables.specs.script.Printed.{records_text}
 use Rattle.file_tracks.specs.Below.{below}
 
 pub items_more : {X : Type 0} (pre old new : List X) (f : ℕ → List X) (k : ℕ)

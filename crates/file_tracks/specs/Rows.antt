@@ -2,7 +2,7 @@
 use Rattle.std.specs.Prelude.{◌++◌, ℕ, List, [], ◌∷◌, Option, None, Some, codes, length, slice_get}
 use Rattle.model_line.specs.declared.line.Line.{Line}
 use Rattle.file_map.specs.Recorders.{RecorderValues}
-use Rattle.file_script.specs.Printed.{records_text}
+use Rattle.file_tables.specs.script.Printed.{records_text}
 use Rattle.file_tracks.specs.{Below.below, Levels.level_text}
 use Rattle.file_tracks.specs.Tracks.{PlacedValues, TrackValues}
 use Rattle.file_tracks.specs.Fields.{channel_text, config_name, course_fields, sampled_fields}

@@ -3,7 +3,7 @@
 ghost use Rattle.std.specs.Prelude.{[], ◌∷◌, ◌≡◌, ◌++◌, IfOk, OnOk, Some, map, slice_get};
 ghost use Rattle.csv.specs.Writing.{default_writer, row_text};
 ghost use Rattle.file_map.specs.Recorders.{recorder_values};
-ghost use Rattle.file_script.specs.Printed.{records_text};
+ghost use Rattle.file_tables.specs.script.Printed.{records_text};
 ghost use Rattle.file_tracks.specs.Tracks.{placed_values, track_values};
 ghost use Rattle.file_tracks.specs.Fields.{course_fields, sampled_fields as sampled_said};
 ghost use Rattle.file_tracks.specs.Rows.{header_record, record_at, record_of, source_record};

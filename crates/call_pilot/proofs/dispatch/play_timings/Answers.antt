@@ -3,7 +3,7 @@ use Rattle.std.proofs.lemmas.List.Elements.{All-map}
 use Rattle.std.proofs.lemmas.Result.{err_from_is_err_and}
 use Rattle.model_timing.specs.Inside.{IsTimingInside}
 use Rattle.model_timing.specs.NamedValues.{NamedValues, values_of}
-use Rattle.file_timing.specs.Timings.{timings_of}
+use Rattle.file_tables.specs.timing.Timings.{timings_of}
 use Rattle.call_commands.specs.{Play.play_answer, Play.play_asks}
 use Rattle.call_answer.specs.Sinks.{sink_view}
 use Rattle.call_pilot.specs.CallAnswers.{done_with}

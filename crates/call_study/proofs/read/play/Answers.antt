@@ -4,7 +4,7 @@ use Rattle.std.proofs.lemmas.List.Elements.{All-map}
 use Rattle.std.proofs.lemmas.Option.{slice_get-map, slice_get_read}
 use Rattle.model_timing.specs.Inside.{IsTimingInside}
 use Rattle.model_timing.specs.NamedValues.{NamedValues, values_of}
-use Rattle.file_timing.specs.Timings.{timings_of}
+use Rattle.file_tables.specs.timing.Timings.{timings_of}
 use Rattle.call_load.specs.Chosen.{chosen_script, chosen_timing}
 use Rattle.call_study.proofs.Chosen.{chosen-map}
 use Rattle.std.proofs.lemmas.Result.{err_from_is_err_and}

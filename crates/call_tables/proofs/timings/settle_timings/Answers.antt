@@ -3,7 +3,7 @@ use Rattle.std.proofs.lemmas.Option.{slice_get-get_or}
 use Rattle.std.specs.List.{All, flat_map}
 use Rattle.model_line.specs.Parameters.{terminal_count}
 use Rattle.model_timing.specs.NamedValues.{NamedValues, values_of}
-use Rattle.file_timing.specs.Printed.{MayStand}
+use Rattle.file_tables.specs.timing.Printed.{MayStand}
 use Rattle.call_tables.specs.declared.row.Row.{Row}
 use Rattle.call_tables.specs.Written.{rows_of, failing_of, failing_timings}
 use Rattle.call_tables.proofs.RowLaws.{row_at}

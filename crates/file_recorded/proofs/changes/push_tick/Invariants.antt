@@ -1,5 +1,5 @@
 use Rattle.std.proofs.Common.{◌≡◌, ◌++◌, map}
-use Rattle.file_script.specs.Printed.{records_text}
+use Rattle.file_tables.specs.script.Printed.{records_text}
 use Rattle.file_tracks.specs.{Below.below, Tracks.track_values}
 use Rattle.file_recorded.specs.Changes.{terminal_changes}
 use Rattle.file_recorded.proofs.changes.push_tick.Given as goal

@@ -1,6 +1,6 @@
 use Rattle.std.proofs.Common.{◌≡◌, ◌∷◌, [], ◌++◌, map}
 use Rattle.judge_match.specs.Row.{header_record}
-use Rattle.file_script.specs.Printed.{records_text}
+use Rattle.file_tables.specs.script.Printed.{records_text}
 use Rattle.file_tracks.specs.{Below.below, Tracks.track_values}
 use Rattle.file_recorded.specs.Changes.{head_record, tick_changes}
 use Rattle.file_recorded.proofs.changes.record_text.Given as goal

@@ -4,8 +4,8 @@ use Rattle.std.proofs.lemmas.List.Elements.{All-cons, All-nil}
 use Rattle.model_line.specs.Fits.{Fits}
 use Rattle.model_line.specs.declared.script.{Script.Script, SeenSpan.SeenSpan}
 use Rattle.file_map.specs.Maps.{map_values}
-use Rattle.file_script.specs.Printed.{file_records, records_text}
-use Rattle.file_script.specs.{SoFar.ValuesFit, Values.AreOfOneFile, Values.ScriptValues, Values.values_of}
+use Rattle.file_tables.specs.script.Printed.{file_records, records_text}
+use Rattle.file_tables.specs.{script.SoFar.ValuesFit, script.Values.AreOfOneFile, script.Values.ScriptValues, script.Values.values_of}
 use Rattle.file_sweeps.specs.Parts.{SaysScripts}
 use Rattle.file_tracks.specs.Tracks.{TrackValues, track_values}
 use Rattle.file_recorded.specs.Spans.{script_told}

@@ -1,9 +1,9 @@
 use Rattle.std.proofs.Common.{List, Ok, ◌∙◌, ap, map, subst, sym}
 use Rattle.std.specs.List.{All}
 use Rattle.model_line.specs.{declared.script.Script.Script, Fits.Fits}
-use Rattle.file_script.specs.Scripts.{scripts_of}
-use Rattle.file_script.specs.Values.{AreOfOneFile, values_of}
-use Rattle.file_script.specs.StandingLaws.{scripts_fit_by_values}
+use Rattle.file_tables.specs.script.Scripts.{scripts_of}
+use Rattle.file_tables.specs.script.Values.{AreOfOneFile, values_of}
+use Rattle.file_tables.specs.script.StandingLaws.{scripts_fit_by_values}
 use Rattle.file_sweeps.proofs.PartLaws.{part_fits, part_of_one_file}
 use Rattle.file_sweeps.proofs.parts.part_text.Goals as goal
 

@@ -1,6 +1,6 @@
 use Rattle.std.proofs.Common.{List, ◌++◌, ◌∙◌, arith, subst, sym, ℕ}
 use Rattle.std.proofs.lemmas.List.{length-map, take_all}
-use Rattle.file_script.specs.SoFar.{AreOnce}
+use Rattle.file_tables.specs.script.SoFar.{AreOnce}
 use Rattle.model_line.specs.declared.script.Script.{Script}
 use Rattle.file_sweeps.specs.Studies.{script_names}
 use Rattle.file_sweeps.proofs.Names.{next_new}

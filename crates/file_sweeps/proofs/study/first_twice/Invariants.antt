@@ -1,5 +1,5 @@
 use Rattle.std.proofs.Common.{◌++◌, take}
-use Rattle.file_script.specs.SoFar.{AreOnce}
+use Rattle.file_tables.specs.script.SoFar.{AreOnce}
 use Rattle.file_sweeps.specs.Studies.{script_names}
 use Rattle.file_sweeps.proofs.study.first_twice.Given as goal
 

@@ -1,7 +1,7 @@
 use Rattle.std.proofs.Common.{◌≡◌, ◌++◌, ◌-◌, ◌<◌, ℕ, None, map, vec_len}
 use Rattle.std.specs.List.{All}
 use Rattle.model_line.specs.Fits.{Fits}
-use Rattle.file_script.specs.Values.{values_of}
+use Rattle.file_tables.specs.script.Values.{values_of}
 use Rattle.file_study.specs.Faults.{fault_values}
 use Rattle.file_sweeps.specs.{Refusals.choice_refusal, Sweeps.scripts_from}
 use Rattle.file_sweeps.proofs.sweep.scripts_of_fault.Given as goal

@@ -1,6 +1,6 @@
 use Rattle.std.proofs.Common.{◌≡◌, ◌∷◌, [], ◌++◌, map}
 use Rattle.file_map.specs.Recorders.{recorder_values}
-use Rattle.file_script.specs.Printed.{records_text}
+use Rattle.file_tables.specs.script.Printed.{records_text}
 use Rattle.file_tracks.specs.Below.{below}
 use Rattle.file_tracks.specs.Tracks.{placed_values, track_values}
 use Rattle.file_tracks.specs.Rows.{header_record, record_at}

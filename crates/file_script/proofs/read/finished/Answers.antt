@@ -1,9 +1,0 @@
-use Rattle.std.proofs.Common.{Ok, map, ap, sym, ◌∙◌}
-use Rattle.base_records.specs.SoFarLaws.{all_seen}
-use Rattle.file_script.specs.Values.{values_of}
-use Rattle.file_script.proofs.read.finished.Goals as goal
-
-pub returns : goal.returns
-returns c =
-    ap (λ list. Ok list) (sym (all_seen values_of c.args.reading)
-    ∙ ap (map values_of) (sym c.in_ok-scripts.ensures))

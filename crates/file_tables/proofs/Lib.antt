@@ -1,0 +1,2 @@
+pub mod script_lemmas
+pub mod timing_lemmas

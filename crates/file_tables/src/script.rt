@@ -1,0 +1,14 @@
+//! Fault scripts: what each terminal sees and which channel is lost, tick by tick, as a CSV file.
+
+mod check;
+mod fault;
+mod fields;
+mod item;
+mod laws;
+mod print;
+mod read;
+
+pub use fault::ScriptFault;
+pub use laws::a_file_says_scripts_of_one_file;
+pub use print::print_scripts;
+pub use read::read_scripts;

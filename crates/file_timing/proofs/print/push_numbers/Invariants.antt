@@ -1,8 +1,0 @@
-use Rattle.std.proofs.Common.{◌≡◌, ◌++◌, take}
-use Rattle.file_timing.specs.Printed.{number_records, records_text}
-use Rattle.file_timing.proofs.print.push_numbers.Given as goal
-
-abbrev pub invariant-loop-i : goal.invariant-loop-i
-invariant-loop-i l =
-    l.text.items
-    ≡ l.fn.text.items ++ records_text (number_records l.line l.name 0 (take l.i l.values))

@@ -1,8 +1,0 @@
-use Rattle.std.proofs.Common.{◌≡◌, ◌++◌, map, take}
-use Rattle.file_timing.specs.Printed.{step_record, records_text}
-use Rattle.file_timing.proofs.print.push_steps.Given as goal
-
-abbrev pub invariant-loop-i : goal.invariant-loop-i
-invariant-loop-i l =
-    l.text.items
-    ≡ l.fn.text.items ++ records_text (map (step_record l.line l.name) (take l.i l.steps))

@@ -1,7 +1,0 @@
-use Rattle.std.proofs.Common.{◌≡◌, ◌++◌, drop}
-use Rattle.file_timing.specs.Table.{listed}
-use Rattle.file_timing.proofs.steps.list_all.Given as goal
-
--- the steps so far, and those of the places that are left
-abbrev pub invariant-loop-place : goal.invariant-loop-place
-invariant-loop-place l = l.steps.items ++ listed l.place (drop l.place l.table) ≡ listed 0 l.table

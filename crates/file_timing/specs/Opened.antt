@@ -1,8 +1,0 @@
--- What the code holds of the timings before a row's and of the row's own.
-use Rattle.std.specs.Prelude.{map}
-use Rattle.file_timing.specs.declared.reading.Opened.{Opened}
-use Rattle.model_timing.specs.NamedValues.{values_of}
-use Rattle.file_timing.specs.{SoFar.open_of, Checks.Opening}
-
-abbrev pub opening_of : Opened → Opening
-opening_of x = record { done = map values_of x.done.items; timing = open_of x.timing }
