@@ -2,13 +2,13 @@
 use Rattle.std.specs.Prelude.{◌≡◌, ◌⊎◌, ◌≢◌, ℕ, List, [], ◌∷◌, Ok, IsErr, map}
 use Rattle.file_line.specs.{Lines.line_values, LineFiles.line_of}
 use Rattle.file_tables.specs.{script.Values.values_of, script.Scripts.scripts_of}
-use Rattle.file_study.specs.Faults.{FaultValues, fault_values}
-use Rattle.file_study.specs.Studies.{study_of, study_values}
-use Rattle.file_study.specs.declared.study.Study.{Study}
-use Rattle.file_sweeps.specs.Studies.{AreScriptsOf, IsStudyRefused}
-use Rattle.file_sweeps.specs.declared.group.Group.{Group}
-use Rattle.file_sweeps.specs.declared.study_fault.StudySweepFault.{StudySweepFault}
-use Rattle.file_sweeps.specs.declared.study_fault.StudySweepFault.TheVariants.{Memory}
+use Rattle.file_study.specs.study.Faults.{FaultValues, fault_values}
+use Rattle.file_study.specs.study.Studies.{study_of, study_values}
+use Rattle.file_study.specs.declared.study.study.Study.{Study}
+use Rattle.file_study.specs.sweeps.Studies.{AreScriptsOf, IsStudyRefused}
+use Rattle.file_study.specs.declared.sweeps.group.Group.{Group}
+use Rattle.file_study.specs.declared.sweeps.study_fault.StudySweepFault.{StudySweepFault}
+use Rattle.file_study.specs.declared.sweeps.study_fault.StudySweepFault.TheVariants.{Memory}
 use Rattle.file_times.specs.declared.time.Interval.{Interval}
 use Rattle.model_line.specs.{declared.line.Line.Line, declared.script.Script.Script}
 use Rattle.judge_lint.specs.declared.warning.Warning.{Warning}

@@ -2,8 +2,8 @@
 
 use file_line::LineFault;
 use file_tables::script::ScriptFault;
-use file_study::StudyFault;
-use file_sweeps::{StudySweepFault, SweepFault};
+use file_study::study::StudyFault;
+use file_study::sweeps::{StudySweepFault, SweepFault};
 
 /// The rule of a line file that is broken.
 pub fn line_rule(fault: &LineFault) -> &'static str {

@@ -1,7 +1,7 @@
 //! Over a study.
 
 ghost use Rattle.std.specs.Prelude.{IfOk, map};
-ghost use Rattle.file_study.specs.Faults.{fault_values};
+ghost use Rattle.file_study.specs.study.Faults.{fault_values};
 ghost use Rattle.call_lint.specs.Outcomes.{IsFaultsLinted, IsReadLinted, IsStudyLinted};
 
 use crate::linted::{Linted, Outcome, outcome_of};
@@ -9,8 +9,8 @@ use crate::refused_study::{refused_study, refused_sweep};
 use crate::sheet::Sheet;
 use crate::study_times::exact_ends;
 use crate::warned::warnings_text;
-use file_study::{Study, StudyFault, read_study};
-use file_sweeps::{Group, StudySweepFault, scripts_of_study};
+use file_study::study::{Study, StudyFault, read_study};
+use file_study::sweeps::{Group, StudySweepFault, scripts_of_study};
 use judge_lint::warnings;
 use model_line::{Memory, Script};
 use std::alloc::Global;

@@ -3,13 +3,13 @@ use Rattle.std.proofs.Common.{◌≡◌, ◌<◌, ◌∷◌, ℕ, List, [], Ok, 
 use Rattle.std.proofs.lemmas.List.{length-map}
 use Rattle.model_line.specs.declared.script.Script.{Script}
 use Rattle.file_tables.specs.{script.SoFar.AreOnce, script.Values.AreOfOneFile, script.Values.values_of}
-use Rattle.file_study.specs.{Reading.FailsSo, Studies.study_of, Studies.study_values}
-use Rattle.file_study.specs.declared.fault.StudyFault.{StudyFault}
-use Rattle.file_study.specs.declared.fault.StudyFault.TheVariants as fault
-use Rattle.file_study.specs.declared.study.Study.{Study}
-use Rattle.file_sweeps.specs.Studies.{IsStudyRefused, script_names}
-use Rattle.file_sweeps.specs.declared.study_fault.StudySweepFault.{StudySweepFault}
-use Rattle.file_sweeps.specs.declared.study_fault.StudySweepFault.TheVariants as sweep
+use Rattle.file_study.specs.{study.Reading.FailsSo, study.Studies.study_of, study.Studies.study_values}
+use Rattle.file_study.specs.declared.study.fault.StudyFault.{StudyFault}
+use Rattle.file_study.specs.declared.study.fault.StudyFault.TheVariants as fault
+use Rattle.file_study.specs.declared.study.study.Study.{Study}
+use Rattle.file_study.specs.sweeps.Studies.{IsStudyRefused, script_names}
+use Rattle.file_study.specs.declared.sweeps.study_fault.StudySweepFault.{StudySweepFault}
+use Rattle.file_study.specs.declared.sweeps.study_fault.StudySweepFault.TheVariants as sweep
 use Rattle.call_files.specs.Study.{ReadsStudy}
 use Rattle.call_files.specs.declared.stop.Stop.{Stop}
 use Rattle.call_files.specs.declared.stop.Stop.TheVariants as stop

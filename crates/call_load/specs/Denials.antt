@@ -4,10 +4,10 @@ use Rattle.std.specs.List.{concat}
 use Rattle.call_explain.specs.declared.unpicked.Unpicked.{Unpicked}
 use Rattle.call_explain.specs.declared.unpicked.Unpicked.TheVariants as unpicked
 use Rattle.call_map.specs.Denials.{map_denial_pieces, map_denial_status}
-use Rattle.file_study.specs.FaultWords.{place_of, words_of}
-use Rattle.file_study.specs.declared.fault.StudyFault.{StudyFault}
-use Rattle.file_sweeps.specs.SweepWords as sweeps
-use Rattle.file_sweeps.specs.declared.study_fault.StudySweepFault.{StudySweepFault}
+use Rattle.file_study.specs.study.FaultWords.{place_of, words_of}
+use Rattle.file_study.specs.declared.study.fault.StudyFault.{StudyFault}
+use Rattle.file_study.specs.sweeps.SweepWords as sweeps
+use Rattle.file_study.specs.declared.sweeps.study_fault.StudySweepFault.{StudySweepFault}
 use Rattle.call_load.specs.declared.denial.Denial.{Denial}
 use Rattle.call_load.specs.declared.denial.Denial.TheVariants as denial
 

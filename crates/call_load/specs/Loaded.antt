@@ -3,16 +3,16 @@ use Rattle.std.specs.Prelude.{◌≡◌, ⊤, ℕ, List, Result, Ok, Err, map, s
 use Rattle.std.specs.List.{All}
 use Rattle.model_line.specs.Fits.{Fits}
 use Rattle.file_tables.specs.script.SoFar.{AreOnce}
-use Rattle.file_sweeps.specs.Studies.{script_names}
+use Rattle.file_study.specs.sweeps.Studies.{script_names}
 use Rattle.net_gates.specs.NetOf.{IsNetOf}
-use Rattle.file_study.specs.Studies.{StudyValues, study_of}
-use Rattle.file_sweeps.specs.Groups.{group_values, single_group}
+use Rattle.file_study.specs.study.Studies.{StudyValues, study_of}
+use Rattle.file_study.specs.sweeps.Groups.{group_values, single_group}
 use Rattle.call_files.specs.Study.{IsSaid}
 use Rattle.call_files.specs.declared.stop.Stop.TheVariants as stop
-use Rattle.file_study.specs.declared.fault.StudyFault.{StudyFault}
-use Rattle.file_study.specs.declared.fault.StudyFault.TheVariants as study_fault
-use Rattle.file_sweeps.specs.declared.study_fault.StudySweepFault.{StudySweepFault}
-use Rattle.file_sweeps.specs.declared.study_fault.StudySweepFault.TheVariants as sweep_fault
+use Rattle.file_study.specs.declared.study.fault.StudyFault.{StudyFault}
+use Rattle.file_study.specs.declared.study.fault.StudyFault.TheVariants as study_fault
+use Rattle.file_study.specs.declared.sweeps.study_fault.StudySweepFault.{StudySweepFault}
+use Rattle.file_study.specs.declared.sweeps.study_fault.StudySweepFault.TheVariants as sweep_fault
 use Rattle.call_load.specs.declared.denial.Denial.TheVariants as denial
 use Rattle.call_load.specs.declared.halt.Halt.{Halt}
 use Rattle.call_load.specs.declared.halt.Halt.TheVariants as halt

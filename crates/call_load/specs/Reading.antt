@@ -2,7 +2,7 @@
 -- file that is too long or that a reader refuses, and then by a name that its file has not.
 use Rattle.std.specs.Prelude.{◌≡◌, ◌∷◌, ℕ, List, [], Option, None, Some}
 use Rattle.std.specs.Prelude.{Result, Ok, Err, if◌then◌else◌, length, nat_le, option_map, slice_get}
-use Rattle.file_sweeps.specs.Parts.{is_part}
+use Rattle.file_study.specs.sweeps.Parts.{is_part}
 use Rattle.draw_shapes.specs.declared.rows.Rows.{Rows}
 use Rattle.model_line.specs.{declared.line.Line.Line, declared.script.Script.Script}
 use Rattle.model_timing.specs.NamedValues.{NamedValues}

@@ -5,8 +5,8 @@ use Rattle.file_line.specs.{LineFiles.line_of, Lines.LineValues}
 use Rattle.file_line.specs.declared.fault.LineFault.{LineFault}
 use Rattle.file_tables.specs.{script.Scripts.scripts_of, script.Values.ScriptValues}
 use Rattle.file_tables.specs.declared.script.fault.ScriptFault.{ScriptFault}
-use Rattle.file_sweeps.specs.Groups.{group_values, single_group}
-use Rattle.file_sweeps.specs.declared.group.Group.{Group}
+use Rattle.file_study.specs.sweeps.Groups.{group_values, single_group}
+use Rattle.file_study.specs.declared.sweeps.group.Group.{Group}
 use Rattle.call_files.specs.Said.{of_line, of_scripts, of_study}
 use Rattle.call_files.specs.declared.refusal.Refusal.{Refusal}
 

@@ -3,13 +3,13 @@ use Rattle.std.specs.Prelude.{◌≡◌, ◌⊎◌, ℕ, Bool, true, false, IsTr
 use Rattle.std.specs.Prelude.{Result, Ok, Err, map}
 use Rattle.model_line.specs.{declared.line.Line.Line, declared.script.Script.Script}
 use Rattle.file_line.specs.Lines.{line_values}
-use Rattle.file_study.specs.Studies.{StudyValues, study_of}
-use Rattle.file_study.specs.declared.fault.StudyFault.{StudyFault}
-use Rattle.file_sweeps.specs.Groups.{group_values, single_group}
-use Rattle.file_sweeps.specs.declared.group.Group.{Group}
-use Rattle.file_sweeps.specs.Studies.{AreScriptsOf, IsStudyRefused}
-use Rattle.file_sweeps.specs.declared.study_fault.StudySweepFault.{StudySweepFault}
-use Rattle.file_sweeps.specs.declared.study_fault.StudySweepFault.TheVariants as sweep_fault
+use Rattle.file_study.specs.study.Studies.{StudyValues, study_of}
+use Rattle.file_study.specs.declared.study.fault.StudyFault.{StudyFault}
+use Rattle.file_study.specs.sweeps.Groups.{group_values, single_group}
+use Rattle.file_study.specs.declared.sweeps.group.Group.{Group}
+use Rattle.file_study.specs.sweeps.Studies.{AreScriptsOf, IsStudyRefused}
+use Rattle.file_study.specs.declared.sweeps.study_fault.StudySweepFault.{StudySweepFault}
+use Rattle.file_study.specs.declared.sweeps.study_fault.StudySweepFault.TheVariants as sweep_fault
 use Rattle.call_files.specs.Said.{of_study}
 use Rattle.call_files.specs.declared.refusal.Refusal.{Refusal}
 use Rattle.call_files.specs.declared.stop.Stop.TheVariants as stop

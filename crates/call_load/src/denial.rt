@@ -5,15 +5,15 @@ ghost use Rattle.std.specs.List.{concat};
 ghost use Rattle.call_answer.specs.Sinks.{Puts, sink_view};
 ghost use Rattle.call_load.specs.Denials.{denial_line, scripts_pieces, study_pieces};
 ghost use Rattle.call_load.specs.Denials.{unpicked_pieces};
-ghost use Rattle.file_sweeps.specs.SweepWords.{horizon_pieces};
-ghost use Rattle.file_sweeps.specs.declared.study_fault.StudySweepFault.TheVariants.{Refused};
+ghost use Rattle.file_study.specs.sweeps.SweepWords.{horizon_pieces};
+ghost use Rattle.file_study.specs.declared.sweeps.study_fault.StudySweepFault.TheVariants.{Refused};
 
 use base_text::store::{PutFailed, Sink};
 use call_answer::put_pieces;
 use call_explain::Unpicked;
 use call_map::{MapDenial, put_map_denial};
-use file_study::StudyFault;
-use file_sweeps::{StudySweepFault, SweepFault};
+use file_study::study::StudyFault;
+use file_study::sweeps::{StudySweepFault, SweepFault};
 use itoa::Buffer;
 use model_line::Name;
 

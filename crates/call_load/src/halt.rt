@@ -12,8 +12,8 @@ use call_answer::Done;
 use call_explain::ExplainStop;
 use call_files::{Stop, put_message};
 use call_map::MapStop;
-use file_study::StudyFault;
-use file_sweeps::StudySweepFault;
+use file_study::study::StudyFault;
+use file_study::sweeps::StudySweepFault;
 use file_tables::timing::TimingFault;
 use model_line::Memory;
 

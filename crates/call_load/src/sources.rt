@@ -8,7 +8,7 @@ use crate::halt::Halt;
 use call_answer::Study;
 use call_files::read_study;
 use file_tables::script::a_file_says_scripts_of_one_file;
-use file_sweeps::{Group, groups_of_scripts, scripts_of_study};
+use file_study::sweeps::{Group, groups_of_scripts, scripts_of_study};
 use model_line::Memory;
 use net_compile::compile;
 use std::alloc::Global;
@@ -64,7 +64,7 @@ fn untitled(alloc: Global) -> Result<String, Memory>
 fn load_study(alloc: Global, study: &[u8]) -> Result<Loaded, Halt>
     ensures { Loads (of_study_file study.now) (StudySays study.now) result }
 {
-    let said = file_study::read_study(alloc, study)?;
+    let said = file_study::study::read_study(alloc, study)?;
     let swept = scripts_of_study(alloc, &said)?;
     let net = compile(alloc, &said.line)?;
     let study = Study {

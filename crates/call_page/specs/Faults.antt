@@ -7,9 +7,9 @@ use Rattle.judge_report.specs.Deadlines.{deadline_of}
 use Rattle.judge_verdict.specs.OneEach.{OneEach}
 use Rattle.draw_diagram.specs.Times.{is_begun}
 use Rattle.draw_page.specs.declared.page.{Case.Case, Fault.Fault}
-use Rattle.file_sweeps.specs.declared.group.Group.{Group}
+use Rattle.file_study.specs.declared.sweeps.group.Group.{Group}
 use Rattle.call_tables.specs.declared.row.Row.{Row}
-use Rattle.file_sweeps.specs.Places.{place_in}
+use Rattle.file_study.specs.sweeps.Places.{place_in}
 use Rattle.call_page.specs.declared.parts.Part.{Part}
 use Rattle.call_facts.specs.declared.firsts.Firsts.{Firsts}
 use Rattle.call_page.specs.{Parts.fault_name, Parts.swept_values}

@@ -7,7 +7,7 @@ use Rattle.draw_layout.specs.Drawings.{scheme_said}
 use Rattle.draw_page.specs.{declared.page.Page.Page, declared.page.Counts.Counts}
 use Rattle.draw_page.specs.Pages.{page_of}
 use Rattle.draw_page.specs.declared.page.{Time.Time, Digest.Digest}
-use Rattle.file_sweeps.specs.declared.group.Group.{Group}
+use Rattle.file_study.specs.declared.sweeps.group.Group.{Group}
 use Rattle.call_answer.specs.{Answers.Answers, Answers.status_by, declared.done.Done.Done}
 use Rattle.call_tables.specs.{Rows.AreRows, Table.is_failing, Table.is_open}
 use Rattle.call_tables.specs.declared.row.Row.{Row}

@@ -4,8 +4,8 @@ use Rattle.std.specs.Prelude.{get_or}
 use Rattle.std.specs.List.{All}
 use Rattle.model_line.specs.declared.script.Script.{Script}
 use Rattle.model_line.specs.NamesByNumber.{script_name}
-use Rattle.file_sweeps.specs.declared.group.Group.{Group}
-use Rattle.file_sweeps.specs.Places.{PlaceValues, place_in}
+use Rattle.file_study.specs.declared.sweeps.group.Group.{Group}
+use Rattle.file_study.specs.sweeps.Places.{PlaceValues, place_in}
 use Rattle.call_page.specs.declared.parts.Part.{Part}
 
 -- how many scripts from this place on are of its group; one alone is of none

@@ -2,7 +2,7 @@
 
 ghost use Rattle.std.specs.Prelude.{◌≡◌, ◌≤◌, ◌<◌, ◌+◌, ◌∷◌, [], IfOk, length};
 ghost use Rattle.file_tables.specs.script.SoFar.{AreOnce};
-ghost use Rattle.file_sweeps.specs.{Studies.script_names, Parts.parts_of};
+ghost use Rattle.file_study.specs.{sweeps.Studies.script_names, sweeps.Parts.parts_of};
 ghost use Rattle.call_answer.specs.Study.{IsStudy};
 ghost use Rattle.call_tables.specs.Rows.{AreRows};
 ghost use Rattle.call_answer.specs.Study.{IsAnyStudy};
@@ -13,7 +13,7 @@ use call_facts::hash_of;
 use call_tables::{Row, settle_trees};
 use draw_page::{Digest, FileText};
 use file_line::print_line;
-use file_sweeps::{part_count, part_text};
+use file_study::sweeps::{part_count, part_text};
 use itoa::Buffer;
 use model_line::Memory;
 use std::alloc::Global;

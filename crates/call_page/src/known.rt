@@ -9,7 +9,7 @@ ghost use Rattle.call_facts.specs.FirstTicks.{place as place_in_order};
 use call_answer::Study;
 use call_facts::Firsts;
 use call_tables::Row;
-use file_sweeps::Group;
+use file_study::sweeps::Group;
 use model_line::{Line, Name, Script};
 
 /// A line with its scripts, in groups that stand one after another; the answer to each obligation,

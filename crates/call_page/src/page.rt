@@ -3,7 +3,7 @@
 ghost use Rattle.std.specs.Prelude.{◌≡◌, ◌<◌, ◌≤◌, ◌+◌, ◌-◌, ◌^◌, IfOk, length, map};
 ghost use Rattle.std.specs.List.{flat_map};
 ghost use Rattle.file_tables.specs.script.SoFar.{AreOnce};
-ghost use Rattle.file_sweeps.specs.Studies.{script_names};
+ghost use Rattle.file_study.specs.sweeps.Studies.{script_names};
 ghost use Rattle.draw_layout.specs.Drawings.{scheme_said};
 ghost use Rattle.call_tables.specs.Rows.{AreRows};
 ghost use Rattle.call_answer.specs.Study.{IsAnyStudy};

@@ -3,9 +3,9 @@
 ghost use Rattle.std.specs.Prelude.{◌≡◌, ◌≤◌, ◌<◌, ◌+◌, ◌^◌, IfOk, length};
 ghost use Rattle.call_page.specs.Choices.{IsFaultOfScript};
 ghost use Rattle.call_page.specs.Parts.{AreParts, IsPart, fault_name, swept_values};
-ghost use Rattle.file_sweeps.specs.Places.{place_in};
+ghost use Rattle.file_study.specs.sweeps.Places.{place_in};
 
-use file_sweeps::{Group, place_of_script};
+use file_study::sweeps::{Group, place_of_script};
 use model_line::{Memory, Script};
 use model_line::name_of_script;
 use std::alloc::Global;

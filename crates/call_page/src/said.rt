@@ -3,7 +3,7 @@
 ghost use Rattle.std.specs.Prelude.{◌≡◌, IfOk};
 ghost use Rattle.std.specs.List.{list_any};
 ghost use Rattle.file_tables.specs.script.SoFar.{AreOnce};
-ghost use Rattle.file_sweeps.specs.Studies.{script_names};
+ghost use Rattle.file_study.specs.sweeps.Studies.{script_names};
 ghost use Rattle.call_answer.specs.{Answers.Says, Answers.status_by};
 ghost use Rattle.call_tables.specs.Rows.{AreRows};
 ghost use Rattle.call_answer.specs.Study.{IsAnyStudy};
@@ -18,7 +18,7 @@ use call_answer::{Done, Said, Study};
 use call_facts::{Firsts, find_firsts};
 use call_tables::{Row, settle_all};
 use draw_page::{Page, page_text};
-use file_sweeps::Group;
+use file_study::sweeps::Group;
 use judge_settle::Answer;
 use model_line::Memory;
 use std::alloc::Global;

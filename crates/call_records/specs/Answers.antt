@@ -4,7 +4,7 @@ use Rattle.model_line.specs.declared.line.Line.{Line}
 use Rattle.file_comtrade.specs.declared.record.RecordFault.{RecordFault}
 use Rattle.file_map.specs.Maps.{MapValues}
 use Rattle.file_tracks.specs.Tracks.{AreTracks, FailsAt, PlacedValues, TrackValues, placed_from}
-use Rattle.file_sweeps.specs.Parts.{SaysScripts}
+use Rattle.file_study.specs.sweeps.Parts.{SaysScripts}
 use Rattle.file_tracks.specs.Rows.{sources_text}
 use Rattle.file_recorded.specs.{Changes.record_text, Spans.script_told, Spans.spans_told}
 use Rattle.call_records.specs.{Course.RecorderFiles, Course.bytes_in, Halts.End}

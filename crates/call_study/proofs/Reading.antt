@@ -3,8 +3,8 @@ use Rattle.std.proofs.Common.{◌≡◌, ◌∷◌, ◌<◌, ℕ, suc, zero, Lis
 use Rattle.std.proofs.Common.{Result, Ok, Err, refl, subst, sym, slice_get, arith, inl, inr, ⊎_elim}
 use Rattle.std.specs.List.{All}
 use Rattle.model_line.specs.declared.line.Line.{Line}
-use Rattle.file_study.specs.Studies.{StudyValues, study_of}
-use Rattle.file_study.specs.declared.fault.StudyFault.{StudyFault}
+use Rattle.file_study.specs.study.Studies.{StudyValues, study_of}
+use Rattle.file_study.specs.declared.study.fault.StudyFault.{StudyFault}
 use Rattle.file_tables.specs.timing.Gives as timing_reading
 use Rattle.file_tables.specs.declared.timing.fault.TimingFault.{TimingFault}
 use Rattle.file_tables.specs.declared.timing.fault.TimingFault.TheVariants as timing_fault

@@ -10,7 +10,7 @@ ghost use Rattle.call_study.specs.{Answers.answer_by, Answers.answer_of, Ends.Gi
 ghost use Rattle.call_load.specs.Loaded.{IsLoaded, given_of, studied};
 ghost use Rattle.call_answer.specs.declared.done.Done.TheVariants.{Good};
 ghost use Rattle.call_load.specs.Reading.{bands_of, play as a_play, play_of, table as a_table};
-ghost use Rattle.file_sweeps.specs.Parts.{is_part as is_part_of};
+ghost use Rattle.file_study.specs.sweeps.Parts.{is_part as is_part_of};
 ghost use Rattle.call_load.specs.Reading.{denied_of, recheck_of, table_of, timings_over};
 ghost use Rattle.call_load.specs.Reading.{at_most as at_most_of};
 ghost use Rattle.call_answer.specs.Answers.{Says};
@@ -25,7 +25,7 @@ use call_verdicts::{Cases, faults_table, verdicts_table};
 use draw_shapes::Rows;
 use file_line::print_line;
 use file_recorded::{config_text, map_text};
-use file_sweeps::{part_count, part_text};
+use file_study::sweeps::{part_count, part_text};
 use file_tables::timing::read_timings;
 use model_line::{Line, Memory, Script};
 use model_timing::NamedTiming;

@@ -5,7 +5,7 @@ use Rattle.std.specs.Prelude.{min}
 use Rattle.std.proofs.lemmas.List.{drop-drop, drop_min, drop_more, take_min}
 use Rattle.model_line.specs.{declared.line.Line.Line, declared.script.Script.Script}
 use Rattle.model_line.specs.Parameters.{terminal_count}
-use Rattle.file_sweeps.specs.declared.group.Group.{Group}
+use Rattle.file_study.specs.declared.sweeps.group.Group.{Group}
 use Rattle.call_verdicts.specs.Faults.{fault_records, faults_from, findings_of}
 use Rattle.call_verdicts.specs.declared.finding.Finding.{Finding}
 

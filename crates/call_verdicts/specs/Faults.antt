@@ -8,7 +8,7 @@ use Rattle.model_line.specs.{declared.line.Line.Line, declared.script.Script.Scr
 use Rattle.model_line.specs.Parameters.{terminal_count}
 use Rattle.model_line.specs.NamesByNumber.{terminal_name}
 use Rattle.judge_report.specs.ReportText.{kind_word}
-use Rattle.file_sweeps.specs.declared.group.Group.{Group}
+use Rattle.file_study.specs.declared.sweeps.group.Group.{Group}
 use Rattle.call_answer.specs.{Answers.Answers, Answers.status_by, declared.done.Done.Done}
 use Rattle.call_verdicts.specs.{Findings.AreFindings, Verdicts.is_failing, Verdicts.is_open}
 use Rattle.call_verdicts.specs.{Verdicts.fails_so, Verdicts.is_left}

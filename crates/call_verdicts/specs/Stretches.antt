@@ -2,7 +2,7 @@
 use Rattle.std.specs.Prelude.{◌+◌, ◌-◌, ◌++◌, ◌&&◌, ◌||◌, ℕ, zero, suc, Bool, true, false, List}
 use Rattle.std.specs.Prelude.{[], ◌∷◌, map, not, decimal, get_or, nat_eq, take, if◌then◌else◌}
 use Rattle.std.specs.List.{list_any}
-use Rattle.file_sweeps.specs.declared.group.Group.{Group}
+use Rattle.file_study.specs.declared.sweeps.group.Group.{Group}
 use Rattle.call_verdicts.specs.Records.{times_text}
 use Rattle.call_verdicts.specs.declared.finding.Standing.{Standing}
 use Rattle.call_verdicts.specs.declared.finding.Standing.TheVariants.{Held, Fails, Open}

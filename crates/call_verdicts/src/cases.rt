@@ -1,6 +1,6 @@
 //! What the table of verdicts is over.
 
-use file_sweeps::Group;
+use file_study::sweeps::Group;
 use model_line::{Line, Script};
 use net_gates::Net;
 

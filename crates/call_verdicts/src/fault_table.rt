@@ -13,7 +13,7 @@ use crate::finding::Finding;
 use crate::stretches::{places_text, values_text};
 use crate::verdict::{Verdict, failing_count, held_count, open_count, verdicts_of};
 use base_records::push_record;
-use file_sweeps::Group;
+use file_study::sweeps::Group;
 use itoa::Buffer;
 use model_line::{Line, Memory};
 use std::alloc::Global;

@@ -8,7 +8,7 @@ ghost use Rattle.call_verdicts.specs.Stretches.{is_lost as verdict_is_lost};
 
 use crate::fields::times;
 use crate::verdict::{Verdict, is_held};
-use file_sweeps::Group;
+use file_study::sweeps::Group;
 use itoa::Buffer;
 use model_line::Memory;
 use std::alloc::Global;

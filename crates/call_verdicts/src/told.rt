@@ -1,11 +1,11 @@
 //! What a record tells of the place of a script.
 
 ghost use Rattle.std.specs.Prelude.{◌≡◌, ◌<◌, IfOk, Some, length};
-ghost use Rattle.file_sweeps.specs.Places.{place_in, place_values};
+ghost use Rattle.file_study.specs.sweeps.Places.{place_in, place_values};
 ghost use Rattle.call_verdicts.specs.Records.{fault_name, number_text, swept_text};
 
 use crate::fields::times;
-use file_sweeps::{Group, Place, place_of_script};
+use file_study::sweeps::{Group, Place, place_of_script};
 use itoa::Buffer;
 use model_line::Memory;
 use std::alloc::Global;

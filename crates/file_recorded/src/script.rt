@@ -3,14 +3,14 @@
 ghost use Rattle.std.specs.Prelude.{[], ◌∷◌, ◌<◌, IfOk, IsTrue, MatchOption, length, map as image};
 ghost use Rattle.model_line.specs.{Fits.deadline_fits, PlainNames.is_plain_name};
 ghost use Rattle.file_map.specs.Maps.{map_values};
-ghost use Rattle.file_sweeps.specs.Parts.{SaysScripts};
+ghost use Rattle.file_study.specs.sweeps.Parts.{SaysScripts};
 ghost use Rattle.file_tracks.specs.Tracks.{track_values};
 ghost use Rattle.file_recorded.specs.Spans.{script_told, spans_told as all_spans};
 
 use crate::spans::spans_told;
 use file_map::Map;
 use file_tables::script::print_scripts;
-use file_sweeps::printed_scripts_are_read_back;
+use file_study::sweeps::printed_scripts_are_read_back;
 use file_tracks::Track;
 use model_line::{Line, Memory, Script};
 use std::alloc::Global;

@@ -1,9 +1,2 @@
-pub mod Named
-pub mod Quotients
-pub mod Ends
-pub mod Flat
-pub mod Texts
-pub mod Steps
-pub mod Counts
-pub mod NewNames
-pub mod LineFaults
+pub mod study_lemmas
+pub mod sweeps_lemmas

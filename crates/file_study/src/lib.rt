@@ -1,28 +1,6 @@
-//! Studies: a line and its faults in one TOML file, with times in milliseconds, tolerances and
-//! swept times, read to a line and faults in ticks.
-//!
-//! `specs/Studies.antt` says what a study says. Its line is that of a line file, whose table stands
-//! in `specs/LineTables.antt`.
+//! Studies: `study`, a line and its faults in one TOML file, with times in milliseconds, read to both in
+//! ticks; `sweeps`, the scripts that the faults come to.
 #![tactic(auto)]
 
-mod fault;
-mod faults;
-mod keys;
-mod line;
-mod path;
-mod print;
-mod read;
-mod settings;
-mod shows;
-mod stage;
-mod study;
-mod ticks;
-mod units;
-
-pub use fault::StudyFault;
-pub use path::Path;
-pub use print::line_text;
-pub use read::read_study;
-pub use stage::{Shown, Stage, SweptFault};
-pub use study::Study;
-pub use units::Units;
+pub mod study;
+pub mod sweeps;

@@ -1,14 +1,27 @@
-//! A study as a value.
+//! Studies: a line and its faults in one TOML file, with times in milliseconds, tolerances and
+//! swept times, read to a line and faults in ticks.
+//!
+//! `specs/Studies.antt` says what a study says. Its line is that of a line file, whose table stands
+//! in `specs/LineTables.antt`.
 
-use crate::stage::SweptFault;
-use crate::units::Units;
-use model_line::Line;
+mod fault;
+mod faults;
+mod keys;
+mod line;
+mod path;
+mod print;
+mod read;
+mod settings;
+mod shows;
+mod stage;
+mod study;
+mod ticks;
+mod units;
 
-/// What a study file says: a title, the units of its times, a line, and 1 to 1,000 faults of it.
-#[derive(Drop)]
-pub struct Study {
-    pub title: String,
-    pub units: Units,
-    pub line: Line,
-    pub faults: Vec<SweptFault>,
-}
+pub use fault::StudyFault;
+pub use path::Path;
+pub use print::line_text;
+pub use read::read_study;
+pub use stage::{Shown, Stage, SweptFault};
+pub use study::Study;
+pub use units::Units;

@@ -1,6 +1,6 @@
 use Rattle.std.proofs.Common.{inr, map}
 use Rattle.std.proofs.lemmas.Result.{IfOk-weaker}
-use Rattle.file_study.specs.Faults.{fault_values}
+use Rattle.file_study.specs.study.Faults.{fault_values}
 use Rattle.call_lint.specs.Outcomes.{IsFaultsLinted, IsStudyLinted}
 use Rattle.call_lint.proofs.study.lint_study.Goals as goal
 

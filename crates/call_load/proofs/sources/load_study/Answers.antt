@@ -1,6 +1,6 @@
 use Rattle.std.proofs.Common.{refl}
 use Rattle.std.proofs.lemmas.Result.{err_from_is_err_and}
-use Rattle.file_study.specs.Studies.{study_values}
+use Rattle.file_study.specs.study.Studies.{study_values}
 use Rattle.call_load.specs.Loaded.{StudySays}
 use Rattle.call_load.proofs.Loading.{scripts_halts, study_halts}
 use Rattle.call_load.proofs.sources.load_study.Goals as goal

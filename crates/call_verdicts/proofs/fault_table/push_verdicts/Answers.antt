@@ -9,7 +9,7 @@ use Rattle.model_line.specs.declared.line.Terminal.{Terminal}
 use Rattle.model_line.specs.Parameters.{terminal_count}
 use Rattle.model_line.specs.NamesByNumber.{terminal_name}
 use Rattle.judge_report.specs.ReportText.{kind_word}
-use Rattle.file_sweeps.specs.declared.group.Group.{Group}
+use Rattle.file_study.specs.declared.sweeps.group.Group.{Group}
 use Rattle.call_verdicts.specs.Faults.{fault_record}
 use Rattle.call_verdicts.specs.Records.{margin_text, trip_text}
 use Rattle.call_verdicts.specs.Stretches.{is_held, place_label, stretches, values_label}

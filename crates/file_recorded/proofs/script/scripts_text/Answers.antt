@@ -6,7 +6,7 @@ use Rattle.model_line.specs.declared.script.{Script.Script, SeenSpan.SeenSpan}
 use Rattle.file_map.specs.Maps.{map_values}
 use Rattle.file_tables.specs.script.Printed.{file_records, records_text}
 use Rattle.file_tables.specs.{script.SoFar.ValuesFit, script.Values.AreOfOneFile, script.Values.ScriptValues, script.Values.values_of}
-use Rattle.file_sweeps.specs.Parts.{SaysScripts}
+use Rattle.file_study.specs.sweeps.Parts.{SaysScripts}
 use Rattle.file_tracks.specs.Tracks.{TrackValues, track_values}
 use Rattle.file_recorded.specs.Spans.{script_told}
 use Rattle.file_recorded.proofs.Fitting.{told_fit}

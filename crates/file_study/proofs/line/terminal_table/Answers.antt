@@ -1,8 +1,0 @@
-use Rattle.std.proofs.Common.{refl}
-use Rattle.toml.specs.Data.{no_members}
-use Rattle.file_study.proofs.line.terminal_table.Goals as goal
-
-pub returns : goal.returns
-returns c =
-    let name = c.with_text-table.ensures no_members (rw c.new.ensures.empty refl) in
-    rw (← c.text_of_name-name.ensures) (c.with_owner.ensures _ name)

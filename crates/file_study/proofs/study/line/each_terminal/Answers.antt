@@ -1,0 +1,48 @@
+use Rattle.std.proofs.Common.{◌∷◌, [], map, sym, ◌∙◌}
+use Rattle.std.proofs.lemmas.Result.{err_from_is_err_and}
+use Rattle.std.proofs.lemmas.List.{drop_all, map-append}
+use Rattle.std.specs.Prelude.{option_map}
+use Rattle.toml.specs.View.{view, table_view}
+use Rattle.toml.specs.declared.value.Value.{Table}
+use Rattle.toml.proofs.Views.{view-Table}
+use Rattle.file_study.specs.study.LineTables.{tables_of, terminal_members}
+use Rattle.file_study.proofs.{study_lemmas.Ends.fails_ends, study_lemmas.Steps.tables_more}
+use Rattle.file_study.proofs.study.line.each_terminal.Goals as goal
+
+pub returns-in_err-table : goal.returns-in_err-table
+returns-in_err-table c =
+    let told = err_from_is_err_and c.from_residual.result c.from_residual.ensures.1 in
+    let more = tables_more
+    (terminal_members c.args.units (option_map (λ t. table_view t.now) c.args.defaults)
+    (option_map (λ t. table_view t.now) c.args.own))
+    c.args.terminals.now c.loop-terminal.terminal-index c.terminal-item.result
+    (map view c.loop-terminal.tables.items)
+    c.loop-terminal-test.true in
+    let here = rw (← c.terminal-item.is) at more in
+    rw (told.1, told.2)
+    (fails_ends c.in_err-table.field-0.0 _ _ _ c.in_err-table.ensures
+    (here ∙ c.loop-terminal.invariant))
+
+pub loop-terminal-preserved : goal.loop-terminal-preserved
+loop-terminal-preserved c =
+    let more = tables_more
+    (terminal_members c.args.units (option_map (λ t. table_view t.now) c.args.defaults)
+    (option_map (λ t. table_view t.now) c.args.own))
+    c.args.terminals.now c.loop-terminal.terminal-index c.terminal-item.result
+    (map view c.loop-terminal.tables.items)
+    c.loop-terminal-test.true in
+    let here = rw (← c.terminal-item.is) at more in
+    let next = rw c.in_ok-table.ensures at here in
+    rw (
+      c.in_ok-push.ensures.items,
+      map-append view c.loop-terminal.tables.items (Table c.in_ok-table.table ∷ []),
+      view-Table,
+    )
+    (next ∙ c.loop-terminal.invariant)
+
+pub returns : goal.returns
+unfolding tables_of
+returns c =
+    let none = drop_all c.loop-terminal.terminal-index c.args.terminals.now
+    c.loop-terminal-test.false in
+    sym (rw none at c.loop-terminal.invariant)

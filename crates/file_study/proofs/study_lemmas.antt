@@ -1,0 +1,9 @@
+pub mod Named
+pub mod Quotients
+pub mod Ends
+pub mod Flat
+pub mod Texts
+pub mod Steps
+pub mod Counts
+pub mod NewNames
+pub mod LineFaults

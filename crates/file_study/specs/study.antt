@@ -1,0 +1,12 @@
+pub mod PathBytes
+pub mod Paths
+pub mod Reading
+pub mod Keys
+pub mod Rounding
+pub mod Moments
+pub mod Settings
+pub mod LineTables
+pub mod Shows
+pub mod Faults
+pub mod Studies
+pub mod FaultWords

@@ -1,0 +1,172 @@
+-- The line file that a study comes to.
+use Rattle.std.specs.Prelude.{◌==◌, ◌++◌, ◌+◌, ℕ, Bool, false, List, [], ◌∷◌, Option}
+use Rattle.std.specs.Prelude.{Result, Ok, Err, map, length, pos, codes, if◌then◌else◌, true}
+use Rattle.toml.specs.Data.{Data, string, integer, boolean, array, table, Members, Items, no_items}
+use Rattle.toml.specs.Data.{item, get_member}
+use Rattle.toml.specs.View.{items_of}
+use Rattle.model_line.specs.{declared.line.Terminal.Terminal, declared.line.Channel.Channel}
+use Rattle.model_line.specs.{PlainNames.is_plain_name, ParamNames.name_at, ParamNames.pair_name}
+use Rattle.base_records.specs.Gives.{◌>>=◌}
+use Rattle.file_line.specs.{Canonical.table_of, Canonical.put_all, Lines.LineValues}
+use Rattle.file_line.specs.{LineFiles.line_in}
+use Rattle.file_line.specs.declared.fault.LineFault.{LineFault}
+use Rattle.file_line.specs.declared.fault.LineFault.TheVariants as line_fault
+use Rattle.file_study.specs.declared.study.fault.StudyFault.{StudyFault}
+use Rattle.file_study.specs.declared.study.fault.StudyFault.TheVariants as fault
+use Rattle.file_study.specs.declared.study.units.Units.{Units}
+use Rattle.file_study.specs.study.Keys.{number_at, number_or_none, text_in, text_at, flag_or_false}
+use Rattle.file_study.specs.study.Keys.{array_at, table_or_none, none_unknown, counted}
+use Rattle.file_study.specs.{study.Paths.under, study.Paths.numbered, study.Settings.put_section, study.Moments.instant_of}
+
+-- The table of settings under a key at the top, if there is one, which has only these keys.
+-- `[default.terminal]` and `[default.channel]` are under `default`; `[terminal.X]` and
+-- `[channel."X>Y"]` have what differs.
+unfoldable pub section_at : List ℕ → List (List ℕ) → Members → Result (Option Members) StudyFault
+section_at key known top = do
+  section ← table_or_none (under [] key) (get_member key top)
+  _ ← none_unknown (under [] key) known section
+  Ok section
+
+-- What an owner is by default, and what differs: a table stands for the whole table of that name.
+unfoldable pub owner_members : Units → Option Members → List ℕ → Option Members → List ℕ → Members
+    → Result Members StudyFault
+owner_members units defaults kind own name start = do
+  base ← put_section units (under [] (codes "default")) kind defaults start
+  put_section units (under [] kind) name own base
+
+-- a terminal
+abbrev pub terminal_members : Units → Option Members → Option Members → Terminal
+    → Result Members StudyFault
+terminal_members units defaults own t =
+    owner_members units defaults (codes "terminal") own t.name
+    (table_of ((codes "name", string t.name) ∷ []))
+
+-- a channel
+abbrev pub channel_members : Units → Option Members → Option Members → List Terminal → Channel
+    → Result Members StudyFault
+channel_members units defaults own ts c =
+    owner_members units defaults (codes "channel") own (pair_name ts c)
+    (table_of ((codes "from", string (name_at ts c.from))
+    ∷ (codes "to", string (name_at ts c.to)) ∷ []))
+
+-- a table for each of these, behind those that are there
+unfoldable pub tables_of : {X : Type 0} → (X → Result Members StudyFault) → List X → List Data
+    → Result (List Data) StudyFault
+tables_of members [] done = Ok done
+tables_of members (x ∷ xs) done = do
+  ms ← members x
+  tables_of members xs (done ++ table ms ∷ [])
+
+-- the terminals by their names, which are plain
+abbrev pub plain_name : List ℕ → List ℕ → Result (List ℕ) StudyFault
+plain_name path name = if is_plain_name name then Ok name else Err (fault.BadName path)
+
+unfoldable pub terminals_in : List ℕ → ℕ → Items → List Terminal → Result (List Terminal) StudyFault
+terminals_in path i no_items done = Ok done
+terminals_in path i (item d ds) done = do
+  text ← text_in (numbered path i) d
+  name ← plain_name (numbered path i) text
+  terminals_in path (i + 1) ds (done ++ record { name = name; weak = false; guard = false } ∷ [])
+
+-- two or three of them
+unfoldable pub terminals_of : Members → Result (List Terminal) StudyFault
+terminals_of top = do
+  all ← array_at [] (codes "terminals") top
+  ds ← counted (under [] (codes "terminals")) 2 3 all
+  terminals_in (under [] (codes "terminals")) 0 ds []
+
+-- a channel for each ordered pair of terminals, by sender and then by receiver
+abbrev pub channels_for : ℕ → List Channel
+channels_for n =
+    if n == 2 then record { from = 0; to = 1 } ∷ record { from = 1; to = 0 } ∷ []
+    else record { from = 0; to = 1 } ∷ record { from = 0; to = 2 } ∷ record { from = 1; to = 0 }
+    ∷ record { from = 1; to = 2 } ∷ record { from = 2; to = 0 } ∷ record { from = 2; to = 1 } ∷ []
+
+abbrev pub channels_of : List Terminal → List Channel
+channels_of ts = channels_for (length ts)
+
+-- a table for each terminal
+unfoldable pub terminal_tables : Units → Option Members → List Terminal → Members
+    → Result (List Data) StudyFault
+terminal_tables units defaults ts top = do
+  own ← section_at (codes "terminal") (map (λ t. t.name) ts) top
+  tables_of (terminal_members units defaults own) ts []
+
+-- a table for each channel
+unfoldable pub channel_tables : Units → Option Members → List Terminal → Members
+    → Result (List Data) StudyFault
+channel_tables units defaults ts top = do
+  own ← section_at (codes "channel") (map (pair_name ts) (channels_of ts)) top
+  tables_of (channel_members units defaults own ts) (channels_of ts) []
+
+-- how many microseconds a tick has, and how many hertz the system
+unfoldable pub units_of : Members → Result Units StudyFault
+units_of top = do
+  tick_us ← number_at [] (codes "tick_us") 1 1000000 top
+  hertz ← number_or_none (under [] (codes "frequency_hz")) 1 1000
+      (get_member (codes "frequency_hz") top)
+  Ok (record { tick_us = tick_us; hertz = hertz })
+
+-- the horizon, rounded up
+unfoldable pub horizon_of : Units → Members → Result ℕ StudyFault
+horizon_of units top = do
+  text ← text_at [] (codes "horizon") top
+  instant_of true units (under [] (codes "horizon")) text
+
+-- what stands at the top of the line file, which has version 1
+abbrev pub head_pairs : Units → ℕ → List ℕ → Bool → List (List ℕ × Data)
+head_pairs units horizon scheme zone1_trip =
+    (codes "version", integer (pos 1))
+    ∷ (codes "tick_us", integer (pos units.tick_us))
+    ∷ (codes "horizon", integer (pos horizon))
+    ∷ (codes "scheme", string scheme)
+    ∷ (codes "zone1_trip", boolean zone1_trip) ∷ []
+
+abbrev pub table_pairs : List Data → List Data → List (List ℕ × Data)
+table_pairs terminals channels =
+    (codes "terminal", array (items_of terminals)) ∷ (codes "channel", array (items_of channels))
+    ∷ []
+
+-- the head of the line file
+unfoldable pub line_head : Units → Members → Result Members StudyFault
+line_head units top = do
+  horizon ← horizon_of units top
+  scheme ← text_at [] (codes "scheme") top
+  zone1_trip ← flag_or_false (under [] (codes "zone1_trip")) (get_member (codes "zone1_trip") top)
+  Ok (table_of (head_pairs units horizon scheme zone1_trip))
+
+-- the line file of a study, as a table
+unfoldable pub line_table : Units → Members → Result Members StudyFault
+line_table units top = do
+  head ← line_head units top
+  ts ← terminals_of top
+  defaults ← section_at (codes "default") (codes "terminal" ∷ codes "channel" ∷ []) top
+  terminals ← terminal_tables units defaults ts top
+  channels ← channel_tables units defaults ts top
+  Ok (put_all (table_pairs terminals channels) head)
+
+-- a place in the line file
+abbrev pub in_line : List ℕ → List ℕ
+in_line path = under (under [] (codes "line")) path
+
+-- a fault of the line file is one of the study
+abbrev pub as_study : LineFault → StudyFault
+as_study line_fault.NotToml = fault.NotToml
+as_study (line_fault.Unknown path) = fault.Unknown (in_line path)
+as_study (line_fault.Missing path) = fault.Missing (in_line path)
+as_study (line_fault.WrongKind path) = fault.WrongKind (in_line path)
+as_study (line_fault.Range path) = fault.Range (in_line path)
+as_study (line_fault.BadName path) = fault.BadName (in_line path)
+as_study (line_fault.Twice path) = fault.Twice (in_line path)
+as_study (line_fault.Channels from to) = fault.Missing (in_line from)
+as_study line_fault.Memory = fault.Memory
+
+abbrev pub as_line : Result LineValues LineFault → Result LineValues StudyFault
+as_line (Ok line) = Ok line
+as_line (Err why) = Err (as_study why)
+
+-- the line of a study: that of its line file
+unfoldable pub line_of_study : Units → Members → Result LineValues StudyFault
+line_of_study units top = do
+  ms ← line_table units top
+  as_line (line_in ms)

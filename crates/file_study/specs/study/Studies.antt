@@ -1,0 +1,62 @@
+-- What a study says.
+use Rattle.std.specs.Prelude.{◌≡◌, ℕ, List, [], ◌∷◌, Result, Ok, Err, codes, map, string_bytes}
+use Rattle.toml.specs.Data.{Members}
+use Rattle.base_records.specs.Gives.{◌>>=◌}
+use Rattle.file_line.specs.{Keys.document_of, Lines.LineValues, Lines.line_values}
+use Rattle.file_line.specs.{LineFiles.line_of}
+use Rattle.file_study.specs.declared.study.fault.StudyFault.{StudyFault}
+use Rattle.file_study.specs.declared.study.units.Units.{Units}
+use Rattle.file_study.specs.declared.study.study.Study.{Study}
+use Rattle.file_study.specs.study.Keys.{opened, all_known, number_at, text_at, array_at, counted}
+use Rattle.file_study.specs.{study.Paths.under, study.LineTables.units_of, study.LineTables.line_of_study}
+use Rattle.file_study.specs.study.Faults.{FaultValues, fault_values, faults_in}
+
+-- the keys at the top of a study
+abbrev pub top_keys : List (List ℕ)
+top_keys =
+    codes "study" ∷ codes "title" ∷ codes "tick_us" ∷ codes "frequency_hz" ∷ codes "horizon"
+    ∷ codes "scheme" ∷ codes "zone1_trip" ∷ codes "terminals" ∷ codes "default"
+    ∷ codes "terminal" ∷ codes "channel" ∷ codes "fault" ∷ []
+
+-- A study: its title, its units of time, its line and its faults.
+pub record StudyValues : Type 0 where
+  pub title : List ℕ
+  pub units : Units
+  pub line : LineValues
+  pub faults : List FaultValues
+
+-- what the code holds of it
+abbrev pub study_values : Study → StudyValues
+study_values s = record {
+  title = string_bytes s.title;
+  units = s.units;
+  line = line_values s.line;
+  faults = map fault_values s.faults.items;
+}
+
+-- the faults, 1 to 1,000
+unfoldable pub faults_of : Units → LineValues → Members → Result (List FaultValues) StudyFault
+faults_of units line top = do
+  all ← array_at [] (codes "fault") top
+  ds ← counted (under [] (codes "fault")) 1 1000 all
+  faults_in units line (under [] (codes "fault")) 0 ds []
+
+-- what a document says
+unfoldable pub study_in : Members → Result StudyValues StudyFault
+study_in top = do
+  version ← number_at [] (codes "study") 1 1 top
+  _ ← all_known [] top_keys top
+  title ← text_at [] (codes "title") top
+  units ← units_of top
+  line ← line_of_study units top
+  faults ← faults_of units line top
+  Ok (record { title = title; units = units; line = line; faults = faults })
+
+-- what these bytes say
+unfoldable pub study_of : List ℕ → Result StudyValues StudyFault
+study_of bytes = opened (document_of bytes) >>= study_in
+
+-- a text is a line file of the study's line
+abbrev pub HasLine : Result StudyValues StudyFault → List ℕ → Type 0
+HasLine (Ok study) text = line_of text ≡ Ok study.line
+HasLine (Err why) text = ⊥

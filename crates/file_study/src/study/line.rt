@@ -1,0 +1,481 @@
+//! The line of a study.
+
+ghost use Rattle.std.specs.Prelude.{◌≡◌, ◌<◌, ◌≤◌, ◌++◌, [], true, pos, Some, IfOk, map};
+ghost use Rattle.std.specs.Prelude.{option_map, length};
+ghost use Rattle.std.specs.Str.{IsUtf8};
+ghost use Rattle.toml.specs.{Data.Members, Data.string, Data.integer, View.view, View.table_view};
+ghost use Rattle.toml.specs.{View.items_view, Data.members_depth, Data.members_have_valid_dates};
+ghost use Rattle.model_line.specs.{Terminals.are_plain_names, PlainNames.is_plain_name};
+ghost use Rattle.model_line.specs.{ParamNames.pair_name};
+ghost use Rattle.file_line.specs.{Canonical.table_of, Canonical.put_member, Lines.line_values};
+ghost use Rattle.file_line.specs.{Keys.document_of};
+ghost use Rattle.file_study.specs.study.Reading.{Gives, seen};
+ghost use Rattle.file_study.specs.study.LineTables.{terminals_of, terminals_in, plain_name};
+ghost use Rattle.file_study.specs.study.LineTables.{channels_of, channels_for, units_of, horizon_of};
+ghost use Rattle.file_study.specs.study.LineTables.{section_at, terminal_tables, channel_tables, in_line};
+ghost use Rattle.file_study.specs.study.LineTables.{tables_of};
+ghost use Rattle.file_study.specs.study.LineTables.{owner_members, terminal_members, channel_members};
+ghost use Rattle.file_study.specs.study.LineTables.{line_head, line_table, line_of_study, as_study};
+ghost use Rattle.file_study.specs.study.LineTables.{head_pairs};
+
+use crate::study::fault::StudyFault;
+use crate::study::keys::{
+    counted, find, flag, items, number, only_in, optional_number, optional_table, text, text_of,
+};
+use crate::study::path::Path;
+use crate::study::settings::{put, put_section};
+use crate::study::ticks::instant;
+use crate::study::units::Units;
+use file_line::{LineFault, read_line};
+use model_line::{Channel, Line, Memory, Name, Terminal, channel_name, is_plain};
+use std::alloc::Global;
+use toml::ser::Error;
+use toml::{Table, Value};
+
+const TWO_WAYS: &[Channel] = &[Channel { from: 0, to: 1 }, Channel { from: 1, to: 0 }];
+
+const SIX_WAYS: &[Channel] = &[
+    Channel { from: 0, to: 1 },
+    Channel { from: 0, to: 2 },
+    Channel { from: 1, to: 0 },
+    Channel { from: 1, to: 2 },
+    Channel { from: 2, to: 0 },
+    Channel { from: 2, to: 1 },
+];
+
+// The table of settings under a key at the top, if there is one.
+#[tactic(auto, unfolding(crate::specs::study::LineTables::section_at))]
+fn section<'a>(
+    key: &str,
+    known: &[&str],
+    names: &[Name],
+    top: &'a Table,
+) -> Result<Option<&'a Table>, StudyFault>
+    ensures { seen (option_map (λ t. table_view t.now)) result
+        ≡ section_at key.now (map (λ name. name.now) known.now ++ names.now) (table_view top.now) }
+{
+    let path = Path::root().key(key.as_bytes());
+    let section = optional_table(path, find(top, key))?;
+    only_in(path, known, names, section)?;
+    Ok(section)
+}
+
+// A table with a value under one more key, where there was memory for the table.
+fn with(
+    alloc: Global,
+    table: Result<Table, Memory>,
+    key: &str,
+    value: Value,
+) -> Result<Table, Memory>
+    ensures { (ms : Members) → IfOk table (λ t. table_view t ≡ ms)
+        → IfOk result (λ t. table_view t ≡ put_member key.now (view value) ms) }
+{
+    let mut table = table?;
+    put(alloc, &mut table, key, value)?;
+    Ok(table)
+}
+
+fn with_text(
+    alloc: Global,
+    table: Result<Table, Memory>,
+    key: &str,
+    text: &str,
+) -> Result<Table, Memory>
+    ensures { (ms : Members) → IfOk table (λ t. table_view t ≡ ms)
+        → IfOk result (λ t. table_view t ≡ put_member key.now (string text.now) ms) }
+{
+    let value = Value::string(alloc, text)?;
+    with(alloc, table, key, value)
+}
+
+// A plain name.
+fn plain_name(path: Path, text: &str) -> Result<Name, StudyFault>
+    ensures is { result ≡ plain_name path text.now }
+    ensures plain { IfOk result (λ n. is_plain_name n ≡ true) }
+{
+    if is_plain(text.as_bytes()) {
+        Ok(Name::plain(text.as_bytes()))
+    } else {
+        Err(StudyFault::BadName(path))
+    }
+}
+
+// The terminals of these names, one after another.
+fn terminals_in(alloc: Global, path: Path, names: &[Value]) -> Result<Vec<Terminal>, StudyFault>
+    ensures terminals { Gives (λ v. v.items) result
+        (terminals_in path 0 (items_view names.now) []) }
+    ensures plain { IfOk result (λ v. are_plain_names v.items ≡ true) }
+    ensures count { IfOk result (λ v. length v.items ≡ length names.now) }
+{
+    let mut terminals = Vec::new(alloc);
+    for (i, value) in names.iter().enumerate() {
+        let text = text_of(path.item(i), value)?;
+        let name = plain_name(path.item(i), text)?;
+        terminals.push(Terminal {
+            name,
+            weak: false,
+            guard: false,
+        })?;
+    }
+    Ok(terminals)
+}
+
+// The terminals: two or three.
+#[tactic(auto, unfolding(crate::specs::study::LineTables::terminals_of))]
+fn terminals(alloc: Global, top: &Table) -> Result<Vec<Terminal>, StudyFault>
+    ensures terminals { Gives (λ v. v.items) result (terminals_of (table_view top.now)) }
+    ensures plain { IfOk result (λ v. are_plain_names v.items ≡ true) }
+    ensures count { IfOk result (λ v. (2 ≤ length v.items) × (length v.items ≤ 3)) }
+{
+    let path = Path::root().key(b"terminals");
+    let names = counted(path, 2, 3, items(Path::root(), "terminals", top)?)?;
+    terminals_in(alloc, path, names)
+}
+
+// A channel for each ordered pair of terminals.
+fn channels(count: usize) -> &'static [Channel]
+    ensures { result.now ≡ channels_for count }
+{
+    if count == 2 { TWO_WAYS } else { SIX_WAYS }
+}
+
+// What an owner is by default, and what differs, behind what a table has.
+#[tactic(auto, unfolding(crate::specs::study::LineTables::owner_members))]
+fn with_owner(
+    alloc: Global,
+    units: Units,
+    defaults: Option<&Table>,
+    kind: &str,
+    own: Option<&Table>,
+    name: &str,
+    table: Result<Table, Memory>,
+) -> Result<Table, StudyFault>
+    requires { 0 < units.tick_us }
+    ensures { (ms : Members) → IfOk table (λ t. table_view t ≡ ms)
+        → Gives table_view result
+        (owner_members units (option_map (λ t. table_view t.now) defaults.entry) kind.now
+        (option_map (λ t. table_view t.now) own.entry) name.now ms) }
+{
+    let mut table = table?;
+    let path = Path::root().key(b"default");
+    put_section(alloc, units, path, kind, defaults, &mut table)?;
+    let path = Path::root().key(kind.as_bytes());
+    put_section(alloc, units, path, name, own, &mut table)?;
+    Ok(table)
+}
+
+/// A plain name as a text.
+pub fn text_of_name(name: &Name) -> &str
+    requires { is_plain_name name.now ≡ true }
+    ensures { result.now ≡ name.now }
+{
+    match std::str::from_utf8(name.bytes()) {
+        Ok(text) => text,
+        Err(_) => unreachable!(),
+    }
+}
+
+// The table of a terminal.
+fn terminal_table(
+    alloc: Global,
+    units: Units,
+    defaults: Option<&Table>,
+    own: Option<&Table>,
+    terminal: Terminal,
+) -> Result<Table, StudyFault>
+    requires tick { 0 < units.tick_us }
+    requires plain { is_plain_name terminal.name ≡ true }
+    ensures { Gives table_view result
+        (terminal_members units (option_map (λ t. table_view t.now) defaults.entry)
+        (option_map (λ t. table_view t.now) own.entry) terminal) }
+{
+    let name = text_of_name(&terminal.name);
+    let table = with_text(alloc, Ok(Table::new(alloc)), "name", name);
+    with_owner(alloc, units, defaults, "terminal", own, name, table)
+}
+
+// A channel's name as a text.
+fn text_of_channel(name: &Name) -> &str
+    requires { IsUtf8 name.now }
+    ensures { result.now ≡ name.now }
+{
+    match std::str::from_utf8(name.bytes()) {
+        Ok(text) => text,
+        Err(_) => unreachable!(),
+    }
+}
+
+// The table of a channel.
+fn channel_table(
+    alloc: Global,
+    units: Units,
+    defaults: Option<&Table>,
+    own: Option<&Table>,
+    terminals: &[Terminal],
+    channel: Channel,
+) -> Result<Table, StudyFault>
+    requires tick { 0 < units.tick_us }
+    requires plain { are_plain_names terminals.now ≡ true }
+    requires from { channel.from < length terminals.now }
+    requires to { channel.to < length terminals.now }
+    ensures { Gives table_view result
+        (channel_members units (option_map (λ t. table_view t.now) defaults.entry)
+        (option_map (λ t. table_view t.now) own.entry) terminals.now channel) }
+{
+    let name = channel_name(terminals, channel);
+    let from = text_of_name(&terminals[channel.from as usize].name);
+    let table = with_text(alloc, Ok(Table::new(alloc)), "from", from);
+    let to = text_of_name(&terminals[channel.to as usize].name);
+    let table = with_text(alloc, table, "to", to);
+    let key = text_of_channel(&name);
+    with_owner(alloc, units, defaults, "channel", own, key, table)
+}
+
+// A table for each terminal.
+#[tactic(auto, unfolding(crate::specs::study::LineTables::terminal_tables))]
+fn terminal_tables(
+    alloc: Global,
+    units: Units,
+    defaults: Option<&Table>,
+    terminals: &[Terminal],
+    top: &Table,
+) -> Result<Vec<Value>, StudyFault>
+    requires tick { 0 < units.tick_us }
+    requires plain { are_plain_names terminals.now ≡ true }
+    ensures { Gives (λ vs. map view vs.items) result
+        (terminal_tables units (option_map (λ t. table_view t.now) defaults.entry) terminals.now
+        (table_view top.now)) }
+{
+    let names = terminal_names(alloc, terminals)?;
+    let own = section("terminal", &[], &names, top)?;
+    each_terminal(alloc, units, defaults, own, terminals)
+}
+
+fn each_terminal(
+    alloc: Global,
+    units: Units,
+    defaults: Option<&Table>,
+    own: Option<&Table>,
+    terminals: &[Terminal],
+) -> Result<Vec<Value>, StudyFault>
+    requires tick { 0 < units.tick_us }
+    requires plain { are_plain_names terminals.now ≡ true }
+    ensures { Gives (λ vs. map view vs.items) result
+        (tables_of (terminal_members units (option_map (λ t. table_view t.now) defaults.entry)
+        (option_map (λ t. table_view t.now) own.entry)) terminals.now []) }
+{
+    let mut tables = Vec::new(alloc);
+    for terminal in terminals {
+        let table = terminal_table(alloc, units, defaults, own, *terminal)?;
+        tables.push(Value::Table(table))?;
+    }
+    Ok(tables)
+}
+
+/// The names of the terminals.
+pub fn terminal_names(alloc: Global, terminals: &[Terminal]) -> Result<Vec<Name>, Memory>
+    ensures { IfOk result (λ names. names.items ≡ map (λ t. t.name) terminals.now) }
+{
+    let mut names = Vec::new(alloc);
+    for terminal in terminals {
+        names.push(terminal.name)?;
+    }
+    Ok(names)
+}
+
+// A table for each channel.
+#[tactic(auto, unfolding(crate::specs::study::LineTables::channel_tables))]
+fn channel_tables(
+    alloc: Global,
+    units: Units,
+    defaults: Option<&Table>,
+    terminals: &[Terminal],
+    top: &Table,
+) -> Result<Vec<Value>, StudyFault>
+    requires tick { 0 < units.tick_us }
+    requires plain { are_plain_names terminals.now ≡ true }
+    requires count { (2 ≤ length terminals.now) × (length terminals.now ≤ 3) }
+    ensures { Gives (λ vs. map view vs.items) result
+        (channel_tables units (option_map (λ t. table_view t.now) defaults.entry) terminals.now
+        (table_view top.now)) }
+{
+    let names = channel_names(alloc, terminals)?;
+    let own = section("channel", &[], &names, top)?;
+    each_channel(
+        alloc,
+        units,
+        defaults,
+        own,
+        terminals,
+        channels(terminals.len()),
+    )
+}
+
+fn each_channel(
+    alloc: Global,
+    units: Units,
+    defaults: Option<&Table>,
+    own: Option<&Table>,
+    terminals: &[Terminal],
+    channels: &[Channel],
+) -> Result<Vec<Value>, StudyFault>
+    requires tick { 0 < units.tick_us }
+    requires plain { are_plain_names terminals.now ≡ true }
+    requires count { (2 ≤ length terminals.now) × (length terminals.now ≤ 3) }
+    requires channels { channels.now ≡ channels_of terminals.now }
+    ensures { Gives (λ vs. map view vs.items) result
+        (tables_of (channel_members units (option_map (λ t. table_view t.now) defaults.entry)
+        (option_map (λ t. table_view t.now) own.entry) terminals.now) channels.now []) }
+{
+    let mut tables = Vec::new(alloc);
+    for channel in channels {
+        let table = channel_table(alloc, units, defaults, own, terminals, *channel)?;
+        tables.push(Value::Table(table))?;
+    }
+    Ok(tables)
+}
+
+// The names of the channels.
+fn channel_names(alloc: Global, terminals: &[Terminal]) -> Result<Vec<Name>, Memory>
+    requires plain { are_plain_names terminals.now ≡ true }
+    requires count { (2 ≤ length terminals.now) × (length terminals.now ≤ 3) }
+    ensures { IfOk result (λ names. names.items
+        ≡ map (pair_name terminals.now) (channels_of terminals.now)) }
+{
+    let mut names = Vec::new(alloc);
+    for channel in channels(terminals.len()) {
+        names.push(channel_name(terminals, *channel))?;
+    }
+    Ok(names)
+}
+
+/// How many microseconds a tick has, and how many hertz the system.
+#[tactic(auto, unfolding(crate::specs::study::LineTables::units_of))]
+pub fn units(top: &Table) -> Result<Units, StudyFault>
+    ensures units { result ≡ units_of (table_view top.now) }
+    ensures tick { IfOk result (λ units. 0 < units.tick_us) }
+{
+    let tick_us = number(Path::root(), "tick_us", 1, 1_000_000, top)?;
+    let path = Path::root().key(b"frequency_hz");
+    let hertz = optional_number(path, 1, 1000, find(top, "frequency_hz"))?;
+    Ok(Units { tick_us, hertz })
+}
+
+// The horizon, rounded up.
+#[tactic(auto, unfolding(crate::specs::study::LineTables::horizon_of))]
+fn horizon(units: Units, top: &Table) -> Result<u32, StudyFault>
+    requires { 0 < units.tick_us }
+    ensures { result ≡ horizon_of units (table_view top.now) }
+{
+    let text = text(Path::root(), "horizon", top)?;
+    instant(true, units, Path::root().key(b"horizon"), text.as_bytes())
+}
+
+fn with_number(
+    alloc: Global,
+    table: Result<Table, Memory>,
+    key: &str,
+    number: u32,
+) -> Result<Table, Memory>
+    ensures { (ms : Members) → IfOk table (λ t. table_view t ≡ ms)
+        → IfOk result (λ t. table_view t ≡ put_member key.now (integer (pos number)) ms) }
+{
+    with(alloc, table, key, Value::Integer(i64::from(number)))
+}
+
+// What stands at the top of the line file.
+fn head(
+    alloc: Global,
+    units: Units,
+    horizon: u32,
+    scheme: &str,
+    zone1_trip: bool,
+) -> Result<Table, Memory>
+    ensures { IfOk result (λ t. table_view t
+        ≡ table_of (head_pairs units horizon scheme.now zone1_trip)) }
+{
+    let table = with_number(alloc, Ok(Table::new(alloc)), "version", 1);
+    let table = with_number(alloc, table, "tick_us", units.tick_us);
+    let table = with_number(alloc, table, "horizon", horizon);
+    let table = with_text(alloc, table, "scheme", scheme);
+    with(alloc, table, "zone1_trip", Value::Boolean(zone1_trip))
+}
+
+// The head of the line file.
+#[tactic(auto, unfolding(crate::specs::study::LineTables::line_head))]
+fn line_head(alloc: Global, units: Units, top: &Table) -> Result<Table, StudyFault>
+    requires { 0 < units.tick_us }
+    ensures { Gives table_view result (line_head units (table_view top.now)) }
+{
+    let horizon = horizon(units, top)?;
+    let scheme = text(Path::root(), "scheme", top)?;
+    let zone1_trip = flag(Path::root().key(b"zone1_trip"), find(top, "zone1_trip"))?;
+    Ok(head(alloc, units, horizon, scheme, zone1_trip)?)
+}
+
+// The line file of a study, as a table.
+#[tactic(auto, unfolding(crate::specs::study::LineTables::line_table))]
+fn line_table(alloc: Global, units: Units, top: &Table) -> Result<Table, StudyFault>
+    requires { 0 < units.tick_us }
+    ensures { Gives table_view result (line_table units (table_view top.now)) }
+{
+    let mut table = line_head(alloc, units, top)?;
+    let terminals = terminals(alloc, top)?;
+    let defaults = section("default", &["terminal", "channel"], &[], top)?;
+    let terminal_values = terminal_tables(alloc, units, defaults, &terminals, top)?;
+    let channel_values = channel_tables(alloc, units, defaults, &terminals, top)?;
+    put(alloc, &mut table, "terminal", Value::Array(terminal_values))?;
+    put(alloc, &mut table, "channel", Value::Array(channel_values))?;
+    Ok(table)
+}
+
+// The text of the line file.
+fn text_of_table(alloc: Global, table: &Table) -> Result<Vec<u8>, Memory>
+    requires shallow { members_depth (table_view table.now) ≤ 10 }
+    requires dated { members_have_valid_dates (table_view table.now) ≡ true }
+    ensures { IfOk result (λ v. document_of v.items ≡ Some (table_view table.now)) }
+{
+    match toml::table_to_string(alloc, table) {
+        Ok(text) => Ok(text.into_bytes()),
+        Err(Error::OutOfMemory) => Err(Memory),
+        Err(Error::DateInvalid) => unreachable!(),
+    }
+}
+
+// A place in the line file.
+fn in_line(path: &[u8]) -> Path
+    ensures { result ≡ in_line path.now }
+{
+    Path::root().key(b"line").key(path)
+}
+
+// A fault of the line file as one of the study.
+fn as_study(why: LineFault) -> StudyFault
+    ensures { result ≡ as_study why }
+{
+    match why {
+        LineFault::NotToml => StudyFault::NotToml,
+        LineFault::Unknown(path) => StudyFault::Unknown(in_line(path.bytes())),
+        LineFault::Missing(path) => StudyFault::Missing(in_line(path.bytes())),
+        LineFault::WrongKind(path) => StudyFault::WrongKind(in_line(path.bytes())),
+        LineFault::Range(path) => StudyFault::Range(in_line(path.bytes())),
+        LineFault::BadName(path) => StudyFault::BadName(in_line(path.bytes())),
+        LineFault::Twice(path) => StudyFault::Twice(in_line(path.bytes())),
+        LineFault::Channels(from, _) => StudyFault::Missing(in_line(from.bytes())),
+        LineFault::Memory => StudyFault::Memory,
+    }
+}
+
+/// The line of a study: that of its line file.
+#[tactic(auto, unfolding(crate::specs::study::LineTables::line_of_study))]
+pub fn line(alloc: Global, units: Units, top: &Table) -> Result<Line, StudyFault>
+    requires { 0 < units.tick_us }
+    ensures { Gives line_values result (line_of_study units (table_view top.now)) }
+{
+    let table = line_table(alloc, units, top)?;
+    let text = text_of_table(alloc, &table)?;
+    match read_line(alloc, &text) {
+        Ok(line) => Ok(line),
+        Err(why) => Err(as_study(why)),
+    }
+}

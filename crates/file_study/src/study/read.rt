@@ -1,0 +1,83 @@
+//! Reading a study.
+
+ghost use Rattle.std.specs.Prelude.{◌<◌, map};
+ghost use Rattle.toml.specs.View.{table_view};
+ghost use Rattle.file_line.specs.Lines.{line_values};
+ghost use Rattle.file_study.specs.study.Reading.{Gives};
+ghost use Rattle.file_study.specs.study.Faults.{fault_values};
+ghost use Rattle.file_study.specs.study.Studies.{study_values, faults_of, study_in, study_of};
+
+use crate::study::fault::StudyFault;
+use crate::study::faults::faults_in;
+use crate::study::keys::{counted, items, number, only, open, text};
+use crate::study::line::{line, terminal_names, units};
+use crate::study::path::Path;
+use crate::study::stage::SweptFault;
+use crate::study::study::Study;
+use crate::study::units::Units;
+use model_line::Line;
+use std::alloc::Global;
+use toml::Table;
+
+const TOP_KEYS: &[&str] = &[
+    "study",
+    "title",
+    "tick_us",
+    "frequency_hz",
+    "horizon",
+    "scheme",
+    "zone1_trip",
+    "terminals",
+    "default",
+    "terminal",
+    "channel",
+    "fault",
+];
+
+// The faults, 1 to 1,000.
+#[tactic(auto, unfolding(crate::specs::study::Studies::faults_of))]
+fn faults(
+    alloc: Global,
+    units: Units,
+    line: &Line,
+    top: &Table,
+) -> Result<Vec<SweptFault>, StudyFault>
+    requires { 0 < units.tick_us }
+    ensures { Gives (λ v. map fault_values v.items) result
+        (faults_of units (line_values line.now) (table_view top.now)) }
+{
+    let path = Path::root().key(b"fault");
+    let items = counted(path, 1, 1000, items(Path::root(), "fault", top)?)?;
+    let names = terminal_names(alloc, &line.terminals)?;
+    faults_in(alloc, units, line, &names, path, items)
+}
+
+#[tactic(auto, unfolding(crate::specs::study::Studies::study_in))]
+fn read_table(alloc: Global, top: &Table) -> Result<Study, StudyFault>
+    ensures { Gives study_values result (study_in (table_view top.now)) }
+{
+    number(Path::root(), "study", 1, 1, top)?;
+    only(Path::root(), TOP_KEYS, &[], top)?;
+    let title = text(Path::root(), "title", top)?;
+    let units = units(top)?;
+    let line = line(alloc, units, top)?;
+    let faults = faults(alloc, units, &line, top)?;
+    Ok(Study {
+        title: String::from_str(alloc, title)?,
+        units,
+        line,
+        faults,
+    })
+}
+
+/// The study of these bytes, or its first fault.
+///
+/// `NotToml` comes where the bytes are no TOML document. Every other fault but `Memory` tells the
+/// first place, in the order in which a study is read, that is not as it has to be.
+#[tactic(auto, unfolding(crate::specs::study::Studies::study_of))]
+pub fn read_study(alloc: Global, bytes: &[u8]) -> Result<Study, StudyFault>
+    ensures { Gives study_values result (study_of bytes.now) }
+{
+    let table = open(alloc, bytes)?;
+    read_table(alloc, &table)
+}

@@ -1,0 +1,154 @@
+//! The settings of a terminal or a channel as tables of a line file, with times in ticks.
+
+ghost use Rattle.std.specs.Prelude.{◌≡◌, ◌<◌, IfOk, OnOk, option_map};
+ghost use Rattle.toml.specs.{Data.no_members, View.view, View.table_view};
+ghost use Rattle.file_line.specs.Canonical.{put_member};
+ghost use Rattle.file_study.specs.study.Reading.{Gives, Becomes};
+ghost use Rattle.file_study.specs.study.Settings.{time_data, time_in, put_times, setting_in};
+ghost use Rattle.file_study.specs.study.Settings.{put_settings};
+ghost use Rattle.file_study.specs.study.Settings.{put_optional, put_section, ends_data};
+
+use crate::study::fault::StudyFault;
+use crate::study::keys::{find_in, optional_table};
+use crate::study::path::Path;
+use crate::study::ticks::bounds;
+use crate::study::units::Units;
+use model_line::{Bounds, Memory};
+use std::alloc::Global;
+use toml::{Table, Value};
+
+/// Puts a value under one more key.
+pub fn put(alloc: Global, table: &mut Table, key: &str, value: Value) -> Result<(), Memory>
+    ensures { OnOk result
+        (table_view table.new ≡ put_member key.now (view value) (table_view table.old)) }
+{
+    let key = String::from_str(alloc, key)?;
+    let _old = table.insert(key, value)?;
+    Ok(())
+}
+
+// A time in a line file: an array of its two ends.
+fn ends_value(alloc: Global, ends: Bounds) -> Result<Value, Memory>
+    ensures { IfOk result (λ v. view v ≡ ends_data ends) }
+{
+    let least = Value::Integer(i64::from(ends.least));
+    let greatest = Value::Integer(i64::from(ends.greatest));
+    Ok(Value::Array(Vec::from_array(alloc, [least, greatest])?))
+}
+
+// The time that a text says.
+#[tactic(auto, unfolding(crate::specs::study::Settings::time_data))]
+fn time_value(alloc: Global, units: Units, path: Path, text: &str) -> Result<Value, StudyFault>
+    requires { 0 < units.tick_us }
+    ensures { Gives view result (time_data units path text.now) }
+{
+    let ends = bounds(units, path, text.as_bytes())?;
+    Ok(ends_value(alloc, ends)?)
+}
+
+// A time, which is a text.
+fn time(alloc: Global, units: Units, path: Path, value: &Value) -> Result<Value, StudyFault>
+    requires { 0 < units.tick_us }
+    ensures { Gives view result (time_in units path (view value.now)) }
+{
+    match value {
+        Value::String(text) => time_value(alloc, units, path, text.as_str()),
+        _ => Err(StudyFault::WrongKind(path)),
+    }
+}
+
+// Puts these times, each under its key.
+fn put_times(
+    alloc: Global,
+    units: Units,
+    path: Path,
+    times: &Table,
+    table: &mut Table,
+) -> Result<(), StudyFault>
+    requires { 0 < units.tick_us }
+    ensures { Becomes result (table_view table.new)
+        (put_times units path (table_view times.now) (table_view table.old)) }
+{
+    for (key, value) in times {
+        let time = time(alloc, units, path.key(key.as_bytes()), value)?;
+        put(alloc, table, key.as_str(), time)?;
+    }
+    Ok(())
+}
+
+// A table of times.
+fn times(alloc: Global, units: Units, path: Path, times: &Table) -> Result<Table, StudyFault>
+    requires { 0 < units.tick_us }
+    ensures { Gives table_view result (put_times units path (table_view times.now) no_members) }
+{
+    let mut table = Table::new(alloc);
+    put_times(alloc, units, path, times, &mut table)?;
+    Ok(table)
+}
+
+// A setting: a time, or a table of times.
+fn setting(alloc: Global, units: Units, path: Path, value: &Value) -> Result<Value, StudyFault>
+    requires { 0 < units.tick_us }
+    ensures { Gives view result (setting_in units path (view value.now)) }
+{
+    match value {
+        Value::Table(table) => Ok(Value::Table(times(alloc, units, path, table)?)),
+        _ => time(alloc, units, path, value),
+    }
+}
+
+// Puts these settings; one takes the place of another that has its key.
+fn put_settings(
+    alloc: Global,
+    units: Units,
+    path: Path,
+    settings: &Table,
+    table: &mut Table,
+) -> Result<(), StudyFault>
+    requires { 0 < units.tick_us }
+    ensures { Becomes result (table_view table.new)
+        (put_settings units path (table_view settings.now) (table_view table.old)) }
+{
+    for (key, value) in settings {
+        let setting = setting(alloc, units, path.key(key.as_bytes()), value)?;
+        put(alloc, table, key.as_str(), setting)?;
+    }
+    Ok(())
+}
+
+fn put_optional(
+    alloc: Global,
+    units: Units,
+    path: Path,
+    settings: Option<&Table>,
+    table: &mut Table,
+) -> Result<(), StudyFault>
+    requires { 0 < units.tick_us }
+    ensures { Becomes result (table_view table.new)
+        (put_optional units path (option_map (λ t. table_view t.now) settings.entry)
+        (table_view table.old)) }
+{
+    match settings {
+        Some(settings) => put_settings(alloc, units, path, settings, table),
+        None => Ok(()),
+    }
+}
+
+/// Puts the settings of the table under a key of a table that may be absent.
+#[tactic(auto, unfolding(crate::specs::study::Settings::put_section))]
+pub fn put_section(
+    alloc: Global,
+    units: Units,
+    path: Path,
+    key: &str,
+    outer: Option<&Table>,
+    table: &mut Table,
+) -> Result<(), StudyFault>
+    requires { 0 < units.tick_us }
+    ensures { Becomes result (table_view table.new)
+        (put_section units path key.now (option_map (λ t. table_view t.now) outer.entry)
+        (table_view table.old)) }
+{
+    let settings = optional_table(path.key(key.as_bytes()), find_in(outer, key))?;
+    put_optional(alloc, units, path.key(key.as_bytes()), settings, table)
+}

@@ -1,0 +1,219 @@
+//! What a stage of a fault shows.
+
+ghost use Rattle.std.specs.Prelude.{◌≡◌, ◌<◌, ◌≤◌, true, length};
+ghost use Rattle.std.specs.List.{before_first, after_first};
+ghost use Rattle.toml.specs.View.{view, table_view, items_view};
+ghost use Rattle.file_line.specs.Lines.{line_values};
+ghost use Rattle.file_study.specs.study.Reading.{Gives, Becomes};
+ghost use Rattle.model_line.specs.{PlainNames.is_plain_name, Terminals.are_plain_names};
+ghost use Rattle.file_study.specs.study.Shows.{element_of, element_in, is_space, shift_in, shown_in};
+ghost use Rattle.file_study.specs.study.Shows.{all_shown, terminal_shows, terminals_show};
+ghost use Rattle.file_study.specs.study.Shows.{channel_called, channel_in, lost_in, all_lost, shows_of};
+
+use crate::study::fault::StudyFault;
+use crate::study::keys::{find, optional_items, text_of};
+use crate::study::line::text_of_name;
+use crate::study::path::Path;
+use crate::study::stage::Shown;
+use crate::study::ticks::instant;
+use crate::study::units::Units;
+use base_text::lines::find_byte;
+use model_line::{Element, Line, Place, Terminal, What};
+use model_names::channel_of_name;
+use std::alloc::Global;
+use toml::{Table, Value};
+
+// The element of this name.
+fn element(text: &[u8]) -> Option<Element>
+    ensures { result ≡ element_of text.now }
+{
+    match text {
+        b"z1" => Some(Element::Z1),
+        b"z2" => Some(Element::Z2),
+        b"rv" => Some(Element::Rv),
+        b"uv" => Some(Element::Uv),
+        b"cur" => Some(Element::Cur),
+        _ => None,
+    }
+}
+
+fn element_in(path: Path, text: &[u8]) -> Result<Element, StudyFault>
+    ensures { result ≡ element_in path (element_of text.now) }
+{
+    match element(text) {
+        Some(element) => Ok(element),
+        None => Err(StudyFault::BadName(path)),
+    }
+}
+
+// What stands before the first space, or all where there is none.
+fn before_space(text: &str) -> &[u8]
+    ensures { result.now ≡ before_first is_space text.now }
+{
+    let bytes = text.as_bytes();
+    &bytes[..find_byte(bytes, b' ')]
+}
+
+// What stands behind the first space.
+fn behind_space(text: &str) -> &[u8]
+    ensures { result.now ≡ after_first is_space text.now }
+{
+    let bytes = text.as_bytes();
+    let space = find_byte(bytes, b' ');
+    if space < bytes.len() {
+        &bytes[space + 1..]
+    } else {
+        &bytes[space..]
+    }
+}
+
+// Behind an element: nothing, or `+` and how far into the stage it comes.
+fn shift(upward: bool, units: Units, path: Path, text: &[u8]) -> Result<u32, StudyFault>
+    requires { 0 < units.tick_us }
+    ensures { result ≡ shift_in upward units path text.now }
+{
+    if text.is_empty() {
+        return Ok(0);
+    }
+    if text[0] != b'+' {
+        return Err(StudyFault::BadName(path));
+    }
+    instant(upward, units, path, &text[1..])
+}
+
+// An element at terminal k, as `z1` or `z1 +12 ms`.
+#[tactic(auto, unfolding(crate::specs::study::Shows::shown_in))]
+fn shown(upward: bool, units: Units, k: u32, path: Path, value: &Value) -> Result<Shown, StudyFault>
+    requires { 0 < units.tick_us }
+    ensures { result ≡ shown_in upward units k path (view value.now) }
+{
+    let text = text_of(path, value)?;
+    let element = element_in(path, before_space(text))?;
+    let after = shift(upward, units, path, behind_space(text))?;
+    Ok(Shown {
+        what: What::Element(Place {
+            element,
+            terminal: k,
+        }),
+        after,
+    })
+}
+
+// Those of an array.
+fn push_shown(
+    upward: bool,
+    units: Units,
+    k: u32,
+    path: Path,
+    items: &[Value],
+    shows: &mut Vec<Shown>,
+) -> Result<(), StudyFault>
+    requires { 0 < units.tick_us }
+    ensures { Becomes result shows.new.items
+        (all_shown upward units k path 0 (items_view items.now) shows.old.items) }
+{
+    for (i, value) in items.iter().enumerate() {
+        let shown = shown(upward, units, k, path.item(i), value)?;
+        shows.push(shown)?;
+    }
+    Ok(())
+}
+
+// What terminal k sees, under its name.
+#[tactic(auto, unfolding(crate::specs::study::Shows::terminal_shows))]
+fn push_terminal(
+    upward: bool,
+    units: Units,
+    path: Path,
+    table: &Table,
+    k: u32,
+    terminal: Terminal,
+    shows: &mut Vec<Shown>,
+) -> Result<(), StudyFault>
+    requires tick { 0 < units.tick_us }
+    requires plain { is_plain_name terminal.name ≡ true }
+    ensures { Becomes result shows.new.items
+        (terminal_shows upward units path (table_view table.now) k terminal shows.old.items) }
+{
+    let name = text_of_name(&terminal.name);
+    let path = path.key(name.as_bytes());
+    let items = optional_items(path, find(table, name))?;
+    push_shown(upward, units, k, path, items, shows)
+}
+
+// What the terminals see.
+fn push_terminals(
+    upward: bool,
+    units: Units,
+    path: Path,
+    table: &Table,
+    terminals: &[Terminal],
+    shows: &mut Vec<Shown>,
+) -> Result<(), StudyFault>
+    requires tick { 0 < units.tick_us }
+    requires plain { are_plain_names terminals.now ≡ true }
+    requires few { length terminals.now ≤ 3 }
+    ensures { Becomes result shows.new.items
+        (terminals_show upward units path (table_view table.now) 0 terminals.now
+        shows.old.items) }
+{
+    for (k, terminal) in terminals.iter().enumerate() {
+        push_terminal(upward, units, path, table, k as u32, *terminal, shows)?;
+    }
+    Ok(())
+}
+
+// A channel that is lost.
+#[tactic(auto, unfolding(crate::specs::study::Shows::lost_in))]
+fn lost(line: &Line, path: Path, value: &Value) -> Result<Shown, StudyFault>
+    ensures { result ≡ lost_in (line_values line.now) path (view value.now) }
+{
+    let text = text_of(path, value)?;
+    match channel_of_name(line, text.as_bytes()) {
+        Some(channel) => Ok(Shown {
+            what: What::Loss(channel),
+            after: 0,
+        }),
+        None => Err(StudyFault::BadName(path)),
+    }
+}
+
+// Those of an array.
+fn push_lost(
+    line: &Line,
+    path: Path,
+    items: &[Value],
+    shows: &mut Vec<Shown>,
+) -> Result<(), StudyFault>
+    ensures { Becomes result shows.new.items
+        (all_lost (line_values line.now) path 0 (items_view items.now) shows.old.items) }
+{
+    for (i, value) in items.iter().enumerate() {
+        let lost = lost(line, path.item(i), value)?;
+        shows.push(lost)?;
+    }
+    Ok(())
+}
+
+/// What a stage shows: what the terminals see, in the order of the line, and the channels that are
+/// lost.
+#[tactic(auto, unfolding(crate::specs::study::Shows::shows_of))]
+pub fn shows(
+    alloc: Global,
+    upward: bool,
+    units: Units,
+    line: &Line,
+    path: Path,
+    table: &Table,
+) -> Result<Vec<Shown>, StudyFault>
+    requires { 0 < units.tick_us }
+    ensures { Gives (λ v. v.items) result
+        (shows_of upward units (line_values line.now) path (table_view table.now)) }
+{
+    let mut shows = Vec::new(alloc);
+    push_terminals(upward, units, path, table, &line.terminals, &mut shows)?;
+    let path = path.key(b"lost");
+    let items = optional_items(path, find(table, "lost"))?;
+    push_lost(line, path, items, &mut shows)?;
+    Ok(shows)
+}

@@ -1,7 +1,0 @@
-use Rattle.std.proofs.Common.{◌≡◌, map, take}
-use Rattle.file_sweeps.specs.Groups.{group_values, single_group}
-use Rattle.file_sweeps.proofs.group.groups_of_scripts.Given as goal
-
-abbrev pub invariant-loop-script : goal.invariant-loop-script
-invariant-loop-script l =
-    map group_values l.groups.items ≡ map single_group (take l.script-index l.scripts)
