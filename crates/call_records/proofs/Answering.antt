@@ -4,8 +4,8 @@ use Rattle.std.specs.Prelude.{Vec, slice_get}
 use Rattle.std.specs.declared.alloc.Global.{Global}
 use Rattle.model_line.specs.declared.line.Line.{Line}
 use Rattle.file_comtrade.specs.declared.record.RecordFault.{RecordFault}
-use Rattle.file_map.specs.Maps.{MapValues}
-use Rattle.file_tracks.specs.Tracks.{AreTracks, BytesValues, FailsAt, PlacedValues, TrackValues, placed_from}
+use Rattle.file_records.specs.map.Maps.{MapValues}
+use Rattle.file_records.specs.tracks.Tracks.{AreTracks, BytesValues, FailsAt, PlacedValues, TrackValues, placed_from}
 use Rattle.call_records.specs.Answers.{Answers, IsSourceRefusal, answer_of, over_work, placed_of}
 use Rattle.call_records.specs.Course.{RecorderFiles, bytes_in}
 use Rattle.call_records.specs.Faults.{is_record_memory, record_refusal}

@@ -1,8 +1,8 @@
 -- The files of recorders, one recorder on.
 use Rattle.std.proofs.Common.{◌≡◌, ◌∷◌, ◌<◌, ◌+◌, ◌++◌, ℕ, List, [], Result, drop, get_or, length, map}
 use Rattle.std.proofs.lemmas.List.{drop_more}
-use Rattle.file_map.specs.Recorders.{recorder_values}
-use Rattle.file_map.specs.declared.recorder.Recorder.{Recorder}
+use Rattle.file_records.specs.map.Recorders.{recorder_values}
+use Rattle.file_records.specs.declared.map.recorder.Recorder.{Recorder}
 use Rattle.call_records.specs.Course.{Course, RecorderFiles, recorder_course, recorders_course}
 use Rattle.call_records.specs.Files.{Held, Runs}
 use Rattle.call_records.specs.declared.halt.Halt.{Halt}

@@ -13,7 +13,7 @@ use Rattle.call_records.specs.Read.{Gives, Stops, text_seen}
 use Rattle.call_ask.specs.declared.records.RecordsWork.{RecordsWork as Work}
 use Rattle.call_records.specs.declared.halt.Halt.{Halt}
 use Rattle.call_records.specs.declared.halt.Halt.TheVariants as halt
-use Rattle.file_map.specs.Maps.{MapValues}
+use Rattle.file_records.specs.map.Maps.{MapValues}
 use Rattle.std.specs.declared.alloc.Global.{Global}
 use Rattle.std.specs.Prelude.{Vec}
 

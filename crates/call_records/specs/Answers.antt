@@ -2,11 +2,11 @@
 use Rattle.std.specs.Prelude.{◌≡◌, ◌⊎◌, ◌<◌, ◌∷◌, ℕ, List, [], Ok, Err, map, length, get_or, Some, slice_get, false}
 use Rattle.model_line.specs.declared.line.Line.{Line}
 use Rattle.file_comtrade.specs.declared.record.RecordFault.{RecordFault}
-use Rattle.file_map.specs.Maps.{MapValues}
-use Rattle.file_tracks.specs.Tracks.{AreTracks, FailsAt, PlacedValues, TrackValues, placed_from}
+use Rattle.file_records.specs.map.Maps.{MapValues}
+use Rattle.file_records.specs.tracks.Tracks.{AreTracks, FailsAt, PlacedValues, TrackValues, placed_from}
 use Rattle.file_study.specs.sweeps.Parts.{SaysScripts}
-use Rattle.file_tracks.specs.Rows.{sources_text}
-use Rattle.file_recorded.specs.{Changes.record_text, Spans.script_told, Spans.spans_told}
+use Rattle.file_records.specs.tracks.Rows.{sources_text}
+use Rattle.file_records.specs.{recorded.Changes.record_text, recorded.Spans.script_told, recorded.Spans.spans_told}
 use Rattle.call_records.specs.{Course.RecorderFiles, Course.bytes_in, Halts.End}
 use Rattle.call_records.specs.Faults.{is_record_memory, record_refusal, too_many_spans}
 use Rattle.call_ask.specs.declared.records.RecordsWork.{RecordsWork as Work}

@@ -2,9 +2,9 @@
 use Rattle.std.specs.Prelude.{◌++◌, ◌∷◌, ℕ, List, [], Option, None, Some, Result, Ok, Err, codes}
 use Rattle.model_line.specs.declared.line.Line.{Line}
 use Rattle.file_line.specs.{LineFiles.line_of, Lines.LineValues, declared.fault.LineFault.LineFault}
-use Rattle.file_map.specs.{DataNames.data_name, Maps.MapValues, Maps.map_of, Recorders.RecorderValues}
-use Rattle.file_map.specs.declared.{fault.MapFault.MapFault, source.Signal.Signal}
-use Rattle.file_tracks.specs.{Told.first_untold, Tracks.BytesValues}
+use Rattle.file_records.specs.{map.DataNames.data_name, map.Maps.MapValues, map.Maps.map_of, map.Recorders.RecorderValues}
+use Rattle.file_records.specs.declared.map.{fault.MapFault.MapFault, source.Signal.Signal}
+use Rattle.file_records.specs.{tracks.Told.first_untold, tracks.Tracks.BytesValues}
 use Rattle.call_records.specs.{Beside.beside, Request.Request}
 use Rattle.call_ask.specs.declared.records.RecordsWork.{RecordsWork as Work}
 use Rattle.call_ask.specs.declared.records.RecordsWork.TheVariants as work

@@ -13,11 +13,11 @@ use Rattle.file_comtrade.specs.declared.record.RecordFault.{RecordFault}
 use Rattle.file_comtrade.specs.declared.record.RecordFault.TheVariants as record_fault
 use Rattle.file_comtrade.specs.declared.ticks.TickFault.{TickFault}
 use Rattle.file_comtrade.specs.declared.ticks.TickFault.TheVariants as tick_fault
-use Rattle.file_map.specs.declared.fault.MapFault.{MapFault}
-use Rattle.file_map.specs.declared.fault.MapFault.TheVariants as map_fault
-use Rattle.file_map.specs.declared.source.Signal.{Signal}
-use Rattle.file_map.specs.declared.source.Signal.TheVariants as signal
-use Rattle.file_map.specs.Sources.{ChannelSaid, id, number}
+use Rattle.file_records.specs.declared.map.fault.MapFault.{MapFault}
+use Rattle.file_records.specs.declared.map.fault.MapFault.TheVariants as map_fault
+use Rattle.file_records.specs.declared.map.source.Signal.{Signal}
+use Rattle.file_records.specs.declared.map.source.Signal.TheVariants as signal
+use Rattle.file_records.specs.map.Sources.{ChannelSaid, id, number}
 
 -- which file
 unfoldable pub refused_file : List ℕ → List ℕ

@@ -3,7 +3,7 @@ use Rattle.std.specs.Prelude.{◌≡◌, ℕ, Bool, List, [], Vec, Option, None,
 use Rattle.std.specs.declared.alloc.Global.{Global}
 use Rattle.base_records.specs.Gives.{Fails}
 use Rattle.file_comtrade.specs.declared.record.RecordFault.{RecordFault}
-use Rattle.file_tracks.specs.Tracks.{PlacedValues}
+use Rattle.file_records.specs.tracks.Tracks.{PlacedValues}
 use Rattle.call_records.specs.Faults.{is_record_memory, record_refusal}
 use Rattle.call_records.specs.{Answers.Answers, Course.RecorderFiles, Course.files_with}
 use Rattle.call_records.specs.Halts.{Tells}

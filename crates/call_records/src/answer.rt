@@ -2,8 +2,8 @@
 
 ghost use Rattle.std.specs.Prelude.{◌≡◌, ◌≤◌, IfOk, IsTrue, length, map as image, slice_get};
 ghost use Rattle.model_line.specs.{Fits.deadline_fits, PlainNames.is_plain_name};
-ghost use Rattle.file_map.specs.Maps.{map_values};
-ghost use Rattle.file_tracks.specs.Tracks.{bytes_values, placed_values, track_values};
+ghost use Rattle.file_records.specs.map.Maps.{map_values};
+ghost use Rattle.file_records.specs.tracks.Tracks.{bytes_values, placed_values, track_values};
 ghost use Rattle.call_records.specs.{Answers.answer_of, Answers.over_work};
 ghost use Rattle.call_records.specs.{Course.bytes_in, Read.Gives, Read.TellsAt, Read.TellsOf};
 ghost use Rattle.call_records.specs.Read.{files_values};
@@ -13,9 +13,9 @@ use crate::halt::Halt;
 use crate::refusal::{record_halt, too_many_halt};
 use call_ask::RecordsWork;
 use file_comtrade::RecordFault;
-use file_map::Map;
-use file_recorded::{record_text, scripts_text};
-use file_tracks::{
+use file_records::map::Map;
+use file_records::recorded::{record_text, scripts_text};
+use file_records::tracks::{
     Placed, RecordBytes, Sources, Track, TrackFault, place, read_tracks, sources_text,
 };
 use model_line::{Line, Memory};

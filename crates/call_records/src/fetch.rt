@@ -1,7 +1,7 @@
 //! The files of the call.
 
 ghost use Rattle.std.specs.Prelude.{[], ◌≡◌, ◌≤◌, List, IfOk, length, map};
-ghost use Rattle.file_map.specs.{Recorders.recorder_values};
+ghost use Rattle.file_records.specs.{map.Recorders.recorder_values};
 ghost use Rattle.call_records.specs.{Beside.beside as name_beside, Halts.told_of};
 ghost use Rattle.call_records.specs.Course.{Course, RecorderFiles as Files, recorder_course};
 ghost use Rattle.call_records.specs.Course.{recorders_course};
@@ -12,7 +12,7 @@ use crate::beside::beside;
 use crate::halt::{File, Halt};
 use crate::refusal::too_long;
 use base_text::store::{FetchFault, Store, fetch};
-use file_map::{Recorder, data_name};
+use file_records::map::{Recorder, data_name};
 use std::alloc::Global;
 
 /// The most bytes of a line, a map or a configuration.

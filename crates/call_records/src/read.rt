@@ -2,14 +2,14 @@
 
 ghost use Rattle.std.specs.Prelude.{◌≤◌, IfOk, IsTrue, length};
 ghost use Rattle.file_line.specs.{LineFiles.line_of, Lines.line_values};
-ghost use Rattle.file_map.specs.Maps.{map_of, map_values};
+ghost use Rattle.file_records.specs.map.Maps.{map_of, map_values};
 ghost use Rattle.model_line.specs.{Fits.deadline_fits, PlainNames.is_plain_name};
 ghost use Rattle.call_records.specs.Faults.{is_line_memory, is_map_memory, line_refusal, map_refusal};
 ghost use Rattle.call_records.specs.Read.{Reads};
 
 use crate::halt::Halt;
 use crate::refusal::{line_halt, map_halt};
-use file_map::Map;
+use file_records::map::Map;
 use model_line::Line;
 use std::alloc::Global;
 
@@ -30,7 +30,7 @@ pub fn read_map(alloc: Global, line: &Line, bytes: &[u8]) -> Result<Map, Halt>
     ensures plain { IfOk result (λ m. IsTrue (is_plain_name m.script)) }
     ensures deadline { IfOk result (λ m. IsTrue (deadline_fits line.now.horizon m.kind m.deadline)) }
 {
-    match file_map::read_map(alloc, line, bytes) {
+    match file_records::map::read_map(alloc, line, bytes) {
         Ok(map) => Ok(map),
         Err(fault) => Err(map_halt(alloc, &fault)),
     }

@@ -4,7 +4,7 @@ ghost use Rattle.std.specs.Prelude.{[], ◌∷◌, ◌≡◌, ◌++◌, IfOk, On
 ghost use Rattle.std.specs.List.{concat};
 ghost use Rattle.file_comtrade.specs.declared.fault.DataFault.TheVariants as data_of;
 ghost use Rattle.file_comtrade.specs.declared.ticks.TickFault.TheVariants as tick_of;
-ghost use Rattle.file_map.specs.Sources.{channel_said};
+ghost use Rattle.file_records.specs.map.Sources.{channel_said};
 ghost use Rattle.call_records.specs.Halts.{Tells};
 ghost use Rattle.call_records.specs.Faults.{line_feed, refusal_line, refused_file, too_long_line, line_refusal};
 ghost use Rattle.call_records.specs.Faults.{map_refusal, untold_refusal, too_many_spans};
@@ -16,7 +16,7 @@ ghost use Rattle.call_records.specs.Faults.{channel_words, line_words_at, missin
 use crate::halt::Halt;
 use file_comtrade::{ConfigFault, DataFault, RecordFault, TickFault};
 use file_line::LineFault;
-use file_map::{ChannelName, MapFault, Signal};
+use file_records::map::{ChannelName, MapFault, Signal};
 use itoa::Buffer;
 use model_line::{Line, Memory};
 use model_line::name_of_terminal;

@@ -2,7 +2,7 @@
 
 ghost use Rattle.std.specs.Prelude.{[], ◌≡◌, ◌≤◌, IsTrue, length};
 ghost use Rattle.model_line.specs.{Fits.deadline_fits, PlainNames.is_plain_name};
-ghost use Rattle.file_map.specs.Maps.{map_values};
+ghost use Rattle.file_records.specs.map.Maps.{map_values};
 ghost use Rattle.call_answer.specs.Sinks.{sink_view};
 ghost use Rattle.call_records.specs.{Clauses.Clauses, Ends.EndsOf, Request.request_of};
 ghost use Rattle.call_records.specs.Course.{course_of, over, recorders_course, untold_by, with_line};
@@ -16,8 +16,8 @@ use crate::read::{read_line, read_map};
 use crate::refusal::untold_halt;
 use base_text::store::{Sink, Store, put_all};
 use call_ask::{RecordsAsk, RecordsWork};
-use file_map::{Map, Signal};
-use file_tracks::first_untold;
+use file_records::map::{Map, Signal};
+use file_records::tracks::first_untold;
 use model_line::Line;
 use std::alloc::Global;
 

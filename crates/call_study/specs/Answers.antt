@@ -1,7 +1,7 @@
 -- What a call may answer: how it ends, which fixes its status and its line to err, and its text on
 -- out.
 use Rattle.std.specs.Prelude.{◌≡◌, ℕ, List, [], Option, Result, Ok, Err, map}
-use Rattle.file_recorded.specs.{Config.config_text, Map.map_text}
+use Rattle.file_records.specs.{recorded.Config.config_text, recorded.Map.map_text}
 use Rattle.file_line.specs.{LineFiles.line_of, Lines.line_values}
 use Rattle.file_tables.specs.script.Values.{values_of}
 use Rattle.file_study.specs.sweeps.Parts.{SaysScripts, part}

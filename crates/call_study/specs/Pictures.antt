@@ -22,7 +22,7 @@ use Rattle.draw_shapes.specs.Svg.{svg_of}
 use Rattle.draw_layout.specs.declared.subject.Subject.{Subject}
 use Rattle.draw_layout.specs.declared.subject.Subject.TheVariants as subject
 use Rattle.draw_layout.specs.Drawings.{drawing_of}
-use Rattle.file_recorded.specs.Data.{data_text}
+use Rattle.file_records.specs.recorded.Data.{data_text}
 
 -- the text of a diagram
 abbrev pub text_of : Line → Script → Subject → Diagram → List ℕ

@@ -11,7 +11,7 @@ use draw_diagram::{every_choice_waves, history_diagram, play_diagram};
 use draw_dump::{play_waves, vcd_text};
 use draw_layout::{Subject, draw};
 use draw_shapes::{Rows, svg};
-use file_recorded::data_text;
+use file_records::recorded::data_text;
 use judge_verdict::analyse;
 use model_line::laws::deadlines_are_below_the_horizon;
 use model_line::{Line, Memory, Script};

@@ -24,7 +24,7 @@ use call_tables::{margins_table, recheck_settled, settle_table};
 use call_verdicts::{Cases, faults_table, verdicts_table};
 use draw_shapes::Rows;
 use file_line::print_line;
-use file_recorded::{config_text, map_text};
+use file_records::recorded::{config_text, map_text};
 use file_study::sweeps::{part_count, part_text};
 use file_tables::timing::read_timings;
 use model_line::{Line, Memory, Script};

@@ -1,6 +1,6 @@
 use Rattle.std.proofs.Common.{◌≡◌, List, map}
-use Rattle.file_map.specs.Maps.{map_values}
-use Rattle.file_tracks.specs.Tracks.{PlacedValues, bytes_values, placed_values, track_values}
+use Rattle.file_records.specs.map.Maps.{map_values}
+use Rattle.file_records.specs.tracks.Tracks.{PlacedValues, bytes_values, placed_values, track_values}
 use Rattle.call_records.specs.Answers.{placed_of}
 use Rattle.call_records.specs.Read.{files_values}
 use Rattle.call_records.proofs.Answering.{over_all, over_none, placed_are}

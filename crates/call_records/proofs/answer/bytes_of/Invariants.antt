@@ -1,5 +1,5 @@
 use Rattle.std.proofs.Common.{◌≡◌, map, take}
-use Rattle.file_tracks.specs.Tracks.{bytes_values}
+use Rattle.file_records.specs.tracks.Tracks.{bytes_values}
 use Rattle.call_records.specs.{Course.bytes_in, Read.files_values}
 use Rattle.call_records.proofs.answer.bytes_of.Given as goal
 

@@ -1,6 +1,6 @@
 use Rattle.std.proofs.Common.{◌≡◌, ℕ, List, ◌∙◌, ap}
 use Rattle.std.proofs.Common.{subst}
-use Rattle.file_map.specs.DataNames.{data_name}
+use Rattle.file_records.specs.map.DataNames.{data_name}
 use Rattle.call_records.specs.Beside.{beside}
 use Rattle.call_records.specs.Course.{config_file, data_file, files_with, reads}
 use Rattle.call_records.specs.Files.{Runs}

@@ -1,5 +1,5 @@
 use Rattle.std.proofs.Common.{◌≡◌, [], ℕ, List, Result, drop, length, map}
-use Rattle.file_map.specs.Recorders.{recorder_values}
+use Rattle.file_records.specs.map.Recorders.{recorder_values}
 use Rattle.call_records.specs.Course.{Course, RecorderFiles, recorders_course}
 use Rattle.call_records.specs.{Files.Runs, Read.files_values}
 use Rattle.call_records.specs.declared.halt.Halt.{Halt}

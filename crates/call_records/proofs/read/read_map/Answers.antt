@@ -1,6 +1,6 @@
 use Rattle.std.proofs.Common.{◌≤◌, ℕ, subst}
 use Rattle.std.proofs.lemmas.List.{length-map}
-use Rattle.file_map.specs.{Maps.map_values, Recorders.recorder_values}
+use Rattle.file_records.specs.{map.Maps.map_values, map.Recorders.recorder_values}
 use Rattle.call_records.proofs.Maps.{map_facts}
 use Rattle.call_records.proofs.read.read_map.Goals as goal
 

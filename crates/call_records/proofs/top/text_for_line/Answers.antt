@@ -1,7 +1,7 @@
 use Rattle.std.proofs.Common.{◌≡◌, ◌∙◌, ℕ, List, [], Option, None, Some, Result, Err, refl, subst, sym}
 use Rattle.std.proofs.lemmas.Result.{err_from_is_err_and}
-use Rattle.file_map.specs.Maps.{MapValues, map_of, map_values}
-use Rattle.file_map.specs.declared.{fault.MapFault.MapFault, source.Signal.Signal}
+use Rattle.file_records.specs.map.Maps.{MapValues, map_of, map_values}
+use Rattle.file_records.specs.declared.map.{fault.MapFault.MapFault, source.Signal.Signal}
 use Rattle.call_records.specs.Course.{after_map, map_file, over, recorders_course, unless_untold, untold_by}
 use Rattle.call_records.specs.Faults.{is_map_memory, map_refusal, untold_refusal}
 use Rattle.call_records.specs.{Files.Runs, Read.text_seen}

@@ -1,7 +1,7 @@
 use Rattle.std.proofs.Common.{List, [], Err, map, subst}
 use Rattle.std.proofs.lemmas.Result.{err_from_is_err_and}
-use Rattle.file_map.specs.{Maps.map_values, Recorders.recorder_values}
-use Rattle.file_map.specs.declared.recorder.Recorder.{Recorder}
+use Rattle.file_records.specs.{map.Maps.map_values, map.Recorders.recorder_values}
+use Rattle.file_records.specs.declared.map.recorder.Recorder.{Recorder}
 use Rattle.call_records.specs.Course.{over, recorders_course}
 use Rattle.call_records.specs.Files.{Runs}
 use Rattle.call_records.specs.Read.{files_values, text_seen}

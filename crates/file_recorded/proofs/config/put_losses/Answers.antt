@@ -1,9 +1,0 @@
-use Rattle.run_rows.specs.RowLaws.{texts_more}
-use Rattle.file_recorded.specs.Config.{loss_line}
-use Rattle.file_recorded.proofs.config.put_losses.Goals as goal
-
-pub loop-c-preserved : goal.loop-c-preserved
-loop-c-preserved c =
-    texts_more c.args.text.now.items c.loop-c.text.items c.put_loss.new.text.items
-    (loss_line c.args.line.now) c.loop-c.c
-    c.loop-c.invariant c.in_ok-put_loss.ensures

@@ -1,8 +1,0 @@
-use Rattle.std.proofs.Common.{◌≡◌, ◌++◌}
-use Rattle.run_rows.specs.PlayRows.{each_below}
-use Rattle.file_recorded.specs.Map.{recorder_text}
-use Rattle.file_recorded.proofs.map.put_recorders.Given as goal
-
-abbrev pub invariant-loop-k : goal.invariant-loop-k
-invariant-loop-k l =
-    l.text.items ≡ l.initial.text.items ++ each_below l.k (recorder_text l.line l.name)

@@ -1,9 +1,0 @@
-use Rattle.std.proofs.Common.{◌≡◌, ◌++◌, map}
-use Rattle.file_tracks.specs.{Below.below, Tracks.track_values}
-use Rattle.file_recorded.specs.Spans.{terminal_spans}
-use Rattle.file_recorded.proofs.spans.push_terminals.Given as goal
-
-abbrev pub invariant-loop-k : goal.invariant-loop-k
-invariant-loop-k l =
-    l.spans.items ≡ l.initial.spans.items
-    ++ below l.k (terminal_spans (map track_values l.tracks) l.line.horizon)

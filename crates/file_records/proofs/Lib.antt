@@ -1,0 +1,3 @@
+pub mod map_lemmas
+pub mod recorded_lemmas
+pub mod tracks_lemmas

@@ -1,0 +1,8 @@
+use Rattle.std.proofs.Common.{◌≡◌, ◌++◌}
+use Rattle.run_rows.specs.PlayRows.{each_below}
+use Rattle.file_records.specs.recorded.Map.{loss_line}
+use Rattle.file_records.proofs.recorded.map.put_losses.Given as goal
+
+abbrev pub invariant-loop-c : goal.invariant-loop-c
+invariant-loop-c l =
+    l.text.items ≡ l.initial.text.items ++ each_below l.c (loss_line l.line l.k)

@@ -1,0 +1,3 @@
+pub mod map
+pub mod recorded
+pub mod tracks

@@ -1,7 +1,0 @@
-use Rattle.std.proofs.Common.{◌≡◌}
-use Rattle.file_tracks.specs.{Below.below, Tracks.track_values}
-use Rattle.file_tracks.specs.Fields.{change_at}
-use Rattle.file_tracks.proofs.changes.changes_of.Given as goal
-
-abbrev pub invariant-loop-t : goal.invariant-loop-t
-invariant-loop-t l = l.changes.items ≡ below l.t (change_at (track_values l.track))

@@ -1,9 +1,0 @@
-use Rattle.std.proofs.Common.{◌≡◌, ◌-◌, map, length}
-use Rattle.file_map.specs.Recorders.{recorder_values}
-use Rattle.file_tracks.specs.Told.{first_from}
-use Rattle.file_tracks.proofs.told.first_untold.Given as goal
-
-abbrev pub invariant-loop-k : goal.invariant-loop-k
-invariant-loop-k l =
-    first_from (map recorder_values l.recorders) l.k (length l.line.terminals.items - l.k)
-    ≡ first_from (map recorder_values l.recorders) 0 (length l.line.terminals.items)

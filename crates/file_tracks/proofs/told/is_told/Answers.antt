@@ -1,6 +1,0 @@
-use Rattle.std.proofs.Common.{◌∙◌, sym}
-use Rattle.file_tracks.proofs.Mapped.{any_recorder}
-use Rattle.file_tracks.proofs.told.is_told.Goals as goal
-
-pub returns : goal.returns
-returns c = c.any_told.ensures ∙ sym (any_recorder c.args.signal c.args.recorders.now)

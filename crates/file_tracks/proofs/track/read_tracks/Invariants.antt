@@ -1,7 +1,0 @@
-use Rattle.std.proofs.Common.{map, take}
-use Rattle.file_tracks.specs.Tracks.{placed_values, track_values, AreTracks}
-use Rattle.file_tracks.proofs.track.read_tracks.Given as goal
-
-abbrev pub invariant-loop-i : goal.invariant-loop-i
-invariant-loop-i l =
-    AreTracks (map placed_values (take l.i l.placed)) (map track_values l.tracks.items)
