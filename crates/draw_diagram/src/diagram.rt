@@ -24,7 +24,7 @@ use model_line::{Line, Memory, Script};
 use model_timing::Step;
 use net_gates::Net;
 use run_signal::{Level, Tern, Tick};
-use run_ticks::Waves;
+use run_ticks::net::Waves;
 use std::alloc::Global;
 
 /// What a timing diagram shows. Trips are in line order, and so are the rules of the obligations,

@@ -13,7 +13,7 @@ use model_logic::laws::each_line_has_a_choice_inside;
 use model_timing::Step;
 use net_gates::Net;
 use run_signal::{Tern, Within};
-use run_ticks::{Waves, run};
+use run_ticks::net::{Waves, run};
 use std::alloc::Global;
 
 /// Runs the net of a line over a script, for all choices of delays in the declared intervals at

@@ -9,7 +9,7 @@ ghost use Rattle.draw_diagram.specs.Traces.{ShownPairs, known_history, pairs_sho
 
 use net_gates::GateId;
 use run_signal::{Level, Tern};
-use run_ticks::Waves;
+use run_ticks::net::Waves;
 
 /// Keys, trips and gates tick by tick: those of one play, or those of every choice of delays at once.
 pub trait Shown {

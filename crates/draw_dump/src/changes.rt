@@ -12,7 +12,7 @@ use crate::variables::put_code;
 use model_line::Memory;
 use run_rows::level_word;
 use run_signal::Level;
-use run_ticks::Waves;
+use run_ticks::net::Waves;
 use std::alloc::Global;
 
 /// How large a run is: so many ticks of so many microseconds, and so many gates.

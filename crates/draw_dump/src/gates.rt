@@ -5,7 +5,7 @@ ghost use Rattle.run_step.specs.Played.{is_on};
 
 use net_gates::GateId;
 use run_signal::{Level, Signal};
-use run_ticks::Waves;
+use run_ticks::net::Waves;
 
 /// Whether a gate is on at a tick.
 pub fn on_at(waves: &Waves<Level>, gate: u32, t: u32) -> bool

@@ -13,7 +13,7 @@ use model_timing::NamedTiming;
 use net_gates::Net;
 use run_signal::Level;
 use run_step::laws::a_timing_is_one_choice;
-use run_ticks::{Waves, run};
+use run_ticks::net::{Waves, run};
 use std::alloc::Global;
 
 /// The run of a timing over a script.

@@ -15,7 +15,7 @@ use model_line::{Line, Memory, Name, Script};
 use model_timing::NamedTiming;
 use net_gates::Net;
 use run_signal::Level;
-use run_ticks::Waves;
+use run_ticks::net::Waves;
 use std::alloc::Global;
 
 /// The value change dump of a timing and a script: every gate of the net at every tick, as the

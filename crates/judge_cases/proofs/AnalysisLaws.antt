@@ -17,8 +17,8 @@ use Rattle.model_settle.specs.Under.{Excludes, own_pair, SomeIsExcluded}
 use Rattle.net_gates.specs.{NetOf.NetOf, NetOf.IsNetOf, Formulas.formula_of}
 use Rattle.run_step.specs.{LaneBox.own_ends, LaneBox.ends_in}
 use Rattle.model_history.specs.ListLaws.{exists_at}
-use Rattle.run_cases.specs.{Given.span_box, Runs.AreKeysUnder, Runs.ArePairsUnder}
-use Rattle.run_cases.specs.UnderWaves.{UnderWavesOf, own_wave}
+use Rattle.run_ticks.specs.{cases.Given.span_box, cases.Runs.AreKeysUnder, cases.Runs.ArePairsUnder}
+use Rattle.run_ticks.specs.cases.UnderWaves.{UnderWavesOf, own_wave}
 use Rattle.judge_boxes.specs.declared.terns.Terns64.{Terns64}
 use Rattle.judge_boxes.specs.{Spans.SpanLists, Spans.span_ends, Terns.terns_rails}
 use Rattle.judge_cases.specs.declared.view.View.{View}

@@ -13,8 +13,8 @@ use Rattle.model_logic.specs.Tree.{Tree}
 use Rattle.model_settle.specs.Assumed.{Assumption, wanted, assumed_level}
 use Rattle.model_settle.specs.{SameTree.same_tree, CaseLaws.SameTreesAreEqual, CaseTrees.HasCases}
 use Rattle.net_gates.specs.{NetOf.NetOf, Formulas.formula_of}
-use Rattle.run_cases.specs.Masks.{IsMask, PutsLevel, IsTimer, AreOfTimers}
-use Rattle.run_cases.specs.declared.mask.Mask.{Mask}
+use Rattle.run_ticks.specs.cases.Masks.{IsMask, PutsLevel, IsTimer, AreOfTimers}
+use Rattle.run_ticks.specs.declared.cases.mask.Mask.{Mask}
 use Rattle.model_history.specs.Rails.{Rails}
 use Rattle.judge_boxes.specs.declared.terns.Terns64.{Terns64}
 use Rattle.judge_boxes.specs.Terns.{terns_rails}

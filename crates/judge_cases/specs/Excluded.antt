@@ -4,7 +4,7 @@ use Rattle.model_line.specs.declared.line.Line.{Line}
 use Rattle.model_settle.specs.Assumed.{Assumption, wanted}
 use Rattle.model_settle.specs.Under.{Excludes}
 use Rattle.net_gates.specs.{NetOf.NetOf, Formulas.formula_of}
-use Rattle.run_cases.specs.UnderWaves.{UnderWavesOf, own_wave}
+use Rattle.run_ticks.specs.cases.UnderWaves.{UnderWavesOf, own_wave}
 use Rattle.judge_boxes.specs.declared.terns.Terns64.{Terns64}
 use Rattle.judge_boxes.specs.Terns.{terns_rails}
 use Rattle.judge_cases.specs.declared.view.View.{View}

@@ -4,8 +4,8 @@ use Rattle.std.specs.Prelude.{slice_get, nat_lt, if◌then◌else◌}
 use Rattle.model_line.specs.declared.line.Line.{Line}
 use Rattle.model_settle.specs.Assumed.{Assumption, assumed_level}
 use Rattle.net_gates.specs.{NetOf.NetOf, Formulas.formula_of}
-use Rattle.run_cases.specs.Masks.{IsMask, Levels}
-use Rattle.run_cases.specs.declared.mask.Mask.{Mask}
+use Rattle.run_ticks.specs.cases.Masks.{IsMask, Levels}
+use Rattle.run_ticks.specs.declared.cases.mask.Mask.{Mask}
 use Rattle.judge_boxes.specs.declared.terns.Terns64.{Terns64}
 use Rattle.judge_boxes.specs.Terns.{terns_rails}
 use Rattle.judge_cases.specs.declared.view.View.{View}

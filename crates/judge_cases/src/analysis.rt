@@ -4,7 +4,7 @@ ghost use Rattle.std.specs.Prelude.{◌≡◌, ◌≤◌, ◌<◌, ℕ, Some, De
 ghost use Rattle.model_settle.specs.CaseTrees.{HasCases};
 ghost use Rattle.net_gates.specs.NetOf.{IsNetOf};
 ghost use Rattle.run_signal.specs.Bits.{bit_on};
-ghost use Rattle.run_cases.specs.UnderWaves.{value_at};
+ghost use Rattle.run_ticks.specs.cases.UnderWaves.{value_at};
 ghost use Rattle.model_settle.specs.Under.{Excludes};
 ghost use Rattle.judge_boxes.specs.Terns.{terns_rails};
 ghost use Rattle.judge_cases.specs.{declared.view.View.View, Views.AreViews, Views.AreCases};
@@ -22,7 +22,7 @@ use model_logic::laws::line_laws;
 use model_settle::case_laws::{each_box_has_one_history_under, what_is_shown_rests_on_the_box};
 use net_gates::laws::gates_stand_for_their_trees;
 use net_gates::{GateId, Net};
-use run_cases::{UnderWaves, run_under};
+use run_ticks::cases::{UnderWaves, run_under};
 use run_signal::{Lanes64, Signal};
 use std::alloc::Global;
 use std::marker::Model;

@@ -3,7 +3,7 @@
 ghost use Rattle.std.specs.Prelude.{◌≡◌, ◌≤◌, ◌<◌, ℕ, List, length};
 ghost use Rattle.model_history.specs.Elements.{some_below};
 ghost use Rattle.model_line.specs.Parameters.{terminal_count};
-ghost use Rattle.run_cases.specs.UnderWaves.{wave_pair};
+ghost use Rattle.run_ticks.specs.cases.UnderWaves.{wave_pair};
 ghost use Rattle.judge_boxes.specs.Terns.{terns_rails};
 ghost use Rattle.net_gates.specs.NetOf.{IsNetOf};
 ghost use Rattle.judge_cases.specs.declared.view.View.{View};

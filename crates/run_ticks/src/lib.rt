@@ -1,12 +1,6 @@
-//! The run of a line's net over a script tick by tick, each gate in the order of the net and the value
-//! of each gate at each tick kept.
+//! The run of a line's net over a script tick by tick: `net`, with the value of each gate at each tick
+//! kept; `cases`, under levels that are put in place of some gates' own values.
 #![tactic(auto)]
 
-mod inputs;
-mod run_net;
-mod ticks;
-mod walk;
-mod waves;
-
-pub use run_net::run;
-pub use waves::Waves;
+pub mod cases;
+pub mod net;

@@ -5,8 +5,8 @@ use Rattle.std.proofs.lemmas.Option.{slice_get-get_or}
 use Rattle.std.specs.Prelude.{Option, slice_get, slice_set, get_or}
 use Rattle.model_line.specs.Parameters.{terminal_count}
 use Rattle.model_settle.specs.Assumed.{wanted}
-use Rattle.run_cases.specs.Masks.{IsMask}
-use Rattle.run_cases.specs.declared.mask.Mask.{Mask}
+use Rattle.run_ticks.specs.cases.Masks.{IsMask}
+use Rattle.run_ticks.specs.declared.cases.mask.Mask.{Mask}
 use Rattle.judge_boxes.specs.declared.terns.Terns64.{Terns64}
 use Rattle.judge_boxes.specs.Terns.{terns_rails}
 use Rattle.judge_cases.specs.Puts.{PutIn}

@@ -5,7 +5,7 @@ use Rattle.model_history.specs.Elements.{some_below}
 use Rattle.model_line.specs.declared.script.Kind.{Kind}
 use Rattle.model_logic.specs.{Rule.is_held}
 use Rattle.run_signal.specs.Bits.{bit_on}
-use Rattle.run_cases.specs.UnderWaves.{wave_pair}
+use Rattle.run_ticks.specs.cases.UnderWaves.{wave_pair}
 use Rattle.judge_boxes.specs.Terns.{terns_rails}
 use Rattle.judge_cases.proofs.HeldLaws.{held_told}
 use Rattle.judge_cases.proofs.analysis.Analysis.held.Goals as goal

@@ -1,6 +1,0 @@
-mod ValueLaws
-mod MaskLaws
-mod UnderLaws
-mod GivenLaws
-mod DelayLaws
-mod KindLaws

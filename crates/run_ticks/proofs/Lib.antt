@@ -1,0 +1,1 @@
+pub mod cases_lemmas

@@ -1,0 +1,31 @@
+use Rattle.std.proofs.Common.{◌≡◌, ℕ, ◌<◌, ◌≤◌, ◌*◌, length}
+use Rattle.std.specs.Prelude.{vec_capacity}
+use Rattle.model_line.specs.Parameters.{terminal_count}
+use Rattle.model_logic.specs.{Choice.pair_world_of, PairMean.PairSignals}
+use Rattle.run_step.specs.Ticks.{AreSent}
+use Rattle.run_ticks.specs.{cases.Given.span_box, cases.Masks.Levels, cases.Runs.PutUnder, cases.Runs.AreKeysUnder}
+use Rattle.run_step.specs.Ticks.{HaveCells}
+use Rattle.run_ticks.specs.cases.Ticks.{LaneStands, under_pairs, own_pairs}
+use Rattle.run_ticks.proofs.cases.ticks.run_ticks.Given as goal
+
+abbrev pub invariant-loop-t : goal.invariant-loop-t
+invariant-loop-t g l =
+    let gates = l.net.gates in
+    let w = λ (lane : ℕ). pair_world_of l.line l.script (span_box g.V.Signal.ends l.line l.spans lane) in
+    record {
+      count : length l.values.items ≡ l.t * length gates;
+      own_count : length l.owns.items ≡ l.t * length gates;
+      column_room : length gates ≤ vec_capacity l.column;
+      own_column_room : length gates ≤ vec_capacity l.own_column;
+      present_room : length l.script.spans.items ≤ vec_capacity l.present;
+      values_room : l.line.horizon * length gates ≤ vec_capacity l.values;
+      owns_room : l.line.horizon * length gates ≤ vec_capacity l.owns;
+      cells : HaveCells gates l.cells.items;
+      sent : AreSent (terminal_count l.line) l.line.horizon l.t l.sent.items;
+      lanes : (lane : ℕ) (level : Levels) (keys : PairSignals) → lane < g.V.Signal.LANES
+          → PutUnder g.V.Signal.rails g.V.Signal.LANES level l.line l.net l.masks
+          → AreKeysUnder l.line (level lane) (w lane) keys
+          → LaneStands g.V.Timed.stands_for g.V.Signal.ends g.V.Signal.rails lane (w lane) keys
+          (under_pairs (level lane) (w lane) keys gates) (own_pairs (level lane) (w lane) keys gates)
+          l.t gates l.sent.items l.cells.items l.values.items l.owns.items;
+    }

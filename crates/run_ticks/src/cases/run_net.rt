@@ -1,0 +1,42 @@
+//! A run under levels.
+
+ghost use Rattle.std.specs.Prelude.{◌≡◌, ℕ, ◌<◌, length, IfOk};
+ghost use Rattle.model_logic.specs.PairMean.{PairWorld, PairSignals};
+ghost use Rattle.model_logic.specs.Choice.{pair_world_of};
+ghost use Rattle.run_ticks.specs.{cases.Given.span_box, cases.Masks.Levels};
+ghost use Rattle.run_ticks.specs.cases.Runs.{CanRunUnder, PutUnder, AreKeysUnder, ArePairsUnder};
+
+use crate::cases::mask::Masks;
+use crate::cases::ticks::run_ticks;
+use crate::cases::waves::UnderWaves;
+use model_line::{Line, Memory, Script};
+use net_gates::Net;
+use run_signal::{Carried, Timed};
+use std::alloc::Global;
+
+/// Runs the net of a line over a script, from tick 0 to the horizon. A span stands for each
+/// parameter, in the order of the line; a gate with a row of masks has at each tick its own value
+/// with what the mask of the tick puts, wherever it is read.
+pub fn run_under<V: Timed + Carried>(
+    alloc: Global,
+    net: &Net,
+    line: &Line,
+    script: &Script,
+    spans: &[V::Span],
+    masks: &Masks<V>,
+) -> Result<UnderWaves<V>, Memory>
+    requires { CanRunUnder V.LANES V.ends line.now net.now spans.now masks.now }
+    ensures width { IfOk result (λ waves. waves.width ≡ length net.now.gates) }
+    ensures horizon { IfOk result (λ waves. waves.horizon ≡ line.now.horizon) }
+    // In each lane each gate has the pairs of its tree over the lane's box, under the levels that
+    // the masks put, wherever the keys are pairs of theirs.
+    ensures pairs { IfOk result (λ waves. (lane : ℕ) (level : Levels) (keys : PairSignals) →
+        lane < V.LANES → PutUnder V.rails V.LANES level line.now net.now masks.now →
+        let w : PairWorld
+        = pair_world_of line.now script.now (span_box V.ends line.now spans.now lane) in
+        AreKeysUnder line.now (level lane) w keys →
+        ArePairsUnder V.rails lane (level lane) w keys line.now net.now waves) }
+{
+    let told = crate::net::<V>(alloc, net, line, script, spans, masks)?;
+    Ok(UnderWaves::new(net.len(), line.horizon, told.values, told.owns))
+}
