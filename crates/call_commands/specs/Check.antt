@@ -1,7 +1,7 @@
 -- The command `check`: whether a certificate is accepted, with its counts, or its first fault.
 use Rattle.std.specs.Prelude.{◌∷◌, ℕ, List, [], codes, decimal}
 use Rattle.model_line.specs.{declared.line.Line.Line, declared.script.Script.Script}
-use Rattle.run_waves.specs.Text.{tern_word}
+use Rattle.run_waves.specs.waves.Text.{tern_word}
 use Rattle.cert_check.specs.Check.{IsAccepted, IsCheckFault}
 use Rattle.cert_check.specs.declared.fault.CheckFault.{CheckFault}
 use Rattle.cert_check.specs.declared.fault.CheckFault.TheVariants as fault

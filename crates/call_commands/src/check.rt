@@ -14,7 +14,7 @@ use call_engine::checked::{
 use cert_check::CheckFault;
 use itoa::Buffer;
 use model_line::Memory;
-use run_waves::tern_word;
+use run_waves::waves::tern_word;
 use std::alloc::Global;
 
 /// The counts of the certificate's verdicts where it is accepted, and its first fault where it is

@@ -2,10 +2,10 @@
 
 ghost use Rattle.std.specs.Prelude.{◌≡◌};
 ghost use Rattle.draw_diagram.specs.Times.{is_begun, shows_fault, is_of_fault};
-ghost use Rattle.run_waves.specs.FirstTick.{first_on};
+ghost use Rattle.run_waves.specs.waves.FirstTick.{first_on};
 
 use model_line::{Element, Script, SeenSpan, What};
-use run_waves::the_first_tick_is_the_least;
+use run_waves::waves::the_first_tick_is_the_least;
 
 /// The first tick below the horizon at which some terminal sees a zone, the reverse or the
 /// undervoltage element; current alone is no fault.

@@ -21,21 +21,21 @@ use Rattle.model_logic.specs.Histories.{AreCovered, MeetsBy}
 use Rattle.model_logic.specs.{Laws.LineLaws, Logic.key_tree, PairMean.PairSignals, Rule.rule_of}
 use Rattle.model_timing.specs.{Inside.IsStepInside, Inside.IsTimingInside}
 use Rattle.model_timing.specs.Laws.{TimingsInsideAreChoicesInside}
-use Rattle.run_waves.specs.Waves.{wave_at}
+use Rattle.run_waves.specs.waves.Waves.{wave_at}
 use Rattle.cert_text.specs.Grammar.{AreNumbers, Claims, HasNumbers, HasOneEach, IsCertificate}
 use Rattle.cert_text.specs.Grammar.{Verdict, no, undecided, yes}
 use Rattle.cert_text.specs.Text.{CanBeWritten}
 use Rattle.cert_check.specs.Check.{IsAccepted, IsCheckFault, IsScriptFault}
-use Rattle.run_derived.specs.Claims.{pairs_of}
+use Rattle.run_waves.specs.derived.Claims.{pairs_of}
 use Rattle.cert_check.specs.Counts.{all_verdicts, are_counts, counts_in}
-use Rattle.run_derived.specs.Firsts.{IsFirstFailing}
+use Rattle.run_waves.specs.derived.Firsts.{IsFirstFailing}
 use Rattle.cert_check.specs.NoFaults.{IsNoFault}
 use Rattle.cert_check.specs.Refutations.{IsMetAt, IsNumberIn, IsRefutation, choice_of}
 use Rattle.cert_check.specs.Refutations.{steady_timing}
 use Rattle.cert_check.specs.Verdicts.{AreAccepted, IsCovered, IsFaultOf, IsFirstFault}
 use Rattle.cert_check.specs.Verdicts.{IsFirstUncovered, IsKeyCovered, IsSupported, AreSupported}
 use Rattle.cert_check.specs.Verdicts.{IsVerdictFault}
-use Rattle.run_derived.specs.Claims.{derived_key, derived_trip}
+use Rattle.run_waves.specs.derived.Claims.{derived_key, derived_trip}
 use Rattle.cert_check.specs.declared.claim.ClaimFault.{ClaimFault}
 use Rattle.cert_check.specs.declared.claim.ClaimFault.TheVariants as wrong
 use Rattle.cert_check.specs.declared.claim.Uncovered.{Uncovered}

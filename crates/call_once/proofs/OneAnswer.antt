@@ -14,8 +14,8 @@ use Rattle.model_logic.specs.Rule.{Held, Broken, Unknown, Rule, is_broken, is_he
 use Rattle.model_logic.specs.Rule.{rule_of}
 use Rattle.model_logic.specs.Choice.{declared_box}
 use Rattle.run_rows.specs.PlayRows.{each_below}
-use Rattle.run_waves.specs.FirstTick.{first_on}
-use Rattle.run_waves.specs.FirstTickLaws.{first_on-same}
+use Rattle.run_waves.specs.waves.FirstTick.{first_on}
+use Rattle.run_waves.specs.waves.FirstTickLaws.{first_on-same}
 use Rattle.judge_report.specs.ReportText.{AreHistories, fields_text, report_header}
 use Rattle.judge_report.specs.ReportText.{report_text_of, row_text, rule_word, script_rows}
 use Rattle.cert_text.specs.Grammar.{Verdict}

@@ -2,8 +2,8 @@
 use Rattle.std.proofs.Common.{◌≡◌, ℕ, Bool, true, false, List, Some, map, sym, ◌∙◌, ap, subst}
 use Rattle.std.specs.List.{concat, list_any}
 use Rattle.model_history.specs.ZipLaws.{zip_once}
-use Rattle.run_derived.specs.Claims.{pairs_of}
-use Rattle.run_derived.specs.Claims.{derived_key, derived_trip}
+use Rattle.run_waves.specs.derived.Claims.{pairs_of}
+use Rattle.run_waves.specs.derived.Claims.{derived_key, derived_trip}
 use Rattle.model_history.specs.Rails.{Covers, Rails}
 use Rattle.model_line.specs.{declared.line.Line.Line, declared.script.Script.Script}
 use Rattle.model_logic.specs.Histories.{History, IsSameHistory}

@@ -6,7 +6,7 @@ use Rattle.model_line.specs.Laws.{CountsRestOnNoInterval}
 use Rattle.model_line.specs.{declared.line.Line.Line, declared.script.Script.Script}
 use Rattle.model_line.specs.{declared.line.Terminal.Terminal, SetBounds.SameButParams}
 use Rattle.model_logic.specs.IntervalLaws.{HistoriesRestOnNoInterval}
-use Rattle.run_waves.specs.Waves.{IsWaveOf}
+use Rattle.run_waves.specs.waves.Waves.{IsWaveOf}
 use Rattle.file_line.specs.Lines.{line_values}
 use Rattle.file_tables.specs.script.Values.{ScriptValues, values_of}
 use Rattle.base_text.specs.lines.Grammar.{text_said}

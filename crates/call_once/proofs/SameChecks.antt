@@ -7,7 +7,7 @@ use Rattle.model_line.specs.Laws.{CountsRestOnNoInterval}
 use Rattle.model_line.specs.{declared.line.Line.Line, declared.script.Script.Script}
 use Rattle.model_line.specs.{SetBounds.SameButParams}
 use Rattle.model_logic.specs.IntervalLaws.{HistoriesRestOnNoInterval, TreesRestOnNoInterval}
-use Rattle.run_waves.specs.Text.{tern_word}
+use Rattle.run_waves.specs.waves.Text.{tern_word}
 use Rattle.file_line.specs.Lines.{line_values}
 use Rattle.file_tables.specs.script.Values.{values_of}
 use Rattle.base_text.specs.lines.Grammar.{text_places, text_said}

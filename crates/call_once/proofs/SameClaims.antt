@@ -13,7 +13,7 @@ use Rattle.model_logic.specs.Rule.{rule_of}
 use Rattle.file_line.specs.Lines.{line_values}
 use Rattle.file_tables.specs.script.Values.{values_of}
 use Rattle.cert_text.specs.Grammar.{Claims, Verdict, no, undecided, yes}
-use Rattle.run_derived.specs.Claims.{pairs_of}
+use Rattle.run_waves.specs.derived.Claims.{pairs_of}
 use Rattle.cert_check.specs.declared.claim.Uncovered.{Uncovered}
 use Rattle.cert_check.specs.declared.claim.ClaimFault.{ClaimFault}
 use Rattle.cert_check.specs.declared.claim.ClaimFault.TheVariants.{Memory, No, NotCovered}
@@ -21,8 +21,8 @@ use Rattle.cert_check.specs.declared.claim.ClaimFault.TheVariants.{NotHeld}
 use Rattle.cert_check.specs.Verdicts.{AreAccepted, IsCovered, IsFaultOf, IsFirstFault}
 use Rattle.cert_check.specs.Verdicts.{IsFirstUncovered, IsFirstVerdictFault, IsKeyCovered}
 use Rattle.cert_check.specs.Verdicts.{IsNotHeld, IsSupported, IsWrongNo}
-use Rattle.run_derived.specs.Claims.{derived_key}
-use Rattle.run_derived.specs.Claims.{derived_trip}
+use Rattle.run_waves.specs.derived.Claims.{derived_key}
+use Rattle.run_waves.specs.derived.Claims.{derived_trip}
 use Rattle.cert_check.specs.declared.no.NoFault.{NoFault}
 use Rattle.call_pilot.specs.SameFactLaws.{refuted_by, rule_same}
 use Rattle.call_once.proofs.SameFaults.{failing_on, no_fault_on}

@@ -14,7 +14,7 @@ use Rattle.model_logic.specs.IntervalLaws.{HistoriesRestOnNoInterval}
 use Rattle.model_line.specs.NamesByNumber.{parameter_name, script_name, terminal_name}
 use Rattle.file_line.specs.Lines.{line_values}
 use Rattle.file_tables.specs.script.Values.{ScriptValues, values_of}
-use Rattle.run_derived.specs.Firsts.{IsFirstFailing}
+use Rattle.run_waves.specs.derived.Firsts.{IsFirstFailing}
 use Rattle.cert_check.specs.{NoFaults.IsNoFault}
 use Rattle.cert_check.specs.Refutations.{IsFirstOutside, IsMetAt, IsMetInside, IsNumberIn}
 use Rattle.cert_check.specs.Refutations.{choice_of, steady_timing}

@@ -17,7 +17,7 @@ use Rattle.file_tables.specs.script.Values.{ScriptValues, values_of}
 use Rattle.model_timing.specs.Candidates.{candidate}
 use Rattle.model_timing.specs.Choice.{timing_choice}
 use Rattle.model_timing.specs.Timing.{TimingValues}
-use Rattle.run_derived.specs.Claims.{pairs_of}
+use Rattle.run_waves.specs.derived.Claims.{pairs_of}
 use Rattle.judge_match.specs.Answer.{Head, IsHead}
 use Rattle.judge_match.specs.Clash.{AllAllowed, IsAllowed, IsFirstClash, IsSignalAllowed}
 use Rattle.judge_match.specs.Clash.{IsTerminalAllowed, derived_at, level_at}

@@ -2,7 +2,7 @@
 use Rattle.std.specs.Prelude.{◌≡◌, ◌≤◌, ◌<◌, ◌+◌, ℕ, List}
 use Rattle.model_line.specs.{declared.line.Line.Line, declared.script.Script.Script}
 use Rattle.model_line.specs.Parameters.{terminal_count}
-use Rattle.run_waves.specs.FirstTick.{first_on}
+use Rattle.run_waves.specs.waves.FirstTick.{first_on}
 use Rattle.judge_report.specs.Deadlines.{deadline_of}
 use Rattle.judge_verdict.specs.OneEach.{OneEach}
 use Rattle.draw_diagram.specs.Times.{is_begun}

@@ -12,7 +12,7 @@ use Rattle.model_logic.specs.Histories.{PairHistory}
 use Rattle.model_logic.specs.Choice.{Choice, IsInside, declared_box}
 use Rattle.model_logic.specs.Rule.{rule_of}
 use Rattle.run_rows.specs.PlayRows.{each_below}
-use Rattle.run_waves.specs.FirstTick.{first_on}
+use Rattle.run_waves.specs.waves.FirstTick.{first_on}
 use Rattle.judge_report.specs.ReportText.{IsReportText, report_header, row_text, script_rows}
 use Rattle.call_pilot.specs.{HeadlineLaws.HeadlineLaws, Truths.IsBefore, Truths.ReportIsTrue}
 use Rattle.call_pilot.specs.Truths.{RowIsTrue}

@@ -15,7 +15,7 @@ use Rattle.cert_text.specs.{Grammar.Claims, Grammar.Verdict, Text.certificate_te
 use Rattle.cert_check.specs.{declared.counts.Counts.Counts, Check.IsAccepted}
 use Rattle.cert_check.specs.Counts.{all_verdicts, is_no, is_undecided}
 use Rattle.cert_own.specs.Certified.{AreCertified}
-use Rattle.run_waves.specs.FirstTick.{first_on}
+use Rattle.run_waves.specs.waves.FirstTick.{first_on}
 use Rattle.judge_report.specs.{Margin.IsHeldTo, Raised.raised}
 use Rattle.cert_split_text.specs.Grammar.{HasOneEach, IsSplitText, SplitResult}
 use Rattle.cert_split_text.specs.Text.{split_text}

@@ -16,7 +16,7 @@ use Rattle.file_line.specs.Lines.{line_values}
 use Rattle.file_tables.specs.script.Values.{ScriptValues, values_of}
 use Rattle.model_timing.specs.Candidates.{candidate}
 use Rattle.model_timing.specs.Timing.{TimingValues}
-use Rattle.run_derived.specs.Claims.{declared_world, pairs_of}
+use Rattle.run_waves.specs.derived.Claims.{declared_world, pairs_of}
 use Rattle.judge_match.specs.{Recorded.recorded, Waves.SeenValues}
 use Rattle.cert_own.specs.Matched.{HoldsOfRecord, HoldsOfRecordAt}
 use Rattle.cert_own.specs.Matched.{IsGivenBy, IsGivenByNone, IsGivenBySome, IsOpenRecord}

@@ -29,7 +29,7 @@ use model_logic::interval_laws::{
 use model_logic::laws::{
     a_wider_box_covers, each_line_has_a_choice_inside, the_rule_speaks_for_every_choice,
 };
-use run_waves::the_first_tick_is_the_least;
+use run_waves::waves::the_first_tick_is_the_least;
 
 /// What is answered is true of every choice of delays, as the crates below state it.
 pub fn what_is_answered_is_true()

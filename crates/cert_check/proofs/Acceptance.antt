@@ -6,12 +6,12 @@ use Rattle.model_line.specs.{declared.script.Script.Script, declared.line.Line.L
 use Rattle.model_logic.specs.PairMean.{PairSignals, pair_mean}
 use Rattle.model_logic.specs.{Choice.declared_box, Histories.AreCovered, Tree.Tree}
 use Rattle.net_gates.specs.{declared.gate.Gate.Gate, Formulas.formula_of}
-use Rattle.run_waves.specs.Waves.{wave_at}
+use Rattle.run_waves.specs.waves.Waves.{wave_at}
 use Rattle.cert_text.specs.Grammar.{Claims}
 use Rattle.cert_check.specs.declared.claim.ClaimFault.{ClaimFault}
 use Rattle.cert_check.specs.declared.claim.ClaimFault.TheVariants.{NotCovered, NotHeld, No}
 use Rattle.cert_check.specs.declared.claim.ClaimFault.TheVariants.{Memory}
-use Rattle.run_derived.specs.Claims.{AreGateWaves, declared_world, pairs_of}
+use Rattle.run_waves.specs.derived.Claims.{AreGateWaves, declared_world, pairs_of}
 use Rattle.cert_check.specs.Verdicts.{IsVerdictFault, IsFirstFault, AreSupported, AreAccepted}
 
 -- the wave of a gate has the pairs of its tree

@@ -15,17 +15,17 @@ use Rattle.cert_check.specs.declared.claim.ClaimFault.TheVariants.{NotCovered, N
 use Rattle.cert_check.specs.declared.claim.ClaimFault.TheVariants.{Memory}
 use Rattle.cert_check.specs.declared.no.NoFault.{NoFault}
 use Rattle.cert_check.specs.declared.no.NoFault.TheVariants.{Outside, Passes}
-use Rattle.run_waves.specs.FirstTick.{IsFirstOnAt}
-use Rattle.run_derived.specs.Firsts.{IsFirstFailing}
+use Rattle.run_waves.specs.waves.FirstTick.{IsFirstOnAt}
+use Rattle.run_waves.specs.derived.Firsts.{IsFirstFailing}
 use Rattle.cert_check.specs.Refutations.{IsMetAt, IsNumberIn, IsFirstOutside, IsMetInside}
 use Rattle.cert_check.specs.{NoFaults.IsNoFault, ScriptLaws.same_number}
 use Rattle.cert_check.specs.{ScriptLaws.wrong_once, Verdicts.IsSupported}
 use Rattle.cert_check.specs.Verdicts.{IsNotHeld, IsWrongNo, IsFaultOf, IsCovered, IsKeyCovered}
 use Rattle.cert_check.specs.Verdicts.{IsFirstUncovered, IsVerdictFault, IsFirstVerdictFault}
 use Rattle.cert_check.specs.Verdicts.{IsFirstFault}
-use Rattle.run_derived.specs.Claims.{derived_key, derived_trip}
+use Rattle.run_waves.specs.derived.Claims.{derived_key, derived_trip}
 use Rattle.cert_check.specs.declared.claim.Uncovered.{Uncovered}
-use Rattle.run_derived.specs.Claims.{pairs_of}
+use Rattle.run_waves.specs.derived.Claims.{pairs_of}
 use Rattle.model_history.specs.TruthLaws.{not_both}
 use Rattle.cert_check.proofs.Refusal.{HaveHistories, verdict_refused}
 

@@ -7,8 +7,8 @@ use Rattle.model_line.specs.{declared.line.Line.Line, declared.script.Script.Scr
 use Rattle.model_logic.specs.Histories.{History, IsLineHistory, Meets}
 use Rattle.model_logic.specs.Choice.{Choice, IsIn}
 use Rattle.model_timing.specs.{Timing.TimingValues, Inside.IsTimingInside, Choice.timing_choice}
-use Rattle.run_waves.specs.FirstTick.{IsFirstOnAt, IsOffFrom}
-use Rattle.run_derived.specs.Firsts.{IsFirstFailing}
+use Rattle.run_waves.specs.waves.FirstTick.{IsFirstOnAt, IsOffFrom}
+use Rattle.run_waves.specs.derived.Firsts.{IsFirstFailing}
 
 -- one number for each parameter: a timing whose delays stay as they are
 abbrev pub steady_timing : List ℕ → TimingValues

@@ -13,10 +13,10 @@ use Rattle.cert_check.specs.declared.claim.ClaimFault.{ClaimFault}
 use Rattle.cert_check.specs.declared.claim.ClaimFault.TheVariants.{NotCovered, NotHeld, No}
 use Rattle.cert_check.specs.declared.claim.ClaimFault.TheVariants.{Memory}
 use Rattle.cert_check.specs.declared.no.NoFault.{NoFault}
-use Rattle.run_derived.specs.Claims.{derived_key, derived_trip, pairs_of}
+use Rattle.run_waves.specs.derived.Claims.{derived_key, derived_trip, pairs_of}
 use Rattle.cert_check.specs.{NoFaults.IsNoFault, Refutations.IsRefutation}
 use Rattle.cert_check.specs.declared.claim.Uncovered.{Uncovered}
-use Rattle.run_derived.specs.Firsts.{IsFirstFailing}
+use Rattle.run_waves.specs.derived.Firsts.{IsFirstFailing}
 use Rattle.cert_check.specs.Firsts.{IsWrongFirst}
 
 -- ---- keys

@@ -4,15 +4,15 @@ ghost use Rattle.std.specs.Prelude.{length, MatchOption};
 ghost use Rattle.model_line.specs.{declared.script.Script.Script, Parameters.terminal_count};
 ghost use Rattle.model_logic.specs.{Choice.declared_box, Histories.AreCovered};
 ghost use Rattle.net_gates.specs.NetOf.{IsNetOf};
-ghost use Rattle.run_waves.specs.Waves.{AreWaves};
-ghost use Rattle.run_derived.specs.Claims.{AreGateWaves, pairs_of};
+ghost use Rattle.run_waves.specs.waves.Waves.{AreWaves};
+ghost use Rattle.run_waves.specs.derived.Claims.{AreGateWaves, pairs_of};
 ghost use Rattle.cert_check.specs.{Verdicts.IsFirstUncovered};
 
 use crate::claim::Uncovered;
 use model_line::Line;
 use net_gates::Net;
-use run_derived::{first_uncovered_tick, nth};
-use run_waves::Runs;
+use run_waves::derived::{first_uncovered_tick, nth};
+use run_waves::waves::Runs;
 
 /// The first terminal, and in it the first tick, where the claimed key does not cover that of the
 /// terminal's gate.

@@ -3,10 +3,10 @@
 ghost use Rattle.std.specs.Prelude.{◌≡◌, ◌<◌, ◌≤◌, ℕ, Bool, IsTrue, IsFalse, length};
 ghost use Rattle.std.specs.Bool.{Decides};
 ghost use Rattle.model_logic.specs.Rule.{IsHeld};
-ghost use Rattle.run_waves.specs.{FirstTick.first_on, Waves.wave_at};
+ghost use Rattle.run_waves.specs.{waves.FirstTick.first_on, waves.Waves.wave_at};
 
 use model_line::{Kind, Script};
-use run_waves::{Runs, first_may, first_must, the_first_tick_is_the_least};
+use run_waves::waves::{Runs, first_may, first_must, the_first_tick_is_the_least};
 
 /// Whether the rule is held. Internal: the trip must come at some tick up to the deadline.
 /// External: it may come at none.

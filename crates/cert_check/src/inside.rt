@@ -3,11 +3,11 @@
 ghost use Rattle.std.specs.Prelude.{◌≡◌, ◌↔◌, ◌<◌, ℕ, length, IsTrue, MatchOption};
 ghost use Rattle.model_line.specs.Parameters.{param_count, declared_ends};
 ghost use Rattle.model_logic.specs.Choice.{IsIn};
-ghost use Rattle.run_derived.specs.Firsts.{IsFirstFailing};
+ghost use Rattle.run_waves.specs.derived.Firsts.{IsFirstFailing};
 ghost use Rattle.cert_check.specs.Refutations.{IsNumberIn};
 
 use model_line::Line;
-use run_derived::declared_param;
+use run_waves::derived::declared_param;
 
 /// The first parameter whose number is not in its interval.
 pub fn first_outside(line: &Line, values: &[u32]) -> Option<u32>

@@ -3,7 +3,7 @@
 ghost use Rattle.std.specs.Prelude.{◌≡◌, ◌<◌, ◌≤◌, length, MatchOption};
 ghost use Rattle.model_logic.specs.Histories.{MeetsBy};
 ghost use Rattle.run_changes.specs.PlayedTracks.{is_on};
-ghost use Rattle.run_waves.specs.FirstTick.{IsFirstOn};
+ghost use Rattle.run_waves.specs.waves.FirstTick.{IsFirstOn};
 ghost use Rattle.cert_check.specs.Refutations.{IsMetAt};
 
 use model_line::{Kind, Script};

@@ -6,10 +6,10 @@ ghost use Rattle.model_history.specs.Rails.{Rails};
 ghost use Rattle.model_logic.specs.PairMean.{PairSignals};
 ghost use Rattle.model_line.specs.{Parameters.terminal_count, Fits.Fits};
 ghost use Rattle.net_gates.specs.NetOf.{IsNetOf};
-ghost use Rattle.run_waves.specs.Waves.{wave_at, AreWaves};
+ghost use Rattle.run_waves.specs.waves.Waves.{wave_at, AreWaves};
 ghost use Rattle.cert_text.specs.Grammar.{HasNumbers, claims_in, verdict_in};
 ghost use Rattle.cert_text.specs.Text.{CanBeWritten};
-ghost use Rattle.run_derived.specs.Claims.{AreGateWaves};
+ghost use Rattle.run_waves.specs.derived.Claims.{AreGateWaves};
 ghost use Rattle.cert_check.specs.Verdicts.{IsSupported, IsFaultOf, AreSound, IsVerdictFault};
 ghost use Rattle.cert_check.specs.Verdicts.{AreSupported, AreAccepted, IsFirstFault};
 
@@ -25,8 +25,8 @@ use model_logic::laws::{
     the_rule_speaks_for_what_is_covered,
 };
 use net_gates::Net;
-use run_derived::{gate_waves, nth};
-use run_waves::Runs;
+use run_waves::derived::{gate_waves, nth};
+use run_waves::waves::Runs;
 use std::alloc::Global;
 
 /// Checks what is claimed of a script. First the keys, by terminal and then by tick, then the

@@ -22,8 +22,8 @@ use Rattle.judge_verdict.specs.Verdicts.{AreKeys, AreVerdicts, IsVerdict, IsRefu
 use Rattle.judge_verdict.specs.declared.verdict.Verdict.{Verdict}
 use Rattle.cert_own.specs.Piece.{claims_of, written_as}
 use Rattle.cert_check.specs.Verdicts.{AreAccepted, IsSupported}
-use Rattle.run_derived.specs.Claims.{derived_trip}
-use Rattle.run_derived.specs.Claims.{pairs_of}
+use Rattle.run_waves.specs.derived.Claims.{derived_trip}
+use Rattle.run_waves.specs.derived.Claims.{pairs_of}
 use Rattle.cert_check.specs.Refutations.{IsRefutation}
 use Rattle.cert_own.specs.Known.{Known}
 use Rattle.cert_own.proofs.Obligations.{held_same, same_meets}

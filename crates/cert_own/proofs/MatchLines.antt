@@ -26,7 +26,7 @@ use Rattle.cert_text.specs.Grammar.{terminal_names}
 use Rattle.cert_text.specs.NameLaws.{name_whole, names_count}
 use Rattle.cert_text.specs.NumberLaws.{numbers_tell, numbers_whole}
 use Rattle.run_rows.specs.PlayRows.{level_word}
-use Rattle.run_waves.specs.Text.{tern_word}
+use Rattle.run_waves.specs.waves.Text.{tern_word}
 use Rattle.judge_match.specs.Answer.{Head, IsHead, IsMatchAnswer}
 use Rattle.judge_match.specs.{Clash.IsAllowed, Match.IsMatch, Recorded.IsRecordOf}
 use Rattle.judge_match.specs.MatchText.{clash_words, match_words, signal_word}

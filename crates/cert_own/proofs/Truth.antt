@@ -17,7 +17,7 @@ use Rattle.judge_verdict.specs.declared.verdict.Verdict.{Verdict}
 use Rattle.judge_verdict.specs.declared.verdict.Verdict.TheVariants.{Yes, No, Undecided}
 use Rattle.cert_own.specs.Piece.{written_as}
 use Rattle.judge_verdict.specs.Verdicts.{IsOpen, IsVerdict}
-use Rattle.run_derived.specs.Claims.{pairs_of}
+use Rattle.run_waves.specs.derived.Claims.{pairs_of}
 use Rattle.cert_check.specs.{Refutations.steady_timing, Verdicts.AreAccepted}
 use Rattle.cert_check.specs.Refutations.{IsRefutation}
 use Rattle.cert_own.specs.Certified.{IsCertified}

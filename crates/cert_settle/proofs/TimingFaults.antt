@@ -9,8 +9,8 @@ use Rattle.model_line.specs.{declared.script.Script.Script, Parameters.terminal_
 use Rattle.model_line.specs.Parameters.{param_count}
 use Rattle.model_logic.specs.Histories.{History, IsLineHistory, IsSameHistory, MeetsBy}
 use Rattle.model_timing.specs.{Timing.TimingValues, Inside.IsTimingInside, Choice.timing_choice}
-use Rattle.run_waves.specs.FirstTick.{IsFirstOnAt}
-use Rattle.run_derived.specs.Firsts.{IsFirstFailing}
+use Rattle.run_waves.specs.waves.FirstTick.{IsFirstOnAt}
+use Rattle.run_waves.specs.derived.Firsts.{IsFirstFailing}
 use Rattle.cert_check.specs.ScriptLaws.{same_number}
 use Rattle.cert_check.specs.Refutations.{IsMetAt, IsNumberIn, IsFirstOutside}
 use Rattle.cert_check.specs.declared.no.NoFault.{NoFault}

@@ -3,7 +3,7 @@ use Rattle.std.proofs.Common.{◌≡◌, ◌≤◌, ℕ, List, length, drop, ref
 use Rattle.std.specs.Prelude.{codes}
 use Rattle.run_signal.specs.declared.tern.Tern.{Tern}
 use Rattle.model_line.specs.declared.line.Line.{Line}
-use Rattle.run_waves.specs.Text.{runs_text}
+use Rattle.run_waves.specs.waves.Text.{runs_text}
 use Rattle.cert_text.specs.Grammar.{Place, fixed, key_of, verdict_of, Stands, HasNumbers, Said}
 use Rattle.cert_text.specs.Grammar.{says_nothing, says_key, says_verdict, verdict_words, Verdict}
 use Rattle.cert_text.specs.Grammar.{yes, no, undecided}

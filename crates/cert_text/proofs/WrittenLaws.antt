@@ -7,7 +7,7 @@ use Rattle.std.specs.List.{All, flat_map, list_all}
 use Rattle.run_signal.specs.declared.tern.Tern.{Tern}
 use Rattle.model_line.specs.{declared.line.Line.Line, declared.line.Terminal.Terminal}
 use Rattle.model_line.specs.{declared.script.Script.Script, Fits.Fits, PlainNames.is_plain_name}
-use Rattle.run_waves.specs.Text.{runs_text}
+use Rattle.run_waves.specs.waves.Text.{runs_text}
 use Rattle.base_text.specs.lines.Grammar.{text_places, text_said}
 use Rattle.base_text.specs.lines.Lines.{Lines, is_one_line}
 use Rattle.base_text.specs.{lines.LineLaws.both_true, lines.NamedLaws.named_whole, lines.NamedLaws.whole_append}

@@ -5,7 +5,7 @@ use Rattle.std.specs.List.{All}
 use Rattle.run_signal.specs.declared.tern.Tern.{Tern}
 use Rattle.model_line.specs.Parameters.{terminal_count, param_count}
 use Rattle.model_line.specs.{declared.line.Line.Line, declared.script.Script.Script}
-use Rattle.run_waves.specs.Text.{runs_text}
+use Rattle.run_waves.specs.waves.Text.{runs_text}
 use Rattle.base_text.specs.{lines.Named.named, declared.lines.fault.TextFault.TextFault}
 use Rattle.base_text.specs.lines.SpacedNumbers.{numbers_text}
 use Rattle.base_text.specs.lines.Grammar.{Grammar, IsFixed, Parts, IsText, LeavesText, IsTextFault}

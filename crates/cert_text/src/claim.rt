@@ -1,6 +1,6 @@
 //! What a certificate claims.
 
-use run_waves::Runs;
+use run_waves::waves::Runs;
 
 /// A written verdict of an obligation, which is a script at a terminal: each choice of delays
 /// inside the declared intervals meets it; it fails at these numbers, one for each parameter; or

@@ -7,7 +7,7 @@ ghost use Rattle.model_line.specs.declared.script.Script.{Script};
 ghost use Rattle.cert_text.specs.Text.{CanBeWritten, certificate_text};
 ghost use Rattle.cert_text.specs.Grammar.{Claims, IsCertificate, LeavesGrammar};
 
-use run_waves::{texts_tell_waves, the_text_of_a_wave_is_one_line};
+use run_waves::waves::{texts_tell_waves, the_text_of_a_wave_is_one_line};
 
 /// A text is a certificate of the scripts with at most one meaning.
 pub fn a_text_has_one_meaning()

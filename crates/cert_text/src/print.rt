@@ -14,7 +14,7 @@ use crate::claim::Claim;
 use crate::read::name_at;
 use base_text::lines::push_number;
 use model_line::{Line, Memory, Name, Script};
-use run_waves::{Runs, print_runs};
+use run_waves::waves::{Runs, print_runs};
 use std::alloc::Global;
 
 /// Appends each number after one space.

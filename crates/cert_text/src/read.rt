@@ -14,7 +14,7 @@ use base_text::lines::{
     LineCursor, LineReader, PartReader, TextFault, after_name, read_lines, read_text,
 };
 use model_line::{Line, Memory, Name, Script, Terminal};
-use run_waves::{Runs, read_runs};
+use run_waves::waves::{Runs, read_runs};
 use std::alloc::Global;
 
 /// The name of a terminal.

@@ -3,7 +3,7 @@ use Rattle.std.proofs.Common.{◌≡◌, ◌<◌, ◌++◌, ◌∷◌, [], ℕ, 
 use Rattle.std.specs.Prelude.{◌↔◌, Option, Some, None, IsTrue, IsFalse}
 use Rattle.std.specs.List.{flat_map}
 use Rattle.net_gates.specs.declared.gate.Gate.{Gate}
-use Rattle.run_waves.specs.FirstTick.{first_on}
+use Rattle.run_waves.specs.waves.FirstTick.{first_on}
 use Rattle.draw_roles.specs.{declared.role.Role.Role, Lookup.gate_of, Lookup.has_role}
 use Rattle.draw_roles.specs.Roles.{explains, roles_at}
 use Rattle.draw_diagram.specs.Traces.{logic_row, logic_of, logic_at}

@@ -13,7 +13,7 @@ use Rattle.draw_diagram.specs.{declared.trace.Trace.Trace, Stretches.AreStretche
 use Rattle.draw_diagram.specs.{Times.trip_times_of, Times.is_begun, Traces.traces_of}
 use Rattle.draw_diagram.specs.Traces.{ShownPairs}
 use Rattle.draw_diagram.specs.{Traces.trace_pair, Windows.Holds, Windows.IsShown}
-use Rattle.run_waves.specs.FirstTick.{first_on}
+use Rattle.run_waves.specs.waves.FirstTick.{first_on}
 use Rattle.judge_report.specs.Deadlines.{deadline_of}
 
 abbrev pub trace_of : Row → Trace

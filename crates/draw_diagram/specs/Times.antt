@@ -7,7 +7,7 @@ use Rattle.model_line.specs.{declared.script.Element.Element, declared.script.Sc
 use Rattle.model_line.specs.{declared.script.SeenSpan.SeenSpan, declared.script.What.What}
 use Rattle.model_line.specs.declared.script.What.TheVariants as what
 use Rattle.draw_diagram.specs.declared.times.TripTimes.{TripTimes}
-use Rattle.run_waves.specs.FirstTick.{first_on}
+use Rattle.run_waves.specs.waves.FirstTick.{first_on}
 use Rattle.judge_report.specs.Deadlines.{margin_of}
 
 -- the times of a trip with these pairs

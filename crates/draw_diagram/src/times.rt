@@ -5,13 +5,13 @@ ghost use Rattle.model_history.specs.{Rails.Rails, Recorded.first_ticks};
 ghost use Rattle.model_line.specs.Parameters.{terminal_count};
 ghost use Rattle.run_signal.specs.declared.tern.Tern.{Tern};
 ghost use Rattle.draw_diagram.specs.Times.{trip_times_of};
-ghost use Rattle.run_waves.specs.{FirstTick.first_on, Waves.Tells};
+ghost use Rattle.run_waves.specs.{waves.FirstTick.first_on, waves.Waves.Tells};
 
 use crate::shown::Shown;
 use judge_report::margin;
 use model_line::{Line, Memory, Script};
 use run_signal::{Signal, Tern};
-use run_waves::the_first_tick_is_the_least;
+use run_waves::waves::the_first_tick_is_the_least;
 use std::alloc::Global;
 
 /// The first tick at which a terminal may trip, the first at which it must, and how many ticks

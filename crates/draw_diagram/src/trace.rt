@@ -11,7 +11,7 @@ ghost use Rattle.draw_diagram.specs.Traces.{IsTraceOf};
 use draw_roles::{Role, find_gate, roles_at};
 use model_line::{Element, Line, Memory, Place};
 use net_gates::Net;
-use run_waves::the_first_tick_is_the_least;
+use run_waves::waves::the_first_tick_is_the_least;
 use std::alloc::Global;
 
 /// What a row is of: what a terminal sees; whether a channel is lost, by its number; a gate by its

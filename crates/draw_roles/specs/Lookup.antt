@@ -4,7 +4,7 @@ use Rattle.std.specs.Prelude.{if◌then◌else◌}
 use Rattle.model_line.specs.{declared.line.Line.Line}
 use Rattle.draw_roles.specs.SameTree.{same_tree}
 use Rattle.net_gates.specs.{declared.gate.Gate.Gate, Formulas.formula_of}
-use Rattle.run_waves.specs.FirstTick.{first_on}
+use Rattle.run_waves.specs.waves.FirstTick.{first_on}
 use Rattle.draw_roles.specs.{declared.role.Role.Role, Roles.tree_of}
 
 -- the gate of this number stands for the tree of the role

@@ -8,7 +8,7 @@ use crate::role::Role;
 use crate::stands::stands_for;
 use model_line::Line;
 use net_gates::{GateId, Net};
-use run_waves::the_first_tick_is_the_least;
+use run_waves::waves::the_first_tick_is_the_least;
 
 /// The gate of a role, if the net has one.
 pub fn find_gate(line: &Line, net: &Net, role: Role) -> Option<u32>

@@ -3,16 +3,16 @@
 ghost use Rattle.std.specs.Prelude.{◌≡◌, ◌≤◌, ◌<◌, ℕ, IfOk, IfSome, Some, length, slice_get};
 ghost use Rattle.model_line.specs.declared.line.Line.{Line};
 ghost use Rattle.model_line.specs.Parameters.{terminal_count};
-ghost use Rattle.run_waves.specs.Waves.{AreWaves, wave_at};
-ghost use Rattle.run_derived.specs.Claims.{pairs_of};
+ghost use Rattle.run_waves.specs.waves.Waves.{AreWaves, wave_at};
+ghost use Rattle.run_waves.specs.derived.Claims.{pairs_of};
 ghost use Rattle.judge_explain.specs.Changes.{StaysAround};
 ghost use Rattle.judge_explain.specs.Asked.{AreLevels, AreRecorded, IsRecorded, level_in};
 
 use crate::changes::changes;
 use model_line::{Line, Memory};
-use run_derived::nth;
+use run_waves::derived::nth;
 use run_signal::Signal;
-use run_waves::Runs;
+use run_waves::waves::Runs;
 use std::alloc::Global;
 
 /// The ticks at which a signal of a record changes, and for each tick the level that it keeps

@@ -7,7 +7,7 @@ use Rattle.model_logic.specs.Choice.{Choice, IsInside, declared_box}
 use Rattle.model_logic.specs.Histories.{History, IsLineHistory, IsSameHistory}
 use Rattle.model_logic.specs.Logic.{key_tree, trip_tree}
 use Rattle.model_logic.specs.{PairMean.pair_mean, Laws.LineLaws}
-use Rattle.run_derived.specs.Claims.{pairs_of, declared_world}
+use Rattle.run_waves.specs.derived.Claims.{pairs_of, declared_world}
 use Rattle.judge_match.specs.declared.seen.Seen.{Seen}
 use Rattle.judge_match.specs.{Seen.AreSeen, Seen.seen_history, Clash.IsAllowed}
 

@@ -8,8 +8,8 @@ use Rattle.model_line.specs.{declared.line.Line.Line, declared.script.Script.Scr
 use Rattle.model_line.specs.Parameters.{terminal_count}
 use Rattle.model_logic.specs.{PairMean.pair_mean, Tree.Tree}
 use Rattle.net_gates.specs.NetOf.{NetOf, IsNetOf, key_of, trip_of}
-use Rattle.run_waves.specs.Waves.{wave_at}
-use Rattle.run_derived.specs.Claims.{AreGateWaves, pairs_of, declared_world}
+use Rattle.run_waves.specs.waves.Waves.{wave_at}
+use Rattle.run_waves.specs.derived.Claims.{AreGateWaves, pairs_of, declared_world}
 use Rattle.judge_match.specs.Signal.{CoversAt, IsSignalClash, IsSignalChecked}
 use Rattle.judge_match.specs.Clash.{level_at, derived_at, IsAllowed, IsSignalAllowed}
 use Rattle.judge_match.specs.Clash.{IsTerminalAllowed, IsTerminalClash, IsFirstClash}

@@ -6,7 +6,7 @@ use Rattle.run_signal.specs.{declared.tern.Tern.Tern}
 use Rattle.run_signal.specs.{TernLaws.tern_once}
 use Rattle.model_line.specs.{declared.line.Line.Line, declared.script.Script.Script}
 use Rattle.model_timing.specs.Candidates.{candidate}
-use Rattle.run_derived.specs.Firsts.{IsFirstFailing}
+use Rattle.run_waves.specs.derived.Firsts.{IsFirstFailing}
 use Rattle.judge_match.specs.declared.seen.Match.TheVariants.{Explained, Impossible, Unsettled}
 use Rattle.judge_match.specs.Clash.{AllAllowed, IsAllowed, IsFirstClash, IsSignalAllowed}
 use Rattle.judge_match.specs.Clash.{IsTerminalAllowed, IsTerminalClash}

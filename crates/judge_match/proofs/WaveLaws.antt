@@ -9,8 +9,8 @@ use Rattle.model_history.specs.Rails.{Rails, both}
 use Rattle.run_signal.specs.declared.tern.Tern.{Tern}
 use Rattle.run_signal.specs.{declared.tern.Tern.TheVariants.Zero, Terns.tern_rails}
 use Rattle.model_line.specs.{declared.line.Line.Line, Parameters.terminal_count}
-use Rattle.run_waves.specs.Waves.{wave_at, AreWaves}
-use Rattle.run_derived.specs.Claims.{pairs_of}
+use Rattle.run_waves.specs.waves.Waves.{wave_at, AreWaves}
+use Rattle.run_waves.specs.derived.Claims.{pairs_of}
 use Rattle.judge_match.specs.declared.change.Change.{Change}
 use Rattle.judge_match.specs.{declared.seen.Seen.Seen, Seen.AreSeen, Heads.HeadValues}
 use Rattle.judge_match.specs.{Heads.level_by, Waves.SeenValues, Waves.seen_values, Waves.seen_of}

@@ -4,8 +4,8 @@ use Rattle.model_history.specs.Rails.{Rails, Covers}
 use Rattle.run_signal.specs.{declared.tern.Tern.Tern, Terns.tern_rails}
 use Rattle.model_line.specs.{declared.line.Line.Line, declared.script.Script.Script}
 use Rattle.model_line.specs.Parameters.{terminal_count}
-use Rattle.run_derived.specs.Claims.{pairs_of}
-use Rattle.run_derived.specs.{Firsts.IsFirstFailing, Claims.derived_key, Claims.derived_trip}
+use Rattle.run_waves.specs.derived.Claims.{pairs_of}
+use Rattle.run_waves.specs.{derived.Firsts.IsFirstFailing, derived.Claims.derived_key, derived.Claims.derived_trip}
 use Rattle.judge_match.specs.{declared.seen.Seen.Seen, Seen.seen_history}
 
 -- what was seen of a terminal's key, or of its trip

@@ -5,7 +5,7 @@ use Rattle.model_line.specs.Parameters.{terminal_count, param_count}
 use Rattle.model_line.specs.{declared.line.Line.Line, declared.script.Script.Script}
 use Rattle.model_line.specs.NamesByNumber.{terminal_name}
 use Rattle.run_rows.specs.PlayRows.{level_word}
-use Rattle.run_waves.specs.Text.{tern_word}
+use Rattle.run_waves.specs.waves.Text.{tern_word}
 use Rattle.base_text.specs.lines.SpacedNumbers.{numbers_text, spaced}
 use Rattle.judge_match.specs.declared.seen.Match.{Match}
 use Rattle.judge_match.specs.declared.seen.Match.TheVariants.{Explained, Impossible, Unsettled}

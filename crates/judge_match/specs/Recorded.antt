@@ -4,8 +4,8 @@ use Rattle.model_history.specs.Rails.{both}
 use Rattle.model_line.specs.{declared.line.Line.Line, declared.script.Script.Script}
 use Rattle.model_line.specs.Parameters.{terminal_count}
 use Rattle.model_logic.specs.Histories.{History}
-use Rattle.run_waves.specs.Waves.{AreWaves}
-use Rattle.run_derived.specs.Claims.{pairs_of}
+use Rattle.run_waves.specs.waves.Waves.{AreWaves}
+use Rattle.run_waves.specs.derived.Claims.{pairs_of}
 use Rattle.judge_match.specs.Waves.{SeenValues}
 
 -- what was recorded, as a history

@@ -2,8 +2,8 @@
 use Rattle.std.specs.Prelude.{◌≡◌, ◌<◌, ℕ, Bool, List, Option, MatchOption, length}
 use Rattle.model_history.specs.Rails.{RailsCover}
 use Rattle.run_signal.specs.{declared.tern.Tern.Tern, Terns.tern_rails}
-use Rattle.run_waves.specs.Waves.{wave_at}
-use Rattle.run_derived.specs.Firsts.{IsFirstFailing}
+use Rattle.run_waves.specs.waves.Waves.{wave_at}
+use Rattle.run_waves.specs.derived.Firsts.{IsFirstFailing}
 use Rattle.judge_match.specs.declared.clash.Clash.{Clash}
 
 -- the derived wave covers the wave that was seen, at a tick

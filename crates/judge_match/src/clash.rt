@@ -3,8 +3,8 @@
 ghost use Rattle.std.specs.Prelude.{◌≡◌, ◌<◌, length, MatchOption};
 ghost use Rattle.model_line.specs.{declared.script.Script.Script, Parameters.terminal_count};
 ghost use Rattle.net_gates.specs.NetOf.{IsNetOf};
-ghost use Rattle.run_waves.specs.Waves.{AreWaves};
-ghost use Rattle.run_derived.specs.Claims.{AreGateWaves, pairs_of};
+ghost use Rattle.run_waves.specs.waves.Waves.{AreWaves};
+ghost use Rattle.run_waves.specs.derived.Claims.{AreGateWaves, pairs_of};
 ghost use Rattle.judge_match.specs.Signal.{IsSignalChecked};
 ghost use Rattle.judge_match.specs.{Seen.AreSeen, Clash.AllAllowed, Clash.IsTerminalAllowed};
 ghost use Rattle.judge_match.specs.{Clash.IsTerminalClash, Clash.IsFirstClash};
@@ -12,9 +12,9 @@ ghost use Rattle.judge_match.specs.{Clash.IsTerminalClash, Clash.IsFirstClash};
 use crate::seen::Seen;
 use model_line::Line;
 use net_gates::Net;
-use run_derived::{first_uncovered_tick, nth};
+use run_waves::derived::{first_uncovered_tick, nth};
 use run_signal::{Signal, Tern};
-use run_waves::Runs;
+use run_waves::waves::Runs;
 
 /// A place where what was seen is not allowed by what is derived, and both values there.
 #[derive(Clone, Copy)]

@@ -3,7 +3,7 @@
 ghost use Rattle.std.specs.Prelude.{length, IfOk};
 ghost use Rattle.model_line.specs.Parameters.{terminal_count};
 ghost use Rattle.model_logic.specs.Histories.{IsSameHistory};
-ghost use Rattle.run_waves.specs.Waves.{AreWaves};
+ghost use Rattle.run_waves.specs.waves.Waves.{AreWaves};
 ghost use Rattle.run_changes.specs.PlayedTracks.{played};
 ghost use Rattle.run_step.specs.{Ticks.AreSent, Ticks.HasKeys};
 ghost use Rattle.judge_match.specs.Seen.{AreSeen, IsAsSeen, AreAsSeen, seen_history};
@@ -11,9 +11,9 @@ ghost use Rattle.judge_match.specs.Seen.{AreSeen, IsAsSeen, AreAsSeen, seen_hist
 use crate::seen::Seen;
 use model_line::{Line, Memory};
 use run_changes::Tracks;
-use run_derived::nth;
+use run_waves::derived::nth;
 use run_signal::{Level, Signal, Track};
-use run_waves::Runs;
+use run_waves::waves::Runs;
 use std::alloc::Global;
 
 /// What was seen, as the tracks of keys and trips.

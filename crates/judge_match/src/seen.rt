@@ -2,7 +2,7 @@
 
 use model_timing::Timing;
 use run_signal::Tern;
-use run_waves::Runs;
+use run_waves::waves::Runs;
 
 /// What was seen while a script's fault took place: a key wave and a trip wave for each terminal,
 /// in the order of the line.

@@ -15,7 +15,7 @@ use crate::seen::{Match, Seen};
 use model_line::{Line, Memory, Script};
 use model_timing::{candidate, candidates_are_inside};
 use net_gates::Net;
-use run_derived::gate_waves;
+use run_waves::derived::gate_waves;
 use std::alloc::Global;
 
 /// Settles a record of a script: impossible at the first place where what follows from the keys

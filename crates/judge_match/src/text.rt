@@ -11,7 +11,7 @@ use model_line::{Line, Memory, Script};
 use model_line::name_of_terminal;
 use run_rows::level_word;
 use run_signal::{Tern, Tick};
-use run_waves::tern_word;
+use run_waves::waves::tern_word;
 use std::alloc::Global;
 
 /// The line of a script's record: `SCRIPT explained VALUES`,

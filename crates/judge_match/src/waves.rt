@@ -12,7 +12,7 @@ use crate::heads::Head;
 use crate::seen::Seen;
 use model_line::{Line, Memory};
 use run_signal::Tern;
-use run_waves::Runs;
+use run_waves::waves::Runs;
 use std::alloc::Global;
 
 /// What was seen under a head.

@@ -12,7 +12,7 @@ use Rattle.run_rows.specs.PlayRows.{each_below}
 use Rattle.judge_verdict.specs.Rules.{counted_ticks}
 use Rattle.judge_verdict.specs.RuleLaws.{rule_by_rails}
 use Rattle.judge_report.specs.ReportText.{fields_text, rule_word, row_text, script_rows}
-use Rattle.run_waves.specs.FirstTickLaws.{first_on-same}
+use Rattle.run_waves.specs.waves.FirstTickLaws.{first_on-same}
 
 some_below-same : (u v : ℕ → Bool) (n : ℕ) → ((t : ℕ) → t < n → u t ≡ v t)
     → some_below u n ≡ some_below v n

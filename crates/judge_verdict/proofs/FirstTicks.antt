@@ -2,9 +2,9 @@
 use Rattle.std.proofs.Common.{◌≡◌, ℕ, Bool, List, length, ◌∙◌, ap, arith}
 use Rattle.model_history.specs.Rails.{Rails}
 use Rattle.run_signal.specs.declared.tern.Tern.{Tern}
-use Rattle.run_waves.specs.{FirstTick.first_on}
-use Rattle.run_waves.specs.{FirstTickLaws.first_on-same}
-use Rattle.run_waves.specs.{Waves.wave_at, Waves.IsWaveOf}
+use Rattle.run_waves.specs.{waves.FirstTick.first_on}
+use Rattle.run_waves.specs.{waves.FirstTickLaws.first_on-same}
+use Rattle.run_waves.specs.{waves.Waves.wave_at, waves.Waves.IsWaveOf}
 
 -- the first tick of a wave on a rail is that of its values
 pub first_of_wave : (rail : Rails → Bool) (wave : List Tern) (horizon : ℕ) (value : ℕ → Rails)

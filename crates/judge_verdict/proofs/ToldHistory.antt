@@ -12,7 +12,7 @@ use Rattle.model_logic.specs.Choice.{Box, LeastFromOne}
 use Rattle.model_logic.specs.Logic.{key_tree, trip_tree}
 use Rattle.model_logic.specs.Laws.{TreesNameTheLine, ValuesRestOnEarlierKeys}
 use Rattle.model_logic.specs.PairMean.{PairSignals}
-use Rattle.run_waves.specs.Waves.{AreWaves, IsWaveOf}
+use Rattle.run_waves.specs.waves.Waves.{AreWaves, IsWaveOf}
 use Rattle.model_history.specs.ListLaws.{exists_at}
 use Rattle.judge_verdict.specs.PairWavesOf.{pairs_of, told_by, AreWavesOf, pair_at}
 use Rattle.judge_verdict.specs.PairWavesOf.{pair_history}

@@ -6,7 +6,7 @@ use Rattle.std.specs.Prelude.{slice_get, option_map, false}
 use Rattle.model_history.specs.Rails.{both}
 use Rattle.run_signal.specs.{declared.tern.Tern.Tern, Terns.tern_rails}
 use Rattle.run_signal.specs.SentKeys.{SentKeys}
-use Rattle.run_waves.specs.Waves.{wave_at, IsWaveOf}
+use Rattle.run_waves.specs.waves.Waves.{wave_at, IsWaveOf}
 use Rattle.model_history.specs.ListLaws.{at_push}
 use Rattle.run_changes.specs.Tracks.{pair_of}
 use Rattle.judge_verdict.specs.PairWavesOf.{AreWavesOf, track_pairs}

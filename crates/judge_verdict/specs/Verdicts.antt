@@ -7,7 +7,7 @@ use Rattle.model_line.specs.{declared.line.Line.Line, declared.script.Script.Scr
 use Rattle.model_line.specs.Parameters.{terminal_count}
 use Rattle.model_timing.specs.Candidates.{candidate, candidate_count}
 use Rattle.model_timing.specs.{Timing.TimingValues, Inside.IsTimingInside, Choice.timing_choice}
-use Rattle.run_waves.specs.Waves.{IsWaveOf}
+use Rattle.run_waves.specs.waves.Waves.{IsWaveOf}
 use Rattle.judge_verdict.specs.OneEach.{OneEach}
 use Rattle.judge_verdict.specs.declared.verdict.Verdict.{Verdict}
 use Rattle.judge_verdict.specs.declared.verdict.Verdict.TheVariants.{Yes, No, Undecided}

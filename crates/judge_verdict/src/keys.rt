@@ -7,7 +7,7 @@ ghost use Rattle.judge_verdict.specs.Verdicts.{AreKeys};
 
 use crate::pair_waves::PairWaves;
 use model_line::{Line, Memory};
-use run_waves::Runs;
+use run_waves::waves::Runs;
 use std::alloc::Global;
 
 /// The key wave of each terminal.

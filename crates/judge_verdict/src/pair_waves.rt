@@ -2,11 +2,11 @@
 
 ghost use Rattle.std.specs.Prelude.{◌≡◌, ◌<◌, IfSome, length};
 ghost use Rattle.run_signal.specs.Terns.{tern_rails};
-ghost use Rattle.run_waves.specs.{FirstTick.first_on, Waves.AreWaves, Waves.IsWaveOf};
+ghost use Rattle.run_waves.specs.{waves.FirstTick.first_on, waves.Waves.AreWaves, waves.Waves.IsWaveOf};
 ghost use Rattle.judge_verdict.specs.PairWavesOf.{told_by, pair_history};
 
 use run_signal::Tern;
-use run_waves::Runs;
+use run_waves::waves::Runs;
 use std::marker::Model;
 
 /// What each terminal keys, and whether it trips, at each tick of a run: off or on whatever the
@@ -20,7 +20,7 @@ pub struct PairWaves {
 
 impl Model for PairWaves {
     ghost use Rattle.std.specs.Prelude.{length};
-    ghost use Rattle.run_waves.specs.Waves.{AreWaves};
+    ghost use Rattle.run_waves.specs.waves.Waves.{AreWaves};
     ghost use Rattle.judge_verdict.specs.PairWavesOf.{PairWavesOf, told_by};
 
     ghost Value = { PairWavesOf };
@@ -92,7 +92,7 @@ impl PairWaves {
             ≡ first_on (λ t. ((pair_history self.now).trip terminal t).must) self.now.horizon }
         ensures within { IfSome result (λ t. t < self.now.horizon) }
     {
-        run_waves::first_must(self.trip_runs(terminal))
+        run_waves::waves::first_must(self.trip_runs(terminal))
     }
 
     /// The first tick at which a terminal may trip.
@@ -102,6 +102,6 @@ impl PairWaves {
             ≡ first_on (λ t. ((pair_history self.now).trip terminal t).may) self.now.horizon }
         ensures within { IfSome result (λ t. t < self.now.horizon) }
     {
-        run_waves::first_may(self.trip_runs(terminal))
+        run_waves::waves::first_may(self.trip_runs(terminal))
     }
 }

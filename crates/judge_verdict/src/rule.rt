@@ -5,7 +5,7 @@ ghost use Rattle.model_history.specs.Elements.{some_below};
 ghost use Rattle.model_line.specs.{declared.line.Line.Line, Parameters.terminal_count};
 ghost use Rattle.model_logic.specs.Histories.{History, CoversHistory, Meets};
 ghost use Rattle.model_logic.specs.Rule.{rule_by};
-ghost use Rattle.run_waves.specs.FirstTick.{first_on};
+ghost use Rattle.run_waves.specs.waves.FirstTick.{first_on};
 ghost use Rattle.judge_verdict.specs.PairWavesOf.{pair_history};
 ghost use Rattle.judge_verdict.specs.Rules.{rule_named, rule_from, counted_ticks};
 ghost use Rattle.judge_verdict.specs.Rules.{IsDeadlineWithin};
@@ -14,7 +14,7 @@ use crate::pair_waves::PairWaves;
 use model_history::element_laws::tests_are_their_facts;
 use model_line::{Kind, Script};
 use model_logic::laws::the_rule_speaks_for_what_is_covered;
-use run_waves::the_first_tick_is_the_least;
+use run_waves::waves::the_first_tick_is_the_least;
 
 /// What the interval rules say of an obligation, which is a script at a terminal: every choice of
 /// delays meets it, every choice fails it, or neither is known.

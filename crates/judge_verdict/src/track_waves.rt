@@ -3,12 +3,12 @@
 ghost use Rattle.std.specs.Prelude.{◌≡◌, ◌≤◌, ℕ, length, slice_get, IfOk};
 ghost use Rattle.run_signal.specs.declared.tern.Tern.{Tern};
 ghost use Rattle.run_signal.specs.SentKeys.{SentKeys};
-ghost use Rattle.run_waves.specs.Waves.{wave_at, IsWaveOf};
+ghost use Rattle.run_waves.specs.waves.Waves.{wave_at, IsWaveOf};
 ghost use Rattle.judge_verdict.specs.PairWavesOf.{AreWavesOf, track_pairs};
 
 use model_line::Memory;
 use run_signal::{Tern, Track};
-use run_waves::{Runs, waves_grow};
+use run_waves::waves::{Runs, waves_grow};
 use std::alloc::Global;
 
 /// The waves of these tracks, in their order.

@@ -1,7 +1,7 @@
 //! Verdicts.
 
 use model_timing::Timing;
-use run_waves::Runs;
+use run_waves::waves::Runs;
 
 /// What is known of an obligation, which is a script at a terminal: each choice of delays inside
 /// the declared intervals meets it; it fails at this timing, which has no steps; or neither is

@@ -1,10 +1,2 @@
-pub mod RunLaws
-pub mod WaveLaws
-pub mod DelayLaws
-pub mod ElementLaws
-pub mod LongestRuns
-pub mod TextLaws
-pub mod OneLine
-pub mod FirstTicks
-pub mod GateLaws
-pub mod ReadLaws
+pub mod derived_lemmas
+pub mod waves_lemmas

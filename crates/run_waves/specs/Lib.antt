@@ -1,5 +1,2 @@
-pub mod Waves
-pub mod Text
-pub mod WaveLaws
-pub mod FirstTick
-pub mod FirstTickLaws
+pub mod derived
+pub mod waves

@@ -3,8 +3,8 @@ use Rattle.std.specs.Prelude.{slice_get}
 use Rattle.model_history.specs.Rails.{Rails, must_of, may_of}
 use Rattle.model_line.specs.{declared.line.Line.Line, declared.script.Script.Script}
 use Rattle.judge_verdict.specs.PairWavesOf.{pair_at}
-use Rattle.run_waves.specs.FirstTick.{first_on}
-use Rattle.run_waves.specs.FirstTickLaws.{first_on-same}
+use Rattle.run_waves.specs.waves.FirstTick.{first_on}
+use Rattle.run_waves.specs.waves.FirstTickLaws.{first_on-same}
 use Rattle.model_history.specs.ListLaws.{exists_at}
 use Rattle.call_facts.proofs.firsts.firsts_of.Goals as goal
 

@@ -1,6 +1,6 @@
 use Rattle.std.proofs.Common.{ℕ, ◌<◌}
 use Rattle.model_line.specs.declared.script.Script.{Script}
-use Rattle.run_derived.specs.Claims.{AreGateWaves, pairs_of}
+use Rattle.run_waves.specs.derived.Claims.{AreGateWaves, pairs_of}
 use Rattle.cert_check.specs.Verdicts.{IsKeyCovered}
 use Rattle.cert_check.proofs.cover.first_uncovered.Given as goal
 

@@ -1,5 +1,5 @@
 use Rattle.std.proofs.Common.{length}
-use Rattle.run_waves.specs.Waves.{wave_at}
+use Rattle.run_waves.specs.waves.Waves.{wave_at}
 use Rattle.cert_check.proofs.held.is_held.Goals as goal
 
 pub returns-in-Internal : goal.returns-in-Internal

@@ -1,6 +1,6 @@
 use Rattle.std.proofs.Common.{◌≤◌, ◌-◌, length}
 use Rattle.run_changes.specs.PlayedTracks.{is_on}
-use Rattle.run_waves.specs.FirstTick.{IsOffFrom}
+use Rattle.run_waves.specs.waves.FirstTick.{IsOffFrom}
 use Rattle.cert_check.proofs.met.first_trip.Given as goal
 
 -- off at every tick so far

@@ -1,6 +1,6 @@
 use Rattle.std.proofs.Common.{ℕ, refl, sym, subst}
 use Rattle.model_logic.specs.Rule.{IsHeld}
-use Rattle.run_waves.specs.Waves.{wave_at}
+use Rattle.run_waves.specs.waves.Waves.{wave_at}
 use Rattle.cert_text.specs.{declared.claim.Claim.Claim, Grammar.verdict_in}
 use Rattle.cert_check.specs.declared.claim.ClaimFault.TheVariants.{NotHeld}
 use Rattle.cert_check.specs.Verdicts.{IsSupported, IsFaultOf}

@@ -7,7 +7,7 @@ use Rattle.model_logic.specs.{PairMean.PairSignals, Choice.declared_box}
 use Rattle.model_line.specs.Parameters.{terminal_count}
 use Rattle.cert_text.specs.declared.claim.Claim.{Claim}
 use Rattle.cert_text.specs.Grammar.{Claims, yes, claims_in, verdict_in}
-use Rattle.run_derived.specs.Claims.{AreGateWaves, pairs_of}
+use Rattle.run_waves.specs.derived.Claims.{AreGateWaves, pairs_of}
 use Rattle.cert_check.specs.Verdicts.{AreSupported, IsVerdictFault, IsFirstUncovered}
 use Rattle.cert_check.proofs.Acceptance.{with_keys, where_good}
 use Rattle.cert_check.proofs.script_check.check_claims.Goals as goal

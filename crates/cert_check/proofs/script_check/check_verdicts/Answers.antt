@@ -8,7 +8,7 @@ use Rattle.net_gates.specs.Formulas.{formula_of}
 use Rattle.cert_text.specs.declared.claim.Claim.{Claim}
 use Rattle.cert_text.specs.Grammar.{HasNumbers, Verdict, verdict_in}
 use Rattle.cert_check.specs.Verdicts.{IsSupported}
-use Rattle.run_derived.specs.Claims.{derived_trip}
+use Rattle.run_waves.specs.derived.Claims.{derived_trip}
 use Rattle.cert_check.specs.ScriptLaws.{each_mapped, slice_mapped, one_more}
 use Rattle.cert_check.proofs.Acceptance.{tree_pairs}
 use Rattle.cert_check.proofs.script_check.check_verdicts.Goals as goal

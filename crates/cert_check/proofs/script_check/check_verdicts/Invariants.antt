@@ -2,7 +2,7 @@ use Rattle.std.proofs.Common.{◌≡◌, ◌<◌, ℕ, Some, map}
 use Rattle.std.specs.Prelude.{slice_get}
 use Rattle.model_logic.specs.PairMean.{PairSignals}
 use Rattle.cert_text.specs.Grammar.{Verdict, verdict_in}
-use Rattle.run_derived.specs.Claims.{AreGateWaves, derived_trip}
+use Rattle.run_waves.specs.derived.Claims.{AreGateWaves, derived_trip}
 use Rattle.cert_check.specs.Verdicts.{IsSupported}
 use Rattle.cert_check.proofs.script_check.check_verdicts.Given as goal
 

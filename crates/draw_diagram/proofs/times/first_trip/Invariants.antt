@@ -1,6 +1,6 @@
 use Rattle.std.proofs.Common.{◌≡◌, ◌<◌, ℕ, Bool, false}
 use Rattle.model_history.specs.Rails.{Rails}
-use Rattle.run_waves.specs.Waves.{Tells}
+use Rattle.run_waves.specs.waves.Waves.{Tells}
 use Rattle.draw_diagram.proofs.times.first_trip.Given as goal
 
 -- off at every tick so far

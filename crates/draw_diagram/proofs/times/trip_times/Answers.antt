@@ -1,6 +1,6 @@
 use Rattle.std.proofs.Common.{◌≡◌, ℕ, ◌∙◌, ap, rules}
 use Rattle.model_history.specs.Rails.{Rails, must_of, may_of}
-use Rattle.run_waves.specs.FirstTick.{first_on}
+use Rattle.run_waves.specs.waves.FirstTick.{first_on}
 use Rattle.judge_report.specs.Deadlines.{margin_of}
 use Rattle.draw_diagram.proofs.times.trip_times.Goals as goal
 

@@ -1,7 +1,7 @@
 use Rattle.std.proofs.Common.{subst, sym, refl, List}
-use Rattle.run_derived.specs.Claims.{pairs_of}
+use Rattle.run_waves.specs.derived.Claims.{pairs_of}
 use Rattle.run_signal.specs.declared.tern.Tern.{Tern}
-use Rattle.run_waves.specs.Waves.{wave_at}
+use Rattle.run_waves.specs.waves.Waves.{wave_at}
 use Rattle.judge_explain.specs.Asked.{IsRecorded}
 use Rattle.model_history.specs.ListLaws.{each_more}
 use Rattle.judge_explain.proofs.ListLaws.{count_more}

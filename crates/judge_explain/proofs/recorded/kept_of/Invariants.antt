@@ -1,6 +1,6 @@
 use Rattle.std.proofs.Common.{◌≡◌, ℕ, Some, length}
 use Rattle.std.specs.Prelude.{slice_get}
-use Rattle.run_derived.specs.Claims.{pairs_of}
+use Rattle.run_waves.specs.derived.Claims.{pairs_of}
 use Rattle.judge_explain.specs.Asked.{IsRecorded}
 use Rattle.judge_explain.specs.declared.recorded.Recorded.{Recorded}
 use Rattle.judge_explain.proofs.recorded.kept_of.Given as goal

@@ -1,5 +1,5 @@
 use Rattle.std.proofs.Common.{◌≡◌, ◌∙◌, ap, subst, sym, List, ℕ, Bool, length}
-use Rattle.run_waves.specs.Waves.{wave_at}
+use Rattle.run_waves.specs.waves.Waves.{wave_at}
 use Rattle.judge_explain.specs.{Changes.StaysAround, Asked.level_in, Asked.AreLevels}
 use Rattle.judge_explain.proofs.ListLaws.{levels_changes, levels_stay}
 use Rattle.judge_explain.proofs.recorded.kept_of_wave.Goals as goal

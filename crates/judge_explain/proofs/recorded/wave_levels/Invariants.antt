@@ -1,4 +1,4 @@
-use Rattle.run_waves.specs.Waves.{wave_at}
+use Rattle.run_waves.specs.waves.Waves.{wave_at}
 use Rattle.judge_explain.specs.Asked.{AreLevels}
 use Rattle.judge_explain.proofs.recorded.wave_levels.Given as goal
 

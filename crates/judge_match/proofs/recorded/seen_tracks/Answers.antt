@@ -1,6 +1,6 @@
 use Rattle.std.proofs.Common.{List, ◌∙◌, ap}
 use Rattle.run_signal.specs.declared.tern.Tern.{Tern}
-use Rattle.run_derived.specs.Claims.{pairs_of}
+use Rattle.run_waves.specs.derived.Claims.{pairs_of}
 use Rattle.judge_match.proofs.recorded.seen_tracks.Goals as goal
 
 pub returns-clause-same : goal.returns-clause-same

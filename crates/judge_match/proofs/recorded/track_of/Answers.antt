@@ -4,7 +4,7 @@ use Rattle.std.proofs.lemmas.Bool.{cases_lt}
 use Rattle.model_history.specs.Rails.{must_of}
 use Rattle.run_signal.specs.{declared.level.Level.Level, Levels.level_rails, Lanes.in_lane}
 use Rattle.run_signal.specs.declared.tern.Tern.{Tern}
-use Rattle.run_waves.specs.Waves.{wave_at}
+use Rattle.run_waves.specs.waves.Waves.{wave_at}
 use Rattle.judge_match.proofs.RecordedLaws.{on_before, on_after}
 use Rattle.judge_match.proofs.recorded.track_of.Goals as goal
 

@@ -4,8 +4,8 @@ use Rattle.run_signal.specs.declared.tern.Tern.{Tern}
 use Rattle.run_signal.specs.SentKeys.{SentKeys}
 use Rattle.run_signal.specs.declared.level.Level.{Level}
 use Rattle.run_step.specs.Ticks.{HasKeys}
-use Rattle.run_waves.specs.Waves.{wave_at}
-use Rattle.run_derived.specs.Claims.{pairs_of}
+use Rattle.run_waves.specs.waves.Waves.{wave_at}
+use Rattle.run_waves.specs.derived.Claims.{pairs_of}
 use Rattle.judge_match.proofs.RecordedLaws.{sent_more, shown_more}
 use Rattle.judge_match.proofs.recorded.tracks_of.Goals as goal
 

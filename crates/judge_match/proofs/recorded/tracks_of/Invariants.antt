@@ -1,7 +1,7 @@
 use Rattle.std.proofs.Common.{◌≡◌, ◌<◌, ℕ}
 use Rattle.run_changes.specs.PlayedTracks.{is_shown}
 use Rattle.run_step.specs.Ticks.{AreSent}
-use Rattle.run_derived.specs.Claims.{pairs_of}
+use Rattle.run_waves.specs.derived.Claims.{pairs_of}
 use Rattle.judge_match.proofs.recorded.tracks_of.Given as goal
 
 abbrev pub invariant-loop-k : goal.invariant-loop-k

@@ -1,6 +1,6 @@
 use Rattle.std.proofs.Common.{List, sym, subst}
 use Rattle.run_signal.specs.declared.tern.Tern.{Tern}
-use Rattle.run_derived.specs.Claims.{AreGateWaves, pairs_of}
+use Rattle.run_waves.specs.derived.Claims.{AreGateWaves, pairs_of}
 use Rattle.judge_match.specs.Clash.{IsFirstClash}
 use Rattle.judge_match.proofs.settling.settle.Goals as goal
 

@@ -3,7 +3,7 @@ use Rattle.std.specs.Prelude.{codes}
 use Rattle.model_history.specs.Rails.{Rails}
 use Rattle.model_logic.specs.Rule.{rule_by}
 use Rattle.judge_verdict.specs.{PairWavesOf.pair_at, Rules.rule_named}
-use Rattle.run_waves.specs.FirstTick.{first_on}
+use Rattle.run_waves.specs.waves.FirstTick.{first_on}
 use Rattle.judge_report.specs.ReportText.{rule_word}
 use Rattle.judge_report.proofs.{SameRows.row_with-same, Texts.grown}
 use Rattle.judge_report.proofs.rows.push_row.Goals as goal

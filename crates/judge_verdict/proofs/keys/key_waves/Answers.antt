@@ -1,7 +1,7 @@
 use Rattle.std.proofs.Common.{ℕ, List, sym, subst}
 use Rattle.model_history.specs.Rails.{Rails}
 use Rattle.run_signal.specs.declared.tern.Tern.{Tern}
-use Rattle.run_waves.specs.Waves.{IsWaveOf}
+use Rattle.run_waves.specs.waves.Waves.{IsWaveOf}
 use Rattle.judge_verdict.specs.PairWavesOf.{pair_history}
 use Rattle.judge_verdict.specs.OneEachLaws.{one_more}
 use Rattle.judge_verdict.proofs.keys.key_waves.Goals as goal

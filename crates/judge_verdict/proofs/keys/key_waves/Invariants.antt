@@ -1,4 +1,4 @@
-use Rattle.run_waves.specs.Waves.{IsWaveOf}
+use Rattle.run_waves.specs.waves.Waves.{IsWaveOf}
 use Rattle.judge_verdict.specs.PairWavesOf.{pair_history}
 use Rattle.judge_verdict.specs.OneEach.{OneEach}
 use Rattle.judge_verdict.proofs.keys.key_waves.Given as goal

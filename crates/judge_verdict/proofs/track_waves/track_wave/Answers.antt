@@ -1,6 +1,6 @@
 use Rattle.std.proofs.Common.{◌≡◌, ◌-◌, ◌<◌, ℕ, List, length, sym, ◌∙◌, arith}
 use Rattle.run_signal.specs.declared.tern.Tern.{Tern}
-use Rattle.run_waves.specs.Waves.{wave_at}
+use Rattle.run_waves.specs.waves.Waves.{wave_at}
 use Rattle.judge_verdict.proofs.TrackLaws.{level_at}
 use Rattle.judge_verdict.proofs.track_waves.track_wave.Goals as goal
 

@@ -1,5 +1,5 @@
 use Rattle.std.proofs.Common.{◌-◌, ◌≤◌, length}
-use Rattle.run_waves.specs.Waves.{wave_at, IsWaveOf}
+use Rattle.run_waves.specs.waves.Waves.{wave_at, IsWaveOf}
 use Rattle.judge_verdict.proofs.track_waves.track_wave.Given as goal
 
 abbrev pub invariant-stretches : goal.invariant-stretches

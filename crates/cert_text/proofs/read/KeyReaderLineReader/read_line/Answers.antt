@@ -1,7 +1,7 @@
 use Rattle.std.proofs.Common.{◌≡◌, List, ℕ, sym, ◌∙◌, ap}
 use Rattle.std.specs.Prelude.{codes}
 use Rattle.run_signal.specs.declared.tern.Tern.{Tern}
-use Rattle.run_waves.specs.Text.{IsTextOf, runs_text}
+use Rattle.run_waves.specs.waves.Text.{IsTextOf, runs_text}
 use Rattle.base_text.specs.{lines.Named.named, lines.AnswerLaws.map_read, lines.NamedLaws.one_text}
 use Rattle.cert_text.proofs.ReadLaws.{not_key}
 use Rattle.cert_text.proofs.read.KeyReaderLineReader.read_line.Goals as goal

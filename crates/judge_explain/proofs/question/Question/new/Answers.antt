@@ -1,6 +1,6 @@
 use Rattle.std.proofs.Common.{subst, List}
 use Rattle.run_signal.specs.declared.tern.Tern.{Tern}
-use Rattle.run_derived.specs.Claims.{pairs_of}
+use Rattle.run_waves.specs.derived.Claims.{pairs_of}
 use Rattle.judge_explain.specs.Asked.{AreRecorded}
 use Rattle.judge_explain.proofs.question.Question.new.Goals as goal
 

@@ -1,5 +1,5 @@
 use Rattle.std.proofs.Common.{length, ap, subst, arith}
-use Rattle.run_waves.specs.Waves.{IsWaveOf}
+use Rattle.run_waves.specs.waves.Waves.{IsWaveOf}
 use Rattle.judge_verdict.specs.PairWavesOf.{PairWavesOf, pair_history}
 use Rattle.judge_verdict.proofs.ToldHistory.{wave_read}
 use Rattle.judge_verdict.proofs.pair_waves.PairWaves.trip_runs.Goals as goal

@@ -1,5 +1,0 @@
-use Rattle.run_waves.proofs.WaveLaws.{ticks_more, new_length}
-use Rattle.run_waves.proofs.laws.waves_grow.Goals as goal
-
-pub returns : goal.returns
-returns c = record { ticks = ticks_more; long = new_length }

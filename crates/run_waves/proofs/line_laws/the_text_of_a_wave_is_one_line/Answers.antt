@@ -1,5 +1,0 @@
-use Rattle.run_waves.proofs.OneLine.{runs_whole}
-use Rattle.run_waves.proofs.line_laws.the_text_of_a_wave_is_one_line.Goals as goal
-
-pub returns : goal.returns
-returns c = λ wave short. runs_whole wave short

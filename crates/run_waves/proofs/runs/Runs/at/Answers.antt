@@ -1,9 +1,0 @@
-use Rattle.std.proofs.Common.{arith}
-use Rattle.run_waves.proofs.WaveLaws.{rails_along}
-use Rattle.run_waves.proofs.runs.Runs.at.Goals as goal
-
-pub returns-clause-rails : goal.returns-clause-rails
-returns-clause-rails c =
-    rails_along c.args.self.now c.cursor-cursor.result c.stretch.result.level c.args.t
-    c.stretch.result.end c.args.t c.cursor-cursor.ensures c.stretch.ensures.level (omega arith)
-    c.stretch.ensures.later

@@ -1,0 +1,14 @@
+use Rattle.std.proofs.Common.{◌≡◌, ◌-◌, ◌≤◌, length}
+use Rattle.model_history.specs.Rails.{rails_delayed, single}
+use Rattle.run_waves.specs.waves.Waves.{wave_at, IsWaveOf}
+use Rattle.run_waves.proofs.waves.received.raw_of_one.Given as goal
+
+abbrev pub invariant-stretches : goal.invariant-stretches
+invariant-stretches l = record {
+  keys : l.keys ≡ l.key;
+  short : length l.wave ≤ length l.key;
+  values : IsWaveOf l.wave (length l.wave) (λ t. rails_delayed (wave_at l.key) (single l.delay) t);
+}
+
+abbrev pub decreases-stretches : goal.decreases-stretches
+decreases-stretches l = length l.key - length l.wave

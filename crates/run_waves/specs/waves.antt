@@ -1,0 +1,5 @@
+pub mod Waves
+pub mod Text
+pub mod WaveLaws
+pub mod FirstTick
+pub mod FirstTickLaws
