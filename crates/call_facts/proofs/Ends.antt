@@ -3,10 +3,10 @@ use Rattle.std.proofs.Common.{◌≡◌, ◌+◌, ◌*◌, ◌/◌, ◌%◌, ◌
 use Rattle.std.specs.Prelude.{slice_get, if◌then◌else◌}
 use Rattle.model_line.specs.{declared.line.Line.Line, declared.script.Script.Script}
 use Rattle.judge_report.specs.declared.upper_end.Lost.{Lost}
-use Rattle.judge_margins.specs.declared.end.{End.End, Side.Side}
-use Rattle.judge_margins.specs.declared.end.Side.TheVariants.{Above, Below}
-use Rattle.judge_margins.specs.Ends.{AreEnds, IsEnd}
-use Rattle.judge_margins.specs.Widened.{side_at}
+use Rattle.judge_margins.specs.declared.margins.end.{End.End, Side.Side}
+use Rattle.judge_margins.specs.declared.margins.end.Side.TheVariants.{Above, Below}
+use Rattle.judge_margins.specs.margins.Ends.{AreEnds, IsEnd}
+use Rattle.judge_margins.specs.margins.Widened.{side_at}
 
 even_half : (i : ℕ) → (2 * i) / 2 ≡ i
 even_half i = omega arith

@@ -4,7 +4,7 @@ ghost use Rattle.std.specs.Prelude.{◌≡◌, ◌<◌, ◌+◌, ◌*◌, List, 
 ghost use Rattle.std.specs.Prelude.{slice_get};
 ghost use Rattle.model_line.specs.Parameters.{param_count};
 ghost use Rattle.judge_report.specs.declared.upper_end.Lost.{Lost as LostOf};
-ghost use Rattle.judge_margins.specs.Ends.{AreEnds};
+ghost use Rattle.judge_margins.specs.margins.Ends.{AreEnds};
 ghost use Rattle.call_answer.specs.Study.{IsStudy};
 ghost use Rattle.call_facts.specs.Least.{at_words as words_at};
 ghost use Rattle.call_facts.specs.Times.{AreTimes, IsTimeOf};
@@ -12,7 +12,7 @@ ghost use Rattle.call_facts.specs.Times.{AreTimes, IsTimeOf};
 use crate::least::at_words;
 use call_answer::Study;
 use draw_page::{Slack, Time};
-use judge_margins::{End, held_today, margins};
+use judge_margins::margins::{End, held_today, margins};
 use model_line::Memory;
 use model_line::name_of_parameter;
 use std::alloc::Global;

@@ -1,6 +1,6 @@
 -- What is denied where a map is.
 use Rattle.std.proofs.Common.{Result, Ok, Err}
-use Rattle.judge_map.specs.declared.axis.Axes.{Axes}
+use Rattle.judge_margins.specs.declared.map.axis.Axes.{Axes}
 use Rattle.call_map.specs.declared.denial.{MapDenial.MapDenial, MapStop.MapStop}
 use Rattle.call_map.specs.declared.denial.MapStop.TheVariants.{Denied, Memory}
 

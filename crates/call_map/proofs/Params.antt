@@ -4,7 +4,7 @@ use Rattle.std.specs.List.{All}
 use Rattle.std.proofs.lemmas.List.Elements.{All-get_or}
 use Rattle.std.proofs.lemmas.Option.{get_or_from_slice_get, slice_get_within}
 use Rattle.model_line.specs.{declared.line.Line.Line, Parameters.param_count}
-use Rattle.judge_map.specs.Placed.{AreParams}
+use Rattle.judge_margins.specs.map.Placed.{AreParams}
 
 pub are_params : (line : Line) (params : List ℕ) → All (λ p. p < param_count line) params
     → AreParams line params

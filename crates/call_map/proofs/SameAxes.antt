@@ -1,9 +1,9 @@
 -- What the words ask for, told of the axes that they come to.
 use Rattle.std.proofs.Common.{◌≡◌, List, ℕ, Option, None, Some, refl, ap, sym, ◌∙◌}
 use Rattle.model_line.specs.declared.line.Line.{Line}
-use Rattle.judge_map.specs.{declared.axis.Axis.Axis, declared.axis.Axes.Axes}
-use Rattle.judge_map.specs.Faults as map
-use Rattle.judge_map.specs.Axes.{count_along, rows_of}
+use Rattle.judge_margins.specs.{declared.map.axis.Axis.Axis, declared.map.axis.Axes.Axes}
+use Rattle.judge_margins.specs.map.Faults as map
+use Rattle.judge_margins.specs.map.Axes.{count_along, rows_of}
 use Rattle.call_map.specs.Asked.{AreAxesOf, Both, IsAxisOf, IsSecondOf, Moved, count_of, fault_of}
 use Rattle.call_map.specs.Asked.{first_among, moved_fault, rows_in, second_fault, twice_by, twice_in}
 

@@ -1,8 +1,8 @@
 -- What a map answers.
 use Rattle.std.specs.Prelude.{◌≡◌, ℕ, List, [], Option, None, Some}
 use Rattle.model_line.specs.{declared.line.Line.Line, declared.script.Script.Script}
-use Rattle.judge_map.specs.{declared.axis.Axes.Axes, declared.cell.Cell.Cell}
-use Rattle.judge_map.specs.{Cells.AreCells, MapText.map_text}
+use Rattle.judge_margins.specs.{declared.map.axis.Axes.Axes, declared.map.cell.Cell.Cell}
+use Rattle.judge_margins.specs.{map.Cells.AreCells, map.MapText.map_text}
 use Rattle.draw_shapes.specs.{Drawings.drawing_of, declared.grid.Grid.Grid}
 use Rattle.draw_map.specs.Grids.{IsGridOf}
 use Rattle.draw_shapes.specs.Svg.{svg_of}

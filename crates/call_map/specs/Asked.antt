@@ -4,10 +4,10 @@ use Rattle.std.specs.Prelude.{Result, Ok, Err, nat_lt, if◌then◌else◌}
 use Rattle.std.specs.List.{list_any}
 use Rattle.model_line.specs.declared.line.Line.{Line}
 use Rattle.model_line.specs.NamesByNumber.{parameter_name}
-use Rattle.judge_map.specs.{declared.axis.Axis.Axis, declared.axis.Axes.Axes}
-use Rattle.judge_map.specs.declared.fault.MapFault.{MapFault}
-use Rattle.judge_map.specs.declared.fault.MapFault.TheVariants.{TooMany}
-use Rattle.judge_map.specs.Faults.{first_fault, or_else}
+use Rattle.judge_margins.specs.{declared.map.axis.Axis.Axis, declared.map.axis.Axes.Axes}
+use Rattle.judge_margins.specs.declared.map.fault.MapFault.{MapFault}
+use Rattle.judge_margins.specs.declared.map.fault.MapFault.TheVariants.{TooMany}
+use Rattle.judge_margins.specs.map.Faults.{first_fault, or_else}
 use Rattle.file_times.specs.declared.{axis_fault.AxisFault.AxisFault, steps.Steps.Steps}
 use Rattle.file_times.specs.{Names.params_of, Parts.names_of, Steps.steps_of}
 use Rattle.call_map.specs.declared.{denial.MapDenial.MapDenial, denial.Side.Side}

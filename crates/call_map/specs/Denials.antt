@@ -1,7 +1,7 @@
 -- Why there is no such map: the exit status, and the line that says it.
 use Rattle.std.specs.Prelude.{ℕ, List, [], ◌∷◌, Option, None, Some, codes, decimal}
-use Rattle.judge_map.specs.declared.fault.MapFault.{MapFault}
-use Rattle.judge_map.specs.declared.fault.MapFault.TheVariants as map
+use Rattle.judge_margins.specs.declared.map.fault.MapFault.{MapFault}
+use Rattle.judge_margins.specs.declared.map.fault.MapFault.TheVariants as map
 use Rattle.file_times.specs.declared.axis_fault.AxisFault.{AxisFault}
 use Rattle.file_times.specs.declared.axis_fault.AxisFault.TheVariants as axis
 use Rattle.file_times.specs.AxisWords.{part_words, what_words}

@@ -5,8 +5,8 @@ ghost use Rattle.std.specs.Prelude.{Option as OptionOf};
 ghost use Rattle.std.specs.List.{list_any};
 ghost use Rattle.std.specs.Option.{option_copied};
 ghost use Rattle.model_line.specs.Parameters.{param_count};
-ghost use Rattle.judge_map.specs.Axes.{AreAxes, CanMoveBoth, IsAxis, IsSecond};
-ghost use Rattle.judge_map.specs.Placed.{AreParams};
+ghost use Rattle.judge_margins.specs.map.Axes.{AreAxes, CanMoveBoth, IsAxis, IsSecond};
+ghost use Rattle.judge_margins.specs.map.Placed.{AreParams};
 ghost use Rattle.draw_map.specs.Maps.{IsSmallSecond};
 ghost use Rattle.call_map.specs.Asked.{AreAxesOf, Both as BothOf, IsAxisOf, IsSecondOf, Moved as MovedOf};
 ghost use Rattle.call_map.specs.Asked.{Tells, asked_of, first_among as first_among_of, moved_by};
@@ -16,7 +16,7 @@ ghost use Rattle.call_map.specs.declared.denial.MapStop.TheVariants.{Denied};
 
 use crate::denial::{MapDenial, MapStop, Side};
 use file_times::{names_of, params_of, read_steps};
-use judge_map::{Axes, Axis, map_fault};
+use judge_margins::map::{Axes, Axis, map_fault};
 use model_line::Line;
 use std::alloc::Global;
 

@@ -14,7 +14,7 @@ use base_text::store::{PutFailed, Sink};
 use call_answer::put_pieces;
 use file_times::AxisFault;
 use itoa::Buffer;
-use judge_map::MapFault;
+use judge_margins::map::MapFault;
 use model_line::{Memory, Name};
 
 /// The axis of the columns, or that of the rows.

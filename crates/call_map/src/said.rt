@@ -3,8 +3,8 @@
 ghost use Rattle.std.specs.Prelude.{◌≡◌, ◌≤◌, Err, Ok, IfOk};
 ghost use Rattle.std.specs.Option.{option_copied};
 ghost use Rattle.base_markup.specs.svg.Content.{IsContent};
-ghost use Rattle.judge_map.specs.Axes.{AreAxes, CanMoveBoth};
-ghost use Rattle.judge_map.specs.Cells.{AreCells};
+ghost use Rattle.judge_margins.specs.map.Axes.{AreAxes, CanMoveBoth};
+ghost use Rattle.judge_margins.specs.map.Cells.{AreCells};
 ghost use Rattle.draw_map.specs.Maps.{IsSmallSecond};
 ghost use Rattle.file_times.specs.Parts.{names_of as names_for};
 ghost use Rattle.call_answer.specs.Answers.{Says};
@@ -21,7 +21,7 @@ use call_ask::{MapAsk, MapForm};
 use draw_map::{Map, grid_of};
 use draw_shapes::{draw, svg};
 use file_times::names_of;
-use judge_map::{Axes, Cell, cells, map_text};
+use judge_margins::map::{Axes, Cell, cells, map_text};
 use model_line::Memory;
 use std::alloc::Global;
 

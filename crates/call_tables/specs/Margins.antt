@@ -2,8 +2,8 @@
 use Rattle.std.specs.Prelude.{◌≡◌, ℕ, List, [], ◌∷◌, length}
 use Rattle.model_line.specs.{declared.line.Line.Line, declared.script.Script.Script}
 use Rattle.judge_report.specs.declared.upper_end.Lost.{Lost}
-use Rattle.judge_margins.specs.{Ends.AreEnds, MarginsText.margins_rows, Today.AreToday}
-use Rattle.judge_margins.specs.declared.end.End.{End}
+use Rattle.judge_margins.specs.{margins.Ends.AreEnds, margins.MarginsText.margins_rows, margins.Today.AreToday}
+use Rattle.judge_margins.specs.declared.margins.end.End.{End}
 use Rattle.call_answer.specs.{Answers.Answers, declared.done.Done.Done}
 use Rattle.call_answer.specs.declared.done.Done.TheVariants as done
 

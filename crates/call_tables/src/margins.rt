@@ -5,7 +5,7 @@ ghost use Rattle.call_answer.specs.{Answers.Says, Study.IsStudy};
 ghost use Rattle.call_tables.specs.Margins.{margins_answer, status_with};
 
 use call_answer::{Done, Said, Study};
-use judge_margins::{held_today, margins, margins_text};
+use judge_margins::margins::{held_today, margins, margins_text};
 use judge_report::Lost;
 use model_line::Memory;
 use std::alloc::Global;

@@ -6,10 +6,10 @@ use Rattle.std.specs.List.{list_all}
 use Rattle.model_line.specs.{declared.line.Line.Line, declared.script.Script.Script}
 use Rattle.model_line.specs.Parameters.{declared_ends}
 use Rattle.judge_verdict.specs.declared.rule.Rule.{Rule}
-use Rattle.judge_map.specs.{declared.axis.Axis.Axis, declared.axis.Axes.Axes}
-use Rattle.judge_map.specs.declared.cell.Cell.{Cell}
-use Rattle.judge_map.specs.Axes.{column_count, count_along, least_at, rows_of}
-use Rattle.judge_map.specs.{Cells.is_held, Cells.lost_of, MapText.obligation_said}
+use Rattle.judge_margins.specs.{declared.map.axis.Axis.Axis, declared.map.axis.Axes.Axes}
+use Rattle.judge_margins.specs.declared.map.cell.Cell.{Cell}
+use Rattle.judge_margins.specs.map.Axes.{column_count, count_along, least_at, rows_of}
+use Rattle.judge_margins.specs.{map.Cells.is_held, map.Cells.lost_of, map.MapText.obligation_said}
 use Rattle.draw_map.specs.Words.{ms_said}
 
 -- ---- the declared point

@@ -3,8 +3,8 @@ use Rattle.std.specs.Prelude.{◌≡◌, ◌*◌, ◌++◌, ℕ, List, [], Optio
 use Rattle.std.specs.Prelude.{option_map}
 use Rattle.model_line.specs.{declared.line.Line.Line, declared.script.Script.Script}
 use Rattle.model_line.specs.Parameters.{terminal_count}
-use Rattle.judge_map.specs.{declared.axis.Axis.Axis, declared.axis.Axes.Axes}
-use Rattle.judge_map.specs.{declared.cell.Cell.Cell, Axes.count_along}
+use Rattle.judge_margins.specs.{declared.map.axis.Axis.Axis, declared.map.axis.Axes.Axes}
+use Rattle.judge_margins.specs.{declared.map.cell.Cell.Cell, map.Axes.count_along}
 use Rattle.draw_shapes.specs.declared.{grid.Grid.Grid, grid.Ruler.Ruler}
 use Rattle.draw_map.specs.{Beyond.beyond_said, Beyond.least_of, Words.cell_seen, Words.cells_shown}
 

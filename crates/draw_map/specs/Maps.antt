@@ -2,7 +2,7 @@
 use Rattle.std.specs.Prelude.{◌≡◌, ◌≤◌, ◌*◌, Option, None, Some, length}
 use Rattle.std.specs.List.{All}
 use Rattle.model_line.specs.Parameters.{terminal_count}
-use Rattle.judge_map.specs.{declared.axis.Axis.Axis, Axes.AreAxes, Axes.cell_count}
+use Rattle.judge_margins.specs.{declared.map.axis.Axis.Axis, map.Axes.AreAxes, map.Axes.cell_count}
 use Rattle.draw_map.specs.declared.map.Map.{Map}
 
 abbrev pub IsSmallSecond : Option Axis → Type 0

@@ -1,11 +1,11 @@
 -- What a cell says to a pointer: its least ends, what is known, and what is lost.
 use Rattle.std.specs.Prelude.{◌+◌, ◌*◌, ◌/◌, ◌%◌, ◌++◌, ℕ, List, [], ◌∷◌, Option, None, Some, codes}
 use Rattle.model_line.specs.{declared.line.Line.Line, declared.script.Script.Script}
-use Rattle.judge_map.specs.{declared.axis.Axis.Axis, declared.axis.Axes.Axes}
-use Rattle.judge_map.specs.{declared.cell.Cell.Cell, declared.cell.Word.Word}
-use Rattle.judge_map.specs.declared.cell.Word.TheVariants as word
-use Rattle.judge_map.specs.{Axes.least_at, Axes.rows_of, Cells.lost_of, Cells.word_of}
-use Rattle.judge_map.specs.MapText.{obligations_said, word_said}
+use Rattle.judge_margins.specs.{declared.map.axis.Axis.Axis, declared.map.axis.Axes.Axes}
+use Rattle.judge_margins.specs.{declared.map.cell.Cell.Cell, declared.map.cell.Word.Word}
+use Rattle.judge_margins.specs.declared.map.cell.Word.TheVariants as word
+use Rattle.judge_margins.specs.{map.Axes.least_at, map.Axes.rows_of, map.Cells.lost_of, map.Cells.word_of}
+use Rattle.judge_margins.specs.map.MapText.{obligations_said, word_said}
 use Rattle.draw_shapes.specs.declared.{grid.GridCell.GridCell, grid.Look.Look}
 use Rattle.draw_shapes.specs.declared.grid.Look.TheVariants as look
 use Rattle.draw_shapes.specs.Numbers.{milliseconds_said}

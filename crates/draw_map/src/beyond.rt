@@ -2,7 +2,7 @@
 
 ghost use Rattle.std.specs.Prelude.{◌≡◌, ◌≤◌, ◌<◌, ◌+◌, ◌++◌, ◌^◌, [], IfOk, OnOk, IfSome, length};
 ghost use Rattle.std.specs.Prelude.{map as each};
-ghost use Rattle.judge_map.specs.Axes.{IsAxis, column_count, count_along, row_count};
+ghost use Rattle.judge_margins.specs.map.Axes.{IsAxis, column_count, count_along, row_count};
 ghost use Rattle.draw_map.specs.Beyond.{across_said, beyond_by, beyond_said, columns_said};
 ghost use Rattle.draw_map.specs.Beyond.{first_lost_said, rows_said, side_said, up_said};
 ghost use Rattle.draw_map.specs.Maps.{IsMap};
@@ -12,7 +12,7 @@ use crate::map::Map;
 use crate::walk::{cell_at, first_above, first_right, is_held_at, last_beneath, last_left};
 use crate::words::push_ms;
 use itoa::Buffer;
-use judge_map::{Axis, Cell, push_obligation};
+use judge_margins::map::{Axis, Cell, push_obligation};
 use model_line::{Line, Memory, Script};
 use std::alloc::Global;
 

@@ -3,13 +3,13 @@
 ghost use Rattle.std.specs.Prelude.{◌≡◌, ◌≤◌, ◌<◌, ◌==◌, IfSome, true};
 ghost use Rattle.std.specs.List.{list_all};
 ghost use Rattle.model_line.specs.Parameters.{declared_ends};
-ghost use Rattle.judge_map.specs.{Axes.IsAxis, Axes.IsSecond, Axes.count_along, Axes.rows_of};
-ghost use Rattle.judge_map.specs.Placed.{AreParams};
+ghost use Rattle.judge_margins.specs.{map.Axes.IsAxis, map.Axes.IsSecond, map.Axes.count_along, map.Axes.rows_of};
+ghost use Rattle.judge_margins.specs.map.Placed.{AreParams};
 ghost use Rattle.draw_map.specs.Beyond.{least_if as least_if_of, least_of};
 ghost use Rattle.draw_map.specs.Beyond.{number_by as number_by_of, number_of as number_for};
 ghost use Rattle.draw_map.specs.Beyond.{row_of as row_for};
 
-use judge_map::Axis;
+use judge_margins::map::Axis;
 use model_line::Line;
 
 /// The least end that is declared of each of these parameters, if it is one.

@@ -1,6 +1,6 @@
 //! What is drawn.
 
-use judge_map::{Axes, Cell};
+use judge_margins::map::{Axes, Cell};
 use model_line::{Line, Script};
 
 /// A line, its scripts, axes, and the cells over them; and the names that each axis goes by. Without

@@ -1,14 +1,14 @@
 //! The cells of the grid.
 
 ghost use Rattle.std.specs.Prelude.{◌≡◌, ◌<◌, ◌^◌, IfOk, length, map as each};
-ghost use Rattle.judge_map.specs.Axes.{AreAxes, cell_count};
+ghost use Rattle.judge_margins.specs.map.Axes.{AreAxes, cell_count};
 ghost use Rattle.draw_map.specs.Maps.{IsMap};
 ghost use Rattle.draw_map.specs.Words.{cell_seen, cell_shown, cells_shown, look_of as look_for};
 
 use crate::map::Map;
 use crate::words::cell_words;
 use draw_shapes::{GridCell, Look};
-use judge_map::{Cell, Word};
+use judge_margins::map::{Cell, Word};
 use model_line::Memory;
 use std::alloc::Global;
 

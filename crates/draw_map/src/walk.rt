@@ -2,13 +2,13 @@
 
 ghost use Rattle.std.specs.Prelude.{◌≡◌, ◌≤◌, ◌<◌, ◌+◌, ◌-◌, ◌^◌, IfSome, Some, length};
 ghost use Rattle.std.specs.Prelude.{if◌then◌else◌};
-ghost use Rattle.judge_map.specs.Axes.{column_count, row_count};
+ghost use Rattle.judge_margins.specs.map.Axes.{column_count, row_count};
 ghost use Rattle.draw_map.specs.Beyond.{first_from, first_or as first_or_of, is_held_at as held_at};
 ghost use Rattle.draw_map.specs.Beyond.{last_below, rules_at as rules_of};
 ghost use Rattle.draw_map.specs.Maps.{IsMap};
 
 use crate::map::Map;
-use judge_map::{Cell, Word};
+use judge_margins::map::{Cell, Word};
 
 /// The cell at a column and a row.
 pub fn cell_at<'a>(map: &Map<'a>, column: u32, row: u32) -> &'a Cell

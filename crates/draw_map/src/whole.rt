@@ -1,7 +1,7 @@
 //! A map as a grid.
 
 ghost use Rattle.std.specs.Prelude.{◌≡◌, ◌≤◌, ◌*◌, ◌++◌, IfOk, OnOk, length, option_map};
-ghost use Rattle.judge_map.specs.Axes.{IsAxis, IsSecond, rows_of};
+ghost use Rattle.judge_margins.specs.map.Axes.{IsAxis, IsSecond, rows_of};
 ghost use Rattle.draw_shapes.specs.Scale.{IsGrid, IsRuler, IsSecondRuler, row_count};
 ghost use Rattle.draw_map.specs.Beyond.{least_of};
 ghost use Rattle.draw_map.specs.Grids.{IsGridOf, IsRulerOf, IsSecondOf, and_second, note_said};
@@ -14,7 +14,7 @@ use crate::map::Map;
 use crate::spots::spots;
 use draw_shapes::{Grid, Ruler};
 use itoa::Buffer;
-use judge_map::Axis;
+use judge_margins::map::Axis;
 use model_line::{Line, Memory, Script};
 use std::alloc::Global;
 

@@ -1,12 +1,12 @@
 //! Times and cells in words.
 
 ghost use Rattle.std.specs.Prelude.{◌≡◌, ◌≤◌, ◌<◌, ◌++◌, ◌^◌, IfOk, OnOk, length};
-ghost use Rattle.judge_map.specs.Axes.{AreAxes, IsSecond, cell_count, rows_of};
+ghost use Rattle.judge_margins.specs.map.Axes.{AreAxes, IsSecond, cell_count, rows_of};
 ghost use Rattle.draw_map.specs.Words.{cell_said, lost_said, ms_said, point_said, row_said};
 
 use crate::map::Map;
 use draw_shapes::milliseconds;
-use judge_map::{Axis, Cell, obligations_text, word_of};
+use judge_margins::map::{Axis, Cell, obligations_text, word_of};
 use model_line::{Line, Memory, Script};
 use std::alloc::Global;
 

@@ -1,9 +1,2 @@
-pub mod EachLaws
-pub mod WidenedLaws
-pub mod KeptLaws
-pub mod BracketLaws
-pub mod EndLaws
-pub mod TodayLaws
-pub mod OneEnd
-pub mod RowLaws
-pub mod AskLaws
+pub mod map_lemmas
+pub mod margins_lemmas

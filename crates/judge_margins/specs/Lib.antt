@@ -1,10 +1,2 @@
-pub mod Each
-pub mod Known
-pub mod Widened
-pub mod Kept
-pub mod Ends
-pub mod Groups
-pub mod Asks
-pub mod Brackets
-pub mod Today
-pub mod MarginsText
+pub mod map
+pub mod margins

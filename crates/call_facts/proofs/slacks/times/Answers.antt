@@ -1,7 +1,7 @@
 use Rattle.std.proofs.Common.{List, length, refl, sym, subst}
 use Rattle.judge_report.specs.declared.upper_end.Lost.{Lost}
-use Rattle.judge_margins.specs.declared.end.End.{End}
-use Rattle.judge_margins.specs.Ends.{AreEnds}
+use Rattle.judge_margins.specs.declared.margins.end.End.{End}
+use Rattle.judge_margins.specs.margins.Ends.{AreEnds}
 use Rattle.call_facts.specs.Times.{IsTimeOf}
 use Rattle.judge_verdict.specs.OneEachLaws.{one_next}
 use Rattle.call_facts.proofs.slacks.times.Goals as goal

@@ -1,6 +1,6 @@
 use Rattle.std.proofs.Common.{◌≡◌, ◌<◌}
 use Rattle.std.specs.Prelude.{IfSome}
-use Rattle.judge_map.specs.Axes.{row_count}
+use Rattle.judge_margins.specs.map.Axes.{row_count}
 use Rattle.draw_map.specs.Beyond.{first_from, is_held_at}
 use Rattle.draw_map.proofs.walk.first_above.Given as goal
 

@@ -1,6 +1,6 @@
 use Rattle.std.proofs.Common.{◌≡◌, ◌<◌}
 use Rattle.std.specs.Prelude.{IfSome}
-use Rattle.judge_map.specs.Axes.{column_count}
+use Rattle.judge_margins.specs.map.Axes.{column_count}
 use Rattle.draw_map.specs.Beyond.{last_below, is_held_at}
 use Rattle.draw_map.proofs.walk.last_left.Given as goal
 

@@ -1,7 +1,0 @@
-use Rattle.judge_map.proofs.PlacedLaws.{one_more}
-use Rattle.judge_map.proofs.intervals.placed.Goals as goal
-
-pub loop-i-preserved : goal.loop-i-preserved
-loop-i-preserved c =
-    one_more c.args.line.now c.loop-i.other c.in_ok-other-2.other c.args.params.now c.args.least
-    c.loop-i.i c.loop-i.invariant c.in_ok-other-2.ensures

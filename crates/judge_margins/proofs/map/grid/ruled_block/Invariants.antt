@@ -1,0 +1,11 @@
+use Rattle.std.proofs.Common.{◌*◌, []}
+use Rattle.model_line.specs.Parameters.{terminal_count}
+use Rattle.run_step.specs.LaneBox.{lane_box}
+use Rattle.judge_boxes.specs.Spans.{span_ends}
+use Rattle.judge_margins.specs.map.Blocks.{AreRuled}
+use Rattle.judge_margins.proofs.map.grid.ruled_block.Given as goal
+
+abbrev pub invariant-loop-s : goal.invariant-loop-s
+invariant-loop-s l =
+    AreRuled l.line l.scripts (lane_box span_ends l.line l.spans.items [])
+    (l.s * terminal_count l.line) l.ruled.items

@@ -1,0 +1,12 @@
+use Rattle.std.proofs.Common.{◌≡◌, ℕ, Some, length}
+use Rattle.std.specs.Prelude.{slice_get}
+use Rattle.judge_boxes.specs.Spans.{SpanLists}
+use Rattle.judge_margins.specs.map.Blocks.{IsCellSpan}
+use Rattle.judge_margins.proofs.map.spans.cell_spans.Given as goal
+
+abbrev pub invariant-loop-param : goal.invariant-loop-param
+invariant-loop-param l = record {
+  count : length l.spans.items ≡ l.param;
+  each : (param : ℕ) (span : SpanLists) → slice_get l.spans.items param ≡ Some span
+      → IsCellSpan l.line l.axes l.first param span;
+}

@@ -1,6 +1,0 @@
-use Rattle.std.proofs.Common.{◌+◌}
-use Rattle.judge_margins.specs.Asks.{AreTold}
-use Rattle.judge_margins.proofs.probe.tell_block.Given as goal
-
-abbrev pub invariant-loop-lane : goal.invariant-loop-lane
-invariant-loop-lane l = AreTold l.of l.asks l.told.items (l.first + l.lane)

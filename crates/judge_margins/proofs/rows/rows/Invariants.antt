@@ -1,5 +1,0 @@
-use Rattle.judge_margins.specs.Asks.{AreRows}
-use Rattle.judge_margins.proofs.rows.rows.Given as goal
-
-abbrev pub invariant-loop-i : goal.invariant-loop-i
-invariant-loop-i l = AreRows l.of l.asks l.first l.i l.rows.items

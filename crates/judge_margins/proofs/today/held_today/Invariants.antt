@@ -1,5 +1,0 @@
-use Rattle.judge_margins.specs.Today.{AreToday}
-use Rattle.judge_margins.proofs.today.held_today.Given as goal
-
-abbrev pub invariant-loop-s : goal.invariant-loop-s
-invariant-loop-s l = AreToday l.line l.scripts l.s 0 l.held.items l.others.items

@@ -1,5 +1,0 @@
-use Rattle.judge_margins.specs.Today.{AreToday}
-use Rattle.judge_margins.proofs.today.of_script.Given as goal
-
-abbrev pub invariant-loop-k : goal.invariant-loop-k
-invariant-loop-k l = AreToday l.line l.scripts l.s l.k l.held.items l.others.items

@@ -1,0 +1,157 @@
+//! The cells of a map.
+
+ghost use Rattle.std.specs.Prelude.{◌≡◌, ◌≤◌, ◌<◌, ◌+◌, ◌*◌, ◌-◌, ◌/◌, ◌%◌, ℕ, Some, IfOk, OnOk, []};
+ghost use Rattle.std.specs.Prelude.{length, slice_get, min};
+ghost use Rattle.std.specs.List.{All};
+ghost use Rattle.model_line.specs.{Parameters.terminal_count, Parameters.param_count, Fits.Fits};
+ghost use Rattle.model_logic.specs.{Choice.LeastFromOne};
+ghost use Rattle.net_gates.specs.NetOf.{IsNetOf};
+ghost use Rattle.run_signal.specs.SentKeys.{SentKeys};
+ghost use Rattle.run_step.specs.{Runs.AreDelayed, LaneBox.lane_box};
+ghost use Rattle.judge_boxes.specs.Spans.{span_ends};
+ghost use Rattle.judge_verdict.specs.Rules.{counted_ticks};
+ghost use Rattle.judge_margins.specs.map.Axes.{AreAxes, CanMoveBoth, cell_count};
+ghost use Rattle.judge_margins.specs.map.Blocks.{AreCellSpans, AreRuled, lane_cell};
+ghost use Rattle.judge_margins.specs.map.Cells.{AreCells, AreCellsBelow};
+
+use crate::map::axis::Axes;
+use crate::map::cell::Cell;
+use crate::map::known::laws_below;
+use crate::map::ruled::{Ruled, cell_in_lane, tripped_in};
+use crate::map::spans::cell_spans;
+use judge_boxes::{Spans64, Terns64};
+use model_line::{Kind, Line, Memory, Script};
+use model_timing::Step;
+use net_gates::Net;
+use run_changes::run_tracks;
+use std::alloc::Global;
+
+/// What the interval rules say of each obligation over each cell, column by column. One run of a
+/// script serves 64 cells and all terminals.
+pub fn cells(
+    alloc: Global,
+    line: &Line,
+    net: &Net,
+    scripts: &[Script],
+    axes: &Axes,
+) -> Result<Vec<Cell>, Memory>
+    requires of_line { IsNetOf line.now net.now }
+    requires fit { All (Fits line.now) scripts.now }
+    requires axes { AreAxes line.now axes.now }
+    requires can { CanMoveBoth line.now axes.now }
+    ensures { IfOk result (λ cells. AreCells line.now scripts.now axes.now cells.items) }
+{
+    let count = axes.cells(line) as usize;
+    let mut cells = Vec::with_capacity(alloc, count)?;
+    'next_block: while cells.len() < count {
+        next_cells(alloc, line, net, scripts, axes, &mut cells)?;
+    }
+    Ok(cells)
+}
+
+// Up to 64 cells more.
+fn next_cells(
+    alloc: Global,
+    line: &Line,
+    net: &Net,
+    scripts: &[Script],
+    axes: &Axes,
+    cells: &mut Vec<Cell>,
+) -> Result<(), Memory>
+    requires of_line { IsNetOf line.now net.now }
+    requires fit { All (Fits line.now) scripts.now }
+    requires axes { AreAxes line.now axes.now }
+    requires can { CanMoveBoth line.now axes.now }
+    requires left { length cells.old.items < cell_count axes.now }
+    requires so_far { AreCellsBelow line.now scripts.now axes.now (length cells.old.items)
+        cells.old.items }
+    ensures more { OnOk result (length cells.old.items < length cells.new.items) }
+    ensures within { OnOk result (length cells.new.items ≤ cell_count axes.now) }
+    ensures so_far { OnOk result (AreCellsBelow line.now scripts.now axes.now
+        (length cells.new.items) cells.new.items) }
+{
+    let first = cells.len() as u32;
+    let ruled = ruled_block(alloc, line, net, scripts, axes, first)?;
+    let lanes = (axes.cells(line) - first).min(64);
+    for lane in 0..lanes {
+        let cell = cell_in_lane(alloc, &ruled, lane)?;
+        cells.push(cell)?;
+    }
+    Ok(())
+}
+
+// What each obligation's trip comes to in the 64 cells from one on.
+fn ruled_block(
+    alloc: Global,
+    line: &Line,
+    net: &Net,
+    scripts: &[Script],
+    axes: &Axes,
+    first: u32,
+) -> Result<Vec<Ruled>, Memory>
+    requires of_line { IsNetOf line.now net.now }
+    requires fit { All (Fits line.now) scripts.now }
+    requires axes { AreAxes line.now axes.now }
+    requires can { CanMoveBoth line.now axes.now }
+    requires first { first < cell_count axes.now }
+    ensures { IfOk result (λ ruled. AreRuled line.now scripts.now
+        (lane_cell line.now axes.now first) (length scripts.now * terminal_count line.now)
+        ruled.items) }
+{
+    laws_below();
+    let spans = cell_spans(alloc, line, axes, first)?;
+    let mut ruled = Vec::new(alloc);
+    for s in 0..scripts.len() {
+        rule_script(alloc, line, net, scripts, s, &spans, &mut ruled)?;
+    }
+    Ok(ruled)
+}
+
+// Those of one script more.
+fn rule_script(
+    alloc: Global,
+    line: &Line,
+    net: &Net,
+    scripts: &[Script],
+    s: usize,
+    spans: &[Spans64],
+    ruled: &mut Vec<Ruled>,
+) -> Result<(), Memory>
+    requires of_line { IsNetOf line.now net.now }
+    requires fit { All (Fits line.now) scripts.now }
+    requires script { s < length scripts.now }
+    requires spans { length spans.now ≡ param_count line.now }
+    requires delayed { AreDelayed 64 span_ends line.now spans.now [] }
+    requires so_far { AreRuled line.now scripts.now (lane_box span_ends line.now spans.now [])
+        (s * terminal_count line.now) ruled.old.items }
+    ensures { OnOk result (AreRuled line.now scripts.now
+        (lane_box span_ends line.now spans.now []) ((s + 1) * terminal_count line.now)
+        ruled.new.items) }
+{
+    laws_below();
+    let script = &scripts[s];
+    let steps: [Step<Spans64>; 0] = [];
+    let tracks = run_tracks::<Terns64>(alloc, net, line, script, spans, &steps)?;
+    let ticks = ticks_of(line, script);
+    for k in 0..line.terminals.len() {
+        let tripped = tripped_in(&tracks.trips[k], ticks);
+        ruled.push(Ruled {
+            kind: script.kind,
+            tripped,
+        })?;
+    }
+    Ok(())
+}
+
+// How many ticks an obligation looks at: those up to the deadline, or all.
+fn ticks_of(line: &Line, script: &Script) -> u32
+    requires { Fits line.now script.now }
+    ensures ticks { result ≡ counted_ticks script.now.kind script.now.deadline line.now.horizon }
+    ensures within { result ≤ line.now.horizon }
+{
+    laws_below();
+    match script.kind {
+        Kind::Internal => script.deadline + 1,
+        Kind::External => line.horizon,
+    }
+}

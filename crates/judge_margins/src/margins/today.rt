@@ -1,0 +1,114 @@
+//! The obligations that are held today, and the others.
+
+ghost use Rattle.std.specs.Prelude.{◌≡◌, ◌≤◌, ◌<◌, ◌+◌, Decides, IfOk, OnOk, length};
+ghost use Rattle.std.specs.List.{All};
+ghost use Rattle.model_line.specs.{Parameters.terminal_count, Fits.Fits};
+ghost use Rattle.model_logic.specs.{Choice.declared_box, Rule.rule_of, Rule.Held};
+ghost use Rattle.net_gates.specs.NetOf.{IsNetOf};
+ghost use Rattle.run_step.specs.Runs.{IsTheHistory};
+ghost use Rattle.judge_verdict.specs.PairWavesOf.{pair_history};
+ghost use Rattle.judge_margins.specs.margins.Today.{AreToday, is_held as is_held_now};
+ghost use Rattle.judge_margins.specs.{margins.Kept.AreKept, margins.Kept.AreObligations};
+
+use crate::margins::known::laws_below;
+use judge_report::Lost;
+use judge_verdict::{PairWaves, Rule, analyse, judge};
+use model_line::{Line, Memory, Script};
+use net_gates::Net;
+use std::alloc::Global;
+
+/// The obligations whose rule is held over the declared intervals, and those whose rule is not,
+/// each by script and then by terminal.
+#[derive(Drop)]
+pub struct Today {
+    pub held: Vec<Lost>,
+    pub others: Vec<Lost>,
+}
+
+/// Which obligations are held today.
+pub fn held_today(
+    alloc: Global,
+    line: &Line,
+    net: &Net,
+    scripts: &[Script],
+) -> Result<Today, Memory>
+    requires of_line { IsNetOf line.now net.now }
+    requires fit { All (Fits line.now) scripts.now }
+    requires few { length scripts.now ≤ 64 }
+    ensures today { IfOk result (λ today. AreToday line.now scripts.now (length scripts.now) 0
+        today.held.items today.others.items) }
+    // So those that are held are obligations, and are held over the declared intervals.
+    ensures exist { IfOk result (λ today.
+        AreObligations line.now scripts.now today.held.items) }
+    ensures held { IfOk result (λ today. AreKept line.now scripts.now (declared_box line.now)
+        today.held.items (length today.held.items)) }
+{
+    let mut held = Vec::new(alloc);
+    let mut others = Vec::new(alloc);
+    for s in 0..scripts.len() {
+        of_script(alloc, line, net, scripts, s, &mut held, &mut others)?;
+    }
+    Ok(Today { held, others })
+}
+
+// Those of one script more.
+fn of_script(
+    alloc: Global,
+    line: &Line,
+    net: &Net,
+    scripts: &[Script],
+    s: usize,
+    held: &mut Vec<Lost>,
+    others: &mut Vec<Lost>,
+) -> Result<(), Memory>
+    requires of_line { IsNetOf line.now net.now }
+    requires fit { All (Fits line.now) scripts.now }
+    requires few { length scripts.now ≤ 64 }
+    requires script { s < length scripts.now }
+    requires before { AreToday line.now scripts.now s 0 held.old.items others.old.items }
+    ensures { OnOk result (AreToday line.now scripts.now (s + 1) 0 held.new.items
+        others.new.items) }
+{
+    laws_below();
+    let script = &scripts[s];
+    let waves = analyse(alloc, net, line, script)?;
+    for k in 0..line.terminals.len() {
+        let obligation = Lost {
+            script: s as u32,
+            terminal: k as u32,
+        };
+        if is_held(line, script, &waves, k as u32) {
+            held.push(obligation)?;
+        } else {
+            others.push(obligation)?;
+        }
+    }
+    Ok(())
+}
+
+// Whether the rule of a script is held at a terminal.
+fn is_held(line: &Line, script: &Script, waves: &PairWaves, terminal: u32) -> bool
+    requires fits { Fits line.now script.now }
+    requires terminal { terminal < terminal_count line.now }
+    requires terminals { waves.now.terminals ≡ terminal_count line.now }
+    requires horizon { waves.now.horizon ≡ line.now.horizon }
+    requires history { IsTheHistory line.now script.now (declared_box line.now)
+        (pair_history waves.now) }
+    ensures { Decides result (is_held_now line.now script.now terminal) }
+{
+    laws_below();
+    is_rule_held(line, script, waves, terminal)
+}
+
+fn is_rule_held(line: &Line, script: &Script, waves: &PairWaves, terminal: u32) -> bool
+    requires fits { Fits line.now script.now }
+    requires terminal { terminal < waves.now.terminals }
+    requires horizon { waves.now.horizon ≡ line.now.horizon }
+    ensures { Decides result
+        (rule_of line.now script.now ((pair_history waves.now).trip terminal) ≡ Held) }
+{
+    match judge(waves, script, terminal) {
+        Rule::Held => true,
+        Rule::Broken | Rule::Unknown => false,
+    }
+}
