@@ -1,7 +1,7 @@
 -- The command `match`: a line for each head of a record file, in file order.
 use Rattle.std.specs.Prelude.{◌≡◌, ℕ, Bool, List}
 use Rattle.model_line.specs.{declared.line.Line.Line, declared.script.Script.Script}
-use Rattle.judge_match.specs.{Answer.IsMatchAnswer, Waves.SeenValues}
+use Rattle.judge_match.specs.{matching.Answer.IsMatchAnswer, matching.Waves.SeenValues}
 use Rattle.call_answer.specs.{Answers.Answers, Answers.status_by, declared.done.Done.Done}
 
 -- the lines of all heads, with the status that they give

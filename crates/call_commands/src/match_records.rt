@@ -1,13 +1,13 @@
 //! The command `match`: whether some choice of delays explains each record of the field.
 ghost use Rattle.std.specs.Prelude.{◌<◌, IfOk, length, map};
 ghost use Rattle.std.specs.List.{All};
-ghost use Rattle.judge_match.specs.{Seen.AreSeen, Waves.seen_values};
+ghost use Rattle.judge_match.specs.{matching.Seen.AreSeen, matching.Waves.seen_values};
 ghost use Rattle.call_commands.specs.Match.{match_answer as answer_of};
 ghost use Rattle.call_answer.specs.{Answers.Says, Study.IsStudy};
 
 use crate::found::Found;
 use call_answer::{Said, Study};
-use judge_match::{Seen, match_answer};
+use judge_match::matching::{Seen, match_answer};
 use model_line::Memory;
 use std::alloc::Global;
 

@@ -2,8 +2,8 @@
 use Rattle.std.proofs.Common.{◌≡◌, ◌<◌, ◌≤◌, ◌+◌, ◌∷◌, [], ℕ, zero, suc, Bool, true, false, List, length, map}
 use Rattle.std.proofs.Common.{refl, sym, ◌∙◌, ap, arith, get_or, drop}
 use Rattle.std.specs.Prelude.{◌==◌, Result, Ok, Err}
-use Rattle.judge_match.specs.declared.seen.Seen.{Seen}
-use Rattle.judge_match.specs.Waves.{SeenValues, seen_values}
+use Rattle.judge_match.specs.declared.matching.seen.Seen.{Seen}
+use Rattle.judge_match.specs.matching.Waves.{SeenValues, seen_values}
 use Rattle.call_explain.specs.Picked.{record_of}
 use Rattle.call_explain.specs.declared.unpicked.Unpicked.{Unpicked}
 use Rattle.call_explain.specs.declared.unpicked.Unpicked.TheVariants.{Missing}

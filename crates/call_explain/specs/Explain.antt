@@ -2,10 +2,10 @@
 use Rattle.std.specs.Prelude.{◌≡◌, ◌<◌, ◌≤◌, ℕ, List, Option, Some, Result, Ok, Err, length, slice_get}
 use Rattle.model_line.specs.{declared.line.Line.Line, declared.script.Script.Script}
 use Rattle.net_gates.specs.NetOf.{IsNetOf}
-use Rattle.judge_match.specs.Waves.{SeenValues, records_said}
-use Rattle.judge_match.specs.Recorded.{recorded}
-use Rattle.judge_explain.specs.Answers.{IsExplanation}
-use Rattle.judge_explain.specs.declared.answer.Explanation.{Explanation}
+use Rattle.judge_match.specs.matching.Waves.{SeenValues, records_said}
+use Rattle.judge_match.specs.matching.Recorded.{recorded}
+use Rattle.judge_match.specs.explain.Answers.{IsExplanation}
+use Rattle.judge_match.specs.declared.explain.answer.Explanation.{Explanation}
 use Rattle.call_answer.specs.{Answers.Answers, declared.done.Done.Done}
 use Rattle.call_explain.specs.{Picked.picked, Table.answer_text, Table.answer_status}
 use Rattle.call_explain.specs.declared.asked.Asked.{Asked}

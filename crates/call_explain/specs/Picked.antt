@@ -1,7 +1,7 @@
 -- Which record of a file is asked about.
 use Rattle.std.specs.Prelude.{◌==◌, ℕ, List, [], ◌∷◌, Option, None, Some, Result, Ok, Err}
 use Rattle.std.specs.Prelude.{if◌then◌else◌}
-use Rattle.judge_match.specs.Waves.{SeenValues}
+use Rattle.judge_match.specs.matching.Waves.{SeenValues}
 use Rattle.call_explain.specs.declared.unpicked.Unpicked.{Unpicked}
 use Rattle.call_explain.specs.declared.unpicked.Unpicked.TheVariants.{Several, Missing}
 

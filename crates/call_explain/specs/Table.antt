@@ -7,11 +7,11 @@ use Rattle.model_line.specs.declared.line.Line.{Line}
 use Rattle.model_line.specs.NamesByNumber.{terminal_name}
 use Rattle.model_timing.specs.{Timing.TimingValues, NamedValues.NamedValues}
 use Rattle.file_tables.specs.timing.Printed.{file_records, records_text}
-use Rattle.judge_match.specs.MatchText.{signal_word}
+use Rattle.judge_match.specs.matching.MatchText.{signal_word}
 use Rattle.run_rows.specs.PlayRows.{level_word}
-use Rattle.judge_explain.specs.declared.paired.Paired.{Paired}
-use Rattle.judge_explain.specs.declared.answer.Explanation.{Explanation}
-use Rattle.judge_explain.specs.declared.answer.Explanation.TheVariants.{Explained, Impossible, Open}
+use Rattle.judge_match.specs.declared.explain.paired.Paired.{Paired}
+use Rattle.judge_match.specs.declared.explain.answer.Explanation.{Explanation}
+use Rattle.judge_match.specs.declared.explain.answer.Explanation.TheVariants.{Explained, Impossible, Open}
 use Rattle.call_answer.specs.declared.done.Done.{Done}
 use Rattle.call_answer.specs.declared.done.Done.TheVariants as done
 use Rattle.call_ask.specs.declared.explain.ExplainForm.{ExplainForm}

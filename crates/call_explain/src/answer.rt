@@ -2,8 +2,8 @@
 
 ghost use Rattle.std.specs.Prelude.{◌≡◌, [], IfOk};
 ghost use Rattle.model_timing.specs.{Timing.TimingValues, Inside.IsTimingInside};
-ghost use Rattle.judge_explain.specs.declared.paired.Paired.{Paired};
-ghost use Rattle.judge_explain.specs.declared.answer.Explanation.TheVariants.{Explained};
+ghost use Rattle.judge_match.specs.declared.explain.paired.Paired.{Paired};
+ghost use Rattle.judge_match.specs.declared.explain.answer.Explanation.TheVariants.{Explained};
 ghost use Rattle.call_explain.specs.Table.{answer_status, answer_text, none_said};
 ghost use Rattle.call_explain.specs.Table.{timing_text as text_of_timing};
 
@@ -12,7 +12,7 @@ use call_answer::{Done, Said};
 use call_ask::ExplainForm;
 use file_tables::timing::print_timings;
 use itoa::Buffer;
-use judge_explain::Explanation;
+use judge_match::explain::Explanation;
 use model_line::{Line, Memory, Name};
 use model_timing::{NamedTiming, Timing};
 use std::alloc::Global;

@@ -9,8 +9,8 @@ use crate::asked::Asked;
 use crate::pick::pick;
 use crate::stop::ExplainStop;
 use call_answer::Said;
-use judge_explain::explain;
-use judge_match::{SeenFault, read_seen};
+use judge_match::explain::explain;
+use judge_match::matching::{SeenFault, read_seen};
 use std::alloc::Global;
 
 /// What is said of a record: the changes of a timing that explains it, or the timing as a file, with

@@ -2,14 +2,14 @@
 
 ghost use Rattle.std.specs.Prelude.{◌≡◌, ◌++◌, IfOk, OnOk, decimal};
 ghost use Rattle.csv.specs.Writing.{row_text, default_writer};
-ghost use Rattle.judge_match.specs.MatchText.{signal_word as word_of_signal};
+ghost use Rattle.judge_match.specs.matching.MatchText.{signal_word as word_of_signal};
 ghost use Rattle.run_rows.specs.PlayRows.{level_word as word_of_level};
 ghost use Rattle.call_explain.specs.Table.{change_record, changes_text as text_of_changes};
 ghost use Rattle.call_explain.specs.Table.{difference_text as text_of_difference, header_record};
 
 use base_records::push_record;
 use itoa::Buffer;
-use judge_explain::Paired;
+use judge_match::explain::Paired;
 use model_line::{Line, Memory};
 use model_line::name_of_terminal;
 use std::alloc::Global;

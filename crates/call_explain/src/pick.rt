@@ -2,13 +2,13 @@
 
 ghost use Rattle.std.specs.Prelude.{◌≡◌, Ok, Err, map, IfOk, MatchResult};
 ghost use Rattle.std.specs.List.{Contains};
-ghost use Rattle.judge_match.specs.Waves.{seen_values};
-ghost use Rattle.judge_match.specs.declared.seen.Seen.{Seen};
+ghost use Rattle.judge_match.specs.matching.Waves.{seen_values};
+ghost use Rattle.judge_match.specs.declared.matching.seen.Seen.{Seen};
 ghost use Rattle.call_explain.specs.Picked.{picked, record_of};
 ghost use Rattle.call_explain.specs.declared.unpicked.Unpicked.{Unpicked};
 
 use crate::unpicked::Unpicked;
-use judge_match::Seen;
+use judge_match::matching::Seen;
 
 /// The record of the script that is named; where none is, the one record that there is.
 pub fn pick(which: Option<u32>, records: &[Seen]) -> Result<&Seen, Unpicked>

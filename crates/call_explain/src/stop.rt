@@ -1,7 +1,7 @@
 //! Why nothing is said.
 
 use crate::unpicked::Unpicked;
-use judge_match::SeenFault;
+use judge_match::matching::SeenFault;
 use model_line::Memory;
 
 /// Why nothing is said of a record.

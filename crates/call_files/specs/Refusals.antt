@@ -6,7 +6,7 @@ use Rattle.file_line.specs.declared.fault.LineFault.{LineFault}
 use Rattle.file_line.specs.declared.fault.LineFault.TheVariants as fault
 use Rattle.file_tables.specs.script.Faults as script_faults
 use Rattle.file_tables.specs.timing.Faults as timing_faults
-use Rattle.judge_match.specs.Faults as seen_faults
+use Rattle.judge_match.specs.matching.Faults as seen_faults
 use Rattle.call_files.specs.declared.refusal.Detail.{Detail}
 use Rattle.call_files.specs.declared.refusal.Detail.TheVariants as detail
 use Rattle.call_files.specs.declared.refusal.Refusal.{Refusal}

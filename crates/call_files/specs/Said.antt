@@ -10,8 +10,8 @@ use Rattle.file_tables.specs.{script.Scripts.scripts_of, declared.script.fault.S
 use Rattle.model_timing.specs.{Inside.IsTimingInside}
 use Rattle.model_timing.specs.NamedValues.{NamedValues}
 use Rattle.file_tables.specs.{declared.timing.fault.TimingFault.TimingFault}
-use Rattle.judge_match.specs.Waves.{SeenValues}
-use Rattle.judge_match.specs.declared.fault.SeenFault.{SeenFault}
+use Rattle.judge_match.specs.matching.Waves.{SeenValues}
+use Rattle.judge_match.specs.declared.matching.fault.SeenFault.{SeenFault}
 use Rattle.call_files.specs.declared.refusal.Refusal.{Refusal}
 use Rattle.call_files.specs.declared.refusal.Refusal.TheVariants as refusal
 

@@ -5,8 +5,8 @@ use Rattle.file_tables.specs.declared.script.fault.ScriptFault.{ScriptFault}
 use Rattle.file_tables.specs.declared.script.fault.ScriptFault.TheVariants as script_fault
 use Rattle.file_tables.specs.declared.timing.fault.TimingFault.{TimingFault}
 use Rattle.file_tables.specs.declared.timing.fault.TimingFault.TheVariants as timing_fault
-use Rattle.judge_match.specs.declared.fault.SeenFault.{SeenFault}
-use Rattle.judge_match.specs.declared.fault.SeenFault.TheVariants as seen_fault
+use Rattle.judge_match.specs.declared.matching.fault.SeenFault.{SeenFault}
+use Rattle.judge_match.specs.declared.matching.fault.SeenFault.TheVariants as seen_fault
 use Rattle.call_files.specs.declared.refusal.Refusal.TheVariants as refusal
 use Rattle.call_files.specs.declared.stop.Stop.{Stop}
 use Rattle.call_files.specs.declared.stop.Stop.TheVariants as stop

@@ -7,7 +7,7 @@ use crate::stop::File;
 use file_line::{LineFault, Path};
 use file_tables::script::ScriptFault;
 use file_tables::timing::TimingFault;
-use judge_match::SeenFault;
+use judge_match::matching::SeenFault;
 use model_line::Name;
 
 /// Why a file, or the parameter that the words name, is refused.

@@ -7,7 +7,7 @@ use call_answer::{Done, WriteStop};
 use file_line::LineFault;
 use file_tables::script::ScriptFault;
 use file_tables::timing::TimingFault;
-use judge_match::SeenFault;
+use judge_match::matching::SeenFault;
 
 /// The exit statuses, 0 to 8 in this order.
 #[derive(Clone, Copy, Debug, PartialEq, Eq)]

@@ -12,7 +12,7 @@ use Rattle.call_explain.specs.Picked.{picked}
 use Rattle.call_explain.specs.declared.{stop.ExplainStop.ExplainStop, unpicked.Unpicked.Unpicked}
 use Rattle.call_explain.specs.declared.stop.ExplainStop.TheVariants as explain_stop
 use Rattle.call_files.specs.Stops.{record_stop}
-use Rattle.judge_match.specs.Waves.{SeenValues, records_said}
+use Rattle.judge_match.specs.matching.Waves.{SeenValues, records_said}
 use Rattle.call_ask.specs.declared.map.MapForm.{MapForm}
 use Rattle.call_map.specs.Asked.{Both, asked_of}
 use Rattle.call_map.specs.declared.denial.{MapDenial.MapDenial, MapStop.MapStop}

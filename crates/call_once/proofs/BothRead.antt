@@ -11,7 +11,7 @@ use Rattle.file_tables.specs.declared.script.fault.ScriptFault.{ScriptFault}
 use Rattle.file_tables.specs.declared.timing.fault.TimingFault.{TimingFault}
 use Rattle.model_timing.specs.{Inside.IsTimingInside}
 use Rattle.model_timing.specs.NamedValues.{NamedValues}
-use Rattle.judge_match.specs.{Waves.SeenValues, declared.fault.SeenFault.SeenFault}
+use Rattle.judge_match.specs.{matching.Waves.SeenValues, declared.matching.fault.SeenFault.SeenFault}
 use Rattle.call_files.specs.Said.{of_line, of_parameter, of_record, of_scripts, of_study}
 use Rattle.call_files.specs.Said.{of_timings}
 use Rattle.call_files.specs.{declared.refusal.Refusal.Refusal}

@@ -14,7 +14,7 @@ use Rattle.model_timing.specs.NamedValues.{NamedValues}
 use Rattle.file_line.specs.{LineFiles.line_of, Lines.line_values}
 use Rattle.file_tables.specs.script.Values.{values_of}
 use Rattle.file_tables.specs.timing.Timings.{timings_of}
-use Rattle.judge_match.specs.Waves.{SeenValues, records_said}
+use Rattle.judge_match.specs.matching.Waves.{SeenValues, records_said}
 use Rattle.call_commands.specs.{Bench.bench_answer, Certify.certify_answer}
 use Rattle.call_answer.specs.Answers.{Answers}
 use Rattle.call_commands.specs.{Check.check_answer, Margin.margin_answer, Match.match_answer}

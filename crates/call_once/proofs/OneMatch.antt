@@ -8,16 +8,16 @@ use Rattle.model_history.specs.Rails.{Covers, Rails}
 use Rattle.model_line.specs.{declared.line.Line.Line, declared.script.Script.Script}
 use Rattle.model_logic.specs.Histories.{History, IsSameHistory}
 use Rattle.model_timing.specs.Timing.{TimingValues}
-use Rattle.judge_match.specs.Answer.{Head, IsHead, IsMatchAnswer, is_impossible, is_unsettled}
-use Rattle.judge_match.specs.Clash.{AllAllowed, IsAllowed, IsTerminalAllowed}
-use Rattle.judge_match.specs.Clash.{IsSignalAllowed, derived_at, level_at}
-use Rattle.judge_match.specs.Match.{IsMatch, NoneGives}
-use Rattle.judge_match.specs.MatchText.{match_line}
-use Rattle.judge_match.specs.Seen.{Gives, seen_history}
-use Rattle.judge_match.specs.Waves.{SeenValues, seen_values}
-use Rattle.judge_match.specs.declared.seen.Match.{Match}
-use Rattle.judge_match.specs.declared.seen.Match.TheVariants.{Explained, Impossible, Unsettled}
-use Rattle.judge_match.specs.declared.seen.Seen.{Seen}
+use Rattle.judge_match.specs.matching.Answer.{Head, IsHead, IsMatchAnswer, is_impossible, is_unsettled}
+use Rattle.judge_match.specs.matching.Clash.{AllAllowed, IsAllowed, IsTerminalAllowed}
+use Rattle.judge_match.specs.matching.Clash.{IsSignalAllowed, derived_at, level_at}
+use Rattle.judge_match.specs.matching.Match.{IsMatch, NoneGives}
+use Rattle.judge_match.specs.matching.MatchText.{match_line}
+use Rattle.judge_match.specs.matching.Seen.{Gives, seen_history}
+use Rattle.judge_match.specs.matching.Waves.{SeenValues, seen_values}
+use Rattle.judge_match.specs.declared.matching.seen.Match.{Match}
+use Rattle.judge_match.specs.declared.matching.seen.Match.TheVariants.{Explained, Impossible, Unsettled}
+use Rattle.judge_match.specs.declared.matching.seen.Seen.{Seen}
 use Rattle.call_commands.specs.Match.{match_answer}
 use Rattle.call_answer.specs.{Answers.status_by, declared.done.Done.Done}
 

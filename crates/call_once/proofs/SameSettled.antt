@@ -18,16 +18,16 @@ use Rattle.model_timing.specs.Candidates.{candidate}
 use Rattle.model_timing.specs.Choice.{timing_choice}
 use Rattle.model_timing.specs.Timing.{TimingValues}
 use Rattle.run_waves.specs.derived.Claims.{pairs_of}
-use Rattle.judge_match.specs.Answer.{Head, IsHead}
-use Rattle.judge_match.specs.Clash.{AllAllowed, IsAllowed, IsFirstClash, IsSignalAllowed}
-use Rattle.judge_match.specs.Clash.{IsTerminalAllowed, derived_at, level_at}
-use Rattle.judge_match.specs.Match.{IsMatch, NoneGives}
-use Rattle.judge_match.specs.MatchText.{clash_words, match_line, match_words}
-use Rattle.judge_match.specs.Seen.{Gives, seen_history}
-use Rattle.judge_match.specs.Waves.{SeenValues}
-use Rattle.judge_match.specs.declared.seen.Match.{Match}
-use Rattle.judge_match.specs.declared.seen.Match.TheVariants.{Explained, Impossible, Unsettled}
-use Rattle.judge_match.specs.declared.seen.Seen.{Seen}
+use Rattle.judge_match.specs.matching.Answer.{Head, IsHead}
+use Rattle.judge_match.specs.matching.Clash.{AllAllowed, IsAllowed, IsFirstClash, IsSignalAllowed}
+use Rattle.judge_match.specs.matching.Clash.{IsTerminalAllowed, derived_at, level_at}
+use Rattle.judge_match.specs.matching.Match.{IsMatch, NoneGives}
+use Rattle.judge_match.specs.matching.MatchText.{clash_words, match_line, match_words}
+use Rattle.judge_match.specs.matching.Seen.{Gives, seen_history}
+use Rattle.judge_match.specs.matching.Waves.{SeenValues}
+use Rattle.judge_match.specs.declared.matching.seen.Match.{Match}
+use Rattle.judge_match.specs.declared.matching.seen.Match.TheVariants.{Explained, Impossible, Unsettled}
+use Rattle.judge_match.specs.declared.matching.seen.Seen.{Seen}
 use Rattle.call_commands.specs.Match.{match_answer}
 use Rattle.call_answer.specs.declared.done.Done.{Done}
 use Rattle.call_pilot.specs.SameFactLaws.{candidate_same, choice_same, count_same, same_params}

@@ -5,9 +5,9 @@ use Rattle.std.proofs.Common.{sym, ◌∙◌, ap, subst, ⊎_elim}
 use Rattle.std.specs.Prelude.{slice_get}
 use Rattle.std.specs.List.{All}
 use Rattle.model_line.specs.{declared.line.Line.Line, declared.script.Script.Script}
-use Rattle.judge_match.specs.{Answer.IsMatchAnswer, Recorded.IsRecordOf}
-use Rattle.judge_match.specs.Waves.{SeenValues, records_said}
-use Rattle.judge_match.specs.declared.fault.SeenFault.{SeenFault}
+use Rattle.judge_match.specs.{matching.Answer.IsMatchAnswer, matching.Recorded.IsRecordOf}
+use Rattle.judge_match.specs.matching.Waves.{SeenValues, records_said}
+use Rattle.judge_match.specs.declared.matching.fault.SeenFault.{SeenFault}
 use Rattle.call_answer.specs.{Answers.status_by, Sinks.SinkView}
 use Rattle.cert_own.specs.Matched.{HasMatch, Matched, matched_words}
 use Rattle.cert_own.specs.WholeLines.{whole_lines}

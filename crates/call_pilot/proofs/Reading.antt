@@ -16,9 +16,9 @@ use Rattle.model_timing.specs.Inside.{IsTimingInside}
 use Rattle.model_timing.specs.NamedValues.{NamedValues}
 use Rattle.file_tables.specs.declared.timing.fault.TimingFault.{TimingFault}
 use Rattle.file_tables.specs.declared.timing.fault.TimingFault.TheVariants as timing_fault
-use Rattle.judge_match.specs.Gives as record_reading
-use Rattle.judge_match.specs.{Waves.SeenValues, declared.fault.SeenFault.SeenFault}
-use Rattle.judge_match.specs.declared.fault.SeenFault.TheVariants as seen_fault
+use Rattle.judge_match.specs.matching.Gives as record_reading
+use Rattle.judge_match.specs.{matching.Waves.SeenValues, declared.matching.fault.SeenFault.SeenFault}
+use Rattle.judge_match.specs.declared.matching.fault.SeenFault.TheVariants as seen_fault
 use Rattle.call_pilot.specs.CallAnswers.{CallAnswers, refuses}
 use Rattle.call_files.specs.Said.{of_line, of_parameter, of_record, of_scripts, of_study}
 use Rattle.call_files.specs.Said.{of_timings}

@@ -1,7 +1,7 @@
 -- What is so of every choice of delays where `match` has put a line, and by its status.
 use Rattle.std.specs.Prelude.{◌≡◌, ℕ, List, Ok}
 use Rattle.model_line.specs.{declared.line.Line.Line, declared.script.Script.Script}
-use Rattle.judge_match.specs.Waves.{SeenValues, records_said}
+use Rattle.judge_match.specs.matching.Waves.{SeenValues, records_said}
 use Rattle.cert_own.specs.Matched.{AllGiven, HoldsOfRecord, HoldsOfRecordAt, HoldsOfSomeRecord}
 use Rattle.cert_own.specs.Matched.{IsGivenByNone, IsOpenRecord, Matched}
 use Rattle.call_pilot.specs.SaidByFiles.{InFiles}

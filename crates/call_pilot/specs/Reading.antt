@@ -5,7 +5,7 @@ use Rattle.model_line.specs.{declared.line.Line.Line, declared.script.Script.Scr
 use Rattle.model_names.specs.NumbersByName.{param_named}
 use Rattle.file_line.specs.LineFiles.{line_of}
 use Rattle.file_tables.specs.timing.Timings.{timings_of}
-use Rattle.judge_match.specs.Waves.{records_said}
+use Rattle.judge_match.specs.matching.Waves.{records_said}
 use Rattle.call_files.specs.Said.{of_line, of_parameter, of_record, of_study, of_timings}
 use Rattle.call_files.specs.declared.refusal.Refusal.{Refusal}
 use Rattle.call_files.specs.declared.refusal.Refusal.TheVariants as refusal

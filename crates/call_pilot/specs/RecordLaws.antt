@@ -4,8 +4,8 @@ use Rattle.std.specs.List.{All}
 use Rattle.model_line.specs.{declared.line.Line.Line, declared.script.Script.Script, Fits.Fits}
 use Rattle.model_timing.specs.{Inside.IsTimingInside}
 use Rattle.model_timing.specs.NamedValues.{NamedValues}
-use Rattle.judge_match.specs.{Answer.IsMatchAnswer, Recorded.IsRecordOf}
-use Rattle.judge_match.specs.Waves.{SeenValues, records_said}
+use Rattle.judge_match.specs.{matching.Answer.IsMatchAnswer, matching.Recorded.IsRecordOf}
+use Rattle.judge_match.specs.matching.Waves.{SeenValues, records_said}
 use Rattle.call_commands.specs.Play.{IsPlayText}
 use Rattle.cert_own.specs.Matched.{AllGiven, HasMatch, HoldsOfRecord, HoldsOfRecordAt}
 use Rattle.cert_own.specs.Matched.{HoldsOfSomeRecord, IsGivenByNone, IsOpenRecord, Matched}

@@ -17,7 +17,7 @@ use Rattle.file_tables.specs.script.Values.{ScriptValues, values_of}
 use Rattle.model_timing.specs.Candidates.{candidate}
 use Rattle.model_timing.specs.Timing.{TimingValues}
 use Rattle.run_waves.specs.derived.Claims.{declared_world, pairs_of}
-use Rattle.judge_match.specs.{Recorded.recorded, Waves.SeenValues}
+use Rattle.judge_match.specs.{matching.Recorded.recorded, matching.Waves.SeenValues}
 use Rattle.cert_own.specs.Matched.{HoldsOfRecord, HoldsOfRecordAt}
 use Rattle.cert_own.specs.Matched.{IsGivenBy, IsGivenByNone, IsGivenBySome, IsOpenRecord}
 use Rattle.cert_own.specs.Matched.{Matched}

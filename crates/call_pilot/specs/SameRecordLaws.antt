@@ -14,15 +14,15 @@ use Rattle.model_line.specs.{declared.line.Line.Line, declared.script.Script.Scr
 use Rattle.model_line.specs.{declared.line.Terminal.Terminal, SetBounds.SameButParams}
 use Rattle.model_names.specs.NumbersByName.{script_named}
 use Rattle.file_tables.specs.script.Values.{values_of}
-use Rattle.judge_match.specs.declared.fault.SeenFault.{SeenFault}
-use Rattle.judge_match.specs.declared.fault.SeenFault.TheVariants as fault
-use Rattle.judge_match.specs.Checks.{change_of, comes_later, is_head, level_before, level_of}
-use Rattle.judge_match.specs.Checks.{name_for, other_level, place_of, signal_of}
-use Rattle.judge_match.specs.{Heads.HeadValues, Heads.with_change, Heads.with_head}
-use Rattle.judge_match.specs.{Records.after_name, Records.after_record, Records.after_row}
-use Rattle.judge_match.specs.{Records.heads_in, Records.heads_of, Records.seen_file}
-use Rattle.judge_match.specs.{Row.Row, Row.header_record, Row.row_in, Waves.SeenValues}
-use Rattle.judge_match.specs.Waves.{records_said, seen_of, wave_of}
+use Rattle.judge_match.specs.declared.matching.fault.SeenFault.{SeenFault}
+use Rattle.judge_match.specs.declared.matching.fault.SeenFault.TheVariants as fault
+use Rattle.judge_match.specs.matching.Checks.{change_of, comes_later, is_head, level_before, level_of}
+use Rattle.judge_match.specs.matching.Checks.{name_for, other_level, place_of, signal_of}
+use Rattle.judge_match.specs.{matching.Heads.HeadValues, matching.Heads.with_change, matching.Heads.with_head}
+use Rattle.judge_match.specs.{matching.Records.after_name, matching.Records.after_record, matching.Records.after_row}
+use Rattle.judge_match.specs.{matching.Records.heads_in, matching.Records.heads_of, matching.Records.seen_file}
+use Rattle.judge_match.specs.{matching.Row.Row, matching.Row.header_record, matching.Row.row_in, matching.Waves.SeenValues}
+use Rattle.judge_match.specs.matching.Waves.{records_said, seen_of, wave_of}
 use Rattle.call_pilot.specs.SameTextLaws.{script_names_same}
 
 -- a script is found by its name

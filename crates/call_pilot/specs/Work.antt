@@ -2,7 +2,7 @@
 use Rattle.std.specs.Prelude.{ℕ, List}
 use Rattle.model_line.specs.{declared.line.Line.Line, declared.script.Script.Script}
 use Rattle.model_timing.specs.NamedValues.{NamedValues}
-use Rattle.judge_match.specs.Waves.{SeenValues}
+use Rattle.judge_match.specs.matching.Waves.{SeenValues}
 
 pub data Work : Type 0 where
   net : Line → Work

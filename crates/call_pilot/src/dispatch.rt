@@ -23,7 +23,7 @@ use call_engine::Engine;
 use call_files::{Refusal, Status, Stop, ended, read_study};
 use file_line::read_line;
 use file_tables::timing::read_timings;
-use judge_match::read_seen;
+use judge_match::matching::read_seen;
 use model_line::{Line, Memory};
 use model_names::parameter_of_name;
 use std::alloc::Global;

@@ -1,9 +1,9 @@
 -- Why nothing is said of a record.
 use Rattle.std.proofs.Common.{◌≡◌, ◌≤◌, ℕ, List, Option, Some, Err, length, refl, arith}
 use Rattle.model_line.specs.{declared.line.Line.Line, declared.script.Script.Script}
-use Rattle.judge_match.specs.Waves.{records_said}
-use Rattle.judge_match.specs.declared.fault.SeenFault.{SeenFault}
-use Rattle.judge_match.specs.declared.fault.SeenFault.TheVariants as seen_fault
+use Rattle.judge_match.specs.matching.Waves.{records_said}
+use Rattle.judge_match.specs.declared.matching.fault.SeenFault.{SeenFault}
+use Rattle.judge_match.specs.declared.matching.fault.SeenFault.TheVariants as seen_fault
 use Rattle.call_explain.specs.Explain.{IsExplainStop}
 use Rattle.call_ask.specs.declared.explain.ExplainForm.{ExplainForm}
 use Rattle.call_explain.specs.declared.stop.ExplainStop.{ExplainStop}

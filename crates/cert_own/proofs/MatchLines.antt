@@ -27,13 +27,13 @@ use Rattle.cert_text.specs.NameLaws.{name_whole, names_count}
 use Rattle.cert_text.specs.NumberLaws.{numbers_tell, numbers_whole}
 use Rattle.run_rows.specs.PlayRows.{level_word}
 use Rattle.run_waves.specs.waves.Text.{tern_word}
-use Rattle.judge_match.specs.Answer.{Head, IsHead, IsMatchAnswer}
-use Rattle.judge_match.specs.{Clash.IsAllowed, Match.IsMatch, Recorded.IsRecordOf}
-use Rattle.judge_match.specs.MatchText.{clash_words, match_words, signal_word}
-use Rattle.judge_match.specs.Seen.{AreSeen, seen_history}
-use Rattle.judge_match.specs.{Waves.SeenValues, Waves.seen_values}
-use Rattle.judge_match.specs.declared.seen.{Match.Match, Seen.Seen}
-use Rattle.judge_match.specs.declared.seen.Match.TheVariants.{Explained, Impossible, Unsettled}
+use Rattle.judge_match.specs.matching.Answer.{Head, IsHead, IsMatchAnswer}
+use Rattle.judge_match.specs.{matching.Clash.IsAllowed, matching.Match.IsMatch, matching.Recorded.IsRecordOf}
+use Rattle.judge_match.specs.matching.MatchText.{clash_words, match_words, signal_word}
+use Rattle.judge_match.specs.matching.Seen.{AreSeen, seen_history}
+use Rattle.judge_match.specs.{matching.Waves.SeenValues, matching.Waves.seen_values}
+use Rattle.judge_match.specs.declared.matching.seen.{Match.Match, Seen.Seen}
+use Rattle.judge_match.specs.declared.matching.seen.Match.TheVariants.{Explained, Impossible, Unsettled}
 use Rattle.cert_own.specs.Matched.{HasMatch, HasShortValues, HoldsOfRecord, HoldsOfRecordAt}
 use Rattle.cert_own.specs.Matched.{IsGivenBy, Matched, explained, impossible, unsettled}
 use Rattle.cert_own.specs.Matched.{matched_words}

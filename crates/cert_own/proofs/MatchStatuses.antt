@@ -7,10 +7,10 @@ use Rattle.std.proofs.lemmas.Option.{same_Some}
 use Rattle.std.specs.Prelude.{slice_get}
 use Rattle.std.specs.List.{All, AllZip, list_any}
 use Rattle.model_line.specs.{declared.line.Line.Line, declared.script.Script.Script}
-use Rattle.judge_match.specs.Answer.{Head, IsHead, IsMatchAnswer, is_impossible, is_unsettled}
-use Rattle.judge_match.specs.{Recorded.IsRecordOf, Waves.SeenValues, Waves.seen_values}
-use Rattle.judge_match.specs.declared.seen.Match.{Match}
-use Rattle.judge_match.specs.declared.seen.Match.TheVariants.{Explained, Impossible, Unsettled}
+use Rattle.judge_match.specs.matching.Answer.{Head, IsHead, IsMatchAnswer, is_impossible, is_unsettled}
+use Rattle.judge_match.specs.{matching.Recorded.IsRecordOf, matching.Waves.SeenValues, matching.Waves.seen_values}
+use Rattle.judge_match.specs.declared.matching.seen.Match.{Match}
+use Rattle.judge_match.specs.declared.matching.seen.Match.TheVariants.{Explained, Impossible, Unsettled}
 use Rattle.cert_own.specs.Matched.{AllGiven, HoldsOfRecord, HoldsOfRecordAt, HoldsOfSomeRecord}
 use Rattle.cert_own.specs.Matched.{IsGivenBy, IsGivenByNone, IsGivenBySome, IsOpenRecord}
 use Rattle.cert_own.specs.Matched.{Matched}

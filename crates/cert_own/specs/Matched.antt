@@ -10,7 +10,7 @@ use Rattle.model_logic.specs.Histories.{History, IsLineHistory, IsSameHistory}
 use Rattle.model_timing.specs.Candidates.{candidate, candidate_count}
 use Rattle.base_text.specs.lines.SpacedNumbers.{numbers_text}
 use Rattle.run_waves.specs.derived.Claims.{pairs_of, derived_key, derived_trip}
-use Rattle.judge_match.specs.{Recorded.recorded, Waves.SeenValues}
+use Rattle.judge_match.specs.{matching.Recorded.recorded, matching.Waves.SeenValues}
 use Rattle.cert_own.specs.WholeLines.{whole_lines}
 
 -- ---- of a record

@@ -10,8 +10,8 @@ ghost use Rattle.cert_check.specs.declared.counts.Counts.{Counts};
 ghost use Rattle.cert_check.specs.{Check.IsAccepted, Verdicts.AreAccepted};
 ghost use Rattle.cert_own.specs.Certified.{IsCertified, AreCertified};
 ghost use Rattle.cert_check.specs.Counts.{all_verdicts, is_no, is_undecided};
-ghost use Rattle.judge_match.specs.{Answer.IsMatchAnswer, Recorded.IsRecordOf};
-ghost use Rattle.judge_match.specs.Waves.{SeenValues};
+ghost use Rattle.judge_match.specs.{matching.Answer.IsMatchAnswer, matching.Recorded.IsRecordOf};
+ghost use Rattle.judge_match.specs.matching.Waves.{SeenValues};
 ghost use Rattle.cert_own.specs.Matched.{AllGiven, HasMatch, HoldsOfRecord, HoldsOfRecordAt};
 ghost use Rattle.cert_own.specs.Matched.{HoldsOfSomeRecord, IsGivenByNone, IsOpenRecord};
 ghost use Rattle.cert_own.specs.Matched.{Matched};
@@ -20,7 +20,7 @@ ghost use Rattle.cert_own.specs.Obligations.{HoldsSomewhere, IsFailedBySome, IsU
 ghost use Rattle.cert_own.specs.Printed.{HasVerdict, HoldsOf};
 
 use crate::laws::what_is_certified_is_accepted;
-use judge_match::what_a_choice_gives_is_allowed;
+use judge_match::matching::what_a_choice_gives_is_allowed;
 use model_line::laws::declared_intervals_are_in_order;
 use model_logic::laws::line_laws;
 use model_timing::{candidates_are_inside, timings_inside_are_choices_inside};

@@ -1,11 +1,2 @@
-pub mod AllowedLaws
-pub mod ClashLaws
-pub mod Taken
-pub mod WaveLaws
-pub mod NamedLaws
-pub mod LevelLaws
-pub mod AnswerLaws
-pub mod OneMatch
-pub mod OneRecord
-pub mod BlockLaws
-pub mod RecordedLaws
+pub mod explain_lemmas
+pub mod matching_lemmas

@@ -6,7 +6,7 @@ use Rattle.model_line.specs.{Parameters.terminal_count}
 use Rattle.model_line.specs.declared.script.What.TheVariants as what
 use Rattle.model_line.specs.NamesByNumber.{terminal_name}
 use Rattle.run_rows.specs.PlayRows.{value_before}
-use Rattle.judge_match.specs.Row.{header_record}
+use Rattle.judge_match.specs.matching.Row.{header_record}
 use Rattle.file_records.specs.declared.map.source.Signal.TheVariants.{Shown, Key, Trip}
 use Rattle.file_records.specs.map.Signals.{shown}
 use Rattle.file_records.specs.{tracks.Below.below, tracks.Levels.is_on, tracks.Levels.level_text}

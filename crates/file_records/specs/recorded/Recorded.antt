@@ -9,7 +9,7 @@ use Rattle.model_line.specs.declared.script.What.TheVariants as what
 use Rattle.model_line.specs.Seen.{is_lost, is_seen}
 use Rattle.model_logic.specs.Histories.{History}
 use Rattle.model_line.specs.NamesByNumber.{terminal_name}
-use Rattle.judge_match.specs.Row.{header_record}
+use Rattle.judge_match.specs.matching.Row.{header_record}
 use Rattle.file_records.specs.{declared.map.source.Signal.Signal, map.Signals.shown}
 use Rattle.file_records.specs.declared.map.source.Signal.TheVariants.{Shown, Key, Trip}
 use Rattle.file_records.specs.{tracks.Below.below, tracks.Tracks.AreTracks, tracks.Tracks.PlacedValues, tracks.Tracks.TrackValues}

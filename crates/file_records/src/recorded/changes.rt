@@ -3,7 +3,7 @@
 ghost use Rattle.std.specs.Prelude.{[], ◌∷◌, ◌≡◌, ◌<◌, ◌++◌, IfOk, OnOk, map};
 ghost use Rattle.model_line.specs.Parameters.{terminal_count};
 ghost use Rattle.file_tables.specs.script.Printed.{records_text};
-ghost use Rattle.judge_match.specs.Row.{header_record};
+ghost use Rattle.judge_match.specs.matching.Row.{header_record};
 ghost use Rattle.file_records.specs.declared.map.source.Signal.TheVariants.{Key, Trip};
 ghost use Rattle.file_records.specs.{tracks.Levels.is_on as is_signal_on, tracks.Tracks.track_values};
 ghost use Rattle.file_records.specs.recorded.Changes.{change_at, head_record, record_text as text_of_record};

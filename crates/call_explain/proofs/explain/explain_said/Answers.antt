@@ -4,10 +4,10 @@ use Rattle.std.proofs.lemmas.List.Elements.{All-contains}
 use Rattle.std.specs.List.{Contains}
 use Rattle.std.specs.Prelude.{Ok}
 use Rattle.model_line.specs.declared.script.Script.{Script}
-use Rattle.judge_explain.specs.Answers.{IsExplanation}
-use Rattle.judge_match.specs.Seen.{AreSeen, seen_history}
-use Rattle.judge_match.specs.Waves.{seen_values}
-use Rattle.judge_match.specs.declared.seen.Seen.{Seen}
+use Rattle.judge_match.specs.explain.Answers.{IsExplanation}
+use Rattle.judge_match.specs.matching.Seen.{AreSeen, seen_history}
+use Rattle.judge_match.specs.matching.Waves.{seen_values}
+use Rattle.judge_match.specs.declared.matching.seen.Seen.{Seen}
 use Rattle.call_explain.specs.Picked.{picked}
 use Rattle.call_explain.proofs.explain.explain_said.Goals as goal
 

@@ -2,8 +2,8 @@ use Rattle.std.proofs.Common.{◌≡◌, ◌<◌, ◌∙◌, ap, sym, arith, eq-
 use Rattle.std.proofs.lemmas.Bool.{ne_eqb}
 use Rattle.std.proofs.lemmas.List.{get_or_default}
 use Rattle.std.specs.Prelude.{Ok}
-use Rattle.judge_match.specs.declared.seen.Seen.{Seen}
-use Rattle.judge_match.specs.Waves.{seen_values}
+use Rattle.judge_match.specs.declared.matching.seen.Seen.{Seen}
+use Rattle.judge_match.specs.matching.Waves.{seen_values}
 use Rattle.call_explain.proofs.PickLaws.{found_at, passed, missing}
 use Rattle.call_explain.proofs.pick.record_with.Goals as goal
 

@@ -1,5 +1,5 @@
 use Rattle.std.proofs.Common.{◌≡◌, drop, map}
-use Rattle.judge_match.specs.Waves.{seen_values}
+use Rattle.judge_match.specs.matching.Waves.{seen_values}
 use Rattle.call_explain.specs.Picked.{record_of}
 use Rattle.call_explain.proofs.pick.record_with.Given as goal
 

@@ -1,6 +1,6 @@
 use Rattle.std.proofs.Common.{map}
 use Rattle.std.proofs.lemmas.Result.{err_from_is_err_and}
-use Rattle.judge_match.specs.Waves.{records_said, seen_values}
+use Rattle.judge_match.specs.matching.Waves.{records_said, seen_values}
 use Rattle.call_commands.specs.Match.{match_answer}
 use Rattle.call_answer.specs.Sinks.{sink_view}
 use Rattle.call_pilot.specs.CallAnswers.{done_with}

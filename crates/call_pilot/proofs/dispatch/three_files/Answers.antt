@@ -1,7 +1,7 @@
 use Rattle.std.proofs.Common.{List}
 use Rattle.std.proofs.lemmas.Result.{err_from_is_err_and}
 use Rattle.model_line.specs.{declared.line.Line.Line, declared.script.Script.Script}
-use Rattle.judge_match.specs.Waves.{records_said}
+use Rattle.judge_match.specs.matching.Waves.{records_said}
 use Rattle.call_commands.specs.{Check.check_answer, Recheck.recheck_answer}
 use Rattle.call_answer.specs.Sinks.{sink_view}
 use Rattle.call_pilot.specs.{Call.answer_by, Call.asks_by, Reading.third_file}

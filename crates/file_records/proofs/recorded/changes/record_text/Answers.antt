@@ -1,5 +1,5 @@
 use Rattle.std.proofs.Common.{◌∷◌, [], map}
-use Rattle.judge_match.specs.Row.{header_record}
+use Rattle.judge_match.specs.matching.Row.{header_record}
 use Rattle.file_tables.specs.script.Printed.{records_text}
 use Rattle.file_records.specs.tracks.Tracks.{track_values}
 use Rattle.file_records.specs.recorded.Changes.{head_record, tick_changes}

@@ -1,7 +1,0 @@
-use Rattle.std.proofs.Common.{◌<◌, ℕ, get_or}
-use Rattle.judge_explain.specs.Changes.{AreNear}
-use Rattle.judge_explain.proofs.changes.are_near.Given as goal
-
-abbrev pub invariant-loop-i : goal.invariant-loop-i
-invariant-loop-i l =
-    (j : ℕ) → j < l.i → AreNear l.within (get_or l.recorded j 0) (get_or l.played j 0)

@@ -1,6 +1,0 @@
-use Rattle.run_changes.specs.PlayedTracks.{is_on}
-use Rattle.judge_explain.specs.Asked.{AreLevels}
-use Rattle.judge_explain.proofs.changes.track_levels.Given as goal
-
-abbrev pub invariant-loop-t : goal.invariant-loop-t
-invariant-loop-t l = AreLevels l.t (is_on l.track) l.levels.items

@@ -1,6 +1,0 @@
-use Rattle.run_waves.specs.waves.Waves.{wave_at}
-use Rattle.judge_explain.specs.Asked.{AreLevels}
-use Rattle.judge_explain.proofs.recorded.wave_levels.Given as goal
-
-abbrev pub invariant-loop-t : goal.invariant-loop-t
-invariant-loop-t l = AreLevels l.t (λ t. (wave_at l.wave t).must) l.levels.items

@@ -1,5 +1,0 @@
-use Rattle.std.proofs.Common.{ℕ}
-use Rattle.judge_explain.proofs.search.+search_part.Given as goal
-
-abbrev pub decreases-search_part : goal.decreases-search_part
-decreases-search_part l = l.depth

@@ -1,0 +1,21 @@
+use Rattle.std.proofs.Common.{◌≡◌, ◌∙◌, ◌+◌, ap, subst, sym, ℕ, List}
+use Rattle.std.specs.Prelude.{IfOk}
+use Rattle.model_history.specs.Rails.{Ends}
+use Rattle.std.specs.Prelude.{slice_set}
+use Rattle.judge_match.specs.{explain.Asked.IsPart, explain.Parts.upper_part}
+use Rattle.judge_match.proofs.explain_lemmas.ListLaws.{ok_weaker}
+use Rattle.judge_match.proofs.explain_lemmas.PartLaws.{upper_is}
+use Rattle.judge_match.proofs.explain.parts.upper_part.Goals as goal
+
+pub returns-clause-part : goal.returns-clause-part
+returns-clause-part c =
+    let line = c.args.line.now in
+    let part = c.args.part.now in
+    ok_weaker (λ side. side.items ≡ upper_part part c.args.param c.args.mid)
+    (λ side. IsPart line side.items) c.with_interval.result
+    (λ side is. subst (IsPart line) (sym is)
+    (upper_is c.delays_are_parameters.ensures line part c.args.param c.args.mid c.requires.part
+    c.requires.can))
+    (subst (λ (e : Ends). IfOk c.with_interval.result
+    (λ side. side.items ≡ slice_set part c.args.param e))
+    (c.new-new.ensures ∙ ap (λ (n : ℕ). (record { least = c.args.mid + 1; greatest = n })) (c.greatest-greatest.ensures.greatest ∙ ap (λ (e : Ends). e.greatest) c.interval-ends.ensures.ends)) c.with_interval.ensures)

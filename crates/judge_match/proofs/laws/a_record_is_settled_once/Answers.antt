@@ -1,5 +1,0 @@
-use Rattle.judge_match.proofs.OneMatch.{one_match}
-use Rattle.judge_match.proofs.laws.a_record_is_settled_once.Goals as goal
-
-pub returns : goal.returns
-returns c = one_match

@@ -1,6 +1,0 @@
-use Rattle.judge_match.proofs.AllowedLaws.{allowed}
-use Rattle.judge_match.proofs.laws.what_a_choice_gives_is_allowed.Goals as goal
-
-pub returns : goal.returns
-returns c line script seen choice h are inside is_h same trip k t kn lt =
-    allowed c.line_laws.ensures line script seen choice h are inside is_h same trip k t kn lt

@@ -1,0 +1,16 @@
+pub mod Seen
+pub mod Signal
+pub mod Clash
+pub mod Match
+pub mod Candidates
+pub mod MatchText
+pub mod Gives
+pub mod Heads
+pub mod Row
+pub mod Checks
+pub mod Records
+pub mod Waves
+pub mod SetLevels
+pub mod Faults
+pub mod Answer
+pub mod Recorded
