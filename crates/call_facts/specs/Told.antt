@@ -4,7 +4,7 @@ use Rattle.model_line.specs.declared.line.Line.{Line}
 use Rattle.model_line.specs.Parameters.{declared_ends}
 use Rattle.model_line.specs.NamesByNumber.{parameter_name}
 use Rattle.model_timing.specs.{Timing.TimingValues, declared.step.Step.Step}
-use Rattle.judge_corner.specs.Cuts.{least_of, nominal_of, number}
+use Rattle.judge_settle.specs.corner.Cuts.{least_of, nominal_of, number}
 use Rattle.draw_page.specs.declared.page.{ToldTime.ToldTime, ToldStep.ToldStep}
 
 -- a number that is neither the middle of its interval nor its least; one that is its least alone

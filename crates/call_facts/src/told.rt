@@ -9,7 +9,7 @@ ghost use Rattle.call_facts.specs.Told.{is_at_least as is_at_least_of};
 ghost use Rattle.call_facts.specs.Lists.{EachOf, if_one, those_below};
 
 use draw_page::{ToldStep, ToldTime};
-use judge_corner::{nominal, number_of};
+use judge_settle::corner::{nominal, number_of};
 use model_line::{Line, Memory};
 use model_line::name_of_parameter;
 use model_timing::{Step, Timing};

@@ -4,7 +4,7 @@ use Rattle.model_line.specs.{declared.line.Line.Line, declared.script.Script.Scr
 use Rattle.model_line.specs.Parameters.{param_count}
 use Rattle.model_line.specs.NamesByNumber.{parameter_name, script_name, terminal_name}
 use Rattle.model_timing.specs.Timing.{TimingValues}
-use Rattle.judge_corner.specs.Cuts.{IsCut}
+use Rattle.judge_settle.specs.corner.Cuts.{IsCut}
 use Rattle.draw_page.specs.declared.page.FailingChoice.{FailingChoice}
 use Rattle.draw_page.specs.declared.page.Undecided.{Undecided}
 use Rattle.call_tables.specs.{declared.row.Row.Row, Table.is_failing, Table.is_open}

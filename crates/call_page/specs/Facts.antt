@@ -2,7 +2,7 @@
 use Rattle.std.specs.Prelude.{◌≡◌, ◌<◌, ◌+◌, ◌*◌, List, Some, slice_get}
 use Rattle.model_line.specs.{declared.line.Line.Line, declared.script.Script.Script}
 use Rattle.model_line.specs.Parameters.{terminal_count}
-use Rattle.judge_settle.specs.Answers.{IsAnswer}
+use Rattle.judge_settle.specs.settle.Answers.{IsAnswer}
 use Rattle.call_tables.specs.{Rows.AreRows, declared.row.Row.Row}
 use Rattle.call_answer.specs.Study.{IsAnyStudy}
 use Rattle.call_facts.specs.FirstTicks.{AreFirsts}

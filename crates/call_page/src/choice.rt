@@ -2,7 +2,7 @@
 
 ghost use Rattle.std.specs.Prelude.{◌≡◌, ◌<◌, ◌^◌, IfOk, length};
 ghost use Rattle.model_line.specs.{Fits.Fits, Parameters.terminal_count};
-ghost use Rattle.judge_settle.specs.Trees.{IsFailing};
+ghost use Rattle.judge_settle.specs.settle.Trees.{IsFailing};
 ghost use Rattle.call_answer.specs.Study.{IsAnyStudy};
 ghost use Rattle.call_page.specs.Choices.{IsChoiceFor, IsChoiceOf};
 ghost use Rattle.call_facts.specs.Lists.{At};
@@ -13,7 +13,7 @@ use call_answer::Study;
 use call_facts::{least_times, play, told_steps, told_times};
 use call_tables::Row;
 use draw_page::FailingChoice;
-use judge_corner::{Obligation, cut};
+use judge_settle::corner::{Obligation, cut};
 use model_line::Memory;
 use model_line::name_of_terminal;
 use model_timing::{NamedTiming, Timing};

@@ -14,7 +14,7 @@ use crate::parts::Part;
 use call_answer::Study;
 use call_tables::Row;
 use draw_page::FailingChoice;
-use judge_settle::Answer;
+use judge_settle::settle::Answer;
 use model_line::Memory;
 use std::alloc::Global;
 

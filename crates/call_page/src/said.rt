@@ -19,7 +19,7 @@ use call_facts::{Firsts, find_firsts};
 use call_tables::{Row, settle_all};
 use draw_page::{Page, page_text};
 use file_study::sweeps::Group;
-use judge_settle::Answer;
+use judge_settle::settle::Answer;
 use model_line::Memory;
 use std::alloc::Global;
 

@@ -11,7 +11,7 @@ use crate::parts::{Part, part_of_script};
 use call_answer::Study;
 use call_tables::Row;
 use draw_page::Undecided;
-use judge_settle::Answer;
+use judge_settle::settle::Answer;
 use model_line::Memory;
 use model_line::{name_of_script, name_of_terminal};
 use std::alloc::Global;

@@ -12,7 +12,7 @@ use crate::parts::Part;
 use crate::worst::worst;
 use draw_page::{Means, Standing, Verdict};
 use judge_report::deadline;
-use judge_settle::{Answer, By};
+use judge_settle::settle::{Answer, By};
 use model_line::Memory;
 use model_line::name_of_terminal;
 use std::alloc::Global;

@@ -8,7 +8,7 @@ ghost use Rattle.call_page.specs.Verdicts.{distance_held as distance_of_held};
 
 use crate::known::{Known, firsts_at, row_at};
 use crate::parts::Part;
-use judge_settle::Answer;
+use judge_settle::settle::Answer;
 use model_line::Kind;
 
 /// The place in a part of the script that does worst at a terminal.

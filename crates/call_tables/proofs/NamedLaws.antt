@@ -12,9 +12,9 @@ use Rattle.model_line.specs.{Parameters.terminal_count, PlainNames.is_plain_name
 use Rattle.model_line.specs.NamesByNumber.{terminal_name}
 use Rattle.model_timing.specs.NamedValues.{NamedValues}
 use Rattle.file_tables.specs.timing.Printed.{MayStand, AreOfOneFile}
-use Rattle.judge_settle.specs.Answers.{IsAnswer}
-use Rattle.judge_settle.specs.declared.answer.Answer.{Answer}
-use Rattle.judge_settle.specs.declared.answer.Answer.TheVariants.{Held, Fails, Open}
+use Rattle.judge_settle.specs.settle.Answers.{IsAnswer}
+use Rattle.judge_settle.specs.declared.settle.answer.Answer.{Answer}
+use Rattle.judge_settle.specs.declared.settle.answer.Answer.TheVariants.{Held, Fails, Open}
 use Rattle.call_tables.specs.declared.row.Row.{Row}
 use Rattle.call_tables.specs.{Rows.AreRows, Written.rows_of, Written.failing_timings}
 use Rattle.call_tables.specs.Written.{failing_named, failing_of, FailsWhereNamed}

@@ -8,7 +8,7 @@ use Rattle.std.proofs.Math.Nat.{mul-le-mul_left}
 use Rattle.std.specs.Prelude.{slice_get}
 use Rattle.model_line.specs.{declared.line.Line.Line, declared.script.Script.Script}
 use Rattle.model_line.specs.Parameters.{terminal_count}
-use Rattle.judge_settle.specs.Answers.{IsAnswer}
+use Rattle.judge_settle.specs.settle.Answers.{IsAnswer}
 use Rattle.call_tables.specs.declared.row.Row.{Row}
 use Rattle.call_tables.specs.{Rows.AreRows, Rows.IsRow, Written.rows_of}
 

@@ -13,10 +13,10 @@ use Rattle.model_line.specs.{declared.script.Script.Script, Parameters.terminal_
 use Rattle.model_line.specs.{Parameters.param_count, Laws.DeclaredIntervalsAreInOrder}
 use Rattle.model_logic.specs.Histories.{History, IsLineHistory, IsSameHistory, MeetsBy}
 use Rattle.model_timing.specs.{Timing.TimingValues, Inside.IsTimingInside, Choice.timing_choice}
-use Rattle.judge_settle.specs.Answers.{IsAnswer}
-use Rattle.judge_settle.specs.Trees.{IsFailing}
-use Rattle.judge_settle.specs.declared.answer.Answer.{Answer}
-use Rattle.judge_settle.specs.declared.answer.Answer.TheVariants.{Held, Fails, Open}
+use Rattle.judge_settle.specs.settle.Answers.{IsAnswer}
+use Rattle.judge_settle.specs.settle.Trees.{IsFailing}
+use Rattle.judge_settle.specs.declared.settle.answer.Answer.{Answer}
+use Rattle.judge_settle.specs.declared.settle.answer.Answer.TheVariants.{Held, Fails, Open}
 use Rattle.cert_text.specs.Grammar.{AreNumbers}
 use Rattle.cert_check.specs.{Counts.are_counts, Counts.counts_in, Scripts.EachBelow}
 use Rattle.cert_check.specs.declared.counts.Counts.{Counts}

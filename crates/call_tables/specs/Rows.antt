@@ -3,7 +3,7 @@ use Rattle.std.specs.Prelude.{◌≡◌, ◌<◌, ◌+◌, ◌*◌, ◌^◌, ℕ
 use Rattle.model_line.specs.{declared.line.Line.Line, declared.script.Script.Script}
 use Rattle.model_line.specs.Parameters.{terminal_count}
 use Rattle.judge_verdict.specs.OneEach.{OneEach}
-use Rattle.judge_settle.specs.Answers.{IsAnswer}
+use Rattle.judge_settle.specs.settle.Answers.{IsAnswer}
 use Rattle.call_tables.specs.declared.row.Row.{Row}
 
 -- row i in the order of the report, script by script and in each its terminals in line order, with

@@ -4,8 +4,8 @@ use Rattle.std.specs.List.{flat_map}
 use Rattle.csv.specs.Writing.{row_text, default_writer}
 use Rattle.model_line.specs.{declared.line.Line.Line, declared.script.Script.Script}
 use Rattle.model_line.specs.NamesByNumber.{script_name, terminal_name}
-use Rattle.judge_settle.specs.{declared.answer.Answer.Answer, Words.by_word}
-use Rattle.judge_settle.specs.declared.answer.Answer.TheVariants.{Held, Fails, Open}
+use Rattle.judge_settle.specs.{declared.settle.answer.Answer.Answer, settle.Words.by_word}
+use Rattle.judge_settle.specs.declared.settle.answer.Answer.TheVariants.{Held, Fails, Open}
 use Rattle.call_tables.specs.declared.row.Row.{Row}
 
 abbrev pub answer_word : Answer → List ℕ

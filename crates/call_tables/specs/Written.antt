@@ -7,9 +7,9 @@ use Rattle.model_line.specs.NamesByNumber.{terminal_name}
 use Rattle.model_timing.specs.NamedValues.{NamedValues}
 use Rattle.file_tables.specs.timing.Printed.{file_records, records_text}
 use Rattle.file_tables.specs.timing.Timings.{timings_in}
-use Rattle.judge_settle.specs.declared.answer.Answer.{Answer}
-use Rattle.judge_settle.specs.declared.answer.Answer.TheVariants.{Held, Fails, Open}
-use Rattle.judge_settle.specs.Trees.{IsFailing}
+use Rattle.judge_settle.specs.declared.settle.answer.Answer.{Answer}
+use Rattle.judge_settle.specs.declared.settle.answer.Answer.TheVariants.{Held, Fails, Open}
+use Rattle.judge_settle.specs.settle.Trees.{IsFailing}
 use Rattle.cert_settle.specs.Grammar.{SettleResult, tree, fails}
 use Rattle.cert_settle.specs.Text.{settle_text}
 use Rattle.call_tables.specs.declared.row.Row.{Row}

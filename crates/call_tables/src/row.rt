@@ -1,6 +1,6 @@
 //! What is known of an obligation.
 
-use judge_settle::Settled;
+use judge_settle::settle::Settled;
 
 /// What is known of the obligation of a script at a terminal, both by their numbers.
 #[derive(Drop)]

@@ -7,7 +7,7 @@ ghost use Rattle.call_answer.specs.Study.{IsAnyStudy};
 
 use crate::row::Row;
 use call_answer::Study;
-use judge_settle::settle;
+use judge_settle::settle::settle;
 use model_line::Memory;
 use std::alloc::Global;
 

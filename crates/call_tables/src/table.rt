@@ -11,7 +11,7 @@ use crate::row::Row;
 use base_records::push_record;
 use call_answer::Study;
 use itoa::Buffer;
-use judge_settle::{Answer, by_word};
+use judge_settle::settle::{Answer, by_word};
 use model_line::Memory;
 use std::alloc::Global;
 

@@ -15,7 +15,7 @@ use crate::row::Row;
 use crate::trees::rows_of;
 use call_answer::Study;
 use file_tables::timing::print_timings;
-use judge_settle::Answer;
+use judge_settle::settle::Answer;
 use model_line::{Line, Memory};
 use model_timing::{NamedTiming, Timing};
 use std::alloc::Global;

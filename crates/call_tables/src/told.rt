@@ -11,7 +11,7 @@ use crate::row::Row;
 use crate::rows::settle_all;
 use crate::table::table_text;
 use call_answer::{Done, Said, Study};
-use judge_settle::Answer;
+use judge_settle::settle::Answer;
 use model_line::Memory;
 use std::alloc::Global;
 

@@ -17,7 +17,7 @@ use cert_settle::{
     SETTLE_END, SETTLE_HEAD, TreeClaim, a_settle_text_grows_by_parts,
     a_settle_text_has_a_head_and_an_end, settle_piece,
 };
-use judge_settle::Answer;
+use judge_settle::settle::Answer;
 use model_line::{Line, Memory, Script};
 use model_timing::Timing;
 use std::alloc::Global;

@@ -6,7 +6,7 @@ use Rattle.model_settle.specs.{Choices.EveryChoiceMeets, Schemes.IsOneRailedBy}
 use Rattle.model_timing.specs.Timing.{TimingValues}
 use Rattle.judge_verdict.specs.OneEach.{OneEach}
 use Rattle.judge_report.specs.Firsts.{IsFirstMust}
-use Rattle.judge_settle.specs.Trees.{IsFailing}
+use Rattle.judge_settle.specs.settle.Trees.{IsFailing}
 use Rattle.call_verdicts.specs.declared.finding.{Finding.Finding, Standing.Standing}
 use Rattle.call_verdicts.specs.declared.finding.Standing.TheVariants.{Held, Fails, Open}
 

@@ -9,7 +9,7 @@ use Rattle.model_line.specs.declared.script.Kind.TheVariants.{Internal, External
 use Rattle.model_line.specs.NamesByNumber.{script_name, terminal_name}
 use Rattle.judge_report.specs.ReportText.{kind_word}
 use Rattle.file_study.specs.declared.sweeps.group.Group.{Group}
-use Rattle.judge_settle.specs.Words.{by_word}
+use Rattle.judge_settle.specs.settle.Words.{by_word}
 use Rattle.base_text.specs.lines.Milliseconds.{ticks_text}
 use Rattle.file_study.specs.sweeps.Places.{PlaceValues, place_in}
 use Rattle.call_verdicts.specs.declared.finding.{Finding.Finding, Standing.Standing}

@@ -11,7 +11,7 @@ use crate::fields::{answer_word, kind_word, margin_text, trip_text};
 use crate::finding::Finding;
 use crate::told::told_of;
 use base_records::push_record;
-use judge_settle::by_word;
+use judge_settle::settle::by_word;
 use model_line::Memory;
 use std::alloc::Global;
 

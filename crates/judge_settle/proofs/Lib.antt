@@ -1,5 +1,2 @@
-mod ViewLaws
-mod TreeLaws
-mod LeafLaws
-mod CornerLaws
-mod AnswerLaws
+pub mod corner_lemmas
+pub mod settle_lemmas

@@ -1,8 +1,2 @@
-pub mod Joined
-pub mod Trees
-pub mod Leaves
-pub mod Sides
-pub mod Scenes
-pub mod Answers
-pub mod Trips
-pub mod Words
+pub mod corner
+pub mod settle

@@ -1,16 +1,6 @@
-//! An answer to each obligation, where the interval rules alone leave it open: a tree of splits and
-//! cases over which it is shown, or a timing that fails it.
+//! An answer to each obligation where the interval rules leave it open: `corner`, the worst corner and
+//! what matters of a timing that fails; `settle`, a tree of splits and cases, or such a timing.
 #![tactic(auto)]
 
-mod answer;
-mod boxes;
-mod budget;
-mod grown;
-mod leaves;
-mod play;
-mod search;
-mod settling;
-mod sides;
-
-pub use answer::{Answer, By, Settled, by_word};
-pub use settling::settle;
+pub mod corner;
+pub mod settle;

@@ -1,5 +1,5 @@
 use Rattle.std.proofs.Common.{◌≡◌, ◌++◌, Bool, true, sym, ap, subst}
-use Rattle.judge_settle.specs.declared.answer.Answer.{Answer}
+use Rattle.judge_settle.specs.declared.settle.answer.Answer.{Answer}
 use Rattle.call_tables.specs.Table.{fails_so, is_failing}
 use Rattle.call_page.specs.Choices.{IsChoiceOf}
 use Rattle.call_facts.specs.Lists.{EachOf, if_one}

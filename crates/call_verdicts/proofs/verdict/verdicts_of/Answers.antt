@@ -1,7 +1,7 @@
 use Rattle.std.proofs.Common.{◌++◌, [], List, ap, get_or, sym, ◌∙◌}
 use Rattle.std.specs.Prelude.{None}
 use Rattle.std.specs.List.{cons_option}
-use Rattle.judge_settle.specs.declared.answer.By.TheVariants.{Rules}
+use Rattle.judge_settle.specs.declared.settle.answer.By.TheVariants.{Rules}
 use Rattle.call_verdicts.specs.Faults.{verdict_at}
 use Rattle.call_verdicts.specs.declared.finding.Finding.{Finding}
 use Rattle.call_verdicts.specs.declared.finding.Standing.TheVariants.{Held}

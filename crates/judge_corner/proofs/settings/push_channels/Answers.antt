@@ -1,8 +1,0 @@
-use Rattle.judge_corner.proofs.SettingOrder.{one_channel_more}
-use Rattle.judge_corner.proofs.settings.push_channels.Goals as goal
-
-pub loop-channel-preserved : goal.loop-channel-preserved
-loop-channel-preserved c =
-    one_channel_more c.args.scheme c.args.channels.now c.loop-channel._channel-index
-    c.loop-channel-test.true _ _ _ _ c.loop-channel.invariant c.in_ok-push_groups.ensures
-    c.groups_of_channel.ensures.all

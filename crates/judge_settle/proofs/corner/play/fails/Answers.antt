@@ -1,0 +1,66 @@
+use Rattle.std.proofs.Common.{◌≡◌, ℕ, Bool, List, Some, sym, ◌∙◌, subst, arith}
+use Rattle.std.proofs.lemmas.Option.{slice_get_read}
+use Rattle.std.specs.Prelude.{slice_get, IsTrue, IsFalse}
+use Rattle.model_line.specs.{declared.line.Line.Line, declared.script.Script.Script}
+use Rattle.model_line.specs.Parameters.{terminal_count}
+use Rattle.model_logic.specs.{Choice.Choice, Histories.MeetsBy}
+use Rattle.model_timing.specs.{declared.step.Step.Step, Timing.TimingValues, Choice.timing_choice}
+use Rattle.run_changes.specs.PlayedTracks.{played, shown_is}
+use Rattle.run_step.specs.{LaneBox.lane_box, Played.ends_of_tick, Runs.AreDelayed}
+use Rattle.run_step.specs.Runs.{IsPoint}
+use Rattle.judge_settle.proofs.corner_lemmas.Played.{meets_same, opposite, same_way}
+use Rattle.judge_settle.proofs.corner.play.fails.Goals as goal
+
+pub run_tracks-requires-clause-delayed : goal.run_tracks-requires-clause-delayed
+run_tracks-requires-clause-delayed c =
+    let line = c.args.of.now.line.now in
+    let timing : TimingValues = c.args.timing.now in
+    subst (λ (values : List ℕ). AreDelayed 1 ends_of_tick line values c.steps-steps.result.now)
+    (sym c.values-values.ensures)
+    (subst (λ (steps : List (Step ℕ)). AreDelayed 1 ends_of_tick line timing.values steps)
+    (sym c.steps-steps.ensures.same)
+    (c.a_timing_is_one_choice.ensures.delayed line timing 1 c.requires.inside))
+
+pub returns : goal.returns
+returns c =
+    let line : Line = c.args.of.now.line.now in
+    let script : Script = c.args.of.now.script.now in
+    let k : ℕ = c.args.of.now.terminal in
+    let timing : TimingValues = c.args.timing.now in
+    let choice : Choice = timing_choice line timing in
+    let keys = c.in_ok-tracks.tracks.keys.items in
+    let trips = c.in_ok-tracks.tracks.trips.items in
+    let law = c.a_timing_is_one_choice.ensures in
+    let early = c.deadlines_are_below_the_horizon.ensures line script c.requires.of.fits in
+    let point =
+    subst (λ (values : List ℕ).
+    IsPoint line (lane_box ends_of_tick line values c.steps-steps.result.now 0) choice)
+    (sym c.values-values.ensures)
+    (subst (λ (steps : List (Step ℕ)).
+    IsPoint line (lane_box ends_of_tick line timing.values steps 0) choice)
+    (sym c.steps-steps.ensures.same) (law.point line timing 0 c.requires.inside)) in
+    let exact = c.in_ok-tracks.ensures.exact 0 choice (omega arith) point in
+    let track = c.index-trip.result.now in
+    let at : slice_get trips k ≡ Some track =
+    slice_get_read trips (terminal_count line) k track
+    (sym (c.in_ok-tracks.ensures.trips.count ∙ c.requires.of.of_line.laws.same
+    ∙ c.requires.of.of_line.terminals)) c.requires.of.terminal c.index-trip.ensures in
+    record {
+      fails = λ told. record {
+        history = played keys trips;
+        is = exact.is;
+        fails = λ met.
+            let yes : IsTrue c.meets.result = c.meets.ensures.1
+            (subst (λ (u : ℕ → Bool). MeetsBy script.kind script.deadline line.horizon u)
+            (shown_is trips k track at) met) in
+            let no : IsFalse c.meets.result = opposite c.meets.result told in
+            absurd (cc);
+      };
+      passes = λ told. λ h is_h.
+          let same = c.each_choice_has_one_history.ensures.only line script choice
+          (played keys trips) h (law.choice line timing c.requires.inside) exact.is is_h in
+          meets_same script.kind script.deadline line.horizon ((played keys trips).trip k)
+          (h.trip k) early (λ t lt. same.trips k t c.requires.of.terminal lt)
+          (subst (λ (u : ℕ → Bool). MeetsBy script.kind script.deadline line.horizon u)
+          (sym (shown_is trips k track at)) (c.meets.ensures.0 (same_way c.meets.result told)));
+    }

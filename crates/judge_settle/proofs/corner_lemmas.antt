@@ -1,0 +1,10 @@
+pub mod DelayOrder
+pub mod LastShown
+pub mod StepLaws
+pub mod SettingOrder
+pub mod CornerTimings
+pub mod OneTiming
+pub mod Order
+pub mod Played
+pub mod Weights
+pub mod Tries

@@ -1,0 +1,105 @@
+-- The timing that is the worst choice decides each obligation.
+use Rattle.std.proofs.Common.{◌≡◌, ℕ, ◌<◌, Bool, true, false, Some, length, sym, ◌∙◌, arith}
+use Rattle.std.proofs.lemmas.Bool.{both_ways, false_from_ne_true}
+use Rattle.std.proofs.lemmas.List.FromFn.{get_or-map-range_with_len, length-map-range_with_len}
+use Rattle.std.proofs.lemmas.Option.{slice_get_within, get_or_from_slice_get}
+use Rattle.std.specs.Prelude.{slice_get}
+use Rattle.model_history.specs.Rails.{Rails}
+use Rattle.model_line.specs.{declared.line.Line.Line, declared.script.Script.Script}
+use Rattle.model_line.specs.Parameters.{terminal_count}
+use Rattle.model_logic.specs.Choice.{Choice, DelaysFromOne, declared_box}
+use Rattle.model_logic.specs.Histories.{History, IsLineHistory, PairHistory, IsPairHistory}
+use Rattle.model_logic.specs.Rule.{Held, is_held, rule_of}
+use Rattle.model_logic.specs.Laws.{LineLaws, TheRuleIsTested, TheRuleIsExact}
+use Rattle.model_timing.specs.{Timing.TimingValues, Inside.IsTimingInside, Choice.timing_choice}
+use Rattle.model_timing.specs.{Choice.IsSameChoice, Laws.TimingsInsideAreChoicesInside}
+use Rattle.model_settle.specs.Worst.{deciding}
+use Rattle.model_settle.specs.Schemes.{IsOneRailedBy, TheWorstChoiceDecides, scheme_sides}
+use Rattle.judge_settle.specs.{corner.Corner.corner, corner.Decided.OneTimingDecides, corner.Decided.held_by}
+
+-- ---- what is told of one obligation
+
+module _ (tested : TheRuleIsTested) (exact : TheRuleIsExact) (line : Line) (script : Script)
+    (trip : ℕ → Rails) where
+  abbrev told : Bool
+  told = is_held script.kind script.deadline line.horizon trip
+
+  pub is_told : rule_of line script trip ≡ Held → true ≡ told
+  is_told e =
+      sym ((tested.held script.kind script.deadline line.horizon trip).1
+      ((exact.held line script trip).0 e))
+
+  pub is_not_told : ¬ (rule_of line script trip ≡ Held) → false ≡ told
+  is_not_told other =
+      sym (false_from_ne_true told (λ e. other ((exact.held line script trip).1
+      ((tested.held script.kind script.deadline line.horizon trip).0 e))))
+
+-- ---- the timing
+
+-- choices that are the same over the run have the same histories
+abbrev pub SameHistories : Type 0
+SameHistories =
+    (line : Line) (script : Script) (a b : Choice) (h : History) → DelaysFromOne line a
+    → DelaysFromOne line b → IsSameChoice line a b → IsLineHistory line script a h
+    → IsLineHistory line script b h
+
+module _ (laws : LineLaws) (choices : TimingsInsideAreChoicesInside) (same : SameHistories)
+    (decides : TheWorstChoiceDecides) (line : Line) (script : Script) (w : PairHistory)
+    (timing : TimingValues) (early : script.deadline < line.horizon)
+    (by_scheme : IsOneRailedBy line.scheme line)
+    (is_w : IsPairHistory line script (declared_box line) w) (inside : IsTimingInside line timing)
+    (worst : IsSameChoice line (timing_choice line timing) (corner line (deciding script.kind) w))
+  where
+    abbrev held_at : ℕ → Bool
+    held_at k = is_held script.kind script.deadline line.horizon (w.trip k)
+
+    count : length (held_by line script w) ≡ terminal_count line
+    count = length-map-range_with_len held_at 0 (terminal_count line)
+
+    told_at : (k : ℕ) (b : Bool) → slice_get (held_by line script w) k ≡ Some b
+        → (k < terminal_count line) × (held_at k ≡ b)
+    told_at k b at =
+        let there : k < length (held_by line script w) =
+        slice_get_within (held_by line script w) k b at in
+        let below : k < terminal_count line = omega (arith, there, count) in (
+          below,
+          sym (get_or-map-range_with_len held_at 0 (terminal_count line) k k false below
+              (omega arith))
+              ∙ get_or_from_slice_get (held_by line script w) k b false at,
+        )
+
+    abbrev played : Choice
+    played = timing_choice line timing
+
+    from_one : DelaysFromOne line played
+    from_one = laws.inside.choices line played (choices line timing inside)
+
+    worst_from_one : DelaysFromOne line (corner line (deciding script.kind) w)
+    worst_from_one =
+        laws.inside.choices line (corner line (deciding script.kind) w)
+        (decides.inside line (scheme_sides line (deciding script.kind)) w)
+
+    pub one_timing_decides : OneTimingDecides line script timing (held_by line script w)
+    one_timing_decides = record {
+      inside = inside;
+      count = count;
+      meets = λ k at choice h within is_h.
+          let (below, on) = told_at k true at in
+          laws.every_choice.held line script (declared_box line) w k early
+          (laws.inside.declared line) is_w below
+          ((laws.rule.held line script (w.trip k)).1
+          ((laws.rule_tests.held script.kind script.deadline line.horizon (w.trip k)).0 on))
+          choice h within is_h;
+      fails = λ k at.
+          let (below, off) = told_at k false at in
+          let (h, is_h) = laws.histories.exists line script played from_one in
+          record {
+            history = h;
+            is = is_h;
+            fails = λ met. both_ways (held_at k) off
+                ((laws.rule_tests.held script.kind script.deadline line.horizon (w.trip k)).1
+                ((decides.meets line script w h k early by_scheme is_w
+                (same line script played (corner line (deciding script.kind) w) h from_one
+                worst_from_one worst is_h) below).0 met));
+          };
+    }

@@ -1,4 +1,0 @@
-use Rattle.judge_settle.proofs.search.+search_view.Given as goal
-
-abbrev pub decreases-search_view : goal.decreases-search_view
-decreases-search_view l = l.depth

@@ -1,0 +1,20 @@
+use Rattle.std.proofs.Common.{refl, arith}
+use Rattle.model_logic.specs.Choice.{declared_box}
+use Rattle.model_settle.specs.CaseTrees.{Yes}
+use Rattle.judge_settle.proofs.settle.settling.held_at_once.Goals as goal
+
+pub returns : goal.returns
+returns c = λ line script k held meets. record {
+  tree = Yes;
+  are = c.in_ok-tree.ensures.nodes;
+  sound = (c.each_box_has_one_history_under.ensures.held line script k (declared_box line)).1 held;
+  yes = refl;
+  meets = meets;
+  written = record {
+    tree = Yes;
+    are = c.in_ok-tree.ensures.nodes;
+    branches = tt;
+    low = omega arith;
+    few = omega arith;
+  };
+}

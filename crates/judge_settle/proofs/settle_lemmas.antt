@@ -1,0 +1,5 @@
+pub mod ViewLaws
+pub mod TreeLaws
+pub mod LeafLaws
+pub mod CornerLaws
+pub mod AnswerLaws

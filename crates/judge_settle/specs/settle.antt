@@ -1,0 +1,8 @@
+pub mod Joined
+pub mod Trees
+pub mod Leaves
+pub mod Sides
+pub mod Scenes
+pub mod Answers
+pub mod Trips
+pub mod Words

@@ -1,0 +1,32 @@
+//! The worst corner as a timing, and a timing that fails, cut to what matters.
+//!
+//! - `decided`: where a line's scheme reads every number at one end alone, one timing for each
+//!   script, its delays moving, decides every obligation of it.
+//! - `cutting`: each number that may stand in the middle of its interval, or else at its least,
+//!   stands there, and each step that may be left out is left out, as long as the obligation still
+//!   fails.
+
+mod changed;
+mod cutting;
+mod decided;
+mod delays;
+mod number;
+mod numbers;
+mod obligation;
+mod play;
+mod proved;
+mod rail;
+mod scheme;
+mod settings;
+mod step;
+mod steps;
+mod timing;
+
+pub use changed::{nominal, number_of};
+pub use cutting::cut;
+pub use decided::{Decided, decide};
+pub use delays::delay_at;
+pub use obligation::Obligation;
+pub use rail::{End, Rail, deciding};
+pub use scheme::{end_of, is_one_railed, key_rail};
+pub use timing::worst_timing;

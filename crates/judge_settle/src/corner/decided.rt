@@ -1,0 +1,100 @@
+//! The obligations of a script, decided by one timing.
+
+ghost use Rattle.std.specs.Prelude.{◌≡◌, ◌<◌, ◌↔◌, IfOk, IfSome, IsSome};
+ghost use Rattle.model_line.specs.{Fits.Fits, Parameters.terminal_count};
+ghost use Rattle.model_logic.specs.Rule.{is_held as is_rule_held};
+ghost use Rattle.net_gates.specs.NetOf.{IsNetOf};
+ghost use Rattle.model_settle.specs.Schemes.{IsOneRailedBy};
+ghost use Rattle.judge_verdict.specs.PairWavesOf.{pair_history};
+ghost use Rattle.judge_settle.specs.corner.Decided.{OneTimingDecides, IsTheWorst, held_by};
+
+use crate::corner::rail::deciding;
+use crate::corner::scheme::is_one_railed;
+use crate::corner::timing::worst_timing;
+use judge_verdict::{PairWaves, Rule, analyse, judge};
+use model_line::{Line, Memory, Script};
+use model_logic::laws::{line_laws, the_rule_is_exact, the_rule_is_tested};
+use model_settle::polarity_laws::the_worst_choice_decides;
+use model_timing::{
+    Timing, same_choices_have_the_same_histories, timings_inside_are_choices_inside,
+};
+use net_gates::Net;
+use std::alloc::Global;
+
+/// The worst timing of a script, and for each terminal whether its obligation is held: met by every
+/// choice inside the declared intervals. Where it is not, the timing fails it.
+#[derive(Drop)]
+pub struct Decided {
+    pub timing: Timing,
+    pub held: Vec<bool>,
+}
+
+/// Decides every obligation of a script, where the line's scheme makes every trip one-railed; none
+/// where it does not.
+pub fn decide(
+    alloc: Global,
+    line: &Line,
+    net: &Net,
+    script: &Script,
+) -> Result<Option<Decided>, Memory>
+    requires of_line { IsNetOf line.now net.now }
+    requires fits { Fits line.now script.now }
+    // PUTT, DTT, DCB, and POTT without weak ends are decided, and no other line is.
+    ensures one_railed { IfOk result (λ decided.
+        IsSome decided ↔ IsOneRailedBy line.now.scheme line.now) }
+    // Every choice inside meets the obligation, or this one timing inside fails it.
+    ensures one_timing_decides { IfOk result (λ decided. IfSome decided (λ d.
+        OneTimingDecides line.now script.now d.timing d.held.items)) }
+    // Over the run the timing is the worst choice over the interval history.
+    ensures worst { IfOk result (λ decided. IfSome decided (λ d.
+        IsTheWorst line.now script.now d.timing)) }
+{
+    line_laws();
+    the_worst_choice_decides();
+    timings_inside_are_choices_inside();
+    same_choices_have_the_same_histories();
+    if !is_one_railed(line) {
+        return Ok(None);
+    }
+    let waves = analyse(alloc, net, line, script)?;
+    let timing = worst_timing(alloc, line, &waves, deciding(script.kind))?;
+    let held = are_held(alloc, line, script, &waves)?;
+    Ok(Some(Decided { timing, held }))
+}
+
+// Whether the rule of each terminal is held.
+fn are_held(
+    alloc: Global,
+    line: &Line,
+    script: &Script,
+    waves: &PairWaves,
+) -> Result<Vec<bool>, Memory>
+    requires deadline { script.now.deadline < line.now.horizon }
+    requires terminals { waves.now.terminals ≡ terminal_count line.now }
+    requires horizon { waves.now.horizon ≡ line.now.horizon }
+    ensures { IfOk result (λ held.
+        held.items ≡ held_by line.now script.now (pair_history waves.now)) }
+{
+    let mut held = Vec::new(alloc);
+    for k in 0..line.terminals.len() {
+        held.push(is_held(line, script, waves, k as u32))?;
+    }
+    Ok(held)
+}
+
+// Whether the rule of a terminal is held.
+fn is_held(line: &Line, script: &Script, waves: &PairWaves, terminal: u32) -> bool
+    requires terminal { terminal < waves.now.terminals }
+    requires deadline { script.now.deadline < line.now.horizon }
+    requires horizon { waves.now.horizon ≡ line.now.horizon }
+    ensures { result ≡ is_rule_held script.now.kind script.now.deadline line.now.horizon
+        ((pair_history waves.now).trip terminal) }
+{
+    the_rule_is_exact();
+    the_rule_is_tested();
+    match judge(waves, script, terminal) {
+        Rule::Held => true,
+        Rule::Broken => false,
+        Rule::Unknown => false,
+    }
+}

@@ -1,0 +1,132 @@
+//! What is done with one view.
+
+ghost use Rattle.std.specs.Prelude.{◌≡◌, ◌-◌, IfOk, IfSome, MatchOption};
+ghost use Rattle.judge_settle.specs.{settle.Trees.IsFailing};
+ghost use Rattle.judge_settle.specs.settle.Scenes.{CanSearch};
+
+use crate::settle::budget::Budget;
+use crate::settle::play::fails;
+use crate::settle::sides::Branch;
+use judge_ahead::{
+    Assumed, CANDIDATES, Case, Chosen, Cut, Scene, Side, choose, cuts_beside, cuts_of, failing,
+    side_of,
+};
+use judge_cases::View;
+use model_line::Memory;
+use model_timing::Timing;
+use std::alloc::Global;
+
+/// What is seen of a view.
+pub fn side_in(
+    alloc: Global,
+    scene: &Scene,
+    view: &View,
+    budget: &mut Budget,
+) -> Result<Side, Memory>
+    ensures { budget.new.cuts ≡ budget.old.cuts }
+{
+    budget.count(1);
+    let assumed = assumed_in(alloc, view)?;
+    side_of(alloc, scene, &view.ends, &assumed)
+}
+
+/// A timing of the box that fails the obligation, if one of its candidates does. After a case none
+/// is tried, since the box is as before.
+pub fn failing_in(
+    alloc: Global,
+    scene: &Scene,
+    view: &View,
+    last: Option<Case>,
+    budget: &mut Budget,
+) -> Result<Option<Timing>, Memory>
+    requires { CanSearch scene.now.line.now scene.now.net.now scene.now.script.now
+        scene.now.terminal }
+    ensures found { IfOk result (λ found. IfSome found (λ timing.
+        IsFailing scene.now.line.now scene.now.script.now scene.now.terminal timing)) }
+    ensures cuts { budget.new.cuts ≡ budget.old.cuts }
+{
+    if last.is_some() {
+        return Ok(None);
+    }
+    budget.count(CANDIDATES);
+    let Some(timing) = failing(alloc, scene, &view.ends)? else {
+        return Ok(None);
+    };
+    let terminal = scene.terminal;
+    if fails(
+        alloc,
+        scene.line,
+        scene.net,
+        scene.script,
+        terminal,
+        &timing,
+    )? {
+        return Ok(Some(timing));
+    }
+    Ok(None)
+}
+
+/// Where to cut a view, if that helps: at a tick beside the last case if that settles a side, else
+/// wherever it helps most.
+pub fn choose_in(
+    alloc: Global,
+    scene: &Scene,
+    branch: &Branch,
+    last: Option<Case>,
+    budget: &mut Budget,
+) -> Result<Option<Chosen>, Memory>
+    ensures { IfOk result (λ chosen. MatchOption chosen (budget.new.cuts ≡ budget.old.cuts)
+        (λ _. budget.new.cuts ≡ budget.old.cuts - 1)) }
+{
+    let cuts = cuts_of(alloc, scene, &branch.view.ends, &branch.side.cases)?;
+    if let Some(case) = last {
+        let near = cuts_beside(alloc, &cuts, case)?;
+        if let Some(chosen) = choose_among(alloc, scene, branch, &near, true, budget)? {
+            return Ok(Some(chosen));
+        }
+    }
+    choose_among(alloc, scene, branch, &cuts, false, budget)
+}
+
+// One of these cuts, if it helps.
+fn choose_among(
+    alloc: Global,
+    scene: &Scene,
+    branch: &Branch,
+    cuts: &[Cut],
+    settling: bool,
+    budget: &mut Budget,
+) -> Result<Option<Chosen>, Memory>
+    ensures { IfOk result (λ chosen. MatchOption chosen (budget.new.cuts ≡ budget.old.cuts)
+        (λ _. budget.new.cuts ≡ budget.old.cuts - 1)) }
+{
+    if cuts.is_empty() {
+        return Ok(None);
+    }
+    let count = u32::try_from(cuts.len()).unwrap_or(u32::MAX);
+    budget.count(count.saturating_mul(2));
+    let ends = &branch.view.ends;
+    let assumed = assumed_in(alloc, &branch.view)?;
+    let score = branch.side.score;
+    let Some(chosen) = choose(alloc, scene, ends, &assumed, cuts, score, settling)? else {
+        return Ok(None);
+    };
+    budget.cut(matches!(chosen.cut, Cut::Case(_)));
+    Ok(Some(chosen))
+}
+
+// What a view assumes.
+fn assumed_in(alloc: Global, view: &View) -> Result<Vec<Assumed>, Memory> {
+    let mut all = Vec::with_capacity(alloc, view.assumed.len())?;
+    for one in &view.assumed {
+        let case = Case {
+            terminal: one.terminal(),
+            tick: one.tick(),
+        };
+        all.push(Assumed {
+            case,
+            level: one.level(),
+        })?;
+    }
+    Ok(all)
+}

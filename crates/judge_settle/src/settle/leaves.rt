@@ -1,0 +1,112 @@
+//! The leaves of a tree that are taken to be yes, and are shown side by side once it is whole.
+
+ghost use Rattle.std.specs.Prelude.{◌≤◌, ◌<◌, ℕ, length, IfOk, IsTrue};
+ghost use Rattle.model_line.specs.{declared.line.Line.Line, declared.script.Script.Script};
+ghost use Rattle.run_signal.specs.Bits.{bit_on};
+ghost use Rattle.judge_cases.specs.{declared.view.View.View, Views.IsView, Views.AreViews};
+ghost use Rattle.judge_settle.specs.settle.Scenes.{CanSearch};
+ghost use Rattle.judge_settle.specs.settle.Trees.{IsGrownOver, IsFound, Size};
+ghost use Rattle.judge_settle.specs.settle.Leaves.{AreAllShown, AreMoreViews, IsFoundWith};
+
+use crate::settle::grown::{Grown, leaf};
+use crate::settle::search::Found;
+use judge_ahead::Scene;
+use judge_cases::laws::a_view_stands_for_its_box;
+use judge_cases::{View, analyse};
+use model_line::Memory;
+use model_line::laws::deadlines_are_below_the_horizon;
+use run_signal::{Lanes64, Signal};
+use std::alloc::Global;
+
+/// The leaf of a view that is taken to be yes. The view is added to those that have to be shown.
+pub fn taken_leaf(alloc: Global, view: View, leaves: &mut Vec<View>) -> Result<Grown, Memory>
+    ensures grown { IfOk result (λ grown. (line : Line) (script : Script) (k : ℕ) (size : Size) →
+        AreAllShown line script k leaves.new.items → IsGrownOver line script k size view grown) }
+    ensures leaves { IfOk result (λ _. (line : Line) → IsView line view →
+        AreViews line leaves.old.items →
+        AreMoreViews line leaves.old.items leaves.new.items) }
+{
+    a_view_stands_for_its_box();
+    leaves.push(view)?;
+    let tree = leaf(alloc, true)?;
+    Ok(tree)
+}
+
+/// What a search found, if its leaves are shown. Where one is not, which no search did so far, a
+/// tree says nothing: it is one undecided leaf.
+pub fn confirmed(
+    alloc: Global,
+    scene: &Scene,
+    found: Found,
+    leaves: &[View],
+) -> Result<Found, Memory>
+    requires can { CanSearch scene.now.line.now scene.now.net.now scene.now.script.now
+        scene.now.terminal }
+    requires views { AreViews scene.now.line.now leaves.now }
+    ensures { IfOk result (λ sure. (size : Size) (view : View) →
+        IsFoundWith scene.now.line.now scene.now.script.now scene.now.terminal size view
+        leaves.now found →
+        IsFound scene.now.line.now scene.now.script.now scene.now.terminal size view sure) }
+{
+    match found {
+        Found::Fails(timing) => Ok(Found::Fails(timing)),
+        Found::Tree(tree) => {
+            let all = all_shown(alloc, scene, leaves)?;
+            if all {
+                Ok(Found::Tree(tree))
+            } else {
+                let undecided = leaf(alloc, false)?;
+                Ok(Found::Tree(undecided))
+            }
+        }
+    }
+}
+
+// Whether the obligation is shown over each of these views. One run serves 64 of them.
+fn all_shown(alloc: Global, scene: &Scene, views: &[View]) -> Result<bool, Memory>
+    requires can { CanSearch scene.now.line.now scene.now.net.now scene.now.script.now
+        scene.now.terminal }
+    requires views { AreViews scene.now.line.now views.now }
+    ensures { IfOk result (λ all. IsTrue all →
+        AreAllShown scene.now.line.now scene.now.script.now scene.now.terminal views.now) }
+{
+    let mut first = 0;
+    'next_block: while first < views.len() {
+        let next = views.len().min(first + 64);
+        let all = is_block_shown(alloc, scene, &views[first..next])?;
+        if !all {
+            return Ok(false);
+        }
+        first = next;
+    }
+    Ok(true)
+}
+
+// Whether the obligation is shown over each of up to 64 views.
+fn is_block_shown(alloc: Global, scene: &Scene, views: &[View]) -> Result<bool, Memory>
+    requires can { CanSearch scene.now.line.now scene.now.net.now scene.now.script.now
+        scene.now.terminal }
+    requires some { 1 ≤ length views.now }
+    requires few { length views.now ≤ 64 }
+    requires views { AreViews scene.now.line.now views.now }
+    ensures { IfOk result (λ all. IsTrue all →
+        AreAllShown scene.now.line.now scene.now.script.now scene.now.terminal views.now) }
+{
+    deadlines_are_below_the_horizon();
+    let analysis = analyse(alloc, scene.line, scene.net, scene.script, views)?;
+    let shown = analysis.shown(scene.line, scene.net, scene.script, scene.terminal);
+    Ok(are_on(shown, views.len()))
+}
+
+// Whether the first so many lanes are on.
+fn are_on(lanes: Lanes64, count: usize) -> bool
+    requires { count ≤ 64 }
+    ensures { IsTrue result → (lane : ℕ) → lane < count → IsTrue (bit_on lanes lane) }
+{
+    for lane in 0..count {
+        if !lanes.must(lane as u32) {
+            return false;
+        }
+    }
+    true
+}

@@ -1,0 +1,200 @@
+//! The answer to an obligation.
+
+ghost use Rattle.std.specs.Prelude.{◌≡◌, ◌<◌, ◌≤◌, ℕ, [], IfOk, IfSome, IsTrue};
+ghost use Rattle.model_line.specs.{declared.line.Line.Line, declared.script.Script.Script};
+ghost use Rattle.model_line.specs.{Fits.Fits, Parameters.terminal_count};
+ghost use Rattle.model_logic.specs.Choice.{declared_box};
+ghost use Rattle.model_logic.specs.HeldOver.{IsHeldOver};
+ghost use Rattle.model_settle.specs.{Schemes.IsOneRailedBy, Choices.EveryChoiceMeets};
+ghost use Rattle.net_gates.specs.NetOf.{IsNetOf};
+ghost use Rattle.judge_cases.specs.{declared.view.View.View, Views.Views};
+ghost use Rattle.judge_settle.specs.corner.Decided.{OneTimingDecides};
+ghost use Rattle.judge_settle.specs.{settle.Answers.IsAnswer, settle.Trees.IsFound};
+ghost use Rattle.judge_settle.specs.settle.Trees.{Size, size_of_text};
+
+use crate::settle::answer::{Answer, By, Settled};
+use crate::settle::boxes::side_in;
+use crate::settle::budget::Budget;
+use crate::settle::grown::leaf;
+use crate::settle::leaves::confirmed;
+use crate::settle::play::fails;
+use crate::settle::search::{Found, search_view};
+use crate::settle::sides::Branch;
+use judge_ahead::Scene;
+use judge_cases::declared_view;
+use crate::corner::{Decided, decide};
+use judge_verdict::{Verdict, certify};
+use model_line::laws::deadlines_are_below_the_horizon;
+use model_line::{Line, Memory, Script};
+use model_logic::laws::{each_line_has_a_choice_inside, line_laws};
+use model_settle::case_laws::{each_box_has_one_history_under, sound_trees_meet};
+use model_settle::polarity_laws::the_worst_choice_decides;
+use model_timing::Timing;
+use net_gates::Net;
+use std::alloc::Global;
+
+/// How many cuts stand above one another at most, as in a text.
+const DEPTH: u32 = 1024;
+
+/// Settles the obligation of a script at a terminal: by the worst corner where the line's scheme
+/// makes every trip one-railed; else by the interval rules, by candidates, and by a search that
+/// splits the declared box and tells cases of echoes apart, until so many analyses were made.
+pub fn settle(
+    alloc: Global,
+    line: &Line,
+    net: &Net,
+    script: &Script,
+    terminal: u32,
+    analyses: u32,
+) -> Result<Settled, Memory>
+    requires of_line { IsNetOf line.now net.now }
+    requires fits { Fits line.now script.now }
+    requires terminal { terminal < terminal_count line.now }
+    ensures { IfOk result (λ settled.
+        IsAnswer line.now script.now terminal settled.answer) }
+{
+    deadlines_are_below_the_horizon();
+    match decide(alloc, line, net, script)? {
+        Some(decided) => return by_corner(alloc, line, script, terminal, decided),
+        None => {}
+    }
+    if let Some(settled) = by_certificate(alloc, line, net, script, terminal)? {
+        return Ok(settled);
+    }
+    let scene = Scene::new(alloc, line, net, script, terminal)?;
+    let mut budget = Budget::new(analyses);
+    let view = declared_view(alloc, line)?;
+    let side = side_in(alloc, &scene, &view, &mut budget)?;
+    let root = Branch { view, side };
+    let mut leaves = Vec::new(alloc);
+    let found = search_view(alloc, &scene, root, None, DEPTH, &mut budget, &mut leaves)?;
+    let sure = confirmed(alloc, &scene, found, leaves.as_slice())?;
+    let answer = answer_of(sure);
+    let by = by(&answer, &budget);
+    Ok(Settled {
+        answer,
+        by,
+        analyses: budget.made,
+    })
+}
+
+// The answer of the worst corner.
+fn by_corner(
+    alloc: Global,
+    line: &Line,
+    script: &Script,
+    terminal: u32,
+    decided: Decided,
+) -> Result<Settled, Memory>
+    requires fits { Fits line.now script.now }
+    requires terminal { terminal < terminal_count line.now }
+    requires one_railed { IsOneRailedBy line.now.scheme line.now }
+    requires decides { OneTimingDecides line.now script.now decided.timing decided.held.items }
+    ensures { IfOk result (λ settled.
+        IsAnswer line.now script.now terminal settled.answer) }
+{
+    line_laws();
+    the_worst_choice_decides();
+    let Decided { timing, held } = decided;
+    let _steps = timing.steps();
+    if !held[terminal as usize] {
+        return Ok(Settled {
+            answer: Answer::Fails(timing),
+            by: By::Corner,
+            analyses: 1,
+        });
+    }
+    let settled = held_at_once(alloc)?;
+    Ok(settled)
+}
+
+// The answer where the interval rules alone show the obligation: a tree of one leaf.
+fn held_at_once(alloc: Global) -> Result<Settled, Memory>
+    ensures { IfOk result (λ settled. (line : Line) (script : Script) (k : ℕ) →
+        IsHeldOver line script k (declared_box line) → EveryChoiceMeets line script k →
+        IsAnswer line script k settled.answer) }
+{
+    each_box_has_one_history_under();
+    let tree = leaf(alloc, true)?;
+    Ok(Settled {
+        answer: Answer::Held(tree.nodes),
+        by: By::Rules,
+        analyses: 1,
+    })
+}
+
+// The answer of the interval rules over the declared box, or of the first of the line's candidates
+// that fails the obligation, if one of them settles it.
+fn by_certificate(
+    alloc: Global,
+    line: &Line,
+    net: &Net,
+    script: &Script,
+    terminal: u32,
+) -> Result<Option<Settled>, Memory>
+    requires of_line { IsNetOf line.now net.now }
+    requires fits { Fits line.now script.now }
+    requires terminal { terminal < terminal_count line.now }
+    ensures { IfOk result (λ found. IfSome found (λ settled.
+        IsAnswer line.now script.now terminal settled.answer)) }
+{
+    let said = certify(alloc, line, net, script)?;
+    let mut verdicts = said.verdicts;
+    if is_yes(&verdicts[terminal as usize]) {
+        let settled = held_at_once(alloc)?;
+        return Ok(Some(settled));
+    }
+    let Verdict::No(timing) = verdicts.swap_remove(terminal as usize) else {
+        return Ok(None);
+    };
+    if fails(alloc, line, net, script, terminal, &timing)? {
+        return Ok(Some(Settled {
+            answer: Answer::Fails(timing),
+            by: By::Candidate,
+            analyses: 1,
+        }));
+    }
+    Ok(None)
+}
+
+fn is_yes(verdict: &Verdict) -> bool
+    ensures { IsTrue result → verdict.now ≡ Verdict.Yes }
+{
+    matches!(verdict, Verdict::Yes)
+}
+
+// The answer that a search gives over the declared box.
+fn answer_of(found: Found) -> Answer
+    ensures { (line : Line) (script : Script) (k : ℕ) (size : Size) (view : View) →
+        script.deadline < line.horizon → k < terminal_count line →
+        ¬ (IsOneRailedBy line.scheme line) → Views line (declared_box line) [] view →
+        size.depth ≤ size_of_text.depth → size.cuts ≤ size_of_text.cuts →
+        IsFound line script k size view found → IsAnswer line script k result }
+{
+    sound_trees_meet();
+    each_line_has_a_choice_inside();
+    match found {
+        Found::Fails(timing) => Answer::Fails(timing),
+        Found::Tree(tree) => {
+            if tree.yes {
+                Answer::Held(tree.nodes)
+            } else {
+                Answer::Open(tree.nodes)
+            }
+        }
+    }
+}
+
+// By what a search answered.
+fn by(answer: &Answer, budget: &Budget) -> By {
+    if budget.cases {
+        return By::Cases;
+    }
+    if budget.parts {
+        return By::Parts;
+    }
+    match answer {
+        Answer::Held(_) => By::Rules,
+        Answer::Fails(_) | Answer::Open(_) => By::Candidate,
+    }
+}
