@@ -4,8 +4,8 @@ use Rattle.std.proofs.Common.{ap, ◌∙◌, subst}
 use Rattle.std.proofs.lemmas.List.{append_assoc, append-nil, take_all, take_more}
 use Rattle.std.specs.List.{All}
 use Rattle.model_line.specs.{declared.line.Line.Line, declared.script.Script.Script}
-use Rattle.cert_text.specs.Grammar.{Claims, HasOneEach, end_text, head_text}
-use Rattle.cert_text.specs.Text.{certificate_text, fed, part_text, parts_text}
+use Rattle.cert_claims.specs.text.Grammar.{Claims, HasOneEach, end_text, head_text}
+use Rattle.cert_claims.specs.text.Text.{certificate_text, fed, part_text, parts_text}
 use Rattle.cert_own.specs.Certified.{AreCertified, IsCertified}
 use Rattle.call_commands.specs.Bench.{HasPart, IsOwnText}
 use Rattle.call_commands.proofs.Parts.{one_each}

@@ -8,9 +8,9 @@ use Rattle.std.proofs.lemmas.List.Elements.{All-cons, All-drop, All-nil}
 use Rattle.std.proofs.lemmas.Slice.Zip.{AllZip-long}
 use Rattle.std.specs.List.{All}
 use Rattle.model_line.specs.{declared.line.Line.Line, declared.script.Script.Script, Fits.Fits}
-use Rattle.cert_text.specs.Grammar.{Claims, HasOneEach}
-use Rattle.cert_text.specs.Text.{certificate_text, part_text, parts_text}
-use Rattle.cert_check.specs.Counts.{all_verdicts}
+use Rattle.cert_claims.specs.text.Grammar.{Claims, HasOneEach}
+use Rattle.cert_claims.specs.text.Text.{certificate_text, part_text, parts_text}
+use Rattle.cert_claims.specs.check.Counts.{all_verdicts}
 use Rattle.model_history.specs.ZipLaws.{zip_append}
 use Rattle.cert_own.specs.Certified.{AreCertified, IsCertified}
 use Rattle.call_commands.specs.Certify.{IsCertifiedText, certify_answer}

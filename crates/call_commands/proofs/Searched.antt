@@ -3,7 +3,7 @@ use Rattle.std.proofs.Common.{◌≡◌, ℕ, ◌+◌, ◌<◌, ◌≤◌, ◌||
 use Rattle.std.proofs.Common.{get_or, map, false, take, sym, ap, ◌∙◌, subst}
 use Rattle.std.proofs.lemmas.List.{append_assoc, append-nil, take_all, take_more}
 use Rattle.model_line.specs.{declared.line.Line.Line, declared.script.Script.Script}
-use Rattle.cert_text.specs.{Grammar.end_text, Text.fed}
+use Rattle.cert_claims.specs.{text.Grammar.end_text, text.Text.fed}
 use Rattle.cert_split_text.specs.Grammar.{SplitResult, head_text}
 use Rattle.cert_split_text.specs.Text.{part_text, parts_text}
 use Rattle.cert_own.specs.Searched.{AllSearched, AreSearched}

@@ -4,8 +4,8 @@ use Rattle.std.proofs.lemmas.List.{append-nil}
 use Rattle.std.proofs.lemmas.List.Concat.{flat_map-append}
 use Rattle.std.proofs.lemmas.List.Folds.{list_any-append}
 use Rattle.std.specs.List.{flat_map, list_any}
-use Rattle.cert_text.specs.Grammar.{Verdict}
-use Rattle.cert_check.specs.Counts.{is_no, is_undecided}
+use Rattle.cert_claims.specs.text.Grammar.{Verdict}
+use Rattle.cert_claims.specs.check.Counts.{is_no, is_undecided}
 use Rattle.call_commands.specs.{Verdicts.IsFoundOf, Verdicts.verdicts_status}
 use Rattle.call_answer.specs.Answers.{status_by}
 use Rattle.call_commands.specs.declared.found.Found.{Found}

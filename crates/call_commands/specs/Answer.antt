@@ -1,8 +1,8 @@
 -- What is answered of the first scripts of the bench.
 use Rattle.std.specs.Prelude.{◌≡◌, ℕ, List}
 use Rattle.model_line.specs.{declared.line.Line.Line, declared.script.Script.Script}
-use Rattle.cert_text.specs.Grammar.{Claims}
-use Rattle.cert_check.specs.{declared.counts.Counts.Counts, Counts.AreCounts, Counts.all_verdicts}
+use Rattle.cert_claims.specs.text.Grammar.{Claims}
+use Rattle.cert_claims.specs.{declared.check.counts.Counts.Counts, check.Counts.AreCounts, check.Counts.all_verdicts}
 use Rattle.cert_own.specs.Certified.{AreCertified}
 use Rattle.call_commands.specs.{BenchLine.IsBenchLine, BenchScripts.AreBenchScripts}
 use Rattle.call_commands.specs.BenchText.{bench_text}

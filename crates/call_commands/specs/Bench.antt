@@ -2,7 +2,7 @@
 -- is accepted.
 use Rattle.std.specs.Prelude.{◌≡◌, ◌++◌, ℕ, List}
 use Rattle.model_line.specs.{declared.line.Line.Line, declared.script.Script.Script}
-use Rattle.cert_text.specs.{Grammar.Claims, Text.certificate_text, Text.part_text}
+use Rattle.cert_claims.specs.{text.Grammar.Claims, text.Text.certificate_text, text.Text.part_text}
 use Rattle.cert_own.specs.Certified.{AreCertified, IsCertified}
 use Rattle.call_commands.specs.BenchLine.{IsBenchLine}
 use Rattle.call_commands.specs.Answer.{IsBenchText}

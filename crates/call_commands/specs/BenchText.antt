@@ -1,6 +1,6 @@
 -- The two lines of the bench.
 use Rattle.std.specs.Prelude.{◌++◌, ℕ, List, codes, decimal}
-use Rattle.cert_check.specs.declared.counts.Counts.{Counts}
+use Rattle.cert_claims.specs.declared.check.counts.Counts.{Counts}
 
 -- a word and a number
 abbrev pub told : List ℕ → ℕ → List ℕ

@@ -2,8 +2,8 @@
 -- obligation and the keys that show it.
 use Rattle.std.specs.Prelude.{◌≡◌, ℕ, List, length}
 use Rattle.model_line.specs.{declared.line.Line.Line, declared.script.Script.Script}
-use Rattle.cert_text.specs.{Grammar.Claims, Text.certificate_text}
-use Rattle.cert_check.specs.Counts.{all_verdicts}
+use Rattle.cert_claims.specs.{text.Grammar.Claims, text.Text.certificate_text}
+use Rattle.cert_claims.specs.check.Counts.{all_verdicts}
 use Rattle.cert_own.specs.Certified.{AreCertified}
 use Rattle.call_engine.specs.Calls.{AskedVerdicts}
 use Rattle.call_commands.specs.{Asked.Asks, Verdicts.verdicts_status}

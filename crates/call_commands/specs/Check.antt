@@ -2,9 +2,9 @@
 use Rattle.std.specs.Prelude.{◌∷◌, ℕ, List, [], codes, decimal}
 use Rattle.model_line.specs.{declared.line.Line.Line, declared.script.Script.Script}
 use Rattle.run_waves.specs.waves.Text.{tern_word}
-use Rattle.cert_check.specs.Check.{IsAccepted, IsCheckFault}
-use Rattle.cert_check.specs.declared.fault.CheckFault.{CheckFault}
-use Rattle.cert_check.specs.declared.fault.CheckFault.TheVariants as fault
+use Rattle.cert_claims.specs.check.Check.{IsAccepted, IsCheckFault}
+use Rattle.cert_claims.specs.declared.check.fault.CheckFault.{CheckFault}
+use Rattle.cert_claims.specs.declared.check.fault.CheckFault.TheVariants as fault
 use Rattle.call_engine.specs.Calls.{AskedCheck}
 use Rattle.call_engine.specs.Checked.{line_pieces, outside_pieces, passes_pieces, place}
 use Rattle.call_commands.specs.Asked.{Asks}

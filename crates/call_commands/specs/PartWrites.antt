@@ -1,8 +1,8 @@
 -- The parts of a certificate as they are written, one script after another.
 use Rattle.std.specs.Prelude.{List, IfOk, Result}
 use Rattle.model_line.specs.{declared.line.Line.Line, declared.script.Script.Script}
-use Rattle.cert_text.specs.{Grammar.Claims, Text.part_text, Text.parts_text}
-use Rattle.cert_check.specs.Counts.{all_verdicts}
+use Rattle.cert_claims.specs.{text.Grammar.Claims, text.Text.part_text, text.Text.parts_text}
+use Rattle.cert_claims.specs.check.Counts.{all_verdicts}
 use Rattle.cert_own.specs.Certified.{AreCertified, IsCertified}
 use Rattle.call_commands.specs.Verdicts.{IsFoundOf}
 use Rattle.call_answer.specs.{Sinks.SinkView, Sinks.Writes}

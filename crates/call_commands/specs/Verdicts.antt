@@ -1,8 +1,8 @@
 -- What verdicts come to: the status of an answer, and what is found of them on the way.
 use Rattle.std.specs.Prelude.{◌≡◌, List}
 use Rattle.std.specs.List.{list_any}
-use Rattle.cert_text.specs.Grammar.{Verdict}
-use Rattle.cert_check.specs.Counts.{is_no, is_undecided}
+use Rattle.cert_claims.specs.text.Grammar.{Verdict}
+use Rattle.cert_claims.specs.check.Counts.{is_no, is_undecided}
 use Rattle.call_answer.specs.{Answers.status_by, declared.done.Done.Done}
 use Rattle.call_commands.specs.declared.found.Found.{Found}
 

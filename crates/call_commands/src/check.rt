@@ -1,7 +1,7 @@
 //! The command `check`: whether a certificate is accepted.
 ghost use Rattle.std.specs.Prelude.{◌≡◌, ◌≢◌, IfOk, OnOk};
 ghost use Rattle.std.specs.List.{concat};
-ghost use Rattle.cert_check.specs.declared.fault.CheckFault.{CheckFault};
+ghost use Rattle.cert_claims.specs.declared.check.fault.CheckFault.{CheckFault};
 ghost use Rattle.call_answer.specs.Answers.{Says};
 ghost use Rattle.call_commands.specs.{Check.check_answer, Check.check_asks, Check.rejected_pieces};
 ghost use Rattle.call_answer.specs.Study.{IsStudy};
@@ -11,7 +11,7 @@ use call_engine::Engine;
 use call_engine::checked::{
     accepted_text, place, rejected_line, rejected_outside, rejected_passes,
 };
-use cert_check::CheckFault;
+use cert_claims::check::CheckFault;
 use itoa::Buffer;
 use model_line::Memory;
 use run_waves::waves::tern_word;

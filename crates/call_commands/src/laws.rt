@@ -6,13 +6,13 @@ ghost use Rattle.model_line.specs.{declared.line.Line.Line, declared.script.Scri
 ghost use Rattle.model_line.specs.Fits.{Fits};
 ghost use Rattle.model_timing.specs.{Inside.IsTimingInside};
 ghost use Rattle.model_timing.specs.NamedValues.{NamedValues};
-ghost use Rattle.cert_text.specs.{Grammar.Claims, Text.certificate_text, Text.parts_text};
+ghost use Rattle.cert_claims.specs.{text.Grammar.Claims, text.Text.certificate_text, text.Text.parts_text};
 ghost use Rattle.cert_own.specs.Certified.{AreCertified, IsCertified};
 ghost use Rattle.call_commands.specs.{Certify.certify_answer, Play.IsPlayText};
 ghost use Rattle.call_answer.specs.declared.done.Done.{Done};
 
 use cert_own::{each_script_has_one_certificate, what_is_certified_is_accepted};
-use cert_text::{CERT_END, CERT_HEAD, a_certificate_is_its_parts};
+use cert_claims::text::{CERT_END, CERT_HEAD, a_certificate_is_its_parts};
 use model_logic::laws::{each_choice_has_one_history, each_line_has_a_choice_inside};
 use model_timing::timings_inside_are_choices_inside;
 

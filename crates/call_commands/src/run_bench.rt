@@ -3,7 +3,7 @@ ghost use Rattle.std.specs.Prelude.{◌≡◌, ◌≤◌, IfOk, OnOk, length};
 ghost use Rattle.std.specs.List.{All};
 ghost use Rattle.model_line.specs.Fits.{Fits};
 ghost use Rattle.net_gates.specs.NetOf.{IsNetOf};
-ghost use Rattle.cert_check.specs.declared.fault.CheckFault.{CheckFault};
+ghost use Rattle.cert_claims.specs.declared.check.fault.CheckFault.{CheckFault};
 ghost use Rattle.call_engine.specs.Calls.{AskedCertify, AskedVerdicts, NoneFell};
 ghost use Rattle.call_answer.specs.Answers.{Says};
 ghost use Rattle.call_commands.specs.Bench.{HasPart, IsOwnText, bench_answer, bench_asks};
@@ -13,11 +13,11 @@ use crate::scripts::bench_scripts;
 use crate::text::bench_text;
 use call_answer::Said;
 use call_engine::Engine;
-use cert_check::CheckFault;
+use cert_claims::check::CheckFault;
 use cert_own::{
     a_certificate_grows_by_parts, answers_are_certified, cert_piece, what_is_certified_is_accepted,
 };
-use cert_text::{CERT_END, CERT_HEAD, a_certificate_is_its_parts};
+use cert_claims::text::{CERT_END, CERT_HEAD, a_certificate_is_its_parts};
 use model_line::{Line, Memory, Script};
 use net_compile::compile;
 use net_gates::Net;

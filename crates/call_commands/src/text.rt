@@ -4,7 +4,7 @@ ghost use Rattle.std.specs.Prelude.{◌≡◌, ◌++◌, IfOk, OnOk};
 ghost use Rattle.call_commands.specs.BenchText.{told, scripts_line, accepted_line};
 ghost use Rattle.call_commands.specs.BenchText.{bench_text as text_of};
 
-use cert_check::Counts;
+use cert_claims::check::Counts;
 use itoa::Buffer;
 use model_line::Memory;
 use std::alloc::Global;

@@ -3,7 +3,7 @@ use Rattle.std.specs.Prelude.{◌≡◌, ◌≢◌, [], ◌∷◌, ℕ, List, co
 use Rattle.std.specs.List.{concat}
 use Rattle.model_line.specs.NamesByNumber.{terminal_name, parameter_name, script_name}
 use Rattle.model_line.specs.{declared.line.Line.Line, declared.script.Script.Script}
-use Rattle.cert_check.specs.declared.counts.Counts.{Counts}
+use Rattle.cert_claims.specs.declared.check.counts.Counts.{Counts}
 use Rattle.call_answer.specs.Answers.{Answers}
 use Rattle.call_answer.specs.declared.done.Done.TheVariants as done
 

@@ -8,7 +8,7 @@ ghost use Rattle.model_line.specs.NamesByNumber.{script_name as name_of_script};
 ghost use Rattle.model_line.specs.NamesByNumber.{terminal_name as name_of_terminal};
 
 use call_answer::{Study, text_of};
-use cert_check::Counts;
+use cert_claims::check::Counts;
 use itoa::Buffer;
 use model_line::Memory;
 use model_line::{name_of_parameter, name_of_script, name_of_terminal};

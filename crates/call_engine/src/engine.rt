@@ -7,11 +7,11 @@ ghost use Rattle.model_logic.specs.Histories.{History, IsLineHistory};
 ghost use Rattle.net_gates.specs.NetOf.{IsNetOf};
 ghost use Rattle.run_rows.specs.PlayRows.{run_rows};
 ghost use Rattle.model_timing.specs.{Choice.timing_choice, Inside.IsTimingInside};
-ghost use Rattle.cert_check.specs.Check.{IsAccepted, IsCheckFault, IsSound};
+ghost use Rattle.cert_claims.specs.check.Check.{IsAccepted, IsCheckFault, IsSound};
 ghost use Rattle.call_engine.specs.Calls.{AskedCertify, AskedCheck, AskedPlay, Calls, NoneFell};
 ghost use Rattle.call_engine.specs.ScriptVerdicts.{IsScriptVerdict};
 
-use cert_check::{CheckFault, Counts};
+use cert_claims::check::{CheckFault, Counts};
 use judge_verdict::ScriptVerdict;
 use model_line::{Line, Memory, Script};
 use model_timing::NamedTiming;

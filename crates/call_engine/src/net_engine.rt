@@ -7,13 +7,13 @@ ghost use Rattle.model_logic.specs.Histories.{History, IsLineHistory};
 ghost use Rattle.net_gates.specs.NetOf.{IsNetOf};
 ghost use Rattle.run_rows.specs.PlayRows.{run_rows};
 ghost use Rattle.model_timing.specs.{Choice.timing_choice, Inside.IsTimingInside};
-ghost use Rattle.cert_check.specs.Check.{IsAccepted, IsCheckFault, IsSound};
+ghost use Rattle.cert_claims.specs.check.Check.{IsAccepted, IsCheckFault, IsSound};
 ghost use Rattle.call_engine.specs.Calls.{AskedCertify, AskedCheck, AskedPlay, NoneFell};
 ghost use Rattle.call_engine.specs.ScriptVerdicts.{IsScriptVerdict};
 ghost use Rattle.call_engine.specs.NetCalls.{after_certify, after_check, after_play, calls_of};
 
 use crate::engine::Engine;
-use cert_check::{CheckFault, Counts, check};
+use cert_claims::check::{CheckFault, Counts, check};
 use judge_verdict::{ScriptVerdict, certify};
 use model_line::{Line, Memory, Script};
 use model_timing::NamedTiming;

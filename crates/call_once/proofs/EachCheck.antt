@@ -22,28 +22,28 @@ use Rattle.model_logic.specs.{Laws.LineLaws, Logic.key_tree, PairMean.PairSignal
 use Rattle.model_timing.specs.{Inside.IsStepInside, Inside.IsTimingInside}
 use Rattle.model_timing.specs.Laws.{TimingsInsideAreChoicesInside}
 use Rattle.run_waves.specs.waves.Waves.{wave_at}
-use Rattle.cert_text.specs.Grammar.{AreNumbers, Claims, HasNumbers, HasOneEach, IsCertificate}
-use Rattle.cert_text.specs.Grammar.{Verdict, no, undecided, yes}
-use Rattle.cert_text.specs.Text.{CanBeWritten}
-use Rattle.cert_check.specs.Check.{IsAccepted, IsCheckFault, IsScriptFault}
+use Rattle.cert_claims.specs.text.Grammar.{AreNumbers, Claims, HasNumbers, HasOneEach, IsCertificate}
+use Rattle.cert_claims.specs.text.Grammar.{Verdict, no, undecided, yes}
+use Rattle.cert_claims.specs.text.Text.{CanBeWritten}
+use Rattle.cert_claims.specs.check.Check.{IsAccepted, IsCheckFault, IsScriptFault}
 use Rattle.run_waves.specs.derived.Claims.{pairs_of}
-use Rattle.cert_check.specs.Counts.{all_verdicts, are_counts, counts_in}
+use Rattle.cert_claims.specs.check.Counts.{all_verdicts, are_counts, counts_in}
 use Rattle.run_waves.specs.derived.Firsts.{IsFirstFailing}
-use Rattle.cert_check.specs.NoFaults.{IsNoFault}
-use Rattle.cert_check.specs.Refutations.{IsMetAt, IsNumberIn, IsRefutation, choice_of}
-use Rattle.cert_check.specs.Refutations.{steady_timing}
-use Rattle.cert_check.specs.Verdicts.{AreAccepted, IsCovered, IsFaultOf, IsFirstFault}
-use Rattle.cert_check.specs.Verdicts.{IsFirstUncovered, IsKeyCovered, IsSupported, AreSupported}
-use Rattle.cert_check.specs.Verdicts.{IsVerdictFault}
+use Rattle.cert_claims.specs.check.NoFaults.{IsNoFault}
+use Rattle.cert_claims.specs.check.Refutations.{IsMetAt, IsNumberIn, IsRefutation, choice_of}
+use Rattle.cert_claims.specs.check.Refutations.{steady_timing}
+use Rattle.cert_claims.specs.check.Verdicts.{AreAccepted, IsCovered, IsFaultOf, IsFirstFault}
+use Rattle.cert_claims.specs.check.Verdicts.{IsFirstUncovered, IsKeyCovered, IsSupported, AreSupported}
+use Rattle.cert_claims.specs.check.Verdicts.{IsVerdictFault}
 use Rattle.run_waves.specs.derived.Claims.{derived_key, derived_trip}
-use Rattle.cert_check.specs.declared.claim.ClaimFault.{ClaimFault}
-use Rattle.cert_check.specs.declared.claim.ClaimFault.TheVariants as wrong
-use Rattle.cert_check.specs.declared.claim.Uncovered.{Uncovered}
-use Rattle.cert_check.specs.declared.counts.Counts.{Counts}
-use Rattle.cert_check.specs.declared.fault.CheckFault.{CheckFault}
-use Rattle.cert_check.specs.declared.fault.CheckFault.TheVariants as fault
-use Rattle.cert_check.specs.declared.no.NoFault.{NoFault}
-use Rattle.cert_check.specs.declared.no.NoFault.TheVariants as number
+use Rattle.cert_claims.specs.declared.check.claim.ClaimFault.{ClaimFault}
+use Rattle.cert_claims.specs.declared.check.claim.ClaimFault.TheVariants as wrong
+use Rattle.cert_claims.specs.declared.check.claim.Uncovered.{Uncovered}
+use Rattle.cert_claims.specs.declared.check.counts.Counts.{Counts}
+use Rattle.cert_claims.specs.declared.check.fault.CheckFault.{CheckFault}
+use Rattle.cert_claims.specs.declared.check.fault.CheckFault.TheVariants as fault
+use Rattle.cert_claims.specs.declared.check.no.NoFault.{NoFault}
+use Rattle.cert_claims.specs.declared.check.no.NoFault.TheVariants as number
 use Rattle.call_commands.specs.{Check.check_answer, Check.rejected_pieces}
 use Rattle.call_engine.specs.Checked.{accepted_pieces}
 use Rattle.call_answer.specs.declared.done.Done.{Done}

@@ -16,12 +16,12 @@ use Rattle.run_signal.specs.declared.tern.Tern.{Tern}
 use Rattle.run_signal.specs.declared.tern.Tern.TheVariants.{Zero, One, Unknown}
 use Rattle.base_text.specs.lines.Lines.{BeginsWith, CannotGoOn, Lines, is_one_line}
 use Rattle.base_text.specs.lines.LineLaws.{both_true, one_line}
-use Rattle.cert_text.specs.Grammar.{Claims, HasOneEach, IsCertificate, LeavesGrammar, Place}
-use Rattle.cert_text.specs.Grammar.{Said, Stands, Verdict, claim_places, claims_said, end_text}
-use Rattle.cert_text.specs.Grammar.{fixed, head_text, key_of, key_text, no}
-use Rattle.cert_text.specs.Grammar.{opens_none, part_places, part_said, says_key, says_nothing}
-use Rattle.cert_text.specs.Grammar.{says_verdict, terminal_names, undecided}
-use Rattle.cert_text.specs.Grammar.{verdict_of, verdict_text, yes}
+use Rattle.cert_claims.specs.text.Grammar.{Claims, HasOneEach, IsCertificate, LeavesGrammar, Place}
+use Rattle.cert_claims.specs.text.Grammar.{Said, Stands, Verdict, claim_places, claims_said, end_text}
+use Rattle.cert_claims.specs.text.Grammar.{fixed, head_text, key_of, key_text, no}
+use Rattle.cert_claims.specs.text.Grammar.{opens_none, part_places, part_said, says_key, says_nothing}
+use Rattle.cert_claims.specs.text.Grammar.{says_verdict, terminal_names, undecided}
+use Rattle.cert_claims.specs.text.Grammar.{verdict_of, verdict_text, yes}
 
 -- ---- what is there, or is not
 

@@ -18,10 +18,10 @@ use Rattle.run_waves.specs.waves.FirstTick.{first_on}
 use Rattle.run_waves.specs.waves.FirstTickLaws.{first_on-same}
 use Rattle.judge_report.specs.ReportText.{AreHistories, fields_text, report_header}
 use Rattle.judge_report.specs.ReportText.{report_text_of, row_text, rule_word, script_rows}
-use Rattle.cert_text.specs.Grammar.{Verdict}
-use Rattle.cert_check.specs.declared.counts.Counts.{Counts}
-use Rattle.cert_check.specs.Counts.{is_no, is_undecided, is_yes}
-use Rattle.cert_check.specs.Scripts.{IsAllGood}
+use Rattle.cert_claims.specs.text.Grammar.{Verdict}
+use Rattle.cert_claims.specs.declared.check.counts.Counts.{Counts}
+use Rattle.cert_claims.specs.check.Counts.{is_no, is_undecided, is_yes}
+use Rattle.cert_claims.specs.check.Scripts.{IsAllGood}
 use Rattle.judge_report.specs.{Answer.IsMarginAnswer, Margin.IsUpperEnd, MarginText.margin_line}
 use Rattle.judge_report.specs.declared.upper_end.UpperEnd.{UpperEnd}
 use Rattle.cert_split_text.specs.{Grammar.SplitResult, Text.split_text}

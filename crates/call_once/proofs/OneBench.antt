@@ -8,8 +8,8 @@ use Rattle.call_commands.specs.BenchLine.{IsBenchLine}
 use Rattle.call_commands.specs.BenchScripts.{AreScriptsFrom, IsBenchScript}
 use Rattle.call_commands.specs.BenchScripts.{inception, is_internal}
 use Rattle.call_commands.specs.{Answer.IsBenchText, BenchText.bench_text}
-use Rattle.cert_text.specs.Grammar.{Claims, Verdict as Written}
-use Rattle.cert_check.specs.Counts.{all_verdicts, is_no, is_undecided, is_yes}
+use Rattle.cert_claims.specs.text.Grammar.{Claims, Verdict as Written}
+use Rattle.cert_claims.specs.check.Counts.{all_verdicts, is_no, is_undecided, is_yes}
 use Rattle.judge_verdict.specs.declared.verdict.Verdict.{Verdict}
 use Rattle.judge_verdict.specs.{VerdictLaws.verdict_once}
 use Rattle.judge_verdict.specs.Verdicts.{IsRuleHeld, IsVerdict}

@@ -10,9 +10,9 @@ use Rattle.run_waves.specs.waves.Waves.{IsWaveOf}
 use Rattle.file_line.specs.Lines.{line_values}
 use Rattle.file_tables.specs.script.Values.{ScriptValues, values_of}
 use Rattle.base_text.specs.lines.Grammar.{text_said}
-use Rattle.cert_text.specs.Grammar.{Claims, Place, claim_places, end_text, fixed, head_text}
-use Rattle.cert_text.specs.Grammar.{key_of, part_places, script_parts, script_text, verdict_of}
-use Rattle.cert_text.specs.Text.{certificate_text, lines_text}
+use Rattle.cert_claims.specs.text.Grammar.{Claims, Place, claim_places, end_text, fixed, head_text}
+use Rattle.cert_claims.specs.text.Grammar.{key_of, part_places, script_parts, script_text, verdict_of}
+use Rattle.cert_claims.specs.text.Text.{certificate_text, lines_text}
 use Rattle.cert_own.specs.Certified.{IsCertified}
 use Rattle.call_commands.specs.Certify.{certify_answer}
 use Rattle.call_answer.specs.declared.done.Done.{Done}

@@ -12,18 +12,18 @@ use Rattle.file_line.specs.Lines.{line_values}
 use Rattle.file_tables.specs.script.Values.{values_of}
 use Rattle.base_text.specs.lines.Grammar.{text_places, text_said}
 use Rattle.base_text.specs.lines.Lines.{LeavesAt, Lines}
-use Rattle.cert_text.specs.Grammar.{Claims, HasNumbers, HasOneEach, IsCertificate, LeavesGrammar}
-use Rattle.cert_text.specs.Grammar.{Place, Said, Stands, Verdict, end_text, fixed, head_text}
-use Rattle.cert_text.specs.Grammar.{key_of, no, opens_none, says_key, says_nothing}
-use Rattle.cert_text.specs.Grammar.{says_verdict, script_parts, undecided, verdict_of, yes}
-use Rattle.cert_check.specs.Check.{IsAccepted, IsCheckFault, IsScriptFault}
-use Rattle.cert_check.specs.{Counts.all_verdicts, Verdicts.AreAccepted, Verdicts.IsFirstFault}
-use Rattle.cert_check.specs.declared.claim.ClaimFault.{ClaimFault}
-use Rattle.cert_check.specs.declared.claim.ClaimFault.TheVariants as wrong
-use Rattle.cert_check.specs.declared.counts.Counts.{Counts}
-use Rattle.cert_check.specs.declared.fault.CheckFault.{CheckFault}
-use Rattle.cert_check.specs.declared.fault.CheckFault.TheVariants as fault
-use Rattle.cert_check.specs.declared.no.NoFault.TheVariants as of_no
+use Rattle.cert_claims.specs.text.Grammar.{Claims, HasNumbers, HasOneEach, IsCertificate, LeavesGrammar}
+use Rattle.cert_claims.specs.text.Grammar.{Place, Said, Stands, Verdict, end_text, fixed, head_text}
+use Rattle.cert_claims.specs.text.Grammar.{key_of, no, opens_none, says_key, says_nothing}
+use Rattle.cert_claims.specs.text.Grammar.{says_verdict, script_parts, undecided, verdict_of, yes}
+use Rattle.cert_claims.specs.check.Check.{IsAccepted, IsCheckFault, IsScriptFault}
+use Rattle.cert_claims.specs.{check.Counts.all_verdicts, check.Verdicts.AreAccepted, check.Verdicts.IsFirstFault}
+use Rattle.cert_claims.specs.declared.check.claim.ClaimFault.{ClaimFault}
+use Rattle.cert_claims.specs.declared.check.claim.ClaimFault.TheVariants as wrong
+use Rattle.cert_claims.specs.declared.check.counts.Counts.{Counts}
+use Rattle.cert_claims.specs.declared.check.fault.CheckFault.{CheckFault}
+use Rattle.cert_claims.specs.declared.check.fault.CheckFault.TheVariants as fault
+use Rattle.cert_claims.specs.declared.check.no.NoFault.TheVariants as of_no
 use Rattle.call_commands.specs.{Check.check_answer, Check.rejected_pieces}
 use Rattle.call_answer.specs.declared.done.Done.{Done}
 use Rattle.call_answer.specs.declared.done.Done.TheVariants as done

@@ -12,18 +12,18 @@ use Rattle.model_logic.specs.PairMean.{PairSignals}
 use Rattle.model_logic.specs.Rule.{rule_of}
 use Rattle.file_line.specs.Lines.{line_values}
 use Rattle.file_tables.specs.script.Values.{values_of}
-use Rattle.cert_text.specs.Grammar.{Claims, Verdict, no, undecided, yes}
+use Rattle.cert_claims.specs.text.Grammar.{Claims, Verdict, no, undecided, yes}
 use Rattle.run_waves.specs.derived.Claims.{pairs_of}
-use Rattle.cert_check.specs.declared.claim.Uncovered.{Uncovered}
-use Rattle.cert_check.specs.declared.claim.ClaimFault.{ClaimFault}
-use Rattle.cert_check.specs.declared.claim.ClaimFault.TheVariants.{Memory, No, NotCovered}
-use Rattle.cert_check.specs.declared.claim.ClaimFault.TheVariants.{NotHeld}
-use Rattle.cert_check.specs.Verdicts.{AreAccepted, IsCovered, IsFaultOf, IsFirstFault}
-use Rattle.cert_check.specs.Verdicts.{IsFirstUncovered, IsFirstVerdictFault, IsKeyCovered}
-use Rattle.cert_check.specs.Verdicts.{IsNotHeld, IsSupported, IsWrongNo}
+use Rattle.cert_claims.specs.declared.check.claim.Uncovered.{Uncovered}
+use Rattle.cert_claims.specs.declared.check.claim.ClaimFault.{ClaimFault}
+use Rattle.cert_claims.specs.declared.check.claim.ClaimFault.TheVariants.{Memory, No, NotCovered}
+use Rattle.cert_claims.specs.declared.check.claim.ClaimFault.TheVariants.{NotHeld}
+use Rattle.cert_claims.specs.check.Verdicts.{AreAccepted, IsCovered, IsFaultOf, IsFirstFault}
+use Rattle.cert_claims.specs.check.Verdicts.{IsFirstUncovered, IsFirstVerdictFault, IsKeyCovered}
+use Rattle.cert_claims.specs.check.Verdicts.{IsNotHeld, IsSupported, IsWrongNo}
 use Rattle.run_waves.specs.derived.Claims.{derived_key}
 use Rattle.run_waves.specs.derived.Claims.{derived_trip}
-use Rattle.cert_check.specs.declared.no.NoFault.{NoFault}
+use Rattle.cert_claims.specs.declared.check.no.NoFault.{NoFault}
 use Rattle.call_pilot.specs.SameFactLaws.{refuted_by, rule_same}
 use Rattle.call_once.proofs.SameFaults.{failing_on, no_fault_on}
 use Rattle.call_pilot.specs.{SameMatchLaws.mean_same, SameValueLaws.same_but_params}

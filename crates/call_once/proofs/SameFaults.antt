@@ -15,11 +15,11 @@ use Rattle.model_line.specs.NamesByNumber.{parameter_name, script_name, terminal
 use Rattle.file_line.specs.Lines.{line_values}
 use Rattle.file_tables.specs.script.Values.{ScriptValues, values_of}
 use Rattle.run_waves.specs.derived.Firsts.{IsFirstFailing}
-use Rattle.cert_check.specs.{NoFaults.IsNoFault}
-use Rattle.cert_check.specs.Refutations.{IsFirstOutside, IsMetAt, IsMetInside, IsNumberIn}
-use Rattle.cert_check.specs.Refutations.{choice_of, steady_timing}
-use Rattle.cert_check.specs.declared.no.NoFault.{NoFault}
-use Rattle.cert_check.specs.declared.no.NoFault.TheVariants.{Outside, Passes}
+use Rattle.cert_claims.specs.{check.NoFaults.IsNoFault}
+use Rattle.cert_claims.specs.check.Refutations.{IsFirstOutside, IsMetAt, IsMetInside, IsNumberIn}
+use Rattle.cert_claims.specs.check.Refutations.{choice_of, steady_timing}
+use Rattle.cert_claims.specs.declared.check.no.NoFault.{NoFault}
+use Rattle.cert_claims.specs.declared.check.no.NoFault.TheVariants.{Outside, Passes}
 use Rattle.call_engine.specs.Checked.{outside_pieces, passes_pieces, place}
 use Rattle.call_pilot.specs.SameFactLaws.{choice_same, ends_same, same_params}
 use Rattle.call_pilot.specs.{SamePlayLaws.timing_inside}

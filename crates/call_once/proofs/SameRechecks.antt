@@ -12,7 +12,7 @@ use Rattle.file_line.specs.Lines.{line_values}
 use Rattle.file_tables.specs.script.Values.{ScriptValues, values_of}
 use Rattle.base_text.specs.lines.Grammar.{text_places, text_said}
 use Rattle.base_text.specs.lines.Lines.{LeavesAt, Lines}
-use Rattle.cert_text.specs.Grammar.{AreNumbers, end_text, script_text, terminal_names}
+use Rattle.cert_claims.specs.text.Grammar.{AreNumbers, end_text, script_text, terminal_names}
 use Rattle.judge_split.specs.Leaves.{Splits, lower_half, upper_half}
 use Rattle.judge_split.specs.Trees.{Split, SplitTree, Undecided, Yes}
 use Rattle.judge_split.specs.declared.node.Node.{Node}
@@ -29,8 +29,8 @@ use Rattle.cert_split_check.specs.declared.fault.ResultFault.{ResultFault}
 use Rattle.cert_split_check.specs.declared.fault.ResultFault.TheVariants as wrong
 use Rattle.cert_split_check.specs.declared.fault.SplitFault.{SplitFault}
 use Rattle.cert_split_check.specs.declared.fault.SplitFault.TheVariants as fault
-use Rattle.cert_check.specs.declared.counts.Counts.{Counts}
-use Rattle.cert_check.specs.declared.no.NoFault.TheVariants as of_no
+use Rattle.cert_claims.specs.declared.check.counts.Counts.{Counts}
+use Rattle.cert_claims.specs.declared.check.no.NoFault.TheVariants as of_no
 use Rattle.call_commands.specs.{Recheck.recheck_answer, Recheck.rejected_pieces}
 use Rattle.call_answer.specs.declared.done.Done.{Done}
 use Rattle.call_answer.specs.declared.done.Done.TheVariants as done

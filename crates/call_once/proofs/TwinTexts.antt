@@ -4,9 +4,9 @@ use Rattle.std.proofs.Common.{◌≡◌, ℕ, List, length, map, sym, ◌∙◌,
 use Rattle.std.proofs.lemmas.List.{length-map}
 use Rattle.model_line.specs.declared.script.Script.{Script}
 use Rattle.file_tables.specs.script.Values.{values_of}
-use Rattle.cert_text.specs.Grammar.{Verdict}
-use Rattle.cert_check.specs.declared.counts.Counts.{Counts}
-use Rattle.cert_check.specs.Scripts.{EachBelow, IsAllGood, IsFirstWrong}
+use Rattle.cert_claims.specs.text.Grammar.{Verdict}
+use Rattle.cert_claims.specs.declared.check.counts.Counts.{Counts}
+use Rattle.cert_claims.specs.check.Scripts.{EachBelow, IsAllGood, IsFirstWrong}
 use Rattle.call_pilot.specs.TwinLaws.{twin}
 
 pub lengths_same : (xs ys : List Script) → map values_of ys ≡ map values_of xs

@@ -3,7 +3,7 @@ ghost use Rattle.std.specs.Prelude.{◌≡◌, ◌⊎◌, ◌≤◌, ◌<◌, �
 ghost use Rattle.std.specs.List.{All};
 ghost use Rattle.model_line.specs.{declared.line.Line.Line, declared.script.Script.Script};
 ghost use Rattle.model_line.specs.{Fits.Fits, Parameters.param_count};
-ghost use Rattle.cert_text.specs.Grammar.{Claims, IsCertificate, LeavesGrammar};
+ghost use Rattle.cert_claims.specs.text.Grammar.{Claims, IsCertificate, LeavesGrammar};
 ghost use Rattle.call_commands.specs.Bench.{bench_answer};
 ghost use Rattle.call_commands.specs.{Check.check_answer, Margin.margin_answer};
 ghost use Rattle.call_commands.specs.Recheck.{recheck_answer};
@@ -11,11 +11,11 @@ ghost use Rattle.call_commands.specs.{Match.match_answer, Report.report_answer, 
 ghost use Rattle.call_answer.specs.declared.done.Done.{Done};
 ghost use Rattle.judge_match.specs.matching.Waves.{SeenValues};
 
-use cert_check::{a_certificate_has_one_first_fault, a_fault_refuses_the_certificate};
+use cert_claims::check::{a_certificate_has_one_first_fault, a_fault_refuses_the_certificate};
 use cert_own::{each_search_has_an_outcome, each_search_has_one_outcome};
 use cert_split_check::{a_fault_refuses_the_split_text, a_split_text_has_one_first_fault};
 use cert_split_text::a_split_text_has_one_meaning;
-use cert_text::{a_text_has_one_meaning, certificates_can_be_written};
+use cert_claims::text::{a_text_has_one_meaning, certificates_can_be_written};
 use judge_match::matching::a_record_is_settled_once;
 use judge_report::a_parameter_has_one_margin;
 use model_line::laws::{

@@ -7,9 +7,9 @@ use Rattle.model_names.specs.NumbersByName.{param_named}
 use Rattle.model_history.specs.ListLaws.{all_at}
 use Rattle.model_line.specs.{Parameters.terminal_count, declared.line.Line.Line}
 use Rattle.model_line.specs.{declared.script.Script.Script, Fits.Fits}
-use Rattle.cert_check.specs.Check.{IsCheckFault}
+use Rattle.cert_claims.specs.check.Check.{IsCheckFault}
 use Rattle.model_history.specs.ZipLaws.{zip_each}
-use Rattle.cert_check.specs.declared.fault.CheckFault.TheVariants as check_fault
+use Rattle.cert_claims.specs.declared.check.fault.CheckFault.TheVariants as check_fault
 use Rattle.judge_report.specs.Answer.{IsMarginAnswer}
 use Rattle.judge_report.specs.Margin.{HasNoMargin, IsLostAbove, IsLostAtLeast, IsMargin}
 use Rattle.cert_split_text.specs.{Piece.written_as, Text.split_text}
@@ -37,10 +37,10 @@ use Rattle.std.specs.List.{All, list_any}
 use Rattle.file_line.specs.{LineFiles.line_of, Lines.line_values}
 use Rattle.file_tables.specs.script.Scripts.{scripts_of}
 use Rattle.file_tables.specs.script.Values.{values_of}
-use Rattle.cert_text.specs.{Grammar.Claims, Grammar.Verdict}
-use Rattle.cert_text.specs.Grammar.{script_text, verdict_text}
-use Rattle.cert_check.specs.{declared.counts.Counts.Counts, Check.IsAccepted}
-use Rattle.cert_check.specs.Counts.{all_verdicts, is_no, is_undecided}
+use Rattle.cert_claims.specs.{text.Grammar.Claims, text.Grammar.Verdict}
+use Rattle.cert_claims.specs.text.Grammar.{script_text, verdict_text}
+use Rattle.cert_claims.specs.{declared.check.counts.Counts.Counts, check.Check.IsAccepted}
+use Rattle.cert_claims.specs.check.Counts.{all_verdicts, is_no, is_undecided}
 use Rattle.cert_own.specs.Certified.{AreCertified}
 use Rattle.call_commands.specs.Certify.{certify_answer}
 use Rattle.call_answer.specs.{Answers.status_by, Sinks.SinkView}

@@ -2,8 +2,8 @@
 use Rattle.std.proofs.Common.{◌≡◌, ◌≤◌, ℕ, List, refl, sym, ◌∙◌, ap, subst}
 use Rattle.std.specs.List.{All, concat}
 use Rattle.model_line.specs.{declared.line.Line.Line, declared.script.Script.Script, Fits.Fits}
-use Rattle.cert_check.specs.declared.counts.Counts.{Counts}
-use Rattle.cert_check.specs.Counts.{are_counts, counts_in}
+use Rattle.cert_claims.specs.declared.check.counts.Counts.{Counts}
+use Rattle.cert_claims.specs.check.Counts.{are_counts, counts_in}
 use Rattle.cert_split_text.specs.{Grammar.SplitResult, Text.split_text}
 use Rattle.cert_split_check.specs.Check.{IsAccepted, IsSplitFault}
 use Rattle.cert_split_check.specs.Counts.{CountResults, all_verdicts}

@@ -1,7 +1,7 @@
 -- What a call says of every choice of delays. In each field line, scripts, and what else is named so,
 -- are the bytes of the command's files, and put is what the call has put on out.
 use Rattle.std.specs.Prelude.{◌≡◌, ℕ, List, Option}
-use Rattle.cert_text.specs.Grammar.{Verdict}
+use Rattle.cert_claims.specs.text.Grammar.{Verdict}
 use Rattle.call_answer.specs.Sinks.{SinkView}
 use Rattle.cert_own.specs.{Matched.HasMatch, Matched.Matched, Printed.HasVerdict}
 use Rattle.cert_own.specs.Obligations.{HoldsAsAccepted, HoldsAsCertified}

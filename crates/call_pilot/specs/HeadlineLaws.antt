@@ -11,9 +11,9 @@ use Rattle.model_logic.specs.Laws.{AWiderBoxCovers, EachLineHasAChoiceInside}
 use Rattle.model_logic.specs.Laws.{TheRuleSpeaksForEveryChoice}
 use Rattle.model_logic.specs.Choice.{Choice, IsWithin}
 use Rattle.file_tables.specs.{script.Scripts.scripts_of, script.Values.AreOfOneFile, script.Values.ScriptValues}
-use Rattle.cert_text.specs.{Grammar.Claims, Grammar.Verdict, Text.certificate_text}
-use Rattle.cert_check.specs.{declared.counts.Counts.Counts, Check.IsAccepted}
-use Rattle.cert_check.specs.Counts.{all_verdicts, is_no, is_undecided}
+use Rattle.cert_claims.specs.{text.Grammar.Claims, text.Grammar.Verdict, text.Text.certificate_text}
+use Rattle.cert_claims.specs.{declared.check.counts.Counts.Counts, check.Check.IsAccepted}
+use Rattle.cert_claims.specs.check.Counts.{all_verdicts, is_no, is_undecided}
 use Rattle.cert_own.specs.Certified.{AreCertified}
 use Rattle.run_waves.specs.waves.FirstTick.{first_on}
 use Rattle.judge_report.specs.{Margin.IsHeldTo, Raised.raised}

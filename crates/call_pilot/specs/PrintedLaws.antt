@@ -2,11 +2,11 @@
 use Rattle.std.proofs.Common.{◌≡◌, ℕ, List, refl, sym, ◌∙◌, ap, subst}
 use Rattle.std.specs.List.{All, concat}
 use Rattle.model_line.specs.{declared.line.Line.Line, declared.script.Script.Script, Fits.Fits}
-use Rattle.cert_text.specs.{Grammar.Claims, Text.certificate_text}
-use Rattle.cert_check.specs.{declared.counts.Counts.Counts, Check.IsAccepted, Check.IsCheckFault}
-use Rattle.cert_check.specs.Counts.{AreCounts, all_verdicts, are_counts, counts_in}
-use Rattle.cert_check.specs.declared.fault.CheckFault.{CheckFault}
-use Rattle.cert_check.specs.declared.fault.CheckFault.TheVariants as fault
+use Rattle.cert_claims.specs.{text.Grammar.Claims, text.Text.certificate_text}
+use Rattle.cert_claims.specs.{declared.check.counts.Counts.Counts, check.Check.IsAccepted, check.Check.IsCheckFault}
+use Rattle.cert_claims.specs.check.Counts.{AreCounts, all_verdicts, are_counts, counts_in}
+use Rattle.cert_claims.specs.declared.check.fault.CheckFault.{CheckFault}
+use Rattle.cert_claims.specs.declared.check.fault.CheckFault.TheVariants as fault
 use Rattle.cert_own.specs.Certified.{AreCertified}
 use Rattle.call_commands.specs.{Certify.certify_answer, Check.check_answer}
 use Rattle.call_engine.specs.Checked.{accepted_pieces}

@@ -26,8 +26,8 @@ use Rattle.model_timing.specs.Candidates.{candidate, candidate_count, candidate_
 use Rattle.model_timing.specs.{Choice.timing_choice, Inside.IsStepInside}
 use Rattle.model_timing.specs.Timing.{TimingValues, number_at}
 use Rattle.judge_verdict.specs.Verdicts.{PassesAt}
-use Rattle.cert_text.specs.Grammar.{Verdict, no, undecided, yes}
-use Rattle.cert_check.specs.Refutations.{IsRefutation, choice_of, steady_timing}
+use Rattle.cert_claims.specs.text.Grammar.{Verdict, no, undecided, yes}
+use Rattle.cert_claims.specs.check.Refutations.{IsRefutation, choice_of, steady_timing}
 use Rattle.judge_report.specs.Raised.{raised}
 use Rattle.cert_split_text.specs.Grammar.{SplitResult, fails, tree}
 use Rattle.cert_split_check.specs.Results.{AreTold, IsTold}

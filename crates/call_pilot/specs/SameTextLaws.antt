@@ -10,8 +10,8 @@ use Rattle.model_line.specs.{declared.script.Kind.Kind, ParamNames.name_at}
 use Rattle.model_line.specs.{Parameters.declared_ends, SetBounds.SameButParams}
 use Rattle.model_line.specs.NamesByNumber.{parameter_name, terminal_name}
 use Rattle.file_tables.specs.script.Values.{ScriptValues, values_of}
-use Rattle.cert_text.specs.Grammar.{end_text, script_text, terminal_names}
-use Rattle.cert_text.specs.Text.{fed}
+use Rattle.cert_claims.specs.text.Grammar.{end_text, script_text, terminal_names}
+use Rattle.cert_claims.specs.text.Text.{fed}
 use Rattle.judge_report.specs.Deadlines.{deadline_of, margin_of, margin_us_of}
 use Rattle.judge_report.specs.ReportText.{field, fields_text, kind_word, margin_text, tick_text}
 use Rattle.judge_report.specs.declared.upper_end.Lost.{Lost}

@@ -11,7 +11,7 @@ use Rattle.run_rows.specs.PlayRows.{each_below}
 use Rattle.judge_report.specs.ReportText.{fields_text, report_header, rule_word}
 use Rattle.judge_report.specs.declared.upper_end.UpperEnd.{UpperEnd}
 use Rattle.judge_report.specs.{Margin.IsUpperEnd, MarginText.margin_line, Raised.raised}
-use Rattle.cert_check.specs.Scripts.{EachBelow}
+use Rattle.cert_claims.specs.check.Scripts.{EachBelow}
 use Rattle.cert_split_text.specs.{Grammar.SplitResult, Text.split_text}
 use Rattle.cert_split_check.specs.Results.{AreTold}
 use Rattle.cert_own.specs.Obligations.{AllMet, HoldsSomewhere, IsFailedBySome, IsMetByAll}

@@ -6,7 +6,7 @@ ghost use Rattle.model_line.specs.Fits.{Fits};
 ghost use Rattle.file_line.specs.Lines.{line_values};
 ghost use Rattle.file_tables.specs.{script.Scripts.scripts_of, script.Values.values_of};
 ghost use Rattle.cert_own.specs.Obligations.{IsFailedBy, IsMetByAll, IsUnknown};
-ghost use Rattle.cert_check.specs.Counts.{all_verdicts};
+ghost use Rattle.cert_claims.specs.check.Counts.{all_verdicts};
 ghost use Rattle.cert_split_check.specs.Counts.{all_verdicts as all_split_verdicts};
 ghost use Rattle.call_commands.specs.{Certify.certify_answer, Check.check_answer};
 ghost use Rattle.call_commands.specs.{Recheck.recheck_answer, Split.split_answer};

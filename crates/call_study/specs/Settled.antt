@@ -3,7 +3,7 @@ use Rattle.std.specs.Prelude.{◌≡◌, ◌⊎◌, ℕ, List, [], ◌∷◌}
 use Rattle.std.specs.List.{list_any}
 use Rattle.model_line.specs.{declared.line.Line.Line, declared.script.Script.Script}
 use Rattle.model_timing.specs.NamedValues.{NamedValues}
-use Rattle.cert_check.specs.declared.counts.Counts.{Counts}
+use Rattle.cert_claims.specs.declared.check.counts.Counts.{Counts}
 use Rattle.cert_settle.specs.Check.{IsAccepted}
 use Rattle.call_answer.specs.{Answers.Answers, Answers.status_by, declared.done.Done.Done}
 use Rattle.call_answer.specs.declared.done.Done.TheVariants as done

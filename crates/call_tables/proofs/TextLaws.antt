@@ -5,7 +5,7 @@ use Rattle.std.proofs.lemmas.List.{append_assoc, append-nil, take_more, take_all
 use Rattle.std.proofs.lemmas.List.FromFn.{length-map-range_with_len, map-range_with_len_more}
 use Rattle.std.specs.List.{range_with_len}
 use Rattle.model_line.specs.{declared.line.Line.Line, declared.script.Script.Script}
-use Rattle.cert_text.specs.{Grammar.end_text, Text.fed}
+use Rattle.cert_claims.specs.{text.Grammar.end_text, text.Text.fed}
 use Rattle.cert_settle.specs.Grammar.{SettleResult, head_text}
 use Rattle.cert_settle.specs.Text.{part_text, parts_text, settle_text}
 

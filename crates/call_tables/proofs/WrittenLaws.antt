@@ -17,9 +17,9 @@ use Rattle.judge_settle.specs.settle.Answers.{IsAnswer}
 use Rattle.judge_settle.specs.settle.Trees.{IsFailing}
 use Rattle.judge_settle.specs.declared.settle.answer.Answer.{Answer}
 use Rattle.judge_settle.specs.declared.settle.answer.Answer.TheVariants.{Held, Fails, Open}
-use Rattle.cert_text.specs.Grammar.{AreNumbers}
-use Rattle.cert_check.specs.{Counts.are_counts, Counts.counts_in, Scripts.EachBelow}
-use Rattle.cert_check.specs.declared.counts.Counts.{Counts}
+use Rattle.cert_claims.specs.text.Grammar.{AreNumbers}
+use Rattle.cert_claims.specs.{check.Counts.are_counts, check.Counts.counts_in, check.Scripts.EachBelow}
+use Rattle.cert_claims.specs.declared.check.counts.Counts.{Counts}
 use Rattle.cert_settle.specs.Grammar.{SettleResult, IsSettleResult, HasOneEach, IsSettleText}
 use Rattle.cert_settle.specs.Text.{settle_text}
 use Rattle.cert_settle.specs.Check.{IsAccepted}

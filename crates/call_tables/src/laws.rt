@@ -4,7 +4,7 @@ ghost use Rattle.std.specs.Prelude.{◌≡◌, ◌<◌, ◌≢◌, ℕ, List, []
 ghost use Rattle.std.specs.List.{All};
 ghost use Rattle.model_line.specs.{Fits.Fits, declared.line.Line.Line};
 ghost use Rattle.model_line.specs.declared.script.Script.{Script};
-ghost use Rattle.cert_check.specs.declared.counts.Counts.{Counts};
+ghost use Rattle.cert_claims.specs.declared.check.counts.Counts.{Counts};
 ghost use Rattle.cert_settle.specs.Grammar.{HasOneEach};
 ghost use Rattle.cert_settle.specs.Check.{IsAccepted};
 ghost use Rattle.file_tables.specs.timing.Printed.{AreOfOneFile, MayStand};

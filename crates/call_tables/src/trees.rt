@@ -2,7 +2,7 @@
 
 ghost use Rattle.std.specs.Prelude.{◌≡◌, ◌≤◌, ◌<◌, ◌+◌, ◌*◌, ◌++◌, length, map, IfOk, OnOk};
 ghost use Rattle.model_line.specs.Parameters.{terminal_count};
-ghost use Rattle.cert_check.specs.declared.counts.Counts.{Counts};
+ghost use Rattle.cert_claims.specs.declared.check.counts.Counts.{Counts};
 ghost use Rattle.cert_settle.specs.{Grammar.HasOneEach, Grammar.fails, Text.part_text};
 ghost use Rattle.cert_settle.specs.Reading.{result_in};
 ghost use Rattle.cert_settle.specs.Check.{IsAccepted};

@@ -15,16 +15,16 @@ use Rattle.model_logic.specs.Rule.{Held, rule_of}
 use Rattle.model_logic.specs.{Names.Names, PairMean.pair_mean, Tree.Tree}
 use Rattle.model_timing.specs.Candidates.{candidate}
 use Rattle.model_timing.specs.{Choice.timing_choice, Inside.IsTimingInside, Timing.TimingValues}
-use Rattle.cert_text.specs.Grammar.{AreNumbers, HasNumbers, Verdict as Written}
-use Rattle.cert_text.specs.Text.{CanBeWritten}
+use Rattle.cert_claims.specs.text.Grammar.{AreNumbers, HasNumbers, Verdict as Written}
+use Rattle.cert_claims.specs.text.Text.{CanBeWritten}
 use Rattle.judge_verdict.specs.declared.verdict.Verdict.TheVariants.{Yes, No, Undecided}
 use Rattle.judge_verdict.specs.Verdicts.{AreKeys, AreVerdicts, IsVerdict, IsRefuted}
 use Rattle.judge_verdict.specs.declared.verdict.Verdict.{Verdict}
 use Rattle.cert_own.specs.Piece.{claims_of, written_as}
-use Rattle.cert_check.specs.Verdicts.{AreAccepted, IsSupported}
+use Rattle.cert_claims.specs.check.Verdicts.{AreAccepted, IsSupported}
 use Rattle.run_waves.specs.derived.Claims.{derived_trip}
 use Rattle.run_waves.specs.derived.Claims.{pairs_of}
-use Rattle.cert_check.specs.Refutations.{IsRefutation}
+use Rattle.cert_claims.specs.check.Refutations.{IsRefutation}
 use Rattle.cert_own.specs.Known.{Known}
 use Rattle.cert_own.proofs.Obligations.{held_same, same_meets}
 

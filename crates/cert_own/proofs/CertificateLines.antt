@@ -13,13 +13,13 @@ use Rattle.model_line.specs.{Terminals.are_plain_names, declared.line.Terminal.T
 use Rattle.base_text.specs.lines.Lines.{BeginsWith, Lines}
 use Rattle.base_text.specs.lines.LineLaws.{both_true}
 use Rattle.base_text.specs.lines.NamedLaws.{first_same}
-use Rattle.cert_text.specs.Grammar.{Claims, HasNumbers, HasOneEach, IsCertificate, Place, Said}
-use Rattle.cert_text.specs.Grammar.{Stands, Verdict, yes, no, undecided, end_text, fixed}
-use Rattle.cert_text.specs.Grammar.{head_text, key_of, key_text, opens_none}
-use Rattle.cert_text.specs.Grammar.{part_places, part_said, says_key, says_nothing, says_verdict}
-use Rattle.cert_text.specs.Grammar.{script_text, terminal_names, verdict_of, verdict_text}
-use Rattle.cert_text.specs.Grammar.{verdict_words}
-use Rattle.cert_text.specs.{NameLaws.names_count, NumberLaws.numbers_tell}
+use Rattle.cert_claims.specs.text.Grammar.{Claims, HasNumbers, HasOneEach, IsCertificate, Place, Said}
+use Rattle.cert_claims.specs.text.Grammar.{Stands, Verdict, yes, no, undecided, end_text, fixed}
+use Rattle.cert_claims.specs.text.Grammar.{head_text, key_of, key_text, opens_none}
+use Rattle.cert_claims.specs.text.Grammar.{part_places, part_said, says_key, says_nothing, says_verdict}
+use Rattle.cert_claims.specs.text.Grammar.{script_text, terminal_names, verdict_of, verdict_text}
+use Rattle.cert_claims.specs.text.Grammar.{verdict_words}
+use Rattle.cert_claims.specs.{text.NameLaws.names_count, text.NumberLaws.numbers_tell}
 use Rattle.cert_own.specs.Printed.{HasShortNumbers, HasVerdict, HoldsOf}
 use Rattle.cert_own.specs.WholeLines.{whole_lines}
 use Rattle.cert_own.specs.LineLaws.{AllGood, GoodUnder, first_whole, front_whole, good_front}

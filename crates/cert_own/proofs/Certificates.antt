@@ -7,16 +7,16 @@ use Rattle.std.specs.List.{All}
 use Rattle.model_line.specs.{declared.line.Line.Line, declared.script.Script.Script, Fits.Fits}
 use Rattle.model_logic.specs.Choice.{declared_box}
 use Rattle.run_signal.specs.declared.tern.Tern.{Tern}
-use Rattle.cert_text.specs.Grammar.{Claims, IsCertificate, Verdict as Written}
-use Rattle.cert_text.specs.Text.{CanBeWritten, certificate_text, part_text, parts_text}
+use Rattle.cert_claims.specs.text.Grammar.{Claims, IsCertificate, Verdict as Written}
+use Rattle.cert_claims.specs.text.Text.{CanBeWritten, certificate_text, part_text, parts_text}
 use Rattle.judge_verdict.specs.declared.verdict.Verdict.{Verdict}
 use Rattle.cert_own.specs.Piece.{claims_of, written_as}
-use Rattle.cert_check.specs.{declared.counts.Counts.Counts, declared.fault.CheckFault.CheckFault}
-use Rattle.cert_check.specs.declared.fault.CheckFault.TheVariants as wrong
-use Rattle.cert_check.specs.Check.{IsAccepted, IsCheckFault}
-use Rattle.cert_check.specs.Counts.{AreCounts, all_verdicts, counts_in, are_counts}
+use Rattle.cert_claims.specs.{declared.check.counts.Counts.Counts, declared.check.fault.CheckFault.CheckFault}
+use Rattle.cert_claims.specs.declared.check.fault.CheckFault.TheVariants as wrong
+use Rattle.cert_claims.specs.check.Check.{IsAccepted, IsCheckFault}
+use Rattle.cert_claims.specs.check.Counts.{AreCounts, all_verdicts, counts_in, are_counts}
 use Rattle.model_history.specs.ZipLaws.{zip_all, zip_each, zip_exists, zip_once}
-use Rattle.cert_check.specs.Verdicts.{AreAccepted}
+use Rattle.cert_claims.specs.check.Verdicts.{AreAccepted}
 use Rattle.cert_own.specs.{Certified.AreCertified, Certified.IsCertified, Known.Known}
 use Rattle.cert_own.proofs.Accepted.{accepted, can_be_written}
 use Rattle.cert_own.proofs.KeyLists.{keys_exist, keys_once}

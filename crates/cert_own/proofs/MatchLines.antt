@@ -22,9 +22,9 @@ use Rattle.model_timing.specs.{Choice.timing_choice, Timing.TimingValues}
 use Rattle.base_text.specs.{lines.Lines.BeginsWith, lines.Lines.is_one_line}
 use Rattle.base_text.specs.lines.NamedLaws.{decimal_whole, whole_append}
 use Rattle.base_text.specs.lines.SpacedNumbers.{numbers_text, spaced}
-use Rattle.cert_text.specs.Grammar.{terminal_names}
-use Rattle.cert_text.specs.NameLaws.{name_whole, names_count}
-use Rattle.cert_text.specs.NumberLaws.{numbers_tell, numbers_whole}
+use Rattle.cert_claims.specs.text.Grammar.{terminal_names}
+use Rattle.cert_claims.specs.text.NameLaws.{name_whole, names_count}
+use Rattle.cert_claims.specs.text.NumberLaws.{numbers_tell, numbers_whole}
 use Rattle.run_rows.specs.PlayRows.{level_word}
 use Rattle.run_waves.specs.waves.Text.{tern_word}
 use Rattle.judge_match.specs.matching.Answer.{Head, IsHead, IsMatchAnswer}

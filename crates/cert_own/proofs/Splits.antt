@@ -3,8 +3,8 @@ use Rattle.std.proofs.Common.{◌≡◌, ◌≢◌, ℕ, ◌≤◌, List, length
 use Rattle.std.proofs.lemmas.Slice.Zip.{AllZip-long}
 use Rattle.std.specs.List.{All}
 use Rattle.model_line.specs.{declared.line.Line.Line, declared.script.Script.Script, Fits.Fits}
-use Rattle.cert_check.specs.declared.counts.Counts.{Counts}
-use Rattle.cert_check.specs.Counts.{counts_in, are_counts}
+use Rattle.cert_claims.specs.declared.check.counts.Counts.{Counts}
+use Rattle.cert_claims.specs.check.Counts.{counts_in, are_counts}
 use Rattle.model_history.specs.ZipLaws.{zip_all, zip_each}
 use Rattle.cert_split_text.specs.Grammar.{SplitResult, HasOneEach, IsSplitText}
 use Rattle.cert_split_text.specs.Text.{split_text}

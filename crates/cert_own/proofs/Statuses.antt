@@ -6,8 +6,8 @@ use Rattle.std.proofs.lemmas.Option.{same_Some, slice_get_within, slice_get-get_
 use Rattle.std.specs.Prelude.{slice_get}
 use Rattle.std.specs.List.{All, AllZip, flat_map, list_any}
 use Rattle.model_line.specs.{declared.line.Line.Line, declared.script.Script.Script, Fits.Fits}
-use Rattle.cert_text.specs.Grammar.{Claims, HasOneEach, Verdict, yes, no, undecided}
-use Rattle.cert_check.specs.Counts.{all_verdicts, is_no, is_undecided}
+use Rattle.cert_claims.specs.text.Grammar.{Claims, HasOneEach, Verdict, yes, no, undecided}
+use Rattle.cert_claims.specs.check.Counts.{all_verdicts, is_no, is_undecided}
 use Rattle.cert_own.specs.Certified.{AreCertified, IsCertified}
 use Rattle.cert_own.specs.Obligations.{AllMet, HoldsAsCertified, HoldsSomewhere}
 use Rattle.cert_own.specs.Obligations.{IsFailedBySome}

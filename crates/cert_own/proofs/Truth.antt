@@ -12,14 +12,14 @@ use Rattle.model_logic.specs.Laws.{LineLaws}
 use Rattle.model_timing.specs.Laws.{CandidatesAreInside, TimingsInsideAreChoicesInside}
 use Rattle.model_timing.specs.{Candidates.candidate, Candidates.candidate_count}
 use Rattle.model_timing.specs.{Choice.timing_choice}
-use Rattle.cert_text.specs.Grammar.{Claims, HasOneEach, Verdict as Written, yes, no, undecided}
+use Rattle.cert_claims.specs.text.Grammar.{Claims, HasOneEach, Verdict as Written, yes, no, undecided}
 use Rattle.judge_verdict.specs.declared.verdict.Verdict.{Verdict}
 use Rattle.judge_verdict.specs.declared.verdict.Verdict.TheVariants.{Yes, No, Undecided}
 use Rattle.cert_own.specs.Piece.{written_as}
 use Rattle.judge_verdict.specs.Verdicts.{IsOpen, IsVerdict}
 use Rattle.run_waves.specs.derived.Claims.{pairs_of}
-use Rattle.cert_check.specs.{Refutations.steady_timing, Verdicts.AreAccepted}
-use Rattle.cert_check.specs.Refutations.{IsRefutation}
+use Rattle.cert_claims.specs.{check.Refutations.steady_timing, check.Verdicts.AreAccepted}
+use Rattle.cert_claims.specs.check.Refutations.{IsRefutation}
 use Rattle.cert_own.specs.Certified.{IsCertified}
 use Rattle.cert_own.specs.Obligations.{HoldsAsAccepted, HoldsAsCertified, IsFailedBy}
 use Rattle.cert_own.specs.Obligations.{IsUnknown}

@@ -4,7 +4,7 @@ use Rattle.std.specs.List.{AllZip}
 use Rattle.model_line.specs.{declared.line.Line.Line, declared.script.Script.Script}
 use Rattle.model_logic.specs.Histories.{PairHistory, IsPairHistory}
 use Rattle.model_logic.specs.Choice.{declared_box}
-use Rattle.cert_text.specs.Grammar.{Claims}
+use Rattle.cert_claims.specs.text.Grammar.{Claims}
 use Rattle.judge_verdict.specs.declared.verdict.Verdict.{Verdict}
 use Rattle.cert_own.specs.Piece.{written_as}
 use Rattle.judge_verdict.specs.Verdicts.{AreKeys, AreVerdicts}

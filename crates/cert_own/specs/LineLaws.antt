@@ -7,7 +7,7 @@ use Rattle.std.proofs.lemmas.List.Elements.{All-head, All-tail}
 use Rattle.std.specs.List.{All}
 use Rattle.base_text.specs.lines.Lines.{BeginsWith, is_feed, is_no_feed, is_one_line}
 use Rattle.base_text.specs.lines.LineLaws.{both_true}
-use Rattle.cert_text.specs.Grammar.{script_text}
+use Rattle.cert_claims.specs.text.Grammar.{script_text}
 use Rattle.cert_own.specs.WholeLines.{IsScriptLine, StandsUnder, lines_from, whole_lines}
 
 no_feed : (o : Bool) → not o ≡ true → o ≡ false

@@ -6,7 +6,7 @@ use Rattle.model_logic.specs.Choice.{Choice, IsInside, declared_box, steady_choi
 use Rattle.model_logic.specs.Histories.{History, IsLineHistory, Meets, PairHistory, IsPairHistory}
 use Rattle.model_logic.specs.Rule.{Unknown, rule_of}
 use Rattle.model_timing.specs.Candidates.{candidate, candidate_count}
-use Rattle.cert_text.specs.Grammar.{Verdict, yes, no, undecided}
+use Rattle.cert_claims.specs.text.Grammar.{Verdict, yes, no, undecided}
 use Rattle.judge_verdict.specs.Verdicts.{PassesAt}
 
 -- every history of every choice of delays inside the declared intervals meets the obligation of

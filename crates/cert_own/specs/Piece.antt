@@ -2,8 +2,8 @@
 use Rattle.std.specs.Prelude.{ℕ, List, map}
 use Rattle.run_signal.specs.declared.tern.Tern.{Tern}
 use Rattle.model_line.specs.{declared.line.Line.Line, declared.script.Script.Script}
-use Rattle.cert_text.specs.Grammar.{Claims, Verdict as Written, yes, no, undecided}
-use Rattle.cert_text.specs.Text as certificate
+use Rattle.cert_claims.specs.text.Grammar.{Claims, Verdict as Written, yes, no, undecided}
+use Rattle.cert_claims.specs.text.Text as certificate
 use Rattle.judge_verdict.specs.declared.verdict.Verdict.{Verdict}
 use Rattle.judge_verdict.specs.declared.verdict.Verdict.TheVariants.{Yes, No, Undecided}
 use Rattle.judge_verdict.specs.declared.verdict.ScriptVerdict.{ScriptVerdict}

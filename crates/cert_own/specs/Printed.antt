@@ -4,7 +4,7 @@ use Rattle.std.specs.List.{All}
 use Rattle.model_line.specs.{declared.line.Line.Line, declared.script.Script.Script}
 use Rattle.model_line.specs.{Parameters.terminal_count, PlainNames.is_plain_name}
 use Rattle.model_line.specs.NamesByNumber.{terminal_name}
-use Rattle.cert_text.specs.Grammar.{Verdict, yes, no, undecided, verdict_text}
+use Rattle.cert_claims.specs.text.Grammar.{Verdict, yes, no, undecided, verdict_text}
 use Rattle.cert_own.specs.WholeLines.{StandsUnder, whole_lines}
 
 -- the numbers of a `no` are of 32 bits, as are all that are written

@@ -2,7 +2,7 @@
 use Rattle.std.specs.Prelude.{◌≡◌, ◌++◌, ℕ, List, [], ◌∷◌, if◌then◌else◌}
 use Rattle.std.specs.List.{All}
 use Rattle.base_text.specs.lines.Lines.{is_feed}
-use Rattle.cert_text.specs.Grammar.{script_text}
+use Rattle.cert_claims.specs.text.Grammar.{script_text}
 
 -- the whole lines of a text, after what its first line has already
 abbrev pub lines_from : List ℕ → List ℕ → List (List ℕ)

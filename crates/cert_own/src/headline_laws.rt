@@ -4,12 +4,12 @@ ghost use Rattle.std.specs.Prelude.{◌≡◌, ◌++◌, ℕ, Bool, true, false,
 ghost use Rattle.std.specs.List.{All, list_any};
 ghost use Rattle.model_line.specs.{declared.line.Line.Line, declared.script.Script.Script};
 ghost use Rattle.model_line.specs.Fits.{Fits};
-ghost use Rattle.cert_text.specs.Grammar.{Claims, HasOneEach, Verdict};
-ghost use Rattle.cert_text.specs.Text.{certificate_text};
-ghost use Rattle.cert_check.specs.declared.counts.Counts.{Counts};
-ghost use Rattle.cert_check.specs.{Check.IsAccepted, Verdicts.AreAccepted};
+ghost use Rattle.cert_claims.specs.text.Grammar.{Claims, HasOneEach, Verdict};
+ghost use Rattle.cert_claims.specs.text.Text.{certificate_text};
+ghost use Rattle.cert_claims.specs.declared.check.counts.Counts.{Counts};
+ghost use Rattle.cert_claims.specs.{check.Check.IsAccepted, check.Verdicts.AreAccepted};
 ghost use Rattle.cert_own.specs.Certified.{IsCertified, AreCertified};
-ghost use Rattle.cert_check.specs.Counts.{all_verdicts, is_no, is_undecided};
+ghost use Rattle.cert_claims.specs.check.Counts.{all_verdicts, is_no, is_undecided};
 ghost use Rattle.judge_match.specs.{matching.Answer.IsMatchAnswer, matching.Recorded.IsRecordOf};
 ghost use Rattle.judge_match.specs.matching.Waves.{SeenValues};
 ghost use Rattle.cert_own.specs.Matched.{AllGiven, HasMatch, HoldsOfRecord, HoldsOfRecordAt};

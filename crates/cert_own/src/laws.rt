@@ -7,20 +7,20 @@ ghost use Rattle.model_line.specs.{declared.line.Line.Line, declared.script.Scri
 ghost use Rattle.model_line.specs.Fits.{Fits};
 ghost use Rattle.model_logic.specs.Histories.{PairHistory, IsPairHistory};
 ghost use Rattle.model_logic.specs.Choice.{declared_box};
-ghost use Rattle.cert_text.specs.Grammar.{Claims, IsCertificate};
-ghost use Rattle.cert_text.specs.Text.{CanBeWritten, certificate_text, part_text, parts_text};
+ghost use Rattle.cert_claims.specs.text.Grammar.{Claims, IsCertificate};
+ghost use Rattle.cert_claims.specs.text.Text.{CanBeWritten, certificate_text, part_text, parts_text};
 ghost use Rattle.judge_verdict.specs.declared.verdict.Verdict.{Verdict};
 ghost use Rattle.cert_own.specs.Piece.{claims_of};
 ghost use Rattle.judge_verdict.specs.Verdicts.{AreKeys, AreVerdicts};
-ghost use Rattle.cert_check.specs.declared.counts.Counts.{Counts};
-ghost use Rattle.cert_check.specs.declared.fault.CheckFault.{CheckFault};
-ghost use Rattle.cert_check.specs.Check.{IsAccepted, IsCheckFault};
-ghost use Rattle.cert_check.specs.{Counts.AreCounts, Counts.all_verdicts, Verdicts.AreAccepted};
+ghost use Rattle.cert_claims.specs.declared.check.counts.Counts.{Counts};
+ghost use Rattle.cert_claims.specs.declared.check.fault.CheckFault.{CheckFault};
+ghost use Rattle.cert_claims.specs.check.Check.{IsAccepted, IsCheckFault};
+ghost use Rattle.cert_claims.specs.{check.Counts.AreCounts, check.Counts.all_verdicts, check.Verdicts.AreAccepted};
 ghost use Rattle.cert_own.specs.Certified.{IsCertified, AreCertified};
 
 use crate::known::laws_below;
-use cert_check::a_fault_refuses_the_certificate;
-use cert_text::{a_text_has_one_meaning, printed_claims_are_a_certificate};
+use cert_claims::check::a_fault_refuses_the_certificate;
+use cert_claims::text::{a_text_has_one_meaning, printed_claims_are_a_certificate};
 
 /// Keys and verdicts that `certify` may answer for a script are what is certified of it, as
 /// `cert_piece` writes them.

@@ -1,11 +1,11 @@
 //! A script's part of a certificate.
 
 ghost use Rattle.std.specs.Prelude.{◌≡◌, map, IfOk};
-ghost use Rattle.cert_text.specs.Grammar.{verdict_in};
+ghost use Rattle.cert_claims.specs.text.Grammar.{verdict_in};
 ghost use Rattle.cert_own.specs.Piece.{piece_text, written_as};
 ghost use Rattle.judge_verdict.specs.Printable.{IsPrintable};
 
-use cert_text::{Claim, numbers_of, push_part};
+use cert_claims::text::{Claim, numbers_of, push_part};
 use judge_verdict::{ScriptVerdict, Verdict};
 use model_line::{Line, Memory, Script};
 use std::alloc::Global;

@@ -4,7 +4,7 @@ ghost use Rattle.std.specs.Prelude.{◌≡◌, ◌≤◌, ◌<◌, ◌∷◌, �
 ghost use Rattle.std.specs.List.{All};
 ghost use Rattle.model_line.specs.{declared.line.Line.Line, declared.script.Script.Script};
 ghost use Rattle.model_line.specs.{Fits.Fits, Parameters.terminal_count};
-ghost use Rattle.cert_check.specs.declared.counts.Counts.{Counts};
+ghost use Rattle.cert_claims.specs.declared.check.counts.Counts.{Counts};
 ghost use Rattle.judge_split.specs.declared.node.Outcome.{Outcome};
 ghost use Rattle.judge_split.specs.{Found.IsFound, Search.Found, Search.IsSearch};
 ghost use Rattle.cert_split_text.specs.Grammar.{SplitResult, HasOneEach, IsSplitText};

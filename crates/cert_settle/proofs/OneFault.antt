@@ -2,9 +2,9 @@
 use Rattle.std.proofs.Common.{◌≡◌, ◌≢◌, ℕ, List, refl, sym, ◌∙◌, subst}
 use Rattle.model_line.specs.{declared.line.Line.Line, declared.script.Script.Script}
 use Rattle.model_timing.specs.{Timing.TimingValues}
-use Rattle.cert_check.specs.declared.no.NoFault.{NoFault}
+use Rattle.cert_claims.specs.declared.check.no.NoFault.{NoFault}
 use Rattle.model_settle.specs.CaseTrees.{CaseTree}
-use Rattle.cert_check.specs.ScriptLaws.{wrong_refuses, wrong_once}
+use Rattle.cert_claims.specs.check.ScriptLaws.{wrong_refuses, wrong_once}
 use Rattle.judge_cases.specs.declared.node.CaseNode.{CaseNode}
 use Rattle.cert_settle.specs.Grammar.{SettleResult, tree, fails}
 use Rattle.cert_settle.specs.declared.fault.ResultFault.{ResultFault}

@@ -1,8 +1,8 @@
 -- The fault of a text of settled trees is one of the text, or of a script.
 use Rattle.std.proofs.Common.{◌≢◌, inl, inr, ℕ, List, refl}
 use Rattle.model_line.specs.{declared.line.Line.Line, declared.script.Script.Script}
-use Rattle.cert_check.specs.declared.no.NoFault.TheVariants as no
-use Rattle.cert_check.specs.ScriptLaws.{IsOfEither}
+use Rattle.cert_claims.specs.declared.check.no.NoFault.TheVariants as no
+use Rattle.cert_claims.specs.check.ScriptLaws.{IsOfEither}
 use Rattle.cert_settle.specs.Grammar.{IsSettleText, LeavesGrammar}
 use Rattle.cert_settle.specs.declared.fault.ResultFault.{ResultFault}
 use Rattle.cert_settle.specs.declared.fault.ResultFault.TheVariants as wrong

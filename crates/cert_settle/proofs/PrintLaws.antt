@@ -7,7 +7,7 @@ use Rattle.std.proofs.Math.ListN.{get_or-map}
 use Rattle.std.specs.List.{All}
 use Rattle.model_line.specs.{declared.line.Line.Line}
 use Rattle.model_logic.specs.Choice.{Box}
-use Rattle.cert_text.specs.Text.{fed}
+use Rattle.cert_claims.specs.text.Text.{fed}
 use Rattle.model_timing.specs.{declared.step.Step.Step, Inside.IsStepInside}
 use Rattle.model_settle.specs.CaseTrees.{CaseTree, Yes, Undecided, Split, Case, lower_half}
 use Rattle.model_settle.specs.CaseTrees.{upper_half}

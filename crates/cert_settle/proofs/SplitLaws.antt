@@ -3,7 +3,7 @@ use Rattle.std.proofs.Common.{◌≡◌, ℕ, List, [], ◌∷◌, ◌++◌, map
 use Rattle.model_line.specs.{declared.line.Line.Line}
 use Rattle.judge_split.specs.declared.node.Node.{Node}
 use Rattle.judge_split.specs.declared.node.Node.TheVariants as split
-use Rattle.cert_text.specs.{Text.fed}
+use Rattle.cert_claims.specs.{text.Text.fed}
 use Rattle.cert_split_text.specs.Grammar.{SplitResult, tree, fails, node_text as split_node_text}
 use Rattle.cert_split_text.specs.Text.{nodes_text as split_nodes_text}
 use Rattle.cert_split_text.specs.Text.{result_text as split_result_text}

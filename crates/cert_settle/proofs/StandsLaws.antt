@@ -7,7 +7,7 @@ use Rattle.model_line.specs.NamesByNumber.{parameter_name}
 use Rattle.model_settle.specs.CaseTrees.{HasCases}
 use Rattle.std.specs.Prelude.{codes}
 use Rattle.base_text.specs.lines.NamedLaws.{first_same}
-use Rattle.cert_text.specs.{Grammar.no_words, Grammar.AreNumbers, NumberLaws.numbers_tell}
+use Rattle.cert_claims.specs.{text.Grammar.no_words, text.Grammar.AreNumbers, text.NumberLaws.numbers_tell}
 use Rattle.judge_cases.specs.declared.node.CaseNode.{CaseNode}
 use Rattle.judge_cases.specs.declared.node.CaseNode.TheVariants as node
 use Rattle.cert_settle.specs.Known.{Known}

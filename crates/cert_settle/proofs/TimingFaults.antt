@@ -11,10 +11,10 @@ use Rattle.model_logic.specs.Histories.{History, IsLineHistory, IsSameHistory, M
 use Rattle.model_timing.specs.{Timing.TimingValues, Inside.IsTimingInside, Choice.timing_choice}
 use Rattle.run_waves.specs.waves.FirstTick.{IsFirstOnAt}
 use Rattle.run_waves.specs.derived.Firsts.{IsFirstFailing}
-use Rattle.cert_check.specs.ScriptLaws.{same_number}
-use Rattle.cert_check.specs.Refutations.{IsMetAt, IsNumberIn, IsFirstOutside}
-use Rattle.cert_check.specs.declared.no.NoFault.{NoFault}
-use Rattle.cert_check.specs.declared.no.NoFault.TheVariants.{Outside, Passes}
+use Rattle.cert_claims.specs.check.ScriptLaws.{same_number}
+use Rattle.cert_claims.specs.check.Refutations.{IsMetAt, IsNumberIn, IsFirstOutside}
+use Rattle.cert_claims.specs.declared.check.no.NoFault.{NoFault}
+use Rattle.cert_claims.specs.declared.check.no.NoFault.TheVariants.{Outside, Passes}
 use Rattle.cert_settle.specs.Timings.{FailsAt, PassesAt, IsMetInside, IsNoFault, IsRefutation}
 
 -- ---- trips that are the same over the run

@@ -15,7 +15,7 @@ use Rattle.base_text.specs.declared.lines.fault.TextFault.{TextFault}
 use Rattle.base_text.specs.{lines.Lines.BeginsWith, lines.Grammar.IsFault, lines.ReadLaws.later_fault}
 use Rattle.base_text.specs.lines.LineLaws.{goes_one, goes_then, refused, absent}
 use Rattle.base_text.specs.declared.lines.fault.TextFault.TheVariants as fault
-use Rattle.cert_text.specs.Grammar.{AreNumbers, no_words}
+use Rattle.cert_claims.specs.text.Grammar.{AreNumbers, no_words}
 use Rattle.cert_settle.specs.Reading.{GoesOn, AreSteps, AreRead, IsNoNode, last_of}
 use Rattle.cert_settle.specs.Reading.{timing_place}
 use Rattle.cert_settle.specs.Grammar.{Place, Said, says_nothing, says_step, says_no, says_node}

@@ -9,7 +9,7 @@ use Rattle.model_line.specs.NamesByNumber.{parameter_name}
 use Rattle.model_timing.specs.{declared.step.Step.Step, Inside.IsStepInside}
 use Rattle.base_text.specs.lines.Lines.{is_one_line}
 use Rattle.base_text.specs.lines.NamedLaws.{named_whole, decimal_whole, whole_append, whole_more}
-use Rattle.cert_text.specs.Grammar.{terminal_names}
+use Rattle.cert_claims.specs.text.Grammar.{terminal_names}
 use Rattle.judge_cases.specs.declared.node.CaseNode.{CaseNode}
 use Rattle.judge_cases.specs.declared.node.CaseNode.TheVariants as node
 use Rattle.cert_settle.specs.Known.{Known}

@@ -17,10 +17,10 @@ use Rattle.model_timing.specs.{declared.step.Step.Step, Inside.IsStepInside}
 use Rattle.model_timing.specs.Timing.{comes_before, ascend}
 use Rattle.model_settle.specs.CaseTrees.{CaseTree, Yes, Undecided, Split, Case, lower_half}
 use Rattle.model_settle.specs.CaseTrees.{upper_half}
-use Rattle.cert_text.specs.Grammar.{script_text, end_text, terminal_names, no_words}
+use Rattle.cert_claims.specs.text.Grammar.{script_text, end_text, terminal_names, no_words}
 use Rattle.base_text.specs.lines.SpacedNumbers.{numbers_text}
-use Rattle.cert_text.specs.Grammar.{AreNumbers}
-use Rattle.cert_text.specs.Text.{fed}
+use Rattle.cert_claims.specs.text.Grammar.{AreNumbers}
+use Rattle.cert_claims.specs.text.Text.{fed}
 use Rattle.base_text.specs.{lines.Lines.Lines, lines.Lines.is_one_line, lines.NamedLaws.whole_append}
 use Rattle.judge_cases.specs.declared.node.CaseNode.{CaseNode}
 use Rattle.judge_cases.specs.declared.node.CaseNode.TheVariants as node
@@ -39,7 +39,7 @@ use Rattle.cert_settle.specs.{Known.Known, Text.nodes_text, Text.result_text, Te
 use Rattle.cert_settle.specs.{Text.part_text, Text.parts_text, Text.settle_text}
 use Rattle.cert_settle.specs.{Text.steps_text}
 use Rattle.cert_split_text.specs.NameLaws.{IsLineUpTo, name_stands, terminals_stand}
-use Rattle.cert_text.specs.{NameLaws.names_count, NumberLaws.numbers_whole}
+use Rattle.cert_claims.specs.{text.NameLaws.names_count, text.NumberLaws.numbers_whole}
 use Rattle.cert_split_text.specs.PairLaws.{stand_one, stand_headed, pairs_stand}
 use Rattle.cert_settle.proofs.PrintLaws.{tree_lines, trees_both}
 use Rattle.cert_settle.proofs.{WholeLaws.node_whole, WholeLaws.step_whole, StandsLaws.of_line}

@@ -1,9 +1,9 @@
 -- When a text of settled trees is accepted, and its first fault where it is not.
 use Rattle.std.specs.Prelude.{ℕ, List, length}
 use Rattle.model_line.specs.{declared.line.Line.Line, declared.script.Script.Script}
-use Rattle.cert_check.specs.{declared.counts.Counts.Counts, Scripts.EachBelow}
-use Rattle.cert_check.specs.{Scripts.IsAllGood, Scripts.IsFirstWrong}
-use Rattle.cert_check.specs.declared.no.NoFault.TheVariants as no
+use Rattle.cert_claims.specs.{declared.check.counts.Counts.Counts, check.Scripts.EachBelow}
+use Rattle.cert_claims.specs.{check.Scripts.IsAllGood, check.Scripts.IsFirstWrong}
+use Rattle.cert_claims.specs.declared.check.no.NoFault.TheVariants as no
 use Rattle.cert_settle.specs.Grammar.{SettleResult, IsSettleText, LeavesGrammar}
 use Rattle.cert_settle.specs.declared.fault.ResultFault.{ResultFault}
 use Rattle.cert_settle.specs.declared.fault.ResultFault.TheVariants as wrong

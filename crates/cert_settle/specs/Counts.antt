@@ -2,8 +2,8 @@
 use Rattle.std.specs.Prelude.{Bool, true, false, List, map}
 use Rattle.std.specs.Prelude.{if◌then◌else◌}
 use Rattle.std.specs.List.{flat_map, list_all}
-use Rattle.cert_text.specs.Grammar.{Verdict, yes, no, undecided}
-use Rattle.cert_check.specs.{declared.counts.Counts.Counts, Counts.AreCounts}
+use Rattle.cert_claims.specs.text.Grammar.{Verdict, yes, no, undecided}
+use Rattle.cert_claims.specs.{declared.check.counts.Counts.Counts, check.Counts.AreCounts}
 use Rattle.judge_cases.specs.declared.node.CaseNode.{CaseNode}
 use Rattle.judge_cases.specs.declared.node.CaseNode.TheVariants as node
 use Rattle.cert_settle.specs.Grammar.{SettleResult, tree, fails}

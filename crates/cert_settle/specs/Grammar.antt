@@ -12,8 +12,8 @@ use Rattle.model_timing.specs.Inside.{IsStepInside}
 use Rattle.model_settle.specs.CaseTrees.{CanSplit, HasCases, lower_half, upper_half}
 use Rattle.base_text.specs.{lines.Named.named, lines.Grammar.Grammar, lines.Grammar.IsFixed, lines.Grammar.Parts}
 use Rattle.base_text.specs.lines.Grammar.{IsText, LeavesText}
-use Rattle.cert_text.specs.Grammar.{AreNumbers, no_words, script_text, end_text}
-use Rattle.cert_text.specs.Grammar.{terminal_names}
+use Rattle.cert_claims.specs.text.Grammar.{AreNumbers, no_words, script_text, end_text}
+use Rattle.cert_claims.specs.text.Grammar.{terminal_names}
 use Rattle.judge_cases.specs.declared.node.CaseNode.{CaseNode}
 use Rattle.judge_cases.specs.declared.node.CaseNode.TheVariants as node
 use Rattle.judge_cases.specs.Trees.{AreTree, deepest, most_branches}

@@ -21,7 +21,7 @@ use Rattle.cert_settle.specs.Grammar.{result_over, after_step, script_parts, hea
 use Rattle.cert_settle.specs.Grammar.{MayStand}
 use Rattle.judge_cases.specs.Trees.{most_branches}
 use Rattle.cert_settle.specs.Grammar.{whole_over, node_text}
-use Rattle.cert_text.specs.Grammar.{end_text}
+use Rattle.cert_claims.specs.text.Grammar.{end_text}
 
 -- a result as the reader answers it, and those of a script
 abbrev pub result_in : TreeClaim → SettleResult

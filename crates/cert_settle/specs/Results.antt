@@ -4,7 +4,7 @@ use Rattle.model_line.specs.{declared.line.Line.Line, declared.script.Script.Scr
 use Rattle.model_logic.specs.Histories.{History, IsLineHistory, Meets}
 use Rattle.model_logic.specs.Choice.{Choice, IsInside}
 use Rattle.model_timing.specs.{declared.step.Step.Step, Timing.TimingValues}
-use Rattle.cert_check.specs.Firsts.{EachOf, IsWrongFirst}
+use Rattle.cert_claims.specs.check.Firsts.{EachOf, IsWrongFirst}
 use Rattle.judge_cases.specs.declared.node.CaseNode.{CaseNode}
 use Rattle.cert_settle.specs.Grammar.{SettleResult, tree, fails}
 use Rattle.cert_settle.specs.declared.fault.ResultFault.{ResultFault}

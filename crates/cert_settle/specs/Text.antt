@@ -4,8 +4,8 @@ use Rattle.std.specs.List.{flat_map}
 use Rattle.model_line.specs.{declared.line.Line.Line, declared.script.Script.Script}
 use Rattle.model_line.specs.Parameters.{param_count, terminal_count}
 use Rattle.model_timing.specs.declared.step.Step.{Step}
-use Rattle.cert_text.specs.Text.{fed}
-use Rattle.cert_text.specs.Grammar.{no_words, script_text, end_text, terminal_names}
+use Rattle.cert_claims.specs.text.Text.{fed}
+use Rattle.cert_claims.specs.text.Grammar.{no_words, script_text, end_text, terminal_names}
 use Rattle.judge_cases.specs.declared.node.CaseNode.{CaseNode}
 use Rattle.judge_cases.specs.declared.node.CaseNode.TheVariants as node
 use Rattle.cert_settle.specs.Grammar.{SettleResult, tree, fails, head_text, tree_text}

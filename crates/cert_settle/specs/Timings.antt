@@ -3,9 +3,9 @@ use Rattle.std.specs.Prelude.{ℕ}
 use Rattle.model_line.specs.{declared.line.Line.Line, declared.script.Script.Script}
 use Rattle.model_logic.specs.Histories.{History, IsLineHistory, Meets}
 use Rattle.model_timing.specs.{Timing.TimingValues, Inside.IsTimingInside, Choice.timing_choice}
-use Rattle.cert_check.specs.Refutations.{IsMetAt, IsFirstOutside}
-use Rattle.cert_check.specs.declared.no.NoFault.{NoFault}
-use Rattle.cert_check.specs.declared.no.NoFault.TheVariants.{Outside, Passes}
+use Rattle.cert_claims.specs.check.Refutations.{IsMetAt, IsFirstOutside}
+use Rattle.cert_claims.specs.declared.check.no.NoFault.{NoFault}
+use Rattle.cert_claims.specs.declared.check.no.NoFault.TheVariants.{Outside, Passes}
 
 -- the history at the timing, of which there is one, fails the obligation of terminal k
 abbrev pub FailsAt : Line → Script → ℕ → TimingValues → Type 0

@@ -15,7 +15,7 @@ ghost use Rattle.cert_settle.specs.Grammar.{name_of_terminal};
 use crate::known::laws_below;
 use crate::number::number_after;
 use base_text::lines::is;
-use cert_text::name_at;
+use cert_claims::text::name_at;
 use judge_cases::CaseNode;
 use judge_split::can_split;
 use model_line::{Line, Name};

@@ -2,12 +2,12 @@
 
 ghost use Rattle.std.specs.Prelude.{◌≡◌, ◌+◌, ◌≤◌, ◌∷◌, [], length, map};
 ghost use Rattle.std.specs.List.{All};
-ghost use Rattle.cert_check.specs.Counts.{Adds};
+ghost use Rattle.cert_claims.specs.check.Counts.{Adds};
 ghost use Rattle.cert_settle.specs.{Grammar.tree, Reading.result_in, Reading.results_in};
 ghost use Rattle.cert_settle.specs.Counts.{is_yes_tree as yes_tree, verdict_of, CountResults};
 
 use crate::claim::TreeClaim;
-use cert_check::Counts;
+use cert_claims::check::Counts;
 use judge_cases::CaseNode;
 
 /// Whether no leaf of a tree with these nodes is undecided.

@@ -1,7 +1,7 @@
 //! The first and the last line of the text of settled trees.
 
 ghost use Rattle.std.specs.Prelude.{◌≡◌};
-ghost use Rattle.cert_text.specs.{Grammar.end_text, Text.fed};
+ghost use Rattle.cert_claims.specs.{text.Grammar.end_text, text.Text.fed};
 ghost use Rattle.cert_settle.specs.Grammar.{head_text};
 
 /// The first line, with its line feed.

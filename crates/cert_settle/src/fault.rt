@@ -3,7 +3,7 @@
 ghost use Rattle.std.specs.Prelude.{◌≡◌};
 ghost use Rattle.cert_settle.specs.Check.{fault_in};
 
-use cert_check::NoFault;
+use cert_claims::check::NoFault;
 use model_line::Memory;
 
 /// What is wrong with a script's result at a terminal.

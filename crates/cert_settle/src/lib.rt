@@ -31,7 +31,7 @@ mod timing;
 mod tree;
 mod whole;
 
-pub use cert_check::Counts;
+pub use cert_claims::check::Counts;
 pub use check_laws::{
     a_fault_refuses_the_settle_text, a_settle_text_has_one_first_fault,
     accepted_settled_trees_are_so,

@@ -7,7 +7,7 @@ ghost use Rattle.cert_settle.specs.{Reading.result_in, Text.part_text, Text.resu
 use crate::claim::TreeClaim;
 use crate::known::laws_below;
 use crate::print::{push_fails, push_nodes, push_steps};
-use cert_text::{name_at, push_named};
+use cert_claims::text::{name_at, push_named};
 use model_line::{Line, Memory, Script};
 use std::alloc::Global;
 

@@ -3,12 +3,12 @@
 ghost use Rattle.std.specs.Prelude.{◌≡◌, ◌++◌, ℕ, OnOk, decimal};
 ghost use Rattle.std.specs.List.{All};
 ghost use Rattle.base_text.specs.lines.Named.{named};
-ghost use Rattle.cert_text.specs.{Grammar.no_words, Text.fed};
+ghost use Rattle.cert_claims.specs.{text.Grammar.no_words, text.Text.fed};
 ghost use Rattle.cert_settle.specs.Grammar.{node_text, step_text};
 ghost use Rattle.cert_settle.specs.Text.{nodes_text, steps_text, IsKnown, IsKnownStep};
 
 use crate::branch_line::param_name_at;
-use cert_text::{name_at, push_no, push_start};
+use cert_claims::text::{name_at, push_no, push_start};
 use itoa::Buffer;
 use judge_cases::CaseNode;
 use model_line::{Line, Memory, Name};

@@ -13,7 +13,7 @@ use crate::claim::TreeClaim;
 use crate::known::laws_below;
 use crate::step_line::{follows, step_in};
 use base_text::lines::{LineCursor, TextFault};
-use cert_text::read_no;
+use cert_claims::text::read_no;
 use model_line::Line;
 use model_timing::Step;
 use run_signal::Tick;

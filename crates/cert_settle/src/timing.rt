@@ -5,13 +5,13 @@ ghost use Rattle.model_line.specs.{declared.line.Line.Line, declared.script.Scri
 ghost use Rattle.model_line.specs.{Parameters.terminal_count, Parameters.param_count, Fits.Fits};
 ghost use Rattle.net_gates.specs.NetOf.{IsNetOf};
 ghost use Rattle.model_timing.specs.{Inside.IsTimingInside, Timing.TimingValues};
-ghost use Rattle.cert_check.specs.Refutations.{IsNumberIn};
-ghost use Rattle.cert_check.specs.declared.no.NoFault.{NoFault};
+ghost use Rattle.cert_claims.specs.check.Refutations.{IsNumberIn};
+ghost use Rattle.cert_claims.specs.declared.check.no.NoFault.{NoFault};
 ghost use Rattle.cert_settle.specs.Grammar.{AreTiming};
 ghost use Rattle.cert_settle.specs.Results.{timing_of};
 ghost use Rattle.cert_settle.specs.Timings.{FailsAt, PassesAt, IsRefutation, IsNoFault};
 
-use cert_check::{NoFault, first_outside, met_tick};
+use cert_claims::check::{NoFault, first_outside, met_tick};
 use model_line::laws::deadlines_are_below_the_horizon;
 use model_line::{Line, Memory, Script};
 use model_logic::laws::{each_choice_has_one_history, each_line_has_a_choice_inside};

@@ -4,7 +4,7 @@ ghost use Rattle.std.specs.Prelude.{◌≡◌, ◌≤◌, ℕ, List, length, map
 ghost use Rattle.std.specs.List.{All};
 ghost use Rattle.model_line.specs.Fits.{Fits};
 ghost use Rattle.net_gates.specs.NetOf.{IsNetOf};
-ghost use Rattle.cert_check.specs.Scripts.{EachBelow};
+ghost use Rattle.cert_claims.specs.check.Scripts.{EachBelow};
 ghost use Rattle.cert_settle.specs.Grammar.{HasOneEach, IsSettleText};
 ghost use Rattle.cert_settle.specs.Reading.{results_in, IsSettleTextFault};
 ghost use Rattle.cert_settle.specs.Check.{IsAccepted, IsSettleFault, IsSound};
@@ -17,7 +17,7 @@ use crate::laws::a_settle_text_has_one_meaning;
 use crate::read::read_settle_text;
 use crate::result::check_results;
 use base_text::lines::TextFault;
-use cert_check::Counts;
+use cert_claims::check::Counts;
 use model_line::{Line, Script};
 use net_gates::Net;
 use std::alloc::Global;

@@ -4,7 +4,7 @@ use Rattle.std.proofs.Common.{get_or, sym, ◌∙◌, ap, arith, Vec}
 use Rattle.std.proofs.lemmas.List.{map-append, take_more, append-nil, length-map, length-take-le}
 use Rattle.std.proofs.lemmas.Grind.{flat_map-append}
 use Rattle.std.specs.declared.alloc.Global.{Global}
-use Rattle.cert_text.specs.Grammar.{Verdict}
+use Rattle.cert_claims.specs.text.Grammar.{Verdict}
 use Rattle.cert_split_text.specs.declared.claim.SplitClaim.{SplitClaim}
 use Rattle.cert_split_text.specs.{Grammar.SplitResult, Reading.result_in, Reading.results_in}
 use Rattle.cert_split_check.specs.Counts.{verdict_of, all_verdicts}

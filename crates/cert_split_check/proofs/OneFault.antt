@@ -2,9 +2,9 @@
 use Rattle.std.proofs.Common.{◌≡◌, ◌≢◌, ℕ, List, refl, sym, ◌∙◌, subst}
 use Rattle.model_line.specs.{declared.line.Line.Line, declared.script.Script.Script}
 use Rattle.model_logic.specs.Choice.{declared_box}
-use Rattle.cert_check.specs.declared.no.NoFault.{NoFault}
-use Rattle.cert_check.specs.{NoFaults.IsNoFault, Refutations.IsRefutation}
-use Rattle.cert_check.specs.ScriptLaws.{wrong_refuses, wrong_once}
+use Rattle.cert_claims.specs.declared.check.no.NoFault.{NoFault}
+use Rattle.cert_claims.specs.{check.NoFaults.IsNoFault, check.Refutations.IsRefutation}
+use Rattle.cert_claims.specs.check.ScriptLaws.{wrong_refuses, wrong_once}
 use Rattle.judge_split.specs.declared.node.Node.{Node}
 use Rattle.judge_split.specs.{Trees.SplitTree, Leaves.leaves, Leaves.AreSound}
 use Rattle.cert_split_text.specs.Grammar.{SplitResult, tree, fails}

@@ -1,8 +1,8 @@
 -- The fault of a text of split trees is one of the text, or of a script.
 use Rattle.std.proofs.Common.{◌≢◌, inl, inr, ℕ, List, refl}
 use Rattle.model_line.specs.{declared.line.Line.Line, declared.script.Script.Script}
-use Rattle.cert_check.specs.declared.no.NoFault.TheVariants as no
-use Rattle.cert_check.specs.ScriptLaws.{IsOfEither}
+use Rattle.cert_claims.specs.declared.check.no.NoFault.TheVariants as no
+use Rattle.cert_claims.specs.check.ScriptLaws.{IsOfEither}
 use Rattle.cert_split_text.specs.Grammar.{IsSplitText, LeavesGrammar}
 use Rattle.cert_split_check.specs.declared.fault.ResultFault.{ResultFault}
 use Rattle.cert_split_check.specs.declared.fault.ResultFault.TheVariants as wrong

@@ -1,9 +1,9 @@
 -- When a text of split trees is accepted, and its first fault where it is not.
 use Rattle.std.specs.Prelude.{ℕ, List, length}
 use Rattle.model_line.specs.{declared.line.Line.Line, declared.script.Script.Script}
-use Rattle.cert_check.specs.{declared.counts.Counts.Counts, Scripts.EachBelow}
-use Rattle.cert_check.specs.{Scripts.IsAllGood, Scripts.IsFirstWrong}
-use Rattle.cert_check.specs.declared.no.NoFault.TheVariants as no
+use Rattle.cert_claims.specs.{declared.check.counts.Counts.Counts, check.Scripts.EachBelow}
+use Rattle.cert_claims.specs.{check.Scripts.IsAllGood, check.Scripts.IsFirstWrong}
+use Rattle.cert_claims.specs.declared.check.no.NoFault.TheVariants as no
 use Rattle.cert_split_text.specs.Grammar.{SplitResult, IsSplitText, LeavesGrammar}
 use Rattle.cert_split_check.specs.declared.fault.ResultFault.{ResultFault}
 use Rattle.cert_split_check.specs.declared.fault.ResultFault.TheVariants as wrong

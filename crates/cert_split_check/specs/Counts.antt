@@ -1,8 +1,8 @@
 -- How many results of each kind a text of split trees has.
 use Rattle.std.specs.Prelude.{Bool, List, map, if◌then◌else◌}
 use Rattle.std.specs.List.{flat_map, list_all}
-use Rattle.cert_text.specs.Grammar.{Verdict, yes, no, undecided}
-use Rattle.cert_check.specs.{declared.counts.Counts.Counts, Counts.AreCounts}
+use Rattle.cert_claims.specs.text.Grammar.{Verdict, yes, no, undecided}
+use Rattle.cert_claims.specs.{declared.check.counts.Counts.Counts, check.Counts.AreCounts}
 use Rattle.judge_split.specs.{declared.node.Node.Node, Trees.is_decided}
 use Rattle.cert_split_text.specs.Grammar.{SplitResult, tree, fails}
 

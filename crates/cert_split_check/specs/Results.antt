@@ -3,8 +3,8 @@ use Rattle.std.specs.Prelude.{◌≡◌, ℕ, List, length, IsTrue}
 use Rattle.model_line.specs.{declared.line.Line.Line, declared.script.Script.Script}
 use Rattle.model_logic.specs.Histories.{History, IsLineHistory, Meets}
 use Rattle.model_logic.specs.Choice.{Choice, IsInside}
-use Rattle.cert_check.specs.{NoFaults.IsNoFault, Refutations.IsRefutation}
-use Rattle.cert_check.specs.Firsts.{EachOf, IsWrongFirst}
+use Rattle.cert_claims.specs.{check.NoFaults.IsNoFault, check.Refutations.IsRefutation}
+use Rattle.cert_claims.specs.check.Firsts.{EachOf, IsWrongFirst}
 use Rattle.judge_split.specs.declared.node.Node.{Node}
 use Rattle.cert_split_check.specs.declared.fault.ResultFault.{ResultFault}
 use Rattle.cert_split_check.specs.declared.fault.ResultFault.TheVariants.{NotHeld, No, Memory}

@@ -2,11 +2,11 @@
 
 ghost use Rattle.std.specs.Prelude.{◌≡◌, ◌+◌, ◌≤◌, ◌∷◌, [], length, map};
 ghost use Rattle.std.specs.List.{All};
-ghost use Rattle.cert_check.specs.Counts.{Adds};
+ghost use Rattle.cert_claims.specs.check.Counts.{Adds};
 ghost use Rattle.cert_split_text.specs.{Grammar.tree, Reading.result_in, Reading.results_in};
 ghost use Rattle.cert_split_check.specs.Counts.{is_yes_tree as yes_tree, verdict_of, CountResults};
 
-use cert_check::Counts;
+use cert_claims::check::Counts;
 use cert_split_text::SplitClaim;
 use judge_split::Node;
 

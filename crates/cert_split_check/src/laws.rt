@@ -4,15 +4,15 @@ ghost use Rattle.std.specs.Prelude.{◌≡◌, ◌≢◌, ℕ, List, length};
 ghost use Rattle.std.specs.List.{All};
 ghost use Rattle.model_line.specs.{Fits.Fits, Parameters.terminal_count, declared.line.Line.Line};
 ghost use Rattle.model_line.specs.declared.script.Script.{Script};
-ghost use Rattle.cert_check.specs.declared.counts.Counts.{Counts};
+ghost use Rattle.cert_claims.specs.declared.check.counts.Counts.{Counts};
 ghost use Rattle.cert_split_check.specs.declared.fault.SplitFault.{SplitFault};
-ghost use Rattle.cert_check.specs.ScriptLaws.{IsOneText, AreApart};
+ghost use Rattle.cert_claims.specs.check.ScriptLaws.{IsOneText, AreApart};
 ghost use Rattle.cert_split_text.specs.Grammar.{IsSplitText, LeavesGrammar, SplitResult};
 ghost use Rattle.cert_split_check.specs.declared.fault.ResultFault.{ResultFault};
 ghost use Rattle.cert_split_check.specs.Results.{AreSupported, AreTold, IsFirstFault};
 ghost use Rattle.cert_split_check.specs.Check.{IsAccepted, IsSound, IsSplitFault};
 
-use cert_check::a_no_has_one_fault;
+use cert_claims::check::a_no_has_one_fault;
 use cert_split_text::{a_split_text_has_one_meaning, a_split_text_leaves_at_one_line};
 use judge_split::a_sound_tree_that_is_yes_speaks_for_every_choice;
 use model_line::laws::deadlines_are_below_the_horizon;

@@ -14,7 +14,7 @@ mod result;
 mod tree;
 mod whole;
 
-pub use cert_check::Counts;
+pub use cert_claims::check::Counts;
 pub use counts::is_yes_tree;
 pub use fault::{ResultFault, SplitFault};
 pub use laws::{

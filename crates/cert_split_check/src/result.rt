@@ -11,7 +11,7 @@ ghost use Rattle.cert_split_check.specs.Results.{AreTold, IsFirstFault};
 
 use crate::fault::ResultFault;
 use crate::tree::{Passed, walk};
-use cert_check::check_no;
+use cert_claims::check::check_no;
 use cert_split_text::SplitClaim;
 use judge_split::{
     Node, a_part_stands_for_its_box, a_sound_tree_that_is_yes_speaks_for_every_choice,

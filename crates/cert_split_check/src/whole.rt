@@ -4,7 +4,7 @@ ghost use Rattle.std.specs.Prelude.{◌≡◌, ◌≤◌, ℕ, List, length, map
 ghost use Rattle.std.specs.List.{All};
 ghost use Rattle.model_line.specs.Fits.{Fits};
 ghost use Rattle.net_gates.specs.NetOf.{IsNetOf};
-ghost use Rattle.cert_check.specs.Scripts.{EachBelow};
+ghost use Rattle.cert_claims.specs.check.Scripts.{EachBelow};
 ghost use Rattle.cert_split_text.specs.Grammar.{HasOneEach, IsSplitText};
 ghost use Rattle.cert_split_text.specs.Reading.{results_in, IsSplitTextFault};
 ghost use Rattle.cert_split_check.specs.Check.{IsAccepted, IsSplitFault, IsSound};
@@ -14,7 +14,7 @@ use crate::counts::counts_of;
 use crate::fault::{SplitFault, in_script};
 use crate::result::check_results;
 use base_text::lines::TextFault;
-use cert_check::Counts;
+use cert_claims::check::Counts;
 use cert_split_text::{
     SplitClaim, a_split_text_has_one_meaning, a_split_text_leaves_at_one_line, read_split_text,
 };

@@ -4,7 +4,7 @@ use Rattle.std.proofs.Common.{arith, refl, ap}
 use Rattle.std.specs.List.{flat_map}
 use Rattle.model_line.specs.{declared.line.Line.Line, declared.script.Script.Script}
 use Rattle.model_logic.specs.Choice.{Box}
-use Rattle.cert_text.specs.Grammar.{terminal_names, end_text}
+use Rattle.cert_claims.specs.text.Grammar.{terminal_names, end_text}
 use Rattle.judge_split.specs.declared.node.Node.{Node}
 use Rattle.judge_split.specs.declared.node.Node.TheVariants as node
 use Rattle.base_text.specs.lines.Lines.{Lines}
@@ -12,7 +12,7 @@ use Rattle.cert_split_text.specs.Grammar.{Place, fixed, result_over, node_over, 
 use Rattle.cert_split_text.specs.Grammar.{below}
 use Rattle.cert_split_text.specs.Grammar.{Said, says_nothing, says_fails, says_node, LeavesGrammar}
 use Rattle.cert_split_text.specs.Grammar.{MayStand, deepest, tree_places, part_places}
-use Rattle.cert_text.specs.NameLaws.{names_count}
+use Rattle.cert_claims.specs.text.NameLaws.{names_count}
 
 -- the nodes of a tree with so many splits above one another, at most
 abbrev full : ℕ → ℕ

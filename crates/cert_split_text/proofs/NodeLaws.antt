@@ -16,7 +16,7 @@ use Rattle.cert_split_text.specs.Known.{Known}
 use Rattle.cert_split_text.specs.Grammar.{Said, says_nothing, says_fails, says_node, MayStand}
 use Rattle.cert_split_text.specs.Grammar.{IsNode}
 use Rattle.cert_split_text.specs.Grammar.{node_text, split_line, IsResult, deepest}
-use Rattle.cert_text.specs.Grammar.{AreNumbers, no_words}
+use Rattle.cert_claims.specs.text.Grammar.{AreNumbers, no_words}
 
 pub may_in_box : Known → (line part : Line) (n : ℕ) (box : Box) (root : Node) → IsPart line box part
     → MayStand part n (declared_box part) root → MayStand line n box root

@@ -5,7 +5,7 @@ use Rattle.std.proofs.lemmas.List.Elements.{All-nil, All-cons, All-append}
 use Rattle.std.specs.List.{All}
 use Rattle.model_line.specs.{declared.line.Line.Line}
 use Rattle.model_logic.specs.Choice.{Box}
-use Rattle.cert_text.specs.Text.{fed}
+use Rattle.cert_claims.specs.text.Text.{fed}
 use Rattle.judge_split.specs.declared.node.Node.{Node}
 use Rattle.judge_split.specs.declared.node.Node.TheVariants as node
 use Rattle.judge_split.specs.Trees.{SplitTree, Yes, Undecided, Split, preorder}

@@ -10,8 +10,8 @@ use Rattle.model_line.specs.{declared.line.Line.Line, declared.script.Script.Scr
 use Rattle.model_logic.specs.Choice.{Box, declared_box}
 use Rattle.model_line.specs.NamesByNumber.{parameter_name}
 use Rattle.base_text.specs.lines.SpacedNumbers.{numbers_text}
-use Rattle.cert_text.specs.Grammar.{no_words, script_text, end_text, terminal_names}
-use Rattle.cert_text.specs.Text.{fed}
+use Rattle.cert_claims.specs.text.Grammar.{no_words, script_text, end_text, terminal_names}
+use Rattle.cert_claims.specs.text.Text.{fed}
 use Rattle.judge_split.specs.declared.node.Node.{Node}
 use Rattle.judge_split.specs.declared.node.Node.TheVariants as node
 use Rattle.judge_split.specs.Trees.{SplitTree, Yes, Undecided, Split, preorder, height}
@@ -22,7 +22,7 @@ use Rattle.cert_split_text.specs.Grammar.{tree_text, head_text, deepest}
 use Rattle.cert_split_text.specs.{Known.Known, Text.nodes_text, Text.result_text, Text.trees_text}
 use Rattle.cert_split_text.specs.{Text.part_text, Text.parts_text, Text.split_text}
 use Rattle.cert_split_text.specs.NameLaws.{IsLineUpTo, name_stands, terminals_stand, param_stands}
-use Rattle.cert_text.specs.NameLaws.{names_count}
+use Rattle.cert_claims.specs.text.NameLaws.{names_count}
 use Rattle.cert_split_text.proofs.WrittenLaws.{IsLow, low_declared, low_lower, low_upper}
 
 -- ---- trees

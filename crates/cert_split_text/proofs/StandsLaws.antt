@@ -8,7 +8,7 @@ use Rattle.model_logic.specs.Choice.{Box}
 use Rattle.judge_split.specs.declared.node.Node.{Node}
 use Rattle.judge_split.specs.declared.node.Node.TheVariants as node
 use Rattle.base_text.specs.lines.NamedLaws.{first_same}
-use Rattle.cert_text.specs.{Grammar.no_words, NumberLaws.numbers_tell}
+use Rattle.cert_claims.specs.{text.Grammar.no_words, text.NumberLaws.numbers_tell}
 use Rattle.cert_split_text.specs.Known.{Known}
 use Rattle.cert_split_text.specs.Grammar.{Place, fixed, result_over, node_over, Stands, deepest}
 use Rattle.cert_split_text.specs.Grammar.{Said}

@@ -11,9 +11,9 @@ use Rattle.model_history.specs.Rails.{Ends}
 use Rattle.model_line.specs.{declared.line.Line.Line, declared.script.Script.Script}
 use Rattle.model_line.specs.{Parameters.param_count, Fits.Fits}
 use Rattle.model_logic.specs.Choice.{Box, declared_box}
-use Rattle.cert_text.specs.Grammar.{script_text, end_text, terminal_names, no_words}
+use Rattle.cert_claims.specs.text.Grammar.{script_text, end_text, terminal_names, no_words}
 use Rattle.base_text.specs.lines.SpacedNumbers.{numbers_text}
-use Rattle.cert_text.specs.Text.{fed}
+use Rattle.cert_claims.specs.text.Text.{fed}
 use Rattle.judge_split.specs.declared.node.Node.{Node}
 use Rattle.judge_split.specs.declared.node.Node.TheVariants as node
 use Rattle.judge_split.specs.Trees.{SplitTree, Yes, Undecided, Split, preorder, height}
@@ -29,7 +29,7 @@ use Rattle.cert_split_text.specs.Grammar.{tree_said, part_said, IsSplitText}
 use Rattle.cert_split_text.specs.{Known.Known, Text.nodes_text, Text.result_text, Text.trees_text}
 use Rattle.cert_split_text.specs.{Text.part_text, Text.parts_text, Text.split_text}
 use Rattle.cert_split_text.specs.NameLaws.{IsLineUpTo, name_stands, terminals_stand}
-use Rattle.cert_text.specs.{NameLaws.names_count, NumberLaws.numbers_whole}
+use Rattle.cert_claims.specs.{text.NameLaws.names_count, text.NumberLaws.numbers_whole}
 use Rattle.cert_split_text.specs.PairLaws.{stand_one, stand_headed, pairs_stand}
 use Rattle.cert_split_text.proofs.PrintLaws.{tree_lines, trees_both}
 use Rattle.cert_split_text.proofs.WholeLaws.{split_whole}

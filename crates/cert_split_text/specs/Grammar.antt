@@ -9,8 +9,8 @@ use Rattle.model_line.specs.NamesByNumber.{parameter_name}
 use Rattle.model_logic.specs.Choice.{Box, declared_box}
 use Rattle.base_text.specs.{lines.Named.named, lines.Grammar.Grammar, lines.Grammar.IsFixed, lines.Grammar.Parts}
 use Rattle.base_text.specs.lines.Grammar.{IsText, LeavesText}
-use Rattle.cert_text.specs.Grammar.{AreNumbers, no_words, script_text, end_text}
-use Rattle.cert_text.specs.Grammar.{terminal_names}
+use Rattle.cert_claims.specs.text.Grammar.{AreNumbers, no_words, script_text, end_text}
+use Rattle.cert_claims.specs.text.Grammar.{terminal_names}
 use Rattle.judge_split.specs.declared.node.Node.{Node}
 use Rattle.judge_split.specs.declared.node.Node.TheVariants as node
 use Rattle.judge_split.specs.Trees.{SplitTree, preorder, height}

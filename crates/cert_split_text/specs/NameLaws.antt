@@ -17,7 +17,7 @@ use Rattle.model_line.specs.declared.line.Setting.TheVariants as setting
 use Rattle.model_line.specs.NamesByNumber.{parameter_name}
 use Rattle.base_text.specs.lines.Lines.{is_no_feed, is_one_line}
 use Rattle.base_text.specs.{lines.LineLaws.both_true, lines.NamedLaws.whole_append, lines.NamedLaws.whole_more}
-use Rattle.cert_text.specs.{Grammar.terminal_names, NameLaws.name_whole}
+use Rattle.cert_claims.specs.{text.Grammar.terminal_names, text.NameLaws.name_whole}
 
 -- no byte is a line feed, and there are at most so many
 pub record IsLineUpTo (most : ℕ) (text : List ℕ) : Type 0 where

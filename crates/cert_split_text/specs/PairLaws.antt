@@ -6,7 +6,7 @@ use Rattle.std.proofs.lemmas.List.{length-take-le}
 use Rattle.std.proofs.lemmas.List.Elements.{All-head, All-tail}
 use Rattle.std.specs.List.{All, flat_map}
 use Rattle.base_text.specs.lines.Lines.{Lines, is_one_line}
-use Rattle.cert_text.specs.Text.{fed}
+use Rattle.cert_claims.specs.text.Text.{fed}
 
 -- ---- the text grows
 

@@ -10,7 +10,7 @@ use Rattle.cert_split_text.specs.declared.claim.SplitClaim.{SplitClaim}
 use Rattle.cert_split_text.specs.declared.claim.SplitClaim.TheVariants as claim
 use Rattle.cert_split_text.specs.Grammar.{SplitResult, tree, fails, Place, says_node, grammar_of}
 use Rattle.cert_split_text.specs.Grammar.{node_over, below, script_parts, head_text}
-use Rattle.cert_text.specs.Grammar.{end_text}
+use Rattle.cert_claims.specs.text.Grammar.{end_text}
 
 -- a result as the reader answers it, and those of a script
 abbrev pub result_in : SplitClaim → SplitResult

@@ -3,8 +3,8 @@ use Rattle.std.specs.Prelude.{◌<◌, ◌++◌, ℕ, List, [], ◌∷◌}
 use Rattle.std.specs.List.{flat_map}
 use Rattle.model_line.specs.{declared.line.Line.Line, declared.script.Script.Script}
 use Rattle.model_line.specs.Parameters.{param_count}
-use Rattle.cert_text.specs.Text.{fed}
-use Rattle.cert_text.specs.Grammar.{no_words, script_text, end_text, terminal_names}
+use Rattle.cert_claims.specs.text.Text.{fed}
+use Rattle.cert_claims.specs.text.Grammar.{no_words, script_text, end_text, terminal_names}
 use Rattle.judge_split.specs.declared.node.Node.{Node}
 use Rattle.judge_split.specs.declared.node.Node.TheVariants as node
 use Rattle.cert_split_text.specs.Grammar.{SplitResult, tree, fails, head_text, tree_text, node_text}

@@ -5,7 +5,7 @@ ghost use Rattle.cert_split_text.specs.Text.{part_text, result_text};
 ghost use Rattle.cert_split_text.specs.Piece.{ArePrintable, IsPrintable, written_as};
 
 use crate::print::{push_fails, push_nodes};
-use cert_text::{name_at, numbers_of, push_named};
+use cert_claims::text::{name_at, numbers_of, push_named};
 use judge_split::Outcome;
 use model_line::{Line, Memory, Script};
 use std::alloc::Global;

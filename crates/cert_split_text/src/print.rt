@@ -2,12 +2,12 @@
 
 ghost use Rattle.std.specs.Prelude.{◌≡◌, ◌++◌, OnOk};
 ghost use Rattle.std.specs.List.{All};
-ghost use Rattle.cert_text.specs.{Grammar.no_words, Text.fed};
+ghost use Rattle.cert_claims.specs.{text.Grammar.no_words, text.Text.fed};
 ghost use Rattle.cert_split_text.specs.Grammar.{split_line, node_text};
 ghost use Rattle.cert_split_text.specs.Text.{nodes_text, IsKnown};
 
 use crate::node_line::param_name_at;
-use cert_text::{push_no, push_start};
+use cert_claims::text::{push_no, push_start};
 use itoa::Buffer;
 use judge_split::Node;
 use model_line::{Line, Memory, Name};

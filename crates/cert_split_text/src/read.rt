@@ -14,7 +14,7 @@ use crate::known::laws_below;
 use crate::node_line::node_in;
 use crate::read_tree::read_below;
 use base_text::lines::{LineCursor, PartReader, TextFault, read_each, read_text};
-use cert_text::read_no;
+use cert_claims::text::read_no;
 use model_line::{Line, Script, Terminal};
 use std::alloc::Global;
 

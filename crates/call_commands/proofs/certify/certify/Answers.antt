@@ -1,8 +1,8 @@
 use Rattle.std.proofs.Common.{◌++◌, ◌∙◌, subst, sym}
 use Rattle.std.proofs.lemmas.Result.{err_from_is_err_and}
-use Rattle.cert_text.specs.Grammar.{end_text, head_text}
-use Rattle.cert_text.specs.Text.{certificate_text, fed, parts_text}
-use Rattle.cert_check.specs.Counts.{all_verdicts}
+use Rattle.cert_claims.specs.text.Grammar.{end_text, head_text}
+use Rattle.cert_claims.specs.text.Text.{certificate_text, fed, parts_text}
+use Rattle.cert_claims.specs.check.Counts.{all_verdicts}
 use Rattle.call_answer.specs.Sinks.{GrewByAll, sink_view}
 use Rattle.call_commands.specs.Verdicts.{verdicts_status}
 use Rattle.call_answer.specs.SinkLaws.{grew_both}

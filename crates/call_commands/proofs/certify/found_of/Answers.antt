@@ -1,6 +1,6 @@
 use Rattle.std.proofs.Common.{◌∙◌}
 use Rattle.cert_own.specs.Piece.{written_as}
-use Rattle.cert_check.specs.Counts.{is_no, is_undecided}
+use Rattle.cert_claims.specs.check.Counts.{is_no, is_undecided}
 use Rattle.call_commands.proofs.Verdicts.{any_map}
 use Rattle.call_commands.proofs.certify.found_of.Goals as goal
 

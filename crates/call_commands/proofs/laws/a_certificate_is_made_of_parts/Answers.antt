@@ -1,8 +1,8 @@
 use Rattle.std.proofs.Common.{[], ◌∷◌}
 use Rattle.std.proofs.lemmas.List.Elements.{All-cons, All-nil}
 use Rattle.model_line.specs.Fits.{Fits}
-use Rattle.cert_text.specs.Grammar.{end_text, head_text}
-use Rattle.cert_text.specs.Text.{fed}
+use Rattle.cert_claims.specs.text.Grammar.{end_text, head_text}
+use Rattle.cert_claims.specs.text.Text.{fed}
 use Rattle.call_commands.proofs.Parts.{in_pieces, only_one}
 use Rattle.call_commands.proofs.laws.a_certificate_is_made_of_parts.Goals as goal
 

@@ -1,5 +1,5 @@
 use Rattle.std.proofs.Common.{map, ◌∙◌}
-use Rattle.cert_check.specs.Counts.{is_no, is_undecided}
+use Rattle.cert_claims.specs.check.Counts.{is_no, is_undecided}
 use Rattle.cert_split_text.specs.Piece.{written_as}
 use Rattle.cert_split_check.specs.Counts.{verdict_of}
 use Rattle.call_commands.specs.Split.{comes_to_no, is_left_open}

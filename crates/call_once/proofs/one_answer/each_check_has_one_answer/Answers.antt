@@ -1,7 +1,7 @@
-use Rattle.cert_text.specs.Grammar.{IsCertificate}
-use Rattle.cert_check.specs.Check.{IsAccepted, IsCheckFault}
-use Rattle.cert_check.specs.{Counts.all_verdicts, Verdicts.AreAccepted}
-use Rattle.cert_check.specs.declared.fault.CheckFault.TheVariants as fault
+use Rattle.cert_claims.specs.text.Grammar.{IsCertificate}
+use Rattle.cert_claims.specs.check.Check.{IsAccepted, IsCheckFault}
+use Rattle.cert_claims.specs.{check.Counts.all_verdicts, check.Verdicts.AreAccepted}
+use Rattle.cert_claims.specs.declared.check.fault.CheckFault.TheVariants as fault
 use Rattle.call_commands.specs.Check.{rejected_pieces}
 use Rattle.call_once.proofs.EachCheck.{each_check}
 use Rattle.call_once.proofs.OneAnswer.{checked_once, good_once}

@@ -1,6 +1,6 @@
 use Rattle.std.proofs.Common.{◌≡◌, ◌<◌, ◌++◌, ℕ, List, length, sym, ◌∙◌, ap, subst, arith}
 use Rattle.model_line.specs.declared.script.Script.{Script}
-use Rattle.cert_check.specs.declared.counts.Counts.{Counts}
+use Rattle.cert_claims.specs.declared.check.counts.Counts.{Counts}
 use Rattle.cert_settle.specs.Grammar.{HasOneEach}
 use Rattle.cert_settle.specs.Text.{part_text}
 use Rattle.cert_settle.specs.Check.{IsAccepted}

@@ -2,7 +2,7 @@ use Rattle.std.proofs.Common.{[]}
 use Rattle.std.proofs.lemmas.List.{append-nil}
 use Rattle.std.proofs.lemmas.Option.{slice_get_within}
 use Rattle.model_line.specs.Fits.{Fits}
-use Rattle.cert_text.specs.Grammar.{HasOneEach}
+use Rattle.cert_claims.specs.text.Grammar.{HasOneEach}
 use Rattle.cert_own.specs.Obligations.{HoldsAsAccepted}
 use Rattle.cert_own.specs.Printed.{HoldsOf}
 use Rattle.cert_own.proofs.CertificateLines.{names_plain, said_there, says_of}

@@ -1,5 +1,5 @@
 use Rattle.model_line.specs.Fits.{Fits}
-use Rattle.cert_text.specs.Text.{certificate_text}
+use Rattle.cert_claims.specs.text.Text.{certificate_text}
 use Rattle.model_history.specs.ZipLaws.{zip_each}
 use Rattle.cert_own.specs.Certified.{IsCertified}
 use Rattle.cert_own.specs.Obligations.{HoldsAsCertified}

@@ -1,6 +1,6 @@
 use Rattle.std.proofs.Common.{subst, List}
-use Rattle.cert_text.specs.{Grammar.Claims, Text.certificate_text}
-use Rattle.cert_check.specs.Counts.{AreCounts, all_verdicts}
+use Rattle.cert_claims.specs.{text.Grammar.Claims, text.Text.certificate_text}
+use Rattle.cert_claims.specs.check.Counts.{AreCounts, all_verdicts}
 use Rattle.cert_own.proofs.Certificates.{is_certificate, no_fault, script_accepted}
 use Rattle.cert_own.proofs.Certificates.{text_accepted, written}
 use Rattle.cert_own.proofs.laws.what_is_certified_is_accepted.Goals as goal

@@ -1,5 +1,5 @@
 use Rattle.std.proofs.Common.{◌≡◌, map, take}
-use Rattle.cert_text.specs.Grammar.{verdict_in}
+use Rattle.cert_claims.specs.text.Grammar.{verdict_in}
 use Rattle.cert_own.specs.Piece.{written_as}
 use Rattle.cert_own.proofs.piece.claims_of.Given as goal
 

@@ -1,4 +1,4 @@
-use Rattle.cert_check.specs.ScriptLaws.{refuses}
+use Rattle.cert_claims.specs.check.ScriptLaws.{refuses}
 use Rattle.cert_settle.specs.Counts.{all_verdicts}
 use Rattle.cert_settle.proofs.OneSettleFault.{of_text_or_script}
 use Rattle.cert_settle.proofs.check_laws.a_fault_refuses_the_settle_text.Goals as goal

@@ -1,4 +1,4 @@
-use Rattle.cert_check.specs.ScriptLaws.{one_fault}
+use Rattle.cert_claims.specs.check.ScriptLaws.{one_fault}
 use Rattle.cert_settle.proofs.OneSettleFault.{of_text_or_script}
 use Rattle.cert_settle.proofs.check_laws.a_settle_text_has_one_first_fault.Goals as goal
 

@@ -1,13 +1,13 @@
 use Rattle.std.proofs.Common.{◌≤◌, ◌<◌, ℕ, List, length, map, take, arith, subst, Vec}
 use Rattle.std.proofs.lemmas.List.{take_all, length-map}
 use Rattle.std.specs.declared.alloc.Global.{Global}
-use Rattle.cert_text.specs.Grammar.{Verdict}
-use Rattle.cert_check.specs.Counts.{Adds, AreCounts, is_yes, is_no, is_undecided}
+use Rattle.cert_claims.specs.text.Grammar.{Verdict}
+use Rattle.cert_claims.specs.check.Counts.{Adds, AreCounts, is_yes, is_no, is_undecided}
 use Rattle.cert_settle.specs.declared.claim.TreeClaim.{TreeClaim}
 use Rattle.cert_settle.specs.{Grammar.SettleResult, Reading.result_in, Reading.results_in}
 use Rattle.cert_settle.specs.Counts.{all_verdicts, CountResults}
-use Rattle.cert_check.specs.ScriptLaws.{each_mapped}
-use Rattle.cert_check.specs.CountLaws.{counts_then, adds_few}
+use Rattle.cert_claims.specs.check.ScriptLaws.{each_mapped}
+use Rattle.cert_claims.specs.check.CountLaws.{counts_then, adds_few}
 use Rattle.cert_settle.proofs.FirstVerdicts.{verdicts_in, parts_more, few_verdicts}
 use Rattle.cert_settle.proofs.counts.counts_of.Goals as goal
 

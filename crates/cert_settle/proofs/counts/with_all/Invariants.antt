@@ -1,5 +1,5 @@
 use Rattle.std.proofs.Common.{take}
-use Rattle.cert_check.specs.Counts.{Adds}
+use Rattle.cert_claims.specs.check.Counts.{Adds}
 use Rattle.cert_settle.proofs.FirstVerdicts.{verdicts_in}
 use Rattle.cert_settle.proofs.counts.with_all.Given as goal
 

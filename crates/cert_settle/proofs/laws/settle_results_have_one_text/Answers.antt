@@ -1,5 +1,5 @@
 use Rattle.base_text.specs.lines.WholeLaws.{same_bytes}
-use Rattle.cert_text.specs.Grammar.{end_text}
+use Rattle.cert_claims.specs.text.Grammar.{end_text}
 use Rattle.cert_settle.specs.Grammar.{script_parts, head_text}
 use Rattle.cert_settle.proofs.StandsLaws.{stands_as}
 use Rattle.cert_settle.proofs.laws.settle_results_have_one_text.Goals as goal

@@ -2,14 +2,14 @@ use Rattle.std.proofs.Common.{◌≡◌, ◌++◌, ◌<◌, ℕ, List, [], lengt
 use Rattle.std.proofs.Common.{arith}
 use Rattle.std.proofs.lemmas.List.{length-map}
 use Rattle.model_line.specs.Parameters.{terminal_count}
-use Rattle.cert_text.specs.{Grammar.script_text, Grammar.terminal_names, Text.fed}
+use Rattle.cert_claims.specs.{text.Grammar.script_text, text.Grammar.terminal_names, text.Text.fed}
 use Rattle.cert_settle.specs.declared.claim.TreeClaim.{TreeClaim}
 use Rattle.cert_settle.specs.{Grammar.tree_text, Text.result_text, Text.trees_text}
 use Rattle.cert_settle.specs.{Reading.result_in}
 use Rattle.cert_settle.specs.Grammar.{IsSettleResult}
 use Rattle.cert_split_text.specs.PairLaws.{pairs_more, pairs_all, two_added}
 use Rattle.cert_settle.proofs.PrintLaws.{tree_lines, trees_both, all_mapped}
-use Rattle.cert_text.specs.NameLaws.{names_count}
+use Rattle.cert_claims.specs.text.NameLaws.{names_count}
 use Rattle.cert_settle.proofs.piece.settle_piece.Goals as goal
 
 pub loop-k-preserved : goal.loop-k-preserved

@@ -4,7 +4,7 @@ use Rattle.std.proofs.lemmas.Result.{err_from_is_err_and}
 use Rattle.cert_settle.specs.declared.claim.TreeClaim.{TreeClaim}
 use Rattle.cert_settle.specs.{Grammar.SettleResult, Grammar.IsSettleResult, Reading.result_in}
 use Rattle.cert_settle.specs.Results.{IsSupported}
-use Rattle.cert_check.specs.ScriptLaws.{each_mapped, slice_mapped, one_more}
+use Rattle.cert_claims.specs.check.ScriptLaws.{each_mapped, slice_mapped, one_more}
 use Rattle.cert_settle.proofs.ResultLaws.{supported_told}
 use Rattle.cert_settle.proofs.result.check_results.Goals as goal
 

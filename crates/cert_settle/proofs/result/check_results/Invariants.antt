@@ -1,6 +1,6 @@
 use Rattle.std.proofs.Common.{map}
 use Rattle.cert_settle.specs.Reading.{result_in}
-use Rattle.cert_check.specs.Firsts.{EachOf}
+use Rattle.cert_claims.specs.check.Firsts.{EachOf}
 use Rattle.cert_settle.specs.Results.{IsSupported}
 use Rattle.cert_settle.proofs.result.check_results.Given as goal
 

@@ -7,7 +7,7 @@ use Rattle.model_timing.specs.{declared.step.Step.Step, Timing.TimingValues, Cho
 use Rattle.run_changes.specs.PlayedTracks.{played, shown_is}
 use Rattle.run_step.specs.{LaneBox.lane_box, Played.ends_of_tick, Runs.AreDelayed}
 use Rattle.run_step.specs.Runs.{IsPoint}
-use Rattle.cert_check.specs.Refutations.{IsMetAt}
+use Rattle.cert_claims.specs.check.Refutations.{IsMetAt}
 use Rattle.cert_settle.specs.Results.{timing_of}
 use Rattle.cert_settle.proofs.TimingFaults.{told_by_one}
 use Rattle.cert_settle.proofs.timing.met_at.Goals as goal

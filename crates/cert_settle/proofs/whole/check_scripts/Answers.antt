@@ -6,7 +6,7 @@ use Rattle.cert_settle.specs.declared.claim.TreeClaim.{TreeClaim}
 use Rattle.cert_settle.specs.{Grammar.HasOneEach, Reading.result_in, Reading.results_in}
 use Rattle.cert_settle.specs.Results.{AreSupported, AreTold, IsFirstFault}
 use Rattle.cert_settle.specs.{declared.fault.ResultFault.ResultFault, Check.IsSettleFault}
-use Rattle.cert_check.specs.ScriptLaws.{each_mapped, script_at, one_script}
+use Rattle.cert_claims.specs.check.ScriptLaws.{each_mapped, script_at, one_script}
 use Rattle.cert_settle.proofs.OneSettleFault.{told}
 use Rattle.cert_settle.proofs.whole.check_scripts.Goals as goal
 

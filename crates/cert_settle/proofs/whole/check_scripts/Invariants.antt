@@ -1,5 +1,5 @@
 use Rattle.std.proofs.Common.{map}
-use Rattle.cert_check.specs.Scripts.{EachBelow}
+use Rattle.cert_claims.specs.check.Scripts.{EachBelow}
 use Rattle.cert_settle.specs.Reading.{results_in}
 use Rattle.cert_settle.specs.Results.{AreSupported, AreTold}
 use Rattle.cert_settle.proofs.whole.check_scripts.Given as goal

@@ -4,7 +4,7 @@ use Rattle.std.specs.declared.alloc.Global.{Global}
 use Rattle.cert_settle.specs.declared.claim.TreeClaim.{TreeClaim}
 use Rattle.cert_settle.specs.{Grammar.IsSettleText, Reading.results_in}
 use Rattle.cert_settle.specs.Results.{AreTold}
-use Rattle.cert_check.specs.ScriptLaws.{each_told}
+use Rattle.cert_claims.specs.check.ScriptLaws.{each_told}
 use Rattle.cert_settle.proofs.whole.check_settle.Goals as goal
 
 pub check_scripts-requires : goal.check_scripts-requires

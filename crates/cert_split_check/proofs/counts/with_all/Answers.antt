@@ -1,10 +1,10 @@
 use Rattle.std.proofs.Common.{◌≤◌, ◌<◌, ◌∷◌, [], ℕ, List, length, take, arith, subst}
 use Rattle.std.proofs.lemmas.List.{take_all}
-use Rattle.cert_text.specs.Grammar.{Verdict}
-use Rattle.cert_check.specs.Counts.{Adds, is_yes, is_no, is_undecided}
+use Rattle.cert_claims.specs.text.Grammar.{Verdict}
+use Rattle.cert_claims.specs.check.Counts.{Adds, is_yes, is_no, is_undecided}
 use Rattle.cert_split_text.specs.{declared.claim.SplitClaim.SplitClaim, Reading.result_in}
 use Rattle.cert_split_check.specs.Counts.{verdict_of}
-use Rattle.cert_check.specs.CountLaws.{adds_then, adds_few}
+use Rattle.cert_claims.specs.check.CountLaws.{adds_then, adds_few}
 use Rattle.cert_split_check.proofs.FirstVerdicts.{verdicts_in, claims_more, few_first}
 use Rattle.cert_split_check.proofs.counts.with_all.Goals as goal
 

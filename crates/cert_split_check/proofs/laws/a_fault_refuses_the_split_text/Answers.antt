@@ -1,4 +1,4 @@
-use Rattle.cert_check.specs.ScriptLaws.{refuses}
+use Rattle.cert_claims.specs.check.ScriptLaws.{refuses}
 use Rattle.cert_split_check.specs.Counts.{all_verdicts}
 use Rattle.cert_split_check.proofs.OneSplitFault.{of_text_or_script}
 use Rattle.cert_split_check.proofs.laws.a_fault_refuses_the_split_text.Goals as goal

@@ -4,7 +4,7 @@ use Rattle.std.proofs.lemmas.Result.{err_from_is_err_and}
 use Rattle.cert_split_text.specs.declared.claim.SplitClaim.{SplitClaim}
 use Rattle.cert_split_text.specs.{Grammar.SplitResult, Grammar.IsSplitResult, Reading.result_in}
 use Rattle.cert_split_check.specs.Results.{IsSupported}
-use Rattle.cert_check.specs.ScriptLaws.{each_mapped, slice_mapped, one_more}
+use Rattle.cert_claims.specs.check.ScriptLaws.{each_mapped, slice_mapped, one_more}
 use Rattle.cert_split_check.proofs.ResultLaws.{supported_told}
 use Rattle.cert_split_check.proofs.result.check_results.Goals as goal
 

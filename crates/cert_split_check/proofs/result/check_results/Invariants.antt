@@ -1,6 +1,6 @@
 use Rattle.std.proofs.Common.{map}
 use Rattle.cert_split_text.specs.Reading.{result_in}
-use Rattle.cert_check.specs.Firsts.{EachOf}
+use Rattle.cert_claims.specs.check.Firsts.{EachOf}
 use Rattle.cert_split_check.specs.Results.{IsSupported}
 use Rattle.cert_split_check.proofs.result.check_results.Given as goal
 

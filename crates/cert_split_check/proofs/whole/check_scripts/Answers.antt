@@ -6,7 +6,7 @@ use Rattle.cert_split_text.specs.declared.claim.SplitClaim.{SplitClaim}
 use Rattle.cert_split_text.specs.{Grammar.HasOneEach, Reading.result_in, Reading.results_in}
 use Rattle.cert_split_check.specs.Results.{AreSupported, AreTold, IsFirstFault}
 use Rattle.cert_split_check.specs.{declared.fault.ResultFault.ResultFault, Check.IsSplitFault}
-use Rattle.cert_check.specs.ScriptLaws.{each_mapped, script_at, one_script}
+use Rattle.cert_claims.specs.check.ScriptLaws.{each_mapped, script_at, one_script}
 use Rattle.cert_split_check.proofs.OneSplitFault.{told}
 use Rattle.cert_split_check.proofs.whole.check_scripts.Goals as goal
 

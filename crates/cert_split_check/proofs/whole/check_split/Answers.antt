@@ -4,7 +4,7 @@ use Rattle.std.specs.declared.alloc.Global.{Global}
 use Rattle.cert_split_text.specs.declared.claim.SplitClaim.{SplitClaim}
 use Rattle.cert_split_text.specs.{Grammar.IsSplitText, Reading.results_in}
 use Rattle.cert_split_check.specs.Results.{AreTold}
-use Rattle.cert_check.specs.ScriptLaws.{each_told}
+use Rattle.cert_claims.specs.check.ScriptLaws.{each_told}
 use Rattle.cert_split_check.proofs.whole.check_split.Goals as goal
 
 pub check_scripts-requires : goal.check_scripts-requires

@@ -1,6 +1,6 @@
 use Rattle.std.proofs.Common.{sym, ◌∙◌}
 use Rattle.base_text.specs.lines.WholeLaws.{one_meaning}
-use Rattle.cert_text.specs.Grammar.{end_text}
+use Rattle.cert_claims.specs.text.Grammar.{end_text}
 use Rattle.cert_split_text.specs.Grammar.{script_parts, head_text}
 use Rattle.cert_split_text.proofs.{SaidLaws.said_tells, StandsLaws.stands_once}
 use Rattle.cert_split_text.proofs.laws.a_split_text_has_one_meaning.Goals as goal

@@ -1,5 +1,5 @@
 use Rattle.base_text.specs.lines.WholeLaws.{leaves_at_one_line, is_no_text}
-use Rattle.cert_text.specs.Grammar.{end_text}
+use Rattle.cert_claims.specs.text.Grammar.{end_text}
 use Rattle.cert_split_text.specs.Grammar.{script_parts, head_text}
 use Rattle.cert_split_text.proofs.{FewLines.leaves_early, StandsLaws.stands_once}
 use Rattle.cert_split_text.proofs.laws.a_split_text_leaves_at_one_line.Goals as goal

@@ -1,13 +1,13 @@
 use Rattle.std.proofs.Common.{◌≡◌, ◌++◌, ◌<◌, ℕ, List, [], length, map, take, get_or, sym, ◌∙◌, ap, refl}
 use Rattle.std.proofs.Common.{arith}
 use Rattle.model_line.specs.Parameters.{terminal_count}
-use Rattle.cert_text.specs.{Grammar.script_text, Grammar.terminal_names, Text.fed}
+use Rattle.cert_claims.specs.{text.Grammar.script_text, text.Grammar.terminal_names, text.Text.fed}
 use Rattle.judge_split.specs.declared.node.Outcome.{Outcome}
 use Rattle.cert_split_text.specs.{Grammar.tree_text, Text.result_text, Text.trees_text}
 use Rattle.cert_split_text.specs.{Piece.written_as}
 use Rattle.cert_split_text.specs.PairLaws.{pairs_more, pairs_all, two_added}
 use Rattle.cert_split_text.proofs.PrintLaws.{tree_lines, trees_both}
-use Rattle.cert_text.specs.NameLaws.{names_count}
+use Rattle.cert_claims.specs.text.NameLaws.{names_count}
 use Rattle.cert_split_text.proofs.piece.split_piece.Goals as goal
 
 pub loop-k-preserved : goal.loop-k-preserved

@@ -1,5 +1,5 @@
 use Rattle.std.proofs.Common.{◌≡◌, ◌++◌, map, take}
-use Rattle.cert_text.specs.{Grammar.script_text, Grammar.terminal_names, Text.fed}
+use Rattle.cert_claims.specs.{text.Grammar.script_text, text.Grammar.terminal_names, text.Text.fed}
 use Rattle.cert_split_text.specs.{Text.trees_text, Piece.written_as}
 use Rattle.cert_split_text.proofs.piece.split_piece.Given as goal
 

@@ -5,7 +5,7 @@ use Rattle.std.proofs.lemmas.Result.{MatchResult-weaker}
 use Rattle.std.specs.List.{flat_map}
 use Rattle.model_line.specs.declared.line.Terminal.{Terminal}
 use Rattle.base_text.specs.{lines.ReadLaws.taken_then, lines.Grammar.Reads, lines.Grammar.IsFault}
-use Rattle.cert_text.specs.Grammar.{script_text, terminal_names}
+use Rattle.cert_claims.specs.text.Grammar.{script_text, terminal_names}
 use Rattle.cert_settle.specs.Grammar.{Place, Said, HasOneEach, grammar_of, tree_places}
 use Rattle.cert_settle.specs.Grammar.{tree_said}
 use Rattle.cert_settle.specs.Reading.{result_in, results_in}

@@ -1,0 +1,84 @@
+use Rattle.std.proofs.Common.{◌≡◌, ℕ, Bool, List, [], Some, length, ap, sym, ◌∙◌, arith, subst}
+use Rattle.std.proofs.lemmas.Option.{slice_get_read}
+use Rattle.std.specs.Prelude.{slice_get, MatchOption}
+use Rattle.model_line.specs.Parameters.{terminal_count}
+use Rattle.model_logic.specs.Histories.{MeetsBy}
+use Rattle.model_timing.specs.{Timing.TimingValues, Choice.timing_choice}
+use Rattle.run_changes.specs.PlayedTracks.{played, shown_is}
+use Rattle.run_step.specs.{LaneBox.lane_box, Played.ends_of_tick, Runs.AreDelayed}
+use Rattle.run_step.specs.Runs.{IsPoint}
+use Rattle.cert_claims.specs.check.Refutations.{steady_timing, choice_of, IsMetAt}
+use Rattle.cert_claims.proofs.check_lemmas.Refutations.{told_by_one}
+use Rattle.cert_claims.proofs.check.refutation.met_at.Goals as goal
+
+pub ticks_of-requires : goal.ticks_of-requires
+ticks_of-requires c = c.requires.inside
+
+pub run_tracks-requires-clause-of_line : goal.run_tracks-requires-clause-of_line
+run_tracks-requires-clause-of_line c = c.requires.of_line
+
+pub run_tracks-requires-clause-spans : goal.run_tracks-requires-clause-spans
+run_tracks-requires-clause-spans c =
+    ap length (c.as_slice.ensures.value ∙ c.in_ok-numbers.ensures) ∙ c.requires.inside.count
+
+pub run_tracks-requires-clause-delayed : goal.run_tracks-requires-clause-delayed
+run_tracks-requires-clause-delayed c =
+    let line = c.args.line.now in
+    let P : List ℕ → Type 0 = λ l. AreDelayed 1 ends_of_tick line l [] in
+    subst P (sym (c.as_slice.ensures.value ∙ c.in_ok-numbers.ensures))
+    (c.a_timing_is_one_choice.ensures.delayed line (steady_timing c.args.values.now) 1
+    c.requires.inside)
+
+pub index-trip-requires : goal.index-trip-requires
+index-trip-requires c =
+    omega (
+      arith,
+      c.requires.terminal,
+      c.requires.of_line.terminals,
+      c.requires.of_line.laws.same,
+      c.in_ok-tracks.ensures.trips.count,
+      c.in_ok-tracks.tracks.trips.ok.0,
+    )
+
+pub met_tick-requires-clause-horizon : goal.met_tick-requires-clause-horizon
+met_tick-requires-clause-horizon c =
+    let track = c.index-trip.result.now in
+    let at : slice_get c.in_ok-tracks.tracks.trips.items c.args.terminal ≡ Some track =
+    slice_get_read c.in_ok-tracks.tracks.trips.items (terminal_count c.args.line.now) c.args.terminal
+    track (sym (c.in_ok-tracks.ensures.trips.count ∙ c.requires.of_line.laws.same
+    ∙ c.requires.of_line.terminals)) c.requires.terminal c.index-trip.ensures in
+    (c.in_ok-tracks.ensures.trips.each c.args.terminal track at).0
+
+pub met_tick-requires-clause-deadline : goal.met_tick-requires-clause-deadline
+met_tick-requires-clause-deadline c =
+    c.deadlines_are_below_the_horizon.ensures c.args.line.now c.args.script.now c.requires.fits
+
+pub returns : goal.returns
+returns c =
+    let line = c.args.line.now in
+    let script = c.args.script.now in
+    let values : List ℕ = c.args.values.now in
+    let timing : TimingValues = steady_timing values in
+    let law = c.a_timing_is_one_choice.ensures in
+    let P : List ℕ → Type 0 = λ l.
+    IsPoint line (lane_box ends_of_tick line l [] 0) (timing_choice line timing) in
+    let exact = c.in_ok-tracks.ensures.exact 0 (timing_choice line timing) (omega arith)
+    (subst P (sym (c.as_slice.ensures.value ∙ c.in_ok-numbers.ensures))
+    (law.point line timing 0 c.requires.inside)) in
+    let trips = c.in_ok-tracks.tracks.trips.items in
+    let track = c.index-trip.result.now in
+    let at : slice_get trips c.args.terminal ≡ Some track =
+    slice_get_read trips (terminal_count line) c.args.terminal track
+    (sym (c.in_ok-tracks.ensures.trips.count ∙ c.requires.of_line.laws.same
+    ∙ c.requires.of_line.terminals)) c.requires.terminal c.index-trip.ensures in
+    let told = subst
+    (λ (u : ℕ → Bool). MatchOption c.met_tick.result
+    (¬ (MeetsBy script.kind script.deadline line.horizon u))
+    (λ t. IsMetAt script.kind script.deadline line.horizon u t))
+    (sym (shown_is trips c.args.terminal track at)) c.met_tick.ensures in
+    told_by_one line script values
+    (λ g h is_g is_h. c.each_choice_has_one_history.ensures.only line script
+    (choice_of line values) g h (law.choice line timing c.requires.inside) is_g is_h)
+    (c.deadlines_are_below_the_horizon.ensures line script c.requires.fits) c.args.terminal c.requires.terminal
+    (played c.in_ok-tracks.tracks.keys.items c.in_ok-tracks.tracks.trips.items) exact.is
+    c.met_tick.result told

@@ -1,0 +1,58 @@
+//! Whether claimed numbers refute an obligation.
+
+ghost use Rattle.std.specs.Prelude.{◌≡◌, ◌<◌, IfOk, MatchOption};
+ghost use Rattle.model_line.specs.{Parameters.terminal_count, Fits.Fits};
+ghost use Rattle.net_gates.specs.NetOf.{IsNetOf};
+ghost use Rattle.model_timing.specs.Inside.{IsTimingInside};
+ghost use Rattle.cert_claims.specs.check.Refutations.{steady_timing, FailsAt, PassesAt};
+
+use crate::check::met::met_tick;
+use model_line::laws::deadlines_are_below_the_horizon;
+use model_line::{Line, Memory, Script};
+use model_logic::laws::each_choice_has_one_history;
+use model_timing::Step;
+use net_gates::Net;
+use run_changes::run_tracks;
+use run_signal::{Level, Tick};
+use run_step::laws::a_timing_is_one_choice;
+use std::alloc::Global;
+
+/// Whether the history at the numbers meets the obligation of a terminal, and the tick that shows
+/// it.
+pub(crate) fn met_at(
+    alloc: Global,
+    line: &Line,
+    net: &Net,
+    script: &Script,
+    terminal: u32,
+    values: &[u32],
+) -> Result<Option<u32>, Memory>
+    requires of_line { IsNetOf line.now net.now }
+    requires fits { Fits line.now script.now }
+    requires terminal { terminal < terminal_count line.now }
+    requires inside { IsTimingInside line.now (steady_timing values.now) }
+    ensures { IfOk result (λ met. MatchOption met
+        (FailsAt line.now script.now terminal values.now)
+        (λ t. PassesAt line.now script.now terminal values.now t)) }
+{
+    a_timing_is_one_choice();
+    each_choice_has_one_history();
+    deadlines_are_below_the_horizon();
+    let numbers = ticks_of(alloc, line, values)?;
+    let steps: [Step<Tick>; 0] = [];
+    let tracks = run_tracks::<Level>(alloc, net, line, script, numbers.as_slice(), &steps)?;
+    let trip = &tracks.trips[terminal as usize];
+    Ok(met_tick(trip, script, line.horizon))
+}
+
+// The numbers as ticks.
+fn ticks_of(alloc: Global, line: &Line, values: &[u32]) -> Result<Vec<Tick>, Memory>
+    requires { IsTimingInside line.now (steady_timing values.now) }
+    ensures { IfOk result (λ ticks. ticks.items ≡ values.now) }
+{
+    let mut ticks = Vec::with_capacity(alloc, values.len())?;
+    for value in values {
+        ticks.push(Tick::new(*value))?;
+    }
+    Ok(ticks)
+}

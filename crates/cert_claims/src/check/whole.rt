@@ -1,0 +1,90 @@
+//! The check of a certificate.
+
+ghost use Rattle.std.specs.Prelude.{◌≡◌, ◌≤◌, ℕ, List, length, map, IfOk, MatchResult};
+ghost use Rattle.std.specs.List.{All};
+ghost use Rattle.model_line.specs.Fits.{Fits};
+ghost use Rattle.net_gates.specs.NetOf.{IsNetOf};
+ghost use Rattle.cert_claims.specs.text.Grammar.{claims_in, IsCertificate, IsCertificateFault};
+ghost use Rattle.cert_claims.specs.text.Text.{CanBeWritten};
+ghost use Rattle.cert_claims.specs.check.Check.{IsAccepted, IsCheckFault, IsSound};
+ghost use Rattle.cert_claims.specs.{check.Scripts.EachBelow, check.Verdicts.AreSound};
+
+use crate::check::counts::{Counts, counts_of};
+use crate::check::fault::{CheckFault, in_script};
+use crate::check::script_check::check_claims;
+use base_text::lines::TextFault;
+use crate::text::{
+    ScriptClaims, a_text_has_one_meaning, a_text_leaves_at_one_line, certificates_can_be_written,
+    read_certificate,
+};
+use model_line::{Line, Script};
+use net_gates::Net;
+use std::alloc::Global;
+
+/// Checks a certificate of the scripts, and counts its verdicts. The error is the first fault: the
+/// first line that leaves the grammar; else, script by script, the first key that does not cover and
+/// then the first verdict that does not stand.
+pub fn check(
+    alloc: Global,
+    line: &Line,
+    net: &Net,
+    scripts: &[Script],
+    cert: &[u8],
+) -> Result<Counts, CheckFault>
+    requires of_line { IsNetOf line.now net.now }
+    requires fits { All (Fits line.now) scripts.now }
+    requires few { length scripts.now ≤ 64 }
+    ensures exact { MatchResult result
+        (λ counts. IsAccepted line.now scripts.now cert.now counts)
+        (λ fault. IsCheckFault line.now scripts.now cert.now fault) }
+    // Whatever the claims are: each history of each choice inside meets what has a `yes`.
+    ensures yes { IfOk result (λ _. IsSound line.now scripts.now cert.now) }
+{
+    certificates_can_be_written();
+    a_text_has_one_meaning();
+    match read_certificate(alloc, line, scripts, cert) {
+        Ok(claims) => check_scripts(alloc, line, net, scripts, claims.as_slice()),
+        Err(fault) => Err(of_text(line, scripts, cert, fault)),
+    }
+}
+
+// The fault of the text. A certificate of these scripts has few lines, so the number fits.
+fn of_text(line: &Line, scripts: &[Script], cert: &[u8], fault: TextFault) -> CheckFault
+    requires few { length scripts.now ≤ 64 }
+    requires leaves { IsCertificateFault line.now scripts.now cert.now fault }
+    ensures { IsCheckFault line.now scripts.now cert.now result }
+{
+    a_text_leaves_at_one_line();
+    match fault {
+        TextFault::Line(number) => CheckFault::Line(number as u32),
+        TextFault::Memory => CheckFault::Memory,
+    }
+}
+
+// Checks what is said of each script, in order.
+fn check_scripts(
+    alloc: Global,
+    line: &Line,
+    net: &Net,
+    scripts: &[Script],
+    claims: &[ScriptClaims],
+) -> Result<Counts, CheckFault>
+    requires of_line { IsNetOf line.now net.now }
+    requires fits { All (Fits line.now) scripts.now }
+    requires few { length scripts.now ≤ 64 }
+    requires many { length claims.now ≡ length scripts.now }
+    requires written { All (CanBeWritten line.now) (map claims_in claims.now) }
+    ensures exact { (bytes : List ℕ) →
+        IsCertificate line.now scripts.now (map claims_in claims.now) bytes → MatchResult result
+        (λ counts. IsAccepted line.now scripts.now bytes counts)
+        (λ fault. IsCheckFault line.now scripts.now bytes fault) }
+    ensures yes { IfOk result (λ _. EachBelow (AreSound line.now) scripts.now
+        (map claims_in claims.now) (length scripts.now)) }
+{
+    for i in 0..scripts.len() {
+        if let Err(fault) = check_claims(alloc, line, net, &scripts[i], &claims[i]) {
+            return Err(in_script(i as u32, fault));
+        }
+    }
+    Ok(counts_of(claims))
+}
