@@ -4,10 +4,10 @@ use Rattle.std.proofs.Common.{get_or, map, false, take, sym, ap, ◌∙◌, subs
 use Rattle.std.proofs.lemmas.List.{append_assoc, append-nil, take_all, take_more}
 use Rattle.model_line.specs.{declared.line.Line.Line, declared.script.Script.Script}
 use Rattle.cert_claims.specs.{text.Grammar.end_text, text.Text.fed}
-use Rattle.cert_split_text.specs.Grammar.{SplitResult, head_text}
-use Rattle.cert_split_text.specs.Text.{part_text, parts_text}
+use Rattle.cert_split.specs.text.Grammar.{SplitResult, head_text}
+use Rattle.cert_split.specs.text.Text.{part_text, parts_text}
 use Rattle.cert_own.specs.Searched.{AllSearched, AreSearched}
-use Rattle.cert_split_check.specs.Counts.{all_verdicts, verdict_of}
+use Rattle.cert_split.specs.check.Counts.{all_verdicts, verdict_of}
 use Rattle.call_commands.specs.{Split.HasSplits, Split.IsSplitOf}
 use Rattle.call_answer.specs.Answers.{status_by}
 use Rattle.call_commands.specs.{Verdicts.IsFoundOf, declared.found.Found.Found}

@@ -1,9 +1,9 @@
 -- The command `recheck`: whether split trees are accepted, with their counts, or their first fault.
 use Rattle.std.specs.Prelude.{◌∷◌, ℕ, List, [], codes, decimal}
 use Rattle.model_line.specs.{declared.line.Line.Line, declared.script.Script.Script}
-use Rattle.cert_split_check.specs.Check.{IsAccepted, IsSplitFault}
-use Rattle.cert_split_check.specs.declared.fault.SplitFault.{SplitFault}
-use Rattle.cert_split_check.specs.declared.fault.SplitFault.TheVariants as fault
+use Rattle.cert_split.specs.check.Check.{IsAccepted, IsSplitFault}
+use Rattle.cert_split.specs.declared.check.fault.SplitFault.{SplitFault}
+use Rattle.cert_split.specs.declared.check.fault.SplitFault.TheVariants as fault
 use Rattle.call_engine.specs.Checked.{line_pieces, outside_pieces, passes_pieces, place}
 use Rattle.call_engine.specs.Checked.{IsCheckedText}
 use Rattle.call_answer.specs.Answers.{Answers}

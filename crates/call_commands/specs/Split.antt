@@ -3,9 +3,9 @@ use Rattle.std.specs.Prelude.{◌≡◌, ◌++◌, ℕ, Bool, List, map}
 use Rattle.model_line.specs.{declared.line.Line.Line, declared.script.Script.Script}
 use Rattle.judge_split.specs.declared.node.Outcome.{Outcome}
 use Rattle.cert_claims.specs.check.Counts.{is_no, is_undecided}
-use Rattle.cert_split_text.specs.{Grammar.SplitResult, Text.part_text, Text.split_text}
-use Rattle.cert_split_text.specs.Piece.{written_as}
-use Rattle.cert_split_check.specs.Counts.{verdict_of, all_verdicts}
+use Rattle.cert_split.specs.{text.Grammar.SplitResult, text.Text.part_text, text.Text.split_text}
+use Rattle.cert_split.specs.text.Piece.{written_as}
+use Rattle.cert_split.specs.check.Counts.{verdict_of, all_verdicts}
 use Rattle.cert_own.specs.Searched.{AllSearched, AreSearched}
 use Rattle.call_commands.specs.{Verdicts.IsFoundOf, Verdicts.verdicts_status}
 use Rattle.call_answer.specs.Answers.{Answers}

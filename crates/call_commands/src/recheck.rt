@@ -1,7 +1,7 @@
 //! The command `recheck`: whether split trees are accepted.
 ghost use Rattle.std.specs.Prelude.{◌≡◌, ◌≢◌, IfOk};
 ghost use Rattle.std.specs.List.{concat};
-ghost use Rattle.cert_split_check.specs.declared.fault.SplitFault.{SplitFault};
+ghost use Rattle.cert_split.specs.declared.check.fault.SplitFault.{SplitFault};
 ghost use Rattle.call_answer.specs.Answers.{Says};
 ghost use Rattle.call_commands.specs.{Recheck.recheck_answer, Recheck.rejected_pieces};
 ghost use Rattle.call_answer.specs.Study.{IsStudy};
@@ -10,7 +10,7 @@ use call_answer::{Said, Study, text_of};
 use call_engine::checked::{
     accepted_text, place, rejected_line, rejected_outside, rejected_passes,
 };
-use cert_split_check::{SplitFault, check_split};
+use cert_split::check::{SplitFault, check_split};
 use itoa::Buffer;
 use model_line::Memory;
 use std::alloc::Global;

@@ -5,8 +5,8 @@ ghost use Rattle.model_line.specs.{Fits.Fits, Parameters.terminal_count};
 ghost use Rattle.net_gates.specs.NetOf.{IsNetOf};
 ghost use Rattle.judge_verdict.specs.OneEach.{OneEach};
 ghost use Rattle.judge_split.specs.Found.{IsFound};
-ghost use Rattle.cert_split_text.specs.Piece.{ArePrintable, written_as};
-ghost use Rattle.cert_split_check.specs.Counts.{verdict_of};
+ghost use Rattle.cert_split.specs.text.Piece.{ArePrintable, written_as};
+ghost use Rattle.cert_split.specs.check.Counts.{verdict_of};
 ghost use Rattle.call_commands.specs.Split.{HasSplits, split_answer, comes_to_no, is_left_open};
 ghost use Rattle.call_commands.specs.Verdicts.{IsFoundOf};
 ghost use Rattle.call_answer.specs.{Answers.Says, Study.IsStudy};
@@ -14,8 +14,8 @@ ghost use Rattle.call_answer.specs.{Answers.Says, Study.IsStudy};
 use crate::found::{Found, NOTHING};
 use call_answer::{Said, Study};
 use cert_own::what_is_searched_grows_by_parts;
-use cert_split_check::is_yes_tree;
-use cert_split_text::{
+use cert_split::check::is_yes_tree;
+use cert_split::text::{
     SPLIT_END, SPLIT_HEAD, a_split_text_grows_by_parts, a_split_text_has_a_head_and_an_end,
     split_piece, what_a_search_finds_can_be_written,
 };

@@ -24,8 +24,8 @@ use Rattle.cert_claims.specs.check.Counts.{is_no, is_undecided, is_yes}
 use Rattle.cert_claims.specs.check.Scripts.{IsAllGood}
 use Rattle.judge_report.specs.{Answer.IsMarginAnswer, Margin.IsUpperEnd, MarginText.margin_line}
 use Rattle.judge_report.specs.declared.upper_end.UpperEnd.{UpperEnd}
-use Rattle.cert_split_text.specs.{Grammar.SplitResult, Text.split_text}
-use Rattle.cert_split_check.specs.Counts.{all_verdicts}
+use Rattle.cert_split.specs.{text.Grammar.SplitResult, text.Text.split_text}
+use Rattle.cert_split.specs.check.Counts.{all_verdicts}
 use Rattle.cert_own.specs.Searched.{AllSearched}
 use Rattle.call_engine.specs.Checked.{IsCheckedText, accepted_pieces}
 use Rattle.call_commands.specs.Margin.{margin_answer}

@@ -17,18 +17,18 @@ use Rattle.judge_split.specs.Leaves.{Splits, lower_half, upper_half}
 use Rattle.judge_split.specs.Trees.{Split, SplitTree, Undecided, Yes}
 use Rattle.judge_split.specs.declared.node.Node.{Node}
 use Rattle.judge_split.specs.declared.node.Node.TheVariants as node
-use Rattle.cert_split_text.specs.Grammar.{HasOneEach, IsSplitResult, IsSplitText, LeavesGrammar}
-use Rattle.cert_split_text.specs.Grammar.{MayStand, Place, Said, SplitResult, Stands, fails, fixed}
-use Rattle.cert_split_text.specs.Grammar.{head_text, node_over, opens, part_places, result_over}
-use Rattle.cert_split_text.specs.Grammar.{says_fails, says_node, says_nothing, script_parts, tree}
-use Rattle.cert_split_text.specs.Grammar.{deepest, tree_places, tree_text}
-use Rattle.cert_split_check.specs.Check.{IsAccepted, IsScriptFault, IsSplitFault}
-use Rattle.cert_split_check.specs.Results.{AreSupported, IsFirstFault}
-use Rattle.cert_split_check.specs.Counts.{all_verdicts}
-use Rattle.cert_split_check.specs.declared.fault.ResultFault.{ResultFault}
-use Rattle.cert_split_check.specs.declared.fault.ResultFault.TheVariants as wrong
-use Rattle.cert_split_check.specs.declared.fault.SplitFault.{SplitFault}
-use Rattle.cert_split_check.specs.declared.fault.SplitFault.TheVariants as fault
+use Rattle.cert_split.specs.text.Grammar.{HasOneEach, IsSplitResult, IsSplitText, LeavesGrammar}
+use Rattle.cert_split.specs.text.Grammar.{MayStand, Place, Said, SplitResult, Stands, fails, fixed}
+use Rattle.cert_split.specs.text.Grammar.{head_text, node_over, opens, part_places, result_over}
+use Rattle.cert_split.specs.text.Grammar.{says_fails, says_node, says_nothing, script_parts, tree}
+use Rattle.cert_split.specs.text.Grammar.{deepest, tree_places, tree_text}
+use Rattle.cert_split.specs.check.Check.{IsAccepted, IsScriptFault, IsSplitFault}
+use Rattle.cert_split.specs.check.Results.{AreSupported, IsFirstFault}
+use Rattle.cert_split.specs.check.Counts.{all_verdicts}
+use Rattle.cert_split.specs.declared.check.fault.ResultFault.{ResultFault}
+use Rattle.cert_split.specs.declared.check.fault.ResultFault.TheVariants as wrong
+use Rattle.cert_split.specs.declared.check.fault.SplitFault.{SplitFault}
+use Rattle.cert_split.specs.declared.check.fault.SplitFault.TheVariants as fault
 use Rattle.cert_claims.specs.declared.check.counts.Counts.{Counts}
 use Rattle.cert_claims.specs.declared.check.no.NoFault.TheVariants as of_no
 use Rattle.call_commands.specs.{Recheck.recheck_answer, Recheck.rejected_pieces}

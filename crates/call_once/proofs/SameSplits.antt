@@ -20,7 +20,7 @@ use Rattle.judge_split.specs.Search.{Fails, Found, IsLower, IsSearch, IsSplitAt,
 use Rattle.judge_split.specs.Search.{IsVerdictOf, Tree, deepest, first_fails, narrow, no}
 use Rattle.judge_split.specs.Search.{second_fails, split, yes}
 use Rattle.judge_split.specs.Widths.{IsNarrow, IsWidest, middle, width}
-use Rattle.cert_split_text.specs.Grammar.{SplitResult}
+use Rattle.cert_split.specs.text.Grammar.{SplitResult}
 use Rattle.cert_own.specs.Searched.{AreSearched}
 use Rattle.call_commands.specs.Split.{split_answer}
 use Rattle.call_answer.specs.declared.done.Done.{Done}

@@ -13,11 +13,11 @@ use Rattle.judge_split.specs.Leaves.{AreSound, CanSplit, leaves}
 use Rattle.judge_split.specs.Leaves.{lower_half, upper_half}
 use Rattle.judge_split.specs.Trees.{Split, SplitTree, Undecided, Yes}
 use Rattle.judge_split.specs.declared.node.Node.{Node}
-use Rattle.cert_split_text.specs.Grammar.{SplitResult, fails, tree}
-use Rattle.cert_split_check.specs.FirstLeaf.{IsFirstNotHeld, IsTreeHeld, IsTreeNotHeld}
-use Rattle.cert_split_check.specs.Results.{AreSupported, IsFaultOf, IsFirstFault, IsSupported}
-use Rattle.cert_split_check.specs.declared.fault.ResultFault.{ResultFault}
-use Rattle.cert_split_check.specs.declared.fault.ResultFault.TheVariants.{Memory, No, NotHeld}
+use Rattle.cert_split.specs.text.Grammar.{SplitResult, fails, tree}
+use Rattle.cert_split.specs.check.FirstLeaf.{IsFirstNotHeld, IsTreeHeld, IsTreeNotHeld}
+use Rattle.cert_split.specs.check.Results.{AreSupported, IsFaultOf, IsFirstFault, IsSupported}
+use Rattle.cert_split.specs.declared.check.fault.ResultFault.{ResultFault}
+use Rattle.cert_split.specs.declared.check.fault.ResultFault.TheVariants.{Memory, No, NotHeld}
 use Rattle.call_pilot.specs.SameFactLaws.{box_same, refuted_by}
 use Rattle.call_once.proofs.{SameFaults.no_fault_on}
 use Rattle.call_pilot.specs.{SameHeldLaws.held_over}

@@ -12,9 +12,9 @@ use Rattle.model_history.specs.ZipLaws.{zip_each}
 use Rattle.cert_claims.specs.declared.check.fault.CheckFault.TheVariants as check_fault
 use Rattle.judge_report.specs.Answer.{IsMarginAnswer}
 use Rattle.judge_report.specs.Margin.{HasNoMargin, IsLostAbove, IsLostAtLeast, IsMargin}
-use Rattle.cert_split_text.specs.{Piece.written_as, Text.split_text}
-use Rattle.cert_split_check.specs.Check as split_check
-use Rattle.cert_split_check.specs.declared.fault.SplitFault.TheVariants as split_fault
+use Rattle.cert_split.specs.{text.Piece.written_as, text.Text.split_text}
+use Rattle.cert_split.specs.check.Check as split_check
+use Rattle.cert_split.specs.declared.check.fault.SplitFault.TheVariants as split_fault
 use Rattle.cert_own.specs.Searched.{AreSearched}
 use Rattle.call_commands.specs.{Margin.IsMarginText, Margin.margin_answer}
 use Rattle.call_engine.specs.Checked.{IsCheckedText}

@@ -4,11 +4,11 @@ use Rattle.std.specs.List.{All, concat}
 use Rattle.model_line.specs.{declared.line.Line.Line, declared.script.Script.Script, Fits.Fits}
 use Rattle.cert_claims.specs.declared.check.counts.Counts.{Counts}
 use Rattle.cert_claims.specs.check.Counts.{are_counts, counts_in}
-use Rattle.cert_split_text.specs.{Grammar.SplitResult, Text.split_text}
-use Rattle.cert_split_check.specs.Check.{IsAccepted, IsSplitFault}
-use Rattle.cert_split_check.specs.Counts.{CountResults, all_verdicts}
-use Rattle.cert_split_check.specs.declared.fault.SplitFault.{SplitFault}
-use Rattle.cert_split_check.specs.declared.fault.SplitFault.TheVariants as fault
+use Rattle.cert_split.specs.{text.Grammar.SplitResult, text.Text.split_text}
+use Rattle.cert_split.specs.check.Check.{IsAccepted, IsSplitFault}
+use Rattle.cert_split.specs.check.Counts.{CountResults, all_verdicts}
+use Rattle.cert_split.specs.declared.check.fault.SplitFault.{SplitFault}
+use Rattle.cert_split.specs.declared.check.fault.SplitFault.TheVariants as fault
 use Rattle.cert_own.specs.Searched.{AllSearched}
 use Rattle.call_commands.specs.{Recheck.recheck_answer, Split.split_answer}
 use Rattle.call_engine.specs.Checked.{accepted_pieces}

@@ -17,10 +17,10 @@ use Rattle.cert_claims.specs.check.Counts.{all_verdicts, is_no, is_undecided}
 use Rattle.cert_own.specs.Certified.{AreCertified}
 use Rattle.run_waves.specs.waves.FirstTick.{first_on}
 use Rattle.judge_report.specs.{Margin.IsHeldTo, Raised.raised}
-use Rattle.cert_split_text.specs.Grammar.{HasOneEach, IsSplitText, SplitResult}
-use Rattle.cert_split_text.specs.Text.{split_text}
-use Rattle.cert_split_check.specs.Check as split_check
-use Rattle.cert_split_check.specs.Results.{AreSupported, AreTold}
+use Rattle.cert_split.specs.text.Grammar.{HasOneEach, IsSplitText, SplitResult}
+use Rattle.cert_split.specs.text.Text.{split_text}
+use Rattle.cert_split.specs.check.Check as split_check
+use Rattle.cert_split.specs.check.Results.{AreSupported, AreTold}
 use Rattle.cert_own.specs.Searched.{AreSearched}
 use Rattle.cert_own.specs.Obligations.{AllMet, HoldsAsAccepted, HoldsAsCertified}
 use Rattle.cert_own.specs.Obligations.{HoldsSomewhere}

@@ -29,8 +29,8 @@ use Rattle.judge_verdict.specs.Verdicts.{PassesAt}
 use Rattle.cert_claims.specs.text.Grammar.{Verdict, no, undecided, yes}
 use Rattle.cert_claims.specs.check.Refutations.{IsRefutation, choice_of, steady_timing}
 use Rattle.judge_report.specs.Raised.{raised}
-use Rattle.cert_split_text.specs.Grammar.{SplitResult, fails, tree}
-use Rattle.cert_split_check.specs.Results.{AreTold, IsTold}
+use Rattle.cert_split.specs.text.Grammar.{SplitResult, fails, tree}
+use Rattle.cert_split.specs.check.Results.{AreTold, IsTold}
 use Rattle.cert_own.specs.Obligations.{HoldsAsAccepted, HoldsAsCertified, IsFailedBySome}
 use Rattle.cert_own.specs.Obligations.{IsUnknown}
 use Rattle.call_pilot.specs.Truths.{IsFailedByAll}

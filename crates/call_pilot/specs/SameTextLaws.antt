@@ -19,10 +19,10 @@ use Rattle.judge_report.specs.declared.upper_end.UpperEnd.{UpperEnd}
 use Rattle.judge_report.specs.MarginText.{greatest_words, lost_words, margin_line}
 use Rattle.judge_split.specs.declared.node.Node.{Node}
 use Rattle.judge_split.specs.declared.node.Node.TheVariants as node
-use Rattle.cert_split_text.specs.Grammar.{SplitResult, fails, head_text, node_text, split_line}
-use Rattle.cert_split_text.specs.Grammar.{tree}
-use Rattle.cert_split_text.specs.Grammar.{tree_text}
-use Rattle.cert_split_text.specs.Text.{part_text, parts_text, result_text, split_text, trees_text}
+use Rattle.cert_split.specs.text.Grammar.{SplitResult, fails, head_text, node_text, split_line}
+use Rattle.cert_split.specs.text.Grammar.{tree}
+use Rattle.cert_split.specs.text.Grammar.{tree_text}
+use Rattle.cert_split.specs.text.Text.{part_text, parts_text, result_text, split_text, trees_text}
 
 pub heads_same : {X : Type 0} (x y : X) (xs ys : List X) → x ∷ xs ≡ y ∷ ys → (x ≡ y) × (xs ≡ ys)
 heads_same x y xs ys same = (cc, cc)

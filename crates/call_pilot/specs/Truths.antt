@@ -12,8 +12,8 @@ use Rattle.judge_report.specs.ReportText.{fields_text, report_header, rule_word}
 use Rattle.judge_report.specs.declared.upper_end.UpperEnd.{UpperEnd}
 use Rattle.judge_report.specs.{Margin.IsUpperEnd, MarginText.margin_line, Raised.raised}
 use Rattle.cert_claims.specs.check.Scripts.{EachBelow}
-use Rattle.cert_split_text.specs.{Grammar.SplitResult, Text.split_text}
-use Rattle.cert_split_check.specs.Results.{AreTold}
+use Rattle.cert_split.specs.{text.Grammar.SplitResult, text.Text.split_text}
+use Rattle.cert_split.specs.check.Results.{AreTold}
 use Rattle.cert_own.specs.Obligations.{AllMet, HoldsSomewhere, IsFailedBySome, IsMetByAll}
 use Rattle.cert_own.specs.Obligations.{IsUnknown}
 use Rattle.call_files.specs.declared.stop.Status.{Status}

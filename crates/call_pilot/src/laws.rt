@@ -7,7 +7,7 @@ ghost use Rattle.file_line.specs.Lines.{line_values};
 ghost use Rattle.file_tables.specs.{script.Scripts.scripts_of, script.Values.values_of};
 ghost use Rattle.cert_own.specs.Obligations.{IsFailedBy, IsMetByAll, IsUnknown};
 ghost use Rattle.cert_claims.specs.check.Counts.{all_verdicts};
-ghost use Rattle.cert_split_check.specs.Counts.{all_verdicts as all_split_verdicts};
+ghost use Rattle.cert_split.specs.check.Counts.{all_verdicts as all_split_verdicts};
 ghost use Rattle.call_commands.specs.{Certify.certify_answer, Check.check_answer};
 ghost use Rattle.call_commands.specs.{Recheck.recheck_answer, Split.split_answer};
 ghost use Rattle.call_answer.specs.declared.done.Done.{Done};
@@ -18,8 +18,8 @@ use cert_own::{
     what_is_accepted_is_true, what_is_certified_is_accepted, what_is_certified_is_true,
     what_is_searched_is_accepted,
 };
-use cert_split_check::accepted_split_trees_are_so;
-use cert_split_text::{printed_results_are_a_split_text, split_results_have_one_text};
+use cert_split::check::accepted_split_trees_are_so;
+use cert_split::text::{printed_results_are_a_split_text, split_results_have_one_text};
 use file_tables::script::a_file_says_scripts_of_one_file;
 use judge_report::what_is_held_to_a_number_is_met;
 use model_line::laws::{counts_do_not_rest_on_the_intervals, deadlines_are_below_the_horizon};

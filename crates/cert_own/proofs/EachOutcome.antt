@@ -14,7 +14,7 @@ use Rattle.judge_split.specs.declared.node.Outcome.TheVariants as outcome
 use Rattle.judge_split.specs.Trees.{SplitTree, Yes, Undecided, Split, preorder, height}
 use Rattle.judge_split.specs.{Search.Found, Search.Tree, Search.Fails, Search.IsSearch}
 use Rattle.judge_split.specs.Found.{IsFound}
-use Rattle.cert_split_text.specs.{Grammar.SplitResult, Piece.written_as}
+use Rattle.cert_split.specs.{text.Grammar.SplitResult, text.Piece.written_as}
 use Rattle.cert_own.specs.{Known.BoxesKnown, Searched.AreSearched, Searched.AllSearched}
 use Rattle.cert_own.proofs.EachSearch.{each_search}
 

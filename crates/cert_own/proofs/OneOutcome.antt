@@ -8,8 +8,8 @@ use Rattle.model_history.specs.ZipLaws.{zip_once}
 use Rattle.judge_split.specs.declared.node.Outcome.{Outcome}
 use Rattle.judge_split.specs.declared.node.Outcome.TheVariants as outcome
 use Rattle.judge_split.specs.{Trees.preorder, Search.Tree, Search.Fails, Found.IsFound}
-use Rattle.cert_split_text.specs.{Grammar.SplitResult, Grammar.tree, Grammar.fails}
-use Rattle.cert_split_text.specs.{Piece.written_as}
+use Rattle.cert_split.specs.{text.Grammar.SplitResult, text.Grammar.tree, text.Grammar.fails}
+use Rattle.cert_split.specs.{text.Piece.written_as}
 use Rattle.cert_own.specs.{Known.LinesKnown, Searched.AreSearched, Searched.AllSearched}
 use Rattle.cert_own.proofs.OneSearch.{search_once}
 

@@ -6,12 +6,12 @@ use Rattle.model_line.specs.{declared.line.Line.Line, declared.script.Script.Scr
 use Rattle.cert_claims.specs.declared.check.counts.Counts.{Counts}
 use Rattle.cert_claims.specs.check.Counts.{counts_in, are_counts}
 use Rattle.model_history.specs.ZipLaws.{zip_all, zip_each}
-use Rattle.cert_split_text.specs.Grammar.{SplitResult, HasOneEach, IsSplitText}
-use Rattle.cert_split_text.specs.Text.{split_text}
-use Rattle.cert_split_check.specs.declared.fault.SplitFault.{SplitFault}
-use Rattle.cert_split_check.specs.declared.fault.SplitFault.TheVariants as wrong
-use Rattle.cert_split_check.specs.Check.{IsAccepted, IsSplitFault}
-use Rattle.cert_split_check.specs.{Counts.CountResults, Counts.all_verdicts, Results.AreSupported}
+use Rattle.cert_split.specs.text.Grammar.{SplitResult, HasOneEach, IsSplitText}
+use Rattle.cert_split.specs.text.Text.{split_text}
+use Rattle.cert_split.specs.declared.check.fault.SplitFault.{SplitFault}
+use Rattle.cert_split.specs.declared.check.fault.SplitFault.TheVariants as wrong
+use Rattle.cert_split.specs.check.Check.{IsAccepted, IsSplitFault}
+use Rattle.cert_split.specs.{check.Counts.CountResults, check.Counts.all_verdicts, check.Results.AreSupported}
 use Rattle.cert_own.specs.Searched.{AreSearched, AllSearched}
 use Rattle.cert_own.proofs.Supported.{Known, one_each, supported}
 

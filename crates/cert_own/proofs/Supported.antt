@@ -14,9 +14,9 @@ use Rattle.judge_split.specs.declared.node.Outcome.{Outcome}
 use Rattle.judge_split.specs.declared.node.Outcome.TheVariants as outcome
 use Rattle.judge_split.specs.Search.{Tree, Fails, IsSearch}
 use Rattle.judge_split.specs.{Trees.SplitTree, Found.IsFound, Leaves.AreSound}
-use Rattle.cert_split_text.specs.Grammar.{SplitResult, IsSplitResult, HasOneEach}
-use Rattle.cert_split_text.specs.Piece.{IsPrintable, written_as}
-use Rattle.cert_split_check.specs.Results.{IsSupported, AreSupported}
+use Rattle.cert_split.specs.text.Grammar.{SplitResult, IsSplitResult, HasOneEach}
+use Rattle.cert_split.specs.text.Piece.{IsPrintable, written_as}
+use Rattle.cert_split.specs.check.Results.{IsSupported, AreSupported}
 use Rattle.cert_own.specs.Searched.{AreSearched}
 
 -- the laws of searches below

@@ -5,7 +5,7 @@ use Rattle.model_line.specs.{declared.line.Line.Line, declared.script.Script.Scr
 use Rattle.model_line.specs.Parameters.{terminal_count}
 use Rattle.judge_verdict.specs.OneEach.{OneEach}
 use Rattle.judge_split.specs.{declared.node.Outcome.Outcome, Found.IsFound}
-use Rattle.cert_split_text.specs.{Grammar.SplitResult, Piece.written_as}
+use Rattle.cert_split.specs.{text.Grammar.SplitResult, text.Piece.written_as}
 
 -- the results are the outcomes of the searches to depth n, one for each terminal, as they are
 -- written

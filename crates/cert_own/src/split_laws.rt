@@ -7,15 +7,15 @@ ghost use Rattle.model_line.specs.{Fits.Fits, Parameters.terminal_count};
 ghost use Rattle.cert_claims.specs.declared.check.counts.Counts.{Counts};
 ghost use Rattle.judge_split.specs.declared.node.Outcome.{Outcome};
 ghost use Rattle.judge_split.specs.{Found.IsFound, Search.Found, Search.IsSearch};
-ghost use Rattle.cert_split_text.specs.Grammar.{SplitResult, HasOneEach, IsSplitText};
-ghost use Rattle.cert_split_text.specs.{Piece.written_as, Text.split_text};
-ghost use Rattle.cert_split_check.specs.declared.fault.SplitFault.{SplitFault};
-ghost use Rattle.cert_split_check.specs.Check.{IsAccepted, IsSplitFault};
-ghost use Rattle.cert_split_check.specs.{Counts.CountResults, Results.AreSupported};
+ghost use Rattle.cert_split.specs.text.Grammar.{SplitResult, HasOneEach, IsSplitText};
+ghost use Rattle.cert_split.specs.{text.Piece.written_as, text.Text.split_text};
+ghost use Rattle.cert_split.specs.declared.check.fault.SplitFault.{SplitFault};
+ghost use Rattle.cert_split.specs.check.Check.{IsAccepted, IsSplitFault};
+ghost use Rattle.cert_split.specs.{check.Counts.CountResults, check.Results.AreSupported};
 ghost use Rattle.cert_own.specs.Searched.{AreSearched, AllSearched};
 
-use cert_split_check::a_fault_refuses_the_split_text;
-use cert_split_text::{
+use cert_split::check::a_fault_refuses_the_split_text;
+use cert_split::text::{
     a_split_text_has_one_meaning, printed_results_are_a_split_text,
     what_a_search_finds_can_be_written,
 };

@@ -11,7 +11,7 @@ use Rattle.base_text.specs.lines.Named.{named}
 use Rattle.cert_settle.specs.Known.{Known}
 use Rattle.cert_settle.specs.Grammar.{name_of_terminal, step_line, step_text}
 use Rattle.cert_settle.proofs.NumberLaws.{IsSpace, IsAt, no_space, no_at, one_number}
-use Rattle.cert_split_text.specs.StretchLaws.{backs_tell, fronts_tell, Unmarked}
+use Rattle.cert_split.specs.text.StretchLaws.{backs_tell, fronts_tell, Unmarked}
 
 -- a line of a word, a name and a number tells the name and the number
 pub one_named : (word name other : List ℕ) (n m : ℕ) → n < 2 ^ 32 → m < 2 ^ 32

@@ -7,7 +7,7 @@ use Rattle.std.specs.List.{list_all, position_or_len}
 use Rattle.model_names.specs.ParamNamesApart.{has_no}
 use Rattle.base_text.specs.{store.Number.is_digit, store.DecimalLaws.are_digits}
 use Rattle.base_text.specs.lines.LineLaws.{both_true}
-use Rattle.cert_split_text.specs.StretchLaws.{Unmarked}
+use Rattle.cert_split.specs.text.StretchLaws.{Unmarked}
 
 abbrev pub IsSpace : ℕ → Type 0
 IsSpace byte = byte ≡ 32

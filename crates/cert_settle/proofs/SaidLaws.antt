@@ -7,7 +7,7 @@ use Rattle.judge_cases.specs.declared.node.CaseNode.{CaseNode}
 use Rattle.cert_settle.specs.Grammar.{SettleResult, tree, fails, HasOneEach, Said, says_nothing}
 use Rattle.cert_settle.specs.Grammar.{says_step, says_no, says_node, result_said}
 use Rattle.cert_settle.specs.Grammar.{part_said}
-use Rattle.cert_split_text.specs.{StretchLaws.Unmarked, ToldLaws.parts_told}
+use Rattle.cert_split.specs.{text.StretchLaws.Unmarked, text.ToldLaws.parts_told}
 
 -- a line that says nothing begins the lines of a script or a terminal
 abbrev IsMark : Said → Type 0

@@ -4,10 +4,10 @@ use Rattle.model_line.specs.{declared.line.Line.Line}
 use Rattle.judge_split.specs.declared.node.Node.{Node}
 use Rattle.judge_split.specs.declared.node.Node.TheVariants as split
 use Rattle.cert_claims.specs.{text.Text.fed}
-use Rattle.cert_split_text.specs.Grammar.{SplitResult, tree, fails, node_text as split_node_text}
-use Rattle.cert_split_text.specs.Text.{nodes_text as split_nodes_text}
-use Rattle.cert_split_text.specs.Text.{result_text as split_result_text}
-use Rattle.cert_split_text.specs.Text.{trees_text as split_trees_text}
+use Rattle.cert_split.specs.text.Grammar.{SplitResult, tree, fails, node_text as split_node_text}
+use Rattle.cert_split.specs.text.Text.{nodes_text as split_nodes_text}
+use Rattle.cert_split.specs.text.Text.{result_text as split_result_text}
+use Rattle.cert_split.specs.text.Text.{trees_text as split_trees_text}
 use Rattle.cert_settle.specs.Text.{nodes_text, result_text, trees_text}
 use Rattle.cert_settle.specs.Grammar.{node_text, tree_text}
 use Rattle.cert_settle.specs.OfSplits.{as_case_node, as_settled}

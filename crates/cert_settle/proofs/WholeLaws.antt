@@ -14,7 +14,7 @@ use Rattle.judge_cases.specs.declared.node.CaseNode.{CaseNode}
 use Rattle.judge_cases.specs.declared.node.CaseNode.TheVariants as node
 use Rattle.cert_settle.specs.Known.{Known}
 use Rattle.cert_settle.specs.Grammar.{node_text, step_text, name_of_terminal}
-use Rattle.cert_split_text.specs.NameLaws.{IsLineUpTo, param_stands, terminals_stand}
+use Rattle.cert_split.specs.text.NameLaws.{IsLineUpTo, param_stands, terminals_stand}
 use Rattle.cert_settle.proofs.{StandsLaws.IsOfLine, LineLaws.step_small}
 
 name_in : (names : List (List ℕ)) (k : ℕ) → All (IsLineUpTo 16) names

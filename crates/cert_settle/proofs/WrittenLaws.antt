@@ -38,9 +38,9 @@ use Rattle.cert_settle.specs.Grammar.{tree_said, part_said, IsSettleText}
 use Rattle.cert_settle.specs.{Known.Known, Text.nodes_text, Text.result_text, Text.trees_text}
 use Rattle.cert_settle.specs.{Text.part_text, Text.parts_text, Text.settle_text}
 use Rattle.cert_settle.specs.{Text.steps_text}
-use Rattle.cert_split_text.specs.NameLaws.{IsLineUpTo, name_stands, terminals_stand}
+use Rattle.cert_split.specs.text.NameLaws.{IsLineUpTo, name_stands, terminals_stand}
 use Rattle.cert_claims.specs.{text.NameLaws.names_count, text.NumberLaws.numbers_whole}
-use Rattle.cert_split_text.specs.PairLaws.{stand_one, stand_headed, pairs_stand}
+use Rattle.cert_split.specs.text.PairLaws.{stand_one, stand_headed, pairs_stand}
 use Rattle.cert_settle.proofs.PrintLaws.{tree_lines, trees_both}
 use Rattle.cert_settle.proofs.{WholeLaws.node_whole, WholeLaws.step_whole, StandsLaws.of_line}
 

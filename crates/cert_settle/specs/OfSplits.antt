@@ -2,8 +2,8 @@
 use Rattle.std.specs.Prelude.{[], map}
 use Rattle.judge_split.specs.declared.node.Node.{Node}
 use Rattle.judge_split.specs.declared.node.Node.TheVariants as split
-use Rattle.cert_split_text.specs.Grammar.{SplitResult}
-use Rattle.cert_split_text.specs.Grammar.SplitResult.{tree as split_tree, fails as split_fails}
+use Rattle.cert_split.specs.text.Grammar.{SplitResult}
+use Rattle.cert_split.specs.text.Grammar.SplitResult.{tree as split_tree, fails as split_fails}
 use Rattle.judge_cases.specs.declared.node.CaseNode.{CaseNode}
 use Rattle.judge_cases.specs.declared.node.CaseNode.TheVariants as node
 use Rattle.cert_settle.specs.Grammar.{SettleResult, tree, fails}

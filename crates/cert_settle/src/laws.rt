@@ -4,8 +4,8 @@ ghost use Rattle.std.specs.Prelude.{◌≡◌, ◌++◌, [], ◌∷◌, ℕ, Lis
 ghost use Rattle.std.specs.List.{All};
 ghost use Rattle.model_line.specs.{declared.script.Script.Script, declared.line.Line.Line};
 ghost use Rattle.model_line.specs.{Fits.Fits};
-ghost use Rattle.cert_split_text.specs.Grammar.{SplitResult};
-ghost use Rattle.cert_split_text.specs.Text.{part_text as split_part_text};
+ghost use Rattle.cert_split.specs.text.Grammar.{SplitResult};
+ghost use Rattle.cert_split.specs.text.Text.{part_text as split_part_text};
 ghost use Rattle.cert_settle.specs.Grammar.{SettleResult, HasOneEach, IsSettleText};
 ghost use Rattle.cert_settle.specs.Grammar.{LeavesGrammar};
 ghost use Rattle.cert_settle.specs.Text.{part_text, parts_text, settle_text};

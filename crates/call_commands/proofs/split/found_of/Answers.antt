@@ -1,7 +1,7 @@
 use Rattle.std.proofs.Common.{map, ◌∙◌}
 use Rattle.cert_claims.specs.check.Counts.{is_no, is_undecided}
-use Rattle.cert_split_text.specs.Piece.{written_as}
-use Rattle.cert_split_check.specs.Counts.{verdict_of}
+use Rattle.cert_split.specs.text.Piece.{written_as}
+use Rattle.cert_split.specs.check.Counts.{verdict_of}
 use Rattle.call_commands.specs.Split.{comes_to_no, is_left_open}
 use Rattle.call_commands.proofs.Verdicts.{any_map}
 use Rattle.call_commands.proofs.split.found_of.Goals as goal

@@ -1,7 +1,7 @@
 use Rattle.std.specs.List.{All}
 use Rattle.judge_verdict.specs.OneEach.{OneEach}
 use Rattle.judge_split.specs.Found.{IsFound}
-use Rattle.cert_split_text.specs.Piece.{IsPrintable}
+use Rattle.cert_split.specs.text.Piece.{IsPrintable}
 use Rattle.call_commands.proofs.split.outcomes.Given as goal
 
 abbrev pub invariant-loop-k : goal.invariant-loop-k

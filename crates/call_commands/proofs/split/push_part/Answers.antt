@@ -1,5 +1,5 @@
 use Rattle.std.proofs.Common.{◌++◌, map, refl, ap, ◌∙◌}
-use Rattle.cert_split_text.specs.{Piece.written_as, Text.part_text}
+use Rattle.cert_split.specs.{text.Piece.written_as, text.Text.part_text}
 use Rattle.call_commands.proofs.split.push_part.Goals as goal
 
 pub returns : goal.returns

@@ -1,7 +1,7 @@
-use Rattle.cert_split_text.specs.Grammar.{IsSplitText}
-use Rattle.cert_split_check.specs.Check.{IsAccepted, IsSplitFault}
-use Rattle.cert_split_check.specs.{Counts.all_verdicts, Results.AreSupported}
-use Rattle.cert_split_check.specs.declared.fault.SplitFault.TheVariants as fault
+use Rattle.cert_split.specs.text.Grammar.{IsSplitText}
+use Rattle.cert_split.specs.check.Check.{IsAccepted, IsSplitFault}
+use Rattle.cert_split.specs.{check.Counts.all_verdicts, check.Results.AreSupported}
+use Rattle.cert_split.specs.declared.check.fault.SplitFault.TheVariants as fault
 use Rattle.call_commands.specs.Recheck.{rejected_pieces}
 use Rattle.call_once.proofs.OneAnswer.{checked_once, good_once}
 use Rattle.call_once.proofs.one_answer.each_recheck_has_one_answer.Goals as goal

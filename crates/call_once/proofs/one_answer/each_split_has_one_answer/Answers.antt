@@ -1,6 +1,6 @@
 use Rattle.std.proofs.Common.{refl}
-use Rattle.cert_split_check.specs.Counts.{all_verdicts}
-use Rattle.cert_split_text.specs.Text.{split_text}
+use Rattle.cert_split.specs.check.Counts.{all_verdicts}
+use Rattle.cert_split.specs.text.Text.{split_text}
 use Rattle.call_commands.specs.Verdicts.{verdicts_status}
 use Rattle.call_once.proofs.OneAnswer.{split_once}
 use Rattle.call_once.proofs.one_answer.each_split_has_one_answer.Goals as goal

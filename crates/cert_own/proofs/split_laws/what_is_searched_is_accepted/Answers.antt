@@ -1,6 +1,6 @@
 use Rattle.std.proofs.Common.{◌≡◌, List, subst}
-use Rattle.cert_split_text.specs.Grammar.{SplitResult}
-use Rattle.cert_split_check.specs.Counts.{CountResults}
+use Rattle.cert_split.specs.text.Grammar.{SplitResult}
+use Rattle.cert_split.specs.check.Counts.{CountResults}
 use Rattle.cert_own.proofs.Supported.{Known, one_each, supported}
 use Rattle.cert_own.proofs.Splits.{is_split_text, text_accepted, no_fault}
 use Rattle.cert_own.proofs.split_laws.what_is_searched_is_accepted.Goals as goal

@@ -1,5 +1,5 @@
 use Rattle.std.proofs.Common.{refl, sym}
-use Rattle.cert_split_text.specs.PairLaws.{pairs_push}
+use Rattle.cert_split.specs.text.PairLaws.{pairs_push}
 use Rattle.cert_settle.specs.Text.{part_text, parts_text}
 use Rattle.cert_settle.proofs.laws.a_settle_text_grows_by_parts.Goals as goal
 

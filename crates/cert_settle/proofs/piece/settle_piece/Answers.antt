@@ -7,7 +7,7 @@ use Rattle.cert_settle.specs.declared.claim.TreeClaim.{TreeClaim}
 use Rattle.cert_settle.specs.{Grammar.tree_text, Text.result_text, Text.trees_text}
 use Rattle.cert_settle.specs.{Reading.result_in}
 use Rattle.cert_settle.specs.Grammar.{IsSettleResult}
-use Rattle.cert_split_text.specs.PairLaws.{pairs_more, pairs_all, two_added}
+use Rattle.cert_split.specs.text.PairLaws.{pairs_more, pairs_all, two_added}
 use Rattle.cert_settle.proofs.PrintLaws.{tree_lines, trees_both, all_mapped}
 use Rattle.cert_claims.specs.text.NameLaws.{names_count}
 use Rattle.cert_settle.proofs.piece.settle_piece.Goals as goal

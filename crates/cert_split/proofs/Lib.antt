@@ -1,0 +1,2 @@
+pub mod check_lemmas
+pub mod text_lemmas

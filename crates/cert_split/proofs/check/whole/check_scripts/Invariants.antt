@@ -1,0 +1,11 @@
+use Rattle.std.proofs.Common.{map}
+use Rattle.cert_claims.specs.check.Scripts.{EachBelow}
+use Rattle.cert_split.specs.text.Reading.{results_in}
+use Rattle.cert_split.specs.check.Results.{AreSupported, AreTold}
+use Rattle.cert_split.proofs.check.whole.check_scripts.Given as goal
+
+abbrev pub invariant-loop-i : goal.invariant-loop-i
+invariant-loop-i l = record {
+  supported : EachBelow (AreSupported l.line) l.scripts (map results_in l.parts) l.i;
+  told : EachBelow (AreTold l.line) l.scripts (map results_in l.parts) l.i;
+}

@@ -1,0 +1,92 @@
+-- What a result is, from what was found of it.
+use Rattle.std.proofs.Common.{◌≡◌, ◌<◌, ◌≤◌, ◌+◌, ◌^◌, ◌&&◌, ℕ, zero, suc, Bool, List, length, refl}
+use Rattle.std.proofs.Common.{sym, ◌∙◌, ap, subst, arith, length-append, IsTrue}
+use Rattle.std.proofs.lemmas.List.Folds.{list_all-append}
+use Rattle.std.specs.List.{list_all}
+use Rattle.model_line.specs.{declared.line.Line.Line, declared.script.Script.Script}
+use Rattle.model_line.specs.Parameters.{terminal_count}
+use Rattle.model_logic.specs.Choice.{Box, Choice, IsWithin, LeastFromOne, declared_box}
+use Rattle.model_logic.specs.Histories.{History, IsLineHistory, Meets}
+use Rattle.judge_split.specs.Trees.{SplitTree, Yes, Undecided, Split, preorder, height, are_yes}
+use Rattle.judge_split.specs.Trees.{is_decided}
+use Rattle.judge_split.specs.{declared.node.Node.Node, Leaves.leaves, Leaves.AreSound}
+use Rattle.cert_split.specs.text.Grammar.{SplitResult, tree, fails, AreTree}
+use Rattle.cert_split.specs.declared.check.fault.ResultFault.{ResultFault}
+use Rattle.cert_split.specs.declared.check.fault.ResultFault.TheVariants as wrong
+use Rattle.cert_split.specs.check.Results.{IsSupported, IsTold, IsTreeFault}
+use Rattle.cert_split.specs.{check.FirstLeaf.IsFirstNotHeld, check.Walks.IsWalkFault}
+
+-- ---- few nodes
+
+abbrev full : ℕ → ℕ
+full zero = 1
+full (suc n) = full n + full n + 1
+
+some_node : (n : ℕ) → 1 ≤ full n
+some_node zero = omega arith
+some_node (suc n) = omega arith
+
+nodes_few : (t : SplitTree) (n : ℕ) → height t ≤ n → length (preorder t) ≤ full n
+nodes_few Yes n low = some_node n
+nodes_few Undecided n low = some_node n
+nodes_few (Split param mid first second) zero low = absurd (omega (arith, low))
+nodes_few (Split param mid first second) (suc n) low =
+    let a : height first ≤ n = grind arith in
+    let b : height second ≤ n = grind arith in
+    omega (
+      arith,
+      nodes_few first n a,
+      nodes_few second n b,
+      length-append (preorder first)
+          (preorder second),
+    )
+
+-- a tree of the grammar has few nodes
+pub tree_few : (line : Line) (nodes : List Node) → AreTree line nodes → length nodes < 2 ^ 32
+tree_few line nodes are =
+    let most : full 8 ≡ 511 = refl in
+    omega (arith, most, ap length are.are, nodes_few are.tree 8 are.low)
+
+-- ---- a whole tree
+
+pub whole_fault : (line : Line) (script : Script) (k : ℕ) (nodes : List Node) (t : SplitTree)
+    (f : ResultFault) → nodes ≡ preorder t
+    → IsWalkFault line script k (declared_box line) t 0 f → IsTreeFault line script k nodes f
+whole_fault line script k nodes t (wrong.NotHeld j n) are h =
+    let place : h.1.place ≡ n = omega (arith, h.1.is) in (
+      h.0,
+      record {
+        tree = t;
+        are = are;
+        first = subst (λ (m : ℕ). IsFirstNotHeld line script k (leaves (declared_box line) t) m)
+            place h.1.leaf;
+      },
+    )
+whole_fault line script k nodes t (wrong.No j fault) are h = absurd h
+whole_fault line script k nodes t wrong.Memory are h = tt
+
+-- ---- what is supported is so
+
+decided_yes : (t : SplitTree) → list_all is_decided (preorder t) ≡ are_yes t
+decided_yes Yes = refl
+decided_yes Undecided = refl
+decided_yes (Split param mid first second) =
+    list_all-append is_decided (preorder first) (preorder second)
+    ∙ ap (λ (b : Bool). b && list_all is_decided (preorder second)) (decided_yes first)
+    ∙ ap (λ (b : Bool). are_yes first && b) (decided_yes second)
+
+-- what a sound tree with yes leaves alone says
+abbrev pub Speaks : Type 0
+Speaks = (line : Line) (script : Script) (k : ℕ) (box : Box) (t : SplitTree)
+    → script.deadline < line.horizon → k < terminal_count line → LeastFromOne line box
+    → AreSound line script k box t → IsTrue (are_yes t) → (choice : Choice) (h : History)
+    → IsWithin line choice box → IsLineHistory line script choice h → Meets line script k h
+
+pub supported_told : Speaks → (line : Line) (script : Script) (k : ℕ) (result : SplitResult)
+    → script.deadline < line.horizon → k < terminal_count line
+    → LeastFromOne line (declared_box line) → IsSupported line script k result
+    → IsTold line script k result
+supported_told speaks line script k (tree nodes) early there least held = λ yes.
+    speaks line script k (declared_box line) held.tree early there least held.sound
+    (sym (ap (list_all is_decided) held.are ∙ decided_yes held.tree) ∙ yes)
+supported_told speaks line script k (fails values) early there least refuted = refuted

@@ -1,0 +1,86 @@
+//! What can be wrong with a text of split trees.
+
+ghost use Rattle.std.specs.Prelude.{◌≡◌};
+ghost use Rattle.cert_split.specs.check.Check.{fault_in};
+
+use cert_claims::check::NoFault;
+use model_line::Memory;
+
+/// What is wrong with a script's result at a terminal.
+#[derive(Clone, Copy)]
+pub enum ResultFault {
+    /// A `yes` of the tree whose rule is not held over the leaf's part of the box. Leaves are
+    /// numbered from 0 in the order of the text, whatever they say.
+    NotHeld { terminal: u32, leaf: u32 },
+    /// The numbers of a `no` do not refute its obligation.
+    No { terminal: u32, fault: NoFault },
+    /// Memory ran out. Nothing else is answered by it.
+    Memory,
+}
+
+impl From<Memory> for ResultFault {
+    ghost use Rattle.cert_split.specs.declared.check.fault.ResultFault.{ResultFault};
+
+    ghost from_gives = { λ _ fault. fault ≡ ResultFault.Memory };
+
+    fn from(_memory: Memory) -> ResultFault {
+        ResultFault::Memory
+    }
+}
+
+/// The first fault of a text of split trees: of the text itself, else of the first script one of
+/// whose results does not stand. Scripts and terminals are told by their places.
+#[derive(Clone, Copy)]
+pub enum SplitFault {
+    /// The first line, counted from 1, that leaves the grammar.
+    Line(u32),
+    /// A `yes` of a tree whose rule is not held over the leaf's part of the box. Leaves are numbered
+    /// from 0 in the order of the text, whatever they say.
+    NotHeld {
+        script: u32,
+        terminal: u32,
+        leaf: u32,
+    },
+    /// A `no` has a parameter's number outside its interval.
+    Outside {
+        script: u32,
+        terminal: u32,
+        param: u32,
+        value: u32,
+    },
+    /// A `no` has numbers whose history meets the obligation, as this tick shows.
+    Passes {
+        script: u32,
+        terminal: u32,
+        tick: u32,
+    },
+    /// Memory ran out. Nothing else is answered by it.
+    Memory,
+}
+
+/// The fault of a script's results, told with the script.
+pub(crate) fn in_script(script: u32, fault: ResultFault) -> SplitFault
+    ensures { result ≡ fault_in script fault }
+{
+    match fault {
+        ResultFault::NotHeld { terminal, leaf } => SplitFault::NotHeld {
+            script,
+            terminal,
+            leaf,
+        },
+        ResultFault::No { terminal, fault } => match fault {
+            NoFault::Outside { param, value } => SplitFault::Outside {
+                script,
+                terminal,
+                param,
+                value,
+            },
+            NoFault::Passes { tick } => SplitFault::Passes {
+                script,
+                terminal,
+                tick,
+            },
+        },
+        ResultFault::Memory => SplitFault::Memory,
+    }
+}

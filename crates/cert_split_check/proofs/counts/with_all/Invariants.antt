@@ -1,7 +1,0 @@
-use Rattle.std.proofs.Common.{take}
-use Rattle.cert_claims.specs.check.Counts.{Adds}
-use Rattle.cert_split_check.proofs.FirstVerdicts.{verdicts_in}
-use Rattle.cert_split_check.proofs.counts.with_all.Given as goal
-
-abbrev pub invariant-loop-i : goal.invariant-loop-i
-invariant-loop-i l = Adds l.fn.counts (verdicts_in (take l.i l.results)) l.sum

@@ -1,8 +1,0 @@
-use Rattle.std.proofs.Common.{map}
-use Rattle.cert_split_text.specs.Reading.{result_in}
-use Rattle.cert_claims.specs.check.Firsts.{EachOf}
-use Rattle.cert_split_check.specs.Results.{IsSupported}
-use Rattle.cert_split_check.proofs.result.check_results.Given as goal
-
-abbrev pub invariant-loop-i : goal.invariant-loop-i
-invariant-loop-i l = EachOf (IsSupported l.line l.script) (map result_in l.results) l.i

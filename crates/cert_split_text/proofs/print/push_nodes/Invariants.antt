@@ -1,7 +1,0 @@
-use Rattle.std.proofs.Common.{◌≡◌, ◌++◌, take}
-use Rattle.cert_split_text.specs.Text.{nodes_text}
-use Rattle.cert_split_text.proofs.print.push_nodes.Given as goal
-
-abbrev pub invariant-loop-node : goal.invariant-loop-node
-invariant-loop-node l =
-    l.text.items ≡ l.initial.text.items ++ nodes_text l.line (take l.node-index l.nodes)
