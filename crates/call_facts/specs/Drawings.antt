@@ -12,7 +12,7 @@ use Rattle.model_timing.specs.{Choice.timing_choice, NamedValues.NamedValues}
 use Rattle.net_gates.specs.{Formulas.formula_of, NetOf.IsNetOf, NetOf.NetOf}
 use Rattle.run_step.specs.{GatePairs.GateSignals, Runs.IsTheHistory}
 use Rattle.judge_verdict.specs.Rules.{rule_named}
-use Rattle.draw_dump.specs.GateValues.{gate_levels}
+use Rattle.draw_gates.specs.dump.GateValues.{gate_levels}
 use Rattle.draw_diagram.specs.{declared.diagram.Diagram.Diagram, Diagrams.IsDiagramOf}
 use Rattle.draw_shapes.specs.declared.rows.Rows.TheVariants as rows
 use Rattle.draw_diagram.specs.Traces.{known_history, pairs_shown}

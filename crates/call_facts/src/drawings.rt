@@ -7,7 +7,7 @@ ghost use Rattle.model_timing.specs.{Inside.IsTimingInside, NamedValues.values_o
 ghost use Rattle.call_facts.specs.Drawings.{IsBandsOf, IsPlayOf};
 
 use draw_diagram::{every_choice_waves, history_diagram, play_diagram};
-use draw_dump::play_waves;
+use draw_gates::dump::play_waves;
 use draw_layout::{Subject, draw};
 use draw_shapes::{Drawing, Rows};
 use judge_verdict::analyse;

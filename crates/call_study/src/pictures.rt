@@ -8,7 +8,7 @@ ghost use Rattle.base_markup.specs.svg.Content.{IsContent};
 ghost use Rattle.model_timing.specs.{Inside.IsTimingInside, NamedValues.values_of};
 
 use draw_diagram::{every_choice_waves, history_diagram, play_diagram};
-use draw_dump::{play_waves, vcd_text};
+use draw_gates::dump::{play_waves, vcd_text};
 use draw_layout::{Subject, draw};
 use draw_shapes::{Rows, svg};
 use file_records::recorded::data_text;

@@ -7,7 +7,7 @@ ghost use Rattle.draw_diagram.specs.DelaySteps.{tick_of_step};
 ghost use Rattle.draw_diagram.specs.DelayStepLaws.{MarksAreSteps};
 
 use crate::trace::Trace;
-use draw_roles::Role;
+use draw_gates::roles::Role;
 use model_line::{Line, Memory};
 use model_timing::Step;
 use run_signal::Tick;

@@ -15,7 +15,7 @@ use crate::bar::bar_of;
 use crate::scale::{RIGHT, Scale, x_of};
 use crate::words::Words;
 use draw_diagram::{Row, Stretch, Trace, is_off};
-use draw_roles::{Role, receiver};
+use draw_gates::roles::{Role, receiver};
 use draw_shapes::{Class, Figure, Shape, put_line, put_rectangle, put_text};
 use model_line::{Line, Memory};
 use model_line::{element_word, name_of_terminal};
