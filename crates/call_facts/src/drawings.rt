@@ -6,9 +6,9 @@ ghost use Rattle.model_line.specs.Fits.{Fits};
 ghost use Rattle.model_timing.specs.{Inside.IsTimingInside, NamedValues.values_of};
 ghost use Rattle.call_facts.specs.Drawings.{IsBandsOf, IsPlayOf};
 
-use draw_diagram::{every_choice_waves, history_diagram, play_diagram};
+use draw_bands::diagram::{every_choice_waves, history_diagram, play_diagram};
 use draw_gates::dump::play_waves;
-use draw_layout::{Subject, draw};
+use draw_bands::layout::{Subject, draw};
 use draw_shapes::{Drawing, Rows};
 use judge_verdict::analyse;
 use model_line::laws::deadlines_are_below_the_horizon;

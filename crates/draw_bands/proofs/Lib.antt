@@ -1,0 +1,2 @@
+pub mod diagram_lemmas
+pub mod layout_lemmas

@@ -1,0 +1,2 @@
+pub mod diagram
+pub mod layout

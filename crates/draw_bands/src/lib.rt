@@ -1,0 +1,5 @@
+//! Timing diagrams: `diagram`, as values; `layout`, as drawings.
+#![tactic(auto)]
+
+pub mod diagram;
+pub mod layout;

@@ -1,7 +1,0 @@
-use Rattle.std.proofs.Common.{◌≡◌, ◌++◌, take}
-use Rattle.draw_layout.specs.{Rows.other_marks_said, Words.said}
-use Rattle.draw_layout.proofs.row.other_marks_said.Given as goal
-
-abbrev pub invariant-loop-mark : goal.invariant-loop-mark
-invariant-loop-mark l =
-    said l.all ≡ said l.fn.words ++ other_marks_said (take l.mark-index l.marks)
