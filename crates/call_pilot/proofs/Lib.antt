@@ -1,12 +1,3 @@
-pub mod Closing
-pub mod Fetching
-pub mod Reading
-pub mod Results
-pub mod Written
-pub mod Told
-pub mod Matched
-pub mod Played
-pub mod Headlines
-pub mod Reported
-pub mod SameFiles
-pub mod PrintedTrees
+pub mod commands_lemmas
+pub mod once_lemmas
+pub mod top_lemmas

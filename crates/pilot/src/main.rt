@@ -8,7 +8,7 @@ ghost use Rattle.pilot.specs.Exit.{exit_number};
 use base_text::store::{FileStore, StdSink};
 use call_engine::NetEngine;
 use call_files::Status;
-use call_pilot::pilot;
+use call_pilot::top::pilot;
 use std::io::ErrorKind;
 use std::process::ExitCode;
 use std::rt::Env;

@@ -6,7 +6,7 @@ use crate::fault::Fault;
 use base_text::store::{MemorySink, MemoryStore, fetch, put_all};
 use call_engine::NetEngine;
 use call_lint::{Linted, Names, lint_line, lint_study};
-use call_pilot::pilot;
+use call_pilot::top::pilot;
 use std::alloc::Global;
 
 /// Makes a call of these words over the store, the first of which names the program, and gives its

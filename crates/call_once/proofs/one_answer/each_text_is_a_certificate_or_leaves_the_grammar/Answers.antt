@@ -1,5 +1,0 @@
-use Rattle.call_once.proofs.EachText.{each_text}
-use Rattle.call_once.proofs.one_answer.each_text_is_a_certificate_or_leaves_the_grammar.Goals as goal
-
-pub returns : goal.returns
-returns c = λ line scripts bytes. each_text line scripts bytes

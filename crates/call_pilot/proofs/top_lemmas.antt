@@ -1,0 +1,12 @@
+pub mod Closing
+pub mod Fetching
+pub mod Reading
+pub mod Results
+pub mod Written
+pub mod Told
+pub mod Matched
+pub mod Played
+pub mod Headlines
+pub mod Reported
+pub mod SameFiles
+pub mod PrintedTrees
