@@ -2,7 +2,7 @@
 use Rattle.std.proofs.Common.{◌≡◌, ◌+◌, ℕ, Bool, List, [], ◌∷◌, Option, None, Some, map, refl}
 use Rattle.std.specs.List.{position_from}
 use Rattle.std.specs.Str.{bytes_eq}
-use Rattle.call_load.specs.Chosen.{place_chosen}
+use Rattle.call_work.specs.load.Chosen.{place_chosen}
 
 -- the first image that passes a test stands where the first stands whose image passes
 position-map : {A B : Type 0} (f : A → B) (test : B → Bool) (i : ℕ) (xs : List A)

@@ -10,9 +10,9 @@ use Rattle.call_files.specs.declared.stop.File.{File}
 use Rattle.call_files.specs.declared.stop.Stop.TheVariants as stop
 use Rattle.call_study.specs.{Answers.answer_over, Clauses.Call, Clauses.Clauses, Clauses.IsTold}
 use Rattle.call_study.specs.{Clauses.OutIsAnswer, Clauses.OutIsFront, Ends.EndsOf}
-use Rattle.call_load.specs.Halts.{End, IsAnswer, IsEarly, line_of}
-use Rattle.call_load.specs.Request.{Request, files_of}
-use Rattle.call_load.specs.declared.halt.Halt.TheVariants as halt
+use Rattle.call_work.specs.load.Halts.{End, IsAnswer, IsEarly, line_of}
+use Rattle.call_work.specs.load.Request.{Request, files_of}
+use Rattle.call_work.specs.declared.load.halt.Halt.TheVariants as halt
 
 -- no name's count rose, so there is no cause
 no_cause : (files : List ℕ → Option (List ℕ)) (c1 c2 : List ℕ → ℕ) (asked : List NamedFile)

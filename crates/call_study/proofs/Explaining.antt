@@ -4,14 +4,14 @@ use Rattle.model_line.specs.{declared.line.Line.Line, declared.script.Script.Scr
 use Rattle.judge_match.specs.matching.Waves.{records_said}
 use Rattle.judge_match.specs.declared.matching.fault.SeenFault.{SeenFault}
 use Rattle.judge_match.specs.declared.matching.fault.SeenFault.TheVariants as seen_fault
-use Rattle.call_explain.specs.Explain.{IsExplainStop}
+use Rattle.call_work.specs.explain.Explain.{IsExplainStop}
 use Rattle.call_ask.specs.declared.explain.ExplainForm.{ExplainForm}
-use Rattle.call_explain.specs.declared.stop.ExplainStop.{ExplainStop}
-use Rattle.call_explain.specs.declared.stop.ExplainStop.TheVariants as explain_stop
+use Rattle.call_work.specs.declared.explain.stop.ExplainStop.{ExplainStop}
+use Rattle.call_work.specs.declared.explain.stop.ExplainStop.TheVariants as explain_stop
 use Rattle.call_files.specs.Stops.{record_stop}
 use Rattle.call_study.specs.{Answers.answer_by, Ends.Gives}
-use Rattle.call_load.specs.Reading.{explain_halt, explain_in, which_script}
-use Rattle.call_load.specs.declared.halt.Halt.TheVariants as halt
+use Rattle.call_work.specs.load.Reading.{explain_halt, explain_in, which_script}
+use Rattle.call_work.specs.declared.load.halt.Halt.TheVariants as halt
 
 module _ (within : ℕ) (form : ExplainForm) (line : Line) (scripts : List Script)
     (record_bytes : List ℕ) (script : Option (List ℕ)) (which : Option ℕ)

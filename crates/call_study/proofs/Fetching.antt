@@ -12,10 +12,10 @@ use Rattle.call_files.specs.declared.stop.Stop.{Stop}
 use Rattle.call_files.specs.declared.stop.Stop.TheVariants as stop
 use Rattle.call_study.specs.{Answers.Answers, Answers.answer_by, Answers.answer_over}
 use Rattle.call_study.specs.{Ends.Fetched, Ends.Gives, Ends.over_told}
-use Rattle.call_load.specs.{Reading.over_further, Request.Asked}
-use Rattle.call_load.specs.Request as request
-use Rattle.call_load.specs.{Halts.End, Studied.refused_by, declared.halt.Halt.Halt}
-use Rattle.call_load.specs.declared.halt.Halt.TheVariants as halt
+use Rattle.call_work.specs.{load.Reading.over_further, load.Request.Asked}
+use Rattle.call_work.specs.load.Request as request
+use Rattle.call_work.specs.{load.Halts.End, load.Studied.refused_by, declared.load.halt.Halt.Halt}
+use Rattle.call_work.specs.declared.load.halt.Halt.TheVariants as halt
 use Rattle.call_study.proofs.Reading.{gives_wider}
 
 opened : (o : Option (List ℕ)) (v : List ℕ) → IsSome o → IfSome o (λ b. b ≡ v) → unwrap_or o [] ≡ v

@@ -2,15 +2,15 @@
 use Rattle.std.proofs.Common.{◌≡◌, ℕ, List, Option, Result, Err, None, length, refl}
 use Rattle.call_answer.specs.declared.said.Said.{Said}
 use Rattle.call_ask.specs.declared.map.MapForm.{MapForm}
-use Rattle.call_map.specs.Asked.{asked_of}
-use Rattle.call_map.specs.declared.denial.{MapDenial.MapDenial, MapStop.MapStop}
-use Rattle.call_map.specs.declared.denial.MapStop.TheVariants as map_stop
+use Rattle.call_work.specs.map.Asked.{asked_of}
+use Rattle.call_work.specs.declared.map.denial.{MapDenial.MapDenial, MapStop.MapStop}
+use Rattle.call_work.specs.declared.map.denial.MapStop.TheVariants as map_stop
 use Rattle.call_study.specs.{Answers.answer_by, Ends.Gives}
-use Rattle.call_load.specs.Reading.{at_most}
-use Rattle.call_load.specs.Loaded.{IsLoaded, Say, given_of}
-use Rattle.call_load.specs.Reading.{map_halt, map_of}
-use Rattle.call_load.specs.declared.sources.Bytes.{Bytes}
-use Rattle.call_load.specs.declared.sources.Loaded.{Loaded}
+use Rattle.call_work.specs.load.Reading.{at_most}
+use Rattle.call_work.specs.load.Loaded.{IsLoaded, Say, given_of}
+use Rattle.call_work.specs.load.Reading.{map_halt, map_of}
+use Rattle.call_work.specs.declared.load.sources.Bytes.{Bytes}
+use Rattle.call_work.specs.declared.load.sources.Loaded.{Loaded}
 use Rattle.call_study.proofs.Reading.{given_read}
 
 -- the words ask for none, or memory ran out

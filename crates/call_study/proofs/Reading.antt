@@ -16,15 +16,15 @@ use Rattle.call_files.specs.declared.refusal.Refusal.{Refusal}
 use Rattle.call_files.specs.declared.refusal.Refusal.TheVariants as refusal
 use Rattle.call_files.specs.declared.stop.Stop.TheVariants as stop
 use Rattle.call_study.specs.{Answers.Answers, Ends.Gives}
-use Rattle.call_load.specs.Halts.{End}
-use Rattle.call_load.specs.{Reading.of_place, declared.halt.Halt.Halt}
-use Rattle.call_load.specs.Loaded.{IsLoaded, IsWhy, Loads, Say, given_of, studied}
-use Rattle.call_load.specs.ReadingLaws.{HasGroups, study_wider}
-use Rattle.call_load.specs.Studied.{Studied, of_values, refused_by, untitled}
-use Rattle.call_load.specs.declared.halt.Halt.TheVariants as halt
-use Rattle.call_load.specs.declared.sources.Bytes.{Bytes}
-use Rattle.call_load.specs.declared.sources.Bytes.TheVariants as bytes
-use Rattle.call_load.specs.declared.sources.Loaded.{Loaded}
+use Rattle.call_work.specs.load.Halts.{End}
+use Rattle.call_work.specs.{load.Reading.of_place, declared.load.halt.Halt.Halt}
+use Rattle.call_work.specs.load.Loaded.{IsLoaded, IsWhy, Loads, Say, given_of, studied}
+use Rattle.call_work.specs.load.ReadingLaws.{HasGroups, study_wider}
+use Rattle.call_work.specs.load.Studied.{Studied, of_values, refused_by, untitled}
+use Rattle.call_work.specs.declared.load.halt.Halt.TheVariants as halt
+use Rattle.call_work.specs.declared.load.sources.Bytes.{Bytes}
+use Rattle.call_work.specs.declared.load.sources.Bytes.TheVariants as bytes
+use Rattle.call_work.specs.declared.load.sources.Loaded.{Loaded}
 
 -- what was read of a source
 pub given_read : (from : Bytes) (l : Loaded) (halted : Halt → Type 0) (holds : Studied → Type 0)

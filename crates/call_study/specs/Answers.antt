@@ -7,8 +7,8 @@ use Rattle.file_tables.specs.script.Values.{values_of}
 use Rattle.file_study.specs.sweeps.Parts.{SaysScripts, part}
 use Rattle.call_answer.specs.Answers as commands
 use Rattle.call_answer.specs.Answers.{prints}
-use Rattle.call_explain.specs.Explain.{explain_answer}
-use Rattle.call_map.specs.Answers.{map_answer}
+use Rattle.call_work.specs.explain.Explain.{explain_answer}
+use Rattle.call_work.specs.map.Answers.{map_answer}
 use Rattle.call_page.specs.Pages.{page_answer}
 use Rattle.call_tables.specs.{Margins.margins_answer, Recheck.recheck_answer}
 use Rattle.call_tables.specs.Settled.{settle_answer}
@@ -16,12 +16,12 @@ use Rattle.call_verdicts.specs.{Faults.faults_answer, Verdicts.verdicts_answer}
 use Rattle.call_study.specs.{Linted.lint_answer, Settled.failing_answer, Settled.trees_answer}
 use Rattle.call_ask.specs.declared.ask.Table.TheVariants as table
 use Rattle.call_files.specs.{Files.contents, declared.stop.File.File}
-use Rattle.call_load.specs.{Halts.End, declared.halt.Halt.Halt}
+use Rattle.call_work.specs.{load.Halts.End, declared.load.halt.Halt.Halt}
 use Rattle.call_ask.specs.declared.ask.Form.TheVariants as form
 use Rattle.call_study.specs.Pictures.{IsBandsText, IsDataText, IsDumpText, IsRunText}
-use Rattle.call_load.specs.Reading as reading
-use Rattle.call_load.specs.Reading.{Reading, Wanted, over_files}
-use Rattle.call_load.specs.Request.{Request, files_of}
+use Rattle.call_work.specs.load.Reading as reading
+use Rattle.call_work.specs.load.Reading.{Reading, Wanted, over_files}
+use Rattle.call_work.specs.load.Request.{Request, files_of}
 
 abbrev pub Answers : Type 1
 Answers = End → List ℕ → Type 0

@@ -6,11 +6,11 @@ use Rattle.call_answer.specs.Sinks.{GrewByAll, SinkView}
 use Rattle.call_files.specs.Files.{AllTold, NoneRose, StoreCause}
 use Rattle.call_files.specs.declared.stop.File.{File}
 use Rattle.call_files.specs.declared.stop.Stop.TheVariants as stop
-use Rattle.call_load.specs.declared.halt.Halt.TheVariants as halt
+use Rattle.call_work.specs.declared.load.halt.Halt.TheVariants as halt
 use Rattle.call_study.specs.{Answers.answers, Ends.WithSomeStatus}
-use Rattle.call_load.specs.{Halts.End, Halts.IsAnswer}
-use Rattle.call_load.specs.Halts.{line_of}
-use Rattle.call_load.specs.Request.{Request, files_of}
+use Rattle.call_work.specs.{load.Halts.End, load.Halts.IsAnswer}
+use Rattle.call_work.specs.load.Halts.{line_of}
+use Rattle.call_work.specs.load.Request.{Request, files_of}
 
 -- what a clause sees of a call: what is asked for, the bytes that the store tells under each name,
 -- and before and after the call the store's count of faults of each name, and the two sinks

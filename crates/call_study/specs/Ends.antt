@@ -7,8 +7,8 @@ use Rattle.call_files.specs.Files.{AllTold, NamedFile, StoreCause, contents}
 use Rattle.call_files.specs.declared.stop.{File.File}
 use Rattle.call_files.specs.declared.stop.Stop.TheVariants as stop
 use Rattle.call_study.specs.Answers.{Answers}
-use Rattle.call_load.specs.{Halts.End, declared.halt.Halt.Halt}
-use Rattle.call_load.specs.declared.halt.Halt.TheVariants as halt
+use Rattle.call_work.specs.{load.Halts.End, declared.load.halt.Halt.Halt}
+use Rattle.call_work.specs.declared.load.halt.Halt.TheVariants as halt
 
 -- a status with a text, or why there is none, is such an answer
 abbrev pub Gives : Answers → Result Said Halt → Type 0

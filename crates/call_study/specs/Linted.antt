@@ -6,7 +6,7 @@ use Rattle.call_answer.specs.declared.done.Done.TheVariants as done
 use Rattle.call_lint.specs.Outcomes.{IsLinted, IsStudyLinted}
 use Rattle.call_lint.specs.declared.linted.Outcome.{Outcome}
 use Rattle.call_lint.specs.declared.linted.Outcome.TheVariants as outcome
-use Rattle.call_load.specs.Request.{Source, files, study}
+use Rattle.call_work.specs.load.Request.{Source, files, study}
 
 -- the status 0, 2 or 3
 abbrev pub done_by : Outcome → Done

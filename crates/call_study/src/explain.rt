@@ -4,14 +4,14 @@ ghost use Rattle.std.specs.Prelude.{◌≡◌, ◌≤◌, IfSome, length};
 ghost use Rattle.std.specs.Option.{option_copied};
 ghost use Rattle.net_gates.specs.NetOf.{IsNetOf};
 ghost use Rattle.call_study.specs.{Answers.answer_by, Ends.Gives};
-ghost use Rattle.call_load.specs.Loaded.{given_of};
-ghost use Rattle.call_load.specs.Reading.{explain_in, explain_of, which_script};
+ghost use Rattle.call_work.specs.load.Loaded.{given_of};
+ghost use Rattle.call_work.specs.load.Reading.{explain_in, explain_of, which_script};
 
 use crate::read::at_most;
 use call_answer::{Said, Study};
 use call_ask::ExplainForm;
-use call_explain::{Asked, explain_said};
-use call_load::{Bytes, Denial, Halt, choose_script, load};
+use call_work::explain::{Asked, explain_said};
+use call_work::load::{Bytes, Denial, Halt, choose_script, load};
 use model_line::Script;
 use std::alloc::Global;
 

@@ -3,12 +3,12 @@
 ghost use Rattle.std.specs.Prelude.{◌≡◌, IfOk};
 ghost use Rattle.call_answer.specs.Answers.{Says};
 ghost use Rattle.call_study.specs.{Linted.done_by, Linted.lint_answer};
-ghost use Rattle.call_load.specs.Loaded.{source_in};
+ghost use Rattle.call_work.specs.load.Loaded.{source_in};
 
 use call_answer::{Done, Said};
 use call_ask::Source;
 use call_lint::{Names, Outcome, lint_line, lint_study};
-use call_load::Bytes;
+use call_work::load::Bytes;
 use model_line::Memory;
 use std::alloc::Global;
 

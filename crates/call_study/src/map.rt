@@ -2,14 +2,14 @@
 
 ghost use Rattle.std.specs.Option.{option_copied};
 ghost use Rattle.call_study.specs.{Answers.answer_by, Ends.Gives};
-ghost use Rattle.call_load.specs.Loaded.{given_of};
-ghost use Rattle.call_load.specs.Reading.{map_of as map_over};
+ghost use Rattle.call_work.specs.load.Loaded.{given_of};
+ghost use Rattle.call_work.specs.load.Reading.{map_of as map_over};
 
 use crate::read::at_most;
 use call_answer::Said;
 use call_ask::MapAsk;
-use call_load::{Bytes, Halt, load};
-use call_map::map_of;
+use call_work::load::{Bytes, Halt, load};
+use call_work::map::map_of;
 use std::alloc::Global;
 
 /// Over which numbers of one setting or two each obligation is held.

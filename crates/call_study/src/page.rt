@@ -1,12 +1,12 @@
 //! The page of a study.
 
 ghost use Rattle.call_study.specs.{Answers.answer_by, Ends.Gives};
-ghost use Rattle.call_load.specs.Loaded.{given_of};
-ghost use Rattle.call_load.specs.Reading.{page_of};
+ghost use Rattle.call_work.specs.load.Loaded.{given_of};
+ghost use Rattle.call_work.specs.load.Reading.{page_of};
 
 use crate::read::at_most;
 use call_answer::Said;
-use call_load::{Bytes, Halt, load};
+use call_work::load::{Bytes, Halt, load};
 use call_page::{Asked, page_said};
 use std::alloc::Global;
 

@@ -4,9 +4,9 @@ ghost use Rattle.std.specs.Prelude.{◌≡◌};
 ghost use Rattle.call_answer.specs.Sinks.{sink_view};
 ghost use Rattle.call_study.specs.Answers.{answer_by, answer_over};
 ghost use Rattle.call_study.specs.{Clauses.Clauses, Ends.EndsOf, Ends.Fetched};
-ghost use Rattle.call_load.specs.{Halts.IsDone, Halts.IsEarly, Loaded.source_in};
-ghost use Rattle.call_load.specs.Reading.{over_further};
-ghost use Rattle.call_load.specs.Request.{files_beside, files_of, request_of};
+ghost use Rattle.call_work.specs.{load.Halts.IsDone, load.Halts.IsEarly, load.Loaded.source_in};
+ghost use Rattle.call_work.specs.load.Reading.{over_further};
+ghost use Rattle.call_work.specs.load.Request.{files_beside, files_of, request_of};
 
 use crate::explain::{Explaining, explain};
 use crate::linted::lint_said;
@@ -17,7 +17,7 @@ use base_text::store::{Sink, Store, put_all};
 use call_answer::{Done, Said};
 use call_ask::{Ask, Source, Work};
 use call_files::{File, fetch_file};
-use call_load::{Bytes, Halt, put_halt};
+use call_work::load::{Bytes, Halt, put_halt};
 use std::alloc::Global;
 
 /// Does what is asked for over the store, with its text on `out` and, where there is none, one

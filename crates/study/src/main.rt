@@ -6,7 +6,7 @@ mod new_file;
 
 use crate::new_file::NewFile;
 use base_text::store::{FileStore, Sink, StdSink, put_all};
-use call_load::status_of;
+use call_work::load::status_of;
 use call_records::records;
 use call_study::study;
 use call_words::{Call, Event, command, words_of};

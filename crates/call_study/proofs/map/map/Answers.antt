@@ -2,7 +2,7 @@ use Rattle.std.proofs.Common.{◌≡◌, ◌∙◌, None, Some, length, refl, sy
 use Rattle.std.proofs.lemmas.Result.{err_from_is_err_and}
 use Rattle.std.specs.Option.{option_copied}
 use Rattle.call_study.specs.Answers.{answer_by}
-use Rattle.call_load.specs.{Loaded.given_of, Reading.at_most, Reading.map_of}
+use Rattle.call_work.specs.{load.Loaded.given_of, load.Reading.at_most, load.Reading.map_of}
 use Rattle.call_study.proofs.Mapping.{map_halts}
 use Rattle.call_study.proofs.Reading.{given_read, given_refused, load_halts}
 use Rattle.call_study.proofs.map.map.Goals as goal

@@ -1,10 +1,10 @@
 use Rattle.std.proofs.Common.{refl}
 use Rattle.std.specs.Option.{option_copied}
 use Rattle.std.proofs.lemmas.Option.{slice_get_read}
-use Rattle.call_load.specs.Chosen.{chosen_script}
+use Rattle.call_work.specs.load.Chosen.{chosen_script}
 use Rattle.std.proofs.lemmas.Result.{err_from_is_err_and}
 use Rattle.call_study.specs.Answers.{answer_by}
-use Rattle.call_load.specs.{Loaded.given_of, Reading.bands_of}
+use Rattle.call_work.specs.{load.Loaded.given_of, load.Reading.bands_of}
 use Rattle.call_study.proofs.Reading.{given_read, given_refused, load_halts, none_placed, one_placed}
 use Rattle.call_study.proofs.read.bands.Goals as goal
 

@@ -5,11 +5,11 @@ use Rattle.std.proofs.lemmas.Option.{slice_get-map, slice_get_read}
 use Rattle.model_timing.specs.Inside.{IsTimingInside}
 use Rattle.model_timing.specs.NamedValues.{NamedValues, values_of}
 use Rattle.file_tables.specs.timing.Timings.{timings_of}
-use Rattle.call_load.specs.Chosen.{chosen_script, chosen_timing}
+use Rattle.call_work.specs.load.Chosen.{chosen_script, chosen_timing}
 use Rattle.call_study.proofs.Chosen.{chosen-map}
 use Rattle.std.proofs.lemmas.Result.{err_from_is_err_and}
 use Rattle.call_study.specs.Answers.{answer_by}
-use Rattle.call_load.specs.{Loaded.given_of, Reading.play_of}
+use Rattle.call_work.specs.{load.Loaded.given_of, load.Reading.play_of}
 use Rattle.call_study.proofs.Reading.{given_read, given_refused, load_halts, none_placed, one_placed}
 use Rattle.call_study.proofs.Reading.{placed_at, timings_halt, timings_read}
 use Rattle.call_study.proofs.read.play.Goals as goal

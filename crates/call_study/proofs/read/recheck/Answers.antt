@@ -1,7 +1,7 @@
 use Rattle.std.proofs.Common.{◌≡◌, ◌∙◌, None, Some, length, refl, sym}
 use Rattle.std.proofs.lemmas.Result.{err_from_is_err_and}
 use Rattle.call_study.specs.Answers.{answer_by}
-use Rattle.call_load.specs.{Loaded.given_of, Reading.recheck_of, Reading.at_most}
+use Rattle.call_work.specs.{load.Loaded.given_of, load.Reading.recheck_of, load.Reading.at_most}
 use Rattle.call_study.proofs.Reading.{given_read, given_refused, load_halts}
 use Rattle.call_study.proofs.read.recheck.Goals as goal
 

@@ -2,9 +2,9 @@ use Rattle.std.proofs.Common.{[], arith, refl}
 use Rattle.std.proofs.lemmas.List.Elements.{All-cons, All-nil}
 use Rattle.std.specs.Option.{option_copied}
 use Rattle.std.proofs.lemmas.Result.{err_from_is_err_and}
-use Rattle.call_load.specs.Chosen.{chosen_script}
+use Rattle.call_work.specs.load.Chosen.{chosen_script}
 use Rattle.call_study.specs.Answers.{answer_by}
-use Rattle.call_load.specs.{Loaded.given_of, Reading.timings_over}
+use Rattle.call_work.specs.{load.Loaded.given_of, load.Reading.timings_over}
 use Rattle.call_study.proofs.Reading.{given_read, given_refused, load_halts, none_placed, one_placed}
 use Rattle.call_study.proofs.Reading.{placed_at}
 use Rattle.model_history.specs.ListLaws.{all_at}

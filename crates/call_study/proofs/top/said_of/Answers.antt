@@ -3,8 +3,8 @@ use Rattle.std.specs.Option.{option_copied}
 use Rattle.call_files.specs.Files.{NamedFile, in_front, named}
 use Rattle.call_files.specs.declared.stop.File.TheVariants as file
 use Rattle.call_study.specs.{Answers.answer_by, Answers.answer_over}
-use Rattle.call_load.specs.Reading.{over_further}
-use Rattle.call_load.specs.Request.{Request, asked_of, files, files_beside, study}
+use Rattle.call_work.specs.load.Reading.{over_further}
+use Rattle.call_work.specs.load.Request.{Request, asked_of, files, files_beside, study}
 use Rattle.call_study.proofs.Fetching.{fetched_next, fetched_wider, over_study, over_two}
 use Rattle.call_study.proofs.top.said_of.Goals as goal
 

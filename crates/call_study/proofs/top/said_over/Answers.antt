@@ -4,8 +4,8 @@ use Rattle.std.specs.Option.{option_copied}
 use Rattle.call_files.specs.Files.{NamedFile, in_front, named}
 use Rattle.call_files.specs.declared.stop.File.TheVariants as file
 use Rattle.call_study.specs.{Answers.Answers, Answers.answer_by}
-use Rattle.call_load.specs.{Loaded.source_in, Reading.over_further}
-use Rattle.call_load.specs.Request.{explain as asked_explain, play as asked_play, recheck as asked_recheck}
+use Rattle.call_work.specs.{load.Loaded.source_in, load.Reading.over_further}
+use Rattle.call_work.specs.load.Request.{explain as asked_explain, play as asked_play, recheck as asked_recheck}
 use Rattle.call_study.proofs.Fetching.{fetched_all, fetched_next}
 use Rattle.call_study.proofs.top.said_over.Goals as goal
 

@@ -1,6 +1,6 @@
 use Rattle.std.proofs.Common.{Ok, Err, inl}
 use Rattle.call_answer.specs.{SinkLaws.grew_none, Sinks.sink_view}
-use Rattle.call_load.specs.{Halts.halt_line, Request.request_of}
+use Rattle.call_work.specs.{load.Halts.halt_line, load.Request.request_of}
 use Rattle.call_study.proofs.Closing.{closed, put_or_part, unwritten}
 use Rattle.call_study.proofs.top.study.Goals as goal
 

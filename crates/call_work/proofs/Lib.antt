@@ -1,0 +1,3 @@
+pub mod explain_lemmas
+pub mod load_lemmas
+pub mod map_lemmas

@@ -1,0 +1,26 @@
+use Rattle.std.proofs.Common.{sym}
+use Rattle.call_work.proofs.map.denial.put_words.Goals as goal
+
+pub returns-in-Some : goal.returns-in-Some
+returns-in-Some g c =
+    rw (sym c.in-Some.ensures)
+    (rw (
+      c.side_words-side.ensures,
+      c.place_words-place.ensures,
+      c.as_bytes-number.ensures.value,
+      c.format.ensures.text,
+      c.as_bytes-what.ensures.value,
+      c.words.ensures,
+    )
+    at c.put_line.ensures)
+
+pub returns-in-None : goal.returns-in-None
+returns-in-None g c =
+    rw (sym c.in-None.ensures)
+    (rw (
+      c.side_words-side.ensures,
+      c.place_words-place.ensures,
+      c.as_bytes-what.ensures.value,
+      c.words.ensures,
+    )
+    at c.put_line-in-None.ensures)

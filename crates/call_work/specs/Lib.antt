@@ -1,0 +1,3 @@
+pub mod explain
+pub mod load
+pub mod map

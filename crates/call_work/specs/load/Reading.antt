@@ -1,0 +1,214 @@
+-- What the files of a request say: what is wanted over them, or why it can't be done, by the first
+-- file that is too long or that a reader refuses, and then by a name that its file has not.
+use Rattle.std.specs.Prelude.{◌≡◌, ◌∷◌, ℕ, List, [], Option, None, Some}
+use Rattle.std.specs.Prelude.{Result, Ok, Err, if◌then◌else◌, length, nat_le, option_map, slice_get}
+use Rattle.file_study.specs.sweeps.Parts.{is_part}
+use Rattle.draw_shapes.specs.declared.rows.Rows.{Rows}
+use Rattle.model_line.specs.{declared.line.Line.Line, declared.script.Script.Script}
+use Rattle.model_timing.specs.NamedValues.{NamedValues}
+use Rattle.file_tables.specs.timing.Timings.{timings_of}
+use Rattle.call_ask.specs.declared.explain.ExplainForm.{ExplainForm}
+use Rattle.call_work.specs.explain.Picked.{picked}
+use Rattle.call_work.specs.declared.explain.{stop.ExplainStop.ExplainStop, unpicked.Unpicked.Unpicked}
+use Rattle.call_work.specs.declared.explain.stop.ExplainStop.TheVariants as explain_stop
+use Rattle.call_files.specs.Stops.{record_stop}
+use Rattle.judge_match.specs.matching.Waves.{SeenValues, records_said}
+use Rattle.call_ask.specs.declared.map.MapForm.{MapForm}
+use Rattle.call_work.specs.map.Asked.{Both, asked_of}
+use Rattle.call_work.specs.declared.map.denial.{MapDenial.MapDenial, MapStop.MapStop}
+use Rattle.call_work.specs.declared.map.denial.MapStop.TheVariants as map_stop
+use Rattle.call_files.specs.Said.{of_record, of_timings}
+use Rattle.call_files.specs.declared.stop.File.{File}
+use Rattle.call_files.specs.declared.refusal.Refusal.TheVariants as refusal
+use Rattle.call_files.specs.declared.stop.Stop.TheVariants as stop
+use Rattle.call_ask.specs.{declared.ask.Form.Form, declared.ask.Table.Table}
+use Rattle.call_work.specs.{declared.load.halt.Halt.Halt}
+use Rattle.call_ask.specs.declared.ask.Table.TheVariants as tables
+use Rattle.call_work.specs.declared.load.denial.Denial.{Denial}
+use Rattle.call_work.specs.declared.load.denial.Denial.TheVariants as denial
+use Rattle.call_work.specs.declared.load.halt.Halt.TheVariants as halt
+use Rattle.call_work.specs.load.Request as request
+use Rattle.call_work.specs.{load.Chosen.chosen_script, load.Chosen.chosen_timing}
+use Rattle.call_work.specs.load.Request.{Asked, Request, Source}
+use Rattle.call_work.specs.load.Studied.{Given, Studied, of_files, of_study_file, refused_by}
+
+-- what is asked for, over what the files say
+pub data Wanted : Type 0 where
+  bands : Rows → Line → Script → Wanted
+  play : Form → Line → Script → NamedValues → Wanted
+  table : Table → Studied → Wanted
+  timings : Line → Script → Wanted
+  recheck : Studied → List ℕ → Wanted
+  lint : Source → Wanted
+  explain : ℕ → ExplainForm → Option ℕ → Line → List Script → List ℕ → Wanted
+  map : MapForm → List ℕ → Option (List ℕ) → Both → Studied → Wanted
+  page : Studied → Wanted
+
+-- what holds of what is wanted, or of why it can't be done
+abbrev pub Reading : Type 1
+Reading = (Halt → Type 0) → (Wanted → Type 0) → Type 0
+
+-- what holds of the element at a place, or of why there is no such place
+abbrev pub of_place : {A : Type 0} → List A → Option ℕ → Halt → (Halt → Type 0) → (A → Type 0)
+    → Type 0
+of_place {A = A} list (Some i) none halted holds = (a : A) × (slice_get list i ≡ Some a) × holds a
+of_place list None none halted holds = halted none
+
+-- the script that is asked for, and then the timing
+abbrev pub of_script : List Script → Option (List ℕ) → (Halt → Type 0) → (Script → Type 0) → Type 0
+of_script scripts name halted holds =
+    of_place scripts (chosen_script scripts name) (halt.Denied denial.UnknownScript) halted holds
+
+abbrev pub of_timing : List NamedValues → Option (List ℕ) → (Halt → Type 0)
+    → (NamedValues → Type 0) → Type 0
+of_timing all name halted holds =
+    of_place all (chosen_timing all name) (halt.Denied denial.UnknownTiming) halted holds
+
+-- every choice of delays, over what a source says
+abbrev pub bands_of : Rows → Given → Option (List ℕ) → Reading
+bands_of which given script halted holds =
+    given halted (λ studied. of_script studied.scripts script halted
+    (λ chosen. holds (bands which studied.line chosen)))
+
+-- a play, over the bytes of a timings file too
+abbrev pub play_of : Form → Given → List ℕ → Option (List ℕ) → Option (List ℕ) → Reading
+play_of form given timings_bytes script timing halted holds =
+    given halted (λ studied. of_timings studied.line (timings_of studied.line timings_bytes)
+    (λ why. halted (refused_by why))
+    (λ all. of_script studied.scripts script halted
+    (λ chosen. of_timing all timing halted
+    (λ played. holds (play form studied.line chosen played)))))
+
+-- so many scripts at most
+abbrev pub at_most : ℕ → ℕ → Option Denial
+at_most most scripts = if nat_le scripts most then None else Some denial.TooManyScripts
+
+-- most work over all scripts takes 64, a map 4,096; the tables of settled obligations, of verdicts and
+-- of faults as many as a study can come to, 1,000 faults of 4,096; and there are as many parts as hold 64 each
+abbrev pub denied_of : Table → ℕ → Option Denial
+denied_of (tables.Settled analyses) scripts = at_most 4096000 scripts
+denied_of (tables.Verdicts analyses) scripts = at_most 4096000 scripts
+denied_of (tables.Faults analyses) scripts = at_most 4096000 scripts
+denied_of (tables.Trees analyses) scripts = at_most 64 scripts
+denied_of tables.Margins scripts = at_most 64 scripts
+denied_of tables.Line scripts = None
+denied_of (tables.Part n) scripts =
+    if is_part n scripts then None else Some denial.UnknownPart
+
+abbrev pub unless_denied : Option Denial → (Halt → Type 0) → Type 0 → Type 0
+unless_denied None halted holds = holds
+unless_denied (Some why) halted holds = halted (halt.Denied why)
+
+-- a table over all scripts
+abbrev pub table_of : Table → Given → Reading
+table_of which given halted holds =
+    given halted (λ studied. unless_denied (denied_of which (length studied.scripts)) halted
+    (holds (table which studied)))
+
+-- the timings that fail obligations of a script
+abbrev pub timings_over : Given → Option (List ℕ) → Reading
+timings_over given script halted holds =
+    given halted (λ studied. of_script studied.scripts script halted
+    (λ chosen. holds (timings studied.line chosen)))
+
+-- whether trees are accepted, over their bytes
+abbrev pub recheck_of : Given → List ℕ → Reading
+recheck_of given trees_bytes halted holds =
+    given halted (λ studied. unless_denied (at_most 64 (length studied.scripts)) halted
+    (holds (recheck studied trees_bytes)))
+
+-- the script of whose record is asked, if it is named, and if there is one of that name
+abbrev pub which_script : List Script → Option (List ℕ) → Option (Option ℕ)
+which_script scripts None = Some None
+which_script scripts (Some name) = option_map Some (chosen_script scripts (Some name))
+
+abbrev pub of_which : Option (Option ℕ) → (Halt → Type 0) → (Option ℕ → Type 0) → Type 0
+of_which (Some which) halted holds = holds which
+of_which None halted holds = halted (halt.Denied denial.UnknownScript)
+
+-- the one of the records that is asked about
+abbrev pub of_pick : Result SeenValues Unpicked → (Halt → Type 0) → Type 0 → Type 0
+of_pick (Ok record_said) halted holds = holds
+of_pick (Err why) halted holds = halted (halt.Denied (denial.Record why))
+
+-- what explains a record of a line's scripts, over the bytes of its file
+abbrev pub explain_in : ℕ → ExplainForm → Line → List Script → List ℕ → Option (List ℕ) → Reading
+explain_in within form line scripts record_bytes script halted holds =
+    of_which (which_script scripts script) halted
+    (λ which. of_record (records_said line scripts record_bytes) (λ why. halted (refused_by why))
+    (λ records. of_pick (picked which records) halted
+    (holds (explain within form which line scripts record_bytes))))
+
+-- why nothing is said of it, or no memory was left
+abbrev pub explain_halt : ExplainStop → Halt
+explain_halt explain_stop.Memory = halt.Stopped stop.Memory
+explain_halt explain_stop.TooManyScripts = halt.Denied denial.TooManyScripts
+explain_halt (explain_stop.Record why) = halt.Stopped (record_stop why)
+explain_halt (explain_stop.Unpicked why) = halt.Denied (denial.Record why)
+
+abbrev pub explain_of : ℕ → ExplainForm → Given → List ℕ → Option (List ℕ) → Reading
+explain_of within form given record_bytes script halted holds =
+    given halted (λ studied. unless_denied (at_most 64 (length studied.scripts)) halted
+    (explain_in within form studied.line studied.scripts record_bytes script halted holds))
+
+-- what holds of the axes that words ask for, or of why there is no such map
+abbrev pub of_axes : Result Both MapDenial → (Halt → Type 0) → (Both → Type 0) → Type 0
+of_axes (Ok both) halted holds = holds both
+of_axes (Err why) halted holds = halted (halt.Denied (denial.Map why))
+
+-- why there is none, or no memory was left
+abbrev pub map_halt : MapStop → Halt
+map_halt (map_stop.Denied why) = halt.Denied (denial.Map why)
+map_halt map_stop.Memory = halt.Stopped stop.Memory
+
+-- a map of one setting or two, by the words of its axes
+abbrev pub map_of : MapForm → List ℕ → Option (List ℕ) → Given → Reading
+map_of form x y given halted holds =
+    given halted (λ studied. unless_denied (at_most 4096 (length studied.scripts)) halted
+    (of_axes (asked_of studied.line x y) halted (λ both. holds (map form x y both studied))))
+
+-- the page
+abbrev pub page_of : Given → Reading
+page_of given halted holds =
+    given halted (λ studied. unless_denied (at_most 4096000 (length studied.scripts)) halted
+    (holds (page studied)))
+
+-- what a source of these bytes says
+abbrev pub given : Source → Given
+given (request.files line_bytes scripts_bytes) = of_files line_bytes scripts_bytes
+given (request.study study_bytes) = of_study_file study_bytes
+
+-- over the bytes of a source and of the further files
+abbrev pub over_source : Source → Option (List ℕ) → Asked → List (List ℕ) → Reading
+over_source from script (request.bands which) [] = bands_of which (given from) script
+over_source from script (request.play form _ timing) (timings_bytes ∷ []) =
+    play_of form (given from) timings_bytes script timing
+over_source from script (request.table which) [] = table_of which (given from)
+over_source from script (request.timings analyses) [] = timings_over (given from) script
+over_source from script (request.recheck _) (trees_bytes ∷ []) =
+    recheck_of (given from) trees_bytes
+over_source from script request.lint [] = λ halted holds. holds (lint from)
+over_source from script (request.explain _ within form) (record_bytes ∷ []) =
+    explain_of within form (given from) record_bytes script
+over_source from script (request.map form x y) [] = map_of form x y (given from)
+over_source from script request.page [] = page_of (given from)
+over_source from script asked bytes = λ halted holds. ⊥
+
+-- once the further files are there, or one is too long
+abbrev pub over_further : Source → Option (List ℕ) → Asked → Result (List (List ℕ)) File → Reading
+over_further from script asked (Ok bytes) = over_source from script asked bytes
+over_further from script asked (Err file) =
+    λ halted holds. halted (refused_by (refusal.TooLong file))
+
+-- over the bytes of the files in word order
+abbrev pub over_bytes : Source → Option (List ℕ) → Asked → List (List ℕ) → Reading
+over_bytes (request.files _ _) script asked (line_bytes ∷ scripts_bytes ∷ further) =
+    over_source (request.files line_bytes scripts_bytes) script asked further
+over_bytes (request.study _) script asked (study_bytes ∷ further) =
+    over_source (request.study study_bytes) script asked further
+over_bytes source script asked bytes = λ halted holds. ⊥
+
+-- once the files are there, or one is too long
+abbrev pub over_files : Request → Result (List (List ℕ)) File → Reading
+over_files request (Ok bytes) = over_bytes request.source request.script request.asked bytes
+over_files request (Err file) = λ halted holds. halted (refused_by (refusal.TooLong file))

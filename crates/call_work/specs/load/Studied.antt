@@ -1,0 +1,73 @@
+-- What a source says: a line and the scripts of its faults, or why it says none.
+use Rattle.std.specs.Prelude.{◌≡◌, ◌⊎◌, ℕ, Bool, true, false, IsTrue, List, codes}
+use Rattle.std.specs.Prelude.{Result, Ok, Err, map}
+use Rattle.model_line.specs.{declared.line.Line.Line, declared.script.Script.Script}
+use Rattle.file_line.specs.Lines.{line_values}
+use Rattle.file_study.specs.study.Studies.{StudyValues, study_of}
+use Rattle.file_study.specs.declared.study.fault.StudyFault.{StudyFault}
+use Rattle.file_study.specs.sweeps.Groups.{group_values, single_group}
+use Rattle.file_study.specs.declared.sweeps.group.Group.{Group}
+use Rattle.file_study.specs.sweeps.Studies.{AreScriptsOf, IsStudyRefused}
+use Rattle.file_study.specs.declared.sweeps.study_fault.StudySweepFault.{StudySweepFault}
+use Rattle.file_study.specs.declared.sweeps.study_fault.StudySweepFault.TheVariants as sweep_fault
+use Rattle.call_files.specs.Said.{of_study}
+use Rattle.call_files.specs.declared.refusal.Refusal.{Refusal}
+use Rattle.call_files.specs.declared.stop.Stop.TheVariants as stop
+use Rattle.call_work.specs.declared.load.denial.Denial.TheVariants as denial
+use Rattle.call_work.specs.declared.load.halt.Halt.{Halt}
+use Rattle.call_work.specs.declared.load.halt.Halt.TheVariants as halt
+
+-- A title, a line, its scripts, and their groups, one for each fault.
+pub record Studied : Type 0 where
+  pub title : List ℕ
+  pub line : Line
+  pub scripts : List Script
+  pub groups : List Group
+
+-- what holds of what a source says, or of why it says nothing
+abbrev pub Given : Type 1
+Given = (Halt → Type 0) → (Studied → Type 0) → Type 0
+
+-- a file is refused
+abbrev pub refused_by : Refusal → Halt
+refused_by why = halt.Stopped (stop.Refused why)
+
+-- the title of a line and scripts that have none of their own
+abbrev pub untitled : List ℕ
+untitled = codes "A line and its fault scripts"
+
+-- the bytes of a line file and a scripts file; each script is a fault of its own
+abbrev pub of_files : List ℕ → List ℕ → Given
+of_files line_bytes scripts_bytes halted holds =
+    of_study line_bytes scripts_bytes (λ why. halted (refused_by why))
+    (λ line scripts. (groups : List Group)
+    × (map group_values groups ≡ map single_group scripts)
+    × holds (record { title = untitled; line = line; scripts = scripts; groups = groups }))
+
+-- its title, its line and faults that come to these scripts
+pub record IsOf (values : StudyValues) (studied : Studied) : Type 0 where
+  pub title : studied.title ≡ values.title
+  pub line : line_values studied.line ≡ values.line
+  pub scripts : AreScriptsOf studied.line values.faults studied.scripts studied.groups
+
+-- it is no want of memory, of which nothing is said
+abbrev pub is_told : StudySweepFault → Bool
+is_told sweep_fault.Memory = false
+is_told _ = true
+
+-- and those that come to none
+pub record IsNone (values : StudyValues) (why : StudySweepFault) : Type 0 where
+  pub line : Line
+  pub is : line_values line ≡ values.line
+  pub refused : IsStudyRefused line values.faults why
+  pub told : IsTrue (is_told why)
+
+abbrev pub of_values : Result StudyValues StudyFault → Given
+of_values (Ok values) halted holds =
+    ((studied : Studied) × IsOf values studied × holds studied)
+    ⊎ ((why : StudySweepFault) × IsNone values why × halted (halt.Denied (denial.Scripts why)))
+of_values (Err why) halted holds = halted (halt.Denied (denial.Study why))
+
+-- the bytes of a study file
+abbrev pub of_study_file : List ℕ → Given
+of_study_file bytes = of_values (study_of bytes)

@@ -1,0 +1,50 @@
+-- What a map answers.
+use Rattle.std.specs.Prelude.{◌≡◌, ℕ, List, [], Option, None, Some}
+use Rattle.model_line.specs.{declared.line.Line.Line, declared.script.Script.Script}
+use Rattle.judge_margins.specs.{declared.map.axis.Axes.Axes, declared.map.cell.Cell.Cell}
+use Rattle.judge_margins.specs.{map.Cells.AreCells, map.MapText.map_text}
+use Rattle.draw_shapes.specs.{Drawings.drawing_of, declared.grid.Grid.Grid}
+use Rattle.draw_map.specs.Grids.{IsGridOf}
+use Rattle.draw_shapes.specs.Svg.{svg_of}
+use Rattle.file_times.specs.Parts.{names_of}
+use Rattle.call_answer.specs.Answers.{Answers, prints}
+use Rattle.call_ask.specs.declared.map.MapForm.{MapForm}
+use Rattle.call_work.specs.map.Asked.{AreAxesOf, Both}
+use Rattle.call_ask.specs.declared.map.MapForm.TheVariants as form
+
+-- the cells of these axes, by the interval rules, as records
+pub record IsRecordsText (line : Line) (scripts : List Script) (axes : Axes) (text : List ℕ)
+    : Type 0 where
+  pub cells : List Cell
+  pub are : AreCells line scripts axes cells
+  pub printed : text ≡ map_text line scripts axes cells
+
+-- the same cells as the printed form of the drawing of their grid, whose axes go by these names
+pub record IsDrawingText (line : Line) (scripts : List Script) (axes : Axes) (x y text : List ℕ)
+    : Type 0 where
+  pub cells : List Cell
+  pub are : AreCells line scripts axes cells
+  pub grid : Grid
+  pub shows : IsGridOf line scripts axes cells x y grid
+  pub printed : text ≡ svg_of (drawing_of grid)
+
+-- the names of the second words, if there are any
+abbrev pub second_names : Option (List ℕ) → List ℕ
+second_names None = []
+second_names (Some words) = names_of words
+
+abbrev pub IsTextOver : Line → List Script → MapForm → List ℕ → Option (List ℕ) → Axes → List ℕ
+    → Type 0
+IsTextOver line scripts form.Drawing x y axes text =
+    IsDrawingText line scripts axes (names_of x) (second_names y) text
+IsTextOver line scripts form.Records x y axes text = IsRecordsText line scripts axes text
+
+-- over the axes that the words ask for
+pub record IsMapText (line : Line) (scripts : List Script) (form : MapForm) (x : List ℕ)
+    (y : Option (List ℕ)) (both : Both) (text : List ℕ) : Type 0 where
+  pub axes : Axes
+  pub of : AreAxesOf both axes
+  pub told : IsTextOver line scripts form x y axes text
+
+abbrev pub map_answer : Line → List Script → MapForm → List ℕ → Option (List ℕ) → Both → Answers
+map_answer line scripts form x y both = prints (IsMapText line scripts form x y both)

@@ -1,0 +1,15 @@
+//! What `study explain` says: the timing that explains a record, change by change or as a timings
+//! file, or that there is none, or that it is open.
+
+mod answer;
+mod asked;
+mod explain;
+mod fields;
+mod pick;
+mod stop;
+mod unpicked;
+
+pub use asked::Asked;
+pub use explain::explain_said;
+pub use stop::ExplainStop;
+pub use unpicked::Unpicked;

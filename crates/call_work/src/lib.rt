@@ -1,0 +1,7 @@
+//! Works of `study` over the files that it is asked about: `load`, what a request is over, or why it is
+//! not done; `map` and `explain`, two of its answers.
+#![tactic(auto)]
+
+pub mod explain;
+pub mod load;
+pub mod map;

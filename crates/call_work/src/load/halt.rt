@@ -1,0 +1,164 @@
+//! Why what is asked for is not done.
+
+ghost use Rattle.std.specs.Prelude.{◌≡◌};
+ghost use Rattle.call_answer.specs.Sinks.{Puts, sink_view};
+ghost use Rattle.call_files.specs.declared.stop.Stop.TheVariants.{Memory, Sink};
+ghost use Rattle.call_work.specs.load.Halts.{halt_line, status_of as end_status};
+ghost use Rattle.call_work.specs.declared.load.halt.Halt.TheVariants.{Denied, Stopped};
+
+use crate::load::denial::{Denial, put_denial};
+use base_text::store::{PutFailed, Sink};
+use call_answer::Done;
+use crate::explain::ExplainStop;
+use call_files::{Stop, put_message};
+use crate::map::MapStop;
+use file_study::study::StudyFault;
+use file_study::sweeps::StudySweepFault;
+use file_tables::timing::TimingFault;
+use model_line::Memory;
+
+/// Why it is not done: what stops `pilot` too, or what the files and the words alone deny.
+#[derive(Clone, Copy)]
+pub enum Halt {
+    Stopped(Stop),
+    Denied(Denial),
+}
+
+impl Halt {
+    ghost use Rattle.call_work.specs.load.Halts.{halt_status};
+
+    /// The exit status: that of `pilot`, 4 to 8; 5 where a study is refused, 9 where a name is
+    /// unknown.
+    pub fn status(&self) -> u8
+        ensures is { result ≡ halt_status self.now }
+    {
+        match self {
+            Halt::Stopped(Stop::Usage) => 4,
+            Halt::Stopped(Stop::Refused(_)) => 5,
+            Halt::Stopped(Stop::Store(_)) => 6,
+            Halt::Stopped(Stop::Sink) => 7,
+            Halt::Stopped(Stop::Memory) => 8,
+            Halt::Denied(why) => why.status(),
+        }
+    }
+}
+
+/// The exit status of a call that ended so: 0 to 3 where it is done.
+pub fn status_of(end: Result<Done, Halt>) -> u8
+    ensures { result ≡ end_status end }
+{
+    match end {
+        Ok(Done::Good) => 0,
+        Ok(Done::SomeNo) => 1,
+        Ok(Done::SomeUndecided) => 2,
+        Ok(Done::Rejected) => 3,
+        Err(halt) => halt.status(),
+    }
+}
+
+/// Pushes the line that says it.
+pub fn put_halt<K: Sink>(sink: &mut K, halt: &Halt) -> Result<(), PutFailed>
+    ensures { Puts (sink_view K.written K.faults sink.old) (sink_view K.written K.faults sink.new)
+        (halt_line halt.now) result }
+{
+    match halt {
+        Halt::Stopped(stop) => put_message(sink, stop),
+        Halt::Denied(why) => put_denial(sink, why),
+    }
+}
+
+impl From<Stop> for Halt {
+    ghost from_gives = { λ stop halt. halt ≡ Stopped stop };
+
+    fn from(stop: Stop) -> Self {
+        Halt::Stopped(stop)
+    }
+}
+
+impl From<Denial> for Halt {
+    ghost from_gives = { λ why halt. halt ≡ Denied why };
+
+    fn from(why: Denial) -> Self {
+        Halt::Denied(why)
+    }
+}
+
+impl From<Memory> for Halt {
+    ghost from_gives = { λ _ halt. halt ≡ Stopped Memory };
+
+    fn from(_: Memory) -> Self {
+        Halt::Stopped(Stop::Memory)
+    }
+}
+
+impl From<PutFailed> for Halt {
+    ghost from_gives = { λ _ halt. halt ≡ Stopped Sink };
+
+    fn from(_: PutFailed) -> Self {
+        Halt::Stopped(Stop::Sink)
+    }
+}
+
+impl From<TimingFault> for Halt {
+    ghost use Rattle.call_files.specs.Stops.{timing_stop};
+
+    ghost from_gives = { λ fault halt. halt ≡ Stopped (timing_stop fault) };
+
+    fn from(fault: TimingFault) -> Self {
+        Halt::Stopped(Stop::from(fault))
+    }
+}
+
+impl From<StudyFault> for Halt {
+    ghost use Rattle.call_work.specs.load.Loaded.{study_halt};
+
+    ghost from_gives = { λ fault halt. halt ≡ study_halt fault };
+
+    fn from(fault: StudyFault) -> Self {
+        match fault {
+            StudyFault::Memory => Halt::Stopped(Stop::Memory),
+            fault => Halt::Denied(Denial::Study(fault)),
+        }
+    }
+}
+
+impl From<ExplainStop> for Halt {
+    ghost use Rattle.call_work.specs.load.Reading.{explain_halt};
+
+    ghost from_gives = { λ why halt. halt ≡ explain_halt why };
+
+    fn from(why: ExplainStop) -> Self {
+        match why {
+            ExplainStop::Memory => Halt::Stopped(Stop::Memory),
+            ExplainStop::TooManyScripts => Halt::Denied(Denial::TooManyScripts),
+            ExplainStop::Record(fault) => Halt::Stopped(Stop::from(fault)),
+            ExplainStop::Unpicked(why) => Halt::Denied(Denial::Record(why)),
+        }
+    }
+}
+
+impl From<MapStop> for Halt {
+    ghost use Rattle.call_work.specs.load.Reading.{map_halt};
+
+    ghost from_gives = { λ why halt. halt ≡ map_halt why };
+
+    fn from(why: MapStop) -> Self {
+        match why {
+            MapStop::Denied(why) => Halt::Denied(Denial::Map(why)),
+            MapStop::Memory => Halt::Stopped(Stop::Memory),
+        }
+    }
+}
+
+impl From<StudySweepFault> for Halt {
+    ghost use Rattle.call_work.specs.load.Loaded.{scripts_halt};
+
+    ghost from_gives = { λ fault halt. halt ≡ scripts_halt fault };
+
+    fn from(fault: StudySweepFault) -> Self {
+        match fault {
+            StudySweepFault::Memory => Halt::Stopped(Stop::Memory),
+            fault => Halt::Denied(Denial::Scripts(fault)),
+        }
+    }
+}

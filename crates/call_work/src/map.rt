@@ -1,0 +1,9 @@
+//! The map of one or two settings: where each obligation is held as they move, as a drawing or as
+//! records.
+
+mod axes;
+mod denial;
+mod said;
+
+pub use denial::{MapDenial, MapStop, Side, put_map_denial};
+pub use said::map_of;
