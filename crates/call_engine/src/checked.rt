@@ -10,8 +10,7 @@ ghost use Rattle.model_line.specs.NamesByNumber.{terminal_name as name_of_termin
 use call_answer::{Study, text_of};
 use cert_claims::check::Counts;
 use itoa::Buffer;
-use model_line::Memory;
-use model_line::{name_of_parameter, name_of_script, name_of_terminal};
+use model_line::{Memory, name_of_parameter, name_of_script, name_of_terminal};
 use std::alloc::Global;
 
 /// The counts of a text that is accepted.

@@ -7,8 +7,8 @@ ghost use Rattle.model_timing.specs.{Inside.IsTimingInside, NamedValues.values_o
 ghost use Rattle.call_facts.specs.Drawings.{IsBandsOf, IsPlayOf};
 
 use draw_bands::diagram::{every_choice_waves, history_diagram, play_diagram};
-use draw_gates::dump::play_waves;
 use draw_bands::layout::{Subject, draw};
+use draw_gates::dump::play_waves;
 use draw_shapes::{Drawing, Rows};
 use judge_verdict::analyse;
 use model_line::laws::deadlines_are_below_the_horizon;

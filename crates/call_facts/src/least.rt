@@ -10,8 +10,7 @@ ghost use Rattle.call_facts.specs.declared.firsts.Firsts.{Firsts as FirstsOf};
 use crate::firsts::Firsts;
 use call_answer::Study;
 use draw_page::LeastMargin;
-use model_line::{Kind, Line, Memory, Script};
-use model_line::{name_of_script, name_of_terminal};
+use model_line::{Kind, Line, Memory, Script, name_of_script, name_of_terminal};
 use std::alloc::Global;
 
 /// How much is to spare where it is least, and where that is; none where no internal fault trips in

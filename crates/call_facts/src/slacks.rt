@@ -13,8 +13,7 @@ use crate::least::at_words;
 use call_answer::Study;
 use draw_page::{Slack, Time};
 use judge_margins::margins::{End, held_today, margins};
-use model_line::Memory;
-use model_line::name_of_parameter;
+use model_line::{Memory, name_of_parameter};
 use std::alloc::Global;
 
 /// Each time, and how far its ends can be moved with what is held today held still.

@@ -10,8 +10,7 @@ ghost use Rattle.call_facts.specs.Lists.{EachOf, if_one, those_below};
 
 use draw_page::{ToldStep, ToldTime};
 use judge_settle::corner::{nominal, number_of};
-use model_line::{Line, Memory};
-use model_line::name_of_parameter;
+use model_line::{Line, Memory, name_of_parameter};
 use model_timing::{Step, Timing};
 use run_signal::Tick;
 use std::alloc::Global;

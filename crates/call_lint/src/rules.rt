@@ -1,9 +1,9 @@
 //! The rules that a refused file breaks, in words.
 
 use file_line::LineFault;
-use file_tables::script::ScriptFault;
 use file_study::study::StudyFault;
 use file_study::sweeps::{StudySweepFault, SweepFault};
+use file_tables::script::ScriptFault;
 
 /// The rule of a line file that is broken.
 pub fn line_rule(fault: &LineFault) -> &'static str {

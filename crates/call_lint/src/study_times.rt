@@ -8,8 +8,9 @@ use crate::exact::{microseconds, table_of};
 use crate::text::push_all;
 use file_study::study::Study;
 use file_times::{Interval, Time, read_time};
-use model_line::{Channel, Line, Memory, Setting, groups_of_channel, groups_of_terminal};
-use model_line::name_of_terminal;
+use model_line::{
+    Channel, Line, Memory, Setting, groups_of_channel, groups_of_terminal, name_of_terminal,
+};
 use std::alloc::Global;
 use toml::Table;
 

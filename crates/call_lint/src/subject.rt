@@ -6,8 +6,9 @@ use crate::refused_study::place_of_fault;
 use crate::sheet::{Names, Sheet};
 use crate::text::{Spot, push_all, push_item};
 use judge_lint::{Warning, place_of_key, place_of_record, place_of_table, place_of_word};
-use model_line::{Line, Memory, Place, Script};
-use model_line::{element_word, name_of_parameter, name_of_script, name_of_terminal};
+use model_line::{
+    Line, Memory, Place, Script, element_word, name_of_parameter, name_of_script, name_of_terminal,
+};
 use model_names::{channel_of_name, terminal_of_name};
 use std::alloc::Global;
 

@@ -14,8 +14,7 @@ use call_facts::{least_times, play, told_steps, told_times};
 use call_tables::Row;
 use draw_page::FailingChoice;
 use judge_settle::corner::{Obligation, cut};
-use model_line::Memory;
-use model_line::name_of_terminal;
+use model_line::{Memory, name_of_terminal};
 use model_timing::{NamedTiming, Timing};
 use std::alloc::Global;
 

@@ -6,8 +6,7 @@ ghost use Rattle.call_page.specs.Parts.{AreParts, IsPart, fault_name, swept_valu
 ghost use Rattle.file_study.specs.sweeps.Places.{place_in};
 
 use file_study::sweeps::{Group, place_of_script};
-use model_line::{Memory, Script};
-use model_line::name_of_script;
+use model_line::{Memory, Script, name_of_script};
 use std::alloc::Global;
 
 /// So many scripts, one after another, from this place on.

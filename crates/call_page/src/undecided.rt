@@ -12,8 +12,7 @@ use call_answer::Study;
 use call_tables::Row;
 use draw_page::Undecided;
 use judge_settle::settle::Answer;
-use model_line::Memory;
-use model_line::{name_of_script, name_of_terminal};
+use model_line::{Memory, name_of_script, name_of_terminal};
 use std::alloc::Global;
 
 /// One for each obligation that is open, in order.

@@ -13,8 +13,7 @@ use crate::worst::worst;
 use draw_page::{Means, Standing, Verdict};
 use judge_report::deadline;
 use judge_settle::settle::{Answer, By};
-use model_line::Memory;
-use model_line::name_of_terminal;
+use model_line::{Memory, name_of_terminal};
 use std::alloc::Global;
 
 /// The verdicts of a part, one for each terminal in line order.

@@ -18,8 +18,7 @@ use file_comtrade::{ConfigFault, DataFault, RecordFault, TickFault};
 use file_line::LineFault;
 use file_records::map::{ChannelName, MapFault, Signal};
 use itoa::Buffer;
-use model_line::{Line, Memory};
-use model_line::name_of_terminal;
+use model_line::{Line, Memory, name_of_terminal};
 use std::alloc::Global;
 
 fn push_pieces(text: &mut Vec<u8>, pieces: &[&[u8]]) -> Result<(), Memory>

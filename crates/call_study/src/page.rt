@@ -6,8 +6,8 @@ ghost use Rattle.call_work.specs.load.Reading.{page_of};
 
 use crate::read::at_most;
 use call_answer::Said;
-use call_work::load::{Bytes, Halt, load};
 use call_page::{Asked, page_said};
+use call_work::load::{Bytes, Halt, load};
 use std::alloc::Global;
 
 /// The page of a study, by a program and a kit of these names.

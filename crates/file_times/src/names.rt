@@ -11,8 +11,7 @@ ghost use Rattle.file_times.specs.Names.{owner_in, params_of as params_for, sett
 ghost use Rattle.file_times.specs.Names.{stands_for as stands_for_of, start_of, unknown_in};
 
 use base_text::lines::find_byte;
-use model_line::{Line, Memory};
-use model_line::name_of_parameter;
+use model_line::{Line, Memory, name_of_parameter};
 use std::alloc::Global;
 
 /// The parameters, by their numbers, for which names that are parted by commas stand, in the line's

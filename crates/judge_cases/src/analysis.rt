@@ -22,8 +22,8 @@ use model_logic::laws::line_laws;
 use model_settle::case_laws::{each_box_has_one_history_under, what_is_shown_rests_on_the_box};
 use net_gates::laws::gates_stand_for_their_trees;
 use net_gates::{GateId, Net};
-use run_ticks::cases::{UnderWaves, run_under};
 use run_signal::{Lanes64, Signal};
+use run_ticks::cases::{UnderWaves, run_under};
 use std::alloc::Global;
 use std::marker::Model;
 

@@ -22,8 +22,8 @@ use model_line::{Line, Memory, Terminal};
 use model_settle::case_laws::same_trees_are_equal;
 use net_gates::Net;
 use net_gates::laws::gates_stand_for_their_trees;
-use run_ticks::cases::{Mask, Masks};
 use run_signal::Signal;
+use run_ticks::cases::{Mask, Masks};
 use std::alloc::Global;
 
 /// A mask for each tick and row that puts in each lane what its view assumes there.

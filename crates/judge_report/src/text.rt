@@ -6,8 +6,7 @@ ghost use Rattle.judge_report.specs.MarginText.{greatest_words, lost_words, marg
 
 use crate::upper_end::{Lost, UpperEnd};
 use itoa::Buffer;
-use model_line::{Line, Memory, Script};
-use model_line::{name_of_parameter, name_of_script, name_of_terminal};
+use model_line::{Line, Memory, Script, name_of_parameter, name_of_script, name_of_terminal};
 use std::alloc::Global;
 
 /// The line of a parameter's margin: `margin PARAMETER V declared G` with `lost SCRIPT TERMINAL` or

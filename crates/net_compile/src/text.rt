@@ -10,9 +10,8 @@ ghost use Rattle.net_compile.specs.NetText.{pair_text, gate_text, gate_line, end
 ghost use Rattle.net_compile.specs.NetText.{terminal_lines, lines_below, net_text_of};
 
 use itoa::Buffer;
-use model_line::{Line, Memory, Place, channel_name};
+use model_line::{Line, Memory, Place, channel_name, element_word};
 use model_logic::Time;
-use model_line::element_word;
 use net_gates::{Gate, GateId, Net};
 use std::alloc::Global;
 

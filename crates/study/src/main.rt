@@ -6,10 +6,10 @@ mod new_file;
 
 use crate::new_file::NewFile;
 use base_text::store::{FileStore, Sink, StdSink, put_all};
-use call_work::load::status_of;
 use call_records::records;
 use call_study::study;
 use call_words::{Call, Event, command, words_of};
+use call_work::load::status_of;
 use clap::ArgMatches;
 use std::env;
 use std::process::ExitCode;

@@ -11,8 +11,8 @@ ghost use Rattle.cert_own.specs.Certified.{AreCertified, IsCertified};
 ghost use Rattle.call_pilot.specs.{commands.Certify.certify_answer, commands.Play.IsPlayText};
 ghost use Rattle.call_answer.specs.declared.done.Done.{Done};
 
-use cert_own::{each_script_has_one_certificate, what_is_certified_is_accepted};
 use cert_claims::text::{CERT_END, CERT_HEAD, a_certificate_is_its_parts};
+use cert_own::{each_script_has_one_certificate, what_is_certified_is_accepted};
 use model_logic::laws::{each_choice_has_one_history, each_line_has_a_choice_inside};
 use model_timing::timings_inside_are_choices_inside;
 

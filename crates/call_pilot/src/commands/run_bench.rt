@@ -14,10 +14,10 @@ use crate::commands::text::bench_text;
 use call_answer::Said;
 use call_engine::Engine;
 use cert_claims::check::CheckFault;
+use cert_claims::text::{CERT_END, CERT_HEAD, a_certificate_is_its_parts};
 use cert_own::{
     a_certificate_grows_by_parts, answers_are_certified, cert_piece, what_is_certified_is_accepted,
 };
-use cert_claims::text::{CERT_END, CERT_HEAD, a_certificate_is_its_parts};
 use model_line::{Line, Memory, Script};
 use net_compile::compile;
 use net_gates::Net;

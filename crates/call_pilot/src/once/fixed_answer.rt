@@ -7,12 +7,12 @@ ghost use Rattle.call_files.specs.Status.{IsAnswer};
 ghost use Rattle.call_pilot.specs.top.Words.{command_of};
 ghost use Rattle.call_files.specs.declared.stop.Status.{Status};
 
+use crate::commands::{each_certificate_has_one_text, each_play_has_one_text};
 use crate::once::one_answer::{
     each_bench_has_one_answer, each_check_has_one_answer, each_margin_has_one_answer,
     each_match_has_one_answer, each_recheck_has_one_answer, each_report_has_one_answer,
     each_split_has_one_answer,
 };
-use crate::commands::{each_certificate_has_one_text, each_play_has_one_text};
 use model_line::laws::{counts_do_not_rest_on_the_intervals, deadlines_are_below_the_horizon};
 use model_logic::interval_laws::{
     histories_do_not_rest_on_the_intervals, trees_do_not_rest_on_the_intervals,

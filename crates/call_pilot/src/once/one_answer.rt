@@ -12,10 +12,10 @@ ghost use Rattle.call_answer.specs.declared.done.Done.{Done};
 ghost use Rattle.judge_match.specs.matching.Waves.{SeenValues};
 
 use cert_claims::check::{a_certificate_has_one_first_fault, a_fault_refuses_the_certificate};
+use cert_claims::text::{a_text_has_one_meaning, certificates_can_be_written};
 use cert_own::{each_search_has_an_outcome, each_search_has_one_outcome};
 use cert_split::check::{a_fault_refuses_the_split_text, a_split_text_has_one_first_fault};
 use cert_split::text::a_split_text_has_one_meaning;
-use cert_claims::text::{a_text_has_one_meaning, certificates_can_be_written};
 use judge_match::matching::a_record_is_settled_once;
 use judge_report::a_parameter_has_one_margin;
 use model_line::laws::{

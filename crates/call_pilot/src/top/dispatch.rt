@@ -11,14 +11,14 @@ ghost use Rattle.call_files.specs.Files.{limit_of};
 ghost use Rattle.call_pilot.specs.top.Words.{own_file, margin as margin_words};
 ghost use Rattle.call_pilot.specs.declared.top.words.ThreeFiles.TheVariants as three;
 
-use crate::top::bench_size::BenchSize;
-use crate::top::words::{OneFile, ThreeFiles, TwoFiles};
-use base_text::store::Sink;
-use call_answer::{Said, Study, put_said};
 use crate::commands::{
     certify, check, line, margin, match_records, migrate, net, play, recheck, report, run_bench,
     split,
 };
+use crate::top::bench_size::BenchSize;
+use crate::top::words::{OneFile, ThreeFiles, TwoFiles};
+use base_text::store::Sink;
+use call_answer::{Said, Study, put_said};
 use call_engine::Engine;
 use call_files::{Refusal, Status, Stop, ended, read_study};
 use file_line::read_line;

@@ -10,8 +10,7 @@ ghost use Rattle.call_work.specs.explain.Table.{difference_text as text_of_diffe
 use base_records::push_record;
 use itoa::Buffer;
 use judge_match::explain::Paired;
-use model_line::{Line, Memory};
-use model_line::name_of_terminal;
+use model_line::{Line, Memory, name_of_terminal};
 use std::alloc::Global;
 
 /// The table: a header, and a record for each change.

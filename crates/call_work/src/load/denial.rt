@@ -8,10 +8,10 @@ ghost use Rattle.call_work.specs.load.Denials.{unpicked_pieces};
 ghost use Rattle.file_study.specs.sweeps.SweepWords.{horizon_pieces};
 ghost use Rattle.file_study.specs.declared.sweeps.study_fault.StudySweepFault.TheVariants.{Refused};
 
-use base_text::store::{PutFailed, Sink};
-use call_answer::put_pieces;
 use crate::explain::Unpicked;
 use crate::map::{MapDenial, put_map_denial};
+use base_text::store::{PutFailed, Sink};
+use call_answer::put_pieces;
 use file_study::study::StudyFault;
 use file_study::sweeps::{StudySweepFault, SweepFault};
 use itoa::Buffer;

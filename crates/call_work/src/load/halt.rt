@@ -6,12 +6,12 @@ ghost use Rattle.call_files.specs.declared.stop.Stop.TheVariants.{Memory, Sink};
 ghost use Rattle.call_work.specs.load.Halts.{halt_line, status_of as end_status};
 ghost use Rattle.call_work.specs.declared.load.halt.Halt.TheVariants.{Denied, Stopped};
 
+use crate::explain::ExplainStop;
 use crate::load::denial::{Denial, put_denial};
+use crate::map::MapStop;
 use base_text::store::{PutFailed, Sink};
 use call_answer::Done;
-use crate::explain::ExplainStop;
 use call_files::{Stop, put_message};
-use crate::map::MapStop;
 use file_study::study::StudyFault;
 use file_study::sweeps::StudySweepFault;
 use file_tables::timing::TimingFault;

@@ -7,8 +7,8 @@ ghost use Rattle.call_work.specs.load.Studied.{of_files, of_study_file, untitled
 use crate::load::halt::Halt;
 use call_answer::Study;
 use call_files::read_study;
-use file_tables::script::a_file_says_scripts_of_one_file;
 use file_study::sweeps::{Group, groups_of_scripts, scripts_of_study};
+use file_tables::script::a_file_says_scripts_of_one_file;
 use model_line::Memory;
 use net_compile::compile;
 use std::alloc::Global;

@@ -12,11 +12,11 @@ ghost use Rattle.cert_claims.specs.{check.Scripts.EachBelow, check.Verdicts.AreS
 use crate::check::counts::{Counts, counts_of};
 use crate::check::fault::{CheckFault, in_script};
 use crate::check::script_check::check_claims;
-use base_text::lines::TextFault;
 use crate::text::{
     ScriptClaims, a_text_has_one_meaning, a_text_leaves_at_one_line, certificates_can_be_written,
     read_certificate,
 };
+use base_text::lines::TextFault;
 use model_line::{Line, Script};
 use net_gates::Net;
 use std::alloc::Global;

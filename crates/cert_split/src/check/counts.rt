@@ -6,8 +6,8 @@ ghost use Rattle.cert_claims.specs.check.Counts.{Adds};
 ghost use Rattle.cert_split.specs.{text.Grammar.tree, text.Reading.result_in, text.Reading.results_in};
 ghost use Rattle.cert_split.specs.check.Counts.{is_yes_tree as yes_tree, verdict_of, CountResults};
 
-use cert_claims::check::Counts;
 use crate::text::SplitClaim;
+use cert_claims::check::Counts;
 use judge_split::Node;
 
 /// Whether no leaf of a tree with these nodes is undecided.

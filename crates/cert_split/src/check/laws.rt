@@ -12,8 +12,8 @@ ghost use Rattle.cert_split.specs.declared.check.fault.ResultFault.{ResultFault}
 ghost use Rattle.cert_split.specs.check.Results.{AreSupported, AreTold, IsFirstFault};
 ghost use Rattle.cert_split.specs.check.Check.{IsAccepted, IsSound, IsSplitFault};
 
-use cert_claims::check::a_no_has_one_fault;
 use crate::text::{a_split_text_has_one_meaning, a_split_text_leaves_at_one_line};
+use cert_claims::check::a_no_has_one_fault;
 use judge_split::a_sound_tree_that_is_yes_speaks_for_every_choice;
 use model_line::laws::deadlines_are_below_the_horizon;
 use model_logic::laws::each_line_has_a_choice_inside;

@@ -11,8 +11,8 @@ ghost use Rattle.cert_split.specs.check.Results.{AreTold, IsFirstFault};
 
 use crate::check::fault::ResultFault;
 use crate::check::tree::{Passed, walk};
-use cert_claims::check::check_no;
 use crate::text::SplitClaim;
+use cert_claims::check::check_no;
 use judge_split::{
     Node, a_part_stands_for_its_box, a_sound_tree_that_is_yes_speaks_for_every_choice,
 };

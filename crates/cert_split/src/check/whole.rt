@@ -13,11 +13,11 @@ ghost use Rattle.cert_split.specs.check.Results.{AreTold};
 use crate::check::counts::counts_of;
 use crate::check::fault::{SplitFault, in_script};
 use crate::check::result::check_results;
-use base_text::lines::TextFault;
-use cert_claims::check::Counts;
 use crate::text::{
     SplitClaim, a_split_text_has_one_meaning, a_split_text_leaves_at_one_line, read_split_text,
 };
+use base_text::lines::TextFault;
+use cert_claims::check::Counts;
 use model_line::{Line, Script};
 use net_gates::Net;
 use std::alloc::Global;

@@ -4,11 +4,10 @@ ghost use Rattle.std.specs.Prelude.{◌≡◌, ◌≤◌, IfOk};
 ghost use Rattle.draw_bands.specs.layout.Left.{bold_width_of, is_capital, is_wide, left_of};
 ghost use Rattle.draw_bands.specs.layout.Left.{letter_width, row_width, scale_of, widest, width_of};
 
+use crate::diagram::{Diagram, Row};
 use crate::layout::row::{row_name, terminal_of};
 use crate::layout::scale::Scale;
-use crate::diagram::{Diagram, Row};
-use model_line::{Line, Memory};
-use model_line::name_of_terminal;
+use model_line::{Line, Memory, name_of_terminal};
 use std::alloc::Global;
 
 /// The scale of a diagram: the axis begins behind the longest name, and shows the diagram's ticks.

@@ -9,9 +9,9 @@ ghost use Rattle.draw_bands.specs.layout.Legend.{shown_said, shows_all, some_sai
 ghost use Rattle.draw_bands.specs.layout.Words.{said};
 ghost use Rattle.draw_shapes.specs.Seen.{figures_seen};
 
+use crate::diagram::{Diagram, Row, Stretch, Trace, Window, has_marks, is_off};
 use crate::layout::bar::{BARS, Bar, bar_of};
 use crate::layout::words::Words;
-use crate::diagram::{Diagram, Row, Stretch, Trace, Window, has_marks, is_off};
 use draw_shapes::{Class, Figure, put_rectangle, put_text, put_words};
 use model_line::{Line, Memory};
 use std::alloc::Global;

@@ -6,9 +6,9 @@ ghost use Rattle.draw_bands.specs.layout.Marks.{deadline_look, inception_look, f
 ghost use Rattle.draw_bands.specs.layout.Words.{said, tick_end_said, tick_said};
 ghost use Rattle.draw_shapes.specs.Seen.{figures_seen};
 
+use crate::diagram::Diagram;
 use crate::layout::scale::{Scale, x_of};
 use crate::layout::words::Words;
-use crate::diagram::Diagram;
 use draw_shapes::{Class, Figure, put_line, put_text};
 use model_line::{Line, Memory};
 use std::alloc::Global;

@@ -11,14 +11,13 @@ ghost use Rattle.draw_shapes.specs.Seen.{figures_seen, shape_seen};
 ghost use Rattle.model_line.specs.Channels.{from_of};
 ghost use Rattle.model_line.specs.NamesByNumber.{terminal_name};
 
+use crate::diagram::{Row, Stretch, Trace, is_off};
 use crate::layout::bar::bar_of;
 use crate::layout::scale::{RIGHT, Scale, x_of};
 use crate::layout::words::Words;
-use crate::diagram::{Row, Stretch, Trace, is_off};
 use draw_gates::roles::{Role, receiver};
 use draw_shapes::{Class, Figure, Shape, put_line, put_rectangle, put_text};
-use model_line::{Line, Memory};
-use model_line::{element_word, name_of_terminal};
+use model_line::{Line, Memory, element_word, name_of_terminal};
 use run_signal::Tern;
 use std::alloc::Global;
 

@@ -6,13 +6,12 @@ ghost use Rattle.draw_bands.specs.layout.Drawings.{height_below, name_drawn, bes
 ghost use Rattle.draw_bands.specs.layout.Drawings.{rows_drawn, bottom_of};
 ghost use Rattle.draw_shapes.specs.Seen.{figures_seen, shapes_seen};
 
+use crate::diagram::{Diagram, Row, Trace};
 use crate::layout::row::drawn_row;
 use crate::layout::scale::Scale;
 use crate::layout::trip::put_trip;
-use crate::diagram::{Diagram, Row, Trace};
 use draw_shapes::{Class, Figure, Shape, put_words};
-use model_line::{Element, Line, Memory};
-use model_line::name_of_terminal;
+use model_line::{Element, Line, Memory, name_of_terminal};
 use std::alloc::Global;
 
 /// Where the rows begin: below the heading and the words of the marks.

@@ -8,9 +8,9 @@ ghost use Rattle.draw_bands.specs.layout.Trips.{rule_class, rule_drawn, trip_dra
 ghost use Rattle.draw_bands.specs.layout.Words.{said};
 ghost use Rattle.draw_shapes.specs.Seen.{figures_seen};
 
+use crate::diagram::{Diagram, TripTimes};
 use crate::layout::scale::{RIGHT, Scale, x_of};
 use crate::layout::words::Words;
-use crate::diagram::{Diagram, TripTimes};
 use draw_shapes::{Class, Figure, put_line, put_text, put_words};
 use judge_report::rule_word;
 use judge_verdict::Rule;

@@ -8,6 +8,7 @@ ghost use Rattle.draw_bands.specs.layout.Left.{scale_of};
 ghost use Rattle.draw_shapes.specs.Seen.{SeenFigure, drawing_seen, figures_seen, shapes_seen};
 ghost use Rattle.draw_shapes.specs.Seen as seen;
 
+use crate::diagram::Diagram;
 use crate::layout::axis::{AXIS_HEIGHT, put_axis};
 use crate::layout::heading::heading_words;
 use crate::layout::left::scale_of;
@@ -16,7 +17,6 @@ use crate::layout::mark::put_marks;
 use crate::layout::rows::{TOP, bottom_of, put_rows};
 use crate::layout::scale::Scale;
 use crate::layout::subject::Subject;
-use crate::diagram::Diagram;
 use draw_shapes::{Class, Drawing, Figure, Shape, put_rectangle, put_words};
 use model_line::{Line, Memory, Script};
 use std::alloc::Global;

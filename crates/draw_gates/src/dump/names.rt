@@ -7,8 +7,7 @@ ghost use Rattle.draw_gates.specs.dump.Variables.{kind_text, channel_text, step_
 
 use crate::dump::put::{put, put_number};
 use crate::roles::{Role, receiver, sender};
-use model_line::{Line, Memory};
-use model_line::element_word;
+use model_line::{Line, Memory, element_word};
 use net_gates::Gate;
 use std::alloc::Global;
 

@@ -9,8 +9,8 @@ ghost use Rattle.file_records.specs.{tracks.Levels.is_on as is_signal_on, tracks
 ghost use Rattle.file_records.specs.recorded.Changes.{change_at, head_record, record_text as text_of_record};
 ghost use Rattle.file_records.specs.recorded.Changes.{terminal_changes, tick_changes};
 
-use crate::recorded::spans::was_on;
 use crate::map::Signal;
+use crate::recorded::spans::was_on;
 use crate::tracks::{Track, is_on, level_text};
 use itoa::Buffer;
 use model_line::{Line, Memory};

@@ -8,8 +8,7 @@ ghost use Rattle.file_records.specs.recorded.Config.{element_lines, head_text, l
 
 use crate::recorded::put::put;
 use itoa::Buffer;
-use model_line::{Line, Memory, Script};
-use model_line::name_of_terminal;
+use model_line::{Line, Memory, Script, name_of_terminal};
 use std::alloc::Global;
 
 /// The configuration: a digital channel for each element, key and trip of each terminal, and for the

@@ -8,8 +8,7 @@ ghost use Rattle.file_records.specs.recorded.Map.{recorder_head, recorder_text, 
 
 use crate::recorded::put::put;
 use itoa::Buffer;
-use model_line::{Kind, Line, Memory, Script};
-use model_line::name_of_terminal;
+use model_line::{Kind, Line, Memory, Script, name_of_terminal};
 use std::alloc::Global;
 
 /// The map under which the record is read back, where its configuration is called `NAME.cfg`. The

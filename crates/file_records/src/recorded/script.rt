@@ -7,11 +7,11 @@ ghost use Rattle.file_study.specs.sweeps.Parts.{SaysScripts};
 ghost use Rattle.file_records.specs.tracks.Tracks.{track_values};
 ghost use Rattle.file_records.specs.recorded.Spans.{script_told, spans_told as all_spans};
 
-use crate::recorded::spans::spans_told;
 use crate::map::Map;
-use file_tables::script::print_scripts;
-use file_study::sweeps::printed_scripts_are_read_back;
+use crate::recorded::spans::spans_told;
 use crate::tracks::Track;
+use file_study::sweeps::printed_scripts_are_read_back;
+use file_tables::script::print_scripts;
 use model_line::{Line, Memory, Script};
 use std::alloc::Global;
 

@@ -7,12 +7,12 @@ ghost use Rattle.file_records.specs.map.Sources.{channel_said};
 ghost use Rattle.file_records.specs.tracks.Channels.{numbered, picked, AreLevels, IsRefused};
 ghost use Rattle.file_records.specs.tracks.Sampled.{IsSampled};
 
+use crate::map::ChannelName;
 use crate::tracks::samples::{Sampled, by_samples};
 use file_comtrade::{
     Config, Files, Named, RecordFault, Ticks, channel_named, levels_at, read_config, read_samples,
     samples_at, times_of,
 };
-use crate::map::ChannelName;
 use std::alloc::Global;
 
 // Channel n of so many, the first being 1.

@@ -12,12 +12,11 @@ ghost use Rattle.file_records.specs.tracks.Fields.{before_text as text_before, t
 ghost use Rattle.file_records.specs.tracks.Fields.{unseen as pulses_unseen};
 ghost use Rattle.file_records.specs.tracks.Fields.{loss_fields as fields_of_loss, signal_fields as fields_of_signal};
 
+use crate::map::{ChannelName, Recorder, Signal};
 use crate::tracks::samples::Sampled;
 use draw_shapes::milliseconds;
-use crate::map::{ChannelName, Recorder, Signal};
 use itoa::Buffer;
-use model_line::{Line, Memory, Place, What};
-use model_line::{element_word, name_of_terminal};
+use model_line::{Line, Memory, Place, What, element_word, name_of_terminal};
 use std::alloc::Global;
 
 /// What a signal is called: the terminal, what it saw or did, and for a lost channel the terminal

@@ -5,8 +5,8 @@ ghost use Rattle.std.specs.List.{list_any};
 ghost use Rattle.file_records.specs.tracks.Tracks.{track_values};
 ghost use Rattle.file_records.specs.tracks.Levels.{is_on, level_text as text_of_level, tells};
 
-use crate::tracks::track::Track;
 use crate::map::Signal;
+use crate::tracks::track::Track;
 
 fn tells(signal: Signal, t: u32, track: &Track) -> bool
     ensures { result ≡ tells signal t (track_values track.now) }

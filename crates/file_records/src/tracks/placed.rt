@@ -2,8 +2,8 @@
 
 ghost use Rattle.std.specs.Prelude.{◌<◌, ◌^◌};
 
-use file_comtrade::{Files, Ticks};
 use crate::map::Source;
+use file_comtrade::{Files, Ticks};
 
 /// The bytes of a recorder's configuration and data.
 #[derive(Clone, Copy)]

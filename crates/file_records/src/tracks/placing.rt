@@ -5,9 +5,9 @@ ghost use Rattle.file_records.specs.{map.Recorders.recorder_values, map.Sources.
 ghost use Rattle.file_records.specs.tracks.Tracks.{placed_values, bytes_values, placed_at, placed_from};
 ghost use Rattle.file_records.specs.tracks.Tracks.{ticks_of};
 
+use crate::map::{Recorder, Source};
 use crate::tracks::placed::{Placed, RecordBytes};
 use file_comtrade::{Files, Ticks};
-use crate::map::{Recorder, Source};
 use model_line::{Line, Memory};
 use std::alloc::Global;
 

@@ -9,6 +9,7 @@ ghost use Rattle.file_records.specs.tracks.Fields.{course_fields, sampled_fields
 ghost use Rattle.file_records.specs.tracks.Rows.{header_record, record_at, record_of, source_record};
 ghost use Rattle.file_records.specs.tracks.Rows.{sources_text as text_of_sources};
 
+use crate::map::Recorder;
 use crate::tracks::changes::{changes_of, level_at};
 use crate::tracks::fields::{
     SampledFields, SignalFields, TickFields, channel_text, config_name, sampled_fields,
@@ -18,7 +19,6 @@ use crate::tracks::level::level_text;
 use crate::tracks::placed::Placed;
 use crate::tracks::track::Track;
 use base_records::push_record;
-use crate::map::Recorder;
 use itoa::Buffer;
 use model_line::{Line, Memory};
 use std::alloc::Global;

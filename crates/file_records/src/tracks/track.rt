@@ -5,11 +5,11 @@ ghost use Rattle.file_records.specs.tracks.Tracks.{placed_values, track_values, 
 ghost use Rattle.file_records.specs.tracks.Tracks.{AreTracks, FailsAt};
 ghost use Rattle.file_records.specs.tracks.Channels.{IsRefused};
 
+use crate::map::Signal;
 use crate::tracks::channel::channel_levels;
 use crate::tracks::placed::Placed;
 use crate::tracks::samples::Sampled;
 use file_comtrade::RecordFault;
-use crate::map::Signal;
 use std::alloc::{AllocError, Global};
 
 /// The levels of a signal that a source tells, one for each tick, and what its samples are beside that.

@@ -7,8 +7,8 @@ ghost use Rattle.file_study.specs.sweeps.Groups.{group_values, of_swept, single_
 ghost use Rattle.file_study.specs.sweeps.Groups.{values_in};
 ghost use Rattle.file_study.specs.sweeps.Sweeps.{times_of};
 
-use crate::sweeps::choice::{Choice, choice_at};
 use crate::study::SweptFault;
+use crate::sweeps::choice::{Choice, choice_at};
 use model_line::{Memory, Name, Script};
 use std::alloc::Global;
 

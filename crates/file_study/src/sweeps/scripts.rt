@@ -9,9 +9,9 @@ ghost use Rattle.file_study.specs.sweeps.Choices.{choice_values, horizon_for};
 ghost use Rattle.file_study.specs.{sweeps.Scripts.deadline_of, sweeps.Scripts.place_name, sweeps.Scripts.script_of};
 ghost use Rattle.file_study.specs.sweeps.Spans.{spans_of};
 
+use crate::study::{Stage, SweptFault};
 use crate::sweeps::choice::Choice;
 use crate::sweeps::spans::push_stage;
-use crate::study::{Stage, SweptFault};
 use itoa::Buffer;
 use model_line::{Kind, Memory, Name, Script, SeenSpan, is_plain};
 use std::alloc::Global;

@@ -9,11 +9,11 @@ ghost use Rattle.file_study.specs.study.Faults.{fault_values};
 ghost use Rattle.file_study.specs.sweeps.Studies.{AreScriptsOf, HasTwice, IsPushed, IsRefusedBehind};
 ghost use Rattle.file_study.specs.sweeps.Studies.{IsStudyRefused, script_names};
 
+use crate::study::{Study, SweptFault};
 use crate::sweeps::fault::SweepFault;
 use crate::sweeps::group::{Group, swept_values};
 use crate::sweeps::study_fault::StudySweepFault;
 use crate::sweeps::sweep::scripts_of_fault;
-use crate::study::{Study, SweptFault};
 use model_line::{Line, Name, Script};
 use std::alloc::Global;
 

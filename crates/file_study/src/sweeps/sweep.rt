@@ -12,11 +12,11 @@ ghost use Rattle.file_study.specs.sweeps.Refusals.{IsAccepted, IsRefused, Refuse
 ghost use Rattle.file_study.specs.sweeps.Scripts.{script_of};
 ghost use Rattle.file_study.specs.sweeps.Sweeps.{count_of, counted, limited, script_name, scripts_of};
 
+use crate::study::SweptFault;
 use crate::sweeps::choice::{choice_at, horizon_for};
 use crate::sweeps::fault::SweepFault;
 use crate::sweeps::needed::horizon_of;
 use crate::sweeps::scripts::{place_name, script};
-use crate::study::SweptFault;
 use model_line::{Line, Memory, Name, Script, fits, is_plain};
 use std::alloc::Global;
 

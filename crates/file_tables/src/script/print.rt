@@ -11,8 +11,7 @@ ghost use Rattle.file_tables.specs.script.Printed.{records_text};
 ghost use Rattle.file_tables.specs.script.Scripts.{scripts_in};
 
 use itoa::Buffer;
-use model_line::{Kind, Line, Memory, Script, SeenSpan, What, channel_name};
-use model_line::element_word;
+use model_line::{Kind, Line, Memory, Script, SeenSpan, What, channel_name, element_word};
 use std::alloc::Global;
 
 /// The file of these scripts: the header and each script's records.

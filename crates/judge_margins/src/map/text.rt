@@ -11,8 +11,7 @@ use crate::map::axis::{Axes, Axis};
 use crate::map::cell::{Cell, Word};
 use base_records::push_record;
 use itoa::Buffer;
-use model_line::{Line, Memory, Script};
-use model_line::{name_of_script, name_of_terminal};
+use model_line::{Line, Memory, Script, name_of_script, name_of_terminal};
 use std::alloc::Global;
 
 /// The cells as records, the least ends in ticks: `x,y,cell,lost`, of one axis `x,cell,lost`, column

@@ -12,8 +12,7 @@ use crate::margins::widened::{param_at, side_at};
 use base_text::lines::push_ticks;
 use itoa::Buffer;
 use judge_report::Lost;
-use model_line::{Line, Memory, Script};
-use model_line::{name_of_parameter, name_of_script, name_of_terminal};
+use model_line::{Line, Memory, Script, name_of_parameter, name_of_script, name_of_terminal};
 use std::alloc::Global;
 
 const HEADER: &[u8] =

@@ -10,8 +10,8 @@ ghost use Rattle.judge_match.specs.explain.Asked.{AreLevels, AreRecorded, IsReco
 
 use crate::explain::changes::changes;
 use model_line::{Line, Memory};
-use run_waves::derived::nth;
 use run_signal::Signal;
+use run_waves::derived::nth;
 use run_waves::waves::Runs;
 use std::alloc::Global;
 

@@ -12,8 +12,8 @@ ghost use Rattle.judge_match.specs.{matching.Clash.IsTerminalClash, matching.Cla
 use crate::matching::seen::Seen;
 use model_line::Line;
 use net_gates::Net;
-use run_waves::derived::{first_uncovered_tick, nth};
 use run_signal::{Signal, Tern};
+use run_waves::derived::{first_uncovered_tick, nth};
 use run_waves::waves::Runs;
 
 /// A place where what was seen is not allowed by what is derived, and both values there.

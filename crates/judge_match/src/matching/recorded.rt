@@ -11,8 +11,8 @@ ghost use Rattle.judge_match.specs.matching.Seen.{AreSeen, IsAsSeen, AreAsSeen, 
 use crate::matching::seen::Seen;
 use model_line::{Line, Memory};
 use run_changes::Tracks;
-use run_waves::derived::nth;
 use run_signal::{Level, Signal, Track};
+use run_waves::derived::nth;
 use run_waves::waves::Runs;
 use std::alloc::Global;
 

@@ -12,6 +12,7 @@ ghost use Rattle.judge_settle.specs.corner.Decided.{OneTimingDecides};
 ghost use Rattle.judge_settle.specs.{settle.Answers.IsAnswer, settle.Trees.IsFound};
 ghost use Rattle.judge_settle.specs.settle.Trees.{Size, size_of_text};
 
+use crate::corner::{Decided, decide};
 use crate::settle::answer::{Answer, By, Settled};
 use crate::settle::boxes::side_in;
 use crate::settle::budget::Budget;
@@ -22,7 +23,6 @@ use crate::settle::search::{Found, search_view};
 use crate::settle::sides::Branch;
 use judge_ahead::Scene;
 use judge_cases::declared_view;
-use crate::corner::{Decided, decide};
 use judge_verdict::{Verdict, certify};
 use model_line::laws::deadlines_are_below_the_horizon;
 use model_line::{Line, Memory, Script};

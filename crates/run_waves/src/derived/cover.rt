@@ -5,9 +5,9 @@ ghost use Rattle.model_history.specs.Rails.{RailsCover};
 ghost use Rattle.run_waves.specs.waves.Waves.{wave_at};
 ghost use Rattle.run_waves.specs.derived.Firsts.{IsFirstFailing};
 
+use crate::waves::Runs;
 use model_history::rails_laws::covering_is_an_order;
 use run_signal::covers;
-use crate::waves::Runs;
 
 /// The first tick at which one wave does not cover the other.
 pub fn first_uncovered_tick(wide: &Runs, narrow: &Runs) -> Option<u32>

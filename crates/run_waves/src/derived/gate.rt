@@ -12,9 +12,9 @@ ghost use Rattle.run_waves.specs.derived.Claims.{pairs_of, declared_world};
 
 use crate::derived::declared::{declared_delay, declared_time};
 use crate::derived::script_wave::{loss_wave, seen_wave, steady};
+use crate::waves::{Runs, and, not, or, raw, seal, timer};
 use model_line::{Line, Memory, Script};
 use net_gates::Gate;
-use crate::waves::{Runs, and, not, or, raw, seal, timer};
 use std::alloc::Global;
 
 /// The wave of a gate: its own kind over the waves of the earlier gates and the claimed keys.

@@ -7,11 +7,11 @@ ghost use Rattle.run_waves.specs.waves.Waves.{AreWaves};
 ghost use Rattle.run_waves.specs.derived.Claims.{AreGateWaves, pairs_of};
 
 use crate::derived::gate::gate_wave;
+use crate::waves::Runs;
 use model_history::rails_laws::rails_read_the_past;
 use model_line::{Line, Memory, Script};
 use net_gates::{GateId, Net};
 use run_step::laws::gates_have_their_kind;
-use crate::waves::Runs;
 use std::alloc::Global;
 
 /// A wave of the horizon's length for each gate, in the order of the net: at each tick the pair

@@ -7,9 +7,9 @@ ghost use Rattle.model_line.specs.Seen.{is_seen, is_lost};
 ghost use Rattle.run_waves.specs.waves.Waves.{IsWaveOf};
 ghost use Rattle.run_waves.specs.derived.Stretches.{ShowsAlike, is_of, holds};
 
+use crate::waves::{Runs, waves_grow};
 use model_line::{Memory, Place, Script, SeenSpan, What, loss, seen};
 use run_signal::{Signal, Tern};
-use crate::waves::{Runs, waves_grow};
 use std::alloc::Global;
 
 /// On at each tick, or at none.
