@@ -37,6 +37,6 @@ pub fn run_under<V: Timed + Carried>(
         AreKeysUnder line.now (level lane) w keys →
         ArePairsUnder V.rails lane (level lane) w keys line.now net.now waves) }
 {
-    let told = crate::net::<V>(alloc, net, line, script, spans, masks)?;
+    let told = run_ticks::<V>(alloc, net, line, script, spans, masks)?;
     Ok(UnderWaves::new(net.len(), line.horizon, told.values, told.owns))
 }

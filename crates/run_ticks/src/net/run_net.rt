@@ -57,6 +57,6 @@ pub fn run<V: Timed + Carried>(
     let width = net.len();
     let keys = Vec::from_slice(alloc, net.key_gates())?;
     let trips = Vec::from_slice(alloc, net.trip_gates())?;
-    let values = crate::net::<V>(alloc, net, line, script, spans, steps)?;
+    let values = run_ticks::<V>(alloc, net, line, script, spans, steps)?;
     Ok(Waves::new(width, line.horizon, values, keys, trips))
 }
