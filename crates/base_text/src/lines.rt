@@ -2,8 +2,8 @@
 //! of lines, and what it means that lines stand where they are expected; ticks and microseconds
 //! as exact decimals of milliseconds, as every table and page tells them; and numbers in a row.
 //!
-//! `specs/Lines.antt` has a text as a list of places, each with what can stand there and what it
-//! opens; `specs/Grammar.antt` has a text of several items, between a first and a last line. The
+//! `specs/lines/Lines.antt` has a text as a list of places, each with what can stand there and what it
+//! opens; `specs/lines/Grammar.antt` has a text of several items, between a first and a last line. The
 //! laws that every such text has stand beside them (`LineLaws`, `Reading`, `ReadingLaws`,
 //! `WholeLaws`), since they range over relations, of which no clause can speak.
 

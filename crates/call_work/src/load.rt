@@ -1,7 +1,7 @@
 //! What a request of `study` is over: the line and the scripts of its files, the script and the timing
 //! that are named; and why it is not done, as a status and a line.
 //!
-//! `specs/Request.antt` has the request, `specs/Reading.antt` what its files say: what is wanted over
+//! `specs/load/Request.antt` has the request, `specs/load/Reading.antt` what its files say: what is wanted over
 //! them, or the first thing that denies it.
 
 mod choose;

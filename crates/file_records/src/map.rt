@@ -1,7 +1,7 @@
 //! Maps: which digital channel of which recorder is which signal of a line, and when the line's
 //! ticks begin in the recorders' clocks.
 //!
-//! `specs/Maps.antt` says what a map says, or its first fault.
+//! `specs/map/Maps.antt` says what a map says, or its first fault.
 
 mod fault;
 mod file_names;

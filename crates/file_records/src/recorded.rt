@@ -1,8 +1,8 @@
 //! Records of relays as files, in and out.
 //!
 //! - In: what they tell, as files for `pilot`: a script of what the terminals saw, and a record of
-//!   what they keyed and when they tripped. `specs/Spans.antt` says what the script is,
-//!   `specs/Changes.antt` what the record is.
+//!   what they keyed and when they tripped. `specs/recorded/Spans.antt` says what the script is,
+//!   `specs/recorded/Changes.antt` what the record is.
 //! - Out: a play as such a record (COMTRADE, 1999, ASCII): a configuration, its data with a sample
 //!   for each tick, and the map that reads both back. `exported_laws` says that it is read back as
 //!   the same play.

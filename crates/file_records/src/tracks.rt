@@ -2,7 +2,7 @@
 //! and the sources of the map as a table for people.
 //!
 //! `place` puts each source of a map beside the files that it is read from, and `read_tracks` reads
-//! them. `specs/Rows.antt` says what the table is: which channel of which recorder tells which
+//! them. `specs/tracks/Rows.antt` says what the table is: which channel of which recorder tells which
 //! signal, and when it first changes.
 
 mod changes;

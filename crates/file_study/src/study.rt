@@ -1,8 +1,8 @@
 //! Studies: a line and its faults in one TOML file, with times in milliseconds, tolerances and
 //! swept times, read to a line and faults in ticks.
 //!
-//! `specs/Studies.antt` says what a study says. Its line is that of a line file, whose table stands
-//! in `specs/LineTables.antt`.
+//! `specs/study/Studies.antt` says what a study says. Its line is that of a line file, whose table stands
+//! in `specs/study/LineTables.antt`.
 
 mod fault;
 mod faults;

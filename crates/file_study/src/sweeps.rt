@@ -1,10 +1,10 @@
 //! The scripts that a study's faults come to, one for each choice of the swept times of each, and
 //! their files, in parts of 64.
 //!
-//! `specs/Choices.antt` says what a choice is, `specs/Spans.antt` what is seen of one,
-//! `specs/Scripts.antt` its script, `specs/Sweeps.antt` all scripts of a fault, `specs/Studies.antt`
-//! those of all faults, `specs/Parts.antt` their parts, and
-//! `specs/Places.antt` where a script stands among those of its fault.
+//! `specs/sweeps/Choices.antt` says what a choice is, `specs/sweeps/Spans.antt` what is seen of one,
+//! `specs/sweeps/Scripts.antt` its script, `specs/sweeps/Sweeps.antt` all scripts of a fault, `specs/sweeps/Studies.antt`
+//! those of all faults, `specs/sweeps/Parts.antt` their parts, and
+//! `specs/sweeps/Places.antt` where a script stands among those of its fault.
 
 mod choice;
 mod fault;
