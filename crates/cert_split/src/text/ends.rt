@@ -10,7 +10,7 @@ pub const SPLIT_HEAD: &[u8] = b"pilot-split 1\n";
 /// The last line, with its line feed.
 pub const SPLIT_END: &[u8] = b"end\n";
 
-/// The two constants are the first and the last line of `cert_split_text`, which has the parts of the
+/// The two constants are the first and the last line of a text of split trees, which has the parts of the
 /// scripts between them.
 pub fn a_split_text_has_a_head_and_an_end()
     ensures head { SPLIT_HEAD.now ≡ fed head_text }

@@ -8,9 +8,9 @@ use Rattle.run_step.specs.Played.{ends_of_tick}
 use Rattle.run_step.specs.{LaneBox.lane_box, Ticks.AreSent}
 use Rattle.run_changes.specs.PlayedTracks.{played}
 use Rattle.run_step.specs.{Runs.AreDelayed, Runs.IsPoint}
-use Rattle.file_recorded.specs.Data.{data_text}
-use Rattle.file_recorded.proofs.SameData.{data_same}
-use Rattle.file_recorded.proofs.data.data_text.Goals as goal
+use Rattle.file_records.specs.recorded.Data.{data_text}
+use Rattle.file_records.proofs.recorded_lemmas.SameData.{data_same}
+use Rattle.file_records.proofs.recorded.data.data_text.Goals as goal
 
 pub run_tracks-requires-clause-spans : goal.run_tracks-requires-clause-spans
 run_tracks-requires-clause-spans c = ap length c.values-values.ensures ∙ c.requires.inside.count

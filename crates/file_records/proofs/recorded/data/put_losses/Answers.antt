@@ -1,7 +1,7 @@
 use Rattle.run_rows.specs.RowLaws.{texts_more}
 use Rattle.std.proofs.Common.{◌++◌, ◌∙◌, Bool, ap}
-use Rattle.file_recorded.specs.Data.{level_field, loss_field}
-use Rattle.file_recorded.proofs.data.put_losses.Goals as goal
+use Rattle.file_records.specs.recorded.Data.{level_field, loss_field}
+use Rattle.file_records.proofs.recorded.data.put_losses.Goals as goal
 
 pub loop-c-preserved : goal.loop-c-preserved
 loop-c-preserved c =

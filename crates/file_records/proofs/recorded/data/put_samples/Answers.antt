@@ -1,7 +1,7 @@
 use Rattle.run_rows.specs.RowLaws.{texts_more}
 use Rattle.run_changes.specs.PlayedTracks.{played}
-use Rattle.file_recorded.specs.Data.{sample_text}
-use Rattle.file_recorded.proofs.data.put_samples.Goals as goal
+use Rattle.file_records.specs.recorded.Data.{sample_text}
+use Rattle.file_records.proofs.recorded.data.put_samples.Goals as goal
 
 pub loop-t-preserved : goal.loop-t-preserved
 loop-t-preserved c =

@@ -1,8 +1,8 @@
 use Rattle.std.proofs.Common.{◌≡◌, ◌++◌}
 use Rattle.run_rows.specs.PlayRows.{each_below}
 use Rattle.run_changes.specs.PlayedTracks.{played}
-use Rattle.file_recorded.specs.Data.{sample_text}
-use Rattle.file_recorded.proofs.data.put_samples.Given as goal
+use Rattle.file_records.specs.recorded.Data.{sample_text}
+use Rattle.file_records.proofs.recorded.data.put_samples.Given as goal
 
 abbrev pub invariant-loop-t : goal.invariant-loop-t
 invariant-loop-t l =

@@ -4,9 +4,9 @@ use Rattle.std.specs.Prelude.{slice_get}
 use Rattle.model_line.specs.Parameters.{terminal_count}
 use Rattle.run_rows.specs.RowLaws.{texts_more}
 use Rattle.run_changes.specs.PlayedTracks.{is_on, is_shown, shown_is, played}
-use Rattle.file_recorded.specs.Data.{all_seen, level_field, terminal_fields}
-use Rattle.file_recorded.proofs.TrackLevels.{all_ticks}
-use Rattle.file_recorded.proofs.data.put_terminals.Goals as goal
+use Rattle.file_records.specs.recorded.Data.{all_seen, level_field, terminal_fields}
+use Rattle.file_records.proofs.recorded_lemmas.TrackLevels.{all_ticks}
+use Rattle.file_records.proofs.recorded.data.put_terminals.Goals as goal
 
 pub put_terminal-requires-clause-key : goal.put_terminal-requires-clause-key
 put_terminal-requires-clause-key c =

@@ -1,8 +1,8 @@
 use Rattle.std.proofs.Common.{◌≡◌, ◌++◌}
 use Rattle.run_rows.specs.PlayRows.{each_below}
 use Rattle.run_changes.specs.PlayedTracks.{played}
-use Rattle.file_recorded.specs.Data.{terminal_fields}
-use Rattle.file_recorded.proofs.data.put_terminals.Given as goal
+use Rattle.file_records.specs.recorded.Data.{terminal_fields}
+use Rattle.file_records.proofs.recorded.data.put_terminals.Given as goal
 
 abbrev pub invariant-loop-k : goal.invariant-loop-k
 invariant-loop-k l =
