@@ -9,7 +9,7 @@ use Rattle.file_study.specs.sweeps.Studies.{AreScriptsOf, IsStudyRefused}
 use Rattle.file_study.specs.declared.sweeps.group.Group.{Group}
 use Rattle.file_study.specs.declared.sweeps.study_fault.StudySweepFault.{StudySweepFault}
 use Rattle.file_study.specs.declared.sweeps.study_fault.StudySweepFault.TheVariants.{Memory}
-use Rattle.file_times.specs.declared.time.Interval.{Interval}
+use Rattle.file_study.specs.declared.times.time.Interval.{Interval}
 use Rattle.model_line.specs.{declared.line.Line.Line, declared.script.Script.Script}
 use Rattle.judge_lint.specs.declared.warning.Warning.{Warning}
 use Rattle.judge_lint.specs.Warnings.{warnings}

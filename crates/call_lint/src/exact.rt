@@ -2,10 +2,10 @@
 
 ghost use Rattle.std.specs.Prelude.{IfOk};
 ghost use Rattle.std.specs.List.{All};
-ghost use Rattle.file_times.specs.Times.{IsEnd};
+ghost use Rattle.file_study.specs.times.Times.{IsEnd};
 ghost use Rattle.judge_lint.specs.TimeTests.{AreEnds};
 
-use file_times::{Fraction, Interval};
+use file_study::times::{Fraction, Interval};
 use model_line::{Line, Memory, Setting, groups_of_channel, groups_of_terminal};
 use std::alloc::Global;
 use toml::{Table, Value};

@@ -7,7 +7,7 @@ ghost use Rattle.judge_lint.specs.TimeTests.{AreEnds};
 use crate::exact::{microseconds, table_of};
 use crate::text::push_all;
 use file_study::study::Study;
-use file_times::{Interval, Time, read_time};
+use file_study::times::{Interval, Time, read_time};
 use model_line::{
     Channel, Line, Memory, Setting, groups_of_channel, groups_of_terminal, name_of_terminal,
 };

@@ -1,2 +1,3 @@
 pub mod study
 pub mod sweeps
+pub mod times

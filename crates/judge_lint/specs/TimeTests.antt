@@ -1,8 +1,8 @@
 -- What is suspicious in a time.
 use Rattle.std.specs.Prelude.{◌&&◌, ◌==◌, ◌*◌, ◌%◌, ℕ, Bool, not, nat_le, nat_lt}
-use Rattle.file_times.specs.declared.fraction.Fraction.{Fraction}
-use Rattle.file_times.specs.declared.time.Interval.{Interval}
-use Rattle.file_times.specs.Times.{IsEnd}
+use Rattle.file_study.specs.declared.times.fraction.Fraction.{Fraction}
+use Rattle.file_study.specs.declared.times.time.Interval.{Interval}
+use Rattle.file_study.specs.times.Times.{IsEnd}
 use Rattle.model_history.specs.Rails.{Ends}
 use Rattle.model_line.specs.{declared.line.Line.Line, Parameters.declared_ends}
 use Rattle.model_line.specs.Parameters.{is_delay}

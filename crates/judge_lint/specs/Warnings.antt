@@ -2,7 +2,7 @@
 -- the scripts.
 use Rattle.std.specs.Prelude.{◌++◌, ◌&&◌, ℕ, List, [], ◌∷◌, Option, Some, None, length, not, slice_get}
 use Rattle.std.specs.List.{flat_map}
-use Rattle.file_times.specs.declared.time.Interval.{Interval}
+use Rattle.file_study.specs.declared.times.time.Interval.{Interval}
 use Rattle.model_line.specs.{declared.line.Line.Line, declared.script.Script.Script}
 use Rattle.model_line.specs.{declared.script.Place.Place, declared.script.Element.Element}
 use Rattle.model_line.specs.declared.script.Element.TheVariants.{Z1, Z2, Rv, Uv}

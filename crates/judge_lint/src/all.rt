@@ -8,7 +8,7 @@ use crate::elements::push_terminals;
 use crate::scripts::push_scripts;
 use crate::times::push_times;
 use crate::warning::Warning;
-use file_times::Interval;
+use file_study::times::Interval;
 use model_line::{Line, Memory, Script};
 use std::alloc::Global;
 

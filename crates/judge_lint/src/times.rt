@@ -2,7 +2,7 @@
 
 ghost use Rattle.std.specs.Prelude.{◌≡◌, ◌++◌, ◌<◌, OnOk, slice_get};
 ghost use Rattle.std.specs.List.{All};
-ghost use Rattle.file_times.specs.Times.{IsEnd};
+ghost use Rattle.file_study.specs.times.Times.{IsEnd};
 ghost use Rattle.model_line.specs.Parameters.{param_count};
 ghost use Rattle.judge_lint.specs.TimeTests.{AreEnds, is_below_tick, is_whole, is_rounded};
 ghost use Rattle.judge_lint.specs.TimeTests.{is_fixed_delay};
@@ -11,7 +11,7 @@ ghost use Rattle.judge_lint.specs.Warnings.{exact_warnings, declared_warnings, t
 
 use crate::listed::push_if;
 use crate::warning::Warning;
-use file_times::{Fraction, Interval};
+use file_study::times::{Fraction, Interval};
 use model_line::{Line, Memory};
 
 /// Adds the warnings of the times, parameter by parameter.

@@ -6,7 +6,7 @@ use Rattle.judge_margins.specs.{map.Cells.AreCells, map.MapText.map_text}
 use Rattle.draw_shapes.specs.{Drawings.drawing_of, declared.grid.Grid.Grid}
 use Rattle.draw_map.specs.Grids.{IsGridOf}
 use Rattle.draw_shapes.specs.Svg.{svg_of}
-use Rattle.file_times.specs.Parts.{names_of}
+use Rattle.file_study.specs.times.Parts.{names_of}
 use Rattle.call_answer.specs.Answers.{Answers, prints}
 use Rattle.call_ask.specs.declared.map.MapForm.{MapForm}
 use Rattle.call_work.specs.map.Asked.{AreAxesOf, Both}

@@ -8,8 +8,8 @@ use Rattle.judge_margins.specs.{declared.map.axis.Axis.Axis, declared.map.axis.A
 use Rattle.judge_margins.specs.declared.map.fault.MapFault.{MapFault}
 use Rattle.judge_margins.specs.declared.map.fault.MapFault.TheVariants.{TooMany}
 use Rattle.judge_margins.specs.map.Faults.{first_fault, or_else}
-use Rattle.file_times.specs.declared.{axis_fault.AxisFault.AxisFault, steps.Steps.Steps}
-use Rattle.file_times.specs.{Names.params_of, Parts.names_of, Steps.steps_of}
+use Rattle.file_study.specs.declared.times.{axis_fault.AxisFault.AxisFault, steps.Steps.Steps}
+use Rattle.file_study.specs.{times.Names.params_of, times.Parts.names_of, times.Steps.steps_of}
 use Rattle.call_work.specs.declared.map.{denial.MapDenial.MapDenial, denial.Side.Side}
 use Rattle.call_work.specs.declared.map.denial.MapDenial.TheVariants as denial
 use Rattle.call_work.specs.declared.map.denial.Side.TheVariants as side

@@ -2,9 +2,9 @@
 use Rattle.std.specs.Prelude.{ℕ, List, [], ◌∷◌, Option, None, Some, codes, decimal}
 use Rattle.judge_margins.specs.declared.map.fault.MapFault.{MapFault}
 use Rattle.judge_margins.specs.declared.map.fault.MapFault.TheVariants as map
-use Rattle.file_times.specs.declared.axis_fault.AxisFault.{AxisFault}
-use Rattle.file_times.specs.declared.axis_fault.AxisFault.TheVariants as axis
-use Rattle.file_times.specs.AxisWords.{part_words, what_words}
+use Rattle.file_study.specs.declared.times.axis_fault.AxisFault.{AxisFault}
+use Rattle.file_study.specs.declared.times.axis_fault.AxisFault.TheVariants as axis
+use Rattle.file_study.specs.times.AxisWords.{part_words, what_words}
 use Rattle.call_work.specs.declared.map.{denial.MapDenial.MapDenial, denial.Side.Side}
 use Rattle.call_work.specs.declared.map.denial.MapDenial.TheVariants as denial
 use Rattle.call_work.specs.declared.map.denial.Side.TheVariants as side

@@ -15,7 +15,7 @@ ghost use Rattle.call_work.specs.declared.map.denial.MapDenial.{MapDenial as Den
 ghost use Rattle.call_work.specs.declared.map.denial.MapStop.TheVariants.{Denied};
 
 use crate::map::denial::{MapDenial, MapStop, Side};
-use file_times::{names_of, params_of, read_steps};
+use file_study::times::{names_of, params_of, read_steps};
 use judge_margins::map::{Axes, Axis, map_fault};
 use model_line::Line;
 use std::alloc::Global;

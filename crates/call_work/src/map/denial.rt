@@ -8,11 +8,11 @@ ghost use Rattle.call_work.specs.map.Denials.{number_words, pieces_of};
 ghost use Rattle.call_work.specs.map.Denials.{map_denial_status, side_words as words_of_side};
 ghost use Rattle.call_work.specs.map.Denials.{where_words as words_of_place, words_status as status_of_words};
 ghost use Rattle.call_work.specs.declared.map.denial.MapStop.TheVariants.{Memory as NoMemory};
-ghost use Rattle.file_times.specs.AxisWords.{what_words};
+ghost use Rattle.file_study.specs.times.AxisWords.{what_words};
 
 use base_text::store::{PutFailed, Sink};
 use call_answer::put_pieces;
-use file_times::AxisFault;
+use file_study::times::AxisFault;
 use itoa::Buffer;
 use judge_margins::map::MapFault;
 use model_line::{Memory, Name};

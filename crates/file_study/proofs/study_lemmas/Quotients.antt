@@ -3,12 +3,12 @@ use Rattle.std.proofs.Common.{◌≡◌, ◌∙◌, ◌+◌, ◌-◌, ◌*◌, �
 use Rattle.std.proofs.Common.{false, List, [], ◌∷◌, Ok, Err, ap, refl, le-leb, arith}
 use Rattle.std.proofs.lemmas.Bool.{false_from_ne_true, leb-true}
 use Rattle.std.proofs.Math.Nat.{mul-le-mul_right}
-use Rattle.file_times.specs.declared.fraction.Fraction.{Fraction}
-use Rattle.file_times.specs.declared.time.Sweep.{Sweep}
-use Rattle.file_times.specs.{Rounding.IsRoundedDown, Rounding.IsRoundedUp, Sweeps.value_of}
-use Rattle.file_times.specs.{Fractions.is_at_most, Sweeps.IsCount}
-use Rattle.file_times.specs.WholeTickLaws.{divided_up as whole_up}
-use Rattle.file_times.specs.RoundedLaws.{rounded_down}
+use Rattle.file_study.specs.declared.times.fraction.Fraction.{Fraction}
+use Rattle.file_study.specs.declared.times.time.Sweep.{Sweep}
+use Rattle.file_study.specs.{times.Rounding.IsRoundedDown, times.Rounding.IsRoundedUp, times.Sweeps.value_of}
+use Rattle.file_study.specs.{times.Fractions.is_at_most, times.Sweeps.IsCount}
+use Rattle.file_study.specs.times.WholeTickLaws.{divided_up as whole_up}
+use Rattle.file_study.specs.times.RoundedLaws.{rounded_down}
 use Rattle.file_study.specs.declared.study.fault.StudyFault.{StudyFault}
 use Rattle.file_study.specs.declared.study.fault.StudyFault.TheVariants as fault
 use Rattle.file_study.specs.study.Rounding.{down, up, rounded, divided_up}

@@ -1,7 +1,7 @@
 -- What is told of a fault of a study: its place, and what is wrong there.
 use Rattle.std.specs.Prelude.{ℕ, List, Option, None, Some, codes}
-use Rattle.file_times.specs.declared.fault.TimeFault.{TimeFault}
-use Rattle.file_times.specs.declared.fault.TimeFault.TheVariants as time
+use Rattle.file_study.specs.declared.times.fault.TimeFault.{TimeFault}
+use Rattle.file_study.specs.declared.times.fault.TimeFault.TheVariants as time
 use Rattle.file_study.specs.declared.study.fault.StudyFault.{StudyFault}
 use Rattle.file_study.specs.declared.study.fault.StudyFault.TheVariants as fault
 

@@ -1,11 +1,11 @@
 -- Times of a study in ticks: intervals, instants, and the values of a sweep.
 use Rattle.std.specs.Prelude.{◌+◌, ◌&&◌, ◌==◌, ◌++◌, ℕ, zero, suc, Bool, List, [], ◌∷◌}
 use Rattle.std.specs.Prelude.{Result, Ok, Err, if◌then◌else◌, nat_le}
-use Rattle.file_times.specs.declared.fraction.Fraction.{Fraction}
-use Rattle.file_times.specs.declared.fault.TimeFault.{TimeFault}
-use Rattle.file_times.specs.declared.time.{Sweep.Sweep, Time.Time, Interval.Interval}
-use Rattle.file_times.specs.declared.time.Time.TheVariants as time
-use Rattle.file_times.specs.{Times.time_of, Sweeps.value_of, Fractions.is_at_most}
+use Rattle.file_study.specs.declared.times.fraction.Fraction.{Fraction}
+use Rattle.file_study.specs.declared.times.fault.TimeFault.{TimeFault}
+use Rattle.file_study.specs.declared.times.time.{Sweep.Sweep, Time.Time, Interval.Interval}
+use Rattle.file_study.specs.declared.times.time.Time.TheVariants as time
+use Rattle.file_study.specs.{times.Times.time_of, times.Sweeps.value_of, times.Fractions.is_at_most}
 use Rattle.model_line.specs.declared.bounds.Bounds.{Bounds}
 use Rattle.base_records.specs.Gives.{◌>>=◌}
 use Rattle.file_study.specs.declared.study.fault.StudyFault.{StudyFault}

@@ -1,6 +1,6 @@
 -- Times in whole ticks.
 use Rattle.std.specs.Prelude.{◌+◌, ◌-◌, ◌/◌, ℕ, Bool, true, false}
-use Rattle.file_times.specs.declared.fraction.Fraction.{Fraction}
+use Rattle.file_study.specs.declared.times.fraction.Fraction.{Fraction}
 
 -- the least whole number that is not below a quotient
 abbrev pub divided_up : ℕ → ℕ → ℕ

@@ -5,7 +5,7 @@ ghost use Rattle.file_study.specs.declared.study.fault.StudyFault.TheVariants.{M
 ghost use Rattle.file_study.specs.study.FaultWords.{words_of_time};
 
 use crate::study::path::Path;
-use file_times::TimeFault;
+use crate::times::TimeFault;
 use std::alloc::{AllocError, AllocFailed};
 use std::fmt;
 

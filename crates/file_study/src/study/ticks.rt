@@ -1,18 +1,18 @@
 //! Times of a study in ticks.
 
 ghost use Rattle.std.specs.Prelude.{◌≡◌, ◌<◌, ◌≤◌, ◌+◌, IfOk, ◌^◌};
-ghost use Rattle.file_times.specs.Times.{IsEnd, IsReadable, IsSwept};
+ghost use Rattle.file_study.specs.times.Times.{IsEnd, IsReadable, IsSwept};
 ghost use Rattle.file_study.specs.study.Rounding.{down, up, rounded};
 ghost use Rattle.file_study.specs.study.Reading.{Gives};
 ghost use Rattle.file_study.specs.study.Moments.{limited, bounds_of, bounds_in, instant_at, instant_of};
 ghost use Rattle.file_study.specs.study.Moments.{told, is_instant, instant_in, swept_in, moments_in};
 ghost use Rattle.file_study.specs.study.Moments.{moments_of};
-ghost use Rattle.file_times.specs.Times.{time_of};
+ghost use Rattle.file_study.specs.times.Times.{time_of};
 
 use crate::study::fault::StudyFault;
 use crate::study::path::Path;
 use crate::study::units::Units;
-use file_times::{Fraction, Interval, Sweep, Time, read_time};
+use crate::times::{Fraction, Interval, Sweep, Time, read_time};
 use model_line::Bounds;
 use std::alloc::Global;
 

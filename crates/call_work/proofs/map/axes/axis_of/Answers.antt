@@ -1,6 +1,6 @@
 use Rattle.std.proofs.Common.{refl, sym, ap, ◌∙◌, List, ℕ}
-use Rattle.file_times.specs.Names.{params_of}
-use Rattle.file_times.specs.Parts.{names_of}
+use Rattle.file_study.specs.times.Names.{params_of}
+use Rattle.file_study.specs.times.Parts.{names_of}
 use Rattle.call_work.proofs.map_lemmas.Params.{are_params}
 use Rattle.call_work.proofs.map.axes.axis_of.Goals as goal
 

@@ -1,6 +1,6 @@
 use Rattle.std.proofs.Common.{◌<◌, ◌-◌, ap, sym, ◌∙◌, arith}
 use Rattle.std.proofs.lemmas.Result.{err_from_is_err_and}
-use Rattle.file_times.specs.Sweeps.{value_of}
+use Rattle.file_study.specs.times.Sweeps.{value_of}
 use Rattle.file_study.specs.study.Moments.{all_limited}
 use Rattle.file_study.proofs.study_lemmas.Ends.{fails_is}
 use Rattle.file_study.proofs.study_lemmas.Quotients.{values_more, values_none, limited_more, limited_ends}

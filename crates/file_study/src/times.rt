@@ -1,0 +1,34 @@
+//! Times as a study writes them, and the words of an axis of a map.
+//!
+//! - A number with a unit, an interval, a tolerance or a sweep, as exact fractions of microseconds,
+//!   and rounded to ticks. `specs/Times.antt` says what a text means, `specs/Rounding.antt` and
+//!   `specs/Sweeps.antt` what comes of it.
+//! - An axis, `P=FROM..TO:STEP`: parameters of a line that move together, and the numbers of ticks
+//!   from which their intervals begin. `specs/Names.antt` says for which parameters the names
+//!   stand, `specs/Steps.antt` what the numbers come to.
+
+mod axis_fault;
+mod axis_number;
+mod fault;
+mod fraction;
+pub mod laws;
+mod names;
+mod number;
+mod parts;
+mod read;
+mod rounding;
+mod steps;
+mod sweep;
+mod time;
+mod unit;
+mod word;
+
+pub use axis_fault::{AxisFault, Part};
+pub use fault::TimeFault;
+pub use fraction::Fraction;
+pub use names::params_of;
+pub use parts::names_of;
+pub use read::read_time;
+pub use rounding::TickInterval;
+pub use steps::{Steps, read_steps};
+pub use time::{Interval, Sweep, Time};
