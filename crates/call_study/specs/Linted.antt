@@ -3,9 +3,9 @@
 use Rattle.std.specs.Prelude.{◌≡◌, ℕ, List}
 use Rattle.call_answer.specs.{Answers.Answers, declared.done.Done.Done}
 use Rattle.call_answer.specs.declared.done.Done.TheVariants as done
-use Rattle.call_lint.specs.Outcomes.{IsLinted, IsStudyLinted}
-use Rattle.call_lint.specs.declared.linted.Outcome.{Outcome}
-use Rattle.call_lint.specs.declared.linted.Outcome.TheVariants as outcome
+use Rattle.call_lint.specs.lint.Outcomes.{IsLinted, IsStudyLinted}
+use Rattle.call_lint.specs.declared.lint.linted.Outcome.{Outcome}
+use Rattle.call_lint.specs.declared.lint.linted.Outcome.TheVariants as outcome
 use Rattle.call_work.specs.load.Request.{Source, files, study}
 
 -- the status 0, 2 or 3

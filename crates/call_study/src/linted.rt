@@ -7,7 +7,7 @@ ghost use Rattle.call_work.specs.load.Loaded.{source_in};
 
 use call_answer::{Done, Said};
 use call_ask::Source;
-use call_lint::{Names, Outcome, lint_line, lint_study};
+use call_lint::lint::{Names, Outcome, lint_line, lint_study};
 use call_work::load::Bytes;
 use model_line::Memory;
 use std::alloc::Global;

@@ -5,7 +5,7 @@ use crate::call::LONGEST;
 use crate::fault::Fault;
 use base_text::store::{MemorySink, MemoryStore, fetch, put_all};
 use call_engine::NetEngine;
-use call_lint::{Linted, Names, lint_line, lint_study};
+use call_lint::lint::{Linted, Names, lint_line, lint_study};
 use call_pilot::top::pilot;
 use std::alloc::Global;
 

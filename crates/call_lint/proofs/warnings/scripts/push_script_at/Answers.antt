@@ -1,0 +1,11 @@
+use Rattle.std.proofs.Common.{◌≡◌, None, arith}
+use Rattle.std.specs.Prelude.{slice_get}
+use Rattle.std.proofs.lemmas.Grind.{common_steps}
+use Rattle.std.proofs.lemmas.Option.{slice_get_past}
+use Rattle.call_lint.proofs.warnings.scripts.push_script_at.Goals as goal
+
+pub returns-in-None : goal.returns-in-None
+returns-in-None c =
+    let none : slice_get c.args.scripts.now c.args.s ≡ None =
+    slice_get_past c.args.scripts.now c.args.s (omega (arith, c.in-None.ensures)) in
+    grind (arith, common_steps)

@@ -1,0 +1,63 @@
+-- What lint finds, and its exit status.
+use Rattle.std.specs.Prelude.{◌≡◌, ◌⊎◌, ◌≢◌, ℕ, List, [], ◌∷◌, Ok, IsErr, map}
+use Rattle.file_line.specs.{Lines.line_values, LineFiles.line_of}
+use Rattle.file_tables.specs.{script.Values.values_of, script.Scripts.scripts_of}
+use Rattle.file_study.specs.study.Faults.{FaultValues, fault_values}
+use Rattle.file_study.specs.study.Studies.{study_of, study_values}
+use Rattle.file_study.specs.declared.study.study.Study.{Study}
+use Rattle.file_study.specs.sweeps.Studies.{AreScriptsOf, IsStudyRefused}
+use Rattle.file_study.specs.declared.sweeps.group.Group.{Group}
+use Rattle.file_study.specs.declared.sweeps.study_fault.StudySweepFault.{StudySweepFault}
+use Rattle.file_study.specs.declared.sweeps.study_fault.StudySweepFault.TheVariants.{Memory}
+use Rattle.file_study.specs.declared.times.time.Interval.{Interval}
+use Rattle.model_line.specs.{declared.line.Line.Line, declared.script.Script.Script}
+use Rattle.call_lint.specs.declared.warnings.warning.Warning.{Warning}
+use Rattle.call_lint.specs.warnings.Warnings.{warnings}
+use Rattle.call_lint.specs.declared.lint.linted.Outcome.{Outcome}
+use Rattle.call_lint.specs.declared.lint.linted.Outcome.TheVariants.{Clean, Suspicious, Refused}
+
+abbrev pub status_of : Outcome → ℕ
+status_of Clean = 0
+status_of Suspicious = 2
+status_of Refused = 3
+
+-- of files that are accepted: whether there is a warning
+abbrev pub outcome_of : List Warning → Outcome
+outcome_of [] = Clean
+outcome_of (w ∷ ws) = Suspicious
+
+-- of a line and scripts: by their warnings, with the exact ends of the times as they are told
+pub record IsReadLinted (line : Line) (scripts : List Script) (outcome : Outcome) : Type 0 where
+  pub exact : List Interval
+  pub told : outcome ≡ outcome_of (warnings line exact scripts)
+
+-- of a line and the bytes of its scripts: refused, or read
+abbrev pub IsScriptsLinted : Line → List ℕ → Outcome → Type 0
+IsScriptsLinted line bytes outcome =
+    (IsErr (scripts_of line bytes) × (outcome ≡ Refused))
+    ⊎ ((scripts : List Script) × (scripts_of line bytes ≡ Ok (map values_of scripts))
+    × IsReadLinted line scripts outcome)
+
+-- of the bytes of both
+abbrev pub IsLinted : List ℕ → List ℕ → Outcome → Type 0
+IsLinted line scripts outcome =
+    (IsErr (line_of line) × (outcome ≡ Refused))
+    ⊎ ((own : Line) × (line_of line ≡ Ok (line_values own))
+    × IsScriptsLinted own scripts outcome)
+
+-- Of the line of a study and its faults: refused, where they come to no scripts for a reason that is
+-- not want of memory, or read.
+abbrev pub IsFaultsLinted : Line → List FaultValues → Outcome → Type 0
+IsFaultsLinted line faults outcome =
+    ((why : StudySweepFault) × (why ≢ Memory) × IsStudyRefused line faults why
+    × (outcome ≡ Refused))
+    ⊎ ((scripts : List Script) × (groups : List Group)
+    × AreScriptsOf line faults scripts groups
+    × IsReadLinted line scripts outcome)
+
+-- of the bytes of a study
+abbrev pub IsStudyLinted : List ℕ → Outcome → Type 0
+IsStudyLinted bytes outcome =
+    (IsErr (study_of bytes) × (outcome ≡ Refused))
+    ⊎ ((study : Study) × (study_of bytes ≡ Ok (study_values study))
+    × IsFaultsLinted study.line (map fault_values study.faults.items) outcome)

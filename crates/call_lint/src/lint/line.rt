@@ -1,0 +1,78 @@
+//! Over a line file and its scripts.
+
+ghost use Rattle.std.specs.Prelude.{IfOk};
+ghost use Rattle.call_lint.specs.lint.Outcomes.{IsLinted, IsScriptsLinted, IsReadLinted};
+
+use crate::lint::exact::exact_ends;
+use crate::lint::linted::{Linted, Outcome, outcome_of};
+use crate::lint::refused_line::refused_line;
+use crate::lint::refused_scripts::refused_scripts;
+use crate::lint::sheet::{Names, Sheet};
+use crate::lint::warned::warnings_text;
+use file_line::{LineFault, read_line};
+use file_tables::script::{ScriptFault, read_scripts};
+use crate::warnings::warnings;
+use model_line::{Line, Memory, Script};
+use std::alloc::Global;
+
+/// What is suspicious in a line file and its scripts, or where and why one of them is refused.
+pub fn lint_line(
+    alloc: Global,
+    line: &[u8],
+    scripts: &[u8],
+    names: Names<'_>,
+) -> Result<Linted, Memory>
+    ensures { IfOk result (λ linted. IsLinted line.now scripts.now linted.outcome) }
+{
+    match read_line(alloc, line) {
+        Ok(own) => lint_scripts(alloc, &own, line, scripts, names),
+        Err(LineFault::Memory) => Err(Memory),
+        Err(fault) => Ok(Linted {
+            outcome: Outcome::Refused,
+            text: refused_line(alloc, line, names.line, &fault)?,
+        }),
+    }
+}
+
+fn lint_scripts(
+    alloc: Global,
+    own: &Line,
+    line: &[u8],
+    scripts: &[u8],
+    names: Names<'_>,
+) -> Result<Linted, Memory>
+    ensures { IfOk result (λ linted. IsScriptsLinted own.now scripts.now linted.outcome) }
+{
+    match read_scripts(alloc, own, scripts) {
+        Ok(read) => {
+            let sheet = Sheet::Files {
+                line,
+                scripts,
+                names,
+            };
+            lint_read(alloc, own, line, &sheet, &read)
+        }
+        Err(ScriptFault::Memory) => Err(Memory),
+        Err(fault) => Ok(Linted {
+            outcome: Outcome::Refused,
+            text: refused_scripts(alloc, scripts, names.scripts, &fault)?,
+        }),
+    }
+}
+
+fn lint_read(
+    alloc: Global,
+    own: &Line,
+    line: &[u8],
+    sheet: &Sheet<'_>,
+    scripts: &[Script],
+) -> Result<Linted, Memory>
+    ensures { IfOk result (λ linted. IsReadLinted own.now scripts.now linted.outcome) }
+{
+    let exact = exact_ends(alloc, own, line)?;
+    let list = warnings(alloc, own, &exact, scripts)?;
+    Ok(Linted {
+        outcome: outcome_of(&list),
+        text: warnings_text(alloc, sheet, own, scripts, &list)?,
+    })
+}

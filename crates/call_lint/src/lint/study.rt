@@ -1,0 +1,85 @@
+//! Over a study.
+
+ghost use Rattle.std.specs.Prelude.{IfOk, map};
+ghost use Rattle.file_study.specs.study.Faults.{fault_values};
+ghost use Rattle.call_lint.specs.lint.Outcomes.{IsFaultsLinted, IsReadLinted, IsStudyLinted};
+
+use crate::lint::linted::{Linted, Outcome, outcome_of};
+use crate::lint::refused_study::{refused_study, refused_sweep};
+use crate::lint::sheet::Sheet;
+use crate::lint::study_times::exact_ends;
+use crate::lint::warned::warnings_text;
+use file_study::study::{Study, StudyFault, read_study};
+use file_study::sweeps::{Group, StudySweepFault, scripts_of_study};
+use crate::warnings::warnings;
+use model_line::{Memory, Script};
+use std::alloc::Global;
+
+/// What is suspicious in a study and the scripts that it comes to, or where and why it is refused.
+pub fn lint_study(alloc: Global, bytes: &[u8], name: &str) -> Result<Linted, Memory>
+    ensures { IfOk result (λ linted. IsStudyLinted bytes.now linted.outcome) }
+{
+    match read_study(alloc, bytes) {
+        Ok(study) => lint_faults(alloc, &study, bytes, name),
+        Err(StudyFault::Memory) => Err(Memory),
+        Err(fault) => Ok(Linted {
+            outcome: Outcome::Refused,
+            text: refused_study(alloc, bytes, name, &fault)?,
+        }),
+    }
+}
+
+fn lint_faults(alloc: Global, study: &Study, bytes: &[u8], name: &str) -> Result<Linted, Memory>
+    ensures { IfOk result (λ linted. IsFaultsLinted study.now.line
+        (map fault_values study.now.faults.items) linted.outcome) }
+{
+    match scripts_of_study(alloc, study) {
+        Ok(all) => {
+            let numbers = numbers_of(alloc, &all.groups)?;
+            let sheet = Sheet::Study {
+                bytes,
+                name,
+                faults: &numbers,
+            };
+            lint_scripts(alloc, study, bytes, &sheet, &all.scripts)
+        }
+        Err(StudySweepFault::Memory) => Err(Memory),
+        Err(fault) => Ok(Linted {
+            outcome: Outcome::Refused,
+            text: refused_sweep(alloc, bytes, name, &fault)?,
+        }),
+    }
+}
+
+// The number of the fault that each script is of.
+fn numbers_of(alloc: Global, groups: &[Group]) -> Result<Vec<usize>, Memory> {
+    let mut numbers = Vec::new(alloc);
+    for (i, group) in groups.iter().enumerate() {
+        push_number_of(&mut numbers, i, group.swept.len())?;
+    }
+    Ok(numbers)
+}
+
+fn push_number_of(numbers: &mut Vec<usize>, i: usize, count: usize) -> Result<(), Memory> {
+    for _ in 0..count {
+        numbers.push(i)?;
+    }
+    Ok(())
+}
+
+fn lint_scripts(
+    alloc: Global,
+    study: &Study,
+    bytes: &[u8],
+    sheet: &Sheet<'_>,
+    scripts: &[Script],
+) -> Result<Linted, Memory>
+    ensures { IfOk result (λ linted. IsReadLinted study.now.line scripts.now linted.outcome) }
+{
+    let exact = exact_ends(alloc, study, bytes)?;
+    let list = warnings(alloc, &study.line, &exact, scripts)?;
+    Ok(Linted {
+        outcome: outcome_of(&list),
+        text: warnings_text(alloc, sheet, &study.line, scripts, &list)?,
+    })
+}

@@ -1,0 +1,35 @@
+//! All warnings.
+
+ghost use Rattle.std.specs.Prelude.{◌≡◌, IfOk};
+ghost use Rattle.std.specs.List.{All};
+ghost use Rattle.call_lint.specs.{warnings.TimeTests.AreEnds, warnings.Warnings.warnings as warnings_of};
+
+use crate::warnings::elements::push_terminals;
+use crate::warnings::scripts::push_scripts;
+use crate::warnings::times::push_times;
+use crate::warnings::warning::Warning;
+use file_study::times::Interval;
+use model_line::{Line, Memory, Script};
+use std::alloc::Global;
+
+/// The warnings of a line and its scripts: of the times by parameter, of the terminals, of the
+/// scripts, in the order in which `Warning` names them.
+///
+/// `exact` has the ends of each parameter in microseconds, as they are written. Where it has none
+/// for a parameter, nothing is said of what was rounded to ticks.
+#[tactic(auto, unfolding(crate::specs::warnings::Warnings::warnings))]
+pub fn warnings(
+    alloc: Global,
+    line: &Line,
+    exact: &[Interval],
+    scripts: &[Script],
+) -> Result<Vec<Warning>, Memory>
+    requires { All AreEnds exact.now }
+    ensures { IfOk result (λ v. v.items ≡ warnings_of line.now exact.now scripts.now) }
+{
+    let mut list = Vec::new(alloc);
+    push_times(&mut list, line, exact)?;
+    push_terminals(&mut list, line, scripts)?;
+    push_scripts(&mut list, line, scripts)?;
+    Ok(list)
+}

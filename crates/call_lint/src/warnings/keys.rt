@@ -1,0 +1,69 @@
+//! Where the key of a TOML document stands.
+
+ghost use Rattle.std.specs.Prelude.{◌≡◌, ◌≤◌, IfOk, IfSome, length};
+
+use crate::warnings::bytes::first_line;
+use crate::warnings::path::{last_key, leads_to};
+use crate::warnings::section::Section;
+use base_memory::Memory;
+use std::alloc::Global;
+
+/// Where the key of this path, as `terminal[0].z2.pickup`, stands in a TOML document; where it does
+/// not, the deepest table of the path that does, or else the beginning.
+///
+/// It is looked for line by line: a header, a key with an equals sign behind it, and in its line the
+/// keys of an inline table. A table that is written otherwise is found as far as that goes.
+pub fn place_of_key(alloc: Global, bytes: &[u8], path: &[u8]) -> Result<usize, Memory>
+    ensures { IfOk result (λ place. place ≤ length bytes.now) }
+{
+    let mut section = Section::new(alloc);
+    let mut place = 0;
+    let mut depth = 0;
+    for i in 0..bytes.len() {
+        if begins_line(bytes, i) {
+            let own = section.path_of(alloc, first_line(&bytes[i..]))?;
+            if depth < own.len() && leads_to(&own, path) {
+                place = i;
+                depth = own.len();
+            }
+        }
+    }
+    Ok(place_of_word(bytes, place, last_key(path)))
+}
+
+/// Where a table or key of exactly this path stands.
+pub fn place_of_table(alloc: Global, bytes: &[u8], path: &[u8]) -> Result<Option<usize>, Memory>
+    ensures { IfOk result (λ found. IfSome found (λ place. place ≤ length bytes.now)) }
+{
+    let mut section = Section::new(alloc);
+    for i in 0..bytes.len() {
+        if begins_line(bytes, i) {
+            let own = section.path_of(alloc, first_line(&bytes[i..]))?;
+            if own.as_slice() == path {
+                return Ok(Some(i));
+            }
+        }
+    }
+    Ok(None)
+}
+
+fn begins_line(bytes: &[u8], i: usize) -> bool {
+    match i.checked_sub(1) {
+        None => true,
+        Some(before) => bytes.get(before) == Some(&b'\n'),
+    }
+}
+
+/// Where the word stands in the line that begins at the place, or the place itself.
+pub fn place_of_word(bytes: &[u8], place: usize, word: &[u8]) -> usize
+    requires { place ≤ length bytes.now }
+    ensures { result ≤ length bytes.now }
+{
+    let end = place + first_line(&bytes[place..]).len();
+    for i in place..end {
+        if bytes[i..].starts_with(word) {
+            return i;
+        }
+    }
+    place
+}

@@ -1,6 +1,0 @@
-use Rattle.std.proofs.Common.{◌≡◌, ◌<◌, ℕ, true}
-use Rattle.judge_lint.specs.ScriptTests.{all_stay}
-use Rattle.judge_lint.proofs.scripts.nothing_changes.Given as goal
-
-abbrev pub invariant-loop-t : goal.invariant-loop-t
-invariant-loop-t l = (k : ℕ) → k < l.t → all_stay l.spans k ≡ true
