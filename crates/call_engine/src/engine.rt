@@ -5,7 +5,7 @@ ghost use Rattle.std.specs.List.{All};
 ghost use Rattle.model_line.specs.Fits.{Fits};
 ghost use Rattle.model_logic.specs.Histories.{History, IsLineHistory};
 ghost use Rattle.net_gates.specs.NetOf.{IsNetOf};
-ghost use Rattle.run_rows.specs.PlayRows.{run_rows};
+ghost use Rattle.run_changes.specs.rows.PlayRows.{run_rows};
 ghost use Rattle.model_timing.specs.{Choice.timing_choice, Inside.IsTimingInside};
 ghost use Rattle.cert_claims.specs.check.Check.{IsAccepted, IsCheckFault, IsSound};
 ghost use Rattle.call_engine.specs.Calls.{AskedCertify, AskedCheck, AskedPlay, Calls, NoneFell};

@@ -5,7 +5,7 @@ ghost use Rattle.std.specs.List.{All};
 ghost use Rattle.model_line.specs.Fits.{Fits};
 ghost use Rattle.model_logic.specs.Histories.{History, IsLineHistory};
 ghost use Rattle.net_gates.specs.NetOf.{IsNetOf};
-ghost use Rattle.run_rows.specs.PlayRows.{run_rows};
+ghost use Rattle.run_changes.specs.rows.PlayRows.{run_rows};
 ghost use Rattle.model_timing.specs.{Choice.timing_choice, Inside.IsTimingInside};
 ghost use Rattle.cert_claims.specs.check.Check.{IsAccepted, IsCheckFault, IsSound};
 ghost use Rattle.call_engine.specs.Calls.{AskedCertify, AskedCheck, AskedPlay, NoneFell};
@@ -18,7 +18,7 @@ use judge_verdict::{ScriptVerdict, certify};
 use model_line::{Line, Memory, Script};
 use model_timing::NamedTiming;
 use net_gates::Net;
-use run_rows::play_rows;
+use run_changes::rows::play_rows;
 use std::alloc::Global;
 use std::marker::Model;
 

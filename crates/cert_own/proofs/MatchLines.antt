@@ -25,7 +25,7 @@ use Rattle.base_text.specs.lines.SpacedNumbers.{numbers_text, spaced}
 use Rattle.cert_claims.specs.text.Grammar.{terminal_names}
 use Rattle.cert_claims.specs.text.NameLaws.{name_whole, names_count}
 use Rattle.cert_claims.specs.text.NumberLaws.{numbers_tell, numbers_whole}
-use Rattle.run_rows.specs.PlayRows.{level_word}
+use Rattle.run_changes.specs.rows.PlayRows.{level_word}
 use Rattle.run_waves.specs.waves.Text.{tern_word}
 use Rattle.judge_match.specs.matching.Answer.{Head, IsHead, IsMatchAnswer}
 use Rattle.judge_match.specs.{matching.Clash.IsAllowed, matching.Match.IsMatch, matching.Recorded.IsRecordOf}

@@ -20,7 +20,7 @@ use model_logic::interval_laws::the_rule_over_a_box;
 use model_logic::laws::line_laws;
 use model_timing::Step;
 use net_gates::Net;
-use run_changes::run_tracks;
+use run_changes::changes::run_tracks;
 use run_signal::{Lanes64, Signal, Tick, Ticks64, Track};
 use std::alloc::Global;
 

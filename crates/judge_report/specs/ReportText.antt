@@ -10,7 +10,7 @@ use Rattle.model_logic.specs.Rule.{Rule, Held, Broken, Unknown, rule_of}
 use Rattle.model_logic.specs.Histories.{PairHistory, IsPairHistory}
 use Rattle.model_logic.specs.Choice.{declared_box}
 use Rattle.model_line.specs.NamesByNumber.{terminal_name}
-use Rattle.run_rows.specs.PlayRows.{each_below}
+use Rattle.run_changes.specs.rows.PlayRows.{each_below}
 use Rattle.run_waves.specs.waves.FirstTick.{first_on}
 use Rattle.judge_report.specs.Deadlines.{deadline_of, margin_of, margin_us_of}
 

@@ -8,7 +8,7 @@ use Rattle.run_signal.specs.{declared.tern.Tern.Tern, Terns.tern_rails}
 use Rattle.run_signal.specs.SentKeys.{SentKeys}
 use Rattle.run_waves.specs.waves.Waves.{wave_at, IsWaveOf}
 use Rattle.model_history.specs.ListLaws.{at_push}
-use Rattle.run_changes.specs.Tracks.{pair_of}
+use Rattle.run_changes.specs.changes.Tracks.{pair_of}
 use Rattle.judge_verdict.specs.PairWavesOf.{AreWavesOf, track_pairs}
 
 -- the rails of the value at a tick

@@ -8,7 +8,7 @@ use Rattle.model_line.specs.{declared.line.Line.Line, declared.script.Script.Scr
 use Rattle.model_logic.specs.Histories.{History, IsLineHistory}
 use Rattle.model_timing.specs.Choice.{timing_choice}
 use Rattle.model_timing.specs.{Blocks.candidate_in, Candidates.candidate}
-use Rattle.run_changes.specs.Until.{ReachTick}
+use Rattle.run_changes.specs.changes.Until.{ReachTick}
 use Rattle.judge_verdict.specs.Rules.{counted_ticks}
 use Rattle.judge_verdict.specs.{Verdicts.PassesAt, Verdicts.FailsAt}
 

@@ -5,7 +5,7 @@ use Rattle.run_signal.specs.{declared.tern.Tern.Tern, Terns.tern_rails}
 use Rattle.run_signal.specs.SentKeys.{SentKeys}
 use Rattle.model_logic.specs.{PairMean.PairSignals, Histories.PairHistory}
 use Rattle.run_waves.specs.waves.Waves.{IsWaveOf}
-use Rattle.run_changes.specs.Tracks.{pair_of}
+use Rattle.run_changes.specs.changes.Tracks.{pair_of}
 
 -- for each terminal the pair of its key at each tick below the horizon, and that of its trip
 pub record PairWavesOf : Type 0 where

@@ -13,7 +13,7 @@ use model_timing::{
     Step, candidate_spans, candidates_are_inside, timings_inside_are_choices_inside,
 };
 use net_gates::Net;
-use run_changes::{Tracks, run_tracks_until};
+use run_changes::changes::{Tracks, run_tracks_until};
 use run_signal::{Lanes64, Ticks64};
 use std::alloc::Global;
 

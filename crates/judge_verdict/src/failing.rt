@@ -5,7 +5,7 @@ ghost use Rattle.model_history.specs.Elements.{some_below};
 ghost use Rattle.model_line.specs.Parameters.{terminal_count};
 ghost use Rattle.model_logic.specs.Histories.{MeetsBy};
 ghost use Rattle.run_signal.specs.Bits.{bit_on};
-ghost use Rattle.run_changes.specs.Until.{ReachTick};
+ghost use Rattle.run_changes.specs.changes.Until.{ReachTick};
 ghost use Rattle.judge_verdict.specs.Candidates.{IsBlockRun, looked_at, trips_in, TellsFailing};
 ghost use Rattle.judge_verdict.specs.Candidates.{TellFailing};
 
@@ -14,7 +14,7 @@ use model_logic::laws::{
     each_choice_has_one_history, each_line_has_a_choice_inside, the_rule_is_tested,
 };
 use model_timing::{candidates_are_inside, timings_inside_are_choices_inside};
-use run_changes::Tracks;
+use run_changes::changes::Tracks;
 use run_signal::{Lanes64, Signal, Track};
 
 /// How many ticks an obligation of the script looks at: those up to the deadline, or all.

@@ -18,7 +18,7 @@ use model_logic::laws::{
 };
 use model_timing::Step;
 use net_gates::Net;
-use run_changes::run_tracks;
+use run_changes::changes::run_tracks;
 use run_signal::{Tern, Within};
 use std::alloc::Global;
 

@@ -20,7 +20,7 @@ use model_line::laws::parameters_are_numbered;
 use model_line::{Line, Memory, Script};
 use model_timing::{candidate, candidate_count, candidate_in};
 use net_gates::Net;
-use run_changes::Tracks;
+use run_changes::changes::Tracks;
 use run_signal::Lanes64;
 use std::alloc::Global;
 

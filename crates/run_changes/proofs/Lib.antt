@@ -1,11 +1,2 @@
-pub mod LagLaws
-pub mod HearLaws
-pub mod ShownListLaws
-pub mod ReaderLaws
-pub mod TraceLaws
-pub mod WaitLaws
-pub mod MarkLaws
-pub mod StretchLaws
-pub mod TrackLaws
-pub mod UntilLaws
-pub mod AgreeLaws
+pub mod changes_lemmas
+pub mod rows_lemmas

@@ -1,10 +1,2 @@
-pub mod LaneLaws
-pub mod ShownBy
-pub mod Lags
-pub mod Readers
-pub mod Hears
-pub mod Marks
-pub mod Tracks
-pub mod PlayedTracks
-pub mod Until
-pub mod Agreeing
+pub mod changes
+pub mod rows

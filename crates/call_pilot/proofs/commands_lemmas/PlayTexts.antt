@@ -5,7 +5,7 @@ use Rattle.std.specs.List.{All}
 use Rattle.model_logic.specs.Choice.{Choice, DelaysFromOne, IsInside}
 use Rattle.model_logic.specs.Histories.{History, IsLineHistory, IsSameHistory}
 use Rattle.model_line.specs.{declared.line.Line.Line, declared.script.Script.Script}
-use Rattle.run_rows.specs.{PlayRows.run_rows, RowLaws.run_rows-same}
+use Rattle.run_changes.specs.{rows.PlayRows.run_rows, rows.RowLaws.run_rows-same}
 use Rattle.model_timing.specs.Choice.{timing_choice}
 use Rattle.model_timing.specs.{Inside.IsTimingInside, Timing.TimingValues}
 use Rattle.model_timing.specs.NamedValues.{NamedValues}

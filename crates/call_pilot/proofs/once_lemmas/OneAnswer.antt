@@ -13,7 +13,7 @@ use Rattle.model_logic.specs.Histories.{IsPairHistory, IsSamePairHistory, PairHi
 use Rattle.model_logic.specs.Rule.{Held, Broken, Unknown, Rule, is_broken, is_held, rule_by}
 use Rattle.model_logic.specs.Rule.{rule_of}
 use Rattle.model_logic.specs.Choice.{declared_box}
-use Rattle.run_rows.specs.PlayRows.{each_below}
+use Rattle.run_changes.specs.rows.PlayRows.{each_below}
 use Rattle.run_waves.specs.waves.FirstTick.{first_on}
 use Rattle.run_waves.specs.waves.FirstTickLaws.{first_on-same}
 use Rattle.judge_report.specs.ReportText.{AreHistories, fields_text, report_header}

@@ -14,7 +14,7 @@ use Rattle.model_logic.specs.IntervalLaws.{HistoriesRestOnNoInterval}
 use Rattle.model_logic.specs.Rule.{Rule, rule_of}
 use Rattle.file_line.specs.Lines.{line_values}
 use Rattle.file_tables.specs.script.Values.{values_of}
-use Rattle.run_rows.specs.PlayRows.{each_below}
+use Rattle.run_changes.specs.rows.PlayRows.{each_below}
 use Rattle.run_waves.specs.waves.FirstTick.{first_on}
 use Rattle.judge_report.specs.ReportText.{AreHistories, IsReportText, fields_text, report_header}
 use Rattle.judge_report.specs.ReportText.{report_text_of, row_text, rule_word, script_rows}

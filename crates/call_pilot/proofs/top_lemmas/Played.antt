@@ -9,7 +9,7 @@ use Rattle.model_timing.specs.{Inside.IsTimingInside}
 use Rattle.model_timing.specs.NamedValues.{NamedValues}
 use Rattle.file_tables.specs.timing.Timings.{timings_of}
 use Rattle.file_tables.specs.declared.timing.fault.TimingFault.{TimingFault}
-use Rattle.run_rows.specs.PlayRows.{run_rows}
+use Rattle.run_changes.specs.rows.PlayRows.{run_rows}
 use Rattle.call_pilot.specs.commands.Play.{IsPlayText, IsRunText, IsTimingText, Pieces}
 use Rattle.call_answer.specs.Sinks.{SinkView}
 use Rattle.call_pilot.specs.{top.Call.answers, top.Ends.EndsOf}

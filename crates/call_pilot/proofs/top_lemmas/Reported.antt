@@ -11,7 +11,7 @@ use Rattle.model_logic.specs.Histories.{CoversHistory, History, IsLineHistory, I
 use Rattle.model_logic.specs.Histories.{PairHistory}
 use Rattle.model_logic.specs.Choice.{Choice, IsInside, declared_box}
 use Rattle.model_logic.specs.Rule.{rule_of}
-use Rattle.run_rows.specs.PlayRows.{each_below}
+use Rattle.run_changes.specs.rows.PlayRows.{each_below}
 use Rattle.run_waves.specs.waves.FirstTick.{first_on}
 use Rattle.judge_report.specs.ReportText.{IsReportText, report_header, row_text, script_rows}
 use Rattle.call_pilot.specs.{top.HeadlineLaws.HeadlineLaws, top.Truths.IsBefore, top.Truths.ReportIsTrue}

@@ -12,7 +12,7 @@ use Rattle.file_line.specs.{LineFiles.line_of, Lines.line_values}
 use Rattle.file_tables.specs.{script.Scripts.scripts_of, script.Values.AreOfOneFile, script.Values.ScriptValues}
 use Rattle.file_tables.specs.script.Values.{values_of}
 use Rattle.cert_claims.specs.text.Grammar.{Verdict}
-use Rattle.run_rows.specs.PlayRows.{each_below}
+use Rattle.run_changes.specs.rows.PlayRows.{each_below}
 use Rattle.judge_report.specs.ReportText.{report_header, rule_word}
 use Rattle.judge_report.specs.Raised.{raised}
 use Rattle.cert_own.specs.Obligations.{AllMet, HoldsAsAccepted, HoldsAsCertified}

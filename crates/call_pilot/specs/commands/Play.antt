@@ -3,7 +3,7 @@ use Rattle.std.specs.Prelude.{◌≡◌, ◌∷◌, ◌++◌, ◌*◌, ℕ, List
 use Rattle.call_engine.specs.Calls.{AskedPlays}
 use Rattle.model_line.specs.{declared.script.Script.Script, declared.line.Line.Line}
 use Rattle.model_logic.specs.Histories.{History, IsLineHistory}
-use Rattle.run_rows.specs.PlayRows.{run_rows}
+use Rattle.run_changes.specs.rows.PlayRows.{run_rows}
 use Rattle.model_timing.specs.{Choice.timing_choice}
 use Rattle.model_timing.specs.NamedValues.{NamedValues}
 use Rattle.call_pilot.specs.commands.Asked.{Asks}

@@ -6,7 +6,7 @@ use Rattle.model_logic.specs.Histories.{History, IsLineHistory}
 use Rattle.model_timing.specs.{Choice.timing_choice, Inside.IsTimingInside}
 use Rattle.model_timing.specs.NamedValues.{NamedValues}
 use Rattle.file_tables.specs.timing.Timings.{timings_of}
-use Rattle.run_rows.specs.PlayRows.{run_rows}
+use Rattle.run_changes.specs.rows.PlayRows.{run_rows}
 use Rattle.call_pilot.specs.commands.Play.{play_header}
 
 -- for each timing inside the declared intervals and each script, the history of the timing's choice

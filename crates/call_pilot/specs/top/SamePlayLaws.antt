@@ -23,7 +23,7 @@ use Rattle.model_logic.specs.IntervalLaws.{HistoriesRestOnNoInterval}
 use Rattle.model_names.specs.NumbersByName.{param_named}
 use Rattle.file_line.specs.Lines.{line_values}
 use Rattle.file_tables.specs.script.Values.{ScriptValues, values_of}
-use Rattle.run_rows.specs.PlayRows.{each_below, run_rows, signal_row}
+use Rattle.run_changes.specs.rows.PlayRows.{each_below, run_rows, signal_row}
 use Rattle.file_tables.specs.declared.timing.fault.TimingFault.{TimingFault}
 use Rattle.file_tables.specs.declared.timing.fault.TimingFault.TheVariants as fault
 use Rattle.file_tables.specs.declared.timing.named.Named.{Named}

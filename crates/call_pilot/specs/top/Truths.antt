@@ -7,7 +7,7 @@ use Rattle.model_logic.specs.Choice.{Choice, IsInside, IsWithin}
 use Rattle.model_logic.specs.Histories.{History, IsLineHistory, Meets}
 use Rattle.model_logic.specs.Rule.{Broken, Held, Rule}
 use Rattle.model_names.specs.NumbersByName.{param_named}
-use Rattle.run_rows.specs.PlayRows.{each_below}
+use Rattle.run_changes.specs.rows.PlayRows.{each_below}
 use Rattle.judge_report.specs.ReportText.{fields_text, report_header, rule_word}
 use Rattle.judge_report.specs.declared.upper_end.UpperEnd.{UpperEnd}
 use Rattle.judge_report.specs.{Margin.IsUpperEnd, MarginText.margin_line, Raised.raised}

@@ -8,7 +8,7 @@ use Rattle.model_line.specs.NamesByNumber.{terminal_name}
 use Rattle.model_timing.specs.{Timing.TimingValues, NamedValues.NamedValues}
 use Rattle.file_tables.specs.timing.Printed.{file_records, records_text}
 use Rattle.judge_match.specs.matching.MatchText.{signal_word}
-use Rattle.run_rows.specs.PlayRows.{level_word}
+use Rattle.run_changes.specs.rows.PlayRows.{level_word}
 use Rattle.judge_match.specs.declared.explain.paired.Paired.{Paired}
 use Rattle.judge_match.specs.declared.explain.answer.Explanation.{Explanation}
 use Rattle.judge_match.specs.declared.explain.answer.Explanation.TheVariants.{Explained, Impossible, Open}

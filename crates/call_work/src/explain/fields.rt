@@ -3,7 +3,7 @@
 ghost use Rattle.std.specs.Prelude.{◌≡◌, ◌++◌, IfOk, OnOk, decimal};
 ghost use Rattle.csv.specs.Writing.{row_text, default_writer};
 ghost use Rattle.judge_match.specs.matching.MatchText.{signal_word as word_of_signal};
-ghost use Rattle.run_rows.specs.PlayRows.{level_word as word_of_level};
+ghost use Rattle.run_changes.specs.rows.PlayRows.{level_word as word_of_level};
 ghost use Rattle.call_work.specs.explain.Table.{change_record, changes_text as text_of_changes};
 ghost use Rattle.call_work.specs.explain.Table.{difference_text as text_of_difference, header_record};
 

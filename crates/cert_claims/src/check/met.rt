@@ -2,7 +2,7 @@
 
 ghost use Rattle.std.specs.Prelude.{◌≡◌, ◌<◌, ◌≤◌, length, MatchOption};
 ghost use Rattle.model_logic.specs.Histories.{MeetsBy};
-ghost use Rattle.run_changes.specs.PlayedTracks.{is_on};
+ghost use Rattle.run_changes.specs.changes.PlayedTracks.{is_on};
 ghost use Rattle.run_waves.specs.waves.FirstTick.{IsFirstOn};
 ghost use Rattle.cert_claims.specs.check.Refutations.{IsMetAt};
 

@@ -12,7 +12,7 @@ use model_line::{Line, Memory, Script};
 use model_logic::laws::each_choice_has_one_history;
 use model_timing::Step;
 use net_gates::Net;
-use run_changes::run_tracks;
+use run_changes::changes::run_tracks;
 use run_signal::{Level, Tick};
 use run_step::laws::a_timing_is_one_choice;
 use std::alloc::Global;

@@ -3,7 +3,7 @@ use Rattle.std.proofs.Common.{◌≡◌, ℕ, zero, suc, ◌-◌, ◌<◌, ◌�
 use Rattle.std.proofs.Common.{ap, arith}
 use Rattle.model_line.specs.declared.line.Line.{Line}
 use Rattle.net_gates.specs.NetOf.{NetOf}
-use Rattle.run_rows.specs.PlayRows.{each_below}
+use Rattle.run_changes.specs.rows.PlayRows.{each_below}
 use Rattle.draw_gates.specs.dump.Dump.{GateLevels, value_text, change_text, timed_text, first_text}
 use Rattle.draw_gates.specs.dump.Dump.{next_text, tick_text, changes_text, dump_text}
 

@@ -3,7 +3,7 @@ use Rattle.std.specs.Prelude.{◌++◌, ◌*◌, ◌-◌, ℕ, suc, Bool, true, 
 use Rattle.std.specs.Prelude.{decimal, length}
 use Rattle.model_line.specs.declared.line.Line.{Line}
 use Rattle.net_gates.specs.NetOf.{NetOf}
-use Rattle.run_rows.specs.PlayRows.{level_word, each_below}
+use Rattle.run_changes.specs.rows.PlayRows.{level_word, each_below}
 use Rattle.draw_gates.specs.dump.Variables.{code_of, declarations}
 
 -- a value for each gate at each tick

@@ -11,7 +11,7 @@ use Rattle.model_line.specs.NamesByNumber.{element_text}
 use Rattle.net_gates.specs.declared.gate.Gate.{Gate}
 use Rattle.net_gates.specs.declared.gate.Gate.TheVariants as gate
 use Rattle.net_gates.specs.NetOf.{NetOf, key_of, trip_of}
-use Rattle.run_rows.specs.PlayRows.{each_below}
+use Rattle.run_changes.specs.rows.PlayRows.{each_below}
 use Rattle.draw_gates.specs.declared.roles.role.Role.TheVariants.{Seen, Timed, Lost, Raw, Received}
 use Rattle.draw_gates.specs.declared.roles.role.Role.TheVariants.{Window, Lockout, Guard, Coordination}
 use Rattle.draw_gates.specs.declared.roles.role.Role.TheVariants.{Echo, Permission, AnyReceived}

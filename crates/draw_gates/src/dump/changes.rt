@@ -1,7 +1,7 @@
 //! The changes of a value change dump.
 
 ghost use Rattle.std.specs.Prelude.{◌≡◌, ◌<◌, ◌≤◌, ◌+◌, ◌-◌, ◌++◌, OnOk};
-ghost use Rattle.run_rows.specs.PlayRows.{each_below};
+ghost use Rattle.run_changes.specs.rows.PlayRows.{each_below};
 ghost use Rattle.run_step.specs.Played.{is_on};
 ghost use Rattle.draw_gates.specs.dump.Dump.{time_text, value_text, change_text, first_text};
 ghost use Rattle.draw_gates.specs.dump.Dump.{next_text, timed_text, tick_text, changes_text};
@@ -10,7 +10,7 @@ use crate::dump::gates::on_at;
 use crate::dump::put::{put, put_number};
 use crate::dump::variables::put_code;
 use model_line::Memory;
-use run_rows::level_word;
+use run_changes::rows::level_word;
 use run_signal::Level;
 use run_ticks::net::Waves;
 use std::alloc::Global;

@@ -3,7 +3,7 @@
 ghost use Rattle.std.specs.Prelude.{◌≡◌, ◌<◌, ◌++◌, length, is_some, IfOk, OnOk};
 ghost use Rattle.model_line.specs.{ParamNames.name_at, Parameters.terminal_count};
 ghost use Rattle.net_gates.specs.NetOf.{IsNetOf};
-ghost use Rattle.run_rows.specs.PlayRows.{each_below};
+ghost use Rattle.run_changes.specs.rows.PlayRows.{each_below};
 ghost use Rattle.draw_gates.specs.{roles.Lookup.role_among, roles.Roles.roles_at as roles_of};
 ghost use Rattle.draw_gates.specs.dump.Variables.{code_of, variable_head, variable_text, scope_text};
 ghost use Rattle.draw_gates.specs.dump.Variables.{step_text, role_text, named_variable, variable_at};

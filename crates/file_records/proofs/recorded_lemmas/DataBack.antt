@@ -10,7 +10,7 @@ use Rattle.std.proofs.lemmas.Option.{slice_get-get_or}
 use Rattle.std.specs.List.{range_with_len, slice_get}
 use Rattle.std.specs.Prelude.{decimal, nat_lt, ◌==◌, if◌then◌else◌}
 use Rattle.base_records.specs.Gives.{◌>>=◌}
-use Rattle.run_rows.specs.PlayRows.{level_word}
+use Rattle.run_changes.specs.rows.PlayRows.{level_word}
 use Rattle.file_comtrade.specs.Data.{SampleValues, follows, is_done, last_in, not_before, raw_at}
 use Rattle.file_comtrade.specs.Data.{sample_after, samples_in, shape_of}
 use Rattle.file_comtrade.specs.RawSample.{Said, level_after, level_named, numbers_in, raw_in_line}

@@ -8,7 +8,7 @@ use Rattle.model_line.specs.declared.script.{What.What, Element.Element}
 use Rattle.model_line.specs.declared.script.Element.TheVariants.{Z1, Z2, Rv, Uv, Cur}
 use Rattle.model_line.specs.declared.script.What.TheVariants as what
 use Rattle.model_line.specs.{Fits.exists_in, Fits.span_fits, Parameters.terminal_count}
-use Rattle.run_rows.specs.PlayRows.{value_before}
+use Rattle.run_changes.specs.rows.PlayRows.{value_before}
 use Rattle.file_records.specs.declared.map.source.Signal.TheVariants.{Shown}
 use Rattle.file_records.specs.{tracks.Below.below, tracks.Levels.is_on, tracks.Tracks.TrackValues}
 use Rattle.file_records.specs.recorded.Spans.{begins_at, element_at, first_off, span_from, spans_of}

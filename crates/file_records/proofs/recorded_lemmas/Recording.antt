@@ -5,7 +5,7 @@ use Rattle.std.specs.Prelude.{codes, decimal, if◌then◌else◌}
 use Rattle.model_line.specs.{Parameters.terminal_count}
 use Rattle.model_line.specs.declared.script.What.TheVariants as what
 use Rattle.model_line.specs.NamesByNumber.{terminal_name}
-use Rattle.run_rows.specs.PlayRows.{value_before}
+use Rattle.run_changes.specs.rows.PlayRows.{value_before}
 use Rattle.judge_match.specs.matching.Row.{header_record}
 use Rattle.file_records.specs.declared.map.source.Signal.TheVariants.{Shown, Key, Trip}
 use Rattle.file_records.specs.map.Signals.{shown}

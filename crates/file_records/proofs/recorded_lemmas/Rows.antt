@@ -12,7 +12,7 @@ use Rattle.model_line.specs.declared.script.Element.TheVariants.{Z1, Z2, Rv, Uv,
 use Rattle.model_line.specs.declared.script.What.TheVariants as what
 use Rattle.model_logic.specs.Histories.{History}
 use Rattle.model_line.specs.NamesByNumber.{terminal_name}
-use Rattle.run_rows.specs.PlayRows.{each_below, level_word}
+use Rattle.run_changes.specs.rows.PlayRows.{each_below, level_word}
 use Rattle.file_records.specs.recorded.Config.{channel_count, channel_line, config_text, head_text, loss_line, tail_text}
 use Rattle.file_records.specs.recorded.Config.{terminal_lines}
 use Rattle.file_records.specs.recorded.Data.{data_text, loss_field, sample_text, terminal_fields}

@@ -3,7 +3,7 @@ use Rattle.std.proofs.Common.{◌≡◌, ◌<◌, ◌++◌, ℕ, zero, suc, Bool
 use Rattle.model_line.specs.{declared.line.Line.Line, declared.script.Script.Script}
 use Rattle.model_line.specs.Parameters.{terminal_count}
 use Rattle.model_logic.specs.Histories.{History, IsSameHistory}
-use Rattle.run_rows.specs.PlayRows.{each_below}
+use Rattle.run_changes.specs.rows.PlayRows.{each_below}
 use Rattle.file_records.specs.recorded.Config.{line_end}
 use Rattle.file_records.specs.recorded.Data.{all_seen, data_text, level_field, loss_field, sample_head}
 use Rattle.file_records.specs.recorded.Data.{sample_text, terminal_fields}

@@ -15,7 +15,7 @@ use Rattle.model_line.specs.{declared.line.Line.Line, declared.script.Script.Scr
 use Rattle.model_line.specs.Parameters.{terminal_count}
 use Rattle.model_line.specs.PlainNames.{is_plain_name}
 use Rattle.model_logic.specs.Histories.{History}
-use Rattle.run_rows.specs.PlayRows.{level_word}
+use Rattle.run_changes.specs.rows.PlayRows.{level_word}
 use Rattle.file_comtrade.specs.Config.{config_in, config_of, digital_after, line_at}
 use Rattle.file_comtrade.specs.{Data.raw_at, Data.samples_of, Data.shape_of}
 use Rattle.file_comtrade.specs.{RawSample.raw_in_line, Steps.steps}

@@ -3,7 +3,7 @@ use Rattle.std.specs.Prelude.{◌++◌, ℕ, Bool, List, [], ◌∷◌, codes, i
 use Rattle.std.specs.{Bool.beq, Fmt.decimal}
 use Rattle.model_line.specs.{declared.line.Line.Line, Parameters.terminal_count}
 use Rattle.model_line.specs.NamesByNumber.{terminal_name}
-use Rattle.run_rows.specs.PlayRows.{value_before}
+use Rattle.run_changes.specs.rows.PlayRows.{value_before}
 use Rattle.judge_match.specs.matching.Row.{header_record}
 use Rattle.file_tables.specs.script.Printed.{records_text}
 use Rattle.file_records.specs.declared.map.source.Signal.TheVariants.{Key, Trip}

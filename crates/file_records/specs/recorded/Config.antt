@@ -4,7 +4,7 @@ use Rattle.std.specs.List.{concat}
 use Rattle.model_line.specs.Channels.{from_of, to_of}
 use Rattle.model_line.specs.{declared.line.Line.Line, Parameters.terminal_count}
 use Rattle.model_line.specs.NamesByNumber.{terminal_name}
-use Rattle.run_rows.specs.PlayRows.{each_below}
+use Rattle.run_changes.specs.rows.PlayRows.{each_below}
 
 abbrev pub line_end : List ℕ
 line_end = 13 ∷ 10 ∷ []

@@ -6,7 +6,7 @@ use Rattle.model_line.specs.declared.script.{Element.Element}
 use Rattle.model_line.specs.declared.script.Element.TheVariants.{Z1, Z2, Rv, Uv, Cur}
 use Rattle.model_line.specs.{Parameters.terminal_count, Seen.is_lost, Seen.is_seen}
 use Rattle.model_logic.specs.Histories.{History}
-use Rattle.run_rows.specs.PlayRows.{each_below, level_word}
+use Rattle.run_changes.specs.rows.PlayRows.{each_below, level_word}
 use Rattle.file_records.specs.recorded.Config.{line_end}
 
 -- a level behind a comma

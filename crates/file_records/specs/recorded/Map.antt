@@ -7,7 +7,7 @@ use Rattle.model_line.specs.{declared.line.Line.Line, declared.script.Script.Scr
 use Rattle.model_line.specs.declared.script.Kind.TheVariants.{Internal, External}
 use Rattle.model_line.specs.{declared.script.Kind.Kind, Parameters.terminal_count}
 use Rattle.model_line.specs.NamesByNumber.{terminal_name}
-use Rattle.run_rows.specs.PlayRows.{each_below}
+use Rattle.run_changes.specs.rows.PlayRows.{each_below}
 
 unfoldable pub kind_text : Kind → ℕ → List ℕ
 kind_text Internal deadline =

@@ -6,7 +6,7 @@ use Rattle.model_line.specs.{declared.line.Line.Line, Parameters.terminal_count}
 use Rattle.model_line.specs.declared.script.{Element.Element, SeenSpan.SeenSpan, What.What}
 use Rattle.model_line.specs.declared.script.Element.TheVariants.{Z1, Z2, Rv, Uv, Cur}
 use Rattle.model_line.specs.declared.script.What.TheVariants as what
-use Rattle.run_rows.specs.PlayRows.{value_before}
+use Rattle.run_changes.specs.rows.PlayRows.{value_before}
 use Rattle.file_tables.specs.script.Values.{ScriptValues}
 use Rattle.file_records.specs.map.Maps.{MapValues}
 use Rattle.file_records.specs.declared.map.source.Signal.TheVariants.{Shown}

@@ -1,7 +1,7 @@
 //! The spans of the ticks at which signals are on.
 
 ghost use Rattle.std.specs.Prelude.{◌≡◌, ◌≤◌, ◌<◌, ◌-◌, ◌++◌, IfOk, OnOk, map, length};
-ghost use Rattle.run_rows.specs.PlayRows.{value_before};
+ghost use Rattle.run_changes.specs.rows.PlayRows.{value_before};
 ghost use Rattle.model_line.specs.Parameters.{terminal_count};
 ghost use Rattle.model_line.specs.declared.script.What.TheVariants as what;
 ghost use Rattle.file_records.specs.declared.map.source.Signal.TheVariants.{Shown};

@@ -17,7 +17,7 @@ use Rattle.model_timing.specs.Timing.{number_at}
 use Rattle.run_step.specs.{LaneBox.ends_in, LaneBox.lane_box, Runs.AreDelayed}
 use Rattle.run_step.specs.Runs.{IsTheHistory}
 use Rattle.model_history.specs.ListLaws.{exists_at}
-use Rattle.run_changes.specs.{Tracks.pair_of, Tracks.tracks_history}
+use Rattle.run_changes.specs.{changes.Tracks.pair_of, changes.Tracks.tracks_history}
 use Rattle.judge_boxes.specs.declared.terns.Terns64.{Terns64}
 use Rattle.judge_boxes.specs.Held.{trip_rails}
 use Rattle.judge_boxes.specs.{Spans.SpanLists, Spans.span_ends, Terns.terns_rails}

@@ -23,7 +23,7 @@ use judge_boxes::{Spans64, Terns64};
 use model_line::{Kind, Line, Memory, Script};
 use model_timing::Step;
 use net_gates::Net;
-use run_changes::run_tracks;
+use run_changes::changes::run_tracks;
 use std::alloc::Global;
 
 /// What the interval rules say of each obligation over each cell, column by column. One run of a

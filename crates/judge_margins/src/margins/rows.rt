@@ -18,7 +18,7 @@ use judge_boxes::{Spans64, Terns64};
 use judge_report::Lost;
 use model_line::{Memory, Script};
 use model_timing::Step;
-use run_changes::run_tracks;
+use run_changes::changes::run_tracks;
 use run_signal::{Lanes64, Signal};
 use std::alloc::Global;
 

@@ -9,7 +9,7 @@ use Rattle.model_history.specs.Rails.{Ends}
 use Rattle.model_logic.specs.Histories.{History, PairHistory, IsPairHistory}
 use Rattle.run_signal.specs.SentKeys.{SentKeys}
 use Rattle.run_signal.specs.{declared.tern.Tern.Tern, Terns.tern_rails, Lanes.in_lane}
-use Rattle.run_changes.specs.{Tracks.pair_of, Tracks.tracks_history}
+use Rattle.run_changes.specs.{changes.Tracks.pair_of, changes.Tracks.tracks_history}
 use Rattle.run_step.specs.Runs.{IsTheHistory}
 use Rattle.judge_match.specs.explain.Parts.{IsExcludedByRails, part_box}
 use Rattle.judge_match.specs.explain.Asked.{AreRecorded, IsOut, IsOutAt, tern_pairs}

@@ -10,7 +10,7 @@ use Rattle.model_logic.specs.Histories.{History, IsSameHistory, IsLineHistory}
 use Rattle.model_timing.specs.Timing.{TimingValues}
 use Rattle.run_signal.specs.SentKeys.{SentKeys}
 use Rattle.run_signal.specs.declared.level.Level.{Level}
-use Rattle.run_changes.specs.{PlayedTracks.is_on, PlayedTracks.is_shown, PlayedTracks.shown_is}
+use Rattle.run_changes.specs.{changes.PlayedTracks.is_on, changes.PlayedTracks.is_shown, changes.PlayedTracks.shown_is}
 use Rattle.run_step.specs.Ticks.{AreSent}
 use Rattle.judge_match.specs.explain.Changes.{changes, AreNear, HaveSameChanges}
 use Rattle.judge_match.specs.explain.Explains.{Explains, IsNear, IsPlayed, AreNearEach, signal_of}

@@ -17,7 +17,7 @@ use Rattle.run_signal.specs.{Bits.bit_on, declared.level.Level.Level}
 use Rattle.run_signal.specs.SentKeys.{SentKeys}
 use Rattle.run_step.specs.LaneBox.{ends_in, lane_box}
 use Rattle.run_step.specs.{Runs.AreDelayed, Runs.IsPoint}
-use Rattle.run_changes.specs.{Agreeing.IsOnlyHistory, PlayedTracks.played}
+use Rattle.run_changes.specs.{changes.Agreeing.IsOnlyHistory, changes.PlayedTracks.played}
 use Rattle.judge_match.specs.{matching.Candidates.TellGiving}
 use Rattle.judge_match.specs.{declared.matching.seen.Seen.Seen, matching.Seen.Gives, matching.Seen.seen_history}
 

@@ -10,8 +10,8 @@ use Rattle.model_history.specs.Rails.{Rails, both, must_of, rails_at}
 use Rattle.run_signal.specs.{declared.level.Level.Level, Levels.level_rails, Lanes.in_lane}
 use Rattle.run_signal.specs.SentKeys.{SentKeys}
 use Rattle.model_history.specs.ListLaws.{at_push, exists_at}
-use Rattle.run_changes.specs.PlayedTracks.{is_shown}
-use Rattle.run_changes.specs.{PlayedTracks.is_on, PlayedTracks.shown_is}
+use Rattle.run_changes.specs.changes.PlayedTracks.{is_shown}
+use Rattle.run_changes.specs.{changes.PlayedTracks.is_on, changes.PlayedTracks.shown_is}
 use Rattle.run_step.specs.Ticks.{AreSent}
 use Rattle.run_step.specs.Ticks.{HasKeys}
 

@@ -8,7 +8,7 @@ use Rattle.model_logic.specs.Histories.{History}
 use Rattle.net_gates.specs.NetOf.{IsNetOf}
 use Rattle.run_signal.specs.{declared.tern.Tern.Tern, Terns.tern_rails}
 use Rattle.run_signal.specs.SentKeys.{SentKeys}
-use Rattle.run_changes.specs.Tracks.{pair_of}
+use Rattle.run_changes.specs.changes.Tracks.{pair_of}
 use Rattle.judge_match.specs.matching.Seen.{AreSeen, seen_history}
 use Rattle.judge_match.specs.explain.Changes.{changes, StaysAround}
 use Rattle.judge_match.specs.explain.Parts.{part_box}

@@ -4,7 +4,7 @@ use Rattle.run_signal.specs.declared.tern.Tern.{Tern}
 use Rattle.model_line.specs.Parameters.{terminal_count, param_count}
 use Rattle.model_line.specs.{declared.line.Line.Line, declared.script.Script.Script}
 use Rattle.model_line.specs.NamesByNumber.{terminal_name}
-use Rattle.run_rows.specs.PlayRows.{level_word}
+use Rattle.run_changes.specs.rows.PlayRows.{level_word}
 use Rattle.run_waves.specs.waves.Text.{tern_word}
 use Rattle.base_text.specs.lines.SpacedNumbers.{numbers_text, spaced}
 use Rattle.judge_match.specs.declared.matching.seen.Match.{Match}

@@ -7,7 +7,7 @@ use Rattle.model_line.specs.{declared.line.Line.Line, declared.script.Script.Scr
 use Rattle.model_line.specs.Parameters.{terminal_count}
 use Rattle.model_logic.specs.Histories.{History, IsLineHistory, IsSameHistory}
 use Rattle.model_timing.specs.{Timing.TimingValues, Choice.timing_choice}
-use Rattle.run_changes.specs.PlayedTracks.{is_on, is_shown}
+use Rattle.run_changes.specs.changes.PlayedTracks.{is_on, is_shown}
 use Rattle.run_waves.specs.waves.Waves.{wave_at, AreWaves}
 use Rattle.run_waves.specs.derived.Claims.{pairs_of}
 use Rattle.judge_match.specs.declared.matching.seen.Seen.{Seen}

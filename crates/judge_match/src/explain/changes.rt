@@ -3,7 +3,7 @@
 ghost use Rattle.std.specs.Prelude.{◌≡◌, ◌≤◌, ◌<◌, ◌↔◌, ◌++◌, false, true, IsTrue, IfOk, OnOk};
 ghost use Rattle.std.specs.Prelude.{length};
 ghost use Rattle.std.specs.List.{AllZip};
-ghost use Rattle.run_changes.specs.PlayedTracks.{is_on};
+ghost use Rattle.run_changes.specs.changes.PlayedTracks.{is_on};
 ghost use Rattle.judge_match.specs.explain.Changes.{changes as changes_of, turns, AreNear};
 ghost use Rattle.judge_match.specs.explain.Asked.{level_in, AreLevels};
 ghost use Rattle.judge_match.specs.explain.Answers.{paired as paired_of};

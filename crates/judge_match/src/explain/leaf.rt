@@ -4,7 +4,7 @@ ghost use Rattle.std.specs.Prelude.{◌≡◌, ◌<◌, ℕ, Bool, Option, Some,
 ghost use Rattle.model_history.specs.Rails.{Covers, rails_at};
 ghost use Rattle.model_line.specs.Parameters.{terminal_count};
 ghost use Rattle.run_signal.specs.{Lanes.in_lane, Terns.tern_rails};
-ghost use Rattle.run_changes.specs.Tracks.{tracks_history};
+ghost use Rattle.run_changes.specs.changes.Tracks.{tracks_history};
 ghost use Rattle.run_step.specs.{Ticks.AreSent, Runs.IsTheHistory};
 ghost use Rattle.judge_match.specs.explain.Parts.{IsExcludedByRails, part_box};
 ghost use Rattle.judge_match.specs.explain.Asked.{AreRecorded, IsOut, IsOutAt, IsPart, IsQuestion};
@@ -14,7 +14,7 @@ use crate::explain::question::Question;
 use crate::explain::recorded::Recorded;
 use model_line::{Line, Memory};
 use model_timing::Step;
-use run_changes::{Tracks, run_tracks};
+use run_changes::changes::{Tracks, run_tracks};
 use run_signal::{Signal, Tern, Track, Within};
 use std::alloc::Global;
 

@@ -4,7 +4,7 @@ ghost use Rattle.std.specs.Prelude.{◌≤◌};
 
 use crate::explain::question::Question;
 use crate::explain::recorded::Recorded;
-use run_changes::Tracks;
+use run_changes::changes::Tracks;
 use run_signal::{Signal, Tern, Track};
 
 /// Whether the interval rules over a part exclude the record, and at how many ticks they leave it open

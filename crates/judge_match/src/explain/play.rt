@@ -4,7 +4,7 @@ ghost use Rattle.std.specs.Prelude.{◌≡◌, ◌<◌, ◌↔◌, ◌++◌, ℕ
 ghost use Rattle.model_line.specs.Parameters.{terminal_count};
 ghost use Rattle.model_logic.specs.Histories.{History, IsLineHistory};
 ghost use Rattle.model_timing.specs.{Inside.IsTimingInside, Choice.timing_choice};
-ghost use Rattle.run_changes.specs.{PlayedTracks.played, PlayedTracks.is_shown};
+ghost use Rattle.run_changes.specs.{changes.PlayedTracks.played, changes.PlayedTracks.is_shown};
 ghost use Rattle.run_step.specs.Ticks.{AreSent};
 ghost use Rattle.judge_match.specs.explain.Changes.{HaveSameChanges, changes as changes_of};
 ghost use Rattle.judge_match.specs.explain.Explains.{Explains, IsNear, IsPlayed, AreNearEach};
@@ -18,7 +18,7 @@ use crate::explain::recorded::Recorded;
 use model_line::{Line, Memory};
 use model_logic::laws::line_laws;
 use model_timing::Timing;
-use run_changes::{Tracks, run_tracks};
+use run_changes::changes::{Tracks, run_tracks};
 use run_signal::{Level, Track};
 use run_step::laws::a_timing_is_one_choice;
 use std::alloc::Global;

@@ -5,7 +5,7 @@ ghost use Rattle.model_line.specs.Parameters.{terminal_count};
 ghost use Rattle.model_logic.specs.Histories.{IsSameHistory};
 ghost use Rattle.net_gates.specs.NetOf.{IsNetOf};
 ghost use Rattle.model_timing.specs.Candidates.{candidate_count as count_of};
-ghost use Rattle.run_changes.specs.PlayedTracks.{played};
+ghost use Rattle.run_changes.specs.changes.PlayedTracks.{played};
 ghost use Rattle.run_step.specs.Ticks.{AreSent};
 ghost use Rattle.judge_match.specs.matching.Candidates.{TellGiving};
 ghost use Rattle.judge_match.specs.{declared.matching.seen.Seen.Seen, matching.Seen.seen_history};
@@ -17,7 +17,7 @@ use model_timing::{
     Step, candidate_spans, candidates_are_inside, timings_inside_are_choices_inside,
 };
 use net_gates::Net;
-use run_changes::{Tracks, agreeing_lanes};
+use run_changes::changes::{Tracks, agreeing_lanes};
 use run_signal::{Lanes64, Level, Ticks64};
 use std::alloc::Global;
 

@@ -4,13 +4,13 @@ ghost use Rattle.std.specs.Prelude.{length, IfOk};
 ghost use Rattle.model_line.specs.Parameters.{terminal_count};
 ghost use Rattle.model_logic.specs.Histories.{IsSameHistory};
 ghost use Rattle.run_waves.specs.waves.Waves.{AreWaves};
-ghost use Rattle.run_changes.specs.PlayedTracks.{played};
+ghost use Rattle.run_changes.specs.changes.PlayedTracks.{played};
 ghost use Rattle.run_step.specs.{Ticks.AreSent, Ticks.HasKeys};
 ghost use Rattle.judge_match.specs.matching.Seen.{AreSeen, IsAsSeen, AreAsSeen, seen_history};
 
 use crate::matching::seen::Seen;
 use model_line::{Line, Memory};
-use run_changes::Tracks;
+use run_changes::changes::Tracks;
 use run_signal::{Level, Signal, Track};
 use run_waves::derived::nth;
 use run_waves::waves::Runs;

@@ -8,7 +8,7 @@ ghost use Rattle.judge_match.specs.matching.MatchText.{signal_word as word_of_si
 use crate::matching::seen::Match;
 use base_text::lines::push_number;
 use model_line::{Line, Memory, Script, name_of_terminal};
-use run_rows::level_word;
+use run_changes::rows::level_word;
 use run_signal::{Tern, Tick};
 use run_waves::waves::tern_word;
 use std::alloc::Global;

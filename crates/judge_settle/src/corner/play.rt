@@ -3,7 +3,7 @@
 ghost use Rattle.std.specs.Prelude.{◌≡◌, ◌≤◌, ◌<◌, ◌↔◌, length, IfOk, IsTrue};
 ghost use Rattle.model_logic.specs.Histories.{MeetsBy};
 ghost use Rattle.model_timing.specs.Inside.{IsTimingInside};
-ghost use Rattle.run_changes.specs.PlayedTracks.{is_on};
+ghost use Rattle.run_changes.specs.changes.PlayedTracks.{is_on};
 ghost use Rattle.judge_settle.specs.corner.Obligations.{IsObligation, IsTold};
 ghost use Rattle.judge_settle.specs.corner.Failing.{SomeTickIsOn};
 
@@ -12,7 +12,7 @@ use model_line::laws::deadlines_are_below_the_horizon;
 use model_line::{Kind, Memory, Script};
 use model_logic::laws::each_choice_has_one_history;
 use model_timing::Timing;
-use run_changes::run_tracks;
+use run_changes::changes::run_tracks;
 use run_signal::{Level, Signal, Track};
 use run_step::laws::a_timing_is_one_choice;
 use std::alloc::Global;

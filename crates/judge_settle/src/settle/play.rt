@@ -5,14 +5,14 @@ ghost use Rattle.model_line.specs.{Fits.Fits, Parameters.terminal_count};
 ghost use Rattle.model_logic.specs.Histories.{MeetsBy};
 ghost use Rattle.net_gates.specs.NetOf.{IsNetOf};
 ghost use Rattle.model_timing.specs.Inside.{IsTimingInside};
-ghost use Rattle.run_changes.specs.PlayedTracks.{is_on};
+ghost use Rattle.run_changes.specs.changes.PlayedTracks.{is_on};
 ghost use Rattle.judge_settle.specs.{settle.Trees.IsFailing, settle.Trips.SomeTickIsOn};
 
 use model_line::laws::deadlines_are_below_the_horizon;
 use model_line::{Kind, Line, Memory, Script};
 use model_timing::{Timing, inside};
 use net_gates::Net;
-use run_changes::run_tracks;
+use run_changes::changes::run_tracks;
 use run_signal::{Level, Signal, Track};
 use run_step::laws::a_timing_is_one_choice;
 use std::alloc::Global;

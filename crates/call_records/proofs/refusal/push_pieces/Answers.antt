@@ -1,7 +1,7 @@
 use Rattle.std.proofs.Common.{◌≡◌, ◌++◌, List, ℕ, Bor, [], map, take, sym, ◌∙◌, ap, arith}
 use Rattle.std.proofs.Common.{append_assoc, get_or, ◌+◌}
 use Rattle.std.specs.List.{concat}
-use Rattle.run_rows.specs.RowLaws.{one_piece_more}
+use Rattle.run_changes.specs.rows.RowLaws.{one_piece_more}
 use Rattle.call_records.proofs.refusal.push_pieces.Goals as goal
 
 pub loop-piece-preserved : goal.loop-piece-preserved

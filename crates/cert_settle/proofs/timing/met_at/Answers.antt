@@ -4,7 +4,7 @@ use Rattle.std.specs.Prelude.{slice_get, MatchOption}
 use Rattle.model_line.specs.Parameters.{terminal_count}
 use Rattle.model_logic.specs.Histories.{MeetsBy}
 use Rattle.model_timing.specs.{declared.step.Step.Step, Timing.TimingValues, Choice.timing_choice}
-use Rattle.run_changes.specs.PlayedTracks.{played, shown_is}
+use Rattle.run_changes.specs.changes.PlayedTracks.{played, shown_is}
 use Rattle.run_step.specs.{LaneBox.lane_box, Played.ends_of_tick, Runs.AreDelayed}
 use Rattle.run_step.specs.Runs.{IsPoint}
 use Rattle.cert_claims.specs.check.Refutations.{IsMetAt}

@@ -1,7 +1,7 @@
 use Rattle.std.proofs.Common.{◌≡◌, ◌<◌, ◌||◌, ℕ, Bool, sym, ◌∙◌, ap, arith}
 use Rattle.model_history.specs.Rails.{Rails, must_of, may_of}
 use Rattle.model_history.specs.Elements.{some_below}
-use Rattle.run_changes.specs.LaneLaws.{lane_at, some_through}
+use Rattle.run_changes.specs.changes.LaneLaws.{lane_at, some_through}
 use Rattle.judge_boxes.specs.{Terns.terns_rails, Held.trip_rails}
 use Rattle.judge_boxes.proofs.held.tripped.Goals as goal
 use Rattle.judge_boxes.proofs.held.tripped.Goals.{After-min-t}

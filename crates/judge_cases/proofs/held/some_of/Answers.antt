@@ -1,7 +1,7 @@
 use Rattle.std.proofs.Common.{◌≡◌, ◌≤◌, ◌+◌, ◌||◌, ℕ, Bool, sym, ◌∙◌, ap, arith}
 use Rattle.model_history.specs.Rails.{Rails, must_of, may_of}
 use Rattle.model_history.specs.Elements.{some_below}
-use Rattle.run_changes.specs.LaneLaws.{some_through}
+use Rattle.run_changes.specs.changes.LaneLaws.{some_through}
 use Rattle.run_step.specs.WavesOf.{pair_in}
 use Rattle.run_ticks.specs.cases.UnderWaves.{wave_pair}
 use Rattle.judge_boxes.specs.Terns.{terns_rails}

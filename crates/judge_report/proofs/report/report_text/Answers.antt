@@ -4,7 +4,7 @@ use Rattle.std.specs.List.{concat}
 use Rattle.model_line.specs.declared.script.Script.{Script}
 use Rattle.model_logic.specs.Histories.{PairHistory, IsPairHistory}
 use Rattle.model_logic.specs.Choice.{declared_box}
-use Rattle.run_rows.specs.RowLaws.{one_piece_more}
+use Rattle.run_changes.specs.rows.RowLaws.{one_piece_more}
 use Rattle.judge_report.specs.ReportText.{report_header, script_rows, report_text_of, AreHistories}
 use Rattle.judge_report.proofs.Texts.{grown}
 use Rattle.judge_report.proofs.report.report_text.Goals as goal

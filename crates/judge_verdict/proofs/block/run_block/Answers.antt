@@ -4,8 +4,8 @@ use Rattle.model_history.specs.Rails.{both, must_of}
 use Rattle.run_signal.specs.SentKeys.{SentKeys}
 use Rattle.run_signal.specs.Bits.{bit_rails}
 use Rattle.model_timing.specs.{Choice.timing_choice, Candidates.candidate}
-use Rattle.run_changes.specs.Tracks.{pair_of}
-use Rattle.run_changes.specs.Until.{ReachTick}
+use Rattle.run_changes.specs.changes.Tracks.{pair_of}
+use Rattle.run_changes.specs.changes.Until.{ReachTick}
 use Rattle.model_line.specs.Parameters.{param_count, terminal_count}
 use Rattle.model_timing.specs.Blocks.{candidate_in, AreBlockSpans}
 use Rattle.judge_verdict.specs.Candidates.{looked_at, trips_in}

@@ -1,7 +1,7 @@
 use Rattle.std.proofs.Common.{◌<◌, sym, ◌∙◌, ap, arith}
 use Rattle.model_history.specs.Rails.{must_of}
 use Rattle.run_signal.specs.Bits.{bit_rails}
-use Rattle.run_changes.specs.LaneLaws.{lane_at, some_through}
+use Rattle.run_changes.specs.changes.LaneLaws.{lane_at, some_through}
 use Rattle.judge_verdict.specs.Candidates.{trips_in}
 use Rattle.judge_verdict.proofs.failing.tripped.Goals as goal
 

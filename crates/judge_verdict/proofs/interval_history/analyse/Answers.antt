@@ -6,7 +6,7 @@ use Rattle.model_logic.specs.Histories.{PairHistory, IsPairHistory}
 use Rattle.model_logic.specs.Choice.{Box, declared_box}
 use Rattle.model_line.specs.Parameters.{terminal_count}
 use Rattle.run_step.specs.Ticks.{AreSent}
-use Rattle.run_changes.specs.Tracks.{tracks_history}
+use Rattle.run_changes.specs.changes.Tracks.{tracks_history}
 use Rattle.judge_verdict.specs.PairWavesOf.{PairWavesOf, AreWavesOf, track_pairs, pair_history}
 use Rattle.judge_verdict.specs.Spans.{declared_spans}
 use Rattle.judge_verdict.proofs.ToldHistory.{told_history, are_long}

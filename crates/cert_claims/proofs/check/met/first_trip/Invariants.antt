@@ -1,5 +1,5 @@
 use Rattle.std.proofs.Common.{◌≤◌, ◌-◌, length}
-use Rattle.run_changes.specs.PlayedTracks.{is_on}
+use Rattle.run_changes.specs.changes.PlayedTracks.{is_on}
 use Rattle.run_waves.specs.waves.FirstTick.{IsOffFrom}
 use Rattle.cert_claims.proofs.check.met.first_trip.Given as goal
 

@@ -2,7 +2,7 @@ use Rattle.std.proofs.Common.{◌≡◌, ◌++◌, ℕ, List, length, refl, ◌�
 use Rattle.std.specs.Prelude.{OnOk, codes}
 use Rattle.model_line.specs.ParamNames.{name_at}
 use Rattle.net_gates.specs.NetOf.{key_of, trip_of}
-use Rattle.run_rows.specs.PlayRows.{each_below}
+use Rattle.run_changes.specs.rows.PlayRows.{each_below}
 use Rattle.draw_gates.specs.dump.Variables.{variable_text, variable_at, scope_text, terminal_scope}
 use Rattle.draw_gates.proofs.dump_lemmas.NameLaws.{name_there}
 use Rattle.draw_gates.proofs.dump_lemmas.TextLaws.{piece_more}

@@ -1,4 +1,4 @@
-use Rattle.run_rows.specs.RowLaws.{texts_more}
+use Rattle.run_changes.specs.rows.RowLaws.{texts_more}
 use Rattle.file_records.specs.recorded.Config.{terminal_lines}
 use Rattle.file_records.proofs.recorded.config.put_terminals.Goals as goal
 

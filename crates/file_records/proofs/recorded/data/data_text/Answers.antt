@@ -6,7 +6,7 @@ use Rattle.model_timing.specs.declared.step.Step.{Step}
 use Rattle.model_timing.specs.{Timing.TimingValues, Timing.ascend, Choice.timing_choice}
 use Rattle.run_step.specs.Played.{ends_of_tick}
 use Rattle.run_step.specs.{LaneBox.lane_box, Ticks.AreSent}
-use Rattle.run_changes.specs.PlayedTracks.{played}
+use Rattle.run_changes.specs.changes.PlayedTracks.{played}
 use Rattle.run_step.specs.{Runs.AreDelayed, Runs.IsPoint}
 use Rattle.file_records.specs.recorded.Data.{data_text}
 use Rattle.file_records.proofs.recorded_lemmas.SameData.{data_same}

@@ -1,4 +1,4 @@
-use Rattle.run_rows.specs.RowLaws.{texts_more}
+use Rattle.run_changes.specs.rows.RowLaws.{texts_more}
 use Rattle.std.proofs.Common.{◌++◌, ◌∙◌, Bool, ap}
 use Rattle.file_records.specs.recorded.Data.{level_field, loss_field}
 use Rattle.file_records.proofs.recorded.data.put_losses.Goals as goal

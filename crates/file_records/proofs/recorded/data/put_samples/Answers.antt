@@ -1,5 +1,5 @@
-use Rattle.run_rows.specs.RowLaws.{texts_more}
-use Rattle.run_changes.specs.PlayedTracks.{played}
+use Rattle.run_changes.specs.rows.RowLaws.{texts_more}
+use Rattle.run_changes.specs.changes.PlayedTracks.{played}
 use Rattle.file_records.specs.recorded.Data.{sample_text}
 use Rattle.file_records.proofs.recorded.data.put_samples.Goals as goal
 

@@ -1,6 +1,6 @@
 use Rattle.std.proofs.Common.{◌≡◌, ◌++◌}
-use Rattle.run_rows.specs.PlayRows.{each_below}
-use Rattle.run_changes.specs.PlayedTracks.{played}
+use Rattle.run_changes.specs.rows.PlayRows.{each_below}
+use Rattle.run_changes.specs.changes.PlayedTracks.{played}
 use Rattle.file_records.specs.recorded.Data.{sample_text}
 use Rattle.file_records.proofs.recorded.data.put_samples.Given as goal
 

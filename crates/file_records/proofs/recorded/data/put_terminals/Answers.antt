@@ -2,8 +2,8 @@ use Rattle.std.proofs.Common.{◌≡◌, ◌++◌, ℕ, Bool, List, Some, sym, �
 use Rattle.std.proofs.lemmas.Option.{slice_get_read}
 use Rattle.std.specs.Prelude.{slice_get}
 use Rattle.model_line.specs.Parameters.{terminal_count}
-use Rattle.run_rows.specs.RowLaws.{texts_more}
-use Rattle.run_changes.specs.PlayedTracks.{is_on, is_shown, shown_is, played}
+use Rattle.run_changes.specs.rows.RowLaws.{texts_more}
+use Rattle.run_changes.specs.changes.PlayedTracks.{is_on, is_shown, shown_is, played}
 use Rattle.file_records.specs.recorded.Data.{all_seen, level_field, terminal_fields}
 use Rattle.file_records.proofs.recorded_lemmas.TrackLevels.{all_ticks}
 use Rattle.file_records.proofs.recorded.data.put_terminals.Goals as goal

@@ -1,6 +1,6 @@
 use Rattle.std.proofs.Common.{◌≡◌, ◌++◌}
-use Rattle.run_rows.specs.PlayRows.{each_below}
-use Rattle.run_changes.specs.PlayedTracks.{played}
+use Rattle.run_changes.specs.rows.PlayRows.{each_below}
+use Rattle.run_changes.specs.changes.PlayedTracks.{played}
 use Rattle.file_records.specs.recorded.Data.{terminal_fields}
 use Rattle.file_records.proofs.recorded.data.put_terminals.Given as goal
 

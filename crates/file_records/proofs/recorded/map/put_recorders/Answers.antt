@@ -1,4 +1,4 @@
-use Rattle.run_rows.specs.RowLaws.{texts_more}
+use Rattle.run_changes.specs.rows.RowLaws.{texts_more}
 use Rattle.file_records.specs.recorded.Map.{recorder_text}
 use Rattle.file_records.proofs.recorded.map.put_recorders.Goals as goal
 

@@ -1,7 +1,7 @@
 use Rattle.std.proofs.Common.{◌≡◌, ◌+◌, ◌||◌, ℕ, suc, Bool, sym, ◌∙◌, ap, arith}
 use Rattle.model_history.specs.Rails.{must_of, may_of}
 use Rattle.model_history.specs.Elements.{some_below}
-use Rattle.run_changes.specs.LaneLaws.{lane_at}
+use Rattle.run_changes.specs.changes.LaneLaws.{lane_at}
 use Rattle.judge_boxes.specs.{Terns.terns_rails, Held.must_trip, Held.may_trip}
 use Rattle.judge_margins.proofs.map.ruled.tripped_in.Goals as goal
 

@@ -1,4 +1,4 @@
-use Rattle.run_changes.specs.PlayedTracks.{is_on}
+use Rattle.run_changes.specs.changes.PlayedTracks.{is_on}
 use Rattle.judge_match.specs.explain.Asked.{AreLevels}
 use Rattle.judge_match.proofs.explain.changes.track_levels.Given as goal
 

@@ -4,7 +4,7 @@ use Rattle.model_history.specs.Rails.{Ends}
 use Rattle.model_logic.specs.Choice.{Box, LeastFromOne}
 use Rattle.run_signal.specs.{Terns.tern_rails, declared.tern.Tern.Tern}
 use Rattle.run_step.specs.{LaneBox.lane_box, Runs.IsTheHistory}
-use Rattle.run_changes.specs.Tracks.{tracks_history}
+use Rattle.run_changes.specs.changes.Tracks.{tracks_history}
 use Rattle.judge_match.specs.explain.Parts.{part_box}
 use Rattle.judge_match.proofs.explain_lemmas.BoxLaws.{box_is, whole_ends}
 use Rattle.judge_match.proofs.explain_lemmas.ListLaws.{ok_weaker}

@@ -1,6 +1,6 @@
 use Rattle.std.proofs.Common.{◌≡◌, ◌<◌, ◌≤◌, ◌∙◌, ap, arith, subst, sym, length, ℕ, false, true, ⊎_elim}
 use Rattle.std.proofs.lemmas.Bool.{cases_lt}
-use Rattle.run_changes.specs.PlayedTracks.{is_shown}
+use Rattle.run_changes.specs.changes.PlayedTracks.{is_shown}
 use Rattle.judge_match.specs.explain.Changes.{HaveSameChanges}
 use Rattle.judge_match.specs.declared.explain.recorded.Recorded.{Recorded}
 use Rattle.judge_match.proofs.explain_lemmas.ListLaws.{indexed}

@@ -1,5 +1,5 @@
 use Rattle.std.proofs.Common.{◌<◌, ℕ, Bool}
-use Rattle.run_changes.specs.PlayedTracks.{is_shown}
+use Rattle.run_changes.specs.changes.PlayedTracks.{is_shown}
 use Rattle.judge_match.specs.{explain.Changes.HaveSameChanges, explain.Asked.AreRecorded}
 use Rattle.judge_match.proofs.explain.play.are_all_near.Given as goal
 

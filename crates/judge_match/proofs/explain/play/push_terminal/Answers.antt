@@ -1,7 +1,7 @@
 use Rattle.std.proofs.Common.{◌≡◌, ◌<◌, ◌∙◌, ◌++◌, ap, arith, subst, sym, List, ℕ, Bool, true, false, length}
 use Rattle.run_signal.specs.SentKeys.{SentKeys}
 use Rattle.run_signal.specs.declared.level.Level.{Level}
-use Rattle.run_changes.specs.PlayedTracks.{played}
+use Rattle.run_changes.specs.changes.PlayedTracks.{played}
 use Rattle.judge_match.specs.explain.Answers.{paired, paired_signal, paired_terminal}
 use Rattle.judge_match.specs.explain.Asked.{recorded_of}
 use Rattle.judge_match.specs.declared.explain.paired.Paired.{Paired}

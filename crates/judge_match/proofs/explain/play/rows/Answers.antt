@@ -1,7 +1,7 @@
 use Rattle.std.proofs.Common.{◌≡◌, ◌<◌, ◌≤◌, ◌∙◌, ◌++◌, ap, arith, subst, sym, ℕ, List}
 use Rattle.std.specs.List.{flat_map, range_with_len}
 use Rattle.model_line.specs.Parameters.{terminal_count}
-use Rattle.run_changes.specs.PlayedTracks.{played}
+use Rattle.run_changes.specs.changes.PlayedTracks.{played}
 use Rattle.judge_match.specs.{explain.Answers.paired_terminal, explain.Asked.recorded_of}
 use Rattle.judge_match.proofs.explain_lemmas.PlayLaws.{flat_range, rows_same}
 use Rattle.judge_match.proofs.explain.play.rows.Goals as goal

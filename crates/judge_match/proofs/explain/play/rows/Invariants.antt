@@ -1,6 +1,6 @@
 use Rattle.std.proofs.Common.{◌≡◌}
 use Rattle.std.specs.List.{flat_map, range_with_len}
-use Rattle.run_changes.specs.PlayedTracks.{played}
+use Rattle.run_changes.specs.changes.PlayedTracks.{played}
 use Rattle.judge_match.specs.{explain.Answers.paired_terminal, explain.Asked.recorded_of}
 use Rattle.judge_match.proofs.explain.play.rows.Given as goal
 

@@ -1,5 +1,5 @@
 use Rattle.std.proofs.Common.{◌≡◌, ◌<◌, ℕ}
-use Rattle.run_changes.specs.PlayedTracks.{is_shown}
+use Rattle.run_changes.specs.changes.PlayedTracks.{is_shown}
 use Rattle.run_step.specs.Ticks.{AreSent}
 use Rattle.run_waves.specs.derived.Claims.{pairs_of}
 use Rattle.judge_match.proofs.matching.recorded.tracks_of.Given as goal

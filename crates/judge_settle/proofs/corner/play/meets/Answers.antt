@@ -2,7 +2,7 @@ use Rattle.std.proofs.Common.{◌<◌, ◌≤◌, ◌+◌, ℕ, subst, sym, arit
 use Rattle.model_line.specs.declared.script.Kind.{Kind}
 use Rattle.model_line.specs.declared.script.Kind.TheVariants.{Internal, External}
 use Rattle.model_logic.specs.Histories.{MeetsBy}
-use Rattle.run_changes.specs.PlayedTracks.{is_on}
+use Rattle.run_changes.specs.changes.PlayedTracks.{is_on}
 use Rattle.judge_settle.proofs.corner_lemmas.Played.{not_when, off_when}
 use Rattle.judge_settle.proofs.corner.play.meets.Goals as goal
 

@@ -1,7 +1,7 @@
 use Rattle.std.proofs.Common.{refl, sym, ◌∙◌, ap, arith, ⊎_elim}
 use Rattle.std.proofs.lemmas.Bool.{cases_lt}
 use Rattle.model_history.specs.Rails.{must_of}
-use Rattle.run_changes.specs.PlayedTracks.{on_is}
+use Rattle.run_changes.specs.changes.PlayedTracks.{on_is}
 use Rattle.judge_settle.proofs.corner.play.trips.Goals as goal
 
 pub returns-then-must : goal.returns-then-must

@@ -4,7 +4,7 @@ use Rattle.std.specs.Prelude.{slice_get, IsTrue}
 use Rattle.model_line.specs.Parameters.{terminal_count}
 use Rattle.model_logic.specs.{Choice.Choice, Histories.MeetsBy}
 use Rattle.model_timing.specs.{declared.step.Step.Step, Timing.TimingValues, Choice.timing_choice}
-use Rattle.run_changes.specs.PlayedTracks.{played, shown_is}
+use Rattle.run_changes.specs.changes.PlayedTracks.{played, shown_is}
 use Rattle.run_step.specs.{LaneBox.lane_box, Played.ends_of_tick, Runs.AreDelayed}
 use Rattle.run_step.specs.Runs.{IsPoint}
 use Rattle.judge_settle.proofs.settle.play.is_met.Goals as goal

@@ -3,7 +3,7 @@ use Rattle.model_line.specs.declared.script.Kind.{Kind}
 use Rattle.model_line.specs.declared.script.Kind.TheVariants.{Internal, External}
 use Rattle.model_logic.specs.Histories.{MeetsBy}
 use Rattle.std.specs.Prelude.{IsTrue}
-use Rattle.run_changes.specs.PlayedTracks.{is_on}
+use Rattle.run_changes.specs.changes.PlayedTracks.{is_on}
 use Rattle.judge_settle.proofs.settle.play.meets.Goals as goal
 
 not_when : (b : Bool) → (IsTrue b → ⊥) → IsTrue (not b)

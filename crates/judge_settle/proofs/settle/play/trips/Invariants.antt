@@ -1,6 +1,6 @@
 use Rattle.std.proofs.Common.{ℕ, ◌<◌, ◌≤◌, ◌-◌, length}
 use Rattle.std.specs.Prelude.{IsFalse}
-use Rattle.run_changes.specs.PlayedTracks.{is_on}
+use Rattle.run_changes.specs.changes.PlayedTracks.{is_on}
 use Rattle.judge_settle.proofs.settle.play.trips.Given as goal
 
 -- off at every tick so far

@@ -1,0 +1,38 @@
+use Rattle.std.proofs.Common.{◌≤◌, arith}
+use Rattle.model_history.specs.Rails.{rails_at}
+use Rattle.run_signal.specs.{Lanes.in_lane, Levels.level_rails}
+use Rattle.run_changes.specs.changes.LaneLaws.{lane_at}
+use Rattle.run_changes.proofs.changes_lemmas.AgreeLaws.{none_yet, ticks_more}
+use Rattle.run_changes.proofs.changes.agreeing.agreeing_track.Goals as goal
+
+pub stretches-init : goal.stretches-init
+stretches-init g c = record {
+  from = omega arith;
+  inside = omega arith;
+  lanes = λ lane inside.
+      none_yet (rails_at (in_lane g.V.Signal.rails lane c.args.track.now.keys))
+      (rails_at (in_lane (λ x _. level_rails x) 0 c.args.recorded.now.keys)) c.args.from
+      (g.V.Signal.rails c.known-lanes.result lane) (c.known-lanes.ensures lane inside);
+}
+
+pub stretches-preserved : goal.stretches-preserved
+stretches-preserved g c =
+    let t = c.stretches.t in
+    let track = c.args.track.now in
+    let recorded = c.args.recorded.now in
+    let rails = g.V.Signal.rails in
+    let low : c.args.from ≤ t = c.stretches.invariant.from in
+    record {
+      from = omega (arith, c.both_stay-t.ensures.later);
+      inside = c.both_stay-t.ensures.limited;
+      lanes = λ lane inside.
+          ticks_more (rails_at (in_lane rails lane track.keys))
+          (rails_at (in_lane (λ x _. level_rails x) 0 recorded.keys)) c.args.from t
+          c.both_stay-t.result _ _ (rails c.stretches.lanes lane) (rails c.at_level.result lane)
+          (rails c.and-lanes.result lane) (rails c.at.result lane) (level_rails c.at-in-stretches.result) low
+          (c.and-lanes.ensures lane inside) (c.stretches.invariant.lanes lane inside)
+          (c.at_level.ensures lane inside)
+          (lane_at rails track.keys c.at.result lane t c.at.ensures)
+          (lane_at (λ x _. level_rails x) recorded.keys c.at-in-stretches.result 0 t c.at-in-stretches.ensures)
+          (c.both_stay-t.ensures.track lane inside) c.both_stay-t.ensures.recorded;
+    }

@@ -1,0 +1,11 @@
+pub mod LagLaws
+pub mod HearLaws
+pub mod ShownListLaws
+pub mod ReaderLaws
+pub mod TraceLaws
+pub mod WaitLaws
+pub mod MarkLaws
+pub mod StretchLaws
+pub mod TrackLaws
+pub mod UntilLaws
+pub mod AgreeLaws

@@ -1,7 +1,0 @@
-use Rattle.run_changes.proofs.MarkLaws.{marked_others}
-use Rattle.run_changes.proofs.marks.unmark.Goals as goal
-
-pub returns-clause-others : goal.returns-clause-others
-returns-clause-others c = λ i other marked.
-    marked_others c.args.words.now.items c.args.gate i c.index_mut.result.now c.requires
-    c.index_mut.ensures.value other marked

@@ -1,9 +1,0 @@
-//! The rows of a play: one for each change of a terminal's key or trip.
-#![tactic(auto)]
-
-mod play;
-mod rows;
-mod standing;
-
-pub use play::play_rows;
-pub use rows::level_word;
