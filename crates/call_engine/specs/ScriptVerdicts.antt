@@ -6,10 +6,10 @@ use Rattle.model_logic.specs.Choice.{Choice, IsInside, declared_box}
 use Rattle.model_logic.specs.Histories.{History, IsLineHistory, Meets, PairHistory, IsPairHistory}
 use Rattle.model_logic.specs.Rule.{Broken, Unknown, rule_of}
 use Rattle.model_timing.specs.{Timing.TimingValues, Candidates.candidate}
-use Rattle.judge_verdict.specs.declared.verdict.ScriptVerdict.{ScriptVerdict}
-use Rattle.judge_verdict.specs.declared.verdict.Verdict.TheVariants.{Yes, No, Undecided}
-use Rattle.judge_verdict.specs.Printable.{IsPrintable}
-use Rattle.judge_verdict.specs.Verdicts.{AreKeys, AreVerdicts, IsRefutation}
+use Rattle.judge_verdict.specs.declared.verdict.verdict.ScriptVerdict.{ScriptVerdict}
+use Rattle.judge_verdict.specs.declared.verdict.verdict.Verdict.TheVariants.{Yes, No, Undecided}
+use Rattle.judge_verdict.specs.verdict.Printable.{IsPrintable}
+use Rattle.judge_verdict.specs.verdict.Verdicts.{AreKeys, AreVerdicts, IsRefutation}
 
 -- the key waves of the interval history over the declared intervals and the verdict of each
 -- terminal, and what each verdict says

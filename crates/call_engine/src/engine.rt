@@ -12,7 +12,7 @@ ghost use Rattle.call_engine.specs.Calls.{AskedCertify, AskedCheck, AskedPlay, C
 ghost use Rattle.call_engine.specs.ScriptVerdicts.{IsScriptVerdict};
 
 use cert_claims::check::{CheckFault, Counts};
-use judge_verdict::ScriptVerdict;
+use judge_verdict::verdict::ScriptVerdict;
 use model_line::{Line, Memory, Script};
 use model_timing::NamedTiming;
 use net_gates::Net;

@@ -14,7 +14,7 @@ ghost use Rattle.call_engine.specs.NetCalls.{after_certify, after_check, after_p
 
 use crate::engine::Engine;
 use cert_claims::check::{CheckFault, Counts, check};
-use judge_verdict::{ScriptVerdict, certify};
+use judge_verdict::verdict::{ScriptVerdict, certify};
 use model_line::{Line, Memory, Script};
 use model_timing::NamedTiming;
 use net_gates::Net;

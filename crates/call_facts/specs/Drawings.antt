@@ -11,7 +11,7 @@ use Rattle.model_logic.specs.{PairMean.pair_mean, Rule.rule_of}
 use Rattle.model_timing.specs.{Choice.timing_choice, NamedValues.NamedValues}
 use Rattle.net_gates.specs.{Formulas.formula_of, NetOf.IsNetOf, NetOf.NetOf}
 use Rattle.run_step.specs.{GatePairs.GateSignals, Runs.IsTheHistory}
-use Rattle.judge_verdict.specs.Rules.{rule_named}
+use Rattle.judge_verdict.specs.verdict.Rules.{rule_named}
 use Rattle.draw_gates.specs.dump.GateValues.{gate_levels}
 use Rattle.draw_bands.specs.{declared.diagram.diagram.Diagram.Diagram, diagram.Diagrams.IsDiagramOf}
 use Rattle.draw_shapes.specs.declared.rows.Rows.TheVariants as rows

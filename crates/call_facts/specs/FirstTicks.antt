@@ -2,7 +2,7 @@
 use Rattle.std.specs.Prelude.{◌≡◌, ◌<◌, ◌+◌, ◌*◌, ℕ, List, Some, length, slice_get}
 use Rattle.model_line.specs.{declared.line.Line.Line, declared.script.Script.Script}
 use Rattle.model_line.specs.Parameters.{terminal_count}
-use Rattle.judge_verdict.specs.OneEach.{OneEach}
+use Rattle.judge_verdict.specs.verdict.OneEach.{OneEach}
 use Rattle.judge_report.specs.Firsts.{IsFirstMay, IsFirstMust}
 use Rattle.call_facts.specs.declared.firsts.Firsts.{Firsts}
 

@@ -7,7 +7,7 @@ use Rattle.judge_report.specs.declared.upper_end.Lost.{Lost}
 use Rattle.judge_margins.specs.{margins.Ends.IsEnd, margins.Today.AreToday}
 use Rattle.judge_margins.specs.declared.margins.end.{End.End, Side.Side}
 use Rattle.judge_margins.specs.declared.margins.end.Side.TheVariants.{Above, Below}
-use Rattle.judge_verdict.specs.OneEach.{OneEach}
+use Rattle.judge_verdict.specs.verdict.OneEach.{OneEach}
 use Rattle.draw_page.specs.declared.page.{Slack.Slack, Time.Time}
 use Rattle.call_facts.specs.Least.{at_words}
 

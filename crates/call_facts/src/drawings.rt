@@ -10,7 +10,7 @@ use draw_bands::diagram::{every_choice_waves, history_diagram, play_diagram};
 use draw_bands::layout::{Subject, draw};
 use draw_gates::dump::play_waves;
 use draw_shapes::{Drawing, Rows};
-use judge_verdict::analyse;
+use judge_verdict::verdict::analyse;
 use model_line::laws::deadlines_are_below_the_horizon;
 use model_line::{Line, Memory, Script};
 use model_timing::NamedTiming;

@@ -5,13 +5,13 @@ ghost use Rattle.model_line.specs.Parameters.{terminal_count};
 ghost use Rattle.model_line.specs.declared.script.Script.{Script};
 ghost use Rattle.model_logic.specs.Choice.{declared_box};
 ghost use Rattle.run_step.specs.Runs.{IsTheHistory};
-ghost use Rattle.judge_verdict.specs.PairWavesOf.{pair_history};
-ghost use Rattle.judge_verdict.specs.OneEach.{OneEach};
+ghost use Rattle.judge_verdict.specs.verdict.PairWavesOf.{pair_history};
+ghost use Rattle.judge_verdict.specs.verdict.OneEach.{OneEach};
 ghost use Rattle.call_answer.specs.Study.{IsAnyStudy};
 ghost use Rattle.call_facts.specs.FirstTicks.{AreFirstOf, AreFirsts};
 
 use call_answer::Study;
-use judge_verdict::{PairWaves, analyse};
+use judge_verdict::verdict::{PairWaves, analyse};
 use model_line::Memory;
 use std::alloc::Global;
 

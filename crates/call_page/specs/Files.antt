@@ -4,7 +4,7 @@ use Rattle.model_line.specs.{declared.line.Line.Line, declared.script.Script.Scr
 use Rattle.file_line.specs.{LineFiles.line_of, Lines.line_values}
 use Rattle.file_tables.specs.script.Values.{values_of}
 use Rattle.file_study.specs.sweeps.Parts.{SaysScripts, part, parts_of}
-use Rattle.judge_verdict.specs.OneEach.{OneEach}
+use Rattle.judge_verdict.specs.verdict.OneEach.{OneEach}
 use Rattle.draw_page.specs.declared.page.{Digest.Digest, FileText.FileText}
 use Rattle.call_tables.specs.{declared.row.Row.Row, Written.trees_text}
 use Rattle.call_facts.specs.Hashes.{IsHashOf}

@@ -7,7 +7,7 @@ use Rattle.model_line.specs.NamesByNumber.{terminal_name}
 use Rattle.judge_report.specs.Deadlines.{deadline_of}
 use Rattle.judge_settle.specs.declared.settle.answer.Answer.{Answer}
 use Rattle.judge_settle.specs.declared.settle.answer.Answer.TheVariants.{Held, Fails, Open}
-use Rattle.judge_verdict.specs.OneEach.{OneEach}
+use Rattle.judge_verdict.specs.verdict.OneEach.{OneEach}
 use Rattle.draw_page.specs.declared.page.{Standing.Standing, Verdict.Verdict}
 use Rattle.draw_page.specs.declared.page.Standing.TheVariants as standing
 use Rattle.call_tables.specs.declared.row.Row.{Row}

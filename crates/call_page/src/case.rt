@@ -1,7 +1,7 @@
 //! The scripts of a fault.
 
 ghost use Rattle.std.specs.Prelude.{◌≤◌, ◌<◌, ◌+◌, IfOk, length};
-ghost use Rattle.judge_verdict.specs.OneEach.{OneEach};
+ghost use Rattle.judge_verdict.specs.verdict.OneEach.{OneEach};
 ghost use Rattle.call_page.specs.{Facts.IsKnown, Faults.IsCaseOf};
 ghost use Rattle.call_facts.specs.Lists.{At};
 

@@ -2,7 +2,7 @@
 
 ghost use Rattle.std.specs.Prelude.{◌≡◌, ◌≤◌, ◌<◌, ◌+◌, IfOk, length};
 ghost use Rattle.model_line.specs.Parameters.{terminal_count};
-ghost use Rattle.judge_verdict.specs.OneEach.{OneEach};
+ghost use Rattle.judge_verdict.specs.verdict.OneEach.{OneEach};
 ghost use Rattle.call_page.specs.Facts.{IsKnown};
 ghost use Rattle.call_facts.specs.{FirstTicks.place, Lists.At};
 ghost use Rattle.call_page.specs.Verdicts.{IsVerdictOf, standing_of as standing_of_answer};

@@ -9,7 +9,7 @@ use Rattle.model_logic.specs.Histories.{PairHistory, History, IsLineHistory, IsS
 use Rattle.model_logic.specs.Histories.{IsSamePairHistory}
 use Rattle.model_logic.specs.Choice.{declared_box, pair_world_of}
 use Rattle.model_logic.specs.{PairMean.pair_mean, Rule.rule_of}
-use Rattle.judge_verdict.specs.Rules.{rule_named}
+use Rattle.judge_verdict.specs.verdict.Rules.{rule_named}
 use Rattle.run_step.specs.{GatePairs.GateSignals, Runs.IsTheHistory}
 use Rattle.model_timing.specs.{Choice.timing_choice}
 use Rattle.model_timing.specs.NamedValues.{NamedValues}

@@ -12,7 +12,7 @@ use draw_bands::layout::{Subject, draw};
 use draw_gates::dump::{play_waves, vcd_text};
 use draw_shapes::{Rows, svg};
 use file_records::recorded::data_text;
-use judge_verdict::analyse;
+use judge_verdict::verdict::analyse;
 use model_line::laws::deadlines_are_below_the_horizon;
 use model_line::{Line, Memory, Script};
 use model_logic::laws::{each_choice_has_one_history, each_line_has_a_choice_inside};

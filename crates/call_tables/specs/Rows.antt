@@ -2,7 +2,7 @@
 use Rattle.std.specs.Prelude.{◌≡◌, ◌<◌, ◌+◌, ◌*◌, ◌^◌, ℕ, List, Some, length, slice_get}
 use Rattle.model_line.specs.{declared.line.Line.Line, declared.script.Script.Script}
 use Rattle.model_line.specs.Parameters.{terminal_count}
-use Rattle.judge_verdict.specs.OneEach.{OneEach}
+use Rattle.judge_verdict.specs.verdict.OneEach.{OneEach}
 use Rattle.judge_settle.specs.settle.Answers.{IsAnswer}
 use Rattle.call_tables.specs.declared.row.Row.{Row}
 

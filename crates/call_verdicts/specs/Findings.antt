@@ -4,7 +4,7 @@ use Rattle.model_line.specs.{declared.line.Line.Line, declared.script.Script.Scr
 use Rattle.model_line.specs.Parameters.{terminal_count}
 use Rattle.model_settle.specs.{Choices.EveryChoiceMeets, Schemes.IsOneRailedBy}
 use Rattle.model_timing.specs.Timing.{TimingValues}
-use Rattle.judge_verdict.specs.OneEach.{OneEach}
+use Rattle.judge_verdict.specs.verdict.OneEach.{OneEach}
 use Rattle.judge_report.specs.Firsts.{IsFirstMust}
 use Rattle.judge_settle.specs.settle.Trees.{IsFailing}
 use Rattle.call_verdicts.specs.declared.finding.{Finding.Finding, Standing.Standing}

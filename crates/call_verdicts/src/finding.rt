@@ -6,8 +6,8 @@ ghost use Rattle.model_line.specs.{Fits.Fits, Parameters.terminal_count};
 ghost use Rattle.model_logic.specs.Choice.{declared_box};
 ghost use Rattle.net_gates.specs.NetOf.{IsNetOf};
 ghost use Rattle.run_step.specs.Runs.{IsTheHistory};
-ghost use Rattle.judge_verdict.specs.PairWavesOf.{pair_history};
-ghost use Rattle.judge_verdict.specs.OneEach.{OneEach};
+ghost use Rattle.judge_verdict.specs.verdict.PairWavesOf.{pair_history};
+ghost use Rattle.judge_verdict.specs.verdict.OneEach.{OneEach};
 ghost use Rattle.judge_settle.specs.settle.Answers.{IsAnswer};
 ghost use Rattle.call_verdicts.specs.Cases.{IsCases};
 ghost use Rattle.call_verdicts.specs.Findings.{AreFindings, IsFinding, IsStanding};
@@ -15,7 +15,7 @@ ghost use Rattle.judge_report.specs.Firsts.{IsFirstMust};
 
 use crate::cases::Cases;
 use judge_settle::settle::{Answer, By, settle};
-use judge_verdict::{PairWaves, analyse};
+use judge_verdict::verdict::{PairWaves, analyse};
 use model_line::Memory;
 use std::alloc::Global;
 

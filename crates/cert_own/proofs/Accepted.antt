@@ -17,9 +17,9 @@ use Rattle.model_timing.specs.Candidates.{candidate}
 use Rattle.model_timing.specs.{Choice.timing_choice, Inside.IsTimingInside, Timing.TimingValues}
 use Rattle.cert_claims.specs.text.Grammar.{AreNumbers, HasNumbers, Verdict as Written}
 use Rattle.cert_claims.specs.text.Text.{CanBeWritten}
-use Rattle.judge_verdict.specs.declared.verdict.Verdict.TheVariants.{Yes, No, Undecided}
-use Rattle.judge_verdict.specs.Verdicts.{AreKeys, AreVerdicts, IsVerdict, IsRefuted}
-use Rattle.judge_verdict.specs.declared.verdict.Verdict.{Verdict}
+use Rattle.judge_verdict.specs.declared.verdict.verdict.Verdict.TheVariants.{Yes, No, Undecided}
+use Rattle.judge_verdict.specs.verdict.Verdicts.{AreKeys, AreVerdicts, IsVerdict, IsRefuted}
+use Rattle.judge_verdict.specs.declared.verdict.verdict.Verdict.{Verdict}
 use Rattle.cert_own.specs.Piece.{claims_of, written_as}
 use Rattle.cert_claims.specs.check.Verdicts.{AreAccepted, IsSupported}
 use Rattle.run_waves.specs.derived.Claims.{derived_trip}

@@ -9,7 +9,7 @@ use Rattle.model_logic.specs.Choice.{declared_box}
 use Rattle.run_signal.specs.declared.tern.Tern.{Tern}
 use Rattle.cert_claims.specs.text.Grammar.{Claims, IsCertificate, Verdict as Written}
 use Rattle.cert_claims.specs.text.Text.{CanBeWritten, certificate_text, part_text, parts_text}
-use Rattle.judge_verdict.specs.declared.verdict.Verdict.{Verdict}
+use Rattle.judge_verdict.specs.declared.verdict.verdict.Verdict.{Verdict}
 use Rattle.cert_own.specs.Piece.{claims_of, written_as}
 use Rattle.cert_claims.specs.{declared.check.counts.Counts.Counts, declared.check.fault.CheckFault.CheckFault}
 use Rattle.cert_claims.specs.declared.check.fault.CheckFault.TheVariants as wrong

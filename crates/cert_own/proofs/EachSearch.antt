@@ -7,8 +7,8 @@ use Rattle.std.specs.Prelude.{Option, IsTrue}
 use Rattle.model_line.specs.Parameters.{declared_ends, is_delay, param_count, terminal_count}
 use Rattle.model_line.specs.{declared.line.Line.Line, declared.script.Script.Script}
 use Rattle.model_line.specs.{WithBounds.IsWithBounds, declared.line.Terminal.Terminal}
-use Rattle.judge_verdict.specs.declared.verdict.Verdict.{Verdict}
-use Rattle.judge_verdict.specs.declared.verdict.Verdict.TheVariants as verdict
+use Rattle.judge_verdict.specs.declared.verdict.verdict.Verdict.{Verdict}
+use Rattle.judge_verdict.specs.declared.verdict.verdict.Verdict.TheVariants as verdict
 use Rattle.judge_split.specs.Search.{Found, Tree, Fails, IsLower, IsUpper, IsVerdictOf, IsSplitAt}
 use Rattle.judge_split.specs.Search.{IsSearch, yes, no, deepest, narrow, first_fails, second_fails}
 use Rattle.judge_split.specs.Search.{split}

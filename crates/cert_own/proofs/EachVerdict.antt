@@ -13,9 +13,9 @@ use Rattle.model_line.specs.{declared.script.Kind.Kind, declared.line.Line.Line}
 use Rattle.model_line.specs.{declared.script.Script.Script, Parameters.terminal_count}
 use Rattle.model_timing.specs.Candidates.{candidate, candidate_count}
 use Rattle.model_timing.specs.Choice.{timing_choice}
-use Rattle.judge_verdict.specs.declared.verdict.Verdict.{Verdict}
-use Rattle.judge_verdict.specs.declared.verdict.Verdict.TheVariants.{Yes, No, Undecided}
-use Rattle.judge_verdict.specs.Verdicts.{FailsAt, PassesAt, IsRuleHeld}
+use Rattle.judge_verdict.specs.declared.verdict.verdict.Verdict.{Verdict}
+use Rattle.judge_verdict.specs.declared.verdict.verdict.Verdict.TheVariants.{Yes, No, Undecided}
+use Rattle.judge_verdict.specs.verdict.Verdicts.{FailsAt, PassesAt, IsRuleHeld}
 use Rattle.judge_split.specs.Search.{IsVerdictOf}
 use Rattle.cert_own.specs.Known.{BoxesKnown}
 

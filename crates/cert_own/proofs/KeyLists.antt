@@ -13,7 +13,7 @@ use Rattle.model_line.specs.{Intervals.leasts, Parameters.terminal_count}
 use Rattle.model_logic.specs.Choice.{declared_box, steady_choice}
 use Rattle.model_logic.specs.Histories.{PairHistory, IsPairHistory}
 use Rattle.run_waves.specs.waves.Waves.{IsWaveOf, wave_at}
-use Rattle.judge_verdict.specs.Verdicts.{AreKeys}
+use Rattle.judge_verdict.specs.verdict.Verdicts.{AreKeys}
 use Rattle.cert_own.specs.Known.{Known}
 use Rattle.cert_own.proofs.Lists.{one_each_once, one_each_exists, same_list}
 

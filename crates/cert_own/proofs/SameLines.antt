@@ -17,10 +17,10 @@ use Rattle.model_logic.specs.Histories.{IsPairHistory}
 use Rattle.model_logic.specs.Rule.{Held, rule_by, rule_of}
 use Rattle.model_timing.specs.Candidates.{is_free, candidate, candidate_count, candidate_value}
 use Rattle.model_timing.specs.{Timing.TimingValues, Timing.number_at, Choice.timing_choice}
-use Rattle.judge_verdict.specs.declared.verdict.Verdict.{Verdict}
-use Rattle.judge_verdict.specs.declared.verdict.Verdict.TheVariants.{Yes, No, Undecided}
-use Rattle.judge_verdict.specs.Verdicts.{FailsAt, PassesAt, IsVerdict}
-use Rattle.judge_verdict.specs.VerdictLaws.{verdict_once}
+use Rattle.judge_verdict.specs.declared.verdict.verdict.Verdict.{Verdict}
+use Rattle.judge_verdict.specs.declared.verdict.verdict.Verdict.TheVariants.{Yes, No, Undecided}
+use Rattle.judge_verdict.specs.verdict.Verdicts.{FailsAt, PassesAt, IsVerdict}
+use Rattle.judge_verdict.specs.verdict.VerdictLaws.{verdict_once}
 use Rattle.judge_split.specs.Widths.{width, middle, IsWidest, IsNarrow}
 use Rattle.judge_split.specs.Search.{IsVerdictOf}
 use Rattle.cert_own.specs.Known.{LinesKnown}

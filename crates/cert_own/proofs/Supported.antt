@@ -8,7 +8,7 @@ use Rattle.model_line.specs.{declared.line.Line.Line, declared.script.Script.Scr
 use Rattle.model_line.specs.Parameters.{terminal_count}
 use Rattle.model_logic.specs.Choice.{declared_box}
 use Rattle.model_timing.specs.Timing.{TimingValues}
-use Rattle.judge_verdict.specs.Verdicts as certified
+use Rattle.judge_verdict.specs.verdict.Verdicts as certified
 use Rattle.cert_claims.specs.check.Refutations.{IsRefutation, steady_timing}
 use Rattle.judge_split.specs.declared.node.Outcome.{Outcome}
 use Rattle.judge_split.specs.declared.node.Outcome.TheVariants as outcome

@@ -13,10 +13,10 @@ use Rattle.model_timing.specs.Laws.{CandidatesAreInside, TimingsInsideAreChoices
 use Rattle.model_timing.specs.{Candidates.candidate, Candidates.candidate_count}
 use Rattle.model_timing.specs.{Choice.timing_choice}
 use Rattle.cert_claims.specs.text.Grammar.{Claims, HasOneEach, Verdict as Written, yes, no, undecided}
-use Rattle.judge_verdict.specs.declared.verdict.Verdict.{Verdict}
-use Rattle.judge_verdict.specs.declared.verdict.Verdict.TheVariants.{Yes, No, Undecided}
+use Rattle.judge_verdict.specs.declared.verdict.verdict.Verdict.{Verdict}
+use Rattle.judge_verdict.specs.declared.verdict.verdict.Verdict.TheVariants.{Yes, No, Undecided}
 use Rattle.cert_own.specs.Piece.{written_as}
-use Rattle.judge_verdict.specs.Verdicts.{IsOpen, IsVerdict}
+use Rattle.judge_verdict.specs.verdict.Verdicts.{IsOpen, IsVerdict}
 use Rattle.run_waves.specs.derived.Claims.{pairs_of}
 use Rattle.cert_claims.specs.{check.Refutations.steady_timing, check.Verdicts.AreAccepted}
 use Rattle.cert_claims.specs.check.Refutations.{IsRefutation}

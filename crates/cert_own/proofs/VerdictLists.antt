@@ -8,10 +8,10 @@ use Rattle.model_logic.specs.Choice.{Choice, DelaysFromOne, declared_box}
 use Rattle.model_logic.specs.Histories.{PairHistory, IsPairHistory}
 use Rattle.model_timing.specs.{Candidates.candidate, Candidates.candidate_count}
 use Rattle.model_timing.specs.{Choice.timing_choice}
-use Rattle.judge_verdict.specs.declared.verdict.Verdict.{Verdict}
-use Rattle.judge_verdict.specs.declared.verdict.Verdict.TheVariants.{Yes, No, Undecided}
-use Rattle.judge_verdict.specs.Verdicts.{AreVerdicts, FailsAt, IsFirstFailing, IsVerdict}
-use Rattle.judge_verdict.specs.{Verdicts.PassesAt, VerdictLaws.verdict_once}
+use Rattle.judge_verdict.specs.declared.verdict.verdict.Verdict.{Verdict}
+use Rattle.judge_verdict.specs.declared.verdict.verdict.Verdict.TheVariants.{Yes, No, Undecided}
+use Rattle.judge_verdict.specs.verdict.Verdicts.{AreVerdicts, FailsAt, IsFirstFailing, IsVerdict}
+use Rattle.judge_verdict.specs.{verdict.Verdicts.PassesAt, verdict.VerdictLaws.verdict_once}
 use Rattle.cert_own.specs.Known.{Known}
 use Rattle.cert_own.proofs.Lists.{one_each_once, one_each_exists}
 use Rattle.cert_own.proofs.Obligations.{held_same, met_or_not, rule_held_or_not, same_meets}

@@ -5,9 +5,9 @@ use Rattle.model_line.specs.{declared.line.Line.Line, declared.script.Script.Scr
 use Rattle.model_logic.specs.Histories.{PairHistory, IsPairHistory}
 use Rattle.model_logic.specs.Choice.{declared_box}
 use Rattle.cert_claims.specs.text.Grammar.{Claims}
-use Rattle.judge_verdict.specs.declared.verdict.Verdict.{Verdict}
+use Rattle.judge_verdict.specs.declared.verdict.verdict.Verdict.{Verdict}
 use Rattle.cert_own.specs.Piece.{written_as}
-use Rattle.judge_verdict.specs.Verdicts.{AreKeys, AreVerdicts}
+use Rattle.judge_verdict.specs.verdict.Verdicts.{AreKeys, AreVerdicts}
 
 -- the claims are the keys of the interval history over the declared intervals and the verdict of
 -- each terminal, as they are written

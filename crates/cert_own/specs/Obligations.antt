@@ -7,7 +7,7 @@ use Rattle.model_logic.specs.Histories.{History, IsLineHistory, Meets, PairHisto
 use Rattle.model_logic.specs.Rule.{Unknown, rule_of}
 use Rattle.model_timing.specs.Candidates.{candidate, candidate_count}
 use Rattle.cert_claims.specs.text.Grammar.{Verdict, yes, no, undecided}
-use Rattle.judge_verdict.specs.Verdicts.{PassesAt}
+use Rattle.judge_verdict.specs.verdict.Verdicts.{PassesAt}
 
 -- every history of every choice of delays inside the declared intervals meets the obligation of
 -- terminal k: it trips by the deadline on an internal fault, and never on an external one

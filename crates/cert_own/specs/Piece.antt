@@ -4,9 +4,9 @@ use Rattle.run_signal.specs.declared.tern.Tern.{Tern}
 use Rattle.model_line.specs.{declared.line.Line.Line, declared.script.Script.Script}
 use Rattle.cert_claims.specs.text.Grammar.{Claims, Verdict as Written, yes, no, undecided}
 use Rattle.cert_claims.specs.text.Text as certificate
-use Rattle.judge_verdict.specs.declared.verdict.Verdict.{Verdict}
-use Rattle.judge_verdict.specs.declared.verdict.Verdict.TheVariants.{Yes, No, Undecided}
-use Rattle.judge_verdict.specs.declared.verdict.ScriptVerdict.{ScriptVerdict}
+use Rattle.judge_verdict.specs.declared.verdict.verdict.Verdict.{Verdict}
+use Rattle.judge_verdict.specs.declared.verdict.verdict.Verdict.TheVariants.{Yes, No, Undecided}
+use Rattle.judge_verdict.specs.declared.verdict.verdict.ScriptVerdict.{ScriptVerdict}
 
 -- a verdict as it is written: a `no` with the values of all parameters in order
 abbrev pub written_as : Verdict → Written

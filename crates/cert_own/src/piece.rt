@@ -3,10 +3,10 @@
 ghost use Rattle.std.specs.Prelude.{◌≡◌, map, IfOk};
 ghost use Rattle.cert_claims.specs.text.Grammar.{verdict_in};
 ghost use Rattle.cert_own.specs.Piece.{piece_text, written_as};
-ghost use Rattle.judge_verdict.specs.Printable.{IsPrintable};
+ghost use Rattle.judge_verdict.specs.verdict.Printable.{IsPrintable};
 
 use cert_claims::text::{Claim, numbers_of, push_part};
-use judge_verdict::{ScriptVerdict, Verdict};
+use judge_verdict::verdict::{ScriptVerdict, Verdict};
 use model_line::{Line, Memory, Script};
 use std::alloc::Global;
 

@@ -5,7 +5,7 @@ use Rattle.std.specs.Prelude.{nat_le, if◌then◌else◌}
 use Rattle.std.specs.List.{list_all}
 use Rattle.model_line.specs.{declared.line.Line.Line, declared.script.Script.Script}
 use Rattle.model_line.specs.Parameters.{declared_ends}
-use Rattle.judge_verdict.specs.declared.rule.Rule.{Rule}
+use Rattle.judge_verdict.specs.declared.verdict.rule.Rule.{Rule}
 use Rattle.judge_margins.specs.{declared.map.axis.Axis.Axis, declared.map.axis.Axes.Axes}
 use Rattle.judge_margins.specs.declared.map.cell.Cell.{Cell}
 use Rattle.judge_margins.specs.map.Axes.{column_count, count_along, least_at, rows_of}

@@ -19,8 +19,8 @@ use Rattle.run_step.specs.{LaneBox.own_ends, LaneBox.ends_in}
 use Rattle.model_history.specs.ListLaws.{exists_at}
 use Rattle.run_ticks.specs.{cases.Given.span_box, cases.Runs.AreKeysUnder, cases.Runs.ArePairsUnder}
 use Rattle.run_ticks.specs.cases.UnderWaves.{UnderWavesOf, own_wave}
-use Rattle.judge_boxes.specs.declared.terns.Terns64.{Terns64}
-use Rattle.judge_boxes.specs.{Spans.SpanLists, Spans.span_ends, Terns.terns_rails}
+use Rattle.judge_verdict.specs.declared.boxes.terns.Terns64.{Terns64}
+use Rattle.judge_verdict.specs.{boxes.Spans.SpanLists, boxes.Spans.span_ends, boxes.Terns.terns_rails}
 use Rattle.judge_cases.specs.declared.view.View.{View}
 use Rattle.judge_cases.specs.Views.{AreViews, AreCases, interval_of, view_box}
 use Rattle.judge_cases.specs.Spans.{AreViewSpans, view_in}

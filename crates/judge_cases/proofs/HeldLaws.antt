@@ -13,7 +13,7 @@ use Rattle.model_settle.specs.Assumed.{assumed_level}
 use Rattle.model_settle.specs.Under.{pair_under}
 use Rattle.net_gates.specs.NetOf.{NetOf, IsNetOf, trip_of}
 use Rattle.run_ticks.specs.cases.UnderWaves.{wave_pair}
-use Rattle.judge_boxes.specs.Terns.{terns_rails}
+use Rattle.judge_verdict.specs.boxes.Terns.{terns_rails}
 use Rattle.judge_cases.specs.{declared.view.View.View, Views.view_box}
 use Rattle.judge_cases.specs.Analyses.{AnalysisOf, IsAnalysis, IsHistoryOf}
 

@@ -16,8 +16,8 @@ use Rattle.net_gates.specs.{NetOf.NetOf, Formulas.formula_of}
 use Rattle.run_ticks.specs.cases.Masks.{IsMask, PutsLevel, IsTimer, AreOfTimers}
 use Rattle.run_ticks.specs.declared.cases.mask.Mask.{Mask}
 use Rattle.model_history.specs.Rails.{Rails}
-use Rattle.judge_boxes.specs.declared.terns.Terns64.{Terns64}
-use Rattle.judge_boxes.specs.Terns.{terns_rails}
+use Rattle.judge_verdict.specs.declared.boxes.terns.Terns64.{Terns64}
+use Rattle.judge_verdict.specs.boxes.Terns.{terns_rails}
 use Rattle.judge_cases.specs.{Rows.AreRows, Puts.PutIn, Views.AreCases}
 use Rattle.judge_cases.proofs.{WeakKey.wanted_timer}
 use Rattle.model_history.specs.ListLaws.{at_set}

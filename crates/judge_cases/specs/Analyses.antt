@@ -10,8 +10,8 @@ use Rattle.model_settle.specs.Under.{pair_under, own_pair, IsPairHistoryUnder, S
 use Rattle.net_gates.specs.{NetOf.NetOf, Formulas.formula_of}
 use Rattle.run_signal.specs.Bits.{bit_on}
 use Rattle.run_ticks.specs.cases.UnderWaves.{UnderWavesOf, wave_pair, own_wave}
-use Rattle.judge_boxes.specs.declared.terns.Terns64.{Terns64}
-use Rattle.judge_boxes.specs.Terns.{terns_rails}
+use Rattle.judge_verdict.specs.declared.boxes.terns.Terns64.{Terns64}
+use Rattle.judge_verdict.specs.boxes.Terns.{terns_rails}
 use Rattle.judge_cases.specs.Views.{view_box}
 use Rattle.judge_cases.specs.declared.view.View.{View}
 

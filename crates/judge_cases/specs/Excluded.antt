@@ -5,8 +5,8 @@ use Rattle.model_settle.specs.Assumed.{Assumption, wanted}
 use Rattle.model_settle.specs.Under.{Excludes}
 use Rattle.net_gates.specs.{NetOf.NetOf, Formulas.formula_of}
 use Rattle.run_ticks.specs.cases.UnderWaves.{UnderWavesOf, own_wave}
-use Rattle.judge_boxes.specs.declared.terns.Terns64.{Terns64}
-use Rattle.judge_boxes.specs.Terns.{terns_rails}
+use Rattle.judge_verdict.specs.declared.boxes.terns.Terns64.{Terns64}
+use Rattle.judge_verdict.specs.boxes.Terns.{terns_rails}
 use Rattle.judge_cases.specs.declared.view.View.{View}
 
 -- in a lane, the own pair of each gate that the echo starts from excludes the assumption

@@ -6,8 +6,8 @@ use Rattle.model_settle.specs.Assumed.{Assumption, assumed_level}
 use Rattle.net_gates.specs.{NetOf.NetOf, Formulas.formula_of}
 use Rattle.run_ticks.specs.cases.Masks.{IsMask, Levels}
 use Rattle.run_ticks.specs.declared.cases.mask.Mask.{Mask}
-use Rattle.judge_boxes.specs.declared.terns.Terns64.{Terns64}
-use Rattle.judge_boxes.specs.Terns.{terns_rails}
+use Rattle.judge_verdict.specs.declared.boxes.terns.Terns64.{Terns64}
+use Rattle.judge_verdict.specs.boxes.Terns.{terns_rails}
 use Rattle.judge_cases.specs.declared.view.View.{View}
 
 -- what a view assumes; where there is none, nothing

@@ -2,7 +2,7 @@
 use Rattle.std.specs.Prelude.{◌≡◌, ◌<◌, ◌-◌, ℕ, List, Some, length, slice_get, nat_lt}
 use Rattle.std.specs.Prelude.{if◌then◌else◌}
 use Rattle.model_line.specs.{declared.line.Line.Line, Parameters.param_count}
-use Rattle.judge_boxes.specs.Spans.{SpanLists, span_ends}
+use Rattle.judge_verdict.specs.boxes.Spans.{SpanLists, span_ends}
 use Rattle.judge_cases.specs.{Views.interval_of, declared.view.View.View}
 
 -- the number of the view in a lane; the lanes past the last view repeat it

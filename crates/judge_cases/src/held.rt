@@ -4,14 +4,14 @@ ghost use Rattle.std.specs.Prelude.{◌≡◌, ◌≤◌, ◌<◌, ℕ, List, le
 ghost use Rattle.model_history.specs.Elements.{some_below};
 ghost use Rattle.model_line.specs.Parameters.{terminal_count};
 ghost use Rattle.run_ticks.specs.cases.UnderWaves.{wave_pair};
-ghost use Rattle.judge_boxes.specs.Terns.{terns_rails};
+ghost use Rattle.judge_verdict.specs.boxes.Terns.{terns_rails};
 ghost use Rattle.net_gates.specs.NetOf.{IsNetOf};
 ghost use Rattle.judge_cases.specs.declared.view.View.{View};
 ghost use Rattle.judge_cases.specs.Views.{AreViews};
 ghost use Rattle.judge_cases.specs.Analyses.{IsAnalysis, TellHeld, TellShown};
 
 use crate::analysis::Analysis;
-use judge_boxes::Terns64;
+use judge_verdict::boxes::Terns64;
 use model_line::{Kind, Line, Script};
 use model_logic::laws::line_laws;
 use model_settle::case_laws::{each_box_has_one_history_under, what_is_shown_of_one_is_shown};

@@ -9,7 +9,7 @@ ghost use Rattle.model_settle.specs.CaseTrees.{HasCases};
 ghost use Rattle.net_gates.specs.NetOf.{IsNetOf};
 ghost use Rattle.run_ticks.specs.cases.Masks.{HaveRows, IsMask};
 ghost use Rattle.run_ticks.specs.cases.Runs.{PutUnder};
-ghost use Rattle.judge_boxes.specs.Terns.{terns_rails};
+ghost use Rattle.judge_verdict.specs.boxes.Terns.{terns_rails};
 ghost use Rattle.judge_cases.specs.Views.{AreViews, AreCases};
 ghost use Rattle.judge_cases.specs.{Rows.AreRows, Puts.PutIn, Puts.views_level};
 
@@ -17,7 +17,7 @@ use crate::assumed::Assumed;
 use crate::rows::rows;
 use crate::view::View;
 use crate::wanted::wanted_gate;
-use judge_boxes::Terns64;
+use judge_verdict::boxes::Terns64;
 use model_line::{Line, Memory, Terminal};
 use model_settle::case_laws::same_trees_are_equal;
 use net_gates::Net;

@@ -7,7 +7,7 @@ ghost use Rattle.judge_cases.specs.{declared.view.View.View, Views.AreViews, Vie
 ghost use Rattle.judge_cases.specs.Spans.{IsViewSpan, AreViewSpans, view_in};
 
 use crate::view::View;
-use judge_boxes::Spans64;
+use judge_verdict::boxes::Spans64;
 use model_line::{Line, Memory};
 use run_signal::{Tick, Ticks64, Within};
 use std::alloc::Global;

@@ -9,8 +9,8 @@ use Rattle.model_line.specs.{declared.script.Script.Script, Parameters.terminal_
 use Rattle.model_logic.specs.Histories.{PairHistory, IsSamePairHistory}
 use Rattle.model_logic.specs.Rule.{Rule, rule_by}
 use Rattle.run_changes.specs.rows.PlayRows.{each_below}
-use Rattle.judge_verdict.specs.Rules.{counted_ticks}
-use Rattle.judge_verdict.specs.RuleLaws.{rule_by_rails}
+use Rattle.judge_verdict.specs.verdict.Rules.{counted_ticks}
+use Rattle.judge_verdict.specs.verdict.RuleLaws.{rule_by_rails}
 use Rattle.judge_report.specs.ReportText.{fields_text, rule_word, row_text, script_rows}
 use Rattle.run_waves.specs.waves.FirstTickLaws.{first_on-same}
 

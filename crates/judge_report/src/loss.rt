@@ -7,13 +7,13 @@ ghost use Rattle.model_line.specs.Fits.{Fits};
 ghost use Rattle.model_logic.specs.Rule.{Held, rule_of};
 ghost use Rattle.model_logic.specs.Choice.{declared_box};
 ghost use Rattle.net_gates.specs.NetOf.{IsNetOf};
-ghost use Rattle.judge_verdict.specs.PairWavesOf.{pair_history};
+ghost use Rattle.judge_verdict.specs.verdict.PairWavesOf.{pair_history};
 ghost use Rattle.judge_report.specs.Raised.{raised};
 ghost use Rattle.judge_report.specs.Lost.{IsScriptHeld, IsFirstTerminal, IsLoss};
 
 use crate::known::laws_below;
 use crate::upper_end::Lost;
-use judge_verdict::{PairWaves, Rule, analyse, judge};
+use judge_verdict::verdict::{PairWaves, Rule, analyse, judge};
 use model_line::laws::scripts_fit_whatever_the_intervals;
 use model_line::{Line, Memory, Script};
 use net_gates::Net;

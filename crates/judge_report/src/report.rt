@@ -7,12 +7,12 @@ ghost use Rattle.model_line.specs.Fits.{Fits};
 ghost use Rattle.model_logic.specs.Histories.{PairHistory, IsPairHistory};
 ghost use Rattle.model_logic.specs.Choice.{declared_box};
 ghost use Rattle.net_gates.specs.NetOf.{IsNetOf};
-ghost use Rattle.judge_verdict.specs.PairWavesOf.{pair_history};
+ghost use Rattle.judge_verdict.specs.verdict.PairWavesOf.{pair_history};
 ghost use Rattle.judge_report.specs.ReportText.{script_rows, report_text_of, AreHistories};
 ghost use Rattle.judge_report.specs.ReportText.{IsReportText};
 
 use crate::rows::push_row;
-use judge_verdict::{PairWaves, analyse};
+use judge_verdict::verdict::{PairWaves, analyse};
 use model_line::laws::deadlines_are_below_the_horizon;
 use model_line::{Line, Memory, Script};
 use model_logic::laws::{each_box_has_one_interval_history, each_line_has_a_choice_inside};

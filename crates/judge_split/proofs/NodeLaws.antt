@@ -3,8 +3,8 @@ use Rattle.std.proofs.Common.{◌≡◌, ◌+◌, ◌-◌, ◌*◌, ◌++◌, �
 use Rattle.std.proofs.Common.{suc, refl, sym, ◌∙◌, ap, subst, arith}
 use Rattle.std.specs.Prelude.{slice_get}
 use Rattle.model_line.specs.{declared.line.Line.Line, declared.script.Script.Script}
-use Rattle.judge_verdict.specs.declared.verdict.Verdict.TheVariants as verdict
-use Rattle.judge_boxes.specs.Held.{AreParts, TellHeld}
+use Rattle.judge_verdict.specs.declared.verdict.verdict.Verdict.TheVariants as verdict
+use Rattle.judge_verdict.specs.boxes.Held.{AreParts, TellHeld}
 use Rattle.judge_split.specs.declared.node.Node.{Node}
 use Rattle.judge_split.specs.declared.node.Node.TheVariants as node
 use Rattle.judge_split.specs.Search.{Tree, IsVerdictOf, IsSplitAt, IsLower, IsUpper, IsSearch, yes}

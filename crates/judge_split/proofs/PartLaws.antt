@@ -14,7 +14,7 @@ use Rattle.model_logic.specs.Histories.{History, IsLineHistory, Meets, MeetsBy}
 use Rattle.model_logic.specs.Boxes.{ends_with}
 use Rattle.model_timing.specs.Timing.{TimingValues, number_at}
 use Rattle.model_timing.specs.{declared.step.Step.Step, Inside.IsStepInside, Choice.timing_choice}
-use Rattle.judge_verdict.specs.Verdicts.{IsRefutation}
+use Rattle.judge_verdict.specs.verdict.Verdicts.{IsRefutation}
 use Rattle.judge_split.specs.Known.{Known}
 use Rattle.judge_split.proofs.EndsWith.{ends_with-here, ends_with-elsewhere}
 

@@ -13,8 +13,8 @@ use Rattle.model_line.specs.{declared.script.Kind.Kind, declared.script.Script.S
 use Rattle.model_logic.specs.Choice.{Choice, IsIn, IsInside, DelaysFromOne, declared_box}
 use Rattle.model_logic.specs.Histories.{History, IsLineHistory, IsSameHistory, Meets, MeetsBy}
 use Rattle.model_timing.specs.{Timing.TimingValues, Choice.timing_choice, Candidates.candidate}
-use Rattle.judge_verdict.specs.declared.verdict.Verdict.TheVariants as verdict
-use Rattle.judge_verdict.specs.Verdicts.{IsRefutation, IsRefuted}
+use Rattle.judge_verdict.specs.declared.verdict.verdict.Verdict.TheVariants as verdict
+use Rattle.judge_verdict.specs.verdict.Verdicts.{IsRefutation, IsRefuted}
 use Rattle.judge_split.specs.Trees.{SplitTree, Yes, Undecided, Split, preorder, are_yes, is_decided}
 use Rattle.judge_split.specs.Search.{Found, Tree, Fails, IsVerdictOf, IsSplitAt, IsLower, IsUpper}
 use Rattle.judge_split.specs.Search.{IsSearch, yes, no, deepest, narrow, first_fails, second_fails}

@@ -12,7 +12,7 @@ use Rattle.model_logic.specs.Choice.{IsIn, IsWithin, declared_box}
 use Rattle.model_timing.specs.Candidates.{candidate, candidate_count, candidate_value}
 use Rattle.model_timing.specs.{Choice.timing_choice, Inside.IsTimingInside}
 use Rattle.model_history.specs.ListLaws.{exists_at}
-use Rattle.judge_boxes.specs.Held.{IsHeldOf, TellHeld}
+use Rattle.judge_verdict.specs.boxes.Held.{IsHeldOf, TellHeld}
 use Rattle.judge_split.specs.{Known.Known, Quiet.IsCorner, Quiet.AreCorners, Quiet.IsNarrowed}
 use Rattle.judge_split.specs.{Quiet.AreSettled, Quiet.is_wide, Quiet.number_of, Quiet.corner_number}
 use Rattle.judge_split.proofs.QuietLaws.{yes_or_no, candidate_corner}

@@ -11,7 +11,7 @@ use Rattle.model_logic.specs.Choice.{Choice, Box, IsWithin, LeastFromOne, declar
 use Rattle.model_logic.specs.Histories.{History, IsLineHistory, Meets}
 use Rattle.model_logic.specs.Boxes.{box_with, IsSameBox}
 use Rattle.model_logic.specs.HeldOver.{IsHeldOver}
-use Rattle.judge_verdict.specs.declared.verdict.Verdict.TheVariants as verdict
+use Rattle.judge_verdict.specs.declared.verdict.verdict.Verdict.TheVariants as verdict
 use Rattle.judge_split.specs.Trees.{SplitTree, Yes, Undecided, Split, are_yes}
 use Rattle.judge_split.specs.Leaves.{Leaf, lower_half, upper_half, leaves, CanSplit, Splits}
 use Rattle.judge_split.specs.Leaves.{AreSound}

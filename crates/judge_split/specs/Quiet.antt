@@ -5,8 +5,8 @@ use Rattle.model_history.specs.Rails.{Ends, single, IsPartOf}
 use Rattle.model_line.specs.Parameters.{param_count, declared_ends}
 use Rattle.model_line.specs.SetBounds.{SameButParams}
 use Rattle.model_line.specs.{declared.line.Line.Line, declared.script.Script.Script}
-use Rattle.judge_verdict.specs.declared.verdict.Verdict.TheVariants as verdict
-use Rattle.judge_boxes.specs.Held.{IsHeldOf, TellHeld}
+use Rattle.judge_verdict.specs.declared.verdict.verdict.Verdict.TheVariants as verdict
+use Rattle.judge_verdict.specs.boxes.Held.{IsHeldOf, TellHeld}
 use Rattle.judge_split.specs.Search.{IsLower, IsUpper, IsVerdictOf}
 use Rattle.judge_split.specs.{declared.node.Node.Node, Found.AreNodes, Widths.IsWidest}
 

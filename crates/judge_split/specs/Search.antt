@@ -5,9 +5,9 @@ use Rattle.model_line.specs.{Parameters.declared_ends, WithBounds.IsWithBounds}
 use Rattle.model_logic.specs.Histories.{PairHistory, IsPairHistory}
 use Rattle.model_logic.specs.Choice.{declared_box}
 use Rattle.model_timing.specs.Timing.{TimingValues}
-use Rattle.judge_verdict.specs.declared.verdict.Verdict.{Verdict}
-use Rattle.judge_verdict.specs.declared.verdict.Verdict.TheVariants as verdict
-use Rattle.judge_verdict.specs.Verdicts.{IsVerdict}
+use Rattle.judge_verdict.specs.declared.verdict.verdict.Verdict.{Verdict}
+use Rattle.judge_verdict.specs.declared.verdict.verdict.Verdict.TheVariants as verdict
+use Rattle.judge_verdict.specs.verdict.Verdicts.{IsVerdict}
 use Rattle.judge_split.specs.Trees.{SplitTree, Yes, Undecided, Split}
 use Rattle.judge_split.specs.Widths.{middle, IsWidest, IsNarrow}
 

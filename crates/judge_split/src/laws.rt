@@ -7,7 +7,7 @@ ghost use Rattle.model_logic.specs.Choice.{declared_box};
 ghost use Rattle.model_line.specs.{declared.line.Line.Line, declared.script.Script.Script};
 ghost use Rattle.model_line.specs.Parameters.{terminal_count};
 ghost use Rattle.model_timing.specs.Timing.{TimingValues};
-ghost use Rattle.judge_verdict.specs.Verdicts.{IsRefutation};
+ghost use Rattle.judge_verdict.specs.verdict.Verdicts.{IsRefutation};
 ghost use Rattle.judge_split.specs.Trees.{SplitTree, height, are_yes};
 ghost use Rattle.judge_split.specs.Search.{Tree, Fails, IsSearch};
 ghost use Rattle.judge_split.specs.Leaves.{leaves, Splits, LiesInOne, AllHeld, AreSound};

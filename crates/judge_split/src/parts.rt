@@ -2,7 +2,7 @@
 
 ghost use Rattle.std.specs.Prelude.{◌≡◌, ◌<◌, ◌≤◌, ℕ, IfOk, Some, slice_get};
 ghost use Rattle.model_line.specs.{declared.line.Line.Line, SetBounds.SameButParams};
-ghost use Rattle.judge_boxes.specs.Held.{AreParts};
+ghost use Rattle.judge_verdict.specs.boxes.Held.{AreParts};
 ghost use Rattle.judge_split.specs.Search.{IsLower, IsUpper};
 ghost use Rattle.judge_split.specs.{Widths.IsWidest, Quiet.HasHalves, Quiet.HalvesIfAny};
 

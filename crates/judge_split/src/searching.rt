@@ -6,7 +6,7 @@ ghost use Rattle.model_logic.specs.Histories.{History, IsLineHistory, Meets};
 ghost use Rattle.model_line.specs.{Fits.Fits, Parameters.terminal_count};
 ghost use Rattle.net_gates.specs.NetOf.{IsNetOf};
 ghost use Rattle.model_timing.specs.Timing.{TimingValues};
-ghost use Rattle.judge_verdict.specs.Verdicts.{IsRefutation};
+ghost use Rattle.judge_verdict.specs.verdict.Verdicts.{IsRefutation};
 ghost use Rattle.judge_split.specs.{declared.node.Outcome.Outcome, Found.IsFound, Found.IsAllYes};
 
 use crate::halves::halves;
@@ -16,7 +16,7 @@ use crate::node::{Node, Outcome};
 use crate::quick::quick;
 use crate::verdict::verdict_at;
 use crate::widest::{middle, widest};
-use judge_verdict::Verdict;
+use judge_verdict::verdict::Verdict;
 use model_line::laws::scripts_fit_whatever_the_intervals;
 use model_line::{Line, Memory, Script};
 use net_gates::Net;

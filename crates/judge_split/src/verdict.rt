@@ -5,7 +5,7 @@ ghost use Rattle.model_line.specs.{Fits.Fits, Parameters.terminal_count};
 ghost use Rattle.net_gates.specs.NetOf.{IsNetOf};
 ghost use Rattle.judge_split.specs.Search.{IsVerdictOf};
 
-use judge_verdict::{Verdict, certify};
+use judge_verdict::verdict::{Verdict, certify};
 use model_line::{Line, Memory, Script};
 use net_gates::Net;
 use std::alloc::Global;

@@ -1,8 +1,2 @@
-pub mod ToldHistory
-pub mod TrackLaws
-pub mod FirstWithin
-pub mod FirstTicks
-pub mod BlockLaws
-pub mod FailingLaws
-pub mod StandingLaws
-pub mod VerdictLaws
+pub mod boxes_lemmas
+pub mod verdict_lemmas

@@ -1,12 +1,2 @@
-pub mod PairWavesOf
-pub mod Rules
-pub mod RuleLaws
-pub mod Spans
-pub mod DeclaredLaws
-pub mod OneEach
-pub mod OneEachLaws
-pub mod Verdicts
-pub mod VerdictLaws
-pub mod Candidates
-pub mod Standings
-pub mod Printable
+pub mod boxes
+pub mod verdict

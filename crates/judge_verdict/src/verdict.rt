@@ -1,21 +1,24 @@
-//! Verdicts.
+//! The interval rules over the declared intervals of a line, and the verdicts that they give.
+//!
+//! - `interval_history`: the interval history of a script, which stands for all choices of delays
+//!   at once, and by it the rule of each obligation.
+//! - `certification`: the verdict of each obligation of a script, with the keys that show it.
 
-use model_timing::Timing;
-use run_waves::waves::Runs;
+mod block;
+mod certification;
+mod failing;
+mod interval_history;
+mod keys;
+mod pair_waves;
+mod rule;
+mod spans;
+mod standing;
+mod track_waves;
+mod verdict;
 
-/// What is known of an obligation, which is a script at a terminal: each choice of delays inside
-/// the declared intervals meets it; it fails at this timing, which has no steps; or neither is
-/// shown.
-#[derive(Drop)]
-pub enum Verdict {
-    Yes,
-    No(Timing),
-    Undecided,
-}
-
-/// A script's key waves and verdicts, one of each for each terminal.
-#[derive(Drop)]
-pub struct ScriptVerdict {
-    pub keys: Vec<Runs>,
-    pub verdicts: Vec<Verdict>,
-}
+pub use certification::certify;
+pub use interval_history::analyse;
+pub use pair_waves::PairWaves;
+pub use rule::{Rule, judge};
+pub use spans::declared_spans;
+pub use verdict::{ScriptVerdict, Verdict};

@@ -10,9 +10,9 @@ use Rattle.call_pilot.specs.commands.BenchScripts.{inception, is_internal}
 use Rattle.call_pilot.specs.{commands.Answer.IsBenchText, commands.BenchText.bench_text}
 use Rattle.cert_claims.specs.text.Grammar.{Claims, Verdict as Written}
 use Rattle.cert_claims.specs.check.Counts.{all_verdicts, is_no, is_undecided, is_yes}
-use Rattle.judge_verdict.specs.declared.verdict.Verdict.{Verdict}
-use Rattle.judge_verdict.specs.{VerdictLaws.verdict_once}
-use Rattle.judge_verdict.specs.Verdicts.{IsRuleHeld, IsVerdict}
+use Rattle.judge_verdict.specs.declared.verdict.verdict.Verdict.{Verdict}
+use Rattle.judge_verdict.specs.{verdict.VerdictLaws.verdict_once}
+use Rattle.judge_verdict.specs.verdict.Verdicts.{IsRuleHeld, IsVerdict}
 use Rattle.file_tables.specs.script.Values.{ScriptValues, values_of}
 use Rattle.file_line.specs.Lines.{LineValues, intervals_of, line_values}
 use Rattle.model_line.specs.Intervals.{greatests, leasts}

@@ -12,8 +12,8 @@ use Rattle.model_line.specs.{SetBounds.WithBounds, WithBounds.IsWithBounds}
 use Rattle.model_logic.specs.IntervalLaws.{HistoriesRestOnNoInterval}
 use Rattle.file_line.specs.Lines.{line_values}
 use Rattle.file_tables.specs.script.Values.{values_of}
-use Rattle.judge_verdict.specs.declared.verdict.Verdict.{Verdict}
-use Rattle.judge_verdict.specs.declared.verdict.Verdict.TheVariants as verdict
+use Rattle.judge_verdict.specs.declared.verdict.verdict.Verdict.{Verdict}
+use Rattle.judge_verdict.specs.declared.verdict.verdict.Verdict.TheVariants as verdict
 use Rattle.judge_split.specs.{Found.IsFound, Trees.Split, declared.node.Outcome.Outcome}
 use Rattle.judge_split.specs.declared.node.Outcome.TheVariants as outcome
 use Rattle.judge_split.specs.Search.{Fails, Found, IsLower, IsSearch, IsSplitAt, IsUpper}

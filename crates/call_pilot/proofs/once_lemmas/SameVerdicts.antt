@@ -2,9 +2,9 @@
 use Rattle.std.proofs.Common.{◌≡◌, ◌<◌, ℕ, sym, ◌∙◌, subst}
 use Rattle.file_line.specs.Lines.{line_values}
 use Rattle.file_tables.specs.script.Values.{values_of}
-use Rattle.judge_verdict.specs.declared.verdict.Verdict.{Verdict}
-use Rattle.judge_verdict.specs.declared.verdict.Verdict.TheVariants.{Yes, No, Undecided}
-use Rattle.judge_verdict.specs.Verdicts.{FailsAt, IsRuleHeld, IsVerdict, PassesAt}
+use Rattle.judge_verdict.specs.declared.verdict.verdict.Verdict.{Verdict}
+use Rattle.judge_verdict.specs.declared.verdict.verdict.Verdict.TheVariants.{Yes, No, Undecided}
+use Rattle.judge_verdict.specs.verdict.Verdicts.{FailsAt, IsRuleHeld, IsVerdict, PassesAt}
 use Rattle.model_line.specs.{declared.line.Line.Line, declared.script.Script.Script}
 use Rattle.model_line.specs.{Laws.CountsRestOnNoInterval}
 use Rattle.model_logic.specs.Choice.{Choice}

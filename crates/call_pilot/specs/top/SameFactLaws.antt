@@ -25,7 +25,7 @@ use Rattle.file_tables.specs.script.Values.{ScriptValues, values_of}
 use Rattle.model_timing.specs.Candidates.{candidate, candidate_count, candidate_value, is_free}
 use Rattle.model_timing.specs.{Choice.timing_choice, Inside.IsStepInside}
 use Rattle.model_timing.specs.Timing.{TimingValues, number_at}
-use Rattle.judge_verdict.specs.Verdicts.{PassesAt}
+use Rattle.judge_verdict.specs.verdict.Verdicts.{PassesAt}
 use Rattle.cert_claims.specs.text.Grammar.{Verdict, no, undecided, yes}
 use Rattle.cert_claims.specs.check.Refutations.{IsRefutation, choice_of, steady_timing}
 use Rattle.judge_report.specs.Raised.{raised}

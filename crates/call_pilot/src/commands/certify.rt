@@ -19,7 +19,7 @@ use call_answer::{Done, Study, WriteStop, put_text};
 use call_engine::Engine;
 use cert_claims::text::{CERT_END, CERT_HEAD};
 use cert_own::{answers_are_certified, cert_piece};
-use judge_verdict::Verdict;
+use judge_verdict::verdict::Verdict;
 use model_line::{Line, Script};
 use net_gates::Net;
 use std::alloc::Global;

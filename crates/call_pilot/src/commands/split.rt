@@ -3,7 +3,7 @@ ghost use Rattle.std.specs.Prelude.{◌≡◌, ◌≤◌, IfOk, map};
 ghost use Rattle.std.specs.List.{list_any};
 ghost use Rattle.model_line.specs.{Fits.Fits, Parameters.terminal_count};
 ghost use Rattle.net_gates.specs.NetOf.{IsNetOf};
-ghost use Rattle.judge_verdict.specs.OneEach.{OneEach};
+ghost use Rattle.judge_verdict.specs.verdict.OneEach.{OneEach};
 ghost use Rattle.judge_split.specs.Found.{IsFound};
 ghost use Rattle.cert_split.specs.text.Piece.{ArePrintable, written_as};
 ghost use Rattle.cert_split.specs.check.Counts.{verdict_of};

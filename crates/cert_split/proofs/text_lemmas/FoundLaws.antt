@@ -5,7 +5,7 @@ use Rattle.model_line.specs.{declared.script.Script.Script, declared.line.Line.L
 use Rattle.model_line.specs.Parameters.{param_count}
 use Rattle.model_logic.specs.Choice.{declared_box}
 use Rattle.model_timing.specs.{Timing.TimingValues, Inside.IsTimingInside}
-use Rattle.judge_verdict.specs.Verdicts.{IsRefutation}
+use Rattle.judge_verdict.specs.verdict.Verdicts.{IsRefutation}
 use Rattle.cert_claims.specs.text.Grammar.{AreNumbers}
 use Rattle.judge_split.specs.{declared.node.Node.Node, declared.node.Outcome.Outcome}
 use Rattle.judge_split.specs.declared.node.Outcome.TheVariants as outcome

@@ -6,9 +6,9 @@ ghost use Rattle.model_logic.specs.Rule.{Held, rule_of};
 ghost use Rattle.model_logic.specs.{Choice.declared_box, HeldOver.IsHeldOver};
 ghost use Rattle.model_line.specs.{Fits.Fits, Parameters.terminal_count};
 ghost use Rattle.net_gates.specs.NetOf.{IsNetOf};
-ghost use Rattle.judge_verdict.specs.PairWavesOf.{pair_history};
+ghost use Rattle.judge_verdict.specs.verdict.PairWavesOf.{pair_history};
 
-use judge_verdict::{PairWaves, Rule, analyse, judge};
+use judge_verdict::verdict::{PairWaves, Rule, analyse, judge};
 use model_line::laws::deadlines_are_below_the_horizon;
 use model_line::{Line, Memory, Script};
 use model_logic::interval_laws::the_rule_over_a_box;

@@ -2,8 +2,8 @@
 use Rattle.std.specs.Prelude.{◌++◌, ◌-◌, ℕ, Bool, true, false, List, [], ◌∷◌, min, max, Option}
 use Rattle.std.specs.Prelude.{Some, None, slice_get}
 use Rattle.model_line.specs.declared.line.Line.{Line}
-use Rattle.judge_verdict.specs.{declared.rule.Rule.Rule, Rules.rule_named}
-use Rattle.judge_verdict.specs.declared.rule.Rule.TheVariants as rule
+use Rattle.judge_verdict.specs.{declared.verdict.rule.Rule.Rule, verdict.Rules.rule_named}
+use Rattle.judge_verdict.specs.declared.verdict.rule.Rule.TheVariants as rule
 use Rattle.draw_bands.specs.{declared.diagram.diagram.Diagram.Diagram, declared.diagram.times.TripTimes.TripTimes}
 use Rattle.draw_bands.specs.declared.layout.scale.Scale.{Scale}
 use Rattle.judge_report.specs.ReportText.{rule_word}

@@ -4,7 +4,7 @@ ghost use Rattle.std.specs.Prelude.{◌≡◌, ◌<◌, [], length, map, min, If
 ghost use Rattle.model_history.specs.Recorded.{first_ticks};
 ghost use Rattle.model_line.specs.Parameters.{terminal_count};
 ghost use Rattle.model_logic.specs.Rule.{rule_of};
-ghost use Rattle.judge_verdict.specs.{PairWavesOf.pair_history, Rules.rule_named};
+ghost use Rattle.judge_verdict.specs.{verdict.PairWavesOf.pair_history, verdict.Rules.rule_named};
 ghost use Rattle.model_history.specs.Rails.{both};
 ghost use Rattle.run_signal.specs.Terns.{tern_rails};
 ghost use Rattle.run_step.specs.{Played.is_on, Played.played, WavesOf.wave_pair};
@@ -19,7 +19,7 @@ use crate::diagram::times::{TripTimes, trips};
 use crate::diagram::window::{Window, shown_window};
 use draw_shapes::Rows;
 use judge_report::deadline;
-use judge_verdict::{PairWaves, Rule, judge};
+use judge_verdict::verdict::{PairWaves, Rule, judge};
 use model_line::{Line, Memory, Script};
 use model_timing::Step;
 use net_gates::Net;

@@ -7,7 +7,7 @@ ghost use Rattle.run_signal.specs.Terns.{tern_rails};
 ghost use Rattle.run_step.specs.Runs.{AreWavesOf, HavePairs, IsTheHistory};
 ghost use Rattle.run_step.specs.WavesOf.{waves_history};
 
-use judge_verdict::declared_spans;
+use judge_verdict::verdict::declared_spans;
 use model_line::{Line, Memory, Script};
 use model_logic::laws::each_line_has_a_choice_inside;
 use model_timing::Step;

@@ -13,7 +13,7 @@ use crate::layout::scale::{RIGHT, Scale, x_of};
 use crate::layout::words::Words;
 use draw_shapes::{Class, Figure, put_line, put_text, put_words};
 use judge_report::rule_word;
-use judge_verdict::Rule;
+use judge_verdict::verdict::Rule;
 use model_line::{Line, Memory};
 use std::alloc::Global;
 

@@ -14,7 +14,7 @@ use Rattle.run_step.specs.{LaneBox.ends_in, LaneBox.lane_box, Runs.AreDelayed}
 use Rattle.run_step.specs.{Runs.IsTheHistory}
 use Rattle.model_history.specs.ListLaws.{exists_at}
 use Rattle.model_timing.specs.Timing.{number_at}
-use Rattle.judge_boxes.specs.{Spans.SpanLists, Spans.span_ends}
+use Rattle.judge_verdict.specs.{boxes.Spans.SpanLists, boxes.Spans.span_ends}
 use Rattle.judge_margins.specs.{map.Known.Known, declared.map.axis.Axis.Axis, declared.map.axis.Axes.Axes}
 use Rattle.judge_margins.specs.map.Placed.{CanPlace}
 use Rattle.judge_margins.specs.map.Axes.{AreAxes, CanMove, CanMoveBoth, CanMoveSecond, IsAxis, IsSecond}

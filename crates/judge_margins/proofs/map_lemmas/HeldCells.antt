@@ -12,8 +12,8 @@ use Rattle.model_line.specs.Parameters.{terminal_count}
 use Rattle.model_line.specs.{declared.line.Line.Line, declared.script.Script.Script, Fits.Fits}
 use Rattle.model_logic.specs.{Choice.Box, Choice.LeastFromOne, HeldOver.IsHeldOver}
 use Rattle.model_logic.specs.Rule as of_line
-use Rattle.judge_verdict.specs.{declared.rule.Rule.Rule, Rules.rule_named}
-use Rattle.judge_verdict.specs.declared.rule.Rule.TheVariants as rule
+use Rattle.judge_verdict.specs.{declared.verdict.rule.Rule.Rule, verdict.Rules.rule_named}
+use Rattle.judge_verdict.specs.declared.verdict.rule.Rule.TheVariants as rule
 use Rattle.judge_margins.specs.declared.map.cell.{Cell.Cell}
 use Rattle.judge_margins.specs.declared.map.cell.Word.TheVariants.{Held, Open, Fails}
 use Rattle.judge_margins.specs.{map.Known.Known, map.Axes.cell_box, map.MapLaws.AHeldCellIsMet}

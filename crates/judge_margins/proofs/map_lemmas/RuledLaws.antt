@@ -9,9 +9,9 @@ use Rattle.model_line.specs.declared.script.Kind.{Kind}
 use Rattle.model_line.specs.Parameters.{terminal_count}
 use Rattle.model_logic.specs.{Choice.Box, Boxes.IsSameBox}
 use Rattle.model_history.specs.ListLaws.{exists_at, each_more}
-use Rattle.judge_verdict.specs.Rules.{rule_from}
-use Rattle.judge_verdict.specs.RuleLaws.{rule_by_rails}
-use Rattle.judge_boxes.specs.Terns.{terns_rails}
+use Rattle.judge_verdict.specs.verdict.Rules.{rule_from}
+use Rattle.judge_verdict.specs.verdict.RuleLaws.{rule_by_rails}
+use Rattle.judge_verdict.specs.boxes.Terns.{terns_rails}
 use Rattle.judge_margins.specs.{map.Known.Known, declared.map.cell.Cell.Cell, declared.map.ruled.Ruled.Ruled}
 use Rattle.judge_margins.specs.map.Blocks.{AreRuled, AreTripped, AreTrippedAt, IsLaneOf}
 use Rattle.judge_margins.specs.map.Cells.{IsCell}

@@ -18,9 +18,9 @@ use Rattle.run_step.specs.{LaneBox.ends_in, LaneBox.lane_box, Runs.AreDelayed}
 use Rattle.run_step.specs.Runs.{IsTheHistory}
 use Rattle.model_history.specs.ListLaws.{exists_at}
 use Rattle.run_changes.specs.{changes.Tracks.pair_of, changes.Tracks.tracks_history}
-use Rattle.judge_boxes.specs.declared.terns.Terns64.{Terns64}
-use Rattle.judge_boxes.specs.Held.{trip_rails}
-use Rattle.judge_boxes.specs.{Spans.SpanLists, Spans.span_ends, Terns.terns_rails}
+use Rattle.judge_verdict.specs.declared.boxes.terns.Terns64.{Terns64}
+use Rattle.judge_verdict.specs.boxes.Held.{trip_rails}
+use Rattle.judge_verdict.specs.{boxes.Spans.SpanLists, boxes.Spans.span_ends, boxes.Terns.terns_rails}
 use Rattle.judge_report.specs.declared.upper_end.Lost.{Lost}
 use Rattle.judge_margins.specs.{margins.Known.Known, declared.margins.ask.Ask.Ask, declared.margins.group.Group.Group}
 use Rattle.judge_margins.specs.margins.Asks.{AreAsks, AreAskSpans, AreRows, IsRow, IsTold, TellsOff}

@@ -5,9 +5,9 @@ use Rattle.model_line.specs.{declared.line.Line.Line, declared.script.Script.Scr
 use Rattle.model_line.specs.Parameters.{param_count, terminal_count}
 use Rattle.model_logic.specs.{Choice.Box, Histories.PairHistory}
 use Rattle.run_step.specs.Runs.{IsTheHistory}
-use Rattle.judge_verdict.specs.Rules.{counted_ticks, rule_from, rule_named}
-use Rattle.judge_verdict.specs.declared.rule.Rule.{Rule}
-use Rattle.judge_boxes.specs.{Spans.SpanLists, Spans.span_ends, Terns.terns_rails}
+use Rattle.judge_verdict.specs.verdict.Rules.{counted_ticks, rule_from, rule_named}
+use Rattle.judge_verdict.specs.declared.verdict.rule.Rule.{Rule}
+use Rattle.judge_verdict.specs.{boxes.Spans.SpanLists, boxes.Spans.span_ends, boxes.Terns.terns_rails}
 use Rattle.judge_margins.specs.{declared.map.axis.Axes.Axes, declared.map.cell.Cell.Cell}
 use Rattle.judge_margins.specs.declared.map.ruled.Ruled.{Ruled}
 use Rattle.judge_margins.specs.map.Axes.{cell_count, place_box}

@@ -6,8 +6,8 @@ use Rattle.model_line.specs.{declared.line.Line.Line, declared.script.Script.Scr
 use Rattle.model_line.specs.Parameters.{terminal_count}
 use Rattle.model_logic.specs.{Choice.Box, Histories.PairHistory, Rule.rule_of}
 use Rattle.run_step.specs.Runs.{IsTheHistory}
-use Rattle.judge_verdict.specs.{declared.rule.Rule.Rule, Rules.rule_named}
-use Rattle.judge_verdict.specs.declared.rule.Rule.TheVariants as rule
+use Rattle.judge_verdict.specs.{declared.verdict.rule.Rule.Rule, verdict.Rules.rule_named}
+use Rattle.judge_verdict.specs.declared.verdict.rule.Rule.TheVariants as rule
 use Rattle.judge_margins.specs.{declared.map.cell.Cell.Cell, declared.map.cell.Word.Word, declared.map.axis.Axes.Axes}
 use Rattle.judge_margins.specs.declared.map.cell.Word.TheVariants.{Held, Open, Fails}
 use Rattle.judge_margins.specs.map.Axes.{cell_count, place_box}

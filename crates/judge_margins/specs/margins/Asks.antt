@@ -4,7 +4,7 @@ use Rattle.std.specs.Prelude.{Decides, length, min, slice_get, true, false}
 use Rattle.run_signal.specs.Bits.{bit_on}
 use Rattle.model_line.specs.{declared.line.Line.Line, Parameters.param_count}
 use Rattle.model_logic.specs.Choice.{Box}
-use Rattle.judge_boxes.specs.Spans.{SpanLists, span_ends}
+use Rattle.judge_verdict.specs.boxes.Spans.{SpanLists, span_ends}
 use Rattle.judge_report.specs.declared.upper_end.Lost.{Lost}
 use Rattle.judge_margins.specs.{declared.margins.ask.Ask.Ask, declared.margins.group.Group.Group, margins.Each.OneForEach}
 use Rattle.judge_margins.specs.{margins.Groups.AllKept, margins.Groups.IsFirstOf, margins.Kept.IsKept}

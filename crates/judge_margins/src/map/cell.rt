@@ -5,7 +5,7 @@ ghost use Rattle.std.specs.List.{list_all, list_any};
 ghost use Rattle.judge_margins.specs.map.Cells.{is_held as rule_is_held, is_broken as rule_is_broken};
 ghost use Rattle.judge_margins.specs.map.Cells.{word_of, lost_of};
 
-use judge_verdict::Rule;
+use judge_verdict::verdict::Rule;
 use model_line::Memory;
 use std::alloc::Global;
 

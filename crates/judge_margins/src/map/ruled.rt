@@ -3,15 +3,15 @@
 ghost use Rattle.std.specs.Prelude.{◌≡◌, ◌<◌, ◌≤◌, ℕ, Some, IfOk, length, slice_get};
 ghost use Rattle.model_history.specs.Elements.{some_below};
 ghost use Rattle.run_signal.specs.SentKeys.{SentKeys};
-ghost use Rattle.judge_boxes.specs.Terns.{terns_rails};
-ghost use Rattle.judge_boxes.specs.Held.{must_trip, may_trip};
-ghost use Rattle.judge_verdict.specs.Rules.{rule_from, rule_named};
+ghost use Rattle.judge_verdict.specs.boxes.Terns.{terns_rails};
+ghost use Rattle.judge_verdict.specs.boxes.Held.{must_trip, may_trip};
+ghost use Rattle.judge_verdict.specs.verdict.Rules.{rule_from, rule_named};
 ghost use Rattle.judge_margins.specs.map.Blocks.{IsLaneOf, IsRuleIn};
 ghost use Rattle.judge_margins.specs.declared.map.ruled.Ruled.{Ruled as RuledOf};
 
 use crate::map::cell::Cell;
-use judge_boxes::Terns64;
-use judge_verdict::Rule;
+use judge_verdict::boxes::Terns64;
+use judge_verdict::verdict::Rule;
 use model_line::{Kind, Memory};
 use run_signal::{Signal, Track};
 use std::alloc::Global;

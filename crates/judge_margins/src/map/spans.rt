@@ -11,7 +11,7 @@ ghost use Rattle.judge_margins.specs.map.Blocks.{AreCellSpans, IsCellSpan, cell_
 use crate::map::axis::{Axes, Axis};
 use crate::map::intervals::width;
 use crate::map::known::laws_below;
-use judge_boxes::Spans64;
+use judge_verdict::boxes::Spans64;
 use model_line::{Line, Memory};
 use run_signal::{Tick, Ticks64};
 use std::alloc::Global;

@@ -5,10 +5,10 @@ ghost use Rattle.model_history.specs.Elements.{some_below};
 ghost use Rattle.run_signal.specs.Bits.{bit_on};
 ghost use Rattle.run_signal.specs.SentKeys.{SentKeys};
 ghost use Rattle.model_logic.specs.Rule.{is_held};
-ghost use Rattle.judge_boxes.specs.Terns.{terns_rails};
-ghost use Rattle.judge_boxes.specs.Held.{trip_rails, must_trip, may_trip};
+ghost use Rattle.judge_verdict.specs.boxes.Terns.{terns_rails};
+ghost use Rattle.judge_verdict.specs.boxes.Held.{trip_rails, must_trip, may_trip};
 
-use judge_boxes::Terns64;
+use judge_verdict::boxes::Terns64;
 use model_line::{Kind, Line, Script};
 use run_signal::{Lanes64, Signal, Track};
 

@@ -4,7 +4,7 @@ ghost use Rattle.std.specs.Prelude.{◌≡◌, ◌<◌, ℕ, IfOk, Some, [], len
 ghost use Rattle.run_signal.specs.Bits.{bit_on};
 ghost use Rattle.model_line.specs.{Parameters.terminal_count};
 ghost use Rattle.run_step.specs.Runs.{AreDelayed};
-ghost use Rattle.judge_boxes.specs.Spans.{span_ends};
+ghost use Rattle.judge_verdict.specs.boxes.Spans.{span_ends};
 ghost use Rattle.judge_report.specs.declared.upper_end.Lost.{Lost as LostOf};
 ghost use Rattle.judge_margins.specs.margins.Asks.{AreAsks, AreRows, TellsOff};
 ghost use Rattle.judge_margins.specs.margins.Groups.{IsGroup};
@@ -14,7 +14,7 @@ use crate::margins::group::Group;
 use crate::margins::held::held_lanes;
 use crate::margins::known::laws_below;
 use crate::margins::spans::ask_spans;
-use judge_boxes::{Spans64, Terns64};
+use judge_verdict::boxes::{Spans64, Terns64};
 use judge_report::Lost;
 use model_line::{Memory, Script};
 use model_timing::Step;

@@ -8,7 +8,7 @@ ghost use Rattle.judge_margins.specs.declared.margins.ask.Ask.{Ask as AskOf};
 use crate::margins::ask::Ask;
 use crate::margins::known::laws_below;
 use crate::margins::widened::{moved_ends, param_at, side_at};
-use judge_boxes::Spans64;
+use judge_verdict::boxes::Spans64;
 use model_line::{Line, Memory};
 use run_signal::{Tick, Ticks64};
 use std::alloc::Global;

@@ -6,13 +6,13 @@ ghost use Rattle.model_line.specs.{Parameters.terminal_count, Fits.Fits};
 ghost use Rattle.model_logic.specs.{Choice.declared_box, Rule.rule_of, Rule.Held};
 ghost use Rattle.net_gates.specs.NetOf.{IsNetOf};
 ghost use Rattle.run_step.specs.Runs.{IsTheHistory};
-ghost use Rattle.judge_verdict.specs.PairWavesOf.{pair_history};
+ghost use Rattle.judge_verdict.specs.verdict.PairWavesOf.{pair_history};
 ghost use Rattle.judge_margins.specs.margins.Today.{AreToday, is_held as is_held_now};
 ghost use Rattle.judge_margins.specs.{margins.Kept.AreKept, margins.Kept.AreObligations};
 
 use crate::margins::known::laws_below;
 use judge_report::Lost;
-use judge_verdict::{PairWaves, Rule, analyse, judge};
+use judge_verdict::verdict::{PairWaves, Rule, analyse, judge};
 use model_line::{Line, Memory, Script};
 use net_gates::Net;
 use std::alloc::Global;

@@ -5,13 +5,13 @@ ghost use Rattle.model_line.specs.{Fits.Fits, Parameters.terminal_count};
 ghost use Rattle.model_logic.specs.Rule.{is_held as is_rule_held};
 ghost use Rattle.net_gates.specs.NetOf.{IsNetOf};
 ghost use Rattle.model_settle.specs.Schemes.{IsOneRailedBy};
-ghost use Rattle.judge_verdict.specs.PairWavesOf.{pair_history};
+ghost use Rattle.judge_verdict.specs.verdict.PairWavesOf.{pair_history};
 ghost use Rattle.judge_settle.specs.corner.Decided.{OneTimingDecides, IsTheWorst, held_by};
 
 use crate::corner::rail::deciding;
 use crate::corner::scheme::is_one_railed;
 use crate::corner::timing::worst_timing;
-use judge_verdict::{PairWaves, Rule, analyse, judge};
+use judge_verdict::verdict::{PairWaves, Rule, analyse, judge};
 use model_line::{Line, Memory, Script};
 use model_logic::laws::{line_laws, the_rule_is_exact, the_rule_is_tested};
 use model_settle::polarity_laws::the_worst_choice_decides;

@@ -6,13 +6,13 @@ ghost use Rattle.model_line.specs.Parameters.{channel_count, terminal_count, del
 ghost use Rattle.model_line.specs.{Parameters.declared_ends, Channels.from_of};
 ghost use Rattle.model_logic.specs.Choice.{IsIn};
 ghost use Rattle.model_settle.specs.Worst.{arrives, shows, worst_delay as worst_delay_of};
-ghost use Rattle.judge_verdict.specs.PairWavesOf.{pair_history};
+ghost use Rattle.judge_verdict.specs.verdict.PairWavesOf.{pair_history};
 ghost use Rattle.judge_settle.specs.corner.Named.{rail_named};
 ghost use Rattle.judge_settle.specs.corner.Corner.{corner};
 
 use crate::corner::rail::Rail;
 use crate::corner::scheme::key_rail;
-use judge_verdict::PairWaves;
+use judge_verdict::verdict::PairWaves;
 use model_line::Line;
 use model_line::laws::declared_intervals_are_in_order;
 use model_settle::polarity_laws::worst_delays_are_rails;

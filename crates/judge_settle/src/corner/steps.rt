@@ -2,14 +2,14 @@
 
 ghost use Rattle.std.specs.Prelude.{◌≡◌, ◌<◌, ◌≤◌, length, IfOk, OnOk};
 ghost use Rattle.model_line.specs.Parameters.{channel_count, terminal_count, param_count};
-ghost use Rattle.judge_verdict.specs.PairWavesOf.{pair_history};
+ghost use Rattle.judge_verdict.specs.verdict.PairWavesOf.{pair_history};
 ghost use Rattle.judge_settle.specs.corner.Named.{rail_named};
 ghost use Rattle.judge_settle.specs.corner.Corner.{corner};
 ghost use Rattle.judge_settle.specs.corner.Steps.{AreStepsUpTo, with_change};
 
 use crate::corner::delays::delay_at;
 use crate::corner::rail::Rail;
-use judge_verdict::PairWaves;
+use judge_verdict::verdict::PairWaves;
 use model_line::laws::{delays_are_parameters, settings_are_counted};
 use model_line::{Line, Memory};
 use model_timing::Step;

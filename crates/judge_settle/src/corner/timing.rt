@@ -4,14 +4,14 @@ ghost use Rattle.std.specs.Prelude.{◌≡◌, IfOk};
 ghost use Rattle.model_line.specs.Parameters.{terminal_count};
 ghost use Rattle.model_timing.specs.{Inside.IsTimingInside, Choice.timing_choice};
 ghost use Rattle.model_timing.specs.Choice.{IsSameChoice};
-ghost use Rattle.judge_verdict.specs.PairWavesOf.{pair_history};
+ghost use Rattle.judge_verdict.specs.verdict.PairWavesOf.{pair_history};
 ghost use Rattle.judge_settle.specs.corner.Named.{rail_named};
 ghost use Rattle.judge_settle.specs.corner.Corner.{corner};
 
 use crate::corner::numbers::worst_numbers;
 use crate::corner::rail::Rail;
 use crate::corner::steps::worst_steps;
-use judge_verdict::PairWaves;
+use judge_verdict::verdict::PairWaves;
 use model_line::laws::declared_intervals_are_in_order;
 use model_line::{Line, Memory};
 use model_timing::Timing;

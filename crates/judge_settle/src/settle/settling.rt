@@ -23,7 +23,7 @@ use crate::settle::search::{Found, search_view};
 use crate::settle::sides::Branch;
 use judge_ahead::Scene;
 use judge_cases::declared_view;
-use judge_verdict::{Verdict, certify};
+use judge_verdict::verdict::{Verdict, certify};
 use model_line::laws::deadlines_are_below_the_horizon;
 use model_line::{Line, Memory, Script};
 use model_logic::laws::{each_line_has_a_choice_inside, line_laws};

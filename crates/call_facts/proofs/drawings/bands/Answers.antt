@@ -1,4 +1,4 @@
-use Rattle.judge_verdict.specs.PairWavesOf.{pair_history}
+use Rattle.judge_verdict.specs.verdict.PairWavesOf.{pair_history}
 use Rattle.run_signal.specs.Terns.{tern_rails}
 use Rattle.run_step.specs.WavesOf.{wave_pair, waves_history}
 use Rattle.call_facts.proofs.drawings.bands.Goals as goal

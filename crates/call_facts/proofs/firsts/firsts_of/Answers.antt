@@ -2,7 +2,7 @@ use Rattle.std.proofs.Common.{◌≡◌, ℕ, List, Some, refl, ◌∙◌, ap}
 use Rattle.std.specs.Prelude.{slice_get}
 use Rattle.model_history.specs.Rails.{Rails, must_of, may_of}
 use Rattle.model_line.specs.{declared.line.Line.Line, declared.script.Script.Script}
-use Rattle.judge_verdict.specs.PairWavesOf.{pair_at}
+use Rattle.judge_verdict.specs.verdict.PairWavesOf.{pair_at}
 use Rattle.run_waves.specs.waves.FirstTick.{first_on}
 use Rattle.run_waves.specs.waves.FirstTickLaws.{first_on-same}
 use Rattle.model_history.specs.ListLaws.{exists_at}

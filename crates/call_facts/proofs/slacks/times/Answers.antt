@@ -3,7 +3,7 @@ use Rattle.judge_report.specs.declared.upper_end.Lost.{Lost}
 use Rattle.judge_margins.specs.declared.margins.end.End.{End}
 use Rattle.judge_margins.specs.margins.Ends.{AreEnds}
 use Rattle.call_facts.specs.Times.{IsTimeOf}
-use Rattle.judge_verdict.specs.OneEachLaws.{one_next}
+use Rattle.judge_verdict.specs.verdict.OneEachLaws.{one_next}
 use Rattle.call_facts.proofs.slacks.times.Goals as goal
 
 pub loop-i-preserved : goal.loop-i-preserved

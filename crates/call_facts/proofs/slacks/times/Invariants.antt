@@ -1,4 +1,4 @@
-use Rattle.judge_verdict.specs.OneEach.{OneEach}
+use Rattle.judge_verdict.specs.verdict.OneEach.{OneEach}
 use Rattle.call_facts.specs.Times.{IsTimeOf}
 use Rattle.call_facts.proofs.slacks.times.Given as goal
 

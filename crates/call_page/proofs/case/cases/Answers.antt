@@ -1,7 +1,7 @@
 use Rattle.std.proofs.Common.{◌+◌, refl}
 use Rattle.call_page.specs.Faults.{IsCaseOf}
 use Rattle.call_facts.specs.Lists.{At}
-use Rattle.judge_verdict.specs.OneEachLaws.{one_next}
+use Rattle.judge_verdict.specs.verdict.OneEachLaws.{one_next}
 use Rattle.call_page.proofs.case.cases.Goals as goal
 
 pub loop-j-preserved : goal.loop-j-preserved

@@ -1,5 +1,5 @@
 use Rattle.std.proofs.Common.{◌+◌}
-use Rattle.judge_verdict.specs.OneEach.{OneEach}
+use Rattle.judge_verdict.specs.verdict.OneEach.{OneEach}
 use Rattle.call_page.specs.Faults.{IsCaseOf}
 use Rattle.call_facts.specs.Lists.{At}
 use Rattle.call_page.proofs.case.cases.Given as goal

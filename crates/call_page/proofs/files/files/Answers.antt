@@ -1,7 +1,7 @@
 use Rattle.std.proofs.Common.{◌++◌, ◌∷◌, [], ◌∙◌, List, refl, ap}
 use Rattle.draw_page.specs.declared.page.FileText.{FileText}
 use Rattle.call_page.specs.Files.{IsScriptsFile}
-use Rattle.judge_verdict.specs.OneEachLaws.{one_next, nothing_yet}
+use Rattle.judge_verdict.specs.verdict.OneEachLaws.{one_next, nothing_yet}
 use Rattle.call_page.proofs.files.files.Goals as goal
 
 pub loop-n-init : goal.loop-n-init

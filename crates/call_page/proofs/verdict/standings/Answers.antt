@@ -3,7 +3,7 @@ use Rattle.std.specs.Prelude.{slice_get}
 use Rattle.call_tables.specs.declared.row.Row.{Row}
 use Rattle.call_page.specs.Verdicts.{standing_of}
 use Rattle.call_facts.specs.{FirstTicks.place, Lists.At}
-use Rattle.judge_verdict.specs.OneEachLaws.{one_next}
+use Rattle.judge_verdict.specs.verdict.OneEachLaws.{one_next}
 use Rattle.call_page.proofs.verdict.standings.Goals as goal
 
 pub loop-j-preserved : goal.loop-j-preserved

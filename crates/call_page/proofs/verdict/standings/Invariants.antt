@@ -1,5 +1,5 @@
 use Rattle.std.proofs.Common.{◌≡◌, ◌+◌}
-use Rattle.judge_verdict.specs.OneEach.{OneEach}
+use Rattle.judge_verdict.specs.verdict.OneEach.{OneEach}
 use Rattle.call_page.specs.Verdicts.{standing_of}
 use Rattle.call_facts.specs.{FirstTicks.place, Lists.At}
 use Rattle.call_page.proofs.verdict.standings.Given as goal

@@ -1,6 +1,6 @@
 use Rattle.std.proofs.Common.{arith}
 use Rattle.call_page.specs.Verdicts.{IsVerdictOf}
-use Rattle.judge_verdict.specs.OneEachLaws.{one_next}
+use Rattle.judge_verdict.specs.verdict.OneEachLaws.{one_next}
 use Rattle.call_page.proofs.verdict.verdicts.Goals as goal
 
 pub loop-k-preserved : goal.loop-k-preserved

@@ -1,4 +1,4 @@
-use Rattle.judge_verdict.specs.OneEach.{OneEach}
+use Rattle.judge_verdict.specs.verdict.OneEach.{OneEach}
 use Rattle.call_page.specs.Verdicts.{IsVerdictOf}
 use Rattle.call_page.proofs.verdict.verdicts.Given as goal
 

@@ -1,6 +1,6 @@
 use Rattle.std.proofs.Common.{◌∙◌, ap}
 use Rattle.draw_shapes.specs.Svg.{svg_of}
-use Rattle.judge_verdict.specs.PairWavesOf.{pair_history}
+use Rattle.judge_verdict.specs.verdict.PairWavesOf.{pair_history}
 use Rattle.run_signal.specs.Terns.{tern_rails}
 use Rattle.run_step.specs.WavesOf.{wave_pair, waves_history}
 use Rattle.call_study.proofs.pictures.bands_text.Goals as goal

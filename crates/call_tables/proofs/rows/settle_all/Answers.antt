@@ -1,5 +1,5 @@
 use Rattle.call_tables.specs.Rows.{IsRow}
-use Rattle.judge_verdict.specs.OneEachLaws.{one_more}
+use Rattle.judge_verdict.specs.verdict.OneEachLaws.{one_more}
 use Rattle.call_tables.proofs.rows.settle_all.Goals as goal
 
 pub loop-i-preserved : goal.loop-i-preserved

@@ -1,4 +1,4 @@
-use Rattle.judge_verdict.specs.OneEach.{OneEach}
+use Rattle.judge_verdict.specs.verdict.OneEach.{OneEach}
 use Rattle.call_tables.specs.Rows.{IsRow}
 use Rattle.call_tables.proofs.rows.settle_all.Given as goal
 

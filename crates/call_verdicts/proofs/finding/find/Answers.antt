@@ -3,7 +3,7 @@ use Rattle.std.specs.Prelude.{slice_get}
 use Rattle.std.proofs.lemmas.Option.{slice_get_read}
 use Rattle.model_history.specs.Rails.{Rails, must_of}
 use Rattle.model_line.specs.{declared.line.Line.Line, declared.script.Script.Script}
-use Rattle.judge_verdict.specs.PairWavesOf.{pair_at}
+use Rattle.judge_verdict.specs.verdict.PairWavesOf.{pair_at}
 use Rattle.judge_settle.specs.settle.Answers.{IsAnswer}
 use Rattle.run_waves.specs.waves.FirstTick.{first_on}
 use Rattle.run_waves.specs.waves.FirstTickLaws.{first_on-same}

@@ -4,8 +4,8 @@ use Rattle.model_line.specs.{declared.line.Line.Line, declared.script.Script.Scr
 use Rattle.model_line.specs.Parameters.{terminal_count}
 use Rattle.model_logic.specs.Choice.{declared_box}
 use Rattle.run_step.specs.Runs.{IsTheHistory}
-use Rattle.judge_verdict.specs.PairWavesOf.{pair_history}
-use Rattle.judge_verdict.specs.OneEachLaws.{all_there, one_next}
+use Rattle.judge_verdict.specs.verdict.PairWavesOf.{pair_history}
+use Rattle.judge_verdict.specs.verdict.OneEachLaws.{all_there, one_next}
 use Rattle.call_verdicts.specs.Findings.{IsFinding}
 use Rattle.call_verdicts.proofs.finding.push_script.Goals as goal
 

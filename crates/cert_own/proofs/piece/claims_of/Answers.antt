@@ -1,7 +1,7 @@
 use Rattle.std.proofs.Common.{◌<◌, List, length, map, ◌∙◌, ap, arith}
 use Rattle.std.proofs.lemmas.List.{take_all}
 use Rattle.cert_claims.specs.{declared.text.claim.Claim.Claim, text.Grammar.verdict_in}
-use Rattle.judge_verdict.specs.declared.verdict.Verdict.{Verdict}
+use Rattle.judge_verdict.specs.declared.verdict.verdict.Verdict.{Verdict}
 use Rattle.cert_own.specs.Piece.{written_as}
 use Rattle.cert_own.proofs.ListLaws.{one_mapped_more}
 use Rattle.cert_own.proofs.piece.claims_of.Goals as goal

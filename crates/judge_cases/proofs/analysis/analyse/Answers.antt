@@ -2,7 +2,7 @@ use Rattle.std.proofs.Common.{◌≡◌, ◌<◌, ◌≤◌, Some, List, length,
 use Rattle.std.proofs.lemmas.Option.{slice_get_within}
 use Rattle.std.specs.Prelude.{slice_get}
 use Rattle.run_signal.specs.Bits.{bit_on}
-use Rattle.judge_boxes.specs.Spans.{SpanLists}
+use Rattle.judge_verdict.specs.boxes.Spans.{SpanLists}
 use Rattle.judge_cases.specs.{Spans.AreViewSpans, Spans.view_in, Puts.views_level}
 use Rattle.judge_cases.proofs.AnalysisLaws.{views_delayed, view_here, keys_are, pairs_are}
 use Rattle.judge_cases.proofs.AnalysisLaws.{excluded_decided}

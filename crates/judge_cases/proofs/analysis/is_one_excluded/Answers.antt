@@ -6,7 +6,7 @@ use Rattle.model_history.specs.Rails.{Rails}
 use Rattle.model_settle.specs.Under.{Excludes}
 use Rattle.run_step.specs.WavesOf.{pair_in}
 use Rattle.run_ticks.specs.cases.UnderWaves.{own_wave}
-use Rattle.judge_boxes.specs.Terns.{terns_rails}
+use Rattle.judge_verdict.specs.boxes.Terns.{terns_rails}
 use Rattle.judge_cases.proofs.OneGate.{one_gate}
 use Rattle.judge_cases.proofs.analysis.is_one_excluded.Goals as goal
 

@@ -4,7 +4,7 @@ use Rattle.model_history.specs.Elements.{some_below}
 use Rattle.run_changes.specs.changes.LaneLaws.{some_through}
 use Rattle.run_step.specs.WavesOf.{pair_in}
 use Rattle.run_ticks.specs.cases.UnderWaves.{wave_pair}
-use Rattle.judge_boxes.specs.Terns.{terns_rails}
+use Rattle.judge_verdict.specs.boxes.Terns.{terns_rails}
 use Rattle.judge_cases.proofs.held.some_of.Goals as goal
 use Rattle.judge_cases.proofs.held.some_of.Goals.{After-at}
 

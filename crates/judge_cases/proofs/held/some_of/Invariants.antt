@@ -1,7 +1,7 @@
 use Rattle.std.proofs.Common.{◌≡◌, ◌<◌, ℕ}
 use Rattle.model_history.specs.Elements.{some_below}
 use Rattle.run_ticks.specs.cases.UnderWaves.{wave_pair}
-use Rattle.judge_boxes.specs.Terns.{terns_rails}
+use Rattle.judge_verdict.specs.boxes.Terns.{terns_rails}
 use Rattle.judge_cases.proofs.held.some_of.Given as goal
 
 abbrev pub invariant-loop-t : goal.invariant-loop-t

@@ -8,8 +8,8 @@ use Rattle.model_settle.specs.Assumed.{Assumption, assumed_level}
 use Rattle.net_gates.specs.Formulas.{formula_of}
 use Rattle.run_ticks.specs.cases.Masks.{IsMask}
 use Rattle.run_ticks.specs.declared.cases.mask.Mask.{Mask}
-use Rattle.judge_boxes.specs.declared.terns.Terns64.{Terns64}
-use Rattle.judge_boxes.specs.Terns.{terns_rails}
+use Rattle.judge_verdict.specs.declared.boxes.terns.Terns64.{Terns64}
+use Rattle.judge_verdict.specs.boxes.Terns.{terns_rails}
 use Rattle.judge_cases.specs.declared.view.View.{View}
 use Rattle.judge_cases.specs.Views.{AreCases}
 use Rattle.judge_cases.specs.Puts.{PutIn, assumed_of, assumed_below}

@@ -7,8 +7,8 @@ use Rattle.model_line.specs.Parameters.{terminal_count}
 use Rattle.model_settle.specs.Assumed.{wanted}
 use Rattle.run_ticks.specs.cases.Masks.{IsMask}
 use Rattle.run_ticks.specs.declared.cases.mask.Mask.{Mask}
-use Rattle.judge_boxes.specs.declared.terns.Terns64.{Terns64}
-use Rattle.judge_boxes.specs.Terns.{terns_rails}
+use Rattle.judge_verdict.specs.declared.boxes.terns.Terns64.{Terns64}
+use Rattle.judge_verdict.specs.boxes.Terns.{terns_rails}
 use Rattle.judge_cases.specs.Puts.{PutIn}
 use Rattle.judge_cases.proofs.OneGate.{one_gate}
 use Rattle.judge_cases.proofs.PutLaws.{put_more, put_other}

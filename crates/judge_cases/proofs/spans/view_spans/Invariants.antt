@@ -1,6 +1,6 @@
 use Rattle.std.proofs.Common.{◌≡◌, ℕ, Some, length}
 use Rattle.std.specs.Prelude.{slice_get}
-use Rattle.judge_boxes.specs.Spans.{SpanLists}
+use Rattle.judge_verdict.specs.boxes.Spans.{SpanLists}
 use Rattle.judge_cases.specs.Spans.{IsViewSpan}
 use Rattle.judge_cases.proofs.spans.view_spans.Given as goal
 

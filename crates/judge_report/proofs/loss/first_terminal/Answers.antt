@@ -1,6 +1,6 @@
 use Rattle.std.proofs.Common.{arith}
 use Rattle.model_logic.specs.Choice.{declared_box}
-use Rattle.judge_verdict.specs.PairWavesOf.{pair_history}
+use Rattle.judge_verdict.specs.verdict.PairWavesOf.{pair_history}
 use Rattle.judge_report.proofs.LossLaws.{one_terminal_more}
 use Rattle.judge_report.proofs.loss.first_terminal.Goals as goal
 

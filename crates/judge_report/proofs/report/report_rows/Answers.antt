@@ -1,5 +1,5 @@
 use Rattle.std.proofs.Common.{◌++◌, ℕ, List, ◌∙◌, ap}
-use Rattle.judge_verdict.specs.PairWavesOf.{pair_history}
+use Rattle.judge_verdict.specs.verdict.PairWavesOf.{pair_history}
 use Rattle.judge_report.specs.ReportText.{script_rows}
 use Rattle.judge_report.proofs.SameRows.{script_rows-same}
 use Rattle.judge_report.proofs.report.report_rows.Goals as goal

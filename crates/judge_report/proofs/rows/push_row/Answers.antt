@@ -2,7 +2,7 @@ use Rattle.std.proofs.Common.{◌++◌, ℕ, List, refl, ◌∙◌, ap}
 use Rattle.std.specs.Prelude.{codes}
 use Rattle.model_history.specs.Rails.{Rails}
 use Rattle.model_logic.specs.Rule.{rule_by}
-use Rattle.judge_verdict.specs.{PairWavesOf.pair_at, Rules.rule_named}
+use Rattle.judge_verdict.specs.{verdict.PairWavesOf.pair_at, verdict.Rules.rule_named}
 use Rattle.run_waves.specs.waves.FirstTick.{first_on}
 use Rattle.judge_report.specs.ReportText.{rule_word}
 use Rattle.judge_report.proofs.{SameRows.row_with-same, Texts.grown}

@@ -2,7 +2,7 @@ use Rattle.std.proofs.Common.{◌≡◌, ◌+◌, ◌-◌, ◌∙◌, ℕ, Bool,
 use Rattle.std.proofs.Common.{arith}
 use Rattle.std.specs.Prelude.{IsTrue, Some, slice_get}
 use Rattle.model_line.specs.{declared.line.Line.Line, Parameters.param_count}
-use Rattle.judge_boxes.specs.Held.{AreParts, TellHeld}
+use Rattle.judge_verdict.specs.boxes.Held.{AreParts, TellHeld}
 use Rattle.judge_split.specs.Quiet.{AreCorners, AreNodesIfTold, AreSettled, ArePartNodes, HasHalves}
 use Rattle.judge_split.proofs.NodeLaws.{split_nodes, joined, told_of_same}
 use Rattle.judge_split.proofs.{ListLaws.if_some_is, SettledLaws.settled_if_quiet}

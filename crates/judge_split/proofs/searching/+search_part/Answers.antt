@@ -1,5 +1,5 @@
 use Rattle.std.proofs.Common.{◌≡◌, ◌-◌, ℕ, suc, subst, arith, ap, length}
-use Rattle.judge_verdict.specs.declared.verdict.Verdict.{Verdict}
+use Rattle.judge_verdict.specs.declared.verdict.verdict.Verdict.{Verdict}
 use Rattle.model_line.specs.{declared.line.Line.Line, declared.script.Script.Script}
 use Rattle.judge_split.specs.Search.{Found, Fails, IsVerdictOf, IsSplitAt, IsSearch, no}
 use Rattle.judge_split.specs.Search.{first_fails, second_fails}

@@ -3,7 +3,7 @@ use Rattle.std.proofs.lemmas.Result.{IfOk-weaker}
 use Rattle.model_logic.specs.Choice.{Choice, IsInside}
 use Rattle.model_logic.specs.Histories.{History, IsLineHistory, Meets}
 use Rattle.model_timing.specs.Timing.{TimingValues}
-use Rattle.judge_verdict.specs.Verdicts.{IsRefutation}
+use Rattle.judge_verdict.specs.verdict.Verdicts.{IsRefutation}
 use Rattle.judge_split.specs.declared.node.Outcome.{Outcome}
 use Rattle.judge_split.specs.declared.node.Outcome.TheVariants as outcome
 use Rattle.judge_split.specs.Found.{IsFound, IsAllYes}

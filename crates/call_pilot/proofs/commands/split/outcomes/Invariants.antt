@@ -1,5 +1,5 @@
 use Rattle.std.specs.List.{All}
-use Rattle.judge_verdict.specs.OneEach.{OneEach}
+use Rattle.judge_verdict.specs.verdict.OneEach.{OneEach}
 use Rattle.judge_split.specs.Found.{IsFound}
 use Rattle.cert_split.specs.text.Piece.{IsPrintable}
 use Rattle.call_pilot.proofs.commands.split.outcomes.Given as goal

@@ -1,7 +1,7 @@
 use Rattle.std.proofs.Common.{[], ◌∷◌, map, ◌∙◌, ap, ℕ}
 use Rattle.std.proofs.lemmas.List.{map-append}
 use Rattle.model_logic.specs.Rule.{rule_of, rule_by}
-use Rattle.judge_verdict.specs.{PairWavesOf.pair_history, Rules.rule_named}
+use Rattle.judge_verdict.specs.{verdict.PairWavesOf.pair_history, verdict.Rules.rule_named}
 use Rattle.draw_bands.proofs.diagram_lemmas.Lists.{tick_more}
 use Rattle.draw_bands.proofs.diagram.diagram.rules.Goals as goal
 

@@ -1,7 +1,7 @@
 use Rattle.std.proofs.Common.{◌≡◌, map}
 use Rattle.model_history.specs.Recorded.{first_ticks}
 use Rattle.model_logic.specs.Rule.{rule_of}
-use Rattle.judge_verdict.specs.{PairWavesOf.pair_history, Rules.rule_named}
+use Rattle.judge_verdict.specs.{verdict.PairWavesOf.pair_history, verdict.Rules.rule_named}
 use Rattle.draw_bands.proofs.diagram.diagram.rules.Given as goal
 
 abbrev pub invariant-loop-k : goal.invariant-loop-k

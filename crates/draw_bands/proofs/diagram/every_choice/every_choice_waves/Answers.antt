@@ -5,8 +5,8 @@ use Rattle.model_logic.specs.Choice.{Box, declared_box}
 use Rattle.run_step.specs.LaneBox.{lane_box}
 use Rattle.run_step.specs.Runs.{HavePairs, IsTheHistory}
 use Rattle.run_step.specs.WavesOf.{WavesOf, waves_history}
-use Rattle.judge_verdict.specs.Spans.{declared_spans}
-use Rattle.judge_verdict.specs.DeclaredLaws.{box_declared, spans_delayed, own_span}
+use Rattle.judge_verdict.specs.verdict.Spans.{declared_spans}
+use Rattle.judge_verdict.specs.verdict.DeclaredLaws.{box_declared, spans_delayed, own_span}
 use Rattle.draw_bands.proofs.diagram.every_choice.every_choice_waves.Goals as goal
 
 more : {T E : Type 0} (r : Result T E) (P Q : T → Type 0) → ((x : T) → P x → Q x) → IfOk r P

@@ -6,7 +6,7 @@ use Rattle.model_line.specs.declared.script.Kind.{Kind}
 use Rattle.model_logic.specs.{Rule.is_held}
 use Rattle.run_signal.specs.Bits.{bit_on}
 use Rattle.run_ticks.specs.cases.UnderWaves.{wave_pair}
-use Rattle.judge_boxes.specs.Terns.{terns_rails}
+use Rattle.judge_verdict.specs.boxes.Terns.{terns_rails}
 use Rattle.judge_cases.proofs.HeldLaws.{held_told}
 use Rattle.judge_cases.proofs.analysis.Analysis.held.Goals as goal
 

@@ -7,8 +7,8 @@ use Rattle.model_line.specs.{Fits.Fits, Parameters.terminal_count}
 use Rattle.run_signal.specs.SentKeys.{SentKeys}
 use Rattle.run_step.specs.LaneBox.{lane_box}
 use Rattle.run_changes.specs.{changes.Tracks.pair_of, changes.Tracks.tracks_history}
-use Rattle.judge_boxes.specs.declared.terns.Terns64.{Terns64}
-use Rattle.judge_boxes.specs.{Spans.span_ends, Terns.terns_rails}
+use Rattle.judge_verdict.specs.declared.boxes.terns.Terns64.{Terns64}
+use Rattle.judge_verdict.specs.{boxes.Spans.span_ends, boxes.Terns.terns_rails}
 use Rattle.judge_margins.specs.map.Blocks.{AreRuled}
 use Rattle.judge_margins.proofs.map_lemmas.RuledLaws.{ruled_more}
 use Rattle.judge_margins.proofs.map.grid.rule_script.Goals as goal

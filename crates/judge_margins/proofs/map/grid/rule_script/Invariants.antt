@@ -1,7 +1,7 @@
 use Rattle.std.proofs.Common.{◌+◌, ◌*◌, []}
 use Rattle.model_line.specs.Parameters.{terminal_count}
 use Rattle.run_step.specs.LaneBox.{lane_box}
-use Rattle.judge_boxes.specs.Spans.{span_ends}
+use Rattle.judge_verdict.specs.boxes.Spans.{span_ends}
 use Rattle.judge_margins.specs.map.Blocks.{AreRuled}
 use Rattle.judge_margins.proofs.map.grid.rule_script.Given as goal
 

@@ -1,7 +1,7 @@
 use Rattle.std.proofs.Common.{◌≡◌, ◌*◌, ℕ, [], List, length, subst, sym, arith}
 use Rattle.model_line.specs.Parameters.{terminal_count}
 use Rattle.run_step.specs.{LaneBox.lane_box, Runs.AreDelayed}
-use Rattle.judge_boxes.specs.Spans.{SpanLists, span_ends}
+use Rattle.judge_verdict.specs.boxes.Spans.{SpanLists, span_ends}
 use Rattle.judge_margins.specs.map.Blocks.{AreRuled, lane_cell}
 use Rattle.judge_margins.proofs.{map_lemmas.CellLaws.box_of_lane, map_lemmas.CellLaws.cells_delayed, map_lemmas.RuledLaws.ruled_in}
 use Rattle.judge_margins.proofs.map.grid.ruled_block.Goals as goal

@@ -1,6 +1,6 @@
 use Rattle.std.proofs.Common.{◌≡◌, ℕ, Some, length}
 use Rattle.std.specs.Prelude.{slice_get}
-use Rattle.judge_verdict.specs.declared.rule.Rule.{Rule}
+use Rattle.judge_verdict.specs.declared.verdict.rule.Rule.{Rule}
 use Rattle.judge_margins.specs.{declared.map.ruled.Ruled.Ruled, map.Blocks.IsRuleIn}
 use Rattle.judge_margins.proofs.map.ruled.cell_in_lane.Given as goal
 

@@ -2,7 +2,7 @@ use Rattle.std.proofs.Common.{◌≡◌, ◌+◌, ◌||◌, ℕ, suc, Bool, sym,
 use Rattle.model_history.specs.Rails.{must_of, may_of}
 use Rattle.model_history.specs.Elements.{some_below}
 use Rattle.run_changes.specs.changes.LaneLaws.{lane_at}
-use Rattle.judge_boxes.specs.{Terns.terns_rails, Held.must_trip, Held.may_trip}
+use Rattle.judge_verdict.specs.{boxes.Terns.terns_rails, boxes.Held.must_trip, boxes.Held.may_trip}
 use Rattle.judge_margins.proofs.map.ruled.tripped_in.Goals as goal
 
 -- one tick more

@@ -1,6 +1,6 @@
 use Rattle.std.proofs.Common.{◌≡◌, ℕ, ◌<◌}
 use Rattle.model_history.specs.Elements.{some_below}
-use Rattle.judge_boxes.specs.{Terns.terns_rails, Held.must_trip, Held.may_trip}
+use Rattle.judge_verdict.specs.{boxes.Terns.terns_rails, boxes.Held.must_trip, boxes.Held.may_trip}
 use Rattle.judge_margins.proofs.map.ruled.tripped_in.Given as goal
 
 abbrev pub invariant-loop-t : goal.invariant-loop-t

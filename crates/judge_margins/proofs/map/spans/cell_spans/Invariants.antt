@@ -1,6 +1,6 @@
 use Rattle.std.proofs.Common.{◌≡◌, ℕ, Some, length}
 use Rattle.std.specs.Prelude.{slice_get}
-use Rattle.judge_boxes.specs.Spans.{SpanLists}
+use Rattle.judge_verdict.specs.boxes.Spans.{SpanLists}
 use Rattle.judge_margins.specs.map.Blocks.{IsCellSpan}
 use Rattle.judge_margins.proofs.map.spans.cell_spans.Given as goal
 

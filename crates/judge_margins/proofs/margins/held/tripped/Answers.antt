@@ -2,7 +2,7 @@ use Rattle.std.proofs.Common.{◌≡◌, ◌<◌, ◌||◌, ℕ, Bool, sym, ◌�
 use Rattle.model_history.specs.Rails.{Rails, must_of, may_of}
 use Rattle.model_history.specs.Elements.{some_below}
 use Rattle.run_changes.specs.changes.LaneLaws.{lane_at, some_through}
-use Rattle.judge_boxes.specs.{Terns.terns_rails, Held.trip_rails}
+use Rattle.judge_verdict.specs.{boxes.Terns.terns_rails, boxes.Held.trip_rails}
 use Rattle.judge_margins.proofs.margins.held.tripped.Goals as goal
 use Rattle.judge_margins.proofs.margins.held.tripped.Goals.{After-min-t}
 

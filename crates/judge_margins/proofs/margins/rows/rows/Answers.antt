@@ -2,7 +2,7 @@ use Rattle.std.proofs.Common.{◌≡◌, ℕ, Some, List, ◌∙◌, sym, subst,
 use Rattle.std.proofs.lemmas.Option.{slice_get_read}
 use Rattle.std.specs.Prelude.{slice_get}
 use Rattle.model_line.specs.{Fits.Fits, Parameters.terminal_count}
-use Rattle.judge_boxes.specs.Spans.{SpanLists}
+use Rattle.judge_verdict.specs.boxes.Spans.{SpanLists}
 use Rattle.judge_report.specs.declared.upper_end.Lost.{Lost}
 use Rattle.judge_margins.specs.margins.Asks.{AreAskSpans, IsRow}
 use Rattle.judge_margins.proofs.{margins_lemmas.EachLaws.all_of, margins_lemmas.EachLaws.none_yet, margins_lemmas.EachLaws.one_more}

@@ -1,5 +1,5 @@
 use Rattle.model_logic.specs.Choice.{declared_box}
-use Rattle.judge_verdict.specs.PairWavesOf.{pair_history}
+use Rattle.judge_verdict.specs.verdict.PairWavesOf.{pair_history}
 use Rattle.judge_margins.proofs.margins.today.is_held.Goals as goal
 
 pub returns : goal.returns

@@ -1,7 +1,7 @@
 use Rattle.std.proofs.Common.{◌≡◌, map}
 use Rattle.std.specs.List.{range_with_len}
 use Rattle.model_logic.specs.Rule.{is_held}
-use Rattle.judge_verdict.specs.PairWavesOf.{pair_history}
+use Rattle.judge_verdict.specs.verdict.PairWavesOf.{pair_history}
 use Rattle.judge_settle.proofs.corner.decided.are_held.Given as goal
 
 abbrev pub invariant-loop-k : goal.invariant-loop-k

@@ -4,7 +4,7 @@ use Rattle.model_logic.specs.Histories.{PairHistory}
 use Rattle.model_settle.specs.Sides.{Rail}
 use Rattle.model_settle.specs.Worst.{deciding}
 use Rattle.model_timing.specs.{Choice.timing_choice, Choice.IsSameChoice}
-use Rattle.judge_verdict.specs.PairWavesOf.{pair_history}
+use Rattle.judge_verdict.specs.verdict.PairWavesOf.{pair_history}
 use Rattle.judge_settle.specs.{corner.Corner.corner, corner.Decided.OneTimingDecides}
 use Rattle.judge_settle.proofs.corner_lemmas.OneTiming.{one_timing_decides}
 use Rattle.judge_settle.proofs.corner.decided.decide.Goals as goal

@@ -3,8 +3,8 @@ use Rattle.model_history.specs.Rails.{Rails}
 use Rattle.model_line.specs.{declared.line.Line.Line, declared.script.Script.Script}
 use Rattle.model_logic.specs.Rule as of_line
 use Rattle.model_logic.specs.Rule.{rule_by, rule_of}
-use Rattle.judge_verdict.specs.PairWavesOf.{pair_history}
-use Rattle.judge_verdict.specs.Rules.{rule_named}
+use Rattle.judge_verdict.specs.verdict.PairWavesOf.{pair_history}
+use Rattle.judge_verdict.specs.verdict.Rules.{rule_named}
 use Rattle.judge_settle.proofs.corner_lemmas.OneTiming.{is_told, is_not_told}
 use Rattle.judge_settle.proofs.corner.decided.is_held.Goals as goal
 

@@ -1,7 +1,7 @@
 use Rattle.std.proofs.Common.{◌≡◌, ◌<◌, ℕ, sym, subst, arith}
 use Rattle.model_line.specs.Parameters.{param_count, delay_param, declared_ends}
 use Rattle.model_logic.specs.Choice.{IsIn}
-use Rattle.judge_verdict.specs.PairWavesOf.{pair_history}
+use Rattle.judge_verdict.specs.verdict.PairWavesOf.{pair_history}
 use Rattle.judge_settle.specs.corner.Named.{rail_named}
 use Rattle.judge_settle.specs.corner.Corner.{corner}
 use Rattle.judge_settle.proofs.corner_lemmas.CornerTimings.{delay_is, delay_inside}

@@ -1,6 +1,6 @@
 use Rattle.std.proofs.Common.{sym, ◌∙◌, arith}
 use Rattle.run_signal.specs.Spans.{ends_of}
-use Rattle.judge_verdict.specs.PairWavesOf.{pair_history}
+use Rattle.judge_verdict.specs.verdict.PairWavesOf.{pair_history}
 use Rattle.judge_settle.specs.corner.Named.{rail_named}
 use Rattle.judge_settle.proofs.corner_lemmas.LastShown.{greatest_left, shorter_left, shown_is_worst}
 use Rattle.judge_settle.proofs.corner_lemmas.LastShown.{least_is_worst}

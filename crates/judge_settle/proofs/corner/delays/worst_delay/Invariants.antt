@@ -1,6 +1,6 @@
 use Rattle.std.proofs.Common.{◌-◌, ◌≤◌}
 use Rattle.run_signal.specs.Spans.{ends_of}
-use Rattle.judge_verdict.specs.PairWavesOf.{pair_history}
+use Rattle.judge_verdict.specs.verdict.PairWavesOf.{pair_history}
 use Rattle.judge_settle.specs.corner.Named.{rail_named}
 use Rattle.judge_settle.proofs.corner_lemmas.LastShown.{IsLeft}
 use Rattle.judge_settle.proofs.corner.delays.worst_delay.Given as goal

@@ -3,7 +3,7 @@ use Rattle.std.proofs.lemmas.Grind.{get_or_default_zero}
 use Rattle.model_line.specs.Parameters.{delay_param}
 use Rattle.model_timing.specs.declared.step.Step.{Step}
 use Rattle.model_timing.specs.Inside.{IsStepInside}
-use Rattle.judge_verdict.specs.PairWavesOf.{pair_history}
+use Rattle.judge_verdict.specs.verdict.PairWavesOf.{pair_history}
 use Rattle.judge_settle.specs.corner.Named.{rail_named}
 use Rattle.judge_settle.specs.corner.Corner.{corner}
 use Rattle.judge_settle.specs.corner.Steps.{AreStepsUpTo, IsNumberFrom, with_change}

@@ -1,6 +1,6 @@
 use Rattle.std.proofs.Common.{get_or}
 use Rattle.model_line.specs.Parameters.{delay_param}
-use Rattle.judge_verdict.specs.PairWavesOf.{pair_history}
+use Rattle.judge_verdict.specs.verdict.PairWavesOf.{pair_history}
 use Rattle.judge_settle.specs.corner.Named.{rail_named}
 use Rattle.judge_settle.specs.{corner.Corner.corner, corner.Steps.AreStepsUpTo, corner.Steps.IsNumberFrom}
 use Rattle.judge_settle.proofs.corner.steps.push_steps.Given as goal

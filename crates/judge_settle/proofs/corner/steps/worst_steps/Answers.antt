@@ -1,7 +1,7 @@
 use Rattle.std.proofs.Common.{◌≡◌, ℕ, List, sym, subst, arith}
 use Rattle.model_line.specs.Parameters.{channel_count}
 use Rattle.model_timing.specs.declared.step.Step.{Step}
-use Rattle.judge_verdict.specs.PairWavesOf.{pair_history}
+use Rattle.judge_verdict.specs.verdict.PairWavesOf.{pair_history}
 use Rattle.judge_settle.specs.corner.Named.{rail_named}
 use Rattle.judge_settle.specs.{corner.Corner.corner, corner.Steps.AreStepsUpTo}
 use Rattle.judge_settle.proofs.corner_lemmas.StepLaws.{no_steps, next_channel}

@@ -1,4 +1,4 @@
-use Rattle.judge_verdict.specs.PairWavesOf.{pair_history}
+use Rattle.judge_verdict.specs.verdict.PairWavesOf.{pair_history}
 use Rattle.judge_settle.specs.corner.Named.{rail_named}
 use Rattle.judge_settle.specs.{corner.Corner.corner, corner.Steps.AreStepsUpTo}
 use Rattle.judge_settle.proofs.corner.steps.worst_steps.Given as goal

@@ -1,5 +1,5 @@
 use Rattle.std.proofs.Common.{◌∙◌, ℕ, List, length, ap}
-use Rattle.judge_verdict.specs.PairWavesOf.{pair_history}
+use Rattle.judge_verdict.specs.verdict.PairWavesOf.{pair_history}
 use Rattle.judge_settle.specs.corner.Named.{rail_named}
 use Rattle.judge_settle.proofs.corner_lemmas.CornerTimings.{count, made_inside, made_worst}
 use Rattle.judge_settle.proofs.corner.timing.worst_timing.Goals as goal

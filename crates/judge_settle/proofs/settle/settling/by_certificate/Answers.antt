@@ -2,7 +2,7 @@ use Rattle.std.proofs.Common.{◌≡◌, Some, sym, ◌∙◌, ap}
 use Rattle.std.proofs.lemmas.Option.{slice_get_read}
 use Rattle.std.specs.Prelude.{slice_get}
 use Rattle.model_line.specs.Parameters.{terminal_count}
-use Rattle.judge_verdict.specs.declared.verdict.Verdict.TheVariants.{Yes}
+use Rattle.judge_verdict.specs.declared.verdict.verdict.Verdict.TheVariants.{Yes}
 use Rattle.judge_settle.proofs.settle.settling.by_certificate.Goals as goal
 
 pub returns-then-is_yes : goal.returns-then-is_yes

@@ -1,7 +1,7 @@
 use Rattle.std.proofs.Common.{◌≡◌, ◌<◌, ◌+◌, ◌++◌, ℕ, Bool, true, false, List, [], ◌∷◌, length, drop, get_or, sym, ◌∙◌, ap, append_assoc, arith}
 use Rattle.std.specs.Prelude.{if◌then◌else◌}
 use Rattle.std.proofs.lemmas.List.{at_drop_more}
-use Rattle.judge_verdict.specs.declared.rule.Rule.{Rule}
+use Rattle.judge_verdict.specs.declared.verdict.rule.Rule.{Rule}
 use Rattle.judge_margins.specs.map.Cells.{is_held, lost_from}
 use Rattle.judge_margins.proofs.map.cell.Cell.lost.Goals.{then-not-is_held+in_ok-push, else-not-is_held}
 use Rattle.judge_margins.proofs.map.cell.Cell.lost.Goals as goal

@@ -1,5 +1,0 @@
-use Rattle.judge_boxes.proofs.SpanLaws.{in_order}
-use Rattle.judge_boxes.proofs.spans.Spans64.greatest_in.Goals as goal
-
-pub returns-clause-in_order : goal.returns-clause-in_order
-returns-clause-in_order c = in_order c.args.self.now c.self.inside.least c.self.inside.greatest c.self.view_is c.self.invariant c.as_array.ensures.limited

@@ -1,7 +1,0 @@
-use Rattle.std.proofs.Common.{◌≡◌, ℕ, ◌<◌}
-use Rattle.std.specs.Prelude.{slice_index}
-use Rattle.judge_boxes.proofs.spans.are_equal.Given as goal
-
-abbrev pub invariant-loop-lane : goal.invariant-loop-lane
-invariant-loop-lane l =
-    (k : ℕ) → k < l.lane → slice_index l.numbers k ≡ slice_index l.numbers 0

@@ -1,9 +1,0 @@
-use Rattle.run_waves.specs.waves.Waves.{IsWaveOf}
-use Rattle.judge_verdict.specs.PairWavesOf.{pair_history}
-use Rattle.judge_verdict.specs.OneEach.{OneEach}
-use Rattle.judge_verdict.proofs.keys.key_waves.Given as goal
-
-abbrev pub invariant-loop-k : goal.invariant-loop-k
-invariant-loop-k l =
-    OneEach (λ k wave. IsWaveOf wave l.line.horizon ((pair_history l.waves).key k)) l.k
-    l.keys.items

@@ -1,5 +1,0 @@
-use Rattle.std.proofs.Common.{sym, ◌∙◌}
-use Rattle.judge_verdict.proofs.pair_waves.PairWaves.key.Goals as goal
-
-pub returns : goal.returns
-returns c = sym c.at.ensures.rails ∙ c.key_runs.ensures.values c.args.t c.requires.tick

@@ -1,5 +1,0 @@
-use Rattle.std.proofs.Common.{sym, ◌∙◌}
-use Rattle.judge_verdict.proofs.pair_waves.PairWaves.trip.Goals as goal
-
-pub returns : goal.returns
-returns c = sym c.at.ensures.rails ∙ c.trip_runs.ensures.values c.args.t c.requires.tick

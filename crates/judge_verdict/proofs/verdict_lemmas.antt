@@ -1,0 +1,8 @@
+pub mod ToldHistory
+pub mod TrackLaws
+pub mod FirstWithin
+pub mod FirstTicks
+pub mod BlockLaws
+pub mod FailingLaws
+pub mod StandingLaws
+pub mod VerdictLaws

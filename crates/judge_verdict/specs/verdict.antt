@@ -1,0 +1,12 @@
+pub mod PairWavesOf
+pub mod Rules
+pub mod RuleLaws
+pub mod Spans
+pub mod DeclaredLaws
+pub mod OneEach
+pub mod OneEachLaws
+pub mod Verdicts
+pub mod VerdictLaws
+pub mod Candidates
+pub mod Standings
+pub mod Printable
