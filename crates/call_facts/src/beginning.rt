@@ -1,7 +1,7 @@
 //! The tick at which a script's fault begins.
 
 ghost use Rattle.std.specs.Prelude.{◌≡◌};
-ghost use Rattle.draw_bands.specs.diagram.Times.{is_begun, shows_fault, is_of_fault};
+ghost use Rattle.draw_run.specs.diagram.Times.{is_begun, shows_fault, is_of_fault};
 ghost use Rattle.run_waves.specs.waves.FirstTick.{first_on};
 
 use model_line::{Element, Script, SeenSpan, What};

@@ -5,7 +5,7 @@ use Rattle.model_line.specs.Parameters.{terminal_count}
 use Rattle.run_waves.specs.waves.FirstTick.{first_on}
 use Rattle.judge_report.specs.Deadlines.{deadline_of}
 use Rattle.judge_verdict.specs.verdict.OneEach.{OneEach}
-use Rattle.draw_bands.specs.diagram.Times.{is_begun}
+use Rattle.draw_run.specs.diagram.Times.{is_begun}
 use Rattle.draw_page.specs.declared.page.{Case.Case, Fault.Fault}
 use Rattle.file_study.specs.declared.sweeps.group.Group.{Group}
 use Rattle.call_tables.specs.declared.row.Row.{Row}

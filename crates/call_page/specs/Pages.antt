@@ -3,7 +3,7 @@ use Rattle.std.specs.Prelude.{◌≡◌, ◌≤◌, ◌+◌, ◌*◌, ℕ, List,
 use Rattle.std.specs.List.{flat_map, list_any}
 use Rattle.model_line.specs.{declared.line.Line.Line, declared.script.Script.Script}
 use Rattle.model_line.specs.Parameters.{terminal_count}
-use Rattle.draw_bands.specs.layout.Drawings.{scheme_said}
+use Rattle.draw_run.specs.layout.Drawings.{scheme_said}
 use Rattle.draw_page.specs.{declared.page.Page.Page, declared.page.Counts.Counts}
 use Rattle.draw_page.specs.Pages.{page_of}
 use Rattle.draw_page.specs.declared.page.{Time.Time, Digest.Digest}

@@ -1,7 +1,7 @@
 //! The head of a page.
 
 ghost use Rattle.std.specs.Prelude.{◌≡◌, IfOk, map};
-ghost use Rattle.draw_bands.specs.layout.Drawings.{scheme_said};
+ghost use Rattle.draw_run.specs.layout.Drawings.{scheme_said};
 
 use crate::said::Asked;
 use itoa::Buffer;

@@ -4,7 +4,7 @@ ghost use Rattle.std.specs.Prelude.{◌≡◌, ◌<◌, ◌≤◌, ◌+◌, ◌-
 ghost use Rattle.std.specs.List.{flat_map};
 ghost use Rattle.file_tables.specs.script.SoFar.{AreOnce};
 ghost use Rattle.file_study.specs.sweeps.Studies.{script_names};
-ghost use Rattle.draw_bands.specs.layout.Drawings.{scheme_said};
+ghost use Rattle.draw_run.specs.layout.Drawings.{scheme_said};
 ghost use Rattle.call_tables.specs.Rows.{AreRows};
 ghost use Rattle.call_answer.specs.Study.{IsAnyStudy};
 ghost use Rattle.call_page.specs.Choices.{IsChoiceOf, IsUndecidedOf, failing_row, open_row};

@@ -14,14 +14,14 @@ use Rattle.run_step.specs.{GatePairs.GateSignals, Runs.IsTheHistory}
 use Rattle.model_timing.specs.{Choice.timing_choice}
 use Rattle.model_timing.specs.NamedValues.{NamedValues}
 use Rattle.net_gates.specs.{Formulas.formula_of, NetOf.IsNetOf, NetOf.NetOf}
-use Rattle.draw_gates.specs.{dump.Dump.dump_text, dump.GateValues.gate_levels}
-use Rattle.draw_bands.specs.{declared.diagram.diagram.Diagram.Diagram, diagram.Diagrams.IsDiagramOf}
+use Rattle.draw_run.specs.{dump.Dump.dump_text, dump.GateValues.gate_levels}
+use Rattle.draw_run.specs.{declared.diagram.diagram.Diagram.Diagram, diagram.Diagrams.IsDiagramOf}
 use Rattle.draw_shapes.specs.declared.rows.Rows.{Rows}
-use Rattle.draw_bands.specs.diagram.Traces.{known_history, pairs_shown}
+use Rattle.draw_run.specs.diagram.Traces.{known_history, pairs_shown}
 use Rattle.draw_shapes.specs.Svg.{svg_of}
-use Rattle.draw_bands.specs.declared.layout.subject.Subject.{Subject}
-use Rattle.draw_bands.specs.declared.layout.subject.Subject.TheVariants as subject
-use Rattle.draw_bands.specs.layout.Drawings.{drawing_of}
+use Rattle.draw_run.specs.declared.layout.subject.Subject.{Subject}
+use Rattle.draw_run.specs.declared.layout.subject.Subject.TheVariants as subject
+use Rattle.draw_run.specs.layout.Drawings.{drawing_of}
 use Rattle.file_records.specs.recorded.Data.{data_text}
 
 -- the text of a diagram

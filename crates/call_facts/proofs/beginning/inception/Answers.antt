@@ -1,5 +1,5 @@
 use Rattle.std.proofs.Common.{sym, ◌∙◌, arith}
-use Rattle.draw_bands.specs.diagram.Times.{is_begun}
+use Rattle.draw_run.specs.diagram.Times.{is_begun}
 use Rattle.call_facts.proofs.beginning.inception.Goals as goal
 
 pub returns-then-begun : goal.returns-then-begun

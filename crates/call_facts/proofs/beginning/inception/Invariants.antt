@@ -1,5 +1,5 @@
 use Rattle.std.proofs.Common.{◌≡◌, ◌<◌, ℕ, false}
-use Rattle.draw_bands.specs.diagram.Times.{is_begun}
+use Rattle.draw_run.specs.diagram.Times.{is_begun}
 use Rattle.call_facts.proofs.beginning.inception.Given as goal
 
 abbrev pub invariant-loop-t : goal.invariant-loop-t

@@ -1,7 +1,7 @@
 use Rattle.std.proofs.Common.{List, ℕ, subst}
 use Rattle.model_history.specs.Rails.{both}
 use Rattle.model_timing.specs.declared.step.Step.{Step}
-use Rattle.draw_bands.specs.{diagram.Diagrams.IsDiagramOf, diagram.Traces.known_history, diagram.Traces.pairs_shown}
+use Rattle.draw_run.specs.{diagram.Diagrams.IsDiagramOf, diagram.Traces.known_history, diagram.Traces.pairs_shown}
 use Rattle.draw_shapes.specs.declared.rows.Rows.TheVariants as rows
 use Rattle.run_step.specs.Played.{is_on, played}
 use Rattle.call_facts.proofs.drawings.play.Goals as goal

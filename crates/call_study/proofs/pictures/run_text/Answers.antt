@@ -1,7 +1,7 @@
 use Rattle.std.proofs.Common.{◌∙◌, ℕ, List, ap, subst}
 use Rattle.model_history.specs.Rails.{both}
 use Rattle.model_timing.specs.declared.step.Step.{Step}
-use Rattle.draw_bands.specs.{diagram.Diagrams.IsDiagramOf, diagram.Traces.known_history, diagram.Traces.pairs_shown}
+use Rattle.draw_run.specs.{diagram.Diagrams.IsDiagramOf, diagram.Traces.known_history, diagram.Traces.pairs_shown}
 use Rattle.draw_shapes.specs.Svg.{svg_of}
 use Rattle.run_step.specs.Played.{is_on, played}
 use Rattle.call_study.proofs.pictures.run_text.Goals as goal

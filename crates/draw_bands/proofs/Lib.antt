@@ -1,2 +1,0 @@
-pub mod diagram_lemmas
-pub mod layout_lemmas

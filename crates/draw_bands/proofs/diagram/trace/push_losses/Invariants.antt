@@ -1,6 +1,0 @@
-use Rattle.std.proofs.Common.{◌≡◌, ◌++◌}
-use Rattle.draw_bands.specs.diagram.Traces.{loss_at, each_of}
-use Rattle.draw_bands.proofs.diagram.trace.push_losses.Given as goal
-
-abbrev pub invariant-loop-c : goal.invariant-loop-c
-invariant-loop-c l = l.all.items ≡ l.initial.all.items ++ each_of l.c (loss_at l.line l.k)

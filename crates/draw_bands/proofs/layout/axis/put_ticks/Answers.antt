@@ -1,8 +1,0 @@
-use Rattle.draw_bands.specs.layout.Axis.{round_tick}
-use Rattle.draw_bands.proofs.layout_lemmas.Lists.{list_more}
-use Rattle.draw_bands.proofs.layout.axis.put_ticks.Goals as goal
-
-pub loop-t-preserved : goal.loop-t-preserved
-loop-t-preserved c =
-    list_more _ _ _ (round_tick c.args.of.now c.args.scale c.args.top c.args.bottom) c.loop-t.t
-    c.loop-t.invariant c.in_ok-put_if_round.ensures

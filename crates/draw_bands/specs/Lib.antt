@@ -1,2 +1,0 @@
-pub mod diagram
-pub mod layout

@@ -1,2 +1,0 @@
-pub mod dump_lemmas
-pub mod roles_lemmas

@@ -1,2 +1,0 @@
-pub mod dump
-pub mod roles

@@ -1,0 +1,19 @@
+use Rattle.std.proofs.Common.{[], ◌∷◌, map, ◌∙◌, ap, ℕ}
+use Rattle.std.proofs.lemmas.List.{map-append}
+use Rattle.model_logic.specs.Rule.{rule_of, rule_by}
+use Rattle.judge_verdict.specs.{verdict.PairWavesOf.pair_history, verdict.Rules.rule_named}
+use Rattle.draw_run.proofs.diagram_lemmas.Lists.{tick_more}
+use Rattle.draw_run.proofs.diagram.diagram.rules.Goals as goal
+
+pub loop-k-preserved : goal.loop-k-preserved
+loop-k-preserved c =
+    let line = c.args.line.now in
+    let script = c.args.script.now in
+    let trip = (pair_history c.args.waves.now).trip in
+    tick_more (λ k. rule_of line script (trip k)) c.loop-k.k _ _ (rule_named c.judge.result)
+    c.loop-k.invariant
+    (ap (map rule_named) c.in_ok-push.ensures.items
+    ∙ map-append rule_named c.loop-k.all.items (c.judge.result ∷ []))
+    (c.judge.ensures.rule
+    ∙ ap (λ (n : ℕ). rule_by script.kind script.deadline n (trip c.loop-k.k))
+    c.requires.horizon)

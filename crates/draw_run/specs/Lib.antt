@@ -1,0 +1,4 @@
+pub mod diagram
+pub mod dump
+pub mod layout
+pub mod roles

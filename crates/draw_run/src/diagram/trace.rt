@@ -1,0 +1,144 @@
+//! What the rows of a diagram are of.
+
+ghost use Rattle.std.specs.Prelude.{◌≡◌, ◌++◌, ◌<◌, OnOk, IfOk, length};
+ghost use Rattle.std.specs.List.{All, flat_map};
+ghost use Rattle.draw_run.specs.roles.Roles.{IsRoleOf};
+ghost use Rattle.draw_run.specs.diagram.Traces.{logic_at, logic_of, logic_row};
+ghost use Rattle.model_line.specs.Parameters.{terminal_count, channel_count};
+ghost use Rattle.draw_run.specs.diagram.Traces.{traces_of, traces_at, seen_at, loss_at, each_of};
+ghost use Rattle.draw_run.specs.diagram.Traces.{IsTraceOf};
+
+use crate::roles::{Role, find_gate, roles_at};
+use model_line::{Element, Line, Memory, Place};
+use net_gates::Net;
+use run_waves::waves::the_first_tick_is_the_least;
+use std::alloc::Global;
+
+/// What a row is of: what a terminal sees; whether a channel is lost, by its number; a gate by its
+/// number, with its role; what a terminal keys; whether it trips.
+#[derive(Clone, Copy)]
+pub enum Trace {
+    Seen(Place),
+    Lost(u32),
+    Logic(Role, u32),
+    Key(u32),
+    Trip(u32),
+}
+
+/// What the rows of a line are of, terminals in line order. Of each terminal: what it sees, the
+/// channels into it in line order, the gates of the roles that explain, its key, its trip.
+pub fn traces(alloc: Global, line: &Line, net: &Net) -> Result<Vec<Trace>, Memory>
+    ensures traces { IfOk result (λ traces. traces.items ≡ traces_of line.now net.now.gates) }
+    ensures of_line { IfOk result (λ traces.
+        All (IsTraceOf line.now (length net.now.gates)) traces.items) }
+{
+    the_first_tick_is_the_least();
+    let mut all = Vec::new(alloc);
+    for k in 0..line.terminals.len() {
+        push_terminal(alloc, &mut all, line, net, k as u32)?;
+    }
+    Ok(all)
+}
+
+fn push_terminal(
+    alloc: Global,
+    all: &mut Vec<Trace>,
+    line: &Line,
+    net: &Net,
+    k: u32,
+) -> Result<(), Memory>
+    requires { k < terminal_count line.now }
+    ensures { OnOk result (all.new.items ≡ all.old.items ++ traces_at line.now net.now.gates k) }
+{
+    push_seen(all, k)?;
+    push_losses(all, line, k)?;
+    push_logic(alloc, all, line, net, k)?;
+    all.push(Trace::Key(k))?;
+    all.push(Trace::Trip(k))?;
+    Ok(())
+}
+
+fn push_seen(all: &mut Vec<Trace>, k: u32) -> Result<(), Memory>
+    ensures { OnOk result (all.new.items ≡ all.old.items ++ seen_at k) }
+{
+    let seen = |element: Element| Trace::Seen(Place {
+        element,
+        terminal: k,
+    });
+    all.extend_from_slice(&[
+        seen(Element::Z1),
+        seen(Element::Z2),
+        seen(Element::Rv),
+        seen(Element::Uv),
+        seen(Element::Cur),
+    ])?;
+    Ok(())
+}
+
+fn push_losses(all: &mut Vec<Trace>, line: &Line, k: u32) -> Result<(), Memory>
+    ensures { OnOk result (all.new.items
+        ≡ all.old.items ++ each_of (channel_count line.now) (loss_at line.now k)) }
+{
+    for c in 0..line.channels.len() {
+        push_loss(all, line, k, c as u32)?;
+    }
+    Ok(())
+}
+
+fn push_loss(all: &mut Vec<Trace>, line: &Line, k: u32, c: u32) -> Result<(), Memory>
+    requires { c < channel_count line.now }
+    ensures { OnOk result (all.new.items ≡ all.old.items ++ loss_at line.now k c) }
+{
+    if line.channels[c as usize].to == k {
+        all.push(Trace::Lost(c))?;
+    }
+    Ok(())
+}
+
+// Appends the gates of what a terminal receives and makes of it.
+fn push_logic(
+    alloc: Global,
+    all: &mut Vec<Trace>,
+    line: &Line,
+    net: &Net,
+    k: u32,
+) -> Result<(), Memory>
+    requires { k < terminal_count line.now }
+    ensures { OnOk result (all.new.items ≡ all.old.items ++ logic_at line.now net.now.gates k) }
+{
+    let roles = roles_at(alloc, line, k)?;
+    push_roles(all, line, net, roles.as_slice())
+}
+
+fn push_roles(all: &mut Vec<Trace>, line: &Line, net: &Net, roles: &[Role]) -> Result<(), Memory>
+    requires { All (IsRoleOf line.now) roles.now }
+    ensures { OnOk result (all.new.items
+        ≡ all.old.items ++ flat_map (logic_of line.now net.now.gates) roles.now) }
+{
+    for role in roles {
+        push_role(all, line, net, *role)?;
+    }
+    Ok(())
+}
+
+fn push_role(all: &mut Vec<Trace>, line: &Line, net: &Net, role: Role) -> Result<(), Memory>
+    requires { IsRoleOf line.now role }
+    ensures { OnOk result (all.new.items ≡ all.old.items ++ logic_of line.now net.now.gates role) }
+{
+    push_gate(all, role.explains(), role, find_gate(line, net, role))
+}
+
+fn push_gate(
+    all: &mut Vec<Trace>,
+    explains: bool,
+    role: Role,
+    gate: Option<u32>,
+) -> Result<(), Memory>
+    ensures { OnOk result (all.new.items ≡ all.old.items ++ logic_row explains role gate) }
+{
+    match gate {
+        Some(gate) if explains => all.push(Trace::Logic(role, gate))?,
+        _ => {}
+    }
+    Ok(())
+}
