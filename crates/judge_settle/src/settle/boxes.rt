@@ -7,7 +7,7 @@ ghost use Rattle.judge_settle.specs.settle.Scenes.{CanSearch};
 use crate::settle::budget::Budget;
 use crate::settle::play::fails;
 use crate::settle::sides::Branch;
-use judge_ahead::{
+use crate::ahead::{
     Assumed, CANDIDATES, Case, Chosen, Cut, Scene, Side, choose, cuts_beside, cuts_of, failing,
     side_of,
 };

@@ -10,7 +10,7 @@ ghost use Rattle.judge_settle.specs.settle.Leaves.{AreAllShown, AreMoreViews, Is
 
 use crate::settle::grown::{Grown, leaf};
 use crate::settle::search::Found;
-use judge_ahead::Scene;
+use crate::ahead::Scene;
 use judge_cases::laws::a_view_stands_for_its_box;
 use judge_cases::{View, analyse};
 use model_line::Memory;

@@ -10,7 +10,7 @@ use crate::settle::budget::Budget;
 use crate::settle::grown::{Grown, join, leaf};
 use crate::settle::leaves::taken_leaf;
 use crate::settle::sides::{Branch, Branches, branches_of};
-use judge_ahead::{Case, Cut, Scene};
+use crate::ahead::{Case, Cut, Scene};
 use judge_cases::View;
 use model_line::Memory;
 use model_timing::Timing;

@@ -21,7 +21,7 @@ use crate::settle::leaves::confirmed;
 use crate::settle::play::fails;
 use crate::settle::search::{Found, search_view};
 use crate::settle::sides::Branch;
-use judge_ahead::Scene;
+use crate::ahead::Scene;
 use judge_cases::declared_view;
 use judge_verdict::verdict::{Verdict, certify};
 use model_line::laws::deadlines_are_below_the_horizon;
