@@ -9,9 +9,9 @@ use crate::lint::refused_line::refused_line;
 use crate::lint::refused_scripts::refused_scripts;
 use crate::lint::sheet::{Names, Sheet};
 use crate::lint::warned::warnings_text;
+use crate::warnings::warnings;
 use file_line::{LineFault, read_line};
 use file_tables::script::{ScriptFault, read_scripts};
-use crate::warnings::warnings;
 use model_line::{Line, Memory, Script};
 use std::alloc::Global;
 

@@ -3,8 +3,8 @@
 use crate::lint::rules::{key_rule, line_rule};
 use crate::lint::spots::{push_fault, toml_place};
 use crate::lint::text::Spot;
-use file_line::LineFault;
 use crate::warnings::{Wanted, place_of_key};
+use file_line::LineFault;
 use model_line::Memory;
 use std::alloc::Global;
 

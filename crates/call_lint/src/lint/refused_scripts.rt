@@ -3,8 +3,8 @@
 use crate::lint::rules::script_rule;
 use crate::lint::spots::push_fault;
 use crate::lint::text::Spot;
-use file_tables::script::ScriptFault;
 use crate::warnings::{Wanted, place_of_record};
+use file_tables::script::ScriptFault;
 use model_line::Memory;
 use std::alloc::Global;
 

@@ -5,9 +5,9 @@ ghost use Rattle.std.specs.Prelude.{◌≤◌, IfOk, length};
 use crate::lint::rules::{study_rule, sweep_rule};
 use crate::lint::spots::{push_fault, toml_place};
 use crate::lint::text::{Spot, push_error, push_item};
+use crate::warnings::{Wanted, place_of_key};
 use file_study::study::StudyFault;
 use file_study::sweeps::StudySweepFault;
-use crate::warnings::{Wanted, place_of_key};
 use model_line::Memory;
 use std::alloc::Global;
 

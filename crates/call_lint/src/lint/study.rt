@@ -9,9 +9,9 @@ use crate::lint::refused_study::{refused_study, refused_sweep};
 use crate::lint::sheet::Sheet;
 use crate::lint::study_times::exact_ends;
 use crate::lint::warned::warnings_text;
+use crate::warnings::warnings;
 use file_study::study::{Study, StudyFault, read_study};
 use file_study::sweeps::{Group, StudySweepFault, scripts_of_study};
-use crate::warnings::warnings;
 use model_line::{Memory, Script};
 use std::alloc::Global;
 

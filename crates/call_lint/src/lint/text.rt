@@ -2,8 +2,8 @@
 
 ghost use Rattle.std.specs.Prelude.{◌≡◌, ◌≤◌, length};
 
-use itoa::Buffer;
 use crate::warnings::{column, line_number, line_text};
+use itoa::Buffer;
 use model_line::Memory;
 
 /// Where something stands: in the file of this name, whose bytes these are, at this byte.

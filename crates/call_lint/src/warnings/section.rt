@@ -1,6 +1,8 @@
 //! The table of a TOML document to which its lines belong.
 
-use crate::warnings::path::{copied, has_key, last_key, parent, plain, push_index, push_key, trimmed};
+use crate::warnings::path::{
+    copied, has_key, last_key, parent, plain, push_index, push_key, trimmed,
+};
 use base_memory::Memory;
 use std::alloc::Global;
 

@@ -12,6 +12,7 @@ ghost use Rattle.judge_settle.specs.corner.Decided.{OneTimingDecides};
 ghost use Rattle.judge_settle.specs.{settle.Answers.IsAnswer, settle.Trees.IsFound};
 ghost use Rattle.judge_settle.specs.settle.Trees.{Size, size_of_text};
 
+use crate::ahead::Scene;
 use crate::corner::{Decided, decide};
 use crate::settle::answer::{Answer, By, Settled};
 use crate::settle::boxes::side_in;
@@ -21,7 +22,6 @@ use crate::settle::leaves::confirmed;
 use crate::settle::play::fails;
 use crate::settle::search::{Found, search_view};
 use crate::settle::sides::Branch;
-use crate::ahead::Scene;
 use judge_cases::declared_view;
 use judge_verdict::verdict::{Verdict, certify};
 use model_line::laws::deadlines_are_below_the_horizon;

@@ -10,12 +10,12 @@ ghost use Rattle.run_changes.specs.rows.StandingLaws.{AllStand, PairStands};
 ghost use Rattle.run_step.specs.Ticks.{AreSent};
 ghost use Rattle.run_changes.specs.changes.PlayedTracks.{played};
 
+use crate::changes::{Tracks, run_tracks};
 use crate::rows::rows::{RowNames, push_signal};
 use crate::rows::standing::{Pair, fresh_pairs, next_change};
 use model_line::{Line, Memory, Script};
 use model_timing::NamedTiming;
 use net_gates::Net;
-use crate::changes::{Tracks, run_tracks};
 use run_signal::Level;
 use run_step::laws::a_timing_is_one_choice;
 use std::alloc::Global;
