@@ -11,10 +11,17 @@ at_most-le None amount = omega arith
 at_most-le (Some most) amount = omega arith
 
 -- an amount that is cut to a bound of at least 1 is 0 only where it was 0 before
-at_most-zero : (bound : Option ℕ) (amount : ℕ) → ForSome bound (λ most. 1 ≤ most)
+pub at_most-zero : (bound : Option ℕ) (amount : ℕ) → ForSome bound (λ most. 1 ≤ most)
     → at_most bound amount ≡ 0 → amount ≡ 0
 at_most-zero None amount positive none = none
 at_most-zero (Some most) amount positive none = let one = positive most refl in omega arith
+
+-- the lesser of two amounts is within the first, and 0 only where one of them is
+pub least-le : (a b least : ℕ) → least ≡ min a b → least ≤ a
+least-le a b least is = omega arith
+
+pub min_some : (a b least : ℕ) → least ≡ min a b → 0 < a → (b ≡ 0 → ⊥) → least ≡ 0 → ⊥
+min_some a b least is some other none = omega arith
 
 -- the front of a piece, copied from the bytes, as many as fit and the bound allows
 pub piece_copied : (bytes : List ℕ) (from count : ℕ) (bound : Option ℕ) (front into : List ℕ)
