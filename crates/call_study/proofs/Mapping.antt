@@ -7,19 +7,17 @@ use Rattle.call_work.specs.declared.map.denial.{MapDenial.MapDenial, MapStop.Map
 use Rattle.call_work.specs.declared.map.denial.MapStop.TheVariants as map_stop
 use Rattle.call_study.specs.{Answers.answer_by, Ends.Gives}
 use Rattle.call_work.specs.load.Reading.{at_most}
-use Rattle.call_work.specs.load.Loaded.{IsLoaded, Say, given_of}
+use Rattle.call_work.specs.load.Loaded.{as_read, studied}
 use Rattle.call_work.specs.load.Reading.{map_halt, map_of}
-use Rattle.call_work.specs.declared.load.sources.Bytes.{Bytes}
 use Rattle.call_work.specs.declared.load.sources.Loaded.{Loaded}
-use Rattle.call_study.proofs.Reading.{given_read}
 
 -- the words ask for none, or memory ran out
-pub map_halts : (form : MapForm) (x : List ℕ) (y : Option (List ℕ)) (from : Bytes) (l : Loaded)
-    (stop : MapStop) (result : Result Said MapStop) → IsLoaded l → Say from l
-    → at_most 4096 (length l.study.scripts.items) ≡ None → result ≡ Err stop
+pub map_halts : (form : MapForm) (x : List ℕ) (y : Option (List ℕ)) (l : Loaded) (stop : MapStop)
+    (result : Result Said MapStop) → at_most 4096 (length l.study.scripts.items) ≡ None
+    → result ≡ Err stop
     → ((why : MapDenial) → result ≡ Err (map_stop.Denied why)
     → asked_of l.study.line x y ≡ Err why)
-    → Gives (answer_by (map_of form x y (given_of from))) (Err (map_halt stop))
-map_halts form x y from l (map_stop.Denied why) result is said few of denied =
-    given_read from l _ _ is said (rw (few, denied why of) (refl, refl))
-map_halts form x y from l map_stop.Memory result is said few of denied = tt
+    → Gives (answer_by (map_of form x y (as_read (studied l)))) (Err (map_halt stop))
+map_halts form x y l (map_stop.Denied why) result few of denied =
+    rw (few, denied why of) (refl, refl)
+map_halts form x y l map_stop.Memory result few of denied = tt

@@ -4,14 +4,14 @@ ghost use Rattle.std.specs.Prelude.{◌≡◌, ◌≤◌, IfSome, length};
 ghost use Rattle.std.specs.Option.{option_copied};
 ghost use Rattle.net_gates.specs.NetOf.{IsNetOf};
 ghost use Rattle.call_study.specs.{Answers.answer_by, Ends.Gives};
-ghost use Rattle.call_work.specs.load.Loaded.{given_of};
+ghost use Rattle.call_work.specs.load.Loaded.{IsLoaded, as_read, given_of, studied};
 ghost use Rattle.call_work.specs.load.Reading.{explain_in, explain_of, which_script};
 
 use crate::read::at_most;
 use call_answer::{Said, Study};
 use call_ask::ExplainForm;
 use call_work::explain::{Asked, explain_said};
-use call_work::load::{Bytes, Denial, Halt, choose_script, load};
+use call_work::load::{Bytes, Denial, Halt, Loaded, choose_script, load};
 use model_line::Script;
 use std::alloc::Global;
 
@@ -37,6 +37,22 @@ pub fn explain(
         (option_copied script.entry))) result }
 {
     let loaded = load(alloc, bytes)?;
+    explain_few(alloc, how, &loaded, record, script)
+}
+
+// The same over what was read, where there are few scripts.
+fn explain_few(
+    alloc: Global,
+    how: Explaining,
+    loaded: &Loaded,
+    record: &[u8],
+    script: Option<&str>,
+) -> Result<Said, Halt>
+    requires loaded { IsLoaded loaded.now }
+    requires short { length record.now ≤ 1048576 }
+    ensures { Gives (answer_by (explain_of how.within how.form (as_read (studied loaded.now)) record.now
+        (option_copied script.entry))) result }
+{
     match at_most(64, loaded.study.scripts.as_slice()) {
         Some(why) => Err(Halt::Denied(why)),
         None => explain_over(alloc, how, &loaded.study, record, script),

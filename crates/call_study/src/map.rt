@@ -2,22 +2,30 @@
 
 ghost use Rattle.std.specs.Option.{option_copied};
 ghost use Rattle.call_study.specs.{Answers.answer_by, Ends.Gives};
-ghost use Rattle.call_work.specs.load.Loaded.{given_of};
-ghost use Rattle.call_work.specs.load.Reading.{map_of as map_over};
+ghost use Rattle.call_work.specs.load.Loaded.{IsLoaded, as_read, given_of, studied};
+ghost use Rattle.call_work.specs.load.Reading.{map_of as map_by};
 
 use crate::read::at_most;
 use call_answer::Said;
 use call_ask::MapAsk;
-use call_work::load::{Bytes, Halt, load};
+use call_work::load::{Bytes, Halt, Loaded, load};
 use call_work::map::map_of;
 use std::alloc::Global;
 
 /// Over which numbers of one setting or two each obligation is held.
 pub fn map(alloc: Global, bytes: &Bytes, ask: &MapAsk<'_>) -> Result<Said, Halt>
-    ensures { Gives (answer_by (map_over ask.now.form ask.now.x.now (option_copied ask.now.y)
+    ensures { Gives (answer_by (map_by ask.now.form ask.now.x.now (option_copied ask.now.y)
         (given_of bytes.now))) result }
 {
     let loaded = load(alloc, bytes)?;
+    map_over(alloc, &loaded, ask)
+}
+
+fn map_over(alloc: Global, loaded: &Loaded, ask: &MapAsk<'_>) -> Result<Said, Halt>
+    requires { IsLoaded loaded.now }
+    ensures { Gives (answer_by (map_by ask.now.form ask.now.x.now (option_copied ask.now.y)
+        (as_read (studied loaded.now)))) result }
+{
     match at_most(4096, loaded.study.scripts.as_slice()) {
         Some(why) => Err(Halt::Denied(why)),
         None => {

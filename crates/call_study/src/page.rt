@@ -1,13 +1,13 @@
 //! The page of a study.
 
 ghost use Rattle.call_study.specs.{Answers.answer_by, Ends.Gives};
-ghost use Rattle.call_work.specs.load.Loaded.{given_of};
+ghost use Rattle.call_work.specs.load.Loaded.{IsLoaded, as_read, given_of, studied};
 ghost use Rattle.call_work.specs.load.Reading.{page_of};
 
 use crate::read::at_most;
 use call_answer::Said;
 use call_page::{Asked, page_said};
-use call_work::load::{Bytes, Halt, load};
+use call_work::load::{Bytes, Halt, Loaded, load};
 use std::alloc::Global;
 
 /// The page of a study, by a program and a kit of these names.
@@ -21,6 +21,19 @@ pub fn page(
     ensures { Gives (answer_by (page_of (given_of bytes.now))) result }
 {
     let loaded = load(alloc, bytes)?;
+    page_over(alloc, &loaded, analyses, program, kit)
+}
+
+fn page_over(
+    alloc: Global,
+    loaded: &Loaded,
+    analyses: u32,
+    program: &[u8],
+    kit: &[u8],
+) -> Result<Said, Halt>
+    requires { IsLoaded loaded.now }
+    ensures { Gives (answer_by (page_of (as_read (studied loaded.now)))) result }
+{
     match at_most(4_096_000, loaded.study.scripts.as_slice()) {
         Some(why) => Err(Halt::Denied(why)),
         None => {

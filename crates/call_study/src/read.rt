@@ -1,15 +1,17 @@
 //! What is asked for, over what a source says.
 
-ghost use Rattle.std.specs.Prelude.{[], ◌≡◌, ◌≤◌, ◌<◌, ◌∷◌, length, slice_get, IfOk, None, Some};
+ghost use Rattle.std.specs.Prelude.{[], ◌≡◌, ◌≤◌, ◌<◌, ◌∷◌, length, map, slice_get, IfOk, None, Some};
+ghost use Rattle.std.specs.List.{All};
 ghost use Rattle.model_line.specs.declared.script.Script.{Script as ScriptOf};
 ghost use Rattle.std.specs.Option.{option_copied};
 ghost use Rattle.net_gates.specs.NetOf.{IsNetOf};
 ghost use Rattle.model_line.specs.Fits.{Fits};
 ghost use Rattle.model_timing.specs.{Inside.IsTimingInside, NamedValues.values_of};
 ghost use Rattle.call_study.specs.{Answers.answer_by, Answers.answer_of, Ends.Gives};
-ghost use Rattle.call_work.specs.load.Loaded.{IsLoaded, given_of, studied};
+ghost use Rattle.call_work.specs.load.Loaded.{IsLoaded, as_read, given_of, studied};
 ghost use Rattle.call_answer.specs.declared.done.Done.TheVariants.{Good};
-ghost use Rattle.call_work.specs.load.Reading.{bands_of, play as a_play, play_of, table as a_table};
+ghost use Rattle.call_work.specs.load.Reading.{bands_of, play as a_play, play_of, played_of};
+ghost use Rattle.call_work.specs.load.Reading.{table as a_table};
 ghost use Rattle.file_study.specs.sweeps.Parts.{is_part as is_part_of};
 ghost use Rattle.call_work.specs.load.Reading.{denied_of, recheck_of, table_of, timings_over};
 ghost use Rattle.call_work.specs.load.Reading.{at_most as at_most_of};
@@ -38,6 +40,19 @@ pub fn bands(alloc: Global, which: Rows, bytes: &Bytes, script: Option<&str>) ->
         result }
 {
     let loaded = load(alloc, bytes)?;
+    bands_over(alloc, which, &loaded, script)
+}
+
+fn bands_over(
+    alloc: Global,
+    which: Rows,
+    loaded: &Loaded,
+    script: Option<&str>,
+) -> Result<Said, Halt>
+    requires { IsLoaded loaded.now }
+    ensures { Gives (answer_by (bands_of which (as_read (studied loaded.now))
+        (option_copied script.entry))) result }
+{
     let study = &loaded.study;
     let Some(i) = choose_script(study.scripts.as_slice(), script) else {
         return Err(Halt::Denied(Denial::UnknownScript));
@@ -51,10 +66,17 @@ pub fn table(alloc: Global, which: Table, bytes: &Bytes) -> Result<Said, Halt>
     ensures { Gives (answer_by (table_of which (given_of bytes.now))) result }
 {
     let loaded = load(alloc, bytes)?;
+    table_over(alloc, which, &loaded)
+}
+
+fn table_over(alloc: Global, which: Table, loaded: &Loaded) -> Result<Said, Halt>
+    requires { IsLoaded loaded.now }
+    ensures { Gives (answer_by (table_of which (as_read (studied loaded.now)))) result }
+{
     match denied(which, loaded.study.scripts.as_slice()) {
         Some(why) => Err(Halt::Denied(why)),
         None => {
-            let said = table_said(alloc, which, &loaded)?;
+            let said = table_said(alloc, which, loaded)?;
             Ok(said)
         }
     }
@@ -181,6 +203,13 @@ pub fn recheck(alloc: Global, bytes: &Bytes, trees: &[u8]) -> Result<Said, Halt>
     ensures { Gives (answer_by (recheck_of (given_of bytes.now) trees.now)) result }
 {
     let loaded = load(alloc, bytes)?;
+    recheck_over(alloc, &loaded, trees)
+}
+
+fn recheck_over(alloc: Global, loaded: &Loaded, trees: &[u8]) -> Result<Said, Halt>
+    requires { IsLoaded loaded.now }
+    ensures { Gives (answer_by (recheck_of (as_read (studied loaded.now)) trees.now)) result }
+{
     match at_most(64, loaded.study.scripts.as_slice()) {
         Some(why) => Err(Halt::Denied(why)),
         None => {
@@ -204,12 +233,53 @@ pub fn play(
         (option_copied script.entry) (option_copied timing.entry))) result }
 {
     let loaded = load(alloc, bytes)?;
-    let study = &loaded.study;
-    let timings = read_timings(alloc, &study.line, timings)?;
+    play_over(alloc, form, &loaded, timings, script, timing)
+}
+
+fn play_over(
+    alloc: Global,
+    form: Form<'_>,
+    loaded: &Loaded,
+    timings: &[u8],
+    script: Option<&str>,
+    timing: Option<&str>,
+) -> Result<Said, Halt>
+    requires loaded { IsLoaded loaded.now }
+    requires short { length timings.now ≤ 4194304 }
+    ensures { Gives (answer_by (play_of form.entry (as_read (studied loaded.now)) timings.now
+        (option_copied script.entry) (option_copied timing.entry))) result }
+{
+    let timings = read_timings(alloc, &loaded.study.line, timings)?;
+    played(
+        alloc,
+        form,
+        &loaded.study,
+        timings.as_slice(),
+        script,
+        timing,
+    )
+}
+
+// A play of one of these timings.
+fn played(
+    alloc: Global,
+    form: Form<'_>,
+    study: &Study,
+    timings: &[NamedTiming],
+    script: Option<&str>,
+    timing: Option<&str>,
+) -> Result<Said, Halt>
+    requires of_line { IsNetOf study.now.line study.now.net }
+    requires fit { All (Fits study.now.line) study.now.scripts.items }
+    requires inside { All (λ t. IsTimingInside study.now.line t.timing) timings.now }
+    ensures { Gives (answer_by (played_of form.entry study.now.line study.now.scripts.items
+        (map values_of timings.now) (option_copied script.entry) (option_copied timing.entry)))
+        result }
+{
     let Some(i) = choose_script(study.scripts.as_slice(), script) else {
         return Err(Halt::Denied(Denial::UnknownScript));
     };
-    let Some(j) = choose_timing(timings.as_slice(), timing) else {
+    let Some(j) = choose_timing(timings, timing) else {
         return Err(Halt::Denied(Denial::UnknownTiming));
     };
     let text = play_text(

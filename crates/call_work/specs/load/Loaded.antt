@@ -61,6 +61,10 @@ source_in (bytes.Study study) = request.study study.items
 abbrev pub given_of : Bytes → Given
 given_of from = given (source_in from)
 
+-- what was read already
+abbrev pub as_read : Studied → Given
+as_read of halted holds = holds of
+
 -- why a study says nothing
 abbrev pub study_halt : StudyFault → Halt
 study_halt study_fault.Memory = halt.Stopped stop.Memory

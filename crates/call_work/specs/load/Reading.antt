@@ -70,14 +70,19 @@ bands_of which given script halted holds =
     given halted (λ studied. of_script studied.scripts script halted
     (λ chosen. holds (bands which studied.line chosen)))
 
+-- a play of one of these timings
+abbrev pub played_of : Form → Line → List Script → List NamedValues → Option (List ℕ)
+    → Option (List ℕ) → Reading
+played_of form line scripts all script timing halted holds =
+    of_script scripts script halted (λ chosen. of_timing all timing halted
+    (λ played. holds (play form line chosen played)))
+
 -- a play, over the bytes of a timings file too
 abbrev pub play_of : Form → Given → List ℕ → Option (List ℕ) → Option (List ℕ) → Reading
 play_of form given timings_bytes script timing halted holds =
     given halted (λ studied. of_timings studied.line (timings_of studied.line timings_bytes)
     (λ why. halted (refused_by why))
-    (λ all. of_script studied.scripts script halted
-    (λ chosen. of_timing all timing halted
-    (λ played. holds (play form studied.line chosen played)))))
+    (λ all. played_of form studied.line studied.scripts all script timing halted holds))
 
 -- so many scripts at most
 abbrev pub at_most : ℕ → ℕ → Option Denial

@@ -1,9 +1,9 @@
-use Rattle.std.proofs.Common.{◌≡◌, ◌∙◌, None, Some, length, refl, sym}
+use Rattle.std.proofs.Common.{refl}
 use Rattle.std.proofs.lemmas.Result.{err_from_is_err_and}
 use Rattle.std.specs.Option.{option_copied}
+use Rattle.call_work.specs.load.Reading.{explain_of}
 use Rattle.call_study.specs.Answers.{answer_by}
-use Rattle.call_work.specs.{load.Loaded.given_of, load.Reading.at_most}
-use Rattle.call_work.specs.load.Reading.{explain_in, explain_of}
+use Rattle.call_work.specs.load.Loaded.{as_read, given_of, studied}
 use Rattle.call_study.proofs.Reading.{given_read, given_refused, gives_wider, load_halts}
 use Rattle.call_study.proofs.explain.explain.Goals as goal
 
@@ -18,27 +18,17 @@ returns-in_err-loaded c =
     c.in_err-loaded.field-0.0 c.in_err-loaded.ensures
     (λ why. given_refused bytes _ _ _ why (refl, refl)))
 
-pub returns-in-Some : goal.returns-in-Some
-returns-in-Some c =
-    let loaded = c.in_ok-loaded.loaded in
-    let is : at_most 64 (length loaded.study.scripts.items) ≡ Some c.in-Some.why =
-    (rw c.as_slice.ensures.value at (sym c.at_most.ensures)) ∙ c.in-Some.is in
-    given_read c.args.bytes.now loaded _ _ c.in_ok-loaded.ensures.0 c.in_ok-loaded.ensures.1
-    (rw is (refl, refl))
-
 pub returns : goal.returns
 returns c =
     let bytes = c.args.bytes.now in
-    let how = c.args.how in
     let loaded = c.in_ok-loaded.loaded in
-    let script = option_copied c.args.script in
-    let is : at_most 64 (length loaded.study.scripts.items) ≡ None =
-    (rw c.as_slice.ensures.value at (sym c.at_most.ensures)) ∙ c.in-None.is in
+    let how = c.args.how in
     gives_wider
-    (answer_by (explain_in how.within how.form loaded.study.line loaded.study.scripts.items
-    c.args.record.now script))
-    (answer_by (explain_of how.within how.form (given_of bytes) c.args.record.now script))
-    c.explain_over.result
+    (answer_by (explain_of how.within how.form (as_read (studied loaded)) c.args.record.now
+    (option_copied c.args.script)))
+    (answer_by (explain_of how.within how.form (given_of bytes) c.args.record.now
+    (option_copied c.args.script)))
+    c.explain_few.result
     (λ end text said. given_read bytes loaded _ _ c.in_ok-loaded.ensures.0
-    c.in_ok-loaded.ensures.1 (rw is said))
-    c.explain_over.ensures
+    c.in_ok-loaded.ensures.1 said)
+    c.explain_few.ensures

@@ -1,31 +1,28 @@
-use Rattle.std.proofs.Common.{◌≡◌, ◌∙◌, None, Some, length, refl, sym}
+use Rattle.std.proofs.Common.{refl}
 use Rattle.std.proofs.lemmas.Result.{err_from_is_err_and}
+use Rattle.call_work.specs.load.Reading.{page_of}
 use Rattle.call_study.specs.Answers.{answer_by}
-use Rattle.call_work.specs.{load.Loaded.given_of, load.Reading.at_most, load.Reading.page_of}
-use Rattle.call_study.proofs.Reading.{given_read, given_refused, load_halts}
+use Rattle.call_work.specs.load.Loaded.{as_read, given_of, studied}
+use Rattle.call_study.proofs.Reading.{given_read, given_refused, gives_wider, load_halts}
 use Rattle.call_study.proofs.page.page.Goals as goal
 
 pub returns-in_err-loaded : goal.returns-in_err-loaded
 returns-in_err-loaded c =
     let p = err_from_is_err_and c.from_residual.result c.from_residual.ensures.1 in
     let bytes = c.args.bytes.now in
-    rw (p.1, p.2) (load_halts bytes (answer_by (page_of (given_of bytes)))
+    rw (p.1, p.2) (load_halts bytes
+    (answer_by (page_of (given_of bytes)))
     c.in_err-loaded.field-0.0 c.in_err-loaded.ensures
     (λ why. given_refused bytes _ _ _ why (refl, refl)))
 
-pub returns-in-Some : goal.returns-in-Some
-returns-in-Some c =
-    let loaded = c.in_ok-loaded.loaded in
-    let is : at_most 4096000 (length loaded.study.scripts.items) ≡ Some c.in-Some.why =
-    (rw c.as_slice.ensures.value at (sym c.at_most.ensures)) ∙ c.in-Some.is in
-    given_read c.args.bytes.now loaded _ _ c.in_ok-loaded.ensures.0 c.in_ok-loaded.ensures.1
-    (rw is (refl, refl))
-
 pub returns : goal.returns
 returns c =
+    let bytes = c.args.bytes.now in
     let loaded = c.in_ok-loaded.loaded in
-    let few : at_most 4096000 (length loaded.study.scripts.items) ≡ None =
-    (rw c.as_slice.ensures.value at (sym c.at_most.ensures)) ∙ c.in-None.is in
-    given_read c.args.bytes.now loaded _ _ c.in_ok-loaded.ensures.0 c.in_ok-loaded.ensures.1
-    (rw few
-    (rw (c.as_slice-in-None.ensures.value, c.as_bytes.ensures.value) at c.in_ok-said-in-None.ensures))
+    gives_wider
+    (answer_by (page_of (as_read (studied loaded))))
+    (answer_by (page_of (given_of bytes)))
+    c.page_over.result
+    (λ end text said. given_read bytes loaded _ _ c.in_ok-loaded.ensures.0
+    c.in_ok-loaded.ensures.1 said)
+    c.page_over.ensures

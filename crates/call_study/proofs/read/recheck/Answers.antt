@@ -1,30 +1,28 @@
-use Rattle.std.proofs.Common.{◌≡◌, ◌∙◌, None, Some, length, refl, sym}
+use Rattle.std.proofs.Common.{refl}
 use Rattle.std.proofs.lemmas.Result.{err_from_is_err_and}
+use Rattle.call_work.specs.load.Reading.{recheck_of}
 use Rattle.call_study.specs.Answers.{answer_by}
-use Rattle.call_work.specs.{load.Loaded.given_of, load.Reading.recheck_of, load.Reading.at_most}
-use Rattle.call_study.proofs.Reading.{given_read, given_refused, load_halts}
+use Rattle.call_work.specs.load.Loaded.{as_read, given_of, studied}
+use Rattle.call_study.proofs.Reading.{given_read, given_refused, gives_wider, load_halts}
 use Rattle.call_study.proofs.read.recheck.Goals as goal
 
 pub returns-in_err-loaded : goal.returns-in_err-loaded
 returns-in_err-loaded c =
     let p = err_from_is_err_and c.from_residual.result c.from_residual.ensures.1 in
     let bytes = c.args.bytes.now in
-    rw (p.1, p.2) (load_halts bytes (answer_by (recheck_of (given_of bytes) c.args.trees.now))
+    rw (p.1, p.2) (load_halts bytes
+    (answer_by (recheck_of (given_of bytes) c.args.trees.now))
     c.in_err-loaded.field-0.0 c.in_err-loaded.ensures
     (λ why. given_refused bytes _ _ _ why (refl, refl)))
 
-pub returns-in-Some : goal.returns-in-Some
-returns-in-Some c =
-    let loaded = c.in_ok-loaded.loaded in
-    let is : at_most 64 (length loaded.study.scripts.items) ≡ Some c.in-Some.why =
-    (rw c.as_slice.ensures.value at (sym c.at_most.ensures)) ∙ c.in-Some.is in
-    given_read c.args.bytes.now loaded _ _ c.in_ok-loaded.ensures.0 c.in_ok-loaded.ensures.1
-    (rw is (refl, refl))
-
 pub returns : goal.returns
 returns c =
+    let bytes = c.args.bytes.now in
     let loaded = c.in_ok-loaded.loaded in
-    let is : at_most 64 (length loaded.study.scripts.items) ≡ None =
-    (rw c.as_slice.ensures.value at (sym c.at_most.ensures)) ∙ c.in-None.is in
-    given_read c.args.bytes.now loaded _ _ c.in_ok-loaded.ensures.0 c.in_ok-loaded.ensures.1
-    (rw is c.in_ok-said-in-None.ensures)
+    gives_wider
+    (answer_by (recheck_of (as_read (studied loaded)) c.args.trees.now))
+    (answer_by (recheck_of (given_of bytes) c.args.trees.now))
+    c.recheck_over.result
+    (λ end text said. given_read bytes loaded _ _ c.in_ok-loaded.ensures.0
+    c.in_ok-loaded.ensures.1 said)
+    c.recheck_over.ensures

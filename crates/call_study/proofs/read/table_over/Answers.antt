@@ -1,0 +1,15 @@
+use Rattle.std.proofs.Common.{◌≡◌, ◌∙◌, None, Some, length, refl, sym}
+use Rattle.call_work.specs.load.Reading.{denied_of}
+use Rattle.call_study.proofs.read.table_over.Goals as goal
+
+pub returns-in-Some : goal.returns-in-Some
+returns-in-Some c =
+    let is : denied_of c.args.which (length c.args.loaded.now.study.scripts.items) ≡ Some c.in-Some.why =
+    (rw c.as_slice.ensures.value at (sym c.denied.ensures)) ∙ c.in-Some.is in
+    rw is (refl, refl)
+
+pub returns : goal.returns
+returns c =
+    let is : denied_of c.args.which (length c.args.loaded.now.study.scripts.items) ≡ None =
+    (rw c.as_slice.ensures.value at (sym c.denied.ensures)) ∙ c.in-None.is in
+    rw is c.in_ok-said-in-None.ensures
