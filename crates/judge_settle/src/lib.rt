@@ -1,10 +1,6 @@
-//! An answer to each obligation where the interval rules leave it open.
-//!
-//! - `corner`: the worst corner as a timing, and what matters of a timing that fails.
-//! - `ahead`: what a search looks at before it chooses.
-//! - `settle`: a tree of splits and cases that shows an obligation, or a timing that fails it.
+//! An answer to each obligation where the interval rules leave it open: `corner`, the worst corner and
+//! what matters of a timing that fails; `settle`, a tree of splits and cases, or such a timing.
 #![tactic(auto)]
 
-pub mod ahead;
 pub mod corner;
 pub mod settle;

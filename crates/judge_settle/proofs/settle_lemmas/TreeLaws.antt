@@ -8,8 +8,8 @@ use Rattle.model_settle.specs.Assumed.{Assumption}
 use Rattle.model_settle.specs.CaseTrees.{CaseTree, Yes, Undecided, Split, Case, are_yes}
 use Rattle.model_settle.specs.CaseTrees.{IsShownUnder, AreSound}
 use Rattle.model_settle.specs.CaseTrees.{lower_half, upper_half, with_case}
-use Rattle.judge_settle.specs.declared.ahead.cuts.Cut.{Cut}
-use Rattle.judge_settle.specs.declared.ahead.cuts.Cut.TheVariants as cut
+use Rattle.judge_ahead.specs.declared.cuts.Cut.{Cut}
+use Rattle.judge_ahead.specs.declared.cuts.Cut.TheVariants as cut
 use Rattle.judge_cases.specs.Nodes.{preorder}
 use Rattle.judge_cases.specs.Views.{Views, IsView, view_box}
 use Rattle.judge_cases.specs.declared.node.CaseNode.{CaseNode}

@@ -1,7 +1,7 @@
 -- The nodes of a cut and of its sides.
 use Rattle.std.specs.Prelude.{◌++◌, Bool, true, false, List}
-use Rattle.judge_settle.specs.declared.ahead.cuts.Cut.{Cut}
-use Rattle.judge_settle.specs.declared.ahead.cuts.Cut.TheVariants as cut
+use Rattle.judge_ahead.specs.declared.cuts.Cut.{Cut}
+use Rattle.judge_ahead.specs.declared.cuts.Cut.TheVariants as cut
 use Rattle.judge_cases.specs.declared.node.CaseNode.{CaseNode}
 use Rattle.judge_cases.specs.declared.node.CaseNode.TheVariants as node
 

@@ -4,8 +4,8 @@ use Rattle.model_line.specs.declared.line.Line.{Line}
 use Rattle.model_logic.specs.Choice.{Box}
 use Rattle.model_settle.specs.Assumed.{Assumption}
 use Rattle.model_settle.specs.CaseTrees.{CanSplit, HasCases, lower_half, upper_half, with_case}
-use Rattle.judge_settle.specs.declared.ahead.cuts.Cut.{Cut}
-use Rattle.judge_settle.specs.declared.ahead.cuts.Cut.TheVariants as cut
+use Rattle.judge_ahead.specs.declared.cuts.Cut.{Cut}
+use Rattle.judge_ahead.specs.declared.cuts.Cut.TheVariants as cut
 use Rattle.judge_cases.specs.Views.{Views}
 use Rattle.judge_cases.specs.declared.view.View.{View}
 use Rattle.judge_settle.specs.declared.settle.sides.Branch.{Branch}

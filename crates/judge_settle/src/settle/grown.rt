@@ -3,7 +3,7 @@
 ghost use Rattle.std.specs.Prelude.{◌≡◌, ◌++◌, ◌∷◌, [], ◌&&◌, IfOk};
 ghost use Rattle.judge_settle.specs.settle.Joined.{node_of, leaf_of, joined};
 
-use crate::ahead::Cut;
+use judge_ahead::Cut;
 use judge_cases::CaseNode;
 use model_line::Memory;
 use std::alloc::Global;

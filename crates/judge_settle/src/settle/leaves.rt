@@ -11,6 +11,10 @@ ghost use Rattle.judge_settle.specs.settle.Leaves.{AreAllShown, AreMoreViews, Is
 use crate::ahead::Scene;
 use crate::settle::grown::{Grown, leaf};
 use crate::settle::search::Found;
+<<<<<<< HEAD
+=======
+use judge_ahead::Scene;
+>>>>>>> parent of 5a0186bc (judge_settle: parts of one crate)
 use judge_cases::laws::a_view_stands_for_its_box;
 use judge_cases::{View, analyse};
 use model_line::Memory;

@@ -11,6 +11,10 @@ use crate::settle::budget::Budget;
 use crate::settle::grown::{Grown, join, leaf};
 use crate::settle::leaves::taken_leaf;
 use crate::settle::sides::{Branch, Branches, branches_of};
+<<<<<<< HEAD
+=======
+use judge_ahead::{Case, Cut, Scene};
+>>>>>>> parent of 5a0186bc (judge_settle: parts of one crate)
 use judge_cases::View;
 use model_line::Memory;
 use model_timing::Timing;

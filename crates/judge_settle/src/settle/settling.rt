@@ -22,6 +22,10 @@ use crate::settle::leaves::confirmed;
 use crate::settle::play::fails;
 use crate::settle::search::{Found, search_view};
 use crate::settle::sides::Branch;
+<<<<<<< HEAD
+=======
+use judge_ahead::Scene;
+>>>>>>> parent of 5a0186bc (judge_settle: parts of one crate)
 use judge_cases::declared_view;
 use judge_verdict::verdict::{Verdict, certify};
 use model_line::laws::deadlines_are_below_the_horizon;

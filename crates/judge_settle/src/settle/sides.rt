@@ -5,7 +5,7 @@ ghost use Rattle.judge_cases.specs.Views.{IsView};
 ghost use Rattle.judge_settle.specs.settle.Sides.{AreSides, AreHalves, AreBothCases, AreOrdered};
 ghost use Rattle.judge_settle.specs.settle.Sides.{AreBranches};
 
-use crate::ahead::{Case, Chosen, Cut, Side};
+use judge_ahead::{Case, Chosen, Cut, Side};
 use judge_cases::{View, can_split, case_view, has_cases, lower_view, upper_view};
 use model_line::{Line, Memory};
 use std::alloc::Global;

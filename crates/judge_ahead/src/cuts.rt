@@ -1,0 +1,315 @@
+//! Where a view is cut in two.
+
+ghost use Rattle.std.specs.Prelude.{◌<◌, ◌+◌};
+
+use crate::bits::{ALL, first, only};
+use crate::case::{Assumed, Case};
+use crate::outlook::{Outlook64, Score};
+use crate::run::look_ahead;
+use crate::scene::Scene;
+use crate::views::{Views64, ends_at};
+use model_line::Memory;
+use run_signal::Within;
+use std::alloc::Global;
+
+/// A cut of a view in two: up to `mid` of a parameter, and from `mid + 1` on; or a case, off and
+/// on.
+#[derive(Clone, Copy)]
+pub enum Cut {
+    Split { param: u32, mid: u32 },
+    Case(Case),
+}
+
+/// What is seen of one view.
+#[derive(Drop)]
+pub struct Side {
+    pub met: bool,
+    pub score: Score,
+    /// The cases that it offers.
+    pub cases: Vec<Case>,
+}
+
+/// A cut with its two sides.
+#[derive(Drop)]
+pub struct Chosen {
+    pub cut: Cut,
+    pub first: Side,
+    pub second: Side,
+}
+
+// how many cuts a run looks at
+const BLOCK: usize = 32;
+
+/// Looks at one view: an interval for each parameter, and what is assumed.
+pub fn side_of(
+    alloc: Global,
+    scene: &Scene,
+    ends: &[Within],
+    assumed: &[Assumed],
+) -> Result<Side, Memory> {
+    let views = views_of(alloc, scene, ends, assumed, 1)?;
+    let outlook = look_ahead(alloc, scene, &views)?;
+    side_in(alloc, scene, &outlook, 0)
+}
+
+/// The cuts of a view: its cases, and the halves of each parameter that is no delay and is read on
+/// both rails.
+pub fn cuts_of(
+    alloc: Global,
+    scene: &Scene,
+    ends: &[Within],
+    cases: &[Case],
+) -> Result<Vec<Cut>, Memory> {
+    let mut cuts = Vec::new(alloc);
+    for case in cases {
+        cuts.push(Cut::Case(*case))?;
+    }
+    for param in 0..scene.line.param_count() {
+        let (least, greatest) = (
+            ends_at(ends, param).least(),
+            ends_at(ends, param).greatest(),
+        );
+        if least < greatest && !scene.line.is_delay(param) && scene.reads.param(param).is_both() {
+            let mid = least + (greatest - least) / 2;
+            cuts.push(Cut::Split { param, mid })?;
+        }
+    }
+    Ok(cuts)
+}
+
+/// The cuts at a tick beside a case.
+pub fn cuts_beside(alloc: Global, cuts: &[Cut], last: Case) -> Result<Vec<Cut>, Memory> {
+    let mut near = Vec::new(alloc);
+    for cut in cuts {
+        if is_beside(*cut, last) {
+            near.push(*cut)?;
+        }
+    }
+    Ok(near)
+}
+
+/// Looks at both sides of each cut of a view, and chooses one, if one helps: the best case that
+/// settles a side, else the least sum of scores. With `settling` only such a case is chosen.
+pub fn choose(
+    alloc: Global,
+    scene: &Scene,
+    ends: &[Within],
+    assumed: &[Assumed],
+    cuts: &[Cut],
+    score: Score,
+    settling: bool,
+) -> Result<Option<Chosen>, Memory> {
+    let outlooks = look_at_all(alloc, scene, ends, assumed, cuts)?;
+    let trials = trials_of(alloc, scene, cuts, &outlooks)?;
+    match best_of(&trials, score, settling) {
+        Some(place) => chosen_at(alloc, scene, cuts, &outlooks, place),
+        None => Ok(None),
+    }
+}
+
+// Looks at both sides of each cut, block by block.
+fn look_at_all(
+    alloc: Global,
+    scene: &Scene,
+    ends: &[Within],
+    assumed: &[Assumed],
+    cuts: &[Cut],
+) -> Result<Vec<Outlook64>, Memory> {
+    let mut outlooks = Vec::new(alloc);
+    for block in 0..cuts.len() / BLOCK + 1 {
+        outlooks.push(look_at_block(alloc, scene, ends, assumed, cuts, block * BLOCK)?)?;
+    }
+    Ok(outlooks)
+}
+
+// Which of them helps most.
+fn best_of(trials: &[Trial], score: Score, settling: bool) -> Option<usize> {
+    let best = best_settling(trials, score);
+    if best.is_none() && !settling {
+        return least_sum(trials, score);
+    }
+    best
+}
+
+// The views of a block of cuts: two lanes for each.
+fn look_at_block(
+    alloc: Global,
+    scene: &Scene,
+    ends: &[Within],
+    assumed: &[Assumed],
+    cuts: &[Cut],
+    from: usize,
+) -> Result<Outlook64, Memory> {
+    let count = cuts.len().saturating_sub(from).min(BLOCK) as u32;
+    let mut views = views_of(alloc, scene, ends, assumed, 2 * count)?;
+    for place in 0..BLOCK {
+        if let Some(cut) = cuts.get(from.saturating_add(place)) {
+            put_cut(ends, *cut, 2 * place as u32, &mut views)?;
+        }
+    }
+    look_ahead(alloc, scene, &views)
+}
+
+// The view in so many lanes.
+fn views_of(
+    alloc: Global,
+    scene: &Scene,
+    ends: &[Within],
+    assumed: &[Assumed],
+    lanes: u32,
+) -> Result<Views64, Memory> {
+    let mut views = Views64::new(alloc, scene.line, ends, first(lanes))?;
+    for one in assumed {
+        views.assume(ALL, *one)?;
+    }
+    Ok(views)
+}
+
+// Puts the sides of a cut into a lane and the next.
+fn put_cut(ends: &[Within], cut: Cut, lane: u32, views: &mut Views64) -> Result<(), Memory>
+    requires { lane + 1 < 64 }
+{
+    match cut {
+        Cut::Split { param, mid } => {
+            let (least, greatest) = (
+                ends_at(ends, param).least(),
+                ends_at(ends, param).greatest(),
+            );
+            views.set(lane, param, least, mid);
+            views.set(lane + 1, param, mid.saturating_add(1), greatest);
+            Ok(())
+        }
+        Cut::Case(case) => {
+            views.assume(only(lane), Assumed { case, level: false })?;
+            views.assume(only(lane + 1), Assumed { case, level: true })
+        }
+    }
+}
+
+/// A cut, and how far its sides are from meeting the obligation.
+#[derive(Clone, Copy)]
+struct Trial {
+    cut: Cut,
+    first: Score,
+    second: Score,
+    /// Whether one side meets it.
+    meets: bool,
+}
+
+impl Trial {
+    // How far the worse side is.
+    fn worse(self) -> Score {
+        self.first.max(self.second)
+    }
+
+    // Whether it is a case of which one side meets the obligation, and the other comes nearer.
+    fn settles(self, score: Score) -> bool {
+        self.meets && self.worse() < score && matches!(self.cut, Cut::Case(_))
+    }
+
+    // Whether it is a case that changes neither side.
+    fn is_idle(self, score: Score) -> bool {
+        matches!(self.cut, Cut::Case(_)) && self.first == score && self.second == score
+    }
+}
+
+fn trials_of(
+    alloc: Global,
+    scene: &Scene,
+    cuts: &[Cut],
+    outlooks: &[Outlook64],
+) -> Result<Vec<Trial>, Memory> {
+    let mut trials = Vec::new(alloc);
+    for place in 0..cuts.len() {
+        if let Some(outlook) = outlooks.get(place / BLOCK) {
+            let lane = lane_of(place);
+            trials.push(Trial {
+                cut: cuts[place],
+                first: outlook.score(scene, lane),
+                second: outlook.score(scene, lane + 1),
+                meets: outlook.is_met(scene, lane) || outlook.is_met(scene, lane + 1),
+            })?;
+        }
+    }
+    Ok(trials)
+}
+
+// The lane of a cut's first side.
+fn lane_of(place: usize) -> u32
+    ensures { result + 1 < 64 }
+{
+    2 * (place % BLOCK) as u32
+}
+
+// Whether it is a case at a tick beside another.
+fn is_beside(cut: Cut, last: Case) -> bool {
+    match cut {
+        Cut::Split { .. } => false,
+        Cut::Case(case) => case.terminal == last.terminal && case.tick.abs_diff(last.tick) == 1,
+    }
+}
+
+// The first of those that settle a side whose other side is nearest.
+fn best_settling(trials: &[Trial], score: Score) -> Option<usize> {
+    let mut best = None;
+    let mut nearest = score;
+    for place in 0..trials.len() {
+        let trial = trials[place];
+        if trial.settles(score) && trial.worse() < nearest {
+            best = Some(place);
+            nearest = trial.worse();
+        }
+    }
+    best
+}
+
+// The first of the least sum of scores, and of these of the nearest worse side.
+fn least_sum(trials: &[Trial], score: Score) -> Option<usize> {
+    let mut best: Option<usize> = None;
+    let mut least = (Score::MET, Score::MET);
+    for place in 0..trials.len() {
+        let trial = trials[place];
+        let sum = (trial.first.plus(trial.second), trial.worse());
+        if !trial.is_idle(score) && (best.is_none() || sum < least) {
+            best = Some(place);
+            least = sum;
+        }
+    }
+    best
+}
+
+// A cut with its sides.
+fn chosen_at(
+    alloc: Global,
+    scene: &Scene,
+    cuts: &[Cut],
+    outlooks: &[Outlook64],
+    place: usize,
+) -> Result<Option<Chosen>, Memory> {
+    let Some(cut) = cuts.get(place) else {
+        return Ok(None);
+    };
+    let Some(outlook) = outlooks.get(place / BLOCK) else {
+        return Ok(None);
+    };
+    let lane = lane_of(place);
+    let first = side_in(alloc, scene, outlook, lane)?;
+    let second = side_in(alloc, scene, outlook, lane + 1)?;
+    Ok(Some(Chosen {
+        cut: *cut,
+        first,
+        second,
+    }))
+}
+
+// What is seen of the view in a lane.
+fn side_in(alloc: Global, scene: &Scene, outlook: &Outlook64, lane: u32) -> Result<Side, Memory>
+    requires { lane < 64 }
+{
+    let cases = outlook.cases(alloc, scene, lane)?;
+    Ok(Side {
+        met: outlook.is_met(scene, lane),
+        score: outlook.score(scene, lane),
+        cases,
+    })
+}

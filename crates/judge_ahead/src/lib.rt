@@ -1,0 +1,30 @@
+//! What a search looks at before it chooses: 64 views of a line's timings side by side, each a box
+//! with what is assumed of echoes, or one timing whose delays move. One run over the ticks tells of
+//! each view whether an obligation is met, and how far it is from that.
+//!
+//! Nothing here is relied on: whoever answers shows the answer by other means.
+#![tactic(auto)]
+
+mod bits;
+mod candidates;
+mod case;
+mod channel;
+mod counter;
+mod cuts;
+mod marks;
+mod moving;
+mod outlook;
+mod reads;
+mod run;
+mod scene;
+mod since;
+mod timer;
+mod turns;
+mod views;
+mod wiring;
+
+pub use candidates::{CANDIDATES, failing};
+pub use case::{Assumed, Case};
+pub use cuts::{Chosen, Cut, Side, choose, cuts_beside, cuts_of, side_of};
+pub use outlook::Score;
+pub use scene::Scene;

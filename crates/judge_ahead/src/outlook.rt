@@ -1,0 +1,259 @@
+//! What 64 views tell of an obligation.
+
+ghost use Rattle.std.specs.Prelude.{◌<◌};
+
+use crate::bits::{holds, lowest, only, rest};
+use crate::case::Case;
+use crate::counter::Counter64;
+use crate::run::Run64;
+use crate::scene::Scene;
+use crate::since::{Since, by_tick, push_since};
+use model_line::{Kind, Memory};
+use std::alloc::Global;
+
+/// How far a view is from meeting the obligation: for an external fault at how many ticks what sets
+/// the trip may be on; for an internal one by how many ticks the first that must trip is late. Then
+/// how many pairs that the trip rests on are not known.
+#[derive(Clone, Copy, PartialEq, Eq, PartialOrd, Ord)]
+pub struct Score {
+    pub trip: u32,
+    pub unknown: u32,
+}
+
+impl Score {
+    /// That of a view that meets it.
+    pub const MET: Score = Score {
+        trip: 0,
+        unknown: 0,
+    };
+
+    /// The two together.
+    pub fn plus(self, other: Score) -> Score {
+        Score {
+            trip: self.trip.saturating_add(other.trip),
+            unknown: self.unknown.saturating_add(other.unknown),
+        }
+    }
+}
+
+// no tick
+const NEVER: u16 = u16::MAX;
+
+// how many stretches of a wanted echo give cases
+const STRETCHES: u32 = 3;
+
+/// What was seen of 64 views through a run.
+#[derive(Drop)]
+pub struct Outlook64 {
+    /// The first tick at which the terminal must trip, in each lane.
+    first: [u16; 64],
+    must: u64,
+    may: u64,
+    excluded: u64,
+    set: Counter64,
+    unknown: Counter64,
+    /// Of each terminal the lanes in which it is not known whether it wants an echo; an empty list
+    /// where no case is to be made of it.
+    wanted: Vec<Vec<Since>>,
+    /// Of each terminal the lanes in which it must key.
+    keys: Vec<Vec<Since>>,
+}
+
+impl Outlook64 {
+    /// Before the first tick.
+    pub fn new(alloc: Global, scene: &Scene) -> Result<Outlook64, Memory> {
+        let wanted = empty_lists(alloc, scene.wanted().len())?;
+        let keys = empty_lists(alloc, scene.net.key_gates().len())?;
+        Ok(Outlook64 {
+            first: [NEVER; 64],
+            must: 0,
+            may: 0,
+            excluded: 0,
+            set: Counter64::new(),
+            unknown: Counter64::new(),
+            wanted,
+            keys,
+        })
+    }
+
+    /// Notes what a run has at a tick and keeps for so many ticks.
+    pub fn note(&mut self, scene: &Scene, run: &Run64, t: u32, ticks: u32) -> Result<(), Memory>
+        requires { t < 4000 }
+    {
+        let counted = scene.counted().saturating_sub(t).min(ticks);
+        if let Some(trip) = scene.net.trip_gates().get(scene.terminal as usize) {
+            let pair = run.pair(*trip);
+            self.note_trip(t, pair.must & run.lanes());
+            self.may |= if counted > 0 { pair.may } else { 0 };
+        }
+        if let Some(set) = scene.set() {
+            let mut on = Counter64::new();
+            on.add(run.pair(set).may);
+            self.set.add_times(&on, ticks);
+        }
+        self.unknown.add_times(run.unknown(), counted);
+        self.note_wanted(scene, run, t)?;
+        self.note_keys(scene, run, t)
+    }
+
+    // The lanes that must trip for the first time.
+    fn note_trip(&mut self, t: u32, must: u64)
+        requires { t < 4000 }
+    {
+        let mut fresh = must & !self.must;
+        self.must |= must;
+        'lanes: while fresh != 0 {
+            let lane = lowest(fresh);
+            fresh = rest(fresh);
+            self.first[lane as usize] = t as u16;
+        }
+    }
+
+    fn note_wanted(&mut self, scene: &Scene, run: &Run64, t: u32) -> Result<(), Memory> {
+        let wanted = scene.wanted();
+        for terminal in 0..wanted.len() {
+            if let Some(gate) = wanted[terminal] {
+                if let Some(list) = self.wanted.get_mut(terminal) {
+                    push_since(list, t, run.pair(gate).unknown())?;
+                }
+            }
+        }
+        Ok(())
+    }
+
+    fn note_keys(&mut self, scene: &Scene, run: &Run64, t: u32) -> Result<(), Memory> {
+        for terminal in 0..scene.net.key_gates().len() {
+            let key = scene.net.key_gates()[terminal];
+            if let Some(list) = self.keys.get_mut(terminal) {
+                push_since(list, t, run.pair(key).must)?;
+            }
+        }
+        Ok(())
+    }
+
+    /// What is assumed is excluded in these lanes.
+    pub fn exclude(&mut self, lanes: u64) {
+        self.excluded = lanes;
+    }
+
+    /// Whether a view meets the obligation: no timing is in it, or every one does.
+    pub fn is_met(&self, scene: &Scene, lane: u32) -> bool
+        requires { lane < 64 }
+    {
+        if holds(self.excluded, lane) {
+            return true;
+        }
+        match scene.script.kind {
+            Kind::Internal => self.first[lane as usize] as u32 <= scene.script.deadline,
+            Kind::External => !holds(self.may, lane),
+        }
+    }
+
+    /// How far a view is from meeting it.
+    pub fn score(&self, scene: &Scene, lane: u32) -> Score
+        requires { lane < 64 }
+    {
+        if self.is_met(scene, lane) {
+            return Score::MET;
+        }
+        let trip = match scene.script.kind {
+            Kind::External => self.set.value(lane),
+            Kind::Internal => {
+                let first = self.first[lane as usize];
+                if first == NEVER {
+                    scene.line.horizon.saturating_mul(2)
+                } else {
+                    (first as u32).saturating_sub(scene.script.deadline)
+                }
+            }
+        };
+        Score {
+            trip,
+            unknown: self.unknown.value(lane),
+        }
+    }
+
+    /// The cases that a view offers: the first and the last tick of each of the first stretches
+    /// through which it is not known whether a terminal wants an echo.
+    pub fn cases(&self, alloc: Global, scene: &Scene, lane: u32) -> Result<Vec<Case>, Memory>
+        requires { lane < 64 }
+    {
+        let mut cases = Vec::new(alloc);
+        for terminal in 0..scene.line.terminals.len() {
+            if let Some(list) = self.wanted.get(terminal) {
+                let horizon = scene.line.horizon;
+                push_cases(&mut cases, list, horizon, terminal as u32, only(lane))?;
+            }
+        }
+        Ok(cases)
+    }
+
+    /// Whether a terminal must key in a lane, at each tick of a run.
+    pub fn keys(
+        &self,
+        alloc: Global,
+        terminal: u32,
+        lane: u32,
+        horizon: u32,
+    ) -> Result<Vec<bool>, Memory>
+        requires { lane < 64 }
+    {
+        match self.keys.get(terminal as usize) {
+            Some(list) => by_tick(alloc, list, lane, horizon),
+            None => Ok(Vec::new(alloc)),
+        }
+    }
+}
+
+// So many lists with nothing in them.
+fn empty_lists(alloc: Global, count: usize) -> Result<Vec<Vec<Since>>, Memory> {
+    let mut lists = Vec::new(alloc);
+    for _list in 0..count {
+        lists.push(Vec::new(alloc))?;
+    }
+    Ok(lists)
+}
+
+// The ends of the first stretches of a lane, through a run of so many ticks.
+fn push_cases(
+    cases: &mut Vec<Case>,
+    list: &[Since],
+    horizon: u32,
+    terminal: u32,
+    lane: u64,
+) -> Result<(), Memory> {
+    let mut found = 0u32;
+    let mut begun: Option<u32> = None;
+    for since in list {
+        let is = since.lanes & lane != 0;
+        match begun {
+            Some(first) if !is => {
+                push_ends(cases, terminal, first, since.tick)?;
+                found = found.saturating_add(1);
+                begun = None;
+            }
+            None if is => begun = Some(since.tick),
+            _ => {}
+        }
+        if found == STRETCHES {
+            return Ok(());
+        }
+    }
+    match begun {
+        Some(first) => push_ends(cases, terminal, first, horizon),
+        None => Ok(()),
+    }
+}
+
+// The first tick of a stretch, and its last, if that is another one.
+fn push_ends(cases: &mut Vec<Case>, terminal: u32, tick: u32, end: u32) -> Result<(), Memory> {
+    cases.push(Case { terminal, tick })?;
+    let last = end.saturating_sub(1);
+    if tick < last {
+        cases.push(Case {
+            terminal,
+            tick: last,
+        })?;
+    }
+    Ok(())
+}

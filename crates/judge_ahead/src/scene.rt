@@ -1,0 +1,115 @@
+//! An obligation, and what a search looks at of it.
+
+ghost use Rattle.std.specs.Prelude.{◌≡◌, IfOk};
+
+use crate::reads::Reads;
+use crate::turns::{Turn, turns_of};
+use crate::wiring::Wiring;
+use model_line::{Kind, Line, Memory, Script};
+use net_gates::{Gate, GateId, Net};
+use std::alloc::Global;
+
+/// A script at a terminal of a line, with the line's net.
+#[derive(Drop)]
+pub struct Scene<'a> {
+    pub line: &'a Line,
+    pub net: &'a Net,
+    pub script: &'a Script,
+    pub terminal: u32,
+    /// On which rails the obligation reads what.
+    pub reads: Reads,
+    /// Who reads whom.
+    pub wiring: Wiring,
+    /// Where what the script shows turns, by tick.
+    pub turns: Vec<Turn>,
+    /// Of each terminal the gate of the echo that it wants, where it is read on both rails.
+    wanted: Vec<Option<GateId>>,
+    /// What sets the terminal's trip.
+    set: Option<GateId>,
+}
+
+impl<'a> Scene<'a> {
+    /// The obligation of a script at a terminal.
+    pub fn new(
+        alloc: Global,
+        line: &'a Line,
+        net: &'a Net,
+        script: &'a Script,
+        terminal: u32,
+    ) -> Result<Scene<'a>, Memory>
+        ensures line { IfOk result (λ s. s.line.now ≡ line.now) }
+        ensures net { IfOk result (λ s. s.net.now ≡ net.now) }
+        ensures script { IfOk result (λ s. s.script.now ≡ script.now) }
+        ensures terminal { IfOk result (λ s. s.terminal ≡ terminal) }
+    {
+        let reads = Reads::new(alloc, line, net, script.kind, terminal)?;
+        let wiring = Wiring::new(alloc, line, net)?;
+        let turns = turns_of(alloc, line, net, script)?;
+        let mut wanted = Vec::new(alloc);
+        for key in net.key_gates() {
+            let want = wanted_gate(net, *key);
+            wanted.push(want.filter(|gate| reads.gate(*gate).is_both()))?;
+        }
+        let set = set_gate(net, terminal);
+        Ok(Scene {
+            line,
+            net,
+            script,
+            terminal,
+            reads,
+            wiring,
+            turns,
+            wanted,
+            set,
+        })
+    }
+
+    /// The gates of the echoes that are wanted, one for each terminal.
+    pub fn wanted(&self) -> &[Option<GateId>] {
+        &self.wanted
+    }
+
+    /// What sets the terminal's trip.
+    pub fn set(&self) -> Option<GateId> {
+        self.set
+    }
+
+    /// How many of the first ticks the obligation looks at.
+    pub fn counted(&self) -> u32 {
+        match self.script.kind {
+            Kind::Internal => self.script.deadline.saturating_add(1),
+            Kind::External => self.line.horizon,
+        }
+    }
+}
+
+// What the echo of a key starts from: of `ahead or (wanted and still)` the gate of `wanted`.
+fn wanted_gate(net: &Net, key: GateId) -> Option<GateId> {
+    let Gate::Or(_, echo) = gate_at(net, key)? else {
+        return None;
+    };
+    let Gate::And(wanted, _) = gate_at(net, echo)? else {
+        return None;
+    };
+    let Gate::Timer(_, _, _) = gate_at(net, wanted)? else {
+        return None;
+    };
+    Some(wanted)
+}
+
+// What sets a trip.
+fn set_gate(net: &Net, terminal: u32) -> Option<GateId> {
+    let trip = net.trip_gates().get(terminal as usize)?;
+    match gate_at(net, *trip)? {
+        Gate::Seal(set, _) => Some(set),
+        _ => None,
+    }
+}
+
+fn gate_at(net: &Net, id: GateId) -> Option<Gate> {
+    if id.0 < net.len() {
+        Some(*net.gate(id))
+    } else {
+        None
+    }
+}

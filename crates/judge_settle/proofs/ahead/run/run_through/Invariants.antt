@@ -1,5 +1,0 @@
-use Rattle.std.proofs.Common.{◌-◌}
-use Rattle.judge_settle.proofs.ahead.run.run_through.Given as goal
-
-abbrev pub decreases-stretches : goal.decreases-stretches
-decreases-stretches l = l.horizon - l.t

@@ -1,4 +1,0 @@
-use Rattle.judge_settle.proofs.ahead.timer.Timer64.feed.Given as goal
-
-abbrev pub decreases-lanes : goal.decreases-lanes
-decreases-lanes l = l.touched
