@@ -4,20 +4,13 @@ ghost use Rattle.std.specs.Prelude.{◌≡◌, ◌-◌, IfOk, IfSome, MatchOptio
 ghost use Rattle.judge_settle.specs.{settle.Trees.IsFailing};
 ghost use Rattle.judge_settle.specs.settle.Scenes.{CanSearch};
 
-<<<<<<< HEAD
-use crate::ahead::{
-=======
 use crate::settle::budget::Budget;
 use crate::settle::play::fails;
 use crate::settle::sides::Branch;
 use judge_ahead::{
->>>>>>> parent of 5a0186bc (judge_settle: parts of one crate)
     Assumed, CANDIDATES, Case, Chosen, Cut, Scene, Side, choose, cuts_beside, cuts_of, failing,
     side_of,
 };
-use crate::settle::budget::Budget;
-use crate::settle::play::fails;
-use crate::settle::sides::Branch;
 use judge_cases::View;
 use model_line::Memory;
 use model_timing::Timing;

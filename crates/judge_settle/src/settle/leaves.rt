@@ -8,13 +8,9 @@ ghost use Rattle.judge_settle.specs.settle.Scenes.{CanSearch};
 ghost use Rattle.judge_settle.specs.settle.Trees.{IsGrownOver, IsFound, Size};
 ghost use Rattle.judge_settle.specs.settle.Leaves.{AreAllShown, AreMoreViews, IsFoundWith};
 
-use crate::ahead::Scene;
 use crate::settle::grown::{Grown, leaf};
 use crate::settle::search::Found;
-<<<<<<< HEAD
-=======
 use judge_ahead::Scene;
->>>>>>> parent of 5a0186bc (judge_settle: parts of one crate)
 use judge_cases::laws::a_view_stands_for_its_box;
 use judge_cases::{View, analyse};
 use model_line::Memory;

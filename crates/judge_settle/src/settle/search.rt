@@ -5,16 +5,12 @@ ghost use Rattle.judge_cases.specs.Views.{IsView, AreViews};
 ghost use Rattle.judge_settle.specs.settle.Scenes.{CanSearch};
 ghost use Rattle.judge_settle.specs.settle.Leaves.{AreMoreViews, IsFoundWith};
 
-use crate::ahead::{Case, Cut, Scene};
 use crate::settle::boxes::{choose_in, failing_in};
 use crate::settle::budget::Budget;
 use crate::settle::grown::{Grown, join, leaf};
 use crate::settle::leaves::taken_leaf;
 use crate::settle::sides::{Branch, Branches, branches_of};
-<<<<<<< HEAD
-=======
 use judge_ahead::{Case, Cut, Scene};
->>>>>>> parent of 5a0186bc (judge_settle: parts of one crate)
 use judge_cases::View;
 use model_line::Memory;
 use model_timing::Timing;

@@ -12,7 +12,6 @@ ghost use Rattle.judge_settle.specs.corner.Decided.{OneTimingDecides};
 ghost use Rattle.judge_settle.specs.{settle.Answers.IsAnswer, settle.Trees.IsFound};
 ghost use Rattle.judge_settle.specs.settle.Trees.{Size, size_of_text};
 
-use crate::ahead::Scene;
 use crate::corner::{Decided, decide};
 use crate::settle::answer::{Answer, By, Settled};
 use crate::settle::boxes::side_in;
@@ -22,10 +21,7 @@ use crate::settle::leaves::confirmed;
 use crate::settle::play::fails;
 use crate::settle::search::{Found, search_view};
 use crate::settle::sides::Branch;
-<<<<<<< HEAD
-=======
 use judge_ahead::Scene;
->>>>>>> parent of 5a0186bc (judge_settle: parts of one crate)
 use judge_cases::declared_view;
 use judge_verdict::verdict::{Verdict, certify};
 use model_line::laws::deadlines_are_below_the_horizon;
