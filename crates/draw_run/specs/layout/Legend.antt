@@ -10,7 +10,7 @@ use Rattle.draw_shapes.specs.declared.class.Class.{Class}
 use Rattle.draw_shapes.specs.declared.class.Class.TheVariants as class
 use Rattle.draw_shapes.specs.{Seen.SeenFigure}
 use Rattle.draw_shapes.specs.Seen as seen
-use Rattle.draw_run.specs.layout.contracts.bar.BarPartialEq.TheImpl.{eq-value as bar_eq}
+use Rattle.draw_run.specs.contracts.layout.bar.BarPartialEq.TheImpl.{eq-value as bar_eq}
 use Rattle.draw_run.specs.declared.layout.bar.Bar.{Bar}
 use Rattle.draw_run.specs.declared.layout.bar.Bar.TheVariants as look
 use Rattle.draw_run.specs.declared.layout.bar.TheConstants.{BARS}

@@ -3,7 +3,7 @@ use Rattle.std.specs.Prelude.{◌&&◌, ℕ, Bool, true, false, List, codes, get
 use Rattle.std.specs.List.{list_any}
 use Rattle.file_records.specs.map.Recorders.{RecorderValues}
 use Rattle.file_records.specs.declared.map.source.Signal.{Signal}
-use Rattle.file_records.specs.map.contracts.source.SignalPartialEq.TheImpl.{eq-value as signal_eq}
+use Rattle.file_records.specs.contracts.map.source.SignalPartialEq.TheImpl.{eq-value as signal_eq}
 use Rattle.file_records.specs.tracks.Tracks.{TrackValues}
 
 -- two signals are compared as `==` compares them
