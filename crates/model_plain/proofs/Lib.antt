@@ -1,1 +1,2 @@
+pub mod BelowSteps
 pub mod KeyReads

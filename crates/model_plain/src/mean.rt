@@ -88,7 +88,7 @@ fn raw(line: &Line, values: &[u32], keys: &[Vec<bool>], channel: u32, t: u32) ->
 }
 
 // The value at a tick, by cases of the formula.
-#[tactic(auto, unfolding(model_logic::specs::Mean::mean, model_logic::specs::Choice::world_of, model_logic::specs::Choice::steady_choice, model_history::specs::Elements::timed, model_history::specs::Elements::hold, model_history::specs::Elements::sealed, model_logic::specs::Names::Names))]
+#[tactic(auto, unfolding(model_logic::specs::Mean::mean, model_logic::specs::Choice::world_of, model_logic::specs::Choice::steady_choice, model_logic::specs::Names::Names))]
 #[cycle(value)]
 fn value(
     formula: &Formula,
@@ -181,7 +181,6 @@ fn stays(
 }
 
 // Whether a timed element over the formula is on.
-#[tactic(auto, unfolding(model_history::specs::Elements::timed, model_history::specs::Elements::hold))]
 #[cycle(value)]
 fn is_timed(
     x: &Formula,
