@@ -1,11 +1,16 @@
 -- Times and answers in words.
-use Rattle.std.specs.Prelude.{◌-◌, ◌==◌, ◌++◌, ℕ, List, [], Option, None, Some}
+use Rattle.std.specs.Prelude.{◌-◌, ◌==◌, ◌++◌, ℕ, List, [], ◌∷◌, Option, None, Some}
 use Rattle.std.specs.Prelude.{codes, decimal, nat_le, if◌then◌else◌}
 use Rattle.base_text.specs.lines.Milliseconds as milliseconds
 use Rattle.model_line.specs.declared.script.Kind.{Kind}
 use Rattle.model_line.specs.declared.script.Kind.TheVariants.{Internal, External}
 use Rattle.draw_page.specs.declared.page.Means.{Means}
 use Rattle.draw_page.specs.declared.page.Means.TheVariants as means
+
+-- a text with these pieces behind it
+abbrev pub with_pieces : List ℕ → List (List ℕ) → List ℕ
+with_pieces text [] = text
+with_pieces text (piece ∷ rest) = with_pieces (text ++ piece) rest
 
 -- ---- times
 

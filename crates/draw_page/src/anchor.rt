@@ -4,7 +4,8 @@ ghost use Rattle.std.specs.Prelude.{◌≡◌, ◌<◌, ◌^◌, ◌++◌, ℕ, 
 ghost use Rattle.draw_page.specs.declared.anchor.Anchor.TheVariants.{Fault};
 ghost use Rattle.draw_page.specs.Elements.{anchor_said, target_said};
 
-use crate::words::number_words;
+use crate::words::words_of;
+use itoa::Buffer;
 use std::alloc::{AllocError, Global};
 
 /// The places of the page that a link may lead to: its sections, and each fault by its number.
@@ -39,20 +40,16 @@ pub fn anchor_words(alloc: Global, anchor: Anchor) -> Result<Vec<u8>, AllocError
 fn fault_words(alloc: Global, n: usize) -> Result<Vec<u8>, AllocError>
     ensures { IfOk result (λ text. text.items ≡ codes "fault-" ++ decimal n) }
 {
-    let mut text = Vec::from_slice(alloc, b"fault-")?;
-    let number = number_words(alloc, n)?;
-    text.extend_from_slice(number.as_slice())?;
-    Ok(text)
+    let mut digits = Buffer::new();
+    words_of(alloc, &[b"fault-", digits.format(n).as_bytes()])
 }
 
 /// What a link to it names.
 pub fn target_words(alloc: Global, anchor: Anchor) -> Result<Vec<u8>, AllocError>
     ensures { IfOk result (λ text. text.items ≡ target_said anchor) }
 {
-    let mut text = Vec::from_slice(alloc, b"#")?;
     let words = anchor_words(alloc, anchor)?;
-    text.extend_from_slice(words.as_slice())?;
-    Ok(text)
+    words_of(alloc, &[b"#", words.as_slice()])
 }
 
 /// Each fault has an id of its own.

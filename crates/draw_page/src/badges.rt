@@ -7,8 +7,9 @@ ghost use Rattle.draw_page.specs.Badges.{fails_html, held_html, open_html, stand
 
 use crate::elements::classed;
 use crate::page::Standing;
-use crate::words::number_words;
+use crate::words::words_of;
 use base_markup::html::{Html, Sign, Tag};
+use itoa::Buffer;
 use std::alloc::{AllocError, Global};
 
 /// A sign and words behind it.
@@ -116,14 +117,10 @@ fn counted_words(
     if all == 1 {
         return Vec::from_slice(alloc, one);
     }
-    let mut text = Vec::from_slice(alloc, b" ")?;
-    let number = number_words(alloc, count)?;
-    text.extend_from_slice(number.as_slice())?;
-    text.extend_from_slice(b" of ")?;
-    let number = number_words(alloc, all)?;
-    text.extend_from_slice(number.as_slice())?;
-    text.extend_from_slice(more)?;
-    Ok(text)
+    let (mut count_digits, mut all_digits) = (Buffer::new(), Buffer::new());
+    let count = count_digits.format(count).as_bytes();
+    let all = all_digits.format(all).as_bytes();
+    words_of(alloc, &[b" ", count, b" of ", all, more])
 }
 
 pub fn is_held(standing: Standing) -> bool

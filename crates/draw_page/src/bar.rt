@@ -5,7 +5,7 @@ ghost use Rattle.draw_shapes.specs.Seen.{drawing_seen};
 ghost use Rattle.draw_page.specs.Bars.{bar_drawing, bar_title, greatest_end, place_of, reach_of};
 
 use crate::page::Time;
-use crate::words::interval_words;
+use crate::words::{interval_words, words_of};
 use draw_shapes::{Class, Drawing, Shape, put_line, put_rectangle};
 use std::alloc::{AllocError, Global};
 
@@ -68,9 +68,9 @@ pub fn bar(alloc: Global, tick_us: u32, reach: u32, time: &Time) -> Result<Drawi
 fn title(alloc: Global, tick_us: u32, time: &Time) -> Result<Vec<u8>, AllocError>
     ensures { IfOk result (λ text. text.items ≡ bar_title tick_us time.now) }
 {
-    let mut text = Vec::from_slice(alloc, time.name.as_slice())?;
-    text.extend_from_slice(b", declared ")?;
     let interval = interval_words(alloc, tick_us, time.low, time.high)?;
-    text.extend_from_slice(interval.as_slice())?;
-    Ok(text)
+    words_of(
+        alloc,
+        &[time.name.as_slice(), b", declared ", interval.as_slice()],
+    )
 }

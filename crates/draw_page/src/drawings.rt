@@ -5,10 +5,11 @@ ghost use Rattle.draw_shapes.specs.Seen.{drawing_seen};
 ghost use Rattle.draw_page.specs.Figures.{drawing_html, drawn_inside, figure_html};
 
 use crate::elements::classed;
-use crate::words::number_words;
+use crate::words::words_of;
 use base_markup::html::{Html, Tag};
 use base_markup::svg::{Key, Markup, words};
 use draw_shapes::{Drawing, shapes, title};
+use itoa::Buffer;
 use std::alloc::{AllocError, Global};
 
 /// A drawing as a figure.
@@ -25,9 +26,9 @@ pub fn figure(alloc: Global, of: &Drawing) -> Result<Html, AllocError>
 pub fn drawing(alloc: Global, of: &Drawing) -> Result<Html, AllocError>
     ensures { IfOk result (λ html. html.text.items ≡ drawing_html (drawing_seen of.now)) }
 {
-    let height = number_words(alloc, (of.height / 10) as usize)?;
-    let mut view = Vec::from_slice(alloc, b"0 0 1000 ")?;
-    view.extend_from_slice(height.as_slice())?;
+    let mut digits = Buffer::new();
+    let height = digits.format(of.height / 10).as_bytes();
+    let view = words_of(alloc, &[b"0 0 1000 ", height])?;
     let inside = inside(alloc, of)?;
     Html::drawing(
         alloc,
@@ -35,7 +36,7 @@ pub fn drawing(alloc: Global, of: &Drawing) -> Result<Html, AllocError>
             words(Key::Xmlns, b"http://www.w3.org/2000/svg"),
             words(Key::ViewBox, view.as_slice()),
             words(Key::Width, b"1000"),
-            words(Key::Height, height.as_slice()),
+            words(Key::Height, height),
             words(Key::Role, b"img"),
         ],
         &inside,

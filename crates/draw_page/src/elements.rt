@@ -8,6 +8,7 @@ ghost use Rattle.draw_page.specs.Elements.{number_cell_html, plain_html, said_in
 ghost use Rattle.draw_page.specs.Elements.{shown_html, words_in_html};
 
 use crate::anchor::{Anchor, anchor_words, target_words};
+use crate::parts::classed_around;
 use base_markup::html::{Attribute, Html, Key, Sign, Tag};
 use std::alloc::{AllocError, Global};
 
@@ -163,7 +164,7 @@ pub fn table(alloc: Global, class: &[u8], head: &Html, rows: &Html) -> Result<Ht
         ≡ table_html class.now head.now.text.items rows.now.text.items) }
 {
     let body = plain(alloc, Tag::TableBody, rows)?;
-    let all = Html::new(alloc).and(head)?.and(&body)?;
-    let table = classed(alloc, Tag::Table, class, &all)?;
-    classed(alloc, Tag::Division, b"wide", &table)
+    let all = Html::new(alloc).and(head)?.and(&body);
+    let table = classed_around(alloc, Tag::Table, class, all);
+    classed_around(alloc, Tag::Division, b"wide", table)
 }

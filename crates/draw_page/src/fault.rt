@@ -17,13 +17,14 @@ use crate::anchor::{Anchor, anchor_words};
 use crate::badges::badge;
 use crate::bare::bare_cell;
 use crate::drawings::figure;
-use crate::elements::{columns, plain, section, table, words_in};
+use crate::elements::{columns, section, table, words_in};
 use crate::page::{Fault, Page, Standing, Verdict};
 use crate::parts::{around, cell_around, joined, number_in, row_head};
 use crate::scripts::scripts;
 use crate::strip::strips;
-use crate::words::{by_words, deadline_words, kind_words, margin_words, number_words, trip_words};
+use crate::words::{by_words, deadline_words, kind_words, margin_words, trip_words, words_of};
 use base_markup::html::{Attribute, Html, Key, Tag};
+use itoa::Buffer;
 use std::alloc::{AllocError, Global};
 
 /// The section of the faults, with a section for each.
@@ -86,26 +87,30 @@ fn about(alloc: Global, fault: &Fault) -> Result<Html, AllocError>
     ensures { IfOk result (λ html. html.text.items ≡ about_html fault.now) }
 {
     let words = subject_words(alloc, fault)?;
-    let inside = Html::words(alloc, words.as_slice())?.and(&swept_items(
-        alloc,
-        fault.swept.as_slice(),
-    )?)?;
-    plain(alloc, Tag::Paragraph, &inside)
+    let words = Html::words(alloc, words.as_slice());
+    let swept = swept_items(alloc, fault.swept.as_slice());
+    around(alloc, Tag::Paragraph, joined(words, swept))
 }
 
 #[tactic(auto, unfolding(crate::specs::Faults::subject_said))]
 fn subject_words(alloc: Global, fault: &Fault) -> Result<Vec<u8>, AllocError>
     ensures { IfOk result (λ text. text.items ≡ subject_said fault.now) }
 {
-    let mut text = Vec::from_slice(alloc, b"An ")?;
-    text.extend_from_slice(kind_words(fault.kind))?;
-    text.extend_from_slice(b" fault. Scripts: ")?;
-    let count = number_words(alloc, fault.cases.len())?;
-    text.extend_from_slice(count.as_slice())?;
-    text.extend_from_slice(b". The drawing shows every choice of delays in ")?;
-    text.extend_from_slice(fault.shown.as_slice())?;
-    text.extend_from_slice(b".")?;
-    Ok(text)
+    let mut digits = Buffer::new();
+    let count = digits.format(fault.cases.len()).as_bytes();
+    let kind = kind_words(fault.kind);
+    words_of(
+        alloc,
+        &[
+            b"An ",
+            kind,
+            b" fault. Scripts: ",
+            count,
+            b". The drawing shows every choice of delays in ",
+            fault.shown.as_slice(),
+            b".",
+        ],
+    )
 }
 
 // What is swept.

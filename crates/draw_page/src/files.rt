@@ -22,11 +22,10 @@ pub fn files(alloc: Global, page: &Page) -> Result<Html, AllocError>
     ensures { IfOk result (λ html. html.text.items ≡ files_html page.now) }
 {
     let head = columns(alloc, &[b"File", b"SHA-256"])?;
-    let rows = file_rows(alloc, page.files.as_slice())?.and(&digest_rows(
-        alloc,
-        page.digests.as_slice(),
-    )?)?;
-    let inside = table(alloc, b"files", &head, &rows)?.and(&folded(alloc, page.files.as_slice())?)?;
+    let (files, digests) = (page.files.as_slice(), page.digests.as_slice());
+    let rows = joined(file_rows(alloc, files), digest_rows(alloc, digests))?;
+    let table = table(alloc, b"files", &head, &rows);
+    let inside = joined(table, folded(alloc, files))?;
     section(alloc, Anchor::Files, b"Files", &inside)
 }
 

@@ -13,8 +13,9 @@ use crate::anchor::Anchor;
 use crate::elements::{link, plain, said_in, words_in};
 use crate::page::{Counts, LeastMargin, Page};
 use crate::parts::{around, classed_around, joined};
-use crate::words::{number_words, push_ticks, time_words};
+use crate::words::{number_words, ticks_words, time_words, words_of};
 use base_markup::html::{Attribute, Html, Key, Tag};
+use itoa::Buffer;
 use std::alloc::{AllocError, Global};
 
 /// The head of the page.
@@ -45,20 +46,27 @@ fn subject(alloc: Global, page: &Page) -> Result<Html, AllocError>
 fn subject_words(alloc: Global, page: &Page) -> Result<Vec<u8>, AllocError>
     ensures { IfOk result (λ text. text.items ≡ subject_said page.now) }
 {
-    let mut text = Vec::from_slice(alloc, page.scheme.as_slice())?;
-    text.extend_from_slice(b", ")?;
-    let terminals = number_words(alloc, page.terminals.len())?;
-    text.extend_from_slice(terminals.as_slice())?;
-    text.extend_from_slice(b" terminals; ")?;
-    text.extend_from_slice(zone_words(page.zone1_trip))?;
-    push_ticks(&mut text, page.tick_us, page.horizon)?;
-    text.extend_from_slice(b" ms are judged, in ticks of ")?;
-    push_ticks(&mut text, page.tick_us, 1)?;
-    text.extend_from_slice(b" ms.")?;
-    Ok(text)
+    let mut digits = Buffer::new();
+    let terminals = digits.format(page.terminals.len()).as_bytes();
+    let horizon = ticks_words(alloc, page.tick_us, page.horizon)?;
+    let tick = ticks_words(alloc, page.tick_us, 1)?;
+    words_of(
+        alloc,
+        &[
+            page.scheme.as_slice(),
+            b", ",
+            terminals,
+            b" terminals; ",
+            zone_words(page.zone1_trip),
+            horizon.as_slice(),
+            b" ms are judged, in ticks of ",
+            tick.as_slice(),
+            b" ms.",
+        ],
+    )
 }
 
-fn zone_words(trips: bool) -> &'static [u8]
+fn zone_words<'a>(trips: bool) -> &'a [u8]
     ensures { result.now ≡ zone_said trips }
 {
     if trips {
@@ -142,8 +150,7 @@ fn some_least(alloc: Global, tick_us: u32, least: &LeastMargin) -> Result<Html, 
     ensures { IfOk result (λ html. html.text.items ≡ least_html tick_us (Some least.now)) }
 {
     let number = time_words(alloc, tick_us, least.ticks)?;
-    let mut words = Vec::from_slice(alloc, b"least margin by rule: ")?;
-    words.extend_from_slice(least.at.as_slice())?;
+    let words = words_of(alloc, &[b"least margin by rule: ", least.at.as_slice()])?;
     tile_of(alloc, b"tile", number.as_slice(), words.as_slice())
 }
 

@@ -6,6 +6,7 @@ ghost use Rattle.draw_page.specs.Signing.{line_html, made_said, signing_html};
 use crate::anchor::Anchor;
 use crate::elements::{classed, plain, section, words_in};
 use crate::page::Page;
+use crate::words::words_of;
 use base_markup::html::{Html, Tag};
 use std::alloc::{AllocError, Global};
 
@@ -31,12 +32,8 @@ pub fn signing(alloc: Global, page: &Page) -> Result<Html, AllocError>
 fn made_words(alloc: Global, page: &Page) -> Result<Vec<u8>, AllocError>
     ensures { IfOk result (λ text. text.items ≡ made_said page.now) }
 {
-    let mut text = Vec::from_slice(alloc, b"Made by ")?;
-    text.extend_from_slice(page.program.as_slice())?;
-    text.extend_from_slice(b", proved with ")?;
-    text.extend_from_slice(page.kit.as_slice())?;
-    text.extend_from_slice(b".")?;
-    Ok(text)
+    let (program, kit) = (page.program.as_slice(), page.kit.as_slice());
+    words_of(alloc, &[b"Made by ", program, b", proved with ", kit, b"."])
 }
 
 // A line to write on.

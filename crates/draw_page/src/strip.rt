@@ -8,6 +8,7 @@ ghost use Rattle.draw_page.specs.Sweeps.{spot_html, spot_sign as sign_of_spot, s
 
 use crate::elements::words_in;
 use crate::page::{Case, Standing, Verdict};
+use crate::parts::joined;
 use base_markup::html::{Attribute, Html, Key, Sign, Tag};
 use std::alloc::{AllocError, Global};
 
@@ -26,8 +27,8 @@ pub fn strips(alloc: Global, cases: &[Case], verdicts: &[Verdict]) -> Result<Htm
 fn strip(alloc: Global, cases: &[Case], verdict: &Verdict) -> Result<Html, AllocError>
     ensures { IfOk result (λ html. html.text.items ≡ strip_html cases.now verdict.now) }
 {
-    let name = words_in(alloc, Tag::Strong, verdict.terminal.as_slice())?;
-    let inside = name.and(&spots(alloc, cases, verdict.standings.as_slice())?)?;
+    let name = words_in(alloc, Tag::Strong, verdict.terminal.as_slice());
+    let inside = joined(name, spots(alloc, cases, verdict.standings.as_slice()))?;
     let class = Attribute {
         key: Key::Class,
         words: b"strip",

@@ -85,14 +85,12 @@ fn sections(alloc: Global, page: &Page) -> Result<Html, AllocError>
 }
 
 // What was asked, and what was found.
-#[tactic(auto, unfolding(crate::specs::Pages::answers_html))]
 fn answers(alloc: Global, page: &Page) -> Result<Html, AllocError>
     ensures { IfOk result (λ html. html.text.items ≡ answers_html page.now) }
 {
-    header(alloc, page)?
-        .and(&matrix(alloc, page)?)?
-        .and(&failing(alloc, page)?)?
-        .and(&undecided(alloc, page)?)
+    let verdicts = joined(header(alloc, page), matrix(alloc, page));
+    let failing = joined(verdicts, failing(alloc, page));
+    joined(failing, undecided(alloc, page))
 }
 
 // What it rests on.

@@ -1,14 +1,26 @@
 //! Times and answers in words.
 
-ghost use Rattle.std.specs.Prelude.{◌≡◌, ◌++◌, IfOk, OnOk, codes};
+ghost use Rattle.std.specs.Prelude.{◌≡◌, ◌++◌, [], IfOk, OnOk, codes, map};
 ghost use Rattle.draw_page.specs.Words.{by_said, deadline_said, interval_said, kind_said};
 ghost use Rattle.draw_page.specs.Words.{margin_of, margin_said, number_said, ticks_text, time_said};
-ghost use Rattle.draw_page.specs.Words.{trip_said};
+ghost use Rattle.draw_page.specs.Words.{trip_said, with_pieces};
 
 use crate::page::Means;
 use itoa::Buffer;
 use model_line::Kind;
 use std::alloc::{AllocError, Global};
+
+/// These pieces, one behind the other.
+pub fn words_of(alloc: Global, pieces: &[&[u8]]) -> Result<Vec<u8>, AllocError>
+    ensures { IfOk result (λ text. text.items
+        ≡ with_pieces [] (map (λ piece. piece.now) pieces.now)) }
+{
+    let mut text = Vec::new(alloc);
+    for piece in pieces {
+        text.extend_from_slice(piece)?;
+    }
+    Ok(text)
+}
 
 /// A number in decimal digits.
 pub fn number_words(alloc: Global, number: usize) -> Result<Vec<u8>, AllocError>
@@ -23,6 +35,15 @@ pub fn push_ticks(text: &mut Vec<u8>, tick_us: u32, t: u32) -> Result<(), AllocE
     ensures { OnOk result (text.new.items ≡ text.old.items ++ ticks_text tick_us t) }
 {
     base_text::lines::push_ticks(text, tick_us, t)
+}
+
+/// Ticks in milliseconds.
+pub fn ticks_words(alloc: Global, tick_us: u32, t: u32) -> Result<Vec<u8>, AllocError>
+    ensures { IfOk result (λ text. text.items ≡ ticks_text tick_us t) }
+{
+    let mut text = Vec::new(alloc);
+    push_ticks(&mut text, tick_us, t)?;
+    Ok(text)
 }
 
 /// A time, as `12.25 ms`.
@@ -123,7 +144,7 @@ pub fn deadline_words(
 }
 
 /// `internal` or `external`.
-pub fn kind_words(kind: Kind) -> &'static [u8]
+pub fn kind_words<'a>(kind: Kind) -> &'a [u8]
     ensures { result.now ≡ kind_said kind }
 {
     match kind {
