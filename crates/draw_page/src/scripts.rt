@@ -7,7 +7,7 @@ ghost use Rattle.draw_page.specs.Sweeps.{case_cells_html, case_row_html, script_
 ghost use Rattle.draw_page.specs.Sweeps.{standing_at, state_html, value_html, values_cell_html};
 
 use crate::badges::standing_mark;
-use crate::elements::{cell, column, plain, table, words_in};
+use crate::elements::{cell, column, table, words_in};
 use crate::page::{Case, Standing, Verdict};
 use crate::parts::{around, joined, number_in, row_head};
 use crate::words::{deadline_words, time_words};
@@ -27,9 +27,9 @@ pub fn scripts(
 {
     let head = scripts_head(alloc, verdicts)?;
     let rows = case_rows(alloc, tick_us, verdicts, cases)?;
-    let table = table(alloc, b"scripts", &head, &rows)?;
-    let inside = words_in(alloc, Tag::Summary, b"All scripts of the sweep")?.and(&table)?;
-    plain(alloc, Tag::Details, &inside)
+    let table = table(alloc, b"scripts", &head, &rows);
+    let summary = words_in(alloc, Tag::Summary, b"All scripts of the sweep");
+    around(alloc, Tag::Details, joined(summary, table))
 }
 
 fn scripts_head(alloc: Global, verdicts: &[Verdict]) -> Result<Html, AllocError>

@@ -4,8 +4,9 @@ ghost use Rattle.std.specs.Prelude.{◌≡◌, IfOk};
 ghost use Rattle.draw_page.specs.Signing.{line_html, made_said, signing_html};
 
 use crate::anchor::Anchor;
-use crate::elements::{classed, plain, section, words_in};
+use crate::elements::{plain, section, words_in};
 use crate::page::Page;
+use crate::parts::{classed_around, joined};
 use crate::words::words_of;
 use base_markup::html::{Html, Tag};
 use std::alloc::{AllocError, Global};
@@ -16,15 +17,11 @@ pub fn signing(alloc: Global, page: &Page) -> Result<Html, AllocError>
     ensures { IfOk result (λ html. html.text.items ≡ signing_html page.now) }
 {
     let made = made_words(alloc, page)?;
-    let lines = line(alloc, b"Name")?
-        .and(&line(alloc, b"Date")?)?
-        .and(&line(alloc, b"Signature")?)?;
-    let inside = words_in(alloc, Tag::Paragraph, made.as_slice())?.and(&classed(
-        alloc,
-        Tag::Division,
-        b"lines",
-        &lines,
-    )?)?;
+    let made = words_in(alloc, Tag::Paragraph, made.as_slice());
+    let two = joined(line(alloc, b"Name"), line(alloc, b"Date"));
+    let three = joined(two, line(alloc, b"Signature"));
+    let lines = classed_around(alloc, Tag::Division, b"lines", three);
+    let inside = joined(made, lines)?;
     section(alloc, Anchor::Signature, b"Signature", &inside)
 }
 
