@@ -1,2 +1,3 @@
 pub mod BelowSteps
 pub mod KeyReads
+pub mod OthersLaws

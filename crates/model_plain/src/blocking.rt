@@ -16,26 +16,24 @@ use model_line::{Element, Line, Setting};
 use model_logic::Time;
 use std::alloc::Global;
 
-#[tactic(auto, unfolding(model_logic::specs::Logic::blocking_key))]
 pub fn blocking_key(alloc: Global, line: &Line, k: u32) -> Result<Formula, Memory>
     requires { k < terminal_count line.now }
     ensures { IfOk result (λ f. tree_of f ≡ blocking_key_tree line.now k) }
 {
-    let zone2 = seen_timed(alloc, line, k, Element::Z2)?;
-    let reverse = seen_timed(alloc, line, k, Element::Rv)?;
-    let behind = and(alloc, reverse, not(alloc, zone2)?)?;
+    let zone2 = seen_timed(alloc, line, k, Element::Z2);
+    let reverse = seen_timed(alloc, line, k, Element::Rv);
+    let behind = and(alloc, reverse, not(alloc, zone2));
     let carry = terminal_setting(line, k, Setting::BlockCarry);
     timer(alloc, behind, Time::Zero, carry)
 }
 
-#[tactic(auto, unfolding(model_logic::specs::Logic::blocking_pilot))]
 pub fn blocking_pilot(alloc: Global, line: &Line, k: u32) -> Result<Formula, Memory>
     requires { k < terminal_count line.now }
     ensures { IfOk result (λ f. tree_of f ≡ blocking_pilot_tree line.now k) }
 {
     let coordination = terminal_setting(line, k, Setting::BlockCoord);
-    let zone2 = seen_timed(alloc, line, k, Element::Z2)?;
-    let ahead = timer(alloc, zone2, coordination, Time::Zero)?;
-    let blocked = any_received(alloc, line, k)?;
-    and(alloc, ahead, not(alloc, blocked)?)
+    let zone2 = seen_timed(alloc, line, k, Element::Z2);
+    let ahead = timer(alloc, zone2, coordination, Time::Zero);
+    let blocked = any_received(alloc, line, k);
+    and(alloc, ahead, not(alloc, blocked))
 }

@@ -1,40 +1,67 @@
-//! One more gate on top of formulas.
+//! One more gate on top of formulas, where memory may have been wanting for any.
 
 ghost use Rattle.std.specs.Prelude.{◌≡◌, IfOk};
 ghost use Rattle.model_plain.specs.Formulas.{tree_of};
-ghost use Rattle.model_logic.specs.Tree.{Not, And, Or, Timer, Seal};
+ghost use Rattle.model_logic.specs.Tree.{Tree, Not, And, Or, Timer, Seal};
 
 use crate::formula::Formula;
 use base_memory::Memory;
 use model_logic::Time;
 use std::alloc::Global;
 
-pub fn not(alloc: Global, x: Formula) -> Result<Formula, Memory>
-    ensures { IfOk result (λ f. tree_of f ≡ Not (tree_of x)) }
+pub fn not(alloc: Global, x: Result<Formula, Memory>) -> Result<Formula, Memory>
+    ensures { (t : Tree) → IfOk x (λ f. tree_of f ≡ t) → IfOk result (λ f. tree_of f ≡ Not t) }
 {
-    Ok(Formula::Not(Box::new(alloc, x)?))
+    Ok(Formula::Not(boxed(alloc, x)?))
 }
 
-pub fn and(alloc: Global, x: Formula, y: Formula) -> Result<Formula, Memory>
-    ensures { IfOk result (λ f. tree_of f ≡ And (tree_of x) (tree_of y)) }
+pub fn and(
+    alloc: Global,
+    x: Result<Formula, Memory>,
+    y: Result<Formula, Memory>,
+) -> Result<Formula, Memory>
+    ensures { (t : Tree) → (u : Tree) → IfOk x (λ f. tree_of f ≡ t)
+        → IfOk y (λ f. tree_of f ≡ u) → IfOk result (λ f. tree_of f ≡ And t u) }
 {
-    Ok(Formula::And(Box::new(alloc, x)?, Box::new(alloc, y)?))
+    Ok(Formula::And(boxed(alloc, x)?, boxed(alloc, y)?))
 }
 
-pub fn or(alloc: Global, x: Formula, y: Formula) -> Result<Formula, Memory>
-    ensures { IfOk result (λ f. tree_of f ≡ Or (tree_of x) (tree_of y)) }
+pub fn or(
+    alloc: Global,
+    x: Result<Formula, Memory>,
+    y: Result<Formula, Memory>,
+) -> Result<Formula, Memory>
+    ensures { (t : Tree) → (u : Tree) → IfOk x (λ f. tree_of f ≡ t)
+        → IfOk y (λ f. tree_of f ≡ u) → IfOk result (λ f. tree_of f ≡ Or t u) }
 {
-    Ok(Formula::Or(Box::new(alloc, x)?, Box::new(alloc, y)?))
+    Ok(Formula::Or(boxed(alloc, x)?, boxed(alloc, y)?))
 }
 
-pub fn timer(alloc: Global, x: Formula, pickup: Time, dropout: Time) -> Result<Formula, Memory>
-    ensures { IfOk result (λ f. tree_of f ≡ Timer (tree_of x) pickup dropout) }
+pub fn timer(
+    alloc: Global,
+    x: Result<Formula, Memory>,
+    pickup: Time,
+    dropout: Time,
+) -> Result<Formula, Memory>
+    ensures { (t : Tree) → IfOk x (λ f. tree_of f ≡ t)
+        → IfOk result (λ f. tree_of f ≡ Timer t pickup dropout) }
 {
-    Ok(Formula::Timer(Box::new(alloc, x)?, pickup, dropout))
+    Ok(Formula::Timer(boxed(alloc, x)?, pickup, dropout))
 }
 
-pub fn seal(alloc: Global, set: Formula, hold: Formula) -> Result<Formula, Memory>
-    ensures { IfOk result (λ f. tree_of f ≡ Seal (tree_of set) (tree_of hold)) }
+pub fn seal(
+    alloc: Global,
+    set: Result<Formula, Memory>,
+    hold: Result<Formula, Memory>,
+) -> Result<Formula, Memory>
+    ensures { (t : Tree) → (u : Tree) → IfOk set (λ f. tree_of f ≡ t)
+        → IfOk hold (λ f. tree_of f ≡ u) → IfOk result (λ f. tree_of f ≡ Seal t u) }
 {
-    Ok(Formula::Seal(Box::new(alloc, set)?, Box::new(alloc, hold)?))
+    Ok(Formula::Seal(boxed(alloc, set)?, boxed(alloc, hold)?))
+}
+
+fn boxed(alloc: Global, x: Result<Formula, Memory>) -> Result<Box<Formula>, Memory>
+    ensures { (t : Tree) → IfOk x (λ f. tree_of f ≡ t) → IfOk result (λ b. tree_of b.value ≡ t) }
+{
+    Ok(Box::new(alloc, x?)?)
 }

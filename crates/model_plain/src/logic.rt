@@ -29,13 +29,12 @@ pub fn key_formula(alloc: Global, line: &Line, terminal: u32) -> Result<Formula,
 }
 
 /// The formula of what trips a terminal.
-#[tactic(auto, unfolding(model_logic::specs::Logic::trip_tree))]
 pub fn trip_formula(alloc: Global, line: &Line, terminal: u32) -> Result<Formula, Memory>
     requires { terminal < terminal_count line.now }
     ensures { IfOk result (λ f. tree_of f ≡ trip_tree line.now terminal) }
 {
-    let set = set(alloc, line, terminal)?;
-    seal(alloc, set, seen_timed(alloc, line, terminal, Element::Cur)?)
+    let set = set(alloc, line, terminal);
+    seal(alloc, set, seen_timed(alloc, line, terminal, Element::Cur))
 }
 
 // What sets the trip.
@@ -44,15 +43,11 @@ fn set(alloc: Global, line: &Line, terminal: u32) -> Result<Formula, Memory>
     requires { terminal < terminal_count line.now }
     ensures { IfOk result (λ f. tree_of f ≡ set_tree line.now terminal) }
 {
-    let pilot = pilot(alloc, line, terminal)?;
+    let pilot = pilot(alloc, line, terminal);
     if line.zone1_trip {
-        or(
-            alloc,
-            pilot,
-            seen_timed(alloc, line, terminal, Element::Z1)?,
-        )
+        or(alloc, pilot, seen_timed(alloc, line, terminal, Element::Z1))
     } else {
-        Ok(pilot)
+        pilot
     }
 }
 

@@ -34,8 +34,7 @@ where
     let mut all = None;
     for j in 0..line.terminals.len() as u32 {
         if j != k {
-            let next = part(j)?;
-            all = Some(joined(alloc, join, all, next)?);
+            all = Some(joined(alloc, join, all, part(j))?);
         }
     }
     Ok(all.unwrap_or(Formula::Const(false)))
@@ -46,16 +45,16 @@ fn joined(
     alloc: Global,
     join: Join,
     before: Option<Formula>,
-    next: Formula,
+    next: Result<Formula, Memory>,
 ) -> Result<Formula, Memory>
-    ensures { IfOk result (λ f. tree_of f
-        ≡ joined_trees (join_of join) (option_map tree_of before) (tree_of next)) }
+    ensures { (t : Tree) → IfOk next (λ f. tree_of f ≡ t) → IfOk result (λ f. tree_of f
+        ≡ joined_trees (join_of join) (option_map tree_of before) t) }
 {
     match before {
-        None => Ok(next),
+        None => next,
         Some(before) => match join {
-            Join::And => and(alloc, before, next),
-            Join::Or => or(alloc, before, next),
+            Join::And => and(alloc, Ok(before), next),
+            Join::Or => or(alloc, Ok(before), next),
         },
     }
 }

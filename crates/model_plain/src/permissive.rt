@@ -51,22 +51,21 @@ fn reversal_guard(alloc: Global, line: &Line, k: u32) -> Result<Formula, Memory>
     if is_terminal_guarded(line, k) {
         let pickup = terminal_setting(line, k, Setting::ReversalPickup);
         let dropout = terminal_setting(line, k, Setting::ReversalDropout);
-        let reverse = seen_timed(alloc, line, k, Element::Rv)?;
+        let reverse = seen_timed(alloc, line, k, Element::Rv);
         timer(alloc, reverse, pickup, dropout)
     } else {
         Ok(Formula::Const(false))
     }
 }
 
-#[tactic(auto, unfolding(model_logic::specs::Permissive::quiet))]
 fn quiet(alloc: Global, line: &Line, k: u32) -> Result<Formula, Memory>
     requires { k < terminal_count line.now }
     ensures { IfOk result (λ f. tree_of f ≡ quiet_tree line.now k) }
 {
-    let zone2 = seen_timed(alloc, line, k, Element::Z2)?;
-    let fault = or(alloc, zone2, seen_timed(alloc, line, k, Element::Rv)?)?;
+    let zone2 = seen_timed(alloc, line, k, Element::Z2);
+    let fault = or(alloc, zone2, seen_timed(alloc, line, k, Element::Rv));
     let block = terminal_setting(line, k, Setting::EchoBlock);
-    not(alloc, timer(alloc, fault, Time::Zero, block)?)
+    not(alloc, timer(alloc, fault, Time::Zero, block))
 }
 
 #[tactic(auto, unfolding(model_logic::specs::Permissive::echo_wanted))]
@@ -76,7 +75,7 @@ fn echo_wanted(alloc: Global, line: &Line, k: u32) -> Result<Formula, Memory>
         ≡ echo_wanted_tree line.now k (permission_tree line.now k)) }
 {
     if is_terminal_weak(line, k) {
-        let permitted = and(alloc, permission(alloc, line, k)?, quiet(alloc, line, k)?)?;
+        let permitted = and(alloc, permission(alloc, line, k), quiet(alloc, line, k));
         let pickup = terminal_setting(line, k, Setting::EchoPickup);
         timer(alloc, permitted, pickup, Time::Zero)
     } else {
@@ -91,9 +90,9 @@ fn echo(alloc: Global, line: &Line, k: u32) -> Result<Formula, Memory>
 {
     if is_terminal_weak(line, k) {
         let pulse = terminal_setting(line, k, Setting::EchoPulse);
-        let over = timer(alloc, echo_wanted(alloc, line, k)?, pulse, Time::Zero)?;
-        let within = not(alloc, over)?;
-        and(alloc, echo_wanted(alloc, line, k)?, within)
+        let over = timer(alloc, echo_wanted(alloc, line, k), pulse, Time::Zero);
+        let wanted = echo_wanted(alloc, line, k);
+        and(alloc, wanted, not(alloc, over))
     } else {
         Ok(Formula::Const(false))
     }
@@ -106,36 +105,31 @@ fn weak_infeed_trip(alloc: Global, line: &Line, k: u32) -> Result<Formula, Memor
         ≡ weak_infeed_trip_tree line.now k (permission_tree line.now k)) }
 {
     if is_terminal_weak(line, k) {
-        and(
-            alloc,
-            echo_wanted(alloc, line, k)?,
-            seen_timed(alloc, line, k, Element::Uv)?,
-        )
+        let wanted = echo_wanted(alloc, line, k);
+        and(alloc, wanted, seen_timed(alloc, line, k, Element::Uv))
     } else {
         Ok(Formula::Const(false))
     }
 }
 
-#[tactic(auto, unfolding(model_logic::specs::Permissive::permissive_key))]
 pub fn permissive_key(alloc: Global, line: &Line, k: u32) -> Result<Formula, Memory>
     requires { k < terminal_count line.now }
     ensures { IfOk result (λ f. tree_of f
         ≡ permissive_key_tree line.now k (permission_tree line.now k)) }
 {
-    let steady = not(alloc, reversal_guard(alloc, line, k)?)?;
-    let ahead = and(alloc, seen_timed(alloc, line, k, Element::Z2)?, steady)?;
-    or(alloc, ahead, echo(alloc, line, k)?)
+    let zone2 = seen_timed(alloc, line, k, Element::Z2);
+    let ahead = and(alloc, zone2, not(alloc, reversal_guard(alloc, line, k)));
+    or(alloc, ahead, echo(alloc, line, k))
 }
 
-#[tactic(auto, unfolding(model_logic::specs::Permissive::permissive_pilot))]
 pub fn permissive_pilot(alloc: Global, line: &Line, k: u32) -> Result<Formula, Memory>
     requires { k < terminal_count line.now }
     ensures { IfOk result (λ f. tree_of f
         ≡ permissive_pilot_tree line.now k (permission_tree line.now k)) }
 {
-    let zone2 = seen_timed(alloc, line, k, Element::Z2)?;
-    let permitted = and(alloc, zone2, permission(alloc, line, k)?)?;
-    let steady = not(alloc, reversal_guard(alloc, line, k)?)?;
-    let ahead = and(alloc, permitted, steady)?;
-    or(alloc, ahead, weak_infeed_trip(alloc, line, k)?)
+    let zone2 = seen_timed(alloc, line, k, Element::Z2);
+    let permitted = and(alloc, zone2, permission(alloc, line, k));
+    let steady = not(alloc, reversal_guard(alloc, line, k));
+    let ahead = and(alloc, permitted, steady);
+    or(alloc, ahead, weak_infeed_trip(alloc, line, k))
 }

@@ -24,16 +24,12 @@ pub fn channel_to(line: &Line, k: u32, j: u32) -> u32
     line.channel_of(j, k).unwrap_or(0)
 }
 
-#[tactic(auto, unfolding(model_logic::specs::Received::received))]
 pub fn received(alloc: Global, line: &Line, k: u32, j: u32) -> Result<Formula, Memory>
     ensures { IfOk result (λ f. tree_of f ≡ received_tree line.now k j) }
 {
     let channel = channel_to(line, k, j);
-    and(
-        alloc,
-        Formula::Raw(channel),
-        not(alloc, Formula::Loss(channel))?,
-    )
+    let safe = not(alloc, Ok(Formula::Loss(channel)));
+    and(alloc, Ok(Formula::Raw(channel)), safe)
 }
 
 #[tactic(auto, unfolding(model_logic::specs::Received::any_received))]

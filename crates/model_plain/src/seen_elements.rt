@@ -37,7 +37,7 @@ pub fn seen_timed(alloc: Global, line: &Line, k: u32, element: Element) -> Resul
             let owner = Owner::Terminal(k);
             let pickup = time_of(line, owner, pickup);
             let dropout = time_of(line, owner, dropout);
-            timer(alloc, seen, pickup, dropout)
+            timer(alloc, Ok(seen), pickup, dropout)
         }
         None => Ok(seen),
     }

@@ -16,21 +16,19 @@ use model_line::{Element, Line, Setting};
 use model_logic::Time;
 use std::alloc::Global;
 
-#[tactic(auto, unfolding(model_logic::specs::Logic::underreach_pilot))]
 pub fn underreach_pilot(alloc: Global, line: &Line, k: u32) -> Result<Formula, Memory>
     requires { k < terminal_count line.now }
     ensures { IfOk result (λ f. tree_of f ≡ underreach_pilot_tree line.now k) }
 {
-    let ahead = seen_timed(alloc, line, k, Element::Z2)?;
-    and(alloc, ahead, any_received(alloc, line, k)?)
+    let ahead = seen_timed(alloc, line, k, Element::Z2);
+    and(alloc, ahead, any_received(alloc, line, k))
 }
 
-#[tactic(auto, unfolding(model_logic::specs::Logic::transfer_pilot))]
 pub fn transfer_pilot(alloc: Global, line: &Line, k: u32) -> Result<Formula, Memory>
     requires { k < terminal_count line.now }
     ensures { IfOk result (λ f. tree_of f ≡ transfer_pilot_tree line.now k) }
 {
-    let sent = any_received(alloc, line, k)?;
+    let sent = any_received(alloc, line, k);
     let security = terminal_setting(line, k, Setting::TransferSecurity);
     timer(alloc, sent, security, Time::Zero)
 }

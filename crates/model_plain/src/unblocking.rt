@@ -31,16 +31,15 @@ fn channel_setting(line: &Line, k: u32, j: u32, setting: Setting) -> Time
     time_of(line, Owner::Channel(channel_to(line, k, j)), setting)
 }
 
-#[tactic(auto, unfolding(model_logic::specs::Unblocking::guard_seen))]
 fn guard_seen(alloc: Global, line: &Line, k: u32, j: u32) -> Result<Formula, Memory>
     ensures { IfOk result (λ f. tree_of f ≡ guard_seen_tree line.now k j) }
 {
     let channel = channel_to(line, k, j);
-    let silent = not(alloc, Formula::Raw(channel))?;
-    and(alloc, silent, not(alloc, Formula::Loss(channel))?)
+    let silent = not(alloc, Ok(Formula::Raw(channel)));
+    let safe = not(alloc, Ok(Formula::Loss(channel)));
+    and(alloc, silent, safe)
 }
 
-#[tactic(auto, unfolding(model_logic::specs::Unblocking::late))]
 fn late(alloc: Global, line: &Line, k: u32, j: u32) -> Result<Formula, Memory>
     requires inside { k < terminal_count line.now }
     requires other { j < terminal_count line.now }
@@ -49,10 +48,9 @@ fn late(alloc: Global, line: &Line, k: u32, j: u32) -> Result<Formula, Memory>
 {
     let lost = Formula::Loss(channel_to(line, k, j));
     let window = channel_setting(line, k, j, Setting::UnblockWindow);
-    timer(alloc, lost, window, Time::Zero)
+    timer(alloc, Ok(lost), window, Time::Zero)
 }
 
-#[tactic(auto, unfolding(model_logic::specs::Unblocking::unblocked))]
 fn unblocked(alloc: Global, line: &Line, k: u32, j: u32) -> Result<Formula, Memory>
     requires inside { k < terminal_count line.now }
     requires other { j < terminal_count line.now }
@@ -61,36 +59,34 @@ fn unblocked(alloc: Global, line: &Line, k: u32, j: u32) -> Result<Formula, Memo
 {
     let lost = Formula::Loss(channel_to(line, k, j));
     let pickup = channel_setting(line, k, j, Setting::UnblockPickup);
-    let opened = timer(alloc, lost, pickup, Time::Zero)?;
-    let closed = late(alloc, line, k, j)?;
-    and(alloc, opened, not(alloc, closed)?)
+    let opened = timer(alloc, Ok(lost), pickup, Time::Zero);
+    let closed = late(alloc, line, k, j);
+    and(alloc, opened, not(alloc, closed))
 }
 
-#[tactic(auto, unfolding(model_logic::specs::Unblocking::locked_out))]
 fn locked_out(alloc: Global, line: &Line, k: u32, j: u32) -> Result<Formula, Memory>
     requires inside { k < terminal_count line.now }
     requires other { j < terminal_count line.now }
     requires apart { j ≢ k }
     ensures { IfOk result (λ f. tree_of f ≡ locked_out_tree line.now k j) }
 {
-    let guard = guard_seen(alloc, line, k, j)?;
+    let guard = guard_seen(alloc, line, k, j);
     let restore = channel_setting(line, k, j, Setting::UnblockRestore);
-    let restored = timer(alloc, guard, restore, Time::Zero)?;
-    let closed = late(alloc, line, k, j)?;
-    seal(alloc, closed, not(alloc, restored)?)
+    let restored = timer(alloc, guard, restore, Time::Zero);
+    let closed = late(alloc, line, k, j);
+    seal(alloc, closed, not(alloc, restored))
 }
 
-#[tactic(auto, unfolding(model_logic::specs::Unblocking::open_from))]
 fn open_from(alloc: Global, line: &Line, k: u32, j: u32) -> Result<Formula, Memory>
     requires inside { k < terminal_count line.now }
     requires other { j < terminal_count line.now }
     requires apart { j ≢ k }
     ensures { IfOk result (λ f. tree_of f ≡ open_from_tree line.now k j) }
 {
-    let sent = received(alloc, line, k, j)?;
-    let open = or(alloc, sent, unblocked(alloc, line, k, j)?)?;
-    let locked = locked_out(alloc, line, k, j)?;
-    and(alloc, open, not(alloc, locked)?)
+    let sent = received(alloc, line, k, j);
+    let open = or(alloc, sent, unblocked(alloc, line, k, j));
+    let locked = locked_out(alloc, line, k, j);
+    and(alloc, open, not(alloc, locked))
 }
 
 #[tactic(auto, unfolding(model_logic::specs::Unblocking::all_open))]

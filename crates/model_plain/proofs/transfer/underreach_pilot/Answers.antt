@@ -1,0 +1,7 @@
+use Rattle.model_logic.specs.Logic.{underreach_pilot}
+use Rattle.model_plain.proofs.transfer.underreach_pilot.Goals as goal
+
+pub returns : goal.returns
+unfolding underreach_pilot
+returns c =
+    c.and.ensures _ _ c.seen_timed-ahead.ensures c.any_received.ensures

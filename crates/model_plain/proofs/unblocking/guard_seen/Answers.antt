@@ -1,0 +1,9 @@
+use Rattle.std.proofs.Common.{refl}
+use Rattle.model_logic.specs.Unblocking.{guard_seen}
+use Rattle.model_plain.proofs.unblocking.guard_seen.Goals as goal
+
+pub returns : goal.returns
+unfolding guard_seen
+returns c =
+    rw c.channel_to-channel.ensures at (c.and.ensures _ _ (c.not-silent.ensures _ refl)
+    (c.not-safe.ensures _ refl))

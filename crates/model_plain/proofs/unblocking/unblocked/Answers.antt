@@ -1,0 +1,9 @@
+use Rattle.std.proofs.Common.{refl}
+use Rattle.model_logic.specs.Unblocking.{unblocked}
+use Rattle.model_plain.proofs.unblocking.unblocked.Goals as goal
+
+pub returns : goal.returns
+unfolding unblocked
+returns c =
+    rw c.channel_setting-pickup.ensures at (rw c.channel_to.ensures at (c.and.ensures _ _
+    (c.timer-opened.ensures _ refl) (c.not.ensures _ c.late-closed.ensures)))
