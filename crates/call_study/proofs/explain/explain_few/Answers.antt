@@ -12,8 +12,8 @@ returns-in-Some c =
     (rw c.as_slice.ensures.value at (sym c.at_most.ensures)) ∙ c.in-Some.is in
     rw is (refl, refl)
 
-pub returns : goal.returns
-returns c =
+pub returns-in-None : goal.returns-in-None
+returns-in-None c =
     let how = c.args.how in
     let loaded = c.args.loaded.now in
     let script = option_copied c.args.script in

@@ -21,8 +21,8 @@ returns-in_err-said-in-None c =
     rw (p.1, p.2) (map_halts ask.form ask.x.now (option_copied ask.y) loaded
     c.in_err-said-in-None.field-0.0 _ few refl c.in_err-said-in-None.ensures.denied)
 
-pub returns : goal.returns
-returns c =
+pub returns-in_ok-said-in-None : goal.returns-in_ok-said-in-None
+returns-in_ok-said-in-None c =
     let few : at_most 4096 (length c.args.loaded.now.study.scripts.items) ≡ None =
     (rw c.as_slice.ensures.value at (sym c.at_most.ensures)) ∙ c.in-None.is in
     let said = c.in_ok-said-in-None.ensures.said in

@@ -38,12 +38,12 @@ returns c =
     (slice_get_read scripts _ c.in-Some.i c.index.result.now refl script.exists c.index.ensures)
     (one_placed (map values_of timings)
     (chosen_timing (map values_of timings) (option_copied c.args.timing)) _ _ _
-    c.in-Some-choose_timing.j (values_of c.index-2.result.now)
+    c.in-Some-choose_timing.j (values_of c.index-timings-j.result)
     (timing.is
     ∙ sym (chosen-map values_of (λ timing. timing.name) timings (option_copied c.args.timing)))
     (rw (
       slice_get-map values_of timings c.in-Some-choose_timing.j,
-      slice_get_read timings _ c.in-Some-choose_timing.j c.index-2.result.now refl timing.exists
-          c.index-2.ensures,
+      slice_get_read timings _ c.in-Some-choose_timing.j c.index-timings-j.result refl timing.exists
+          c.index-timings-j.is,
     ) refl)
     (rw c.good.ensures c.in_ok-text.ensures))

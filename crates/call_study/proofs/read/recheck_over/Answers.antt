@@ -8,8 +8,8 @@ returns-in-Some c =
     (rw c.as_slice.ensures.value at (sym c.at_most.ensures)) ∙ c.in-Some.is in
     rw is (refl, refl)
 
-pub returns : goal.returns
-returns c =
+pub returns-in_ok-said-in-None : goal.returns-in_ok-said-in-None
+returns-in_ok-said-in-None c =
     let is : at_most 64 (length c.args.loaded.now.study.scripts.items) ≡ None =
     (rw c.as_slice.ensures.value at (sym c.at_most.ensures)) ∙ c.in-None.is in
     rw is c.in_ok-said-in-None.ensures
