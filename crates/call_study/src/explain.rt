@@ -40,7 +40,7 @@ pub fn explain(
     explain_few(alloc, how, &loaded, record, script)
 }
 
-// The same over what was read, where there are few scripts.
+// The same over what was read; denied where there are too many scripts.
 fn explain_few(
     alloc: Global,
     how: Explaining,

@@ -1,11 +1,11 @@
 //! Times as a study writes them, and the words of an axis of a map.
 //!
 //! - A number with a unit, an interval, a tolerance or a sweep, as exact fractions of microseconds,
-//!   and rounded to ticks. `specs/Times.antt` says what a text means, `specs/Rounding.antt` and
-//!   `specs/Sweeps.antt` what comes of it.
+//!   and rounded to ticks. In `specs/times/`, `Times` says what a text means, `Rounding` and
+//!   `Sweeps` what comes of it.
 //! - An axis, `P=FROM..TO:STEP`: parameters of a line that move together, and the numbers of ticks
-//!   from which their intervals begin. `specs/Names.antt` says for which parameters the names
-//!   stand, `specs/Steps.antt` what the numbers come to.
+//!   from which their intervals begin. In `specs/times/`, `Names` says for which parameters the
+//!   names stand, `Steps` what the numbers come to.
 
 mod axis_fault;
 mod axis_number;

@@ -4,6 +4,7 @@
 //! - The line: `line`, `name`, `terminals`, `channels`, `bounds`, `params`, made by `make`, `copy`.
 //! - Its settings, their numbers, names and intervals: `settings`, `setting_places`, `lookup`,
 //!   `param_names`, `interval`.
+//! - `names`: the name of a terminal, a parameter or a script by its number; the word of an element.
 //! - Scripts: `script`, and `script_fits` for a line.
 //! - `laws`: how parameters are numbered, and what does not rest on the declared intervals.
 #![tactic(auto)]

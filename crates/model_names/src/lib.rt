@@ -1,6 +1,5 @@
-//! Names of a line and its scripts: by number, and the number of each name.
+//! The numbers that names stand for in a line and its scripts.
 //!
-//! - `names`: the name of a terminal, a parameter or a script by its number; the word of an element.
 //! - `numbers_by_name`: a terminal, channel, parameter or script by its name, the first of the name.
 //! - `name_laws`: each parameter has a name of its own.
 #![tactic(auto)]

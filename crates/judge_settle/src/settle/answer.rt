@@ -17,7 +17,7 @@ pub enum Answer {
     Open(Vec<CaseNode>),
 }
 
-/// By what an obligation was settled. It is told for the reader alone: no contract speaks of it.
+/// By what an obligation was settled. It is told for the reader alone: contracts say no more of it than its word.
 #[derive(Clone, Copy)]
 pub enum By {
     /// The interval rules over the declared box.
