@@ -2,17 +2,14 @@
 use Rattle.std.specs.Prelude.{◌≤◌, ◌<◌, ◌^◌, length}
 use Rattle.std.specs.List.{All}
 use Rattle.model_line.specs.Fits.{Fits}
-use Rattle.net_gates.specs.NetOf.{IsNetOf}
 use Rattle.call_answer.specs.declared.study.Study.{Study}
 
--- the net is that of the line, and the scripts fit it, at most 64 of them
+-- the scripts fit the line, at most 64 of them
 pub record IsStudy (study : Study) : Type 0 where
-  pub of_line : IsNetOf study.line study.net
   pub fit : All (Fits study.line) study.scripts.items
   pub few : length study.scripts.items ≤ 64
 
--- the net is that of the line, and the scripts fit it, as many as there are
+-- the scripts fit the line, as many as there are
 pub record IsAnyStudy (study : Study) : Type 0 where
-  pub of_line : IsNetOf study.line study.net
   pub fit : All (Fits study.line) study.scripts.items
   pub counted : length study.scripts.items < 2 ^ 32

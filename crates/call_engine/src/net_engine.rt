@@ -4,7 +4,6 @@ ghost use Rattle.std.specs.Prelude.{◌≡◌, ◌≤◌, IfOk, MatchResult, len
 ghost use Rattle.std.specs.List.{All};
 ghost use Rattle.model_line.specs.Fits.{Fits};
 ghost use Rattle.model_logic.specs.Histories.{History, IsLineHistory};
-ghost use Rattle.net_gates.specs.NetOf.{IsNetOf};
 ghost use Rattle.run_changes.specs.rows.PlayRows.{run_rows};
 ghost use Rattle.model_timing.specs.{Choice.timing_choice, Inside.IsTimingInside};
 ghost use Rattle.cert_claims.specs.check.Check.{IsAccepted, IsCheckFault, IsSound};
@@ -15,9 +14,9 @@ ghost use Rattle.call_engine.specs.NetCalls.{after_certify, after_check, after_p
 use crate::engine::Engine;
 use cert_claims::check::{CheckFault, Counts, check};
 use judge_verdict::verdict::{ScriptVerdict, certify};
-use model_line::{Line, Memory, Script};
+use model_line::{Memory, Script};
 use model_timing::NamedTiming;
-use net_gates::Net;
+use net_gates::Compiled;
 use run_changes::rows::play_rows;
 use std::alloc::Global;
 use std::marker::Model;
@@ -59,64 +58,60 @@ impl Engine for NetEngine {
     fn play(
         &mut self,
         alloc: Global,
-        line: &Line,
-        net: &Net,
+        compiled: &Compiled<'_>,
         script: &Script,
         timing: &NamedTiming,
     ) -> Result<Vec<u8>, Memory>
-        requires of_line { IsNetOf line.now net.now }
-        requires inside { IsTimingInside line.now timing.now.timing }
+        requires inside { IsTimingInside compiled.now.line.now timing.now.timing }
         ensures rows { IfOk result (λ text. (h : History) →
-            IsLineHistory line.now script.now (timing_choice line.now timing.now.timing) h →
-            text.items ≡ run_rows timing.now.name script.now.name line.now h) }
-        ensures asked { AskedPlay line.now (calls_of self.old) (calls_of self.new) }
+            IsLineHistory compiled.now.line.now script.now
+            (timing_choice compiled.now.line.now timing.now.timing) h →
+            text.items ≡ run_rows timing.now.name script.now.name compiled.now.line.now h) }
+        ensures asked { AskedPlay compiled.now.line.now (calls_of self.old) (calls_of self.new) }
         ensures kept { NoneFell (calls_of self.old) (calls_of self.new) }
 
         // Its own number is raised by one, and no other.
         ensures counted { self.new ≡ after_play self.old }
     {
         self.plays = self.plays.saturating_add(1);
-        play_rows(alloc, line, net, script, timing)
+        play_rows(alloc, compiled, script, timing)
     }
 
     fn certify(
         &mut self,
         alloc: Global,
-        line: &Line,
-        net: &Net,
+        compiled: &Compiled<'_>,
         script: &Script,
     ) -> Result<ScriptVerdict, Memory>
-        requires of_line { IsNetOf line.now net.now }
-        requires fits { Fits line.now script.now }
-        ensures certified { IfOk result (λ said. IsScriptVerdict line.now script.now said) }
-        ensures asked { AskedCertify line.now (calls_of self.old) (calls_of self.new) }
+        requires fits { Fits compiled.now.line.now script.now }
+        ensures certified { IfOk result (λ said. IsScriptVerdict compiled.now.line.now script.now
+            said) }
+        ensures asked { AskedCertify compiled.now.line.now (calls_of self.old) (calls_of self.new) }
         ensures kept { NoneFell (calls_of self.old) (calls_of self.new) }
         ensures counted { self.new ≡ after_certify self.old }
     {
         self.certifies = self.certifies.saturating_add(1);
-        certify(alloc, line, net, script)
+        certify(alloc, compiled, script)
     }
 
     fn check(
         &mut self,
         alloc: Global,
-        line: &Line,
-        net: &Net,
+        compiled: &Compiled<'_>,
         scripts: &[Script],
         cert: &[u8],
     ) -> Result<Counts, CheckFault>
-        requires of_line { IsNetOf line.now net.now }
-        requires fits { All (Fits line.now) scripts.now }
+        requires fits { All (Fits compiled.now.line.now) scripts.now }
         requires few { length scripts.now ≤ 64 }
         ensures exact { MatchResult result
-            (λ counts. IsAccepted line.now scripts.now cert.now counts)
-            (λ fault. IsCheckFault line.now scripts.now cert.now fault) }
-        ensures yes { IfOk result (λ _. IsSound line.now scripts.now cert.now) }
-        ensures asked { AskedCheck line.now (calls_of self.old) (calls_of self.new) }
+            (λ counts. IsAccepted compiled.now.line.now scripts.now cert.now counts)
+            (λ fault. IsCheckFault compiled.now.line.now scripts.now cert.now fault) }
+        ensures yes { IfOk result (λ _. IsSound compiled.now.line.now scripts.now cert.now) }
+        ensures asked { AskedCheck compiled.now.line.now (calls_of self.old) (calls_of self.new) }
         ensures kept { NoneFell (calls_of self.old) (calls_of self.new) }
         ensures counted { self.new ≡ after_check self.old }
     {
         self.checks = self.checks.saturating_add(1);
-        check(alloc, line, net, scripts, cert)
+        check(alloc, compiled, scripts, cert)
     }
 }

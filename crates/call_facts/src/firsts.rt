@@ -13,6 +13,7 @@ ghost use Rattle.call_facts.specs.FirstTicks.{AreFirstOf, AreFirsts};
 use call_answer::Study;
 use judge_verdict::verdict::{PairWaves, analyse};
 use model_line::Memory;
+use net_gates::Compiled;
 use std::alloc::Global;
 
 /// The first tick at which the trip of a script at a terminal, both by their numbers, may come, and
@@ -52,7 +53,11 @@ fn push_script(
     ensures { OnOk result (OneEach (AreFirstOf study.now.line study.now.scripts.items)
         (i * terminal_count study.now.line + terminal_count study.now.line) firsts.new.items) }
 {
-    let waves = analyse(alloc, &study.net, &study.line, &study.scripts[i])?;
+    let compiled = Compiled {
+        line: &study.line,
+        net: &study.net,
+    };
+    let waves = analyse(alloc, &compiled, &study.scripts[i])?;
     for k in 0..study.line.terminals.len() {
         firsts.push(firsts_of(study, &waves, i, k as u32))?;
     }

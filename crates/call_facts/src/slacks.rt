@@ -14,6 +14,7 @@ use call_answer::Study;
 use draw_page::{Slack, Time};
 use judge_margins::margins::{End, held_today, margins};
 use model_line::{Memory, name_of_parameter};
+use net_gates::Compiled;
 use std::alloc::Global;
 
 /// Each time, and how far its ends can be moved with what is held today held still.
@@ -22,14 +23,17 @@ pub fn times(alloc: Global, study: &Study) -> Result<Vec<Time>, Memory>
     ensures { IfOk result (λ times.
         AreTimes study.now.line study.now.scripts.items times.items) }
 {
-    let (line, net) = (&study.line, &study.net);
+    let compiled = Compiled {
+        line: &study.line,
+        net: &study.net,
+    };
     let scripts = study.scripts.as_slice();
-    let today = held_today(alloc, line, net, scripts)?;
+    let today = held_today(alloc, &compiled, scripts)?;
     let held = today.held.as_slice();
-    let ends = margins(alloc, line, net, scripts, held)?;
+    let ends = margins(alloc, &compiled, scripts, held)?;
     let all = ends.as_slice();
     let mut times = Vec::new(alloc);
-    for i in 0..line.param_count() {
+    for i in 0..study.line.param_count() {
         let time = time(alloc, study, all, i)?;
         times.push(time)?;
     }

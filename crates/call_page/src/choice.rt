@@ -16,6 +16,7 @@ use draw_page::FailingChoice;
 use judge_settle::corner::{Obligation, cut};
 use model_line::{Memory, name_of_terminal};
 use model_timing::{NamedTiming, Timing};
+use net_gates::Compiled;
 use std::alloc::Global;
 
 /// The choice of a timing that fails the obligation of a row, cut to what matters.
@@ -35,11 +36,14 @@ pub fn choice(
     ensures { IfOk result
         (IsChoiceOf study.now.line study.now.scripts.items parts.now row.now) }
 {
+    let compiled = Compiled {
+        line: &study.line,
+        net: &study.net,
+    };
     let line = &study.line;
     let of_script = script_at(study, row.script);
     let of = Obligation {
-        line,
-        net: &study.net,
+        compiled,
         script: of_script,
         terminal: row.terminal,
     };
@@ -50,7 +54,7 @@ pub fn choice(
     let steps = told_steps(alloc, line, moves)?;
     let name = name_of(line, row.terminal);
     let named = NamedTiming { name, timing: cut };
-    let play = play(alloc, line, &study.net, of_script, &named)?;
+    let play = play(alloc, &compiled, of_script, &named)?;
     let fault = part_of_script(parts, row.script as usize);
     let script = Vec::from_slice(alloc, of_script.name.bytes())?;
     let terminal = Vec::from_slice(alloc, name_of_terminal(line, row.terminal))?;

@@ -14,6 +14,7 @@ use call_facts::bands;
 use draw_page::Fault;
 use itoa::Buffer;
 use model_line::Memory;
+use net_gates::Compiled;
 use std::alloc::Global;
 
 /// The faults of these parts, in order.
@@ -47,7 +48,11 @@ fn fault(alloc: Global, known: &Known<'_>, part: Part) -> Result<Fault, Memory>
     let cases = cases(alloc, known, part)?;
     let verdicts = verdicts(alloc, known, part)?;
     let worst = &scripts[part.start + shown(known, part)];
-    let bands = bands(alloc, &study.line, &study.net, worst)?;
+    let compiled = Compiled {
+        line: &study.line,
+        net: &study.net,
+    };
+    let bands = bands(alloc, &compiled, worst)?;
     let shown = Vec::from_slice(alloc, worst.name.bytes())?;
     let swept = swept_words(alloc, cases[0].swept.len())?;
     Ok(Fault {

@@ -2,7 +2,6 @@
 
 ghost use Rattle.std.specs.Prelude.{◌≡◌, ◌≤◌, IfSome, length};
 ghost use Rattle.std.specs.Option.{option_copied};
-ghost use Rattle.net_gates.specs.NetOf.{IsNetOf};
 ghost use Rattle.call_study.specs.{Answers.answer_by, Ends.Gives};
 ghost use Rattle.call_work.specs.load.Loaded.{IsLoaded, as_read, given_of, studied};
 ghost use Rattle.call_work.specs.load.Reading.{explain_in, explain_of, which_script};
@@ -13,6 +12,7 @@ use call_ask::ExplainForm;
 use call_work::explain::{Asked, explain_said};
 use call_work::load::{Bytes, Denial, Halt, Loaded, choose_script, load};
 use model_line::Script;
+use net_gates::Compiled;
 use std::alloc::Global;
 
 /// How a record is explained: within how many ticks, after how many analyses at most, and in which
@@ -60,14 +60,13 @@ fn explain_few(
 }
 
 // The same over what the source says.
-fn explain_over(
+fn explain_over<'a>(
     alloc: Global,
     how: Explaining,
-    study: &Study,
-    record: &[u8],
+    study: &'a Study,
+    record: &'a [u8],
     script: Option<&str>,
 ) -> Result<Said, Halt>
-    requires of_line { IsNetOf study.now.line study.now.net }
     requires few { length study.now.scripts.items ≤ 64 }
     requires short { length record.now ≤ 1048576 }
     ensures { Gives (answer_by (explain_in how.within how.form study.now.line
@@ -78,8 +77,10 @@ fn explain_over(
         return Err(Halt::Denied(Denial::UnknownScript));
     };
     let asked = Asked {
-        line: &study.line,
-        net: &study.net,
+        compiled: Compiled {
+            line: &study.line,
+            net: &study.net,
+        },
         scripts,
         record,
         script: which,

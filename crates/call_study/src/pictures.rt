@@ -1,7 +1,6 @@
 //! The texts of pictures, and of the data of a record.
 
 ghost use Rattle.std.specs.Prelude.{IfOk};
-ghost use Rattle.net_gates.specs.NetOf.{IsNetOf};
 ghost use Rattle.model_line.specs.Fits.{Fits};
 ghost use Rattle.call_study.specs.Pictures.{IsBandsText, IsDataText, IsDumpText, IsRunText};
 ghost use Rattle.base_markup.specs.svg.Content.{IsContent};
@@ -14,30 +13,29 @@ use draw_shapes::{Rows, svg};
 use file_records::recorded::data_text;
 use judge_verdict::verdict::analyse;
 use model_line::laws::deadlines_are_below_the_horizon;
-use model_line::{Line, Memory, Script};
+use model_line::{Memory, Script};
 use model_logic::laws::{each_choice_has_one_history, each_line_has_a_choice_inside};
 use model_timing::{NamedTiming, timings_inside_are_choices_inside};
-use net_gates::Net;
+use net_gates::Compiled;
 use std::alloc::Global;
 
 /// The timing diagram of every choice of delays: well-formed SVG.
 pub fn bands_text(
     alloc: Global,
-    line: &Line,
-    net: &Net,
+    compiled: &Compiled<'_>,
     script: &Script,
     which: Rows,
 ) -> Result<Vec<u8>, Memory>
-    requires of_line { IsNetOf line.now net.now }
-    requires fits { Fits line.now script.now }
+    requires fits { Fits compiled.now.line.now script.now }
     ensures well_formed { IfOk result (λ text. ∥ IsContent text.items ∥₁) }
-    ensures drawn { IfOk result (λ text. IsBandsText line.now script.now which text.items) }
+    ensures drawn { IfOk result (λ text. IsBandsText compiled.now.line.now script.now which
+        text.items) }
 {
     deadlines_are_below_the_horizon();
-    let judged = analyse(alloc, net, line, script)?;
-    let waves = every_choice_waves(alloc, line, net, script)?;
-    let diagram = history_diagram(alloc, line, net, script, &judged, &waves, which)?;
-    let drawn = draw(alloc, line, script, Subject::EveryChoice, &diagram)?;
+    let judged = analyse(alloc, compiled, script)?;
+    let waves = every_choice_waves(alloc, compiled, script)?;
+    let diagram = history_diagram(alloc, compiled, script, &judged, &waves, which)?;
+    let drawn = draw(alloc, compiled.line, script, Subject::EveryChoice, &diagram)?;
     let markup = svg(alloc, &drawn)?;
     Ok(markup.text)
 }
@@ -45,31 +43,34 @@ pub fn bands_text(
 /// The timing diagram of a play: well-formed SVG.
 pub fn run_text(
     alloc: Global,
-    line: &Line,
-    net: &Net,
+    compiled: &Compiled<'_>,
     script: &Script,
     timing: &NamedTiming,
     which: Rows,
 ) -> Result<Vec<u8>, Memory>
-    requires of_line { IsNetOf line.now net.now }
-    requires fits { Fits line.now script.now }
-    requires inside { IsTimingInside line.now timing.now.timing }
+    requires fits { Fits compiled.now.line.now script.now }
+    requires inside { IsTimingInside compiled.now.line.now timing.now.timing }
     ensures well_formed { IfOk result (λ text. ∥ IsContent text.items ∥₁) }
     ensures drawn { IfOk result (λ text.
-        IsRunText line.now script.now (values_of timing.now) which text.items) }
+        IsRunText compiled.now.line.now script.now (values_of timing.now) which text.items) }
 {
     deadlines_are_below_the_horizon();
-    let waves = play_waves(alloc, line, net, script, timing)?;
+    let waves = play_waves(alloc, compiled, script, timing)?;
     let diagram = play_diagram(
         alloc,
-        line,
-        net,
+        compiled,
         script,
         &waves,
         timing.timing.steps(),
         which,
     )?;
-    let drawn = draw(alloc, line, script, Subject::Play(timing.name), &diagram)?;
+    let drawn = draw(
+        alloc,
+        compiled.line,
+        script,
+        Subject::Play(timing.name),
+        &diagram,
+    )?;
     let markup = svg(alloc, &drawn)?;
     Ok(markup.text)
 }
@@ -77,39 +78,35 @@ pub fn run_text(
 /// The value change dump of every gate in a play.
 pub fn dump_text(
     alloc: Global,
-    line: &Line,
-    net: &Net,
+    compiled: &Compiled<'_>,
     script: &Script,
     timing: &NamedTiming,
 ) -> Result<Vec<u8>, Memory>
-    requires of_line { IsNetOf line.now net.now }
-    requires inside { IsTimingInside line.now timing.now.timing }
+    requires inside { IsTimingInside compiled.now.line.now timing.now.timing }
     ensures { IfOk result (λ text.
-        IsDumpText line.now script.now (values_of timing.now) text.items) }
+        IsDumpText compiled.now.line.now script.now (values_of timing.now) text.items) }
 {
     timings_inside_are_choices_inside();
     each_line_has_a_choice_inside();
     each_choice_has_one_history();
-    let text = vcd_text(alloc, line, net, script, timing)?;
+    let text = vcd_text(alloc, compiled, script, timing)?;
     Ok(text)
 }
 
 /// The data of a record of a play.
 pub fn record_data(
     alloc: Global,
-    line: &Line,
-    net: &Net,
+    compiled: &Compiled<'_>,
     script: &Script,
     timing: &NamedTiming,
 ) -> Result<Vec<u8>, Memory>
-    requires of_line { IsNetOf line.now net.now }
-    requires inside { IsTimingInside line.now timing.now.timing }
+    requires inside { IsTimingInside compiled.now.line.now timing.now.timing }
     ensures { IfOk result (λ text.
-        IsDataText line.now script.now (values_of timing.now) text.items) }
+        IsDataText compiled.now.line.now script.now (values_of timing.now) text.items) }
 {
     timings_inside_are_choices_inside();
     each_line_has_a_choice_inside();
     each_choice_has_one_history();
-    let text = data_text(alloc, line, net, script, timing)?;
+    let text = data_text(alloc, compiled, script, timing)?;
     Ok(text)
 }

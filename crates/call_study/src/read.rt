@@ -4,7 +4,6 @@ ghost use Rattle.std.specs.Prelude.{[], ◌≡◌, ◌≤◌, ◌<◌, ◌∷◌
 ghost use Rattle.std.specs.List.{All};
 ghost use Rattle.model_line.specs.declared.script.Script.{Script as ScriptOf};
 ghost use Rattle.std.specs.Option.{option_copied};
-ghost use Rattle.net_gates.specs.NetOf.{IsNetOf};
 ghost use Rattle.model_line.specs.Fits.{Fits};
 ghost use Rattle.model_timing.specs.{Inside.IsTimingInside, NamedValues.values_of};
 ghost use Rattle.call_study.specs.{Answers.answer_by, Answers.answer_of, Ends.Gives};
@@ -31,7 +30,7 @@ use file_study::sweeps::{part_count, part_text};
 use file_tables::timing::read_timings;
 use model_line::{Line, Memory, Script};
 use model_timing::NamedTiming;
-use net_gates::Net;
+use net_gates::Compiled;
 use std::alloc::Global;
 
 /// The diagram of every choice of delays.
@@ -57,7 +56,11 @@ fn bands_over(
     let Some(i) = choose_script(study.scripts.as_slice(), script) else {
         return Err(Halt::Denied(Denial::UnknownScript));
     };
-    let text = bands_text(alloc, &study.line, &study.net, &study.scripts[i], which)?;
+    let compiled = Compiled {
+        line: &study.line,
+        net: &study.net,
+    };
+    let text = bands_text(alloc, &compiled, &study.scripts[i], which)?;
     Ok(Said::good(text))
 }
 
@@ -142,15 +145,16 @@ fn table_said(alloc: Global, which: Table, loaded: &Loaded) -> Result<Said, Memo
 
 // The cases of all faults.
 fn cases_of(loaded: &Loaded) -> Cases<'_>
-    ensures line { result.line.now ≡ loaded.now.study.line }
-    ensures net { result.net.now ≡ loaded.now.study.net }
+    ensures line { result.compiled.line.now ≡ loaded.now.study.line }
     ensures scripts { result.scripts.now ≡ loaded.now.study.scripts.items }
     ensures groups { result.groups.now ≡ loaded.now.groups.items }
 {
     let study = &loaded.study;
     Cases {
-        line: &study.line,
-        net: &study.net,
+        compiled: Compiled {
+            line: &study.line,
+            net: &study.net,
+        },
         scripts: study.scripts.as_slice(),
         groups: loaded.groups.as_slice(),
     }
@@ -179,7 +183,6 @@ pub fn timings(
 fn alone(alloc: Global, study: Study, i: usize) -> Result<Study, Memory>
     requires inside { i < length study.scripts.items }
     ensures line { IfOk result (λ one. one.line ≡ study.line) }
-    ensures net { IfOk result (λ one. one.net ≡ study.net) }
     ensures script { IfOk result (λ one. (script : ScriptOf) →
         slice_get study.scripts.items i ≡ Some script → one.scripts.items ≡ script ∷ []) }
 {
@@ -269,7 +272,6 @@ fn played(
     script: Option<&str>,
     timing: Option<&str>,
 ) -> Result<Said, Halt>
-    requires of_line { IsNetOf study.now.line study.now.net }
     requires fit { All (Fits study.now.line) study.now.scripts.items }
     requires inside { All (λ t. IsTimingInside study.now.line t.timing) timings.now }
     ensures { Gives (answer_by (played_of form.entry study.now.line study.now.scripts.items
@@ -282,36 +284,32 @@ fn played(
     let Some(j) = choose_timing(timings, timing) else {
         return Err(Halt::Denied(Denial::UnknownTiming));
     };
-    let text = play_text(
-        alloc,
-        form,
-        &study.line,
-        &study.net,
-        &study.scripts[i],
-        &timings[j],
-    )?;
+    let compiled = Compiled {
+        line: &study.line,
+        net: &study.net,
+    };
+    let text = play_text(alloc, form, &compiled, &study.scripts[i], &timings[j])?;
     Ok(Said::good(text))
 }
 
 fn play_text(
     alloc: Global,
     form: Form<'_>,
-    line: &Line,
-    net: &Net,
+    compiled: &Compiled<'_>,
     script: &Script,
     timing: &NamedTiming,
 ) -> Result<Vec<u8>, Memory>
-    requires of_line { IsNetOf line.now net.now }
-    requires fits { Fits line.now script.now }
-    requires inside { IsTimingInside line.now timing.now.timing }
+    requires fits { Fits compiled.now.line.now script.now }
+    requires inside { IsTimingInside compiled.now.line.now timing.now.timing }
     ensures { IfOk result (λ text.
-        answer_of (a_play form.entry line.now script.now (values_of timing.now)) Good text.items) }
+        answer_of (a_play form.entry compiled.now.line.now script.now (values_of timing.now)) Good
+        text.items) }
 {
     match form {
-        Form::Diagram { rows } => run_text(alloc, line, net, script, timing, rows),
-        Form::Dump => dump_text(alloc, line, net, script, timing),
-        Form::Config => config_text(alloc, line, script),
-        Form::Data => record_data(alloc, line, net, script, timing),
-        Form::Map { name } => map_text(alloc, line, script, name.as_bytes()),
+        Form::Diagram { rows } => run_text(alloc, compiled, script, timing, rows),
+        Form::Dump => dump_text(alloc, compiled, script, timing),
+        Form::Config => config_text(alloc, compiled.line, script),
+        Form::Data => record_data(alloc, compiled, script, timing),
+        Form::Map { name } => map_text(alloc, compiled.line, script, name.as_bytes()),
     }
 }

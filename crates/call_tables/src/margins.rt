@@ -8,6 +8,7 @@ use call_answer::{Done, Said, Study};
 use judge_margins::margins::{held_today, margins, margins_text};
 use judge_report::Lost;
 use model_line::Memory;
+use net_gates::Compiled;
 use std::alloc::Global;
 
 /// How far each end of each interval can be moved outward, all else as declared, so that each
@@ -19,9 +20,13 @@ pub fn margins_table(alloc: Global, study: &Study) -> Result<Said, Memory>
         (Says (margins_answer study.now.line study.now.scripts.items)) }
 {
     let line = &study.line;
+    let compiled = Compiled {
+        line: &study.line,
+        net: &study.net,
+    };
     let scripts = study.scripts.as_slice();
-    let today = held_today(alloc, line, &study.net, scripts)?;
-    let ends = margins(alloc, line, &study.net, scripts, today.held.as_slice())?;
+    let today = held_today(alloc, &compiled, scripts)?;
+    let ends = margins(alloc, &compiled, scripts, today.held.as_slice())?;
     let text = margins_text(alloc, line, scripts, ends.as_slice())?;
     Ok(Said {
         status: status_of(today.others.as_slice()),

@@ -12,6 +12,7 @@ use call_engine::checked::{accepted_text, place, rejected_outside, rejected_pass
 use cert_settle::{SettleFault, check_settle};
 use itoa::Buffer;
 use model_line::Memory;
+use net_gates::Compiled;
 use std::alloc::Global;
 
 /// The counts of what the obligations come to where the settled trees are accepted, and their first
@@ -21,13 +22,11 @@ pub fn recheck_settled(alloc: Global, study: &Study, trees: &[u8]) -> Result<Sai
     ensures { IfOk result
         (Says (recheck_answer study.now.line study.now.scripts.items trees.now)) }
 {
-    match check_settle(
-        alloc,
-        &study.line,
-        &study.net,
-        study.scripts.as_slice(),
-        trees,
-    ) {
+    let compiled = Compiled {
+        line: &study.line,
+        net: &study.net,
+    };
+    match check_settle(alloc, &compiled, study.scripts.as_slice(), trees) {
         Ok(counts) => Ok(Said::good(accepted_text(alloc, counts)?)),
         Err(SettleFault::Memory) => Err(Memory),
         Err(fault) => Ok(Said::rejected(rejected_text(alloc, study, fault)?)),

@@ -9,6 +9,7 @@ use crate::row::Row;
 use call_answer::Study;
 use judge_settle::settle::settle;
 use model_line::Memory;
+use net_gates::Compiled;
 use std::alloc::Global;
 
 /// What is known of each obligation: of each script in order, at its terminals in line order, each
@@ -36,14 +37,11 @@ fn settle_one(alloc: Global, study: &Study, i: usize, analyses: u32) -> Result<R
     let many = study.line.terminals.len();
     let script = i / many;
     let terminal = (i % many) as u32;
-    let settled = settle(
-        alloc,
-        &study.line,
-        &study.net,
-        &study.scripts[script],
-        terminal,
-        analyses,
-    )?;
+    let compiled = Compiled {
+        line: &study.line,
+        net: &study.net,
+    };
+    let settled = settle(alloc, &compiled, &study.scripts[script], terminal, analyses)?;
     Ok(Row {
         script: script as u32,
         terminal,

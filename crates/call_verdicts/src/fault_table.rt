@@ -21,7 +21,8 @@ use std::alloc::Global;
 /// The table: a header, and a record for each fault and terminal.
 pub fn faults_text(alloc: Global, cases: &Cases, found: &[Finding]) -> Result<Vec<u8>, Memory>
     ensures { IfOk result (λ text. text.items
-        ≡ text_of_faults cases.now.line.now cases.now.scripts.now cases.now.groups.now found.now) }
+        ≡ text_of_faults cases.now.compiled.line.now cases.now.scripts.now cases.now.groups.now
+        found.now) }
 {
     let mut text = Vec::new(alloc);
     push_header(alloc, &mut text)?;
@@ -60,12 +61,13 @@ fn push_faults(
     cases: &Cases,
     found: &[Finding],
 ) -> Result<(), Memory>
-    ensures { OnOk result (text.new.items ≡ text.old.items ++ faults_from cases.now.line.now
+    ensures { OnOk result (text.new.items ≡ text.old.items
+        ++ faults_from cases.now.compiled.line.now
         cases.now.scripts.now cases.now.groups.now found.now) }
 {
     let mut start = 0;
     for group in cases.groups {
-        let end = end_of(cases.line, group, start, found.len());
+        let end = end_of(cases.compiled.line, group, start, found.len());
         push_fault(alloc, text, cases, group, &found[start..end])?;
         start = end;
     }
@@ -89,12 +91,19 @@ fn push_fault(
     found: &[Finding],
 ) -> Result<(), Memory>
     ensures { OnOk result (text.new.items ≡ text.old.items
-        ++ fault_records cases.now.line.now cases.now.scripts.now group.now found.now
-        (terminal_count cases.now.line.now)) }
+        ++ fault_records cases.now.compiled.line.now cases.now.scripts.now group.now found.now
+        (terminal_count cases.now.compiled.line.now)) }
 {
-    for k in 0..cases.line.terminals.len() {
+    for k in 0..cases.compiled.line.terminals.len() {
         let verdicts = verdicts_of(alloc, cases.scripts, k as u32, found)?;
-        push_verdicts(alloc, text, cases.line, group, k, verdicts.as_slice())?;
+        push_verdicts(
+            alloc,
+            text,
+            cases.compiled.line,
+            group,
+            k,
+            verdicts.as_slice(),
+        )?;
     }
     Ok(())
 }

@@ -17,7 +17,7 @@ use std::alloc::Global;
 pub fn faults_table(alloc: Global, cases: &Cases, analyses: u32) -> Result<Said, Memory>
     requires { IsCases cases.now }
     ensures { IfOk result (Says
-        (faults_answer cases.now.line.now cases.now.scripts.now cases.now.groups.now)) }
+        (faults_answer cases.now.compiled.line.now cases.now.scripts.now cases.now.groups.now)) }
 {
     let found = find_all(alloc, cases, analyses)?;
     let text = faults_text(alloc, cases, found.as_slice())?;

@@ -47,7 +47,7 @@ pub struct Finding {
 pub fn find_all(alloc: Global, cases: &Cases, analyses: u32) -> Result<Vec<Finding>, Memory>
     requires { IsCases cases.now }
     ensures { IfOk result (λ found.
-        AreFindings cases.now.line.now cases.now.scripts.now found.items) }
+        AreFindings cases.now.compiled.line.now cases.now.scripts.now found.items) }
 {
     let mut found = Vec::new(alloc);
     for i in 0..cases.scripts.len() {
@@ -66,14 +66,15 @@ fn push_script(
 ) -> Result<(), Memory>
     requires cases { IsCases cases.now }
     requires exists { i < length cases.now.scripts.now }
-    requires before { OneEach (IsFinding cases.now.line.now cases.now.scripts.now)
-        (i * terminal_count cases.now.line.now) found.old.items }
-    ensures { OnOk result (OneEach (IsFinding cases.now.line.now cases.now.scripts.now)
-        (i * terminal_count cases.now.line.now + terminal_count cases.now.line.now)
+    requires before { OneEach (IsFinding cases.now.compiled.line.now cases.now.scripts.now)
+        (i * terminal_count cases.now.compiled.line.now) found.old.items }
+    ensures { OnOk result (OneEach (IsFinding cases.now.compiled.line.now cases.now.scripts.now)
+        (i * terminal_count cases.now.compiled.line.now + terminal_count
+        cases.now.compiled.line.now)
         found.new.items) }
 {
-    let waves = analyse(alloc, cases.net, cases.line, &cases.scripts[i])?;
-    for k in 0..cases.line.terminals.len() {
+    let waves = analyse(alloc, &cases.compiled, &cases.scripts[i])?;
+    for k in 0..cases.compiled.line.terminals.len() {
         let one = find(alloc, cases, &waves, i, k as u32, analyses)?;
         found.push(one)?;
     }
@@ -91,20 +92,19 @@ fn find(
 ) -> Result<Finding, Memory>
     requires cases { IsCases cases.now }
     requires exists { i < length cases.now.scripts.now }
-    requires terminal { terminal < terminal_count cases.now.line.now }
-    requires terminals { waves.now.terminals ≡ terminal_count cases.now.line.now }
-    requires horizon { waves.now.horizon ≡ cases.now.line.now.horizon }
+    requires terminal { terminal < terminal_count cases.now.compiled.line.now }
+    requires terminals { waves.now.terminals ≡ terminal_count cases.now.compiled.line.now }
+    requires horizon { waves.now.horizon ≡ cases.now.compiled.line.now.horizon }
     requires history { (script : Script) → slice_get cases.now.scripts.now i ≡ Some script →
-        IsTheHistory cases.now.line.now script (declared_box cases.now.line.now)
+        IsTheHistory cases.now.compiled.line.now script (declared_box cases.now.compiled.line.now)
         (pair_history waves.now) }
-    ensures { IfOk result (λ found. IsFinding cases.now.line.now cases.now.scripts.now
-        (i * terminal_count cases.now.line.now + terminal) found) }
+    ensures { IfOk result (λ found. IsFinding cases.now.compiled.line.now cases.now.scripts.now
+        (i * terminal_count cases.now.compiled.line.now + terminal) found) }
 {
     let first_must = waves.first_must(terminal);
     let settled = settle(
         alloc,
-        cases.line,
-        cases.net,
+        &cases.compiled,
         &cases.scripts[i],
         terminal,
         analyses,

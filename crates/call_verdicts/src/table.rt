@@ -17,9 +17,10 @@ use std::alloc::Global;
 
 /// The table: a header, and a record for each finding.
 pub fn table_text(alloc: Global, cases: &Cases, found: &[Finding]) -> Result<Vec<u8>, Memory>
-    requires { AreFindings cases.now.line.now cases.now.scripts.now found.now }
+    requires { AreFindings cases.now.compiled.line.now cases.now.scripts.now found.now }
     ensures { IfOk result (λ text. text.items
-        ≡ verdicts_text cases.now.line.now cases.now.scripts.now cases.now.groups.now found.now) }
+        ≡ verdicts_text cases.now.compiled.line.now cases.now.scripts.now cases.now.groups.now
+        found.now) }
 {
     let mut text = Vec::new(alloc);
     push_header(alloc, &mut text)?;
@@ -60,15 +61,15 @@ fn push_finding(
     found: &Finding,
 ) -> Result<(), Memory>
     requires script { found.now.script < length cases.now.scripts.now }
-    requires terminal { found.now.terminal < terminal_count cases.now.line.now }
+    requires terminal { found.now.terminal < terminal_count cases.now.compiled.line.now }
     ensures { OnOk result (text.new.items ≡ text.old.items ++ row_text default_writer
-        (finding_record cases.now.line.now cases.now.scripts.now cases.now.groups.now
+        (finding_record cases.now.compiled.line.now cases.now.scripts.now cases.now.groups.now
         found.now)) }
 {
-    let tick_us = cases.line.tick_us;
+    let tick_us = cases.compiled.line.tick_us;
     let script = &cases.scripts[found.script as usize];
     let (name, kind, deadline) = (script.name, script.kind, script.deadline);
-    let terminal = cases.line.terminals[found.terminal as usize].name;
+    let terminal = cases.compiled.line.terminals[found.terminal as usize].name;
     let told = told_of(alloc, tick_us, cases.groups, found.script as usize)?;
     let trip = trip_text(alloc, tick_us, found.first_must)?;
     let margin = margin_text(alloc, tick_us, kind, deadline, found.first_must)?;

@@ -19,7 +19,7 @@ use std::alloc::Global;
 pub fn verdicts_table(alloc: Global, cases: &Cases, analyses: u32) -> Result<Said, Memory>
     requires { IsCases cases.now }
     ensures { IfOk result (Says
-        (verdicts_answer cases.now.line.now cases.now.scripts.now cases.now.groups.now)) }
+        (verdicts_answer cases.now.compiled.line.now cases.now.scripts.now cases.now.groups.now)) }
 {
     let found = find_all(alloc, cases, analyses)?;
     let text = table_text(alloc, cases, found.as_slice())?;

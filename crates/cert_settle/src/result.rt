@@ -2,7 +2,6 @@
 
 ghost use Rattle.std.specs.Prelude.{◌<◌, map, IfOk, MatchResult};
 ghost use Rattle.model_line.specs.{Fits.Fits, Parameters.terminal_count};
-ghost use Rattle.net_gates.specs.NetOf.{IsNetOf};
 ghost use Rattle.judge_cases.specs.Trees.{AreTree};
 ghost use Rattle.cert_settle.specs.Grammar.{IsSettleResult, HasOneEach};
 ghost use Rattle.cert_settle.specs.Reading.{result_in};
@@ -15,35 +14,34 @@ use crate::fault::ResultFault;
 use crate::timing::check_timing;
 use crate::tree::{Obligation, Passed, walk};
 use judge_cases::{CaseNode, declared_view};
+use model_line::Script;
 use model_line::laws::deadlines_are_below_the_horizon;
-use model_line::{Line, Script};
 use model_logic::laws::each_line_has_a_choice_inside;
 use model_settle::case_laws::sound_trees_meet;
-use net_gates::Net;
+use net_gates::Compiled;
 use std::alloc::Global;
 
 /// Checks the results of a script, by terminal. The error is the first fault.
 pub(crate) fn check_results(
     alloc: Global,
-    line: &Line,
-    net: &Net,
+    compiled: &Compiled<'_>,
     script: &Script,
     results: &[TreeClaim],
 ) -> Result<(), ResultFault>
-    requires of_line { IsNetOf line.now net.now }
-    requires fits { Fits line.now script.now }
-    requires one_each { HasOneEach line.now (map result_in results.now) }
+    requires fits { Fits compiled.now.line.now script.now }
+    requires one_each { HasOneEach compiled.now.line.now (map result_in results.now) }
     ensures exact { MatchResult result
-        (λ _. AreSupported line.now script.now (map result_in results.now))
-        (λ fault. IsFirstFault line.now script.now (map result_in results.now) fault) }
+        (λ _. AreSupported compiled.now.line.now script.now (map result_in results.now))
+        (λ fault. IsFirstFault compiled.now.line.now script.now (map result_in results.now) fault) }
     // What is said of each terminal is so.
-    ensures told { IfOk result (λ _. AreTold line.now script.now (map result_in results.now)) }
+    ensures told { IfOk result (λ _. AreTold compiled.now.line.now script.now
+        (map result_in results.now)) }
 {
     sound_trees_meet();
     deadlines_are_below_the_horizon();
     each_line_has_a_choice_inside();
     for i in 0..results.len() {
-        check_result(alloc, line, net, script, i as u32, &results[i])?;
+        check_result(alloc, compiled, script, i as u32, &results[i])?;
     }
     Ok(())
 }
@@ -51,25 +49,22 @@ pub(crate) fn check_results(
 // Checks the result of a terminal.
 fn check_result(
     alloc: Global,
-    line: &Line,
-    net: &Net,
+    compiled: &Compiled<'_>,
     script: &Script,
     terminal: u32,
     claim: &TreeClaim,
 ) -> Result<(), ResultFault>
-    requires of_line { IsNetOf line.now net.now }
-    requires fits { Fits line.now script.now }
-    requires terminal { terminal < terminal_count line.now }
-    requires said { IsSettleResult line.now (result_in claim.now) }
+    requires fits { Fits compiled.now.line.now script.now }
+    requires terminal { terminal < terminal_count compiled.now.line.now }
+    requires said { IsSettleResult compiled.now.line.now (result_in claim.now) }
     ensures { MatchResult result
-        (λ _. IsSupported line.now script.now terminal (result_in claim.now))
-        (λ fault. IsFaultOf line.now script.now terminal (result_in claim.now) fault) }
+        (λ _. IsSupported compiled.now.line.now script.now terminal (result_in claim.now))
+        (λ fault. IsFaultOf compiled.now.line.now script.now terminal (result_in claim.now) fault) }
 {
     match claim {
         TreeClaim::Tree(nodes) => {
             let of = Obligation {
-                line,
-                net,
+                compiled: *compiled,
                 script,
                 terminal,
             };
@@ -77,7 +72,7 @@ fn check_result(
         }
         TreeClaim::Fails { steps, numbers } => {
             let (steps, numbers) = (steps.as_slice(), numbers.as_slice());
-            match check_timing(alloc, line, net, script, terminal, steps, numbers)? {
+            match check_timing(alloc, compiled, script, terminal, steps, numbers)? {
                 Some(fault) => Err(ResultFault::No { terminal, fault }),
                 None => Ok(()),
             }
@@ -87,15 +82,15 @@ fn check_result(
 
 // Checks a tree over the declared box.
 fn check_tree(alloc: Global, of: &Obligation<'_>, nodes: &[CaseNode]) -> Result<(), ResultFault>
-    requires of_line { IsNetOf of.now.line.now of.now.net.now }
-    requires fits { Fits of.now.line.now of.now.script.now }
-    requires terminal { of.now.terminal < terminal_count of.now.line.now }
-    requires tree { AreTree of.now.line.now nodes.now }
+    requires fits { Fits of.now.compiled.line.now of.now.script.now }
+    requires terminal { of.now.terminal < terminal_count of.now.compiled.line.now }
+    requires tree { AreTree of.now.compiled.line.now nodes.now }
     ensures { MatchResult result
-        (λ _. IsTreeShown of.now.line.now of.now.script.now of.now.terminal nodes.now)
-        (λ fault. IsTreeFault of.now.line.now of.now.script.now of.now.terminal nodes.now fault) }
+        (λ _. IsTreeShown of.now.compiled.line.now of.now.script.now of.now.terminal nodes.now)
+        (λ fault. IsTreeFault of.now.compiled.line.now of.now.script.now of.now.terminal nodes.now
+        fault) }
 {
-    let view = declared_view(alloc, of.line)?;
+    let view = declared_view(alloc, of.compiled.line)?;
     let none = Passed {
         nodes: 0,
         leaves: 0,

@@ -3,7 +3,6 @@
 ghost use Rattle.std.specs.Prelude.{◌≡◌, ◌<◌, ℕ, length, IfOk, MatchOption};
 ghost use Rattle.model_line.specs.{declared.line.Line.Line, declared.script.Script.Script};
 ghost use Rattle.model_line.specs.{Parameters.terminal_count, Parameters.param_count, Fits.Fits};
-ghost use Rattle.net_gates.specs.NetOf.{IsNetOf};
 ghost use Rattle.model_timing.specs.{Inside.IsTimingInside, Timing.TimingValues};
 ghost use Rattle.cert_claims.specs.check.Refutations.{IsNumberIn};
 ghost use Rattle.cert_claims.specs.declared.check.no.NoFault.{NoFault};
@@ -16,7 +15,7 @@ use model_line::laws::deadlines_are_below_the_horizon;
 use model_line::{Line, Memory, Script};
 use model_logic::laws::{each_choice_has_one_history, each_line_has_a_choice_inside};
 use model_timing::{Step, timings_inside_are_choices_inside};
-use net_gates::Net;
+use net_gates::Compiled;
 use run_changes::changes::run_tracks;
 use run_signal::{Level, Tick};
 use run_step::laws::a_timing_is_one_choice;
@@ -25,26 +24,25 @@ use std::alloc::Global;
 /// What is wrong with the timing of a `no`. None where it refutes the obligation of the terminal.
 pub(crate) fn check_timing(
     alloc: Global,
-    line: &Line,
-    net: &Net,
+    compiled: &Compiled<'_>,
     script: &Script,
     terminal: u32,
     steps: &[Step<Tick>],
     values: &[u32],
 ) -> Result<Option<NoFault>, Memory>
-    requires of_line { IsNetOf line.now net.now }
-    requires fits { Fits line.now script.now }
-    requires terminal { terminal < terminal_count line.now }
-    requires timing { AreTiming line.now steps.now values.now }
+    requires fits { Fits compiled.now.line.now script.now }
+    requires terminal { terminal < terminal_count compiled.now.line.now }
+    requires timing { AreTiming compiled.now.line.now steps.now values.now }
     ensures { IfOk result (λ wrong. MatchOption wrong
-        (IsRefutation line.now script.now terminal (timing_of steps.now values.now))
-        (λ fault. IsNoFault line.now script.now terminal (timing_of steps.now values.now) fault)) }
+        (IsRefutation compiled.now.line.now script.now terminal (timing_of steps.now values.now))
+        (λ fault. IsNoFault compiled.now.line.now script.now terminal
+        (timing_of steps.now values.now) fault)) }
 {
-    if let Some(param) = first_outside(line, values) {
+    if let Some(param) = first_outside(compiled.line, values) {
         let value = values[param as usize];
         return Ok(Some(NoFault::Outside { param, value }));
     }
-    match met_at(alloc, line, net, script, terminal, steps, values)? {
+    match met_at(alloc, compiled, script, terminal, steps, values)? {
         Some(tick) => Ok(Some(NoFault::Passes { tick })),
         None => Ok(None),
     }
@@ -53,29 +51,28 @@ pub(crate) fn check_timing(
 // Whether the history at the timing meets the obligation of a terminal, and the tick that shows it.
 fn met_at(
     alloc: Global,
-    line: &Line,
-    net: &Net,
+    compiled: &Compiled<'_>,
     script: &Script,
     terminal: u32,
     steps: &[Step<Tick>],
     values: &[u32],
 ) -> Result<Option<u32>, Memory>
-    requires of_line { IsNetOf line.now net.now }
-    requires fits { Fits line.now script.now }
-    requires terminal { terminal < terminal_count line.now }
-    requires timing { AreTiming line.now steps.now values.now }
-    requires inside { IsTimingInside line.now (timing_of steps.now values.now) }
+    requires fits { Fits compiled.now.line.now script.now }
+    requires terminal { terminal < terminal_count compiled.now.line.now }
+    requires timing { AreTiming compiled.now.line.now steps.now values.now }
+    requires inside { IsTimingInside compiled.now.line.now (timing_of steps.now values.now) }
     ensures { IfOk result (λ met. MatchOption met
-        (FailsAt line.now script.now terminal (timing_of steps.now values.now))
-        (λ t. PassesAt line.now script.now terminal (timing_of steps.now values.now) t)) }
+        (FailsAt compiled.now.line.now script.now terminal (timing_of steps.now values.now))
+        (λ t. PassesAt compiled.now.line.now script.now terminal (timing_of steps.now values.now)
+        t)) }
 {
     a_timing_is_one_choice();
     each_choice_has_one_history();
     deadlines_are_below_the_horizon();
-    let numbers = ticks_of(alloc, line, values)?;
-    let tracks = run_tracks::<Level>(alloc, net, line, script, numbers.as_slice(), steps)?;
+    let numbers = ticks_of(alloc, compiled.line, values)?;
+    let tracks = run_tracks::<Level>(alloc, compiled, script, numbers.as_slice(), steps)?;
     let trip = &tracks.trips[terminal as usize];
-    Ok(met_tick(trip, script, line.horizon))
+    Ok(met_tick(trip, script, compiled.line.horizon))
 }
 
 // The numbers as ticks.

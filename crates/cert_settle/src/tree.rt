@@ -5,7 +5,6 @@ ghost use Rattle.std.specs.Prelude.{◌≡◌, ◌≤◌, ◌<◌, ◌+◌, ◌+
 ghost use Rattle.std.specs.Prelude.{IfOk, MatchOption, None};
 ghost use Rattle.model_line.specs.{Fits.Fits, Parameters.terminal_count};
 ghost use Rattle.model_settle.specs.CaseTrees.{CaseTree};
-ghost use Rattle.net_gates.specs.NetOf.{IsNetOf};
 ghost use Rattle.judge_cases.specs.Views.{IsView};
 ghost use Rattle.judge_cases.specs.declared.node.CaseNode.{CaseNode};
 ghost use Rattle.judge_cases.specs.Trees.{Branches};
@@ -18,7 +17,7 @@ use crate::fault::ResultFault;
 use judge_cases::{CaseNode, View, case_view, is_shown, lower_view, upper_view};
 use model_line::laws::deadlines_are_below_the_horizon;
 use model_line::{Line, Memory, Script};
-use net_gates::Net;
+use net_gates::Compiled;
 use std::alloc::Global;
 
 /// How many nodes and how many leaves of a tree a walk has passed.
@@ -31,8 +30,7 @@ pub(crate) struct Passed {
 /// An obligation: a script at a terminal of a line, and the line's net.
 #[derive(Clone, Copy)]
 pub(crate) struct Obligation<'a> {
-    pub line: &'a Line,
-    pub net: &'a Net,
+    pub compiled: Compiled<'a>,
     pub script: &'a Script,
     pub terminal: u32,
 }
@@ -46,20 +44,22 @@ pub(crate) fn walk(
     nodes: &[CaseNode],
     passed: Passed,
 ) -> Result<Passed, ResultFault>
-    requires of_line { IsNetOf of.now.line.now of.now.net.now }
-    requires fits { Fits of.now.line.now of.now.script.now }
-    requires terminal { of.now.terminal < terminal_count of.now.line.now }
+    requires fits { Fits of.now.compiled.line.now of.now.script.now }
+    requires terminal { of.now.terminal < terminal_count of.now.compiled.line.now }
     requires few { length nodes.now < 2 ^ 32 }
     requires leaves { passed.leaves ≤ passed.nodes }
-    requires tree { BeginWithTree of.now.line.now view.now (drop passed.nodes nodes.now) }
+    requires tree { BeginWithTree of.now.compiled.line.now view.now (drop passed.nodes nodes.now) }
     ensures { (part : CasePart) (tree : CaseTree) (after : List CaseNode) →
-        IsViewOf of.now.line.now part view.now → Branches of.now.line.now part.box tree →
+        IsViewOf of.now.compiled.line.now part view.now → Branches of.now.compiled.line.now part.box
+        tree →
         drop passed.nodes nodes.now ≡ preorder tree ++ after → MatchResult result
-        (λ walked. IsWalked of.now.line.now of.now.script.now of.now.terminal part tree passed walked)
-        (λ fault. IsWalkFault of.now.line.now of.now.script.now of.now.terminal part tree passed.leaves fault) }
+        (λ walked. IsWalked of.now.compiled.line.now of.now.script.now of.now.terminal part tree
+        passed walked)
+        (λ fault. IsWalkFault of.now.compiled.line.now of.now.script.now of.now.terminal
+        part tree passed.leaves fault) }
 {
     let root = nodes[passed.nodes];
-    let Some((first, second)) = views_below(alloc, of.line, view, root)? else {
+    let Some((first, second)) = views_below(alloc, of.compiled.line, view, root)? else {
         check_leaf(alloc, of, view, root, passed.leaves)?;
         return Ok(after_leaf(passed));
     };
@@ -127,20 +127,22 @@ fn check_leaf(
     root: CaseNode,
     leaf: u32,
 ) -> Result<(), ResultFault>
-    requires of_line { IsNetOf of.now.line.now of.now.net.now }
-    requires fits { Fits of.now.line.now of.now.script.now }
-    requires terminal { of.now.terminal < terminal_count of.now.line.now }
-    requires view { (part : CasePart) × IsViewOf of.now.line.now part view.now }
-    ensures { (part : CasePart) → IsViewOf of.now.line.now part view.now → MatchResult result
-        (λ _. root ≡ CaseNode.Yes → IsShownOver of.now.line.now of.now.script.now of.now.terminal part)
-        (λ fault. IsLeafFault of.now.line.now of.now.script.now of.now.terminal part root leaf fault) }
+    requires fits { Fits of.now.compiled.line.now of.now.script.now }
+    requires terminal { of.now.terminal < terminal_count of.now.compiled.line.now }
+    requires view { (part : CasePart) × IsViewOf of.now.compiled.line.now part view.now }
+    ensures { (part : CasePart) → IsViewOf of.now.compiled.line.now part view.now → MatchResult
+        result
+        (λ _. root ≡ CaseNode.Yes → IsShownOver of.now.compiled.line.now of.now.script.now
+        of.now.terminal part)
+        (λ fault. IsLeafFault of.now.compiled.line.now of.now.script.now of.now.terminal part root
+        leaf fault) }
 {
     deadlines_are_below_the_horizon();
     if root != CaseNode::Yes {
         return Ok(());
     }
     let terminal = of.terminal;
-    if is_shown(alloc, of.line, of.net, of.script, terminal, view)? {
+    if is_shown(alloc, &of.compiled, of.script, terminal, view)? {
         Ok(())
     } else {
         Err(ResultFault::NotShown { terminal, leaf })

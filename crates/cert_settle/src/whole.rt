@@ -3,7 +3,6 @@
 ghost use Rattle.std.specs.Prelude.{◌≡◌, ◌≤◌, ℕ, List, length, map, IfOk, MatchResult};
 ghost use Rattle.std.specs.List.{All};
 ghost use Rattle.model_line.specs.Fits.{Fits};
-ghost use Rattle.net_gates.specs.NetOf.{IsNetOf};
 ghost use Rattle.cert_claims.specs.check.Scripts.{EachBelow};
 ghost use Rattle.cert_settle.specs.Grammar.{HasOneEach, IsSettleText};
 ghost use Rattle.cert_settle.specs.Reading.{results_in, IsSettleTextFault};
@@ -19,7 +18,7 @@ use crate::result::check_results;
 use base_text::lines::TextFault;
 use cert_claims::check::Counts;
 use model_line::{Line, Script};
-use net_gates::Net;
+use net_gates::Compiled;
 use std::alloc::Global;
 
 /// Checks the settled trees of the scripts, and counts what each obligation comes to: `no` where its
@@ -28,25 +27,23 @@ use std::alloc::Global;
 /// that is not shown over its part, or what is wrong with the timing of a `no`.
 pub fn check_settle(
     alloc: Global,
-    line: &Line,
-    net: &Net,
+    compiled: &Compiled<'_>,
     scripts: &[Script],
     cert: &[u8],
 ) -> Result<Counts, SettleFault>
-    requires of_line { IsNetOf line.now net.now }
-    requires fits { All (Fits line.now) scripts.now }
+    requires fits { All (Fits compiled.now.line.now) scripts.now }
     requires few { length scripts.now ≤ 64 }
     ensures exact { MatchResult result
-        (λ counts. IsAccepted line.now scripts.now cert.now counts)
-        (λ fault. IsSettleFault line.now scripts.now cert.now fault) }
+        (λ counts. IsAccepted compiled.now.line.now scripts.now cert.now counts)
+        (λ fault. IsSettleFault compiled.now.line.now scripts.now cert.now fault) }
     // Whatever the trees are: each history of each choice inside meets an obligation whose tree has
     // yes leaves alone; the timing of a `no` is inside, and its history fails it.
-    ensures sound { IfOk result (λ _. IsSound line.now scripts.now cert.now) }
+    ensures sound { IfOk result (λ _. IsSound compiled.now.line.now scripts.now cert.now) }
 {
     a_settle_text_has_one_meaning();
-    match read_settle_text(alloc, line, scripts, cert) {
-        Ok(parts) => check_scripts(alloc, line, net, scripts, parts.as_slice()),
-        Err(fault) => Err(of_text(line, scripts, cert, fault)),
+    match read_settle_text(alloc, compiled.line, scripts, cert) {
+        Ok(parts) => check_scripts(alloc, compiled, scripts, parts.as_slice()),
+        Err(fault) => Err(of_text(compiled.line, scripts, cert, fault)),
     }
 }
 
@@ -64,25 +61,24 @@ fn of_text(line: &Line, scripts: &[Script], cert: &[u8], fault: TextFault) -> Se
 // Checks what is said of each script, in order.
 fn check_scripts(
     alloc: Global,
-    line: &Line,
-    net: &Net,
+    compiled: &Compiled<'_>,
     scripts: &[Script],
     parts: &[Vec<TreeClaim>],
 ) -> Result<Counts, SettleFault>
-    requires of_line { IsNetOf line.now net.now }
-    requires fits { All (Fits line.now) scripts.now }
+    requires fits { All (Fits compiled.now.line.now) scripts.now }
     requires few { length scripts.now ≤ 64 }
     requires many { length parts.now ≡ length scripts.now }
-    requires one_each { All (HasOneEach line.now) (map results_in parts.now) }
+    requires one_each { All (HasOneEach compiled.now.line.now) (map results_in parts.now) }
     ensures exact { (bytes : List ℕ) →
-        IsSettleText line.now scripts.now (map results_in parts.now) bytes → MatchResult result
-        (λ counts. IsAccepted line.now scripts.now bytes counts)
-        (λ fault. IsSettleFault line.now scripts.now bytes fault) }
-    ensures told { IfOk result (λ _. EachBelow (AreTold line.now) scripts.now
+        IsSettleText compiled.now.line.now scripts.now (map results_in parts.now) bytes →
+        MatchResult result
+        (λ counts. IsAccepted compiled.now.line.now scripts.now bytes counts)
+        (λ fault. IsSettleFault compiled.now.line.now scripts.now bytes fault) }
+    ensures told { IfOk result (λ _. EachBelow (AreTold compiled.now.line.now) scripts.now
         (map results_in parts.now) (length scripts.now)) }
 {
     for i in 0..scripts.len() {
-        if let Err(fault) = check_results(alloc, line, net, &scripts[i], parts[i].as_slice()) {
+        if let Err(fault) = check_results(alloc, compiled, &scripts[i], parts[i].as_slice()) {
             return Err(in_script(i as u32, fault));
         }
     }

@@ -2,7 +2,6 @@
 
 ghost use Rattle.std.specs.Prelude.{◌≡◌, ◌≤◌, ◌<◌, ℕ, Some, Decides, length, slice_get, IfOk};
 ghost use Rattle.model_settle.specs.CaseTrees.{HasCases};
-ghost use Rattle.net_gates.specs.NetOf.{IsNetOf};
 ghost use Rattle.run_signal.specs.Bits.{bit_on};
 ghost use Rattle.run_ticks.specs.cases.UnderWaves.{value_at};
 ghost use Rattle.model_settle.specs.Under.{Excludes};
@@ -17,11 +16,11 @@ use crate::spans::view_spans;
 use crate::view::View;
 use crate::wanted::wanted_gate;
 use judge_verdict::boxes::Terns64;
-use model_line::{Line, Memory, Script};
+use model_line::{Memory, Script};
 use model_logic::laws::line_laws;
 use model_settle::case_laws::{each_box_has_one_history_under, what_is_shown_rests_on_the_box};
 use net_gates::laws::gates_stand_for_their_trees;
-use net_gates::{GateId, Net};
+use net_gates::{Compiled, GateId};
 use run_signal::{Lanes64, Signal};
 use run_ticks::cases::{UnderWaves, run_under};
 use std::alloc::Global;
@@ -38,26 +37,24 @@ pub struct Analysis {
 /// Analyses up to 64 views side by side: lane i is view i, and the lanes past the last repeat it.
 pub fn analyse(
     alloc: Global,
-    line: &Line,
-    net: &Net,
+    compiled: &Compiled<'_>,
     script: &Script,
     views: &[View],
 ) -> Result<Analysis, Memory>
-    requires of_line { IsNetOf line.now net.now }
     requires some { 1 ≤ length views.now }
     requires few { length views.now ≤ 64 }
-    requires views { AreViews line.now views.now }
+    requires views { AreViews compiled.now.line.now views.now }
     ensures { IfOk result (λ analysis.
-        IsAnalysis line.now net.now script.now views.now analysis) }
+        IsAnalysis compiled.now.line.now compiled.now.net.now script.now views.now analysis) }
 {
     line_laws();
     gates_stand_for_their_trees();
     each_box_has_one_history_under();
     what_is_shown_rests_on_the_box();
-    let spans = view_spans(alloc, line, views)?;
-    let masks = masks_of(alloc, net, line, views)?;
-    let waves = run_under::<Terns64>(alloc, net, line, script, &spans, &masks)?;
-    let excluded = excluded_lanes(line, net, views, &waves);
+    let spans = view_spans(alloc, compiled.line, views)?;
+    let masks = masks_of(alloc, compiled, views)?;
+    let waves = run_under::<Terns64>(alloc, compiled, script, &spans, &masks)?;
+    let excluded = excluded_lanes(compiled, views, &waves);
     Ok(Analysis { waves, excluded })
 }
 
@@ -99,18 +96,18 @@ impl Analysis {
 }
 
 // The lanes in which an assumption of the view is excluded.
-fn excluded_lanes(line: &Line, net: &Net, views: &[View], waves: &UnderWaves<Terns64>) -> Lanes64
-    requires of_line { IsNetOf line.now net.now }
+fn excluded_lanes(compiled: &Compiled<'_>, views: &[View], waves: &UnderWaves<Terns64>) -> Lanes64
     requires few { length views.now ≤ 64 }
-    requires views { AreViews line.now views.now }
-    requires width { waves.now.width ≡ length net.now.gates }
-    requires horizon { waves.now.horizon ≡ line.now.horizon }
+    requires views { AreViews compiled.now.line.now views.now }
+    requires width { waves.now.width ≡ length compiled.now.net.now.gates }
+    requires horizon { waves.now.horizon ≡ compiled.now.line.now.horizon }
     ensures { (lane : ℕ) (view : View) → slice_get views.now lane ≡ Some view →
-        Decides (bit_on result lane) (OneIsExcluded line.now net.now view lane waves.now) }
+        Decides (bit_on result lane)
+        (OneIsExcluded compiled.now.line.now compiled.now.net.now view lane waves.now) }
 {
     let mut lanes = Lanes64::known(false);
     for lane in 0..views.len() {
-        let excluded = is_excluded(line, net, &views[lane].assumed, waves, lane as u32);
+        let excluded = is_excluded(compiled, &views[lane].assumed, waves, lane as u32);
         lanes = lanes.with_lane(lane as u32, excluded);
     }
     lanes
@@ -118,21 +115,20 @@ fn excluded_lanes(line: &Line, net: &Net, views: &[View], waves: &UnderWaves<Ter
 
 // Whether one of these assumptions is excluded in a lane.
 fn is_excluded(
-    line: &Line,
-    net: &Net,
+    compiled: &Compiled<'_>,
     assumed: &[Assumed],
     waves: &UnderWaves<Terns64>,
     lane: u32,
 ) -> bool
-    requires of_line { IsNetOf line.now net.now }
-    requires cases { AreCases line.now assumed.now }
+    requires cases { AreCases compiled.now.line.now assumed.now }
     requires lane { lane < 64 }
-    requires width { waves.now.width ≡ length net.now.gates }
-    requires horizon { waves.now.horizon ≡ line.now.horizon }
-    ensures { Decides result (OneExcluded line.now net.now assumed.now lane waves.now) }
+    requires width { waves.now.width ≡ length compiled.now.net.now.gates }
+    requires horizon { waves.now.horizon ≡ compiled.now.line.now.horizon }
+    ensures { Decides result
+        (OneExcluded compiled.now.line.now compiled.now.net.now assumed.now lane waves.now) }
 {
     for i in 0..assumed.len() {
-        if is_one_excluded(line, net, assumed[i], waves, lane) {
+        if is_one_excluded(compiled, assumed[i], waves, lane) {
             return true;
         }
     }
@@ -141,21 +137,20 @@ fn is_excluded(
 
 // Whether an assumption is excluded in a lane.
 fn is_one_excluded(
-    line: &Line,
-    net: &Net,
+    compiled: &Compiled<'_>,
     assumed: Assumed,
     waves: &UnderWaves<Terns64>,
     lane: u32,
 ) -> bool
-    requires of_line { IsNetOf line.now net.now }
-    requires case { HasCases line.now assumed.terminal assumed.tick }
+    requires case { HasCases compiled.now.line.now assumed.terminal assumed.tick }
     requires lane { lane < 64 }
-    requires width { waves.now.width ≡ length net.now.gates }
-    requires horizon { waves.now.horizon ≡ line.now.horizon }
-    ensures { Decides result (ExcludedIn line.now net.now lane waves.now assumed) }
+    requires width { waves.now.width ≡ length compiled.now.net.now.gates }
+    requires horizon { waves.now.horizon ≡ compiled.now.line.now.horizon }
+    ensures { Decides result (ExcludedIn compiled.now.line.now compiled.now.net.now lane waves.now
+        assumed) }
 {
     gates_stand_for_their_trees();
-    let gate = wanted_gate(net, line, assumed.terminal());
+    let gate = wanted_gate(compiled, assumed.terminal());
     let own = waves.own(gate, assumed.tick());
     excludes(own, lane, assumed.level())
 }

@@ -5,53 +5,51 @@ ghost use Rattle.model_history.specs.Elements.{some_below};
 ghost use Rattle.model_line.specs.Parameters.{terminal_count};
 ghost use Rattle.run_ticks.specs.cases.UnderWaves.{wave_pair};
 ghost use Rattle.judge_verdict.specs.boxes.Terns.{terns_rails};
-ghost use Rattle.net_gates.specs.NetOf.{IsNetOf};
 ghost use Rattle.judge_cases.specs.declared.view.View.{View};
 ghost use Rattle.judge_cases.specs.Views.{AreViews};
 ghost use Rattle.judge_cases.specs.Analyses.{IsAnalysis, TellHeld, TellShown};
 
 use crate::analysis::Analysis;
 use judge_verdict::boxes::Terns64;
-use model_line::{Kind, Line, Script};
+use model_line::{Kind, Script};
 use model_logic::laws::line_laws;
 use model_settle::case_laws::{each_box_has_one_history_under, what_is_shown_of_one_is_shown};
-use net_gates::{GateId, Net};
+use net_gates::{Compiled, GateId};
 use run_signal::{Lanes64, Signal};
 
 impl Analysis {
     /// The lanes in which the rule is held at a terminal.
-    pub fn held(&self, line: &Line, net: &Net, script: &Script, terminal: u32) -> Lanes64
-        requires of_line { IsNetOf line.now net.now }
-        requires width { self.now.waves.width ≡ length net.now.gates }
-        requires horizon { self.now.waves.horizon ≡ line.now.horizon }
-        requires deadline { script.now.deadline < line.now.horizon }
-        requires terminal { terminal < terminal_count line.now }
-        ensures { (views : List View) → IsAnalysis line.now net.now script.now views self.now →
-            TellHeld line.now script.now net.now terminal views result }
+    pub fn held(&self, compiled: &Compiled<'_>, script: &Script, terminal: u32) -> Lanes64
+        requires width { self.now.waves.width ≡ length compiled.now.net.now.gates }
+        requires horizon { self.now.waves.horizon ≡ compiled.now.line.now.horizon }
+        requires deadline { script.now.deadline < compiled.now.line.now.horizon }
+        requires terminal { terminal < terminal_count compiled.now.line.now }
+        ensures { (views : List View) →
+            IsAnalysis compiled.now.line.now compiled.now.net.now script.now views self.now →
+            TellHeld compiled.now.line.now script.now compiled.now.net.now terminal views result }
     {
         line_laws();
         each_box_has_one_history_under();
-        let trip = net.trip_gate(terminal);
+        let trip = compiled.net.trip_gate(terminal);
         match script.kind {
             Kind::Internal => some_of(self, trip, script.deadline + 1).must,
-            Kind::External => some_of(self, trip, line.horizon).possible().not(),
+            Kind::External => some_of(self, trip, compiled.line.horizon).possible().not(),
         }
     }
 
     /// The lanes in which the rule is held at a terminal, or an assumption is excluded.
-    pub fn shown(&self, line: &Line, net: &Net, script: &Script, terminal: u32) -> Lanes64
-        requires of_line { IsNetOf line.now net.now }
-        requires width { self.now.waves.width ≡ length net.now.gates }
-        requires horizon { self.now.waves.horizon ≡ line.now.horizon }
-        requires deadline { script.now.deadline < line.now.horizon }
-        requires terminal { terminal < terminal_count line.now }
-        ensures { (views : List View) → AreViews line.now views →
-            IsAnalysis line.now net.now script.now views self.now →
-            TellShown line.now script.now terminal views result }
+    pub fn shown(&self, compiled: &Compiled<'_>, script: &Script, terminal: u32) -> Lanes64
+        requires width { self.now.waves.width ≡ length compiled.now.net.now.gates }
+        requires horizon { self.now.waves.horizon ≡ compiled.now.line.now.horizon }
+        requires deadline { script.now.deadline < compiled.now.line.now.horizon }
+        requires terminal { terminal < terminal_count compiled.now.line.now }
+        ensures { (views : List View) → AreViews compiled.now.line.now views →
+            IsAnalysis compiled.now.line.now compiled.now.net.now script.now views self.now →
+            TellShown compiled.now.line.now script.now terminal views result }
     {
         each_box_has_one_history_under();
         what_is_shown_of_one_is_shown();
-        self.held(line, net, script, terminal).or(self.excluded())
+        self.held(compiled, script, terminal).or(self.excluded())
     }
 }
 

@@ -6,7 +6,6 @@ ghost use Rattle.model_history.specs.Rails.{both};
 ghost use Rattle.model_line.specs.Parameters.{terminal_count};
 ghost use Rattle.model_settle.specs.Assumed.{Assumption};
 ghost use Rattle.model_settle.specs.CaseTrees.{HasCases};
-ghost use Rattle.net_gates.specs.NetOf.{IsNetOf};
 ghost use Rattle.run_ticks.specs.cases.Masks.{HaveRows, IsMask};
 ghost use Rattle.run_ticks.specs.cases.Runs.{PutUnder};
 ghost use Rattle.judge_verdict.specs.boxes.Terns.{terns_rails};
@@ -20,7 +19,7 @@ use crate::wanted::wanted_gate;
 use judge_verdict::boxes::Terns64;
 use model_line::{Line, Memory, Terminal};
 use model_settle::case_laws::same_trees_are_equal;
-use net_gates::Net;
+use net_gates::Compiled;
 use net_gates::laws::gates_stand_for_their_trees;
 use run_signal::Signal;
 use run_ticks::cases::{Mask, Masks};
@@ -29,27 +28,25 @@ use std::alloc::Global;
 /// A mask for each tick and row that puts in each lane what its view assumes there.
 pub fn masks_of(
     alloc: Global,
-    net: &Net,
-    line: &Line,
+    compiled: &Compiled<'_>,
     views: &[View],
 ) -> Result<Masks<Terns64>, Memory>
-    requires of_line { IsNetOf line.now net.now }
     requires few { length views.now ≤ 64 }
-    requires views { AreViews line.now views.now }
+    requires views { AreViews compiled.now.line.now views.now }
     ensures rows { IfOk result (λ masks.
-        HaveRows (length net.now.gates) line.now.horizon masks) }
+        HaveRows (length compiled.now.net.now.gates) compiled.now.line.now.horizon masks) }
     ensures put { IfOk result (λ masks.
-        PutUnder terns_rails 64 (views_level line.now views.now) line.now net.now masks) }
+        PutUnder terns_rails 64 (views_level compiled.now.line.now views.now)
+        compiled.now.line.now compiled.now.net.now masks) }
 {
     same_trees_are_equal();
     gates_stand_for_their_trees();
-    let rows = rows(alloc, net, line)?;
-    let count = terminals(line) as u32;
-    let mut masks = no_masks(alloc, line.horizon, count)?;
+    let rows = rows(alloc, compiled)?;
+    let count = terminals(compiled.line) as u32;
+    let mut masks = no_masks(alloc, compiled.line.horizon, count)?;
     for lane in 0..views.len() {
         put_view(
-            net,
-            line,
+            compiled,
             &rows,
             lane as u32,
             &views[lane].assumed,
@@ -80,33 +77,37 @@ fn no_masks(alloc: Global, horizon: u32, count: u32) -> Result<Vec<Mask<Terns64>
 
 // Puts in a lane what a view assumes, the latest last.
 fn put_view(
-    net: &Net,
-    line: &Line,
+    compiled: &Compiled<'_>,
     rows: &[Option<u32>],
     lane: u32,
     assumed: &[Assumed],
     masks: &mut Vec<Mask<Terns64>>,
 )
-    requires of_line { IsNetOf line.now net.now }
-    requires rows { AreRows line.now net.now (terminal_count line.now) rows.now }
+    requires rows { AreRows compiled.now.line.now compiled.now.net.now
+        (terminal_count compiled.now.line.now) rows.now }
     requires lane { lane < 64 }
-    requires cases { AreCases line.now assumed.now }
-    requires count { length masks.old.items ≡ line.now.horizon * terminal_count line.now }
-    ensures count { length masks.new.items ≡ line.now.horizon * terminal_count line.now }
-    ensures lane { PutIn line.now net.now rows.now (terminal_count line.now) line.now.horizon
+    requires cases { AreCases compiled.now.line.now assumed.now }
+    requires count { length masks.old.items
+        ≡ compiled.now.line.now.horizon * terminal_count compiled.now.line.now }
+    ensures count { length masks.new.items
+        ≡ compiled.now.line.now.horizon * terminal_count compiled.now.line.now }
+    ensures lane { PutIn compiled.now.line.now compiled.now.net.now rows.now
+        (terminal_count compiled.now.line.now) compiled.now.line.now.horizon
         masks.old.items lane [] →
-        PutIn line.now net.now rows.now (terminal_count line.now) line.now.horizon
+        PutIn compiled.now.line.now compiled.now.net.now rows.now
+        (terminal_count compiled.now.line.now) compiled.now.line.now.horizon
         masks.new.items lane assumed.now }
     ensures others { (k : ℕ) (before : List Assumption) → k < 64 → k ≢ lane →
-        PutIn line.now net.now rows.now (terminal_count line.now) line.now.horizon
+        PutIn compiled.now.line.now compiled.now.net.now rows.now
+        (terminal_count compiled.now.line.now) compiled.now.line.now.horizon
         masks.old.items k before →
-        PutIn line.now net.now rows.now (terminal_count line.now) line.now.horizon
+        PutIn compiled.now.line.now compiled.now.net.now rows.now
+        (terminal_count compiled.now.line.now) compiled.now.line.now.horizon
         masks.new.items k before }
 {
     for back in 0..assumed.len() {
         put_one(
-            net,
-            line,
+            compiled,
             rows,
             lane,
             assumed[assumed.len() - 1 - back],
@@ -117,35 +118,40 @@ fn put_view(
 
 // Puts an assumption in a lane, in place of what was put at its tick before.
 fn put_one(
-    net: &Net,
-    line: &Line,
+    compiled: &Compiled<'_>,
     rows: &[Option<u32>],
     lane: u32,
     assumed: Assumed,
     masks: &mut Vec<Mask<Terns64>>,
 )
-    requires of_line { IsNetOf line.now net.now }
-    requires rows { AreRows line.now net.now (terminal_count line.now) rows.now }
+    requires rows { AreRows compiled.now.line.now compiled.now.net.now
+        (terminal_count compiled.now.line.now) rows.now }
     requires lane { lane < 64 }
-    requires case { HasCases line.now assumed.terminal assumed.tick }
-    requires count { length masks.old.items ≡ line.now.horizon * terminal_count line.now }
-    ensures count { length masks.new.items ≡ line.now.horizon * terminal_count line.now }
+    requires case { HasCases compiled.now.line.now assumed.terminal assumed.tick }
+    requires count { length masks.old.items
+        ≡ compiled.now.line.now.horizon * terminal_count compiled.now.line.now }
+    ensures count { length masks.new.items
+        ≡ compiled.now.line.now.horizon * terminal_count compiled.now.line.now }
     ensures lane { (before : List Assumption) →
-        PutIn line.now net.now rows.now (terminal_count line.now) line.now.horizon
+        PutIn compiled.now.line.now compiled.now.net.now rows.now
+        (terminal_count compiled.now.line.now) compiled.now.line.now.horizon
         masks.old.items lane before →
-        PutIn line.now net.now rows.now (terminal_count line.now) line.now.horizon
+        PutIn compiled.now.line.now compiled.now.net.now rows.now
+        (terminal_count compiled.now.line.now) compiled.now.line.now.horizon
         masks.new.items lane (assumed ∷ before) }
     ensures others { (k : ℕ) (before : List Assumption) → k < 64 → k ≢ lane →
-        PutIn line.now net.now rows.now (terminal_count line.now) line.now.horizon
+        PutIn compiled.now.line.now compiled.now.net.now rows.now
+        (terminal_count compiled.now.line.now) compiled.now.line.now.horizon
         masks.old.items k before →
-        PutIn line.now net.now rows.now (terminal_count line.now) line.now.horizon
+        PutIn compiled.now.line.now compiled.now.net.now rows.now
+        (terminal_count compiled.now.line.now) compiled.now.line.now.horizon
         masks.new.items k before }
 {
     gates_stand_for_their_trees();
     same_trees_are_equal();
-    let gate = wanted_gate(net, line, assumed.terminal());
+    let gate = wanted_gate(compiled, assumed.terminal());
     if let Some(row) = rows[gate.0 as usize] {
-        let count = terminals(line);
+        let count = terminals(compiled.line);
         let place = assumed.tick() as usize * count + row as usize;
         let old = mask_in(masks, place);
         let new = with_level(old, lane, assumed.level());

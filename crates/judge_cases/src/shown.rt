@@ -5,15 +5,14 @@ ghost use Rattle.model_line.specs.Parameters.{terminal_count};
 ghost use Rattle.model_logic.specs.Choice.{Box};
 ghost use Rattle.model_settle.specs.Assumed.{Assumption};
 ghost use Rattle.model_settle.specs.CaseTrees.{IsShownUnder};
-ghost use Rattle.net_gates.specs.NetOf.{IsNetOf};
 ghost use Rattle.judge_cases.specs.Views.{IsView, AreViews, Views};
 ghost use Rattle.judge_cases.specs.Analyses.{TellEach, IsShownOf};
 
 use crate::analysis::analyse;
 use crate::laws::a_view_stands_for_its_box;
 use crate::view::View;
-use model_line::{Line, Memory, Script};
-use net_gates::Net;
+use model_line::{Memory, Script};
+use net_gates::Compiled;
 use run_signal::Signal;
 use std::alloc::Global;
 
@@ -21,47 +20,43 @@ use std::alloc::Global;
 /// assumptions is excluded.
 pub fn is_shown(
     alloc: Global,
-    line: &Line,
-    net: &Net,
+    compiled: &Compiled<'_>,
     script: &Script,
     terminal: u32,
     view: &View,
 ) -> Result<bool, Memory>
-    requires of_line { IsNetOf line.now net.now }
-    requires deadline { script.now.deadline < line.now.horizon }
-    requires terminal { terminal < terminal_count line.now }
-    requires view { IsView line.now view.now }
+    requires deadline { script.now.deadline < compiled.now.line.now.horizon }
+    requires terminal { terminal < terminal_count compiled.now.line.now }
+    requires view { IsView compiled.now.line.now view.now }
     ensures shown { IfOk result (λ shown.
-        Decides shown (IsShownOf line.now script.now terminal view.now)) }
+        Decides shown (IsShownOf compiled.now.line.now script.now terminal view.now)) }
     // So it is of each box and what is assumed that the view is of.
     ensures boxes { IfOk result (λ shown. (box : Box) (assumed : List Assumption) →
-        Views line.now box assumed view.now →
-        Decides shown (IsShownUnder line.now script.now terminal box assumed)) }
+        Views compiled.now.line.now box assumed view.now →
+        Decides shown (IsShownUnder compiled.now.line.now script.now terminal box assumed)) }
 {
     a_view_stands_for_its_box();
-    let analysis = analyse(alloc, line, net, script, std::slice::from_ref(view))?;
-    Ok(analysis.shown(line, net, script, terminal).must(0))
+    let analysis = analyse(alloc, compiled, script, std::slice::from_ref(view))?;
+    Ok(analysis.shown(compiled, script, terminal).must(0))
 }
 
 /// Whether an obligation is shown over each of these views.
 pub fn are_shown(
     alloc: Global,
-    line: &Line,
-    net: &Net,
+    compiled: &Compiled<'_>,
     script: &Script,
     terminal: u32,
     views: &[View],
 ) -> Result<Vec<bool>, Memory>
-    requires of_line { IsNetOf line.now net.now }
-    requires deadline { script.now.deadline < line.now.horizon }
-    requires terminal { terminal < terminal_count line.now }
-    requires views { AreViews line.now views.now }
+    requires deadline { script.now.deadline < compiled.now.line.now.horizon }
+    requires terminal { terminal < terminal_count compiled.now.line.now }
+    requires views { AreViews compiled.now.line.now views.now }
     ensures { IfOk result (λ shown.
-        TellEach line.now script.now terminal views.now shown.items) }
+        TellEach compiled.now.line.now script.now terminal views.now shown.items) }
 {
     let mut shown = Vec::new(alloc);
     for i in 0..views.len() {
-        let on = is_shown(alloc, line, net, script, terminal, &views[i])?;
+        let on = is_shown(alloc, compiled, script, terminal, &views[i])?;
         shown.push(on)?;
     }
     Ok(shown)

@@ -4,21 +4,20 @@ ghost use Rattle.std.specs.Prelude.{◌≡◌, ◌<◌, length, IsTrue};
 ghost use Rattle.model_logic.specs.Elements.{is_weak};
 ghost use Rattle.model_logic.specs.Tree.{Tree, And, Or};
 ghost use Rattle.model_settle.specs.Assumed.{wanted};
-ghost use Rattle.net_gates.specs.{NetOf.IsNetOf, Formulas.formula_of};
+ghost use Rattle.net_gates.specs.{Formulas.formula_of};
 
-use model_line::Line;
-use net_gates::{Gate, GateId, Net};
+use net_gates::{Compiled, Gate, GateId, Net};
 
 /// The gate that stands for what the echo of a weak terminal starts from, WANT. A weak terminal
 /// keys zone 2 unless the guard holds it back, or the echo, which is what it wants, for one pulse.
-pub fn wanted_gate(net: &Net, line: &Line, terminal: u32) -> GateId
-    requires of_line { IsNetOf line.now net.now }
-    requires weak { IsTrue (is_weak line.now terminal) }
-    ensures exists { result.0 < length net.now.gates }
-    ensures is { formula_of net.now.gates result.0 ≡ wanted line.now terminal }
+pub fn wanted_gate(compiled: &Compiled<'_>, terminal: u32) -> GateId
+    requires weak { IsTrue (is_weak compiled.now.line.now terminal) }
+    ensures exists { result.0 < length compiled.now.net.now.gates }
+    ensures is { formula_of compiled.now.net.now.gates result.0 ≡ wanted compiled.now.line.now
+        terminal }
 {
-    let echo = second_of_or(net, net.key_gate(terminal));
-    first_of_and(net, echo)
+    let echo = second_of_or(compiled.net, compiled.net.key_gate(terminal));
+    first_of_and(compiled.net, echo)
 }
 
 // The second argument of a gate that is an or; of another the gate.

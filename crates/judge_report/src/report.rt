@@ -6,7 +6,6 @@ ghost use Rattle.model_line.specs.{declared.script.Script.Script, Parameters.ter
 ghost use Rattle.model_line.specs.Fits.{Fits};
 ghost use Rattle.model_logic.specs.Histories.{PairHistory, IsPairHistory};
 ghost use Rattle.model_logic.specs.Choice.{declared_box};
-ghost use Rattle.net_gates.specs.NetOf.{IsNetOf};
 ghost use Rattle.judge_verdict.specs.verdict.PairWavesOf.{pair_history};
 ghost use Rattle.judge_report.specs.ReportText.{script_rows, report_text_of, AreHistories};
 ghost use Rattle.judge_report.specs.ReportText.{IsReportText};
@@ -16,7 +15,7 @@ use judge_verdict::verdict::{PairWaves, analyse};
 use model_line::laws::deadlines_are_below_the_horizon;
 use model_line::{Line, Memory, Script};
 use model_logic::laws::{each_box_has_one_interval_history, each_line_has_a_choice_inside};
-use net_gates::Net;
+use net_gates::Compiled;
 use std::alloc::Global;
 
 /// The first line of a report.
@@ -30,24 +29,22 @@ pub const REPORT_HEADER: &[u8] =
 /// `-`.
 pub fn report_text(
     alloc: Global,
-    line: &Line,
-    net: &Net,
+    compiled: &Compiled<'_>,
     scripts: &[Script],
 ) -> Result<Vec<u8>, Memory>
-    requires of_line { IsNetOf line.now net.now }
-    requires fit { All (Fits line.now) scripts.now }
+    requires fit { All (Fits compiled.now.line.now) scripts.now }
     // It is the report over each script's interval history, of which there is one,
-    ensures is { IfOk result (λ text. IsReportText line.now scripts.now text.items) }
+    ensures is { IfOk result (λ text. IsReportText compiled.now.line.now scripts.now text.items) }
     // and that of any such histories.
     ensures every { IfOk result (λ text. (histories : Script → PairHistory) →
-        AreHistories line.now histories →
-        text.items ≡ report_text_of line.now scripts.now histories) }
+        AreHistories compiled.now.line.now histories →
+        text.items ≡ report_text_of compiled.now.line.now scripts.now histories) }
 {
     each_line_has_a_choice_inside();
     each_box_has_one_interval_history();
     let mut text = Vec::from_slice(alloc, REPORT_HEADER)?;
     for script in scripts {
-        let rows = report_rows(alloc, line, net, script)?;
+        let rows = report_rows(alloc, compiled, script)?;
         text.extend_from_slice(&rows)?;
     }
     Ok(text)
@@ -56,20 +53,18 @@ pub fn report_text(
 /// The rows of one script, one for each terminal in line order.
 pub fn report_rows(
     alloc: Global,
-    line: &Line,
-    net: &Net,
+    compiled: &Compiled<'_>,
     script: &Script,
 ) -> Result<Vec<u8>, Memory>
-    requires of_line { IsNetOf line.now net.now }
-    requires fits { Fits line.now script.now }
+    requires fits { Fits compiled.now.line.now script.now }
     ensures { IfOk result (λ text. (w : PairHistory) →
-        IsPairHistory line.now script.now (declared_box line.now) w →
-        text.items ≡ script_rows line.now script.now w) }
+        IsPairHistory compiled.now.line.now script.now (declared_box compiled.now.line.now) w →
+        text.items ≡ script_rows compiled.now.line.now script.now w) }
 {
     deadlines_are_below_the_horizon();
-    let waves = analyse(alloc, net, line, script)?;
+    let waves = analyse(alloc, compiled, script)?;
     let mut text = Vec::new(alloc);
-    push_rows(&mut text, line, script, &waves)?;
+    push_rows(&mut text, compiled.line, script, &waves)?;
     Ok(text)
 }
 

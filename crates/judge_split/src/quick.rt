@@ -5,7 +5,6 @@ ghost use Rattle.std.specs.Prelude.{length, slice_get};
 ghost use Rattle.model_history.specs.Rails.{IsPartOf};
 ghost use Rattle.model_line.specs.Parameters.{terminal_count, param_count, declared_ends};
 ghost use Rattle.model_line.specs.{Fits.Fits, SetBounds.SameButParams};
-ghost use Rattle.net_gates.specs.NetOf.{IsNetOf};
 ghost use Rattle.judge_verdict.specs.declared.verdict.verdict.Verdict.{Verdict};
 ghost use Rattle.judge_verdict.specs.boxes.Held.{AreParts};
 ghost use Rattle.judge_split.specs.Quiet.{AreNodesIfTold, HasHalves, IsNarrowed, is_wide};
@@ -19,45 +18,43 @@ use crate::parts::parts_of;
 use crate::widest::{middle, widest};
 use judge_verdict::boxes::held_each;
 use model_line::{Line, Memory, Script};
-use net_gates::Net;
+use net_gates::Compiled;
 use std::alloc::Global;
 
 /// The nodes that the search finds where the box is undecided and split at this parameter, if it is
 /// known that no candidate of a part fails.
 pub fn quick(
     alloc: Global,
-    line: &Line,
-    net: &Net,
+    compiled: &Compiled<'_>,
     script: &Script,
     terminal: u32,
     param: u32,
     depth: u32,
 ) -> Result<Option<Vec<Node>>, Memory>
-    requires of_line { IsNetOf line.now net.now }
-    requires fits { Fits line.now script.now }
-    requires terminal { terminal < terminal_count line.now }
-    requires undecided { IsVerdictOf line.now script.now terminal Verdict.Undecided }
-    requires widest { IsWidest line.now param }
+    requires fits { Fits compiled.now.line.now script.now }
+    requires terminal { terminal < terminal_count compiled.now.line.now }
+    requires undecided { IsVerdictOf compiled.now.line.now script.now terminal Verdict.Undecided }
+    requires widest { IsWidest compiled.now.line.now param }
     requires depth { 1 ≤ depth }
     ensures { IfOk result (λ found. IfSome found (λ nodes.
-        AreNodes line.now script.now terminal depth nodes.items)) }
+        AreNodes compiled.now.line.now script.now terminal depth nodes.items)) }
 {
     laws_below();
-    let parts = parts_of(alloc, line, param, depth)?;
-    let wide = wide_in(alloc, line, &parts)?;
-    let boxes = corners(alloc, line, &wide)?;
-    let quiet = held_each(alloc, line, net, script, terminal, &boxes)?;
+    let parts = parts_of(alloc, compiled.line, param, depth)?;
+    let wide = wide_in(alloc, compiled.line, &parts)?;
+    let boxes = corners(alloc, compiled.line, &wide)?;
+    let quiet = held_each(alloc, compiled, script, terminal, &boxes)?;
     if !are_all(&quiet) {
         return Ok(None);
     }
-    let held = held_each(alloc, line, net, script, terminal, &parts)?;
-    let Some(first) = nodes_at(alloc, line, &wide, &parts, &held, 0, depth - 1)? else {
+    let held = held_each(alloc, compiled, script, terminal, &parts)?;
+    let Some(first) = nodes_at(alloc, compiled.line, &wide, &parts, &held, 0, depth - 1)? else {
         return Ok(None);
     };
-    let Some(second) = nodes_at(alloc, line, &wide, &parts, &held, 1, depth - 1)? else {
+    let Some(second) = nodes_at(alloc, compiled.line, &wide, &parts, &held, 1, depth - 1)? else {
         return Ok(None);
     };
-    let mid = middle(line, param);
+    let mid = middle(compiled.line, param);
     Ok(Some(split(alloc, param, mid, &first, &second)?))
 }
 

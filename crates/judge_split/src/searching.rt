@@ -4,7 +4,6 @@ ghost use Rattle.std.specs.Prelude.{◌≡◌, ◌≤◌, ◌<◌, IfOk};
 ghost use Rattle.model_logic.specs.Choice.{Choice, IsInside};
 ghost use Rattle.model_logic.specs.Histories.{History, IsLineHistory, Meets};
 ghost use Rattle.model_line.specs.{Fits.Fits, Parameters.terminal_count};
-ghost use Rattle.net_gates.specs.NetOf.{IsNetOf};
 ghost use Rattle.model_timing.specs.Timing.{TimingValues};
 ghost use Rattle.judge_verdict.specs.verdict.Verdicts.{IsRefutation};
 ghost use Rattle.judge_split.specs.{declared.node.Outcome.Outcome, Found.IsFound, Found.IsAllYes};
@@ -18,8 +17,8 @@ use crate::verdict::verdict_at;
 use crate::widest::{middle, widest};
 use judge_verdict::verdict::Verdict;
 use model_line::laws::scripts_fit_whatever_the_intervals;
-use model_line::{Line, Memory, Script};
-use net_gates::Net;
+use model_line::{Memory, Script};
+use net_gates::Compiled;
 use net_gates::laws::nets_do_not_rest_on_the_intervals;
 use std::alloc::Global;
 
@@ -28,72 +27,79 @@ use std::alloc::Global;
 /// timing that fails in a part ends the search.
 pub fn search(
     alloc: Global,
-    line: &Line,
-    net: &Net,
+    compiled: &Compiled<'_>,
     script: &Script,
     terminal: u32,
     depth: u32,
 ) -> Result<Outcome, Memory>
-    requires of_line { IsNetOf line.now net.now }
-    requires fits { Fits line.now script.now }
-    requires terminal { terminal < terminal_count line.now }
+    requires fits { Fits compiled.now.line.now script.now }
+    requires terminal { terminal < terminal_count compiled.now.line.now }
     requires depth { depth ≤ 8 }
     ensures found { IfOk result (λ outcome.
-        IsFound line.now script.now terminal depth outcome) }
+        IsFound compiled.now.line.now script.now terminal depth outcome) }
     // Each leaf is yes: each history of each choice inside meets the obligation.
     ensures yes { IfOk result (λ outcome. IsAllYes outcome →
-        (choice : Choice) (h : History) → IsInside line.now choice →
-        IsLineHistory line.now script.now choice h → Meets line.now script.now terminal h) }
+        (choice : Choice) (h : History) → IsInside compiled.now.line.now choice →
+        IsLineHistory compiled.now.line.now script.now choice h → Meets compiled.now.line.now
+        script.now terminal h) }
     // A timing: it is inside, has no steps, and its history does not meet it.
     ensures no { IfOk result (λ outcome. (timing : TimingValues) →
-        outcome ≡ Outcome.Fails timing → IsRefutation line.now script.now terminal timing) }
+        outcome ≡ Outcome.Fails timing → IsRefutation compiled.now.line.now script.now terminal
+        timing) }
 {
     laws_below();
-    search_part(alloc, line, net, script, terminal, depth)
+    search_part(alloc, compiled, script, terminal, depth)
 }
 
 // The search over the declared box of a line.
 fn search_part(
     alloc: Global,
-    line: &Line,
-    net: &Net,
+    compiled: &Compiled<'_>,
     script: &Script,
     terminal: u32,
     depth: u32,
 ) -> Result<Outcome, Memory>
-    requires of_line { IsNetOf line.now net.now }
-    requires fits { Fits line.now script.now }
-    requires terminal { terminal < terminal_count line.now }
-    ensures { IfOk result (λ outcome. IsFound line.now script.now terminal depth outcome) }
+    requires fits { Fits compiled.now.line.now script.now }
+    requires terminal { terminal < terminal_count compiled.now.line.now }
+    ensures { IfOk result (λ outcome. IsFound compiled.now.line.now script.now terminal depth
+        outcome) }
 {
     nets_do_not_rest_on_the_intervals();
     scripts_fit_whatever_the_intervals();
-    match verdict_at(alloc, line, net, script, terminal)? {
+    match verdict_at(alloc, compiled, script, terminal)? {
         Verdict::Yes => return Ok(Outcome::Tree(leaf(alloc, Node::Yes)?)),
         Verdict::No(timing) => return Ok(Outcome::Fails(timing)),
         Verdict::Undecided => {}
     }
-    let Some(param) = widest(line) else {
+    let Some(param) = widest(compiled.line) else {
         return Ok(Outcome::Tree(leaf(alloc, Node::Undecided)?));
     };
     if depth == 0 {
         return Ok(Outcome::Tree(leaf(alloc, Node::Undecided)?));
     }
     if depth >= 3 {
-        if let Some(nodes) = quick(alloc, line, net, script, terminal, param, depth)? {
+        if let Some(nodes) = quick(alloc, compiled, script, terminal, param, depth)? {
             return Ok(Outcome::Tree(nodes));
         }
     }
-    let (lower_line, upper_line) = halves(alloc, line, param)?;
-    let lower_nodes = match search_part(alloc, &lower_line, net, script, terminal, depth - 1)? {
+    let (lower_line, upper_line) = halves(alloc, compiled.line, param)?;
+    let lower = Compiled {
+        line: &lower_line,
+        net: compiled.net,
+    };
+    let lower_nodes = match search_part(alloc, &lower, script, terminal, depth - 1)? {
         Outcome::Tree(nodes) => nodes,
         Outcome::Fails(timing) => return Ok(Outcome::Fails(timing)),
     };
-    let upper_nodes = match search_part(alloc, &upper_line, net, script, terminal, depth - 1)? {
+    let upper = Compiled {
+        line: &upper_line,
+        net: compiled.net,
+    };
+    let upper_nodes = match search_part(alloc, &upper, script, terminal, depth - 1)? {
         Outcome::Tree(nodes) => nodes,
         Outcome::Fails(timing) => return Ok(Outcome::Fails(timing)),
     };
-    let mid = middle(line, param);
+    let mid = middle(compiled.line, param);
     let nodes = split(alloc, param, mid, &lower_nodes, &upper_nodes)?;
     Ok(Outcome::Tree(nodes))
 }

@@ -13,3 +13,4 @@ pub data Tree : Type 0 where
   Or : (x y : Tree) → Tree
   Timer : (x : Tree) (pickup dropout : Time) → Tree
   Seal : (set hold : Tree) → Tree
+  deriving IsSet as Tree-set

@@ -4,7 +4,7 @@ ghost use Rattle.std.specs.Prelude.{◌≡◌, ◌<◌, ◌++◌, codes, decimal
 ghost use Rattle.model_line.specs.Parameters.{terminal_count, channel_count};
 ghost use Rattle.model_line.specs.ParamNames.{name_at};
 ghost use Rattle.model_logic.specs.Names.{HasTime};
-ghost use Rattle.net_gates.specs.{NetOf.IsNetOf, Named.GateNames};
+ghost use Rattle.net_gates.specs.{Named.GateNames};
 ghost use Rattle.net_compile.specs.NetText.{truth_text, place_text, channel_text, time_text};
 ghost use Rattle.net_compile.specs.NetText.{pair_text, gate_text, gate_line, end_line};
 ghost use Rattle.net_compile.specs.NetText.{terminal_lines, lines_below, net_text_of};
@@ -12,67 +12,66 @@ ghost use Rattle.net_compile.specs.NetText.{terminal_lines, lines_below, net_tex
 use itoa::Buffer;
 use model_line::{Line, Memory, Place, channel_name, element_word};
 use model_logic::Time;
-use net_gates::{Gate, GateId, Net};
+use net_gates::{Compiled, Gate, GateId};
 use std::alloc::Global;
 
 /// The text of a net: the number of its gates, a line for each gate, and for each terminal the
 /// lines of its key and its trip. A terminal, a channel and a parameter stand by their names.
 #[tactic(auto, unfolding(crate::specs::NetText::net_text_of))]
-pub fn net_text(alloc: Global, line: &Line, net: &Net) -> Result<Vec<u8>, Memory>
-    requires { IsNetOf line.now net.now }
-    ensures { IfOk result (λ text. text.items ≡ net_text_of line.now net.now) }
+pub fn net_text(alloc: Global, compiled: &Compiled<'_>) -> Result<Vec<u8>, Memory>
+    ensures { IfOk result (λ text. text.items ≡ net_text_of compiled.now.line.now
+        compiled.now.net.now) }
 {
     let mut text = Vec::from_slice(alloc, b"net ")?;
-    put_number(&mut text, net.len())?;
+    put_number(&mut text, compiled.net.len())?;
     put(&mut text, b"\n")?;
-    put_gates(&mut text, line, net)?;
-    put_terminals(&mut text, line, net)?;
+    put_gates(&mut text, compiled)?;
+    put_terminals(&mut text, compiled)?;
     Ok(text)
 }
 
-fn put_gates(text: &mut Vec<u8>, line: &Line, net: &Net) -> Result<(), Memory>
-    requires { IsNetOf line.now net.now }
+fn put_gates(text: &mut Vec<u8>, compiled: &Compiled<'_>) -> Result<(), Memory>
     ensures { OnOk result (text.new.items
-        ≡ text.old.items ++ lines_below (gate_line line.now net.now.gates) (length net.now.gates)) }
+        ≡ text.old.items ++ lines_below (gate_line compiled.now.line.now
+        compiled.now.net.now.gates) (length compiled.now.net.now.gates)) }
 {
-    for i in 0..net.len() {
-        put_gate_line(text, line, net, i)?;
+    for i in 0..compiled.net.len() {
+        put_gate_line(text, compiled, i)?;
     }
     Ok(())
 }
 
-fn put_terminals(text: &mut Vec<u8>, line: &Line, net: &Net) -> Result<(), Memory>
-    requires { IsNetOf line.now net.now }
+fn put_terminals(text: &mut Vec<u8>, compiled: &Compiled<'_>) -> Result<(), Memory>
     ensures { OnOk result (text.new.items
-        ≡ text.old.items ++ lines_below (terminal_lines line.now net.now)
-        (terminal_count line.now)) }
+        ≡ text.old.items ++ lines_below (terminal_lines compiled.now.line.now compiled.now.net.now)
+        (terminal_count compiled.now.line.now)) }
 {
-    for k in 0..line.terminals.len() as u32 {
-        put_terminal(text, line, net, k)?;
+    for k in 0..compiled.line.terminals.len() as u32 {
+        put_terminal(text, compiled, k)?;
     }
     Ok(())
 }
 
 #[tactic(auto, unfolding(crate::specs::NetText::gate_line))]
-fn put_gate_line(text: &mut Vec<u8>, line: &Line, net: &Net, i: u32) -> Result<(), Memory>
-    requires of_line { IsNetOf line.now net.now }
-    requires exists { i < length net.now.gates }
-    ensures { OnOk result (text.new.items ≡ text.old.items ++ gate_line line.now net.now.gates i) }
+fn put_gate_line(text: &mut Vec<u8>, compiled: &Compiled<'_>, i: u32) -> Result<(), Memory>
+    requires exists { i < length compiled.now.net.now.gates }
+    ensures { OnOk result (text.new.items ≡ text.old.items ++ gate_line compiled.now.line.now
+        compiled.now.net.now.gates i) }
 {
     put_number(text, i)?;
     put(text, b" ")?;
-    put_gate(text, line, net.gate(GateId(i)))?;
+    put_gate(text, compiled.line, compiled.net.gate(GateId(i)))?;
     put(text, b"\n")
 }
 
 #[tactic(auto, unfolding(crate::specs::NetText::terminal_lines))]
-fn put_terminal(text: &mut Vec<u8>, line: &Line, net: &Net, k: u32) -> Result<(), Memory>
-    requires of_line { IsNetOf line.now net.now }
-    requires exists { k < terminal_count line.now }
-    ensures { OnOk result (text.new.items ≡ text.old.items ++ terminal_lines line.now net.now k) }
+fn put_terminal(text: &mut Vec<u8>, compiled: &Compiled<'_>, k: u32) -> Result<(), Memory>
+    requires exists { k < terminal_count compiled.now.line.now }
+    ensures { OnOk result (text.new.items ≡ text.old.items ++ terminal_lines compiled.now.line.now
+        compiled.now.net.now k) }
 {
-    put_end(text, b"key ", line, k, net.key_gate(k))?;
-    put_end(text, b"trip ", line, k, net.trip_gate(k))
+    put_end(text, b"key ", compiled.line, k, compiled.net.key_gate(k))?;
+    put_end(text, b"trip ", compiled.line, k, compiled.net.trip_gate(k))
 }
 
 fn put_end(text: &mut Vec<u8>, word: &[u8], line: &Line, k: u32, id: GateId) -> Result<(), Memory>

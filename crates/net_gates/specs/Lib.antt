@@ -3,6 +3,7 @@ pub mod Formulas
 pub mod FormulaLaws
 pub mod Named
 pub mod NetOf
+pub mod NetOfLaws
 pub mod NetLaws
 pub mod Readers
 pub mod Listing

@@ -7,7 +7,7 @@ use Rattle.model_logic.specs.Choice.{Choice, Box, IsWithin, LeastFromOne, world_
 use Rattle.model_logic.specs.Histories.{History, IsLineHistory, PairHistory, IsPairHistory}
 use Rattle.model_logic.specs.Histories.{IsSamePairHistory, IsBothRails, CoversHistory, must_history}
 use Rattle.model_logic.specs.{Mean.mean, PairMean.pair_mean}
-use Rattle.net_gates.specs.{NetOf.NetOf, NetOf.IsNetOf, Formulas.formula_of}
+use Rattle.net_gates.specs.{NetOf.NetOf, Formulas.formula_of}
 use Rattle.model_timing.specs.{declared.step.Step.Step, Timing.ascend}
 use Rattle.run_step.specs.LaneBox.{lane_box}
 use Rattle.run_step.specs.WavesOf.{WavesOf, wave_pair, waves_history}
@@ -17,11 +17,10 @@ abbrev pub AreDelayed : {S : Type 0} → ℕ → (S → ℕ → Ends) → Line �
 AreDelayed lanes ends line spans steps =
     (lane : ℕ) → lane < lanes → LeastFromOne line (lane_box ends line spans steps lane)
 
--- a run is of a net of the line, with a span for each parameter and steps in order that leave
--- every delay one tick at least
-pub record CanRun {S : Type 0} (lanes : ℕ) (ends : S → ℕ → Ends) (line : Line) (net : NetOf)
-    (spans : List S) (steps : List (Step S)) : Type 0 where
-  pub of_line : IsNetOf line net
+-- a run has a span for each parameter of the line, and steps in order that leave every delay one
+-- tick at least
+pub record CanRun {S : Type 0} (lanes : ℕ) (ends : S → ℕ → Ends) (line : Line) (spans : List S)
+    (steps : List (Step S)) : Type 0 where
   pub ascending : IsTrue (ascend steps)
   pub delayed : AreDelayed lanes ends line spans steps
   pub one_each : length spans ≡ param_count line

@@ -2,7 +2,6 @@
 ghost use Rattle.std.specs.Prelude.{◌≡◌, OnOk, length, map};
 ghost use Rattle.std.specs.List.{All, list_any};
 ghost use Rattle.model_line.specs.Fits.{Fits};
-ghost use Rattle.net_gates.specs.NetOf.{IsNetOf};
 ghost use Rattle.call_engine.specs.Calls.{AskedCertify, AskedVerdicts, NoneFell};
 ghost use Rattle.cert_own.specs.Piece.{written_as};
 ghost use Rattle.cert_claims.specs.check.Counts.{is_no as no_verdict};
@@ -20,8 +19,8 @@ use call_engine::Engine;
 use cert_claims::text::{CERT_END, CERT_HEAD};
 use cert_own::{answers_are_certified, cert_piece};
 use judge_verdict::verdict::Verdict;
-use model_line::{Line, Script};
-use net_gates::Net;
+use model_line::Script;
+use net_gates::Compiled;
 use std::alloc::Global;
 
 /// Writes the certificate: its head, the part of each script once it is decided, and its end.
@@ -41,7 +40,11 @@ pub fn certify<G: Engine, O: Sink>(
     a_certificate_is_made_of_parts();
     put_text(out, CERT_HEAD)?;
     let scripts = study.scripts.as_slice();
-    let found = write_parts(alloc, &study.line, &study.net, scripts, engine, out)?;
+    let compiled = Compiled {
+        line: &study.line,
+        net: &study.net,
+    };
+    let found = write_parts(alloc, &compiled, scripts, engine, out)?;
     put_text(out, CERT_END)?;
     Ok(found.status())
 }
@@ -49,24 +52,22 @@ pub fn certify<G: Engine, O: Sink>(
 // Writes the part of each script in order.
 fn write_parts<G: Engine, O: Sink>(
     alloc: Global,
-    line: &Line,
-    net: &Net,
+    compiled: &Compiled<'_>,
     scripts: &[Script],
     engine: &mut G,
     out: &mut O,
 ) -> Result<Found, WriteStop>
-    requires of_line { IsNetOf line.now net.now }
-    requires fit { All (Fits line.now) scripts.now }
-    ensures asked { OnOk result (AskedVerdicts line.now (length scripts.now)
+    requires fit { All (Fits compiled.now.line.now) scripts.now }
+    ensures asked { OnOk result (AskedVerdicts compiled.now.line.now (length scripts.now)
         (G.calls engine.old) (G.calls engine.new)) }
     ensures kept { NoneFell (G.calls engine.old) (G.calls engine.new) }
-    ensures writes { WritesParts line.now scripts.now
+    ensures writes { WritesParts compiled.now.line.now scripts.now
         (sink_view O.written O.faults out.old) (sink_view O.written O.faults out.new) result }
 {
     a_certificate_is_made_of_parts();
     let mut found = NOTHING;
     for script in scripts {
-        let more = write_part(alloc, line, net, script, engine, out)?;
+        let more = write_part(alloc, compiled, script, engine, out)?;
         found = found.and(more);
     }
     Ok(found)
@@ -75,24 +76,22 @@ fn write_parts<G: Engine, O: Sink>(
 // Decides the obligations of a script and writes its part.
 fn write_part<G: Engine, O: Sink>(
     alloc: Global,
-    line: &Line,
-    net: &Net,
+    compiled: &Compiled<'_>,
     script: &Script,
     engine: &mut G,
     out: &mut O,
 ) -> Result<Found, WriteStop>
-    requires of_line { IsNetOf line.now net.now }
-    requires fits { Fits line.now script.now }
-    ensures asked { OnOk result (AskedCertify line.now
+    requires fits { Fits compiled.now.line.now script.now }
+    ensures asked { OnOk result (AskedCertify compiled.now.line.now
         (G.calls engine.old) (G.calls engine.new)) }
     ensures kept { NoneFell (G.calls engine.old) (G.calls engine.new) }
-    ensures writes { WritesPart line.now script.now
+    ensures writes { WritesPart compiled.now.line.now script.now
         (sink_view O.written O.faults out.old) (sink_view O.written O.faults out.new) result }
 {
     a_certificate_is_made_of_parts();
     answers_are_certified();
-    let said = engine.certify(alloc, line, net, script)?;
-    let piece = cert_piece(alloc, line, script, &said)?;
+    let said = engine.certify(alloc, compiled, script)?;
+    let piece = cert_piece(alloc, compiled.line, script, &said)?;
     put_text(out, piece.as_slice())?;
     Ok(found_of(said.verdicts.as_slice()))
 }

@@ -31,13 +31,7 @@ pub fn check<G: Engine>(
     ensures said { IfOk result
         (Says (check_answer study.now.line study.now.scripts.items cert.now)) }
 {
-    match engine.check(
-        alloc,
-        &study.line,
-        &study.net,
-        study.scripts.as_slice(),
-        cert,
-    ) {
+    match engine.check(alloc, &study.compiled(), study.scripts.as_slice(), cert) {
         Ok(counts) => Ok(Said::good(accepted_text(alloc, counts)?)),
         Err(CheckFault::Memory) => Err(Memory),
         Err(fault) => Ok(Said::rejected(rejected_text(alloc, study, fault)?)),

@@ -17,7 +17,7 @@ pub fn margin(alloc: Global, study: &Study, param: u32) -> Result<Said, Memory>
     ensures { IfOk result (Says (answer_of study.now.line study.now.scripts.items param)) }
 {
     let scripts = study.scripts.as_slice();
-    let answer = margin_answer(alloc, &study.line, &study.net, scripts, param)?;
+    let answer = margin_answer(alloc, &study.compiled(), scripts, param)?;
     Ok(Said {
         status: if answer.found {
             Done::Good

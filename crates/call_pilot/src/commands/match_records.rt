@@ -19,13 +19,7 @@ pub fn match_records(alloc: Global, study: &Study, records: &[Seen]) -> Result<S
     ensures { IfOk result (Says (answer_of study.now.line study.now.scripts.items
         (map seen_values records.now))) }
 {
-    let answer = match_answer(
-        alloc,
-        &study.line,
-        &study.net,
-        study.scripts.as_slice(),
-        records,
-    )?;
+    let answer = match_answer(alloc, &study.compiled(), study.scripts.as_slice(), records)?;
     let found = Found {
         some_no: answer.impossible,
         some_open: answer.unsettled,

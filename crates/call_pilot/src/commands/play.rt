@@ -1,7 +1,6 @@
 //! The command `play`: the play text of a line, scripts and timings.
 ghost use Rattle.std.specs.Prelude.{◌*◌, ℕ, List, OnOk, length, map};
 ghost use Rattle.std.specs.List.{All};
-ghost use Rattle.net_gates.specs.NetOf.{IsNetOf};
 ghost use Rattle.model_timing.specs.{Inside.IsTimingInside};
 ghost use Rattle.model_timing.specs.NamedValues.{values_of};
 ghost use Rattle.call_engine.specs.Calls.{AskedPlay, AskedPlays};
@@ -15,9 +14,9 @@ use crate::commands::laws::each_play_has_one_text;
 use base_text::store::Sink;
 use call_answer::{Done, Study, WriteStop, put_text};
 use call_engine::Engine;
-use model_line::{Line, Script};
+use model_line::Script;
 use model_timing::NamedTiming;
-use net_gates::Net;
+use net_gates::Compiled;
 use std::alloc::Global;
 
 /// Writes the play text: each timing over each script.
@@ -39,39 +38,35 @@ pub fn play<G: Engine, O: Sink>(
     each_play_has_one_text();
     put_text(out, b"timing,script,tick,terminal,signal,level\n")?;
     let scripts = study.scripts.as_slice();
-    write_timings(
-        alloc,
-        &study.line,
-        &study.net,
-        scripts,
-        timings,
-        engine,
-        out,
-    )?;
+    let compiled = Compiled {
+        line: &study.line,
+        net: &study.net,
+    };
+    write_timings(alloc, &compiled, scripts, timings, engine, out)?;
     Ok(Done::Good)
 }
 
 // Writes the rows of each timing in order.
 fn write_timings<G: Engine, O: Sink>(
     alloc: Global,
-    line: &Line,
-    net: &Net,
+    compiled: &Compiled<'_>,
     scripts: &[Script],
     timings: &[NamedTiming],
     engine: &mut G,
     out: &mut O,
 ) -> Result<(), WriteStop>
-    requires of_line { IsNetOf line.now net.now }
-    requires inside { All (λ timing. IsTimingInside line.now timing.timing) timings.now }
-    ensures asked { OnOk result (AskedPlays line.now (length timings.now * length scripts.now)
+    requires inside { All (λ timing. IsTimingInside compiled.now.line.now timing.timing)
+        timings.now }
+    ensures asked { OnOk result (AskedPlays compiled.now.line.now
+        (length timings.now * length scripts.now)
         (G.calls engine.old) (G.calls engine.new)) }
     ensures writes { (text : List ℕ) →
-        Pieces (IsTimingText line.now scripts.now) (map values_of timings.now) text →
+        Pieces (IsTimingText compiled.now.line.now scripts.now) (map values_of timings.now) text →
         Writes (sink_view O.written O.faults out.old) (sink_view O.written O.faults out.new)
         text result }
 {
     for timing in timings {
-        write_timing(alloc, line, net, scripts, timing, engine, out)?;
+        write_timing(alloc, compiled, scripts, timing, engine, out)?;
     }
     Ok(())
 }
@@ -79,23 +74,22 @@ fn write_timings<G: Engine, O: Sink>(
 // Writes the rows of one timing, each script in order.
 fn write_timing<G: Engine, O: Sink>(
     alloc: Global,
-    line: &Line,
-    net: &Net,
+    compiled: &Compiled<'_>,
     scripts: &[Script],
     timing: &NamedTiming,
     engine: &mut G,
     out: &mut O,
 ) -> Result<(), WriteStop>
-    requires of_line { IsNetOf line.now net.now }
-    requires inside { IsTimingInside line.now timing.now.timing }
-    ensures asked { OnOk result (AskedPlays line.now (length scripts.now)
+    requires inside { IsTimingInside compiled.now.line.now timing.now.timing }
+    ensures asked { OnOk result (AskedPlays compiled.now.line.now (length scripts.now)
         (G.calls engine.old) (G.calls engine.new)) }
-    ensures writes { (text : List ℕ) → IsTimingText line.now scripts.now (values_of timing.now) text →
+    ensures writes { (text : List ℕ) → IsTimingText compiled.now.line.now scripts.now
+        (values_of timing.now) text →
         Writes (sink_view O.written O.faults out.old) (sink_view O.written O.faults out.new)
         text result }
 {
     for script in scripts {
-        write_run(alloc, line, net, script, timing, engine, out)?;
+        write_run(alloc, compiled, script, timing, engine, out)?;
     }
     Ok(())
 }
@@ -103,20 +97,20 @@ fn write_timing<G: Engine, O: Sink>(
 // Writes the rows of one timing and one script.
 fn write_run<G: Engine, O: Sink>(
     alloc: Global,
-    line: &Line,
-    net: &Net,
+    compiled: &Compiled<'_>,
     script: &Script,
     timing: &NamedTiming,
     engine: &mut G,
     out: &mut O,
 ) -> Result<(), WriteStop>
-    requires of_line { IsNetOf line.now net.now }
-    requires inside { IsTimingInside line.now timing.now.timing }
-    ensures asked { OnOk result (AskedPlay line.now (G.calls engine.old) (G.calls engine.new)) }
-    ensures writes { (text : List ℕ) → IsRunText line.now (values_of timing.now) script.now text →
+    requires inside { IsTimingInside compiled.now.line.now timing.now.timing }
+    ensures asked { OnOk result (AskedPlay compiled.now.line.now (G.calls engine.old)
+        (G.calls engine.new)) }
+    ensures writes { (text : List ℕ) → IsRunText compiled.now.line.now (values_of timing.now)
+        script.now text →
         Writes (sink_view O.written O.faults out.old) (sink_view O.written O.faults out.new)
         text result }
 {
-    let rows = engine.play(alloc, line, net, script, timing)?;
+    let rows = engine.play(alloc, compiled, script, timing)?;
     put_text(out, rows.as_slice())
 }

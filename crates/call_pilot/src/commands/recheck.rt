@@ -22,13 +22,7 @@ pub fn recheck(alloc: Global, study: &Study, trees: &[u8]) -> Result<Said, Memor
     ensures { IfOk result
         (Says (recheck_answer study.now.line study.now.scripts.items trees.now)) }
 {
-    match check_split(
-        alloc,
-        &study.line,
-        &study.net,
-        study.scripts.as_slice(),
-        trees,
-    ) {
+    match check_split(alloc, &study.compiled(), study.scripts.as_slice(), trees) {
         Ok(counts) => Ok(Said::good(accepted_text(alloc, counts)?)),
         Err(SplitFault::Memory) => Err(Memory),
         Err(fault) => Ok(Said::rejected(rejected_text(alloc, study, fault)?)),

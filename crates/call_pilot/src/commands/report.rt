@@ -13,6 +13,6 @@ pub fn report(alloc: Global, study: &Study) -> Result<Said, Memory>
     requires { IsStudy study.now }
     ensures { IfOk result (Says (report_answer study.now.line study.now.scripts.items)) }
 {
-    let text = report_text(alloc, &study.line, &study.net, study.scripts.as_slice())?;
+    let text = report_text(alloc, &study.compiled(), study.scripts.as_slice())?;
     Ok(Said::good(text))
 }

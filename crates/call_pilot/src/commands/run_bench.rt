@@ -2,7 +2,6 @@
 ghost use Rattle.std.specs.Prelude.{◌≡◌, ◌≤◌, IfOk, OnOk, length};
 ghost use Rattle.std.specs.List.{All};
 ghost use Rattle.model_line.specs.Fits.{Fits};
-ghost use Rattle.net_gates.specs.NetOf.{IsNetOf};
 ghost use Rattle.cert_claims.specs.declared.check.fault.CheckFault.{CheckFault};
 ghost use Rattle.call_engine.specs.Calls.{AskedCertify, AskedVerdicts, NoneFell};
 ghost use Rattle.call_answer.specs.Answers.{Says};
@@ -18,9 +17,9 @@ use cert_claims::text::{CERT_END, CERT_HEAD, a_certificate_is_its_parts};
 use cert_own::{
     a_certificate_grows_by_parts, answers_are_certified, cert_piece, what_is_certified_is_accepted,
 };
-use model_line::{Line, Memory, Script};
+use model_line::{Memory, Script};
 use net_compile::compile;
-use net_gates::Net;
+use net_gates::Compiled;
 use std::alloc::Global;
 
 /// Certifies the first scripts of the bench and checks the certificate. That it is rejected never
@@ -34,8 +33,12 @@ pub fn bench<G: Engine>(alloc: Global, number: u32, engine: &mut G) -> Result<Sa
     let line = bench_line(alloc)?;
     let scripts = bench_scripts(alloc, number)?;
     let net = compile(alloc, &line)?;
-    let cert = certified_text(alloc, &line, &net, scripts.as_slice(), engine)?;
-    match engine.check(alloc, &line, &net, scripts.as_slice(), cert.as_slice()) {
+    let compiled = Compiled {
+        line: &line,
+        net: &net,
+    };
+    let cert = certified_text(alloc, &compiled, scripts.as_slice(), engine)?;
+    match engine.check(alloc, &compiled, scripts.as_slice(), cert.as_slice()) {
         Ok(counts) => {
             let text = bench_text(alloc, number, counts)?;
             Ok(Said::good(text))
@@ -54,24 +57,22 @@ fn want_of_memory(_fault: CheckFault) -> Memory
 // The certificate of the scripts, as the engine decides them.
 fn certified_text<G: Engine>(
     alloc: Global,
-    line: &Line,
-    net: &Net,
+    compiled: &Compiled<'_>,
     scripts: &[Script],
     engine: &mut G,
 ) -> Result<Vec<u8>, Memory>
-    requires of_line { IsNetOf line.now net.now }
-    requires fit { All (Fits line.now) scripts.now }
-    ensures asked { OnOk result (AskedVerdicts line.now (length scripts.now)
+    requires fit { All (Fits compiled.now.line.now) scripts.now }
+    ensures asked { OnOk result (AskedVerdicts compiled.now.line.now (length scripts.now)
         (G.calls engine.old) (G.calls engine.new)) }
     ensures kept { NoneFell (G.calls engine.old) (G.calls engine.new) }
-    ensures text { IfOk result (λ text. IsOwnText line.now scripts.now text.items) }
+    ensures text { IfOk result (λ text. IsOwnText compiled.now.line.now scripts.now text.items) }
 {
     a_certificate_grows_by_parts();
     a_certificate_is_its_parts();
     what_is_certified_is_accepted();
     let mut text = Vec::from_slice(alloc, CERT_HEAD)?;
     for script in scripts {
-        push_certified(alloc, &mut text, line, net, script, engine)?;
+        push_certified(alloc, &mut text, compiled, script, engine)?;
     }
     text.extend_from_slice(CERT_END)?;
     Ok(text)
@@ -81,20 +82,19 @@ fn certified_text<G: Engine>(
 fn push_certified<G: Engine>(
     alloc: Global,
     text: &mut Vec<u8>,
-    line: &Line,
-    net: &Net,
+    compiled: &Compiled<'_>,
     script: &Script,
     engine: &mut G,
 ) -> Result<(), Memory>
-    requires of_line { IsNetOf line.now net.now }
-    requires fits { Fits line.now script.now }
-    ensures asked { AskedCertify line.now (G.calls engine.old) (G.calls engine.new) }
+    requires fits { Fits compiled.now.line.now script.now }
+    ensures asked { AskedCertify compiled.now.line.now (G.calls engine.old) (G.calls engine.new) }
     ensures kept { NoneFell (G.calls engine.old) (G.calls engine.new) }
-    ensures text { OnOk result (HasPart line.now script.now text.old.items text.new.items) }
+    ensures text { OnOk result (HasPart compiled.now.line.now script.now text.old.items
+        text.new.items) }
 {
     answers_are_certified();
-    let said = engine.certify(alloc, line, net, script)?;
-    let piece = cert_piece(alloc, line, script, &said)?;
+    let said = engine.certify(alloc, compiled, script)?;
+    let piece = cert_piece(alloc, compiled.line, script, &said)?;
     text.extend_from_slice(piece.as_slice())?;
     Ok(())
 }

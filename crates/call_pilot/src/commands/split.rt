@@ -2,7 +2,6 @@
 ghost use Rattle.std.specs.Prelude.{◌≡◌, ◌≤◌, IfOk, map};
 ghost use Rattle.std.specs.List.{list_any};
 ghost use Rattle.model_line.specs.{Fits.Fits, Parameters.terminal_count};
-ghost use Rattle.net_gates.specs.NetOf.{IsNetOf};
 ghost use Rattle.judge_verdict.specs.verdict.OneEach.{OneEach};
 ghost use Rattle.judge_split.specs.Found.{IsFound};
 ghost use Rattle.cert_split.specs.text.Piece.{ArePrintable, written_as};
@@ -20,8 +19,8 @@ use cert_split::text::{
     split_piece, what_a_search_finds_can_be_written,
 };
 use judge_split::{Outcome, search};
-use model_line::{Line, Memory, Script};
-use net_gates::Net;
+use model_line::{Memory, Script};
+use net_gates::Compiled;
 use std::alloc::Global;
 
 /// The split trees of all obligations, at most `depth` splits above one another.
@@ -36,8 +35,12 @@ pub fn split(alloc: Global, study: &Study, depth: u32) -> Result<Said, Memory>
     let mut text = Vec::from_slice(alloc, SPLIT_HEAD)?;
     let mut found = NOTHING;
     let scripts = study.scripts.as_slice();
+    let compiled = Compiled {
+        line: &study.line,
+        net: &study.net,
+    };
     for script in scripts {
-        let more = push_part(alloc, &mut text, &study.line, &study.net, script, depth)?;
+        let more = push_part(alloc, &mut text, &compiled, script, depth)?;
         found = found.and(more);
     }
     text.extend_from_slice(SPLIT_END)?;
@@ -51,18 +54,17 @@ pub fn split(alloc: Global, study: &Study, depth: u32) -> Result<Said, Memory>
 fn push_part(
     alloc: Global,
     text: &mut Vec<u8>,
-    line: &Line,
-    net: &Net,
+    compiled: &Compiled<'_>,
     script: &Script,
     depth: u32,
 ) -> Result<Found, Memory>
-    requires of_line { IsNetOf line.now net.now }
-    requires fits { Fits line.now script.now }
+    requires fits { Fits compiled.now.line.now script.now }
     requires depth { depth ≤ 8 }
-    ensures { IfOk result (HasSplits line.now depth script.now text.old.items text.new.items) }
+    ensures { IfOk result (HasSplits compiled.now.line.now depth script.now text.old.items
+        text.new.items) }
 {
-    let outcomes = outcomes(alloc, line, net, script, depth)?;
-    let piece = split_piece(alloc, line, script, outcomes.as_slice())?;
+    let outcomes = outcomes(alloc, compiled, script, depth)?;
+    let piece = split_piece(alloc, compiled.line, script, outcomes.as_slice())?;
     text.extend_from_slice(piece.as_slice())?;
     Ok(found_of(outcomes.as_slice()))
 }
@@ -70,23 +72,21 @@ fn push_part(
 // The outcome of the search for each terminal, in line order.
 fn outcomes(
     alloc: Global,
-    line: &Line,
-    net: &Net,
+    compiled: &Compiled<'_>,
     script: &Script,
     depth: u32,
 ) -> Result<Vec<Outcome>, Memory>
-    requires of_line { IsNetOf line.now net.now }
-    requires fits { Fits line.now script.now }
+    requires fits { Fits compiled.now.line.now script.now }
     requires depth { depth ≤ 8 }
     ensures found { IfOk result (λ all.
-        OneEach (λ k outcome. IsFound line.now script.now k depth outcome)
-        (terminal_count line.now) all.items) }
-    ensures printable { IfOk result (λ all. ArePrintable line.now all.items) }
+        OneEach (λ k outcome. IsFound compiled.now.line.now script.now k depth outcome)
+        (terminal_count compiled.now.line.now) all.items) }
+    ensures printable { IfOk result (λ all. ArePrintable compiled.now.line.now all.items) }
 {
     what_a_search_finds_can_be_written();
     let mut all = Vec::new(alloc);
-    for k in 0..line.terminals.len() {
-        let outcome = search(alloc, line, net, script, k as u32, depth)?;
+    for k in 0..compiled.line.terminals.len() {
+        let outcome = search(alloc, compiled, script, k as u32, depth)?;
         all.push(outcome)?;
     }
     Ok(all)

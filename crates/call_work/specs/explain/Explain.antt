@@ -1,7 +1,6 @@
 -- What is said of a record, and why nothing is.
 use Rattle.std.specs.Prelude.{◌≡◌, ◌<◌, ◌≤◌, ℕ, List, Option, Some, Result, Ok, Err, length, slice_get}
 use Rattle.model_line.specs.{declared.line.Line.Line, declared.script.Script.Script}
-use Rattle.net_gates.specs.NetOf.{IsNetOf}
 use Rattle.judge_match.specs.matching.Waves.{SeenValues, records_said}
 use Rattle.judge_match.specs.matching.Recorded.{recorded}
 use Rattle.judge_match.specs.explain.Answers.{IsExplanation}
@@ -14,9 +13,8 @@ use Rattle.call_work.specs.declared.explain.stop.ExplainStop.{ExplainStop}
 use Rattle.call_work.specs.declared.explain.stop.ExplainStop.TheVariants as stop
 use Rattle.call_work.specs.declared.explain.unpicked.Unpicked.{Unpicked}
 
--- the net is the line's, and the file is not too long
+-- the file is not too long
 pub record IsAsked (asked : Asked) : Type 0 where
-  pub of_line : IsNetOf asked.line.now asked.net.now
   pub short : length asked.record.now ≤ 1048576
 
 -- the record that is asked about is read, and this is an answer to it, with its status and text;

@@ -4,7 +4,6 @@ use Rattle.std.specs.List.{All}
 use Rattle.model_line.specs.Fits.{Fits}
 use Rattle.file_tables.specs.script.SoFar.{AreOnce}
 use Rattle.file_study.specs.sweeps.Studies.{script_names}
-use Rattle.net_gates.specs.NetOf.{IsNetOf}
 use Rattle.file_study.specs.study.Studies.{StudyValues, study_of}
 use Rattle.file_study.specs.sweeps.Groups.{group_values, single_group}
 use Rattle.call_files.specs.Study.{IsSaid}
@@ -32,9 +31,8 @@ studied l = record {
   groups = l.groups.items;
 }
 
--- the net is that of the line, and the scripts fit it, no two of one name
+-- the scripts fit the line, no two of one name
 pub record IsLoaded (l : Loaded) : Type 0 where
-  pub of_line : IsNetOf l.study.line l.study.net
   pub fit : All (Fits l.study.line) l.study.scripts.items
   pub once : AreOnce (script_names l.study.scripts.items)
 

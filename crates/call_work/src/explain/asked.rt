@@ -1,14 +1,13 @@
 //! What is asked.
 
 use call_ask::ExplainForm;
-use model_line::{Line, Script};
-use net_gates::Net;
+use model_line::Script;
+use net_gates::Compiled;
 
 /// A line with its net and scripts, and the bytes of a record file.
 #[derive(Clone, Copy)]
 pub struct Asked<'a> {
-    pub line: &'a Line,
-    pub net: &'a Net,
+    pub compiled: Compiled<'a>,
     pub scripts: &'a [Script],
     pub record: &'a [u8],
     /// The number of the script whose record is asked about, if one is named.

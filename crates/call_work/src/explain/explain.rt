@@ -18,15 +18,15 @@ use std::alloc::Global;
 pub fn explain_said(alloc: Global, asked: &Asked) -> Result<Said, ExplainStop>
     requires { IsAsked asked.now }
     ensures { MatchResult result
-        (Says (explain_answer asked.now.line.now asked.now.scripts.now asked.now.record.now
+        (Says (explain_answer asked.now.compiled.line.now asked.now.scripts.now asked.now.record.now
         asked.now.script asked.now.within asked.now.form))
-        (IsExplainStop asked.now.line.now asked.now.scripts.now asked.now.record.now
+        (IsExplainStop asked.now.compiled.line.now asked.now.scripts.now asked.now.record.now
         asked.now.script) }
 {
     if asked.scripts.len() > 64 {
         return Err(ExplainStop::TooManyScripts);
     }
-    let records = match read_seen(alloc, asked.line, asked.scripts, asked.record) {
+    let records = match read_seen(alloc, asked.compiled.line, asked.scripts, asked.record) {
         Ok(records) => records,
         Err(SeenFault::Memory) => return Err(ExplainStop::Memory),
         Err(fault) => return Err(ExplainStop::Record(fault)),
@@ -38,12 +38,11 @@ pub fn explain_said(alloc: Global, asked: &Asked) -> Result<Said, ExplainStop>
     let script = &asked.scripts[seen.script as usize];
     let explanation = explain(
         alloc,
-        asked.line,
-        asked.net,
+        &asked.compiled,
         script,
         seen,
         asked.within,
         asked.analyses,
     )?;
-    Ok(said_of(alloc, asked.line, asked.form, explanation)?)
+    Ok(said_of(alloc, asked.compiled.line, asked.form, explanation)?)
 }

@@ -52,13 +52,7 @@ fn text_of(alloc: Global, study: &Study, ask: &MapAsk, axes: &Axes) -> Result<Ve
         IsTextOver study.now.line study.now.scripts.items ask.now.form ask.now.x.now
         (option_copied ask.now.y) axes.now text.items) }
 {
-    let cells = cells(
-        alloc,
-        &study.line,
-        &study.net,
-        study.scripts.as_slice(),
-        axes,
-    )?;
+    let cells = cells(alloc, &study.compiled(), study.scripts.as_slice(), axes)?;
     match ask.form {
         MapForm::Drawing => drawing_text(alloc, study, ask, axes, cells.as_slice()),
         MapForm::Records => map_text(

@@ -3,13 +3,12 @@
 ghost use Rattle.std.specs.Prelude.{◌≡◌, ◌<◌, length, IfOk, MatchOption};
 ghost use Rattle.model_line.specs.Parameters.{terminal_count, param_count};
 ghost use Rattle.model_line.specs.Fits.{Fits};
-ghost use Rattle.net_gates.specs.NetOf.{IsNetOf};
 ghost use Rattle.cert_claims.specs.{check.Refutations.IsRefutation, check.NoFaults.IsNoFault};
 
 use crate::check::inside::first_outside;
 use crate::check::refutation::met_at;
-use model_line::{Line, Memory, Script};
-use net_gates::Net;
+use model_line::{Memory, Script};
+use net_gates::Compiled;
 use std::alloc::Global;
 
 /// Why numbers do not refute an obligation.
@@ -25,25 +24,23 @@ pub enum NoFault {
 /// What is wrong with the numbers of a `no`. None where they refute the obligation of the terminal.
 pub fn check_no(
     alloc: Global,
-    line: &Line,
-    net: &Net,
+    compiled: &Compiled<'_>,
     script: &Script,
     terminal: u32,
     values: &[u32],
 ) -> Result<Option<NoFault>, Memory>
-    requires of_line { IsNetOf line.now net.now }
-    requires fits { Fits line.now script.now }
-    requires terminal { terminal < terminal_count line.now }
-    requires numbers { length values.now ≡ param_count line.now }
+    requires fits { Fits compiled.now.line.now script.now }
+    requires terminal { terminal < terminal_count compiled.now.line.now }
+    requires numbers { length values.now ≡ param_count compiled.now.line.now }
     ensures { IfOk result (λ wrong. MatchOption wrong
-        (IsRefutation line.now script.now terminal values.now)
-        (λ fault. IsNoFault line.now script.now terminal values.now fault)) }
+        (IsRefutation compiled.now.line.now script.now terminal values.now)
+        (λ fault. IsNoFault compiled.now.line.now script.now terminal values.now fault)) }
 {
-    if let Some(param) = first_outside(line, values) {
+    if let Some(param) = first_outside(compiled.line, values) {
         let value = values[param as usize];
         return Ok(Some(NoFault::Outside { param, value }));
     }
-    match met_at(alloc, line, net, script, terminal, values)? {
+    match met_at(alloc, compiled, script, terminal, values)? {
         Some(tick) => Ok(Some(NoFault::Passes { tick })),
         None => Ok(None),
     }

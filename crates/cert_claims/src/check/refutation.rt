@@ -2,7 +2,6 @@
 
 ghost use Rattle.std.specs.Prelude.{◌≡◌, ◌<◌, IfOk, MatchOption};
 ghost use Rattle.model_line.specs.{Parameters.terminal_count, Fits.Fits};
-ghost use Rattle.net_gates.specs.NetOf.{IsNetOf};
 ghost use Rattle.model_timing.specs.Inside.{IsTimingInside};
 ghost use Rattle.cert_claims.specs.check.Refutations.{steady_timing, FailsAt, PassesAt};
 
@@ -11,7 +10,7 @@ use model_line::laws::deadlines_are_below_the_horizon;
 use model_line::{Line, Memory, Script};
 use model_logic::laws::each_choice_has_one_history;
 use model_timing::Step;
-use net_gates::Net;
+use net_gates::Compiled;
 use run_changes::changes::run_tracks;
 use run_signal::{Level, Tick};
 use run_step::laws::a_timing_is_one_choice;
@@ -21,28 +20,26 @@ use std::alloc::Global;
 /// it.
 pub(crate) fn met_at(
     alloc: Global,
-    line: &Line,
-    net: &Net,
+    compiled: &Compiled<'_>,
     script: &Script,
     terminal: u32,
     values: &[u32],
 ) -> Result<Option<u32>, Memory>
-    requires of_line { IsNetOf line.now net.now }
-    requires fits { Fits line.now script.now }
-    requires terminal { terminal < terminal_count line.now }
-    requires inside { IsTimingInside line.now (steady_timing values.now) }
+    requires fits { Fits compiled.now.line.now script.now }
+    requires terminal { terminal < terminal_count compiled.now.line.now }
+    requires inside { IsTimingInside compiled.now.line.now (steady_timing values.now) }
     ensures { IfOk result (λ met. MatchOption met
-        (FailsAt line.now script.now terminal values.now)
-        (λ t. PassesAt line.now script.now terminal values.now t)) }
+        (FailsAt compiled.now.line.now script.now terminal values.now)
+        (λ t. PassesAt compiled.now.line.now script.now terminal values.now t)) }
 {
     a_timing_is_one_choice();
     each_choice_has_one_history();
     deadlines_are_below_the_horizon();
-    let numbers = ticks_of(alloc, line, values)?;
+    let numbers = ticks_of(alloc, compiled.line, values)?;
     let steps: [Step<Tick>; 0] = [];
-    let tracks = run_tracks::<Level>(alloc, net, line, script, numbers.as_slice(), &steps)?;
+    let tracks = run_tracks::<Level>(alloc, compiled, script, numbers.as_slice(), &steps)?;
     let trip = &tracks.trips[terminal as usize];
-    Ok(met_tick(trip, script, line.horizon))
+    Ok(met_tick(trip, script, compiled.line.horizon))
 }
 
 // The numbers as ticks.

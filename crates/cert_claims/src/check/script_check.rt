@@ -5,7 +5,6 @@ ghost use Rattle.std.specs.List.{All};
 ghost use Rattle.model_history.specs.Rails.{Rails};
 ghost use Rattle.model_logic.specs.PairMean.{PairSignals};
 ghost use Rattle.model_line.specs.{Parameters.terminal_count, Fits.Fits};
-ghost use Rattle.net_gates.specs.NetOf.{IsNetOf};
 ghost use Rattle.run_waves.specs.waves.Waves.{wave_at, AreWaves};
 ghost use Rattle.cert_claims.specs.text.Grammar.{HasNumbers, claims_in, verdict_in};
 ghost use Rattle.cert_claims.specs.text.Text.{CanBeWritten};
@@ -18,13 +17,13 @@ use crate::check::cover::first_uncovered;
 use crate::check::held::is_held;
 use crate::check::no::check_no;
 use crate::text::{Claim, ScriptClaims};
+use model_line::Script;
 use model_line::laws::deadlines_are_below_the_horizon;
-use model_line::{Line, Script};
 use model_logic::laws::{
     covered_claims_cover, each_line_has_a_choice_inside, the_rule_is_exact,
     the_rule_speaks_for_what_is_covered,
 };
-use net_gates::Net;
+use net_gates::Compiled;
 use run_waves::derived::{gate_waves, nth};
 use run_waves::waves::Runs;
 use std::alloc::Global;
@@ -33,33 +32,31 @@ use std::alloc::Global;
 /// verdicts by terminal; the error is the first fault in this order.
 pub fn check_claims(
     alloc: Global,
-    line: &Line,
-    net: &Net,
+    compiled: &Compiled<'_>,
     script: &Script,
     said: &ScriptClaims,
 ) -> Result<(), ClaimFault>
-    requires of_line { IsNetOf line.now net.now }
-    requires fits { Fits line.now script.now }
-    requires written { CanBeWritten line.now (claims_in said.now) }
+    requires fits { Fits compiled.now.line.now script.now }
+    requires written { CanBeWritten compiled.now.line.now (claims_in said.now) }
     ensures exact { MatchResult result
-        (λ _. AreAccepted line.now script.now (claims_in said.now))
-        (λ fault. IsFirstFault line.now script.now (claims_in said.now) fault) }
+        (λ _. AreAccepted compiled.now.line.now script.now (claims_in said.now))
+        (λ fault. IsFirstFault compiled.now.line.now script.now (claims_in said.now) fault) }
     // Whatever the claims are: each history of each choice inside meets what has a `yes`.
-    ensures yes { IfOk result (λ _. AreSound line.now script.now (claims_in said.now)) }
+    ensures yes { IfOk result (λ _. AreSound compiled.now.line.now script.now
+        (claims_in said.now)) }
 {
     each_line_has_a_choice_inside();
     covered_claims_cover();
     the_rule_speaks_for_what_is_covered();
     deadlines_are_below_the_horizon();
     let keys = said.keys.as_slice();
-    let waves = gate_waves(alloc, net, line, script, keys)?;
-    if let Some(uncovered) = first_uncovered(line, net, keys, waves.as_slice()) {
+    let waves = gate_waves(alloc, compiled, script, keys)?;
+    if let Some(uncovered) = first_uncovered(compiled, keys, waves.as_slice()) {
         return Err(ClaimFault::NotCovered(uncovered));
     }
     check_verdicts(
         alloc,
-        line,
-        net,
+        compiled,
         script,
         waves.as_slice(),
         said.verdicts.as_slice(),
@@ -69,26 +66,27 @@ pub fn check_claims(
 // Checks the verdicts by the waves of the gates.
 fn check_verdicts(
     alloc: Global,
-    line: &Line,
-    net: &Net,
+    compiled: &Compiled<'_>,
     script: &Script,
     waves: &[Runs],
     verdicts: &[Claim],
 ) -> Result<(), ClaimFault>
-    requires of_line { IsNetOf line.now net.now }
-    requires fits { Fits line.now script.now }
-    requires waves { AreWaves (length net.now.gates) line.now.horizon waves.now }
-    requires many { length verdicts.now ≡ terminal_count line.now }
-    requires numbers { All (HasNumbers line.now) (map verdict_in verdicts.now) }
+    requires fits { Fits compiled.now.line.now script.now }
+    requires waves { AreWaves (length compiled.now.net.now.gates) compiled.now.line.now.horizon
+        waves.now }
+    requires many { length verdicts.now ≡ terminal_count compiled.now.line.now }
+    requires numbers { All (HasNumbers compiled.now.line.now) (map verdict_in verdicts.now) }
     ensures { (claims : PairSignals) →
-        AreGateWaves line.now script.now net.now.gates claims waves.now → MatchResult result
-        (λ _. AreSupported line.now script.now claims (map verdict_in verdicts.now))
-        (λ fault. IsVerdictFault line.now script.now claims (map verdict_in verdicts.now) fault) }
+        AreGateWaves compiled.now.line.now script.now compiled.now.net.now.gates claims waves.now →
+        MatchResult result
+        (λ _. AreSupported compiled.now.line.now script.now claims (map verdict_in verdicts.now))
+        (λ fault. IsVerdictFault compiled.now.line.now script.now claims
+        (map verdict_in verdicts.now) fault) }
 {
     for i in 0..verdicts.len() {
         let terminal = i as u32;
-        let trip = nth(waves, net.trip_gate(terminal).0);
-        check_claim(alloc, line, net, script, terminal, trip, &verdicts[i])?;
+        let trip = nth(waves, compiled.net.trip_gate(terminal).0);
+        check_claim(alloc, compiled, script, terminal, trip, &verdicts[i])?;
     }
     Ok(())
 }
@@ -96,22 +94,22 @@ fn check_verdicts(
 // Checks the verdict of a terminal, whose trip is this wave.
 fn check_claim(
     alloc: Global,
-    line: &Line,
-    net: &Net,
+    compiled: &Compiled<'_>,
     script: &Script,
     terminal: u32,
     trip: &Runs,
     claim: &Claim,
 ) -> Result<(), ClaimFault>
-    requires of_line { IsNetOf line.now net.now }
-    requires fits { Fits line.now script.now }
-    requires terminal { terminal < terminal_count line.now }
-    requires trip { length trip.now ≡ line.now.horizon }
-    requires numbers { HasNumbers line.now (verdict_in claim.now) }
+    requires fits { Fits compiled.now.line.now script.now }
+    requires terminal { terminal < terminal_count compiled.now.line.now }
+    requires trip { length trip.now ≡ compiled.now.line.now.horizon }
+    requires numbers { HasNumbers compiled.now.line.now (verdict_in claim.now) }
     ensures { (pairs : ℕ → Rails) →
-        ((t : ℕ) → t < line.now.horizon → wave_at trip.now t ≡ pairs t) → MatchResult result
-        (λ _. IsSupported line.now script.now terminal pairs (verdict_in claim.now))
-        (λ fault. IsFaultOf line.now script.now terminal pairs (verdict_in claim.now) fault) }
+        ((t : ℕ) → t < compiled.now.line.now.horizon → wave_at trip.now t ≡ pairs t) → MatchResult
+        result
+        (λ _. IsSupported compiled.now.line.now script.now terminal pairs (verdict_in claim.now))
+        (λ fault. IsFaultOf compiled.now.line.now script.now terminal pairs (verdict_in claim.now)
+        fault) }
 {
     the_rule_is_exact();
     deadlines_are_below_the_horizon();
@@ -124,7 +122,7 @@ fn check_claim(
             }
         }
         Claim::No(values) => {
-            match check_no(alloc, line, net, script, terminal, values.as_slice())? {
+            match check_no(alloc, compiled, script, terminal, values.as_slice())? {
                 Some(fault) => Err(ClaimFault::No { terminal, fault }),
                 None => Ok(()),
             }

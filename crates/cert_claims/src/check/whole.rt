@@ -3,7 +3,6 @@
 ghost use Rattle.std.specs.Prelude.{◌≡◌, ◌≤◌, ℕ, List, length, map, IfOk, MatchResult};
 ghost use Rattle.std.specs.List.{All};
 ghost use Rattle.model_line.specs.Fits.{Fits};
-ghost use Rattle.net_gates.specs.NetOf.{IsNetOf};
 ghost use Rattle.cert_claims.specs.text.Grammar.{claims_in, IsCertificate, IsCertificateFault};
 ghost use Rattle.cert_claims.specs.text.Text.{CanBeWritten};
 ghost use Rattle.cert_claims.specs.check.Check.{IsAccepted, IsCheckFault, IsSound};
@@ -18,7 +17,7 @@ use crate::text::{
 };
 use base_text::lines::TextFault;
 use model_line::{Line, Script};
-use net_gates::Net;
+use net_gates::Compiled;
 use std::alloc::Global;
 
 /// Checks a certificate of the scripts, and counts its verdicts. The error is the first fault: the
@@ -26,25 +25,23 @@ use std::alloc::Global;
 /// then the first verdict that does not stand.
 pub fn check(
     alloc: Global,
-    line: &Line,
-    net: &Net,
+    compiled: &Compiled<'_>,
     scripts: &[Script],
     cert: &[u8],
 ) -> Result<Counts, CheckFault>
-    requires of_line { IsNetOf line.now net.now }
-    requires fits { All (Fits line.now) scripts.now }
+    requires fits { All (Fits compiled.now.line.now) scripts.now }
     requires few { length scripts.now ≤ 64 }
     ensures exact { MatchResult result
-        (λ counts. IsAccepted line.now scripts.now cert.now counts)
-        (λ fault. IsCheckFault line.now scripts.now cert.now fault) }
+        (λ counts. IsAccepted compiled.now.line.now scripts.now cert.now counts)
+        (λ fault. IsCheckFault compiled.now.line.now scripts.now cert.now fault) }
     // Whatever the claims are: each history of each choice inside meets what has a `yes`.
-    ensures yes { IfOk result (λ _. IsSound line.now scripts.now cert.now) }
+    ensures yes { IfOk result (λ _. IsSound compiled.now.line.now scripts.now cert.now) }
 {
     certificates_can_be_written();
     a_text_has_one_meaning();
-    match read_certificate(alloc, line, scripts, cert) {
-        Ok(claims) => check_scripts(alloc, line, net, scripts, claims.as_slice()),
-        Err(fault) => Err(of_text(line, scripts, cert, fault)),
+    match read_certificate(alloc, compiled.line, scripts, cert) {
+        Ok(claims) => check_scripts(alloc, compiled, scripts, claims.as_slice()),
+        Err(fault) => Err(of_text(compiled.line, scripts, cert, fault)),
     }
 }
 
@@ -64,25 +61,24 @@ fn of_text(line: &Line, scripts: &[Script], cert: &[u8], fault: TextFault) -> Ch
 // Checks what is said of each script, in order.
 fn check_scripts(
     alloc: Global,
-    line: &Line,
-    net: &Net,
+    compiled: &Compiled<'_>,
     scripts: &[Script],
     claims: &[ScriptClaims],
 ) -> Result<Counts, CheckFault>
-    requires of_line { IsNetOf line.now net.now }
-    requires fits { All (Fits line.now) scripts.now }
+    requires fits { All (Fits compiled.now.line.now) scripts.now }
     requires few { length scripts.now ≤ 64 }
     requires many { length claims.now ≡ length scripts.now }
-    requires written { All (CanBeWritten line.now) (map claims_in claims.now) }
+    requires written { All (CanBeWritten compiled.now.line.now) (map claims_in claims.now) }
     ensures exact { (bytes : List ℕ) →
-        IsCertificate line.now scripts.now (map claims_in claims.now) bytes → MatchResult result
-        (λ counts. IsAccepted line.now scripts.now bytes counts)
-        (λ fault. IsCheckFault line.now scripts.now bytes fault) }
-    ensures yes { IfOk result (λ _. EachBelow (AreSound line.now) scripts.now
+        IsCertificate compiled.now.line.now scripts.now (map claims_in claims.now) bytes →
+        MatchResult result
+        (λ counts. IsAccepted compiled.now.line.now scripts.now bytes counts)
+        (λ fault. IsCheckFault compiled.now.line.now scripts.now bytes fault) }
+    ensures yes { IfOk result (λ _. EachBelow (AreSound compiled.now.line.now) scripts.now
         (map claims_in claims.now) (length scripts.now)) }
 {
     for i in 0..scripts.len() {
-        if let Err(fault) = check_claims(alloc, line, net, &scripts[i], &claims[i]) {
+        if let Err(fault) = check_claims(alloc, compiled, &scripts[i], &claims[i]) {
             return Err(in_script(i as u32, fault));
         }
     }

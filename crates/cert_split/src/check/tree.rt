@@ -4,7 +4,6 @@ ghost use Rattle.std.specs.Prelude.{◌≡◌, ◌≤◌, ◌<◌, ◌+◌, ◌+
 ghost use Rattle.model_line.specs.{declared.line.Line.Line, Fits.Fits, Parameters.terminal_count};
 ghost use Rattle.model_logic.specs.Choice.{Box, declared_box};
 ghost use Rattle.model_logic.specs.HeldOver.{IsHeldOver};
-ghost use Rattle.net_gates.specs.NetOf.{IsNetOf};
 ghost use Rattle.judge_split.specs.declared.node.Node.{Node};
 ghost use Rattle.judge_split.specs.{Leaves.Splits, Parts.IsPart, Trees.SplitTree, Trees.preorder};
 ghost use Rattle.cert_split.specs.check.Walks.{BeginWithTree, IsWalked, IsWalkFault, IsLeafFault};
@@ -14,7 +13,7 @@ use crate::check::held::is_held;
 use judge_split::{Node, a_part_stands_for_its_box, lower_part, upper_part};
 use model_line::laws::{counts_do_not_rest_on_the_intervals, scripts_fit_whatever_the_intervals};
 use model_line::{Line, Script};
-use net_gates::Net;
+use net_gates::Compiled;
 use net_gates::laws::nets_do_not_rest_on_the_intervals;
 use std::alloc::Global;
 
@@ -29,21 +28,19 @@ pub(crate) struct Passed {
 /// error is its first yes leaf whose rule is not held.
 pub(crate) fn walk(
     alloc: Global,
-    part: &Line,
-    net: &Net,
+    part: &Compiled<'_>,
     script: &Script,
     terminal: u32,
     nodes: &[Node],
     passed: Passed,
 ) -> Result<Passed, ResultFault>
-    requires of_part { IsNetOf part.now net.now }
-    requires fits { Fits part.now script.now }
-    requires terminal { terminal < terminal_count part.now }
+    requires fits { Fits part.now.line.now script.now }
+    requires terminal { terminal < terminal_count part.now.line.now }
     requires few { length nodes.now < 2 ^ 32 }
     requires leaves { passed.leaves ≤ passed.nodes }
-    requires tree { BeginWithTree part.now (drop passed.nodes nodes.now) }
+    requires tree { BeginWithTree part.now.line.now (drop passed.nodes nodes.now) }
     ensures { (line : Line) (box : Box) (tree : SplitTree) (after : List Node) →
-        IsPart line box part.now → Splits line box tree →
+        IsPart line box part.now.line.now → Splits line box tree →
         drop passed.nodes nodes.now ≡ preorder tree ++ after → MatchResult result
         (λ walked. IsWalked line script.now terminal box tree passed walked)
         (λ fault. IsWalkFault line script.now terminal box tree passed.leaves fault) }
@@ -54,23 +51,23 @@ pub(crate) fn walk(
     counts_do_not_rest_on_the_intervals();
     match nodes[passed.nodes] {
         Node::Yes => {
-            check_leaf(alloc, part, net, script, terminal, passed.leaves)?;
+            check_leaf(alloc, part, script, terminal, passed.leaves)?;
             Ok(after_leaf(passed))
         }
         Node::Undecided => Ok(after_leaf(passed)),
         Node::Split { param, mid } => {
-            let lower = lower_part(alloc, part, param, mid)?;
-            let between = walk(
-                alloc,
-                &lower,
-                net,
-                script,
-                terminal,
-                nodes,
-                after_split(passed),
-            )?;
-            let upper = upper_part(alloc, part, param, mid)?;
-            walk(alloc, &upper, net, script, terminal, nodes, between)
+            let lower_line = lower_part(alloc, part.line, param, mid)?;
+            let lower = Compiled {
+                line: &lower_line,
+                net: part.net,
+            };
+            let between = walk(alloc, &lower, script, terminal, nodes, after_split(passed))?;
+            let upper_line = upper_part(alloc, part.line, param, mid)?;
+            let upper = Compiled {
+                line: &upper_line,
+                net: part.net,
+            };
+            walk(alloc, &upper, script, terminal, nodes, between)
         }
     }
 }
@@ -101,20 +98,18 @@ fn after_split(passed: Passed) -> Passed
 // Checks the yes leaf of this number, over the declared box of `part`.
 fn check_leaf(
     alloc: Global,
-    part: &Line,
-    net: &Net,
+    part: &Compiled<'_>,
     script: &Script,
     terminal: u32,
     leaf: u32,
 ) -> Result<(), ResultFault>
-    requires of_part { IsNetOf part.now net.now }
-    requires fits { Fits part.now script.now }
-    requires terminal { terminal < terminal_count part.now }
+    requires fits { Fits part.now.line.now script.now }
+    requires terminal { terminal < terminal_count part.now.line.now }
     ensures { MatchResult result
-        (λ _. IsHeldOver part.now script.now terminal (declared_box part.now))
-        (λ fault. IsLeafFault part.now script.now terminal leaf fault) }
+        (λ _. IsHeldOver part.now.line.now script.now terminal (declared_box part.now.line.now))
+        (λ fault. IsLeafFault part.now.line.now script.now terminal leaf fault) }
 {
-    if is_held(alloc, part, net, script, terminal)? {
+    if is_held(alloc, part, script, terminal)? {
         Ok(())
     } else {
         Err(ResultFault::NotHeld { terminal, leaf })

@@ -22,7 +22,7 @@ use judge_report::deadline;
 use judge_verdict::verdict::{PairWaves, Rule, judge};
 use model_line::{Line, Memory, Script};
 use model_timing::Step;
-use net_gates::Net;
+use net_gates::Compiled;
 use run_signal::{Level, Tern, Tick};
 use run_ticks::net::Waves;
 use std::alloc::Global;
@@ -42,81 +42,80 @@ pub struct Diagram {
 /// The diagram of a play, whose delays have these steps.
 pub fn play_diagram(
     alloc: Global,
-    line: &Line,
-    net: &Net,
+    compiled: &Compiled<'_>,
     script: &Script,
     waves: &Waves<Level>,
     steps: &[Step<Tick>],
     which: Rows,
 ) -> Result<Diagram, Memory>
-    requires gates { waves.now.width ≡ length net.now.gates }
-    requires keys { length waves.now.keys ≡ terminal_count line.now }
-    requires trips { length waves.now.trips ≡ terminal_count line.now }
-    requires horizon { waves.now.horizon ≡ line.now.horizon }
-    requires deadline { script.now.deadline < line.now.horizon }
+    requires gates { waves.now.width ≡ length compiled.now.net.now.gates }
+    requires keys { length waves.now.keys ≡ terminal_count compiled.now.line.now }
+    requires trips { length waves.now.trips ≡ terminal_count compiled.now.line.now }
+    requires horizon { waves.now.horizon ≡ compiled.now.line.now.horizon }
+    requires deadline { script.now.deadline < compiled.now.line.now.horizon }
     ensures diagram { IfOk result (λ diagram.
-        IsDiagramOf line.now net.now.gates script.now
+        IsDiagramOf compiled.now.line.now compiled.now.net.now.gates script.now
         (pairs_shown (known_history (played waves.now)) (λ gate t. both (is_on waves.now gate t)))
         steps.now which diagram) }
     ensures rules { IfOk result (λ diagram. diagram.rules.items ≡ []) }
 {
-    diagram_of(alloc, line, net, script, waves, steps, which)
+    diagram_of(alloc, compiled, script, waves, steps, which)
 }
 
 /// The diagram of every choice of delays at once: the rules are those of the first waves, all rows
 /// those of the second.
 pub fn history_diagram(
     alloc: Global,
-    line: &Line,
-    net: &Net,
+    compiled: &Compiled<'_>,
     script: &Script,
     judged: &PairWaves,
     waves: &Waves<Tern>,
     which: Rows,
 ) -> Result<Diagram, Memory>
-    requires gates { waves.now.width ≡ length net.now.gates }
-    requires keys { length waves.now.keys ≡ terminal_count line.now }
-    requires trips { length waves.now.trips ≡ terminal_count line.now }
-    requires ticks { waves.now.horizon ≡ line.now.horizon }
-    requires terminals { judged.now.terminals ≡ terminal_count line.now }
-    requires horizon { judged.now.horizon ≡ line.now.horizon }
-    requires deadline { script.now.deadline < line.now.horizon }
+    requires gates { waves.now.width ≡ length compiled.now.net.now.gates }
+    requires keys { length waves.now.keys ≡ terminal_count compiled.now.line.now }
+    requires trips { length waves.now.trips ≡ terminal_count compiled.now.line.now }
+    requires ticks { waves.now.horizon ≡ compiled.now.line.now.horizon }
+    requires terminals { judged.now.terminals ≡ terminal_count compiled.now.line.now }
+    requires horizon { judged.now.horizon ≡ compiled.now.line.now.horizon }
+    requires deadline { script.now.deadline < compiled.now.line.now.horizon }
     ensures diagram { IfOk result (λ diagram.
-        IsDiagramOf line.now net.now.gates script.now
+        IsDiagramOf compiled.now.line.now compiled.now.net.now.gates script.now
         (pairs_shown (waves_history (λ x _. tern_rails x) 0 waves.now)
         (wave_pair (λ x _. tern_rails x) 0 waves.now)) [] which diagram) }
     ensures rules { IfOk result (λ diagram. map rule_named diagram.rules.items
-        ≡ first_ticks (λ k. rule_of line.now script.now ((pair_history judged.now).trip k))
-        (terminal_count line.now)) }
+        ≡ first_ticks (λ k. rule_of compiled.now.line.now script.now
+        ((pair_history judged.now).trip k))
+        (terminal_count compiled.now.line.now)) }
 {
-    let rules = rules(alloc, line, script, judged)?;
-    let diagram = diagram_of(alloc, line, net, script, waves, &[], which)?;
+    let rules = rules(alloc, compiled.line, script, judged)?;
+    let diagram = diagram_of(alloc, compiled, script, waves, &[], which)?;
     Ok(Diagram { rules, ..diagram })
 }
 
 fn diagram_of<H: Shown>(
     alloc: Global,
-    line: &Line,
-    net: &Net,
+    compiled: &Compiled<'_>,
     script: &Script,
     shown: &H,
     steps: &[Step<Tick>],
     which: Rows,
 ) -> Result<Diagram, Memory>
-    requires gates { H.gates shown.now ≡ length net.now.gates }
-    requires terminals { H.terminals shown.now ≡ terminal_count line.now }
-    requires ticks { H.ticks shown.now ≡ line.now.horizon }
-    requires deadline { script.now.deadline < line.now.horizon }
+    requires gates { H.gates shown.now ≡ length compiled.now.net.now.gates }
+    requires terminals { H.terminals shown.now ≡ terminal_count compiled.now.line.now }
+    requires ticks { H.ticks shown.now ≡ compiled.now.line.now.horizon }
+    requires deadline { script.now.deadline < compiled.now.line.now.horizon }
     ensures diagram { IfOk result (λ diagram.
-        IsDiagramOf line.now net.now.gates script.now (H.pairs shown.now) steps.now which
+        IsDiagramOf compiled.now.line.now compiled.now.net.now.gates script.now
+        (H.pairs shown.now) steps.now which
         diagram) }
     ensures rules { IfOk result (λ diagram. diagram.rules.items ≡ []) }
 {
-    let rows = rows(alloc, line, net, script, shown, steps, which)?;
-    let trips = trips(alloc, line, script, shown)?;
-    let inception = inception(script, line.horizon);
+    let rows = rows(alloc, compiled, script, shown, steps, which)?;
+    let trips = trips(alloc, compiled.line, script, shown)?;
+    let inception = inception(script, compiled.line.horizon);
     let deadline = deadline(script.kind, script.deadline);
-    let window = shown_window(rows.as_slice(), inception, deadline, line.horizon);
+    let window = shown_window(rows.as_slice(), inception, deadline, compiled.line.horizon);
     Ok(Diagram {
         rows,
         trips,

@@ -2,16 +2,15 @@
 
 ghost use Rattle.std.specs.Prelude.{IfOk};
 ghost use Rattle.model_logic.specs.Choice.{declared_box};
-ghost use Rattle.net_gates.specs.NetOf.{IsNetOf};
 ghost use Rattle.run_signal.specs.Terns.{tern_rails};
 ghost use Rattle.run_step.specs.Runs.{AreWavesOf, HavePairs, IsTheHistory};
 ghost use Rattle.run_step.specs.WavesOf.{waves_history};
 
 use judge_verdict::verdict::declared_spans;
-use model_line::{Line, Memory, Script};
+use model_line::{Memory, Script};
 use model_logic::laws::each_line_has_a_choice_inside;
 use model_timing::Step;
-use net_gates::Net;
+use net_gates::Compiled;
 use run_signal::{Tern, Within};
 use run_ticks::net::{Waves, run};
 use std::alloc::Global;
@@ -20,21 +19,22 @@ use std::alloc::Global;
 /// once, with every gate kept.
 pub fn every_choice_waves(
     alloc: Global,
-    line: &Line,
-    net: &Net,
+    compiled: &Compiled<'_>,
     script: &Script,
 ) -> Result<Waves<Tern>, Memory>
-    requires { IsNetOf line.now net.now }
-    ensures of_net { IfOk result (λ waves. AreWavesOf net.now line.now waves) }
+    ensures of_net { IfOk result (λ waves.
+        AreWavesOf compiled.now.net.now compiled.now.line.now waves) }
     // Keys and trips are the one interval history over the declared intervals,
-    ensures history { IfOk result (λ waves. IsTheHistory line.now script.now (declared_box line.now)
+    ensures history { IfOk result (λ waves.
+        IsTheHistory compiled.now.line.now script.now (declared_box compiled.now.line.now)
         (waves_history (λ x _. tern_rails x) 0 waves)) }
     // and each gate has the pair of its tree over it.
-    ensures gates { IfOk result (λ waves. HavePairs (λ x _. tern_rails x) 0 line.now script.now
-        (declared_box line.now) net.now waves) }
+    ensures gates { IfOk result (λ waves.
+        HavePairs (λ x _. tern_rails x) 0 compiled.now.line.now script.now
+        (declared_box compiled.now.line.now) compiled.now.net.now waves) }
 {
     each_line_has_a_choice_inside();
-    let spans = declared_spans(alloc, line)?;
+    let spans = declared_spans(alloc, compiled.line)?;
     let steps: [Step<Within>; 0] = [];
-    run::<Tern>(alloc, net, line, script, &spans, &steps)
+    run::<Tern>(alloc, compiled, script, &spans, &steps)
 }

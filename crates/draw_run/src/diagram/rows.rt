@@ -14,7 +14,7 @@ use crate::diagram::trace::{Trace, traces};
 use draw_shapes::Rows;
 use model_line::{Line, Memory, Script};
 use model_timing::Step;
-use net_gates::Net;
+use net_gates::Compiled;
 use run_signal::Tick;
 use std::alloc::Global;
 
@@ -31,23 +31,31 @@ pub struct Row {
 /// The rows of a line, in the order of its traces.
 pub fn rows<H: Shown>(
     alloc: Global,
-    line: &Line,
-    net: &Net,
+    compiled: &Compiled<'_>,
     script: &Script,
     shown: &H,
     steps: &[Step<Tick>],
     which: Rows,
 ) -> Result<Vec<Row>, Memory>
-    requires terminals { H.terminals shown.now ≡ terminal_count line.now }
-    requires ticks { H.ticks shown.now ≡ line.now.horizon }
-    requires gates { H.gates shown.now ≡ length net.now.gates }
+    requires terminals { H.terminals shown.now ≡ terminal_count compiled.now.line.now }
+    requires ticks { H.ticks shown.now ≡ compiled.now.line.now.horizon }
+    requires gates { H.gates shown.now ≡ length compiled.now.net.now.gates }
     ensures traces { IfOk result (λ rows.
-        map trace_of rows.items ≡ traces_of line.now net.now.gates) }
+        map trace_of rows.items ≡ traces_of compiled.now.line.now compiled.now.net.now.gates) }
     ensures rows { IfOk result (λ rows.
-        All (IsMarkedRow line.now script.now (H.pairs shown.now) steps.now which) rows.items) }
+        All (IsMarkedRow compiled.now.line.now script.now (H.pairs shown.now) steps.now which)
+        rows.items) }
 {
-    let traces = traces(alloc, line, net)?;
-    rows_of(alloc, line, script, shown, traces.as_slice(), steps, which)
+    let traces = traces(alloc, compiled)?;
+    rows_of(
+        alloc,
+        compiled.line,
+        script,
+        shown,
+        traces.as_slice(),
+        steps,
+        which,
+    )
 }
 
 // The rows of these traces, in their order.

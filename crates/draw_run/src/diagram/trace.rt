@@ -10,7 +10,7 @@ ghost use Rattle.draw_run.specs.diagram.Traces.{IsTraceOf};
 
 use crate::roles::{Role, find_gate, roles_at};
 use model_line::{Element, Line, Memory, Place};
-use net_gates::Net;
+use net_gates::Compiled;
 use run_waves::waves::the_first_tick_is_the_least;
 use std::alloc::Global;
 
@@ -27,15 +27,16 @@ pub enum Trace {
 
 /// What the rows of a line are of, terminals in line order. Of each terminal: what it sees, the
 /// channels into it in line order, the gates of the roles that explain, its key, its trip.
-pub fn traces(alloc: Global, line: &Line, net: &Net) -> Result<Vec<Trace>, Memory>
-    ensures traces { IfOk result (λ traces. traces.items ≡ traces_of line.now net.now.gates) }
+pub fn traces(alloc: Global, compiled: &Compiled<'_>) -> Result<Vec<Trace>, Memory>
+    ensures traces { IfOk result (λ traces. traces.items
+        ≡ traces_of compiled.now.line.now compiled.now.net.now.gates) }
     ensures of_line { IfOk result (λ traces.
-        All (IsTraceOf line.now (length net.now.gates)) traces.items) }
+        All (IsTraceOf compiled.now.line.now (length compiled.now.net.now.gates)) traces.items) }
 {
     the_first_tick_is_the_least();
     let mut all = Vec::new(alloc);
-    for k in 0..line.terminals.len() {
-        push_terminal(alloc, &mut all, line, net, k as u32)?;
+    for k in 0..compiled.line.terminals.len() {
+        push_terminal(alloc, &mut all, compiled, k as u32)?;
     }
     Ok(all)
 }
@@ -43,16 +44,16 @@ pub fn traces(alloc: Global, line: &Line, net: &Net) -> Result<Vec<Trace>, Memor
 fn push_terminal(
     alloc: Global,
     all: &mut Vec<Trace>,
-    line: &Line,
-    net: &Net,
+    compiled: &Compiled<'_>,
     k: u32,
 ) -> Result<(), Memory>
-    requires { k < terminal_count line.now }
-    ensures { OnOk result (all.new.items ≡ all.old.items ++ traces_at line.now net.now.gates k) }
+    requires { k < terminal_count compiled.now.line.now }
+    ensures { OnOk result (all.new.items ≡ all.old.items
+        ++ traces_at compiled.now.line.now compiled.now.net.now.gates k) }
 {
     push_seen(all, k)?;
-    push_losses(all, line, k)?;
-    push_logic(alloc, all, line, net, k)?;
+    push_losses(all, compiled.line, k)?;
+    push_logic(alloc, all, compiled, k)?;
     all.push(Trace::Key(k))?;
     all.push(Trace::Trip(k))?;
     Ok(())
@@ -99,33 +100,40 @@ fn push_loss(all: &mut Vec<Trace>, line: &Line, k: u32, c: u32) -> Result<(), Me
 fn push_logic(
     alloc: Global,
     all: &mut Vec<Trace>,
-    line: &Line,
-    net: &Net,
+    compiled: &Compiled<'_>,
     k: u32,
 ) -> Result<(), Memory>
-    requires { k < terminal_count line.now }
-    ensures { OnOk result (all.new.items ≡ all.old.items ++ logic_at line.now net.now.gates k) }
+    requires { k < terminal_count compiled.now.line.now }
+    ensures { OnOk result (all.new.items ≡ all.old.items
+        ++ logic_at compiled.now.line.now compiled.now.net.now.gates k) }
 {
-    let roles = roles_at(alloc, line, k)?;
-    push_roles(all, line, net, roles.as_slice())
+    let roles = roles_at(alloc, compiled.line, k)?;
+    push_roles(all, compiled, roles.as_slice())
 }
 
-fn push_roles(all: &mut Vec<Trace>, line: &Line, net: &Net, roles: &[Role]) -> Result<(), Memory>
-    requires { All (IsRoleOf line.now) roles.now }
+fn push_roles(all: &mut Vec<Trace>, compiled: &Compiled<'_>, roles: &[Role]) -> Result<(), Memory>
+    requires { All (IsRoleOf compiled.now.line.now) roles.now }
     ensures { OnOk result (all.new.items
-        ≡ all.old.items ++ flat_map (logic_of line.now net.now.gates) roles.now) }
+        ≡ all.old.items ++ flat_map
+        (logic_of compiled.now.line.now compiled.now.net.now.gates) roles.now) }
 {
     for role in roles {
-        push_role(all, line, net, *role)?;
+        push_role(all, compiled, *role)?;
     }
     Ok(())
 }
 
-fn push_role(all: &mut Vec<Trace>, line: &Line, net: &Net, role: Role) -> Result<(), Memory>
-    requires { IsRoleOf line.now role }
-    ensures { OnOk result (all.new.items ≡ all.old.items ++ logic_of line.now net.now.gates role) }
+fn push_role(all: &mut Vec<Trace>, compiled: &Compiled<'_>, role: Role) -> Result<(), Memory>
+    requires { IsRoleOf compiled.now.line.now role }
+    ensures { OnOk result (all.new.items ≡ all.old.items
+        ++ logic_of compiled.now.line.now compiled.now.net.now.gates role) }
 {
-    push_gate(all, role.explains(), role, find_gate(line, net, role))
+    push_gate(
+        all,
+        role.explains(),
+        role,
+        find_gate(compiled.line, compiled.net, role),
+    )
 }
 
 fn push_gate(

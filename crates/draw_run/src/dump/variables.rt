@@ -2,7 +2,6 @@
 
 ghost use Rattle.std.specs.Prelude.{◌≡◌, ◌<◌, ◌++◌, length, is_some, IfOk, OnOk};
 ghost use Rattle.model_line.specs.{ParamNames.name_at, Parameters.terminal_count};
-ghost use Rattle.net_gates.specs.NetOf.{IsNetOf};
 ghost use Rattle.run_changes.specs.rows.PlayRows.{each_below};
 ghost use Rattle.draw_run.specs.{roles.Lookup.role_among, roles.Roles.roles_at as roles_of};
 ghost use Rattle.draw_run.specs.dump.Variables.{code_of, variable_head, variable_text, scope_text};
@@ -15,7 +14,7 @@ use crate::dump::names::{name_of_role, name_of_step, word_and_terminal};
 use crate::dump::put::put;
 use crate::roles::{Role, role_of_gate, roles_at};
 use model_line::{Line, Memory};
-use net_gates::{GateId, Net};
+use net_gates::{Compiled, GateId};
 use std::alloc::Global;
 
 /// Appends all declarations.
@@ -23,27 +22,25 @@ use std::alloc::Global;
 pub fn put_declarations(
     alloc: Global,
     text: &mut Vec<u8>,
-    line: &Line,
-    net: &Net,
+    compiled: &Compiled<'_>,
 ) -> Result<(), Memory>
-    requires { IsNetOf line.now net.now }
-    ensures { OnOk result (text.new.items ≡ text.old.items ++ declarations line.now net.now) }
+    ensures { OnOk result (text.new.items ≡ text.old.items
+        ++ declarations compiled.now.line.now compiled.now.net.now) }
 {
-    put_terminals(alloc, text, line, net)?;
+    put_terminals(alloc, text, compiled)?;
     put_scope(text, b"gates$")?;
-    put_steps(alloc, text, line, net)?;
+    put_steps(alloc, text, compiled)?;
     put(text, b"$upscope $end\n")
 }
 
 // Appends the scope of each terminal.
-fn put_terminals(alloc: Global, text: &mut Vec<u8>, line: &Line, net: &Net) -> Result<(), Memory>
-    requires { IsNetOf line.now net.now }
+fn put_terminals(alloc: Global, text: &mut Vec<u8>, compiled: &Compiled<'_>) -> Result<(), Memory>
     ensures { OnOk result (text.new.items
-        ≡ text.old.items ++ each_below (terminal_count line.now)
-        (terminal_scope line.now net.now)) }
+        ≡ text.old.items ++ each_below (terminal_count compiled.now.line.now)
+        (terminal_scope compiled.now.line.now compiled.now.net.now)) }
 {
-    for k in 0..line.terminals.len() as u32 {
-        put_terminal(alloc, text, line, net, k)?;
+    for k in 0..compiled.line.terminals.len() as u32 {
+        put_terminal(alloc, text, compiled, k)?;
     }
     Ok(())
 }
@@ -53,18 +50,31 @@ fn put_terminals(alloc: Global, text: &mut Vec<u8>, line: &Line, net: &Net) -> R
 fn put_terminal(
     alloc: Global,
     text: &mut Vec<u8>,
-    line: &Line,
-    net: &Net,
+    compiled: &Compiled<'_>,
     k: u32,
 ) -> Result<(), Memory>
-    requires of_line { IsNetOf line.now net.now }
-    requires exists { k < terminal_count line.now }
-    ensures { OnOk result (text.new.items ≡ text.old.items ++ terminal_scope line.now net.now k) }
+    requires exists { k < terminal_count compiled.now.line.now }
+    ensures { OnOk result (text.new.items ≡ text.old.items
+        ++ terminal_scope compiled.now.line.now compiled.now.net.now k) }
 {
-    put_scope(text, line.terminals[k as usize].name.bytes())?;
-    put_named(alloc, text, line, net, k)?;
-    put_end(alloc, text, b"key_", line, k, net.key_gate(k))?;
-    put_end(alloc, text, b"trip_", line, k, net.trip_gate(k))?;
+    put_scope(text, compiled.line.terminals[k as usize].name.bytes())?;
+    put_named(alloc, text, compiled, k)?;
+    put_end(
+        alloc,
+        text,
+        b"key_",
+        compiled.line,
+        k,
+        compiled.net.key_gate(k),
+    )?;
+    put_end(
+        alloc,
+        text,
+        b"trip_",
+        compiled.line,
+        k,
+        compiled.net.trip_gate(k),
+    )?;
     put(text, b"$upscope $end\n")
 }
 
@@ -98,17 +108,17 @@ fn put_end(
 fn put_named(
     alloc: Global,
     text: &mut Vec<u8>,
-    line: &Line,
-    net: &Net,
+    compiled: &Compiled<'_>,
     k: u32,
 ) -> Result<(), Memory>
-    requires { k < terminal_count line.now }
+    requires { k < terminal_count compiled.now.line.now }
     ensures { OnOk result (text.new.items
         ≡ text.old.items
-        ++ each_below (length net.now.gates) (variable_at line.now net.now.gates k)) }
+        ++ each_below (length compiled.now.net.now.gates)
+        (variable_at compiled.now.line.now compiled.now.net.now.gates k)) }
 {
-    for i in 0..net.len() {
-        put_named_gate(alloc, text, line, net, k, i)?;
+    for i in 0..compiled.net.len() {
+        put_named_gate(alloc, text, compiled, k, i)?;
     }
     Ok(())
 }
@@ -117,30 +127,30 @@ fn put_named(
 fn put_named_gate(
     alloc: Global,
     text: &mut Vec<u8>,
-    line: &Line,
-    net: &Net,
+    compiled: &Compiled<'_>,
     k: u32,
     i: u32,
 ) -> Result<(), Memory>
-    requires terminal { k < terminal_count line.now }
-    requires exists { i < length net.now.gates }
+    requires terminal { k < terminal_count compiled.now.line.now }
+    requires exists { i < length compiled.now.net.now.gates }
     requires few { i < 512 }
     ensures { OnOk result (text.new.items
-        ≡ text.old.items ++ variable_at line.now net.now.gates k i) }
+        ≡ text.old.items ++ variable_at compiled.now.line.now compiled.now.net.now.gates k i) }
 {
-    let role = role_at(alloc, line, net, k, i)?;
-    put_role(alloc, text, line, i, role)
+    let role = role_at(alloc, compiled, k, i)?;
+    put_role(alloc, text, compiled.line, i, role)
 }
 
 // The first role of a gate at a terminal.
-fn role_at(alloc: Global, line: &Line, net: &Net, k: u32, i: u32) -> Result<Option<Role>, Memory>
-    requires terminal { k < terminal_count line.now }
-    requires exists { i < length net.now.gates }
+fn role_at(alloc: Global, compiled: &Compiled<'_>, k: u32, i: u32) -> Result<Option<Role>, Memory>
+    requires terminal { k < terminal_count compiled.now.line.now }
+    requires exists { i < length compiled.now.net.now.gates }
     ensures { IfOk result (λ role.
-        role ≡ role_among line.now net.now.gates i (roles_of line.now k)) }
+        role ≡ role_among compiled.now.line.now compiled.now.net.now.gates i
+        (roles_of compiled.now.line.now k)) }
 {
-    let roles = roles_at(alloc, line, k)?;
-    Ok(role_of_gate(line, net, GateId(i), roles.as_slice()))
+    let roles = roles_at(alloc, compiled.line, k)?;
+    Ok(role_of_gate(compiled.line, compiled.net, GateId(i), roles.as_slice()))
 }
 
 // Appends a gate under the name of its role.
@@ -164,25 +174,31 @@ fn put_role(
 }
 
 // Appends the gates for which no terminal has a role.
-fn put_steps(alloc: Global, text: &mut Vec<u8>, line: &Line, net: &Net) -> Result<(), Memory>
+fn put_steps(alloc: Global, text: &mut Vec<u8>, compiled: &Compiled<'_>) -> Result<(), Memory>
     ensures { OnOk result (text.new.items
-        ≡ text.old.items ++ each_below (length net.now.gates) (variable_of line.now net.now.gates)) }
+        ≡ text.old.items ++ each_below (length compiled.now.net.now.gates)
+        (variable_of compiled.now.line.now compiled.now.net.now.gates)) }
 {
-    for i in 0..net.len() {
-        put_step(alloc, text, line, net, i)?;
+    for i in 0..compiled.net.len() {
+        put_step(alloc, text, compiled, i)?;
     }
     Ok(())
 }
 
 #[tactic(auto, unfolding(crate::specs::dump::Variables::variable_of))]
-fn put_step(alloc: Global, text: &mut Vec<u8>, line: &Line, net: &Net, i: u32) -> Result<(), Memory>
-    requires exists { i < length net.now.gates }
+fn put_step(
+    alloc: Global,
+    text: &mut Vec<u8>,
+    compiled: &Compiled<'_>,
+    i: u32,
+) -> Result<(), Memory>
+    requires exists { i < length compiled.now.net.now.gates }
     requires few { i < 512 }
     ensures { OnOk result (text.new.items
-        ≡ text.old.items ++ variable_of line.now net.now.gates i) }
+        ≡ text.old.items ++ variable_of compiled.now.line.now compiled.now.net.now.gates i) }
 {
-    let gate = *net.gate(GateId(i));
-    if is_named(alloc, line, net, i)? {
+    let gate = *compiled.net.gate(GateId(i));
+    if is_named(alloc, compiled, i)? {
         return Ok(());
     }
     let name = name_of_step(alloc, i, gate)?;
@@ -190,13 +206,14 @@ fn put_step(alloc: Global, text: &mut Vec<u8>, line: &Line, net: &Net, i: u32) -
 }
 
 // Whether some terminal has a role for a gate.
-fn is_named(alloc: Global, line: &Line, net: &Net, i: u32) -> Result<bool, Memory>
-    requires { i < length net.now.gates }
-    ensures { IfOk result (λ named. named ≡ is_named_gate line.now net.now.gates i) }
+fn is_named(alloc: Global, compiled: &Compiled<'_>, i: u32) -> Result<bool, Memory>
+    requires { i < length compiled.now.net.now.gates }
+    ensures { IfOk result (λ named. named
+        ≡ is_named_gate compiled.now.line.now compiled.now.net.now.gates i) }
 {
     let mut named = false;
-    for k in 0..line.terminals.len() as u32 {
-        named = named || role_at(alloc, line, net, k, i)?.is_some();
+    for k in 0..compiled.line.terminals.len() as u32 {
+        named = named || role_at(alloc, compiled, k, i)?.is_some();
     }
     Ok(named)
 }

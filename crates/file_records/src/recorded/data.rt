@@ -4,7 +4,6 @@ ghost use Rattle.std.specs.Prelude.{◌≡◌, ◌<◌, ◌++◌, IfOk, OnOk, le
 ghost use Rattle.model_line.specs.Parameters.{terminal_count};
 ghost use Rattle.model_logic.specs.Histories.{History, IsLineHistory};
 ghost use Rattle.model_timing.specs.{Choice.timing_choice, Inside.IsTimingInside};
-ghost use Rattle.net_gates.specs.NetOf.{IsNetOf};
 ghost use Rattle.run_changes.specs.rows.PlayRows.{each_below};
 ghost use Rattle.run_step.specs.Ticks.{AreSent};
 ghost use Rattle.run_changes.specs.changes.PlayedTracks.{is_on, played};
@@ -15,7 +14,7 @@ use crate::recorded::put::put;
 use itoa::Buffer;
 use model_line::{Element, Line, Memory, Place, Script, loss, seen};
 use model_timing::NamedTiming;
-use net_gates::Net;
+use net_gates::Compiled;
 use run_changes::changes::{Tracks, run_tracks};
 use run_changes::rows::level_word;
 use run_signal::{Level, Signal, Track};
@@ -26,23 +25,22 @@ use std::alloc::Global;
 /// microseconds and the channels of the configuration.
 pub fn data_text(
     alloc: Global,
-    line: &Line,
-    net: &Net,
+    compiled: &Compiled<'_>,
     script: &Script,
     timing: &NamedTiming,
 ) -> Result<Vec<u8>, Memory>
-    requires of_line { IsNetOf line.now net.now }
-    requires inside { IsTimingInside line.now timing.now.timing }
+    requires inside { IsTimingInside compiled.now.line.now timing.now.timing }
     ensures { IfOk result (λ v. (h : History) →
-        IsLineHistory line.now script.now (timing_choice line.now timing.now.timing) h →
-        v.items ≡ text_of_data line.now script.now h) }
+        IsLineHistory compiled.now.line.now script.now
+        (timing_choice compiled.now.line.now timing.now.timing) h →
+        v.items ≡ text_of_data compiled.now.line.now script.now h) }
 {
     a_timing_is_one_choice();
     let values = timing.timing.values();
     let steps = timing.timing.steps();
-    let tracks = run_tracks::<Level>(alloc, net, line, script, values, steps)?;
+    let tracks = run_tracks::<Level>(alloc, compiled, script, values, steps)?;
     let mut text = Vec::new(alloc);
-    put_samples(&mut text, line, script, &tracks)?;
+    put_samples(&mut text, compiled.line, script, &tracks)?;
     Ok(text)
 }
 

@@ -75,7 +75,8 @@ module _ (of : Group) where
             first = o;
             is = refl;
             lost = subst (λ (n : ℕ).
-                IsFirstOf of (widened of.line.now (param_at place) (side_at place) n) o) again told;
+                IsFirstOf of (widened of.compiled.line.now (param_at place) (side_at place) n) o)
+                again told;
           };
         };
         narrow = left_below whole width b wide is.narrow;
@@ -136,7 +137,8 @@ module _ (of : Group) where
 
   -- before anything is asked
   pub opened_are : (known : Known) (is : IsGroup of) (ends : List End) (brackets : List Bracket)
-      → HaveRoom of.line.now ends → AreOpen ends brackets → AreBrackets of ends 4000 brackets
+      → HaveRoom of.compiled.line.now ends → AreOpen ends brackets → AreBrackets of ends 4000
+      brackets
   opened_are known is ends brackets have wide = record {
     count = wide.count;
     each = λ place end b at there.
@@ -145,8 +147,8 @@ module _ (of : Group) where
         (let inside : place < length ends = slice_get_within ends place end at in
         let count = have.count in
         let limit = have.each place end at in
-        let small = room_small known of.line.now (param_at place) (side_at place)
-        (within_params of.line.now place (omega (arith, inside, count))) in record {
+        let small = room_small known of.compiled.line.now (param_at place) (side_at place)
+        (within_params of.compiled.line.now place (omega (arith, inside, count))) in record {
           is = record {
             ordered = omega arith;
             within = omega arith;
@@ -159,8 +161,8 @@ module _ (of : Group) where
 
   -- what is asked of brackets can be asked
   pub asks_are : (ends : List End) (whole : Bool) (brackets : List Bracket) (asks : List Ask)
-      → HaveRoom of.line.now ends → AreBracketsOf of ends brackets
-      → AreAsksOf whole brackets asks → AreAsks of.line.now asks
+      → HaveRoom of.compiled.line.now ends → AreBracketsOf of ends brackets
+      → AreAsksOf whole brackets asks → AreAsks of.compiled.line.now asks
   asks_are ends whole brackets asks have are from j ask at =
       let is = from j ask at in
       let b = is.bracket in
@@ -186,7 +188,7 @@ module _ (of : Group) where
       (are.each place end b at there).ordered
 
   pub brackets_small : (known : Known) (ends : List End) (brackets : List Bracket)
-      → HaveRoom of.line.now ends → AreBracketsOf of ends brackets
+      → HaveRoom of.compiled.line.now ends → AreBracketsOf of ends brackets
       → (place : ℕ) (b : Bracket) → slice_get brackets place ≡ Some b → b.far ≤ 4000
   brackets_small known ends brackets have are place b there =
       let inside : place < length brackets = slice_get_within brackets place b there in
@@ -194,8 +196,8 @@ module _ (of : Group) where
       let (end, at) = exists_at ends place (omega (arith, inside, a)) in
       let within = (are.each place end b at there).within in
       let limit = have.each place end at in
-      let small = room_small known of.line.now (param_at place) (side_at place)
-      (within_params of.line.now place (omega (arith, inside, a, c))) in
+      let small = room_small known of.compiled.line.now (param_at place) (side_at place)
+      (within_params of.compiled.line.now place (omega (arith, inside, a, c))) in
       omega (arith, within, limit, small)
 
 -- each slot has its answer

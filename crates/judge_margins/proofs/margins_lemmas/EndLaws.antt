@@ -89,14 +89,16 @@ module _ (known : Known) (line : Line) (scripts : List Script) (fit : All (Fits 
         };
   }
 
-module _ (known : Known) (of : Group) (fit : All (Fits of.line.now) of.scripts.now)
-    (obligations : List Lost) (exist : AreObligations of.line.now of.scripts.now obligations) where
+module _ (known : Known) (of : Group) (fit : All (Fits of.compiled.line.now) of.scripts.now)
+    (obligations : List Lost) (exist : AreObligations of.compiled.line.now of.scripts.now
+    obligations) where
   -- the end by its bracket over the obligations that follow
   found_more : (n param : ℕ) (side : Side) (old : End) (b : Bracket) (less : Bool)
       → IsStretch obligations n of.these.now
-      → nat_lt b.near old.slack ≡ less → IsFound of.line.now of.scripts.now obligations n param side old
+      → nat_lt b.near old.slack ≡ less → IsFound of.compiled.line.now of.scripts.now obligations n
+      param side old
       → IsBracket of param side old.slack b → b.far ≤ b.near
-      → IsFound of.line.now of.scripts.now obligations (n + length of.these.now) param side
+      → IsFound of.compiled.line.now of.scripts.now obligations (n + length of.these.now) param side
       (cond less (record { slack = b.near; lost = b.lost }) old)
   found_more n param side old b true behind lt found is closed =
       let near : b.near < old.slack = ltb-true b.near old.slack lt in
@@ -107,26 +109,33 @@ module _ (known : Known) (of : Group) (fit : All (Fits of.line.now) of.scripts.n
       let inside = first.within in
       let one : b.far + 1 ≡ b.near + 1 = omega (arith, same) in record {
         within = omega (arith, near, within);
-        kept = kept_both of.line.now of.scripts.now (widened of.line.now param side b.near) obligations n of.these.now
+        kept = kept_both of.compiled.line.now of.scripts.now
+            (widened of.compiled.line.now param side b.near) obligations n of.these.now
             (length of.these.now) behind (omega arith)
-            (are_kept_nearer known of.line.now of.scripts.now fit obligations exist n param side b.near old.slack
+            (are_kept_nearer known of.compiled.line.now of.scripts.now fit obligations exist n param
+            side b.near old.slack
             (omega (arith, near)) within found.kept) is.held;
         lost = subst (λ (l : Option Lost).
-            IsLostBeyond of.line.now of.scripts.now obligations (n + length of.these.now) param side b.near l)
+            IsLostBeyond of.compiled.line.now of.scripts.now obligations (n + length of.these.now)
+            param side b.near l)
             (sym lost.is) (
               omega (arith, near, within),
               record {
                 place = n + first.place;
                 within = omega (arith, inside);
                 at = behind.from first.place lost.first first.at;
-                lost = subst (λ (m : ℕ). IsKept of.line.now of.scripts.now (widened of.line.now param side m) lost.first → ⊥)
+                lost = subst (λ (m : ℕ). IsKept of.compiled.line.now of.scripts.now
+                    (widened of.compiled.line.now param side m) lost.first → ⊥)
                     one first.lost;
-                before = kept_both of.line.now of.scripts.now (widened of.line.now param side (b.near + 1)) obligations n
+                before = kept_both of.compiled.line.now of.scripts.now
+                    (widened of.compiled.line.now param side (b.near + 1)) obligations n
                     of.these.now first.place behind (omega (arith, inside))
-                    (are_kept_nearer known of.line.now of.scripts.now fit obligations exist n param side
+                    (are_kept_nearer known of.compiled.line.now of.scripts.now fit obligations exist
+                    n param side
                     (b.near + 1) old.slack (omega (arith, near)) within found.kept)
                     (subst (λ (m : ℕ).
-                    AreKept of.line.now of.scripts.now (widened of.line.now param side m) of.these.now first.place) one
+                    AreKept of.compiled.line.now of.scripts.now
+                    (widened of.compiled.line.now param side m) of.these.now first.place) one
                     first.before);
               },
             );
@@ -136,18 +145,23 @@ module _ (known : Known) (of : Group) (fit : All (Fits of.line.now) of.scripts.n
       let ordered = is.ordered in let within = is.within in
       let same : b.near ≡ old.slack = omega (arith, far, ordered, within) in record {
         within = found.within;
-        kept = kept_both of.line.now of.scripts.now (widened of.line.now param side old.slack) obligations n of.these.now
+        kept = kept_both of.compiled.line.now of.scripts.now
+            (widened of.compiled.line.now param side old.slack) obligations n of.these.now
             (length of.these.now) behind (omega arith) found.kept
             (subst (λ (m : ℕ).
-            AreKept of.line.now of.scripts.now (widened of.line.now param side m) of.these.now (length of.these.now)) same
+            AreKept of.compiled.line.now of.scripts.now (widened of.compiled.line.now param side m)
+            of.these.now (length of.these.now)) same
             is.held);
-        lost = lost_still of.line.now of.scripts.now obligations n (length of.these.now) param side old.slack
+        lost = lost_still of.compiled.line.now of.scripts.now obligations n (length of.these.now)
+            param side old.slack
             old.lost found.lost;
       }
 
   pub founds_more : (n next : ℕ) (before after : List End) → IsStretch obligations n of.these.now
-      → n + length of.these.now ≡ next → AreFound of.line.now of.scripts.now obligations n before
-      → AreNarrowed of before after → AreFound of.line.now of.scripts.now obligations next after
+      → n + length of.these.now ≡ next → AreFound of.compiled.line.now of.scripts.now obligations n
+      before
+      → AreNarrowed of before after → AreFound of.compiled.line.now of.scripts.now obligations next
+      after
   founds_more n next before after behind ends found is = record {
     count = is.settle.count ∙ found.count;
     each = λ place new at_new.
@@ -157,10 +171,12 @@ module _ (known : Known) (of : Group) (fit : All (Fits of.line.now) of.scripts.n
         let (b, at_b) = exists_at is.brackets place (omega (arith, inside, a, d)) in
         let narrow = is.are.each place old b at_old at_b in
         let close = narrow.narrow in
-        subst (λ (m : ℕ). IsFound of.line.now of.scripts.now obligations m (param_at place) (side_at place) new)
+        subst (λ (m : ℕ). IsFound of.compiled.line.now of.scripts.now obligations m (param_at place)
+        (side_at place) new)
         ends
         (subst (λ (e : End).
-        IsFound of.line.now of.scripts.now obligations (n + length of.these.now) (param_at place) (side_at place) e)
+        IsFound of.compiled.line.now of.scripts.now obligations (n + length of.these.now)
+        (param_at place) (side_at place) e)
         (sym (is.settle.each place old new at_old at_new b at_b))
         (found_more n (param_at place) (side_at place) old b (nat_lt b.near old.slack) behind refl (found.each place old at_old) narrow.is (omega (arith, close))));
   }

@@ -13,7 +13,6 @@ use Rattle.model_logic.specs.{Choice.Box, Choice.declared_box, HeldOver.IsHeldOv
 use Rattle.judge_report.specs.declared.upper_end.Lost.{Lost}
 use Rattle.judge_margins.specs.{margins.Known.Known, declared.margins.end.Side.Side}
 use Rattle.judge_margins.specs.margins.Kept.{AreKept, AreObligations}
-use Rattle.net_gates.specs.NetOf.{IsNetOf}
 use Rattle.judge_margins.specs.declared.margins.group.Group.{Group}
 use Rattle.judge_margins.specs.margins.Groups.{AllKept, AreOfOneScript, IsGroup}
 use Rattle.judge_margins.specs.{margins.Widened.room, margins.Widened.widened}
@@ -64,13 +63,13 @@ module _ (known : Known) (line : Line) (scripts : List Script) (fit : All (Fits 
 
 -- with an end unmoved all are held that are held over the declared intervals
 pub group_unmoved : (known : Known) (of : Group) (is : IsGroup of) (param : ℕ) (side : Side)
-    → AllKept of (widened of.line.now param side 0)
+    → AllKept of (widened of.compiled.line.now param side 0)
 group_unmoved known of is param side = record {
   each = λ i o lt at. record {
     held = λ script there.
-        held_unmoved known of.line.now script o.terminal param side
-        (known.lines.deadlines of.line.now script
-        (one_of_all (Fits of.line.now) of.scripts.now o.script script is.fit there))
+        held_unmoved known of.compiled.line.now script o.terminal param side
+        (known.lines.deadlines of.compiled.line.now script
+        (one_of_all (Fits of.compiled.line.now) of.scripts.now o.script script is.fit there))
         (is.exist i o at).terminal ((is.held.each i o lt at).held script there);
   };
 }
@@ -155,20 +154,20 @@ range_is obligations first next ordered within = record {
 
 -- the obligations of a script that stand one after another are such a group
 pub group_is : (of : Group) (obligations : List Lost) (first next : ℕ) (o : Lost)
-    → IsNetOf of.line.now of.net.now → All (Fits of.line.now) of.scripts.now
-    → AreObligations of.line.now of.scripts.now obligations
-    → AreKept of.line.now of.scripts.now (declared_box of.line.now) obligations (length obligations)
+    → All (Fits of.compiled.line.now) of.scripts.now
+    → AreObligations of.compiled.line.now of.scripts.now obligations
+    → AreKept of.compiled.line.now of.scripts.now (declared_box of.compiled.line.now) obligations
+    (length obligations)
     → AreOfOneScript obligations first next → slice_get obligations first ≡ Some o
     → of.script ≡ o.script → first ≤ next → next ≤ length obligations
     → of.these.now ≡ slice_range obligations first next → IsGroup of
-group_is of obligations first next o of_line fit exist held one at script ordered within these =
+group_is of obligations first next o fit exist held one at script ordered within these =
     let behind : IsStretch obligations first of.these.now =
     subst (λ (l : List Lost). IsStretch obligations first l) (sym these)
     (range_is obligations first next ordered within) in
     let long : first + length of.these.now ≡ next =
     ap (λ (l : List Lost). first + length l) these ∙ range_long obligations first next ordered within in
     record {
-      of_line = of_line;
       fit = fit;
       exist = λ i p there. exist (first + i) p (behind.from i p there);
       held = record {

@@ -141,37 +141,39 @@ lane_told of asks first lane ask rows (Some o) inside at are off =
 -- an obligation of a script is held where the rule of the script is
 pub kept_by : (of : Group) (o : Lost) (script : Script) (box : Box) (bit : Bool)
     → slice_get of.scripts.now o.script ≡ Some script
-    → Decides bit (IsHeldOver of.line.now script o.terminal box)
-    → Decides bit (IsKept of.line.now of.scripts.now box o)
+    → Decides bit (IsHeldOver of.compiled.line.now script o.terminal box)
+    → Decides bit (IsKept of.compiled.line.now of.scripts.now box o)
 kept_by of o script box bit there told = (
   λ on. record {
     held = λ other at.
         let same : script ≡ other = cc in
-        subst (λ (s : Script). IsHeldOver of.line.now s o.terminal box) same (told.0 on);
+        subst (λ (s : Script). IsHeldOver of.compiled.line.now s o.terminal box) same (told.0 on);
   },
   λ kept. told.1 (kept.held script there),
 )
 
 -- the row of an obligation
 pub row_is : (known : Known) (of : Group) (is : IsGroup of) (asks : List Ask)
-    (are : AreAsks of.line.now asks) (first : ℕ) (spans : List SpanLists)
-    (spanned : AreAskSpans of.line.now asks first spans) (script : Script)
+    (are : AreAsks of.compiled.line.now asks) (first : ℕ) (spans : List SpanLists)
+    (spanned : AreAskSpans of.compiled.line.now asks first spans) (script : Script)
     (keys trips : List (SentKeys Terns64)) (trip : SentKeys Terns64) (o : Lost) (i bits : ℕ)
     → slice_get of.scripts.now of.script ≡ Some script → slice_get of.these.now i ≡ Some o
     → slice_get trips o.terminal ≡ Some trip
     → ((lane : ℕ) → lane < 64
-    → IsTheHistory of.line.now script (lane_box span_ends of.line.now spans [] lane)
+    → IsTheHistory of.compiled.line.now script
+    (lane_box span_ends of.compiled.line.now spans [] lane)
     (tracks_history terns_rails lane keys trips))
     → ((lane : ℕ) → lane < 64
-    → bit_on bits lane ≡ is_held script.kind script.deadline of.line.now.horizon (trip_rails trip lane))
+    → bit_on bits lane ≡ is_held script.kind script.deadline of.compiled.line.now.horizon
+    (trip_rails trip lane))
     → IsRow of asks first o bits
 row_is known of is asks are first spans spanned script keys trips trip o i bits there at at_trip
     history held lane ask inside here =
     let own : slice_get of.scripts.now o.script ≡ Some script =
     ap (slice_get of.scripts.now) (is.same i o at) ∙ there in
-    kept_by of o script (ask_box of.line.now ask) (bit_on bits lane) own
-    (tells_held known of.line.now asks are first spans spanned script o.terminal
-    (known.lines.deadlines of.line.now script
-    (one_of_all (Fits of.line.now) of.scripts.now of.script script is.fit there))
+    kept_by of o script (ask_box of.compiled.line.now ask) (bit_on bits lane) own
+    (tells_held known of.compiled.line.now asks are first spans spanned script o.terminal
+    (known.lines.deadlines of.compiled.line.now script
+    (one_of_all (Fits of.compiled.line.now) of.scripts.now of.script script is.fit there))
     (is.exist i o at).terminal keys trips trip at_trip lane ask (bit_on bits lane) inside here
     (history lane inside) (held lane inside))

@@ -46,7 +46,8 @@ abbrev pub IsRow : Group → List Ask → ℕ → Lost → ℕ → Type 0
 IsRow of asks first o bits =
     (lane : ℕ) (ask : Ask) → lane < 64
     → slice_get asks (ask_in (length asks) first lane) ≡ Some ask
-    → Decides (bit_on bits lane) (IsKept of.line.now of.scripts.now (ask_box of.line.now ask) o)
+    → Decides (bit_on bits lane) (IsKept of.compiled.line.now of.scripts.now
+    (ask_box of.compiled.line.now ask) o)
 
 -- a row for each of the first n obligations
 abbrev pub AreRows : Group → List Ask → ℕ → ℕ → List ℕ → Type 0
@@ -72,8 +73,8 @@ TellsOff these rows lane told =
 -- of an ask it is told which obligation is lost first, or that all are held
 abbrev pub IsTold : Group → Ask → Option Lost → Type 0
 IsTold of ask told =
-    MatchOption told (AllKept of (ask_box of.line.now ask))
-    (λ o. IsFirstOf of (ask_box of.line.now ask) o)
+    MatchOption told (AllKept of (ask_box of.compiled.line.now ask))
+    (λ o. IsFirstOf of (ask_box of.compiled.line.now ask) o)
 
 -- so of each of the first n
 abbrev pub AreTold : Group → List Ask → List (Option Lost) → ℕ → Type 0

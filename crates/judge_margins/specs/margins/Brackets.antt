@@ -18,8 +18,9 @@ pub record IsLostOver (of : Group) (box : Box) (told : Option Lost) : Type 0 whe
 pub record IsBracket (of : Group) (param : ℕ) (side : Side) (slack : ℕ) (b : Bracket) : Type 0 where
   pub ordered : b.near ≤ b.far
   pub within : b.far ≤ slack
-  pub held : AllKept of (widened of.line.now param side b.near)
-  pub lost : b.far < slack → IsLostOver of (widened of.line.now param side (b.far + 1)) b.lost
+  pub held : AllKept of (widened of.compiled.line.now param side b.near)
+  pub lost : b.far < slack → IsLostOver of (widened of.compiled.line.now param side (b.far + 1))
+      b.lost
 
 -- and it is no wider than this
 pub record IsNarrow (of : Group) (width place slack : ℕ) (b : Bracket) : Type 0 where

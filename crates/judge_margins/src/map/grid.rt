@@ -5,7 +5,6 @@ ghost use Rattle.std.specs.Prelude.{length, slice_get, min};
 ghost use Rattle.std.specs.List.{All};
 ghost use Rattle.model_line.specs.{Parameters.terminal_count, Parameters.param_count, Fits.Fits};
 ghost use Rattle.model_logic.specs.{Choice.LeastFromOne};
-ghost use Rattle.net_gates.specs.NetOf.{IsNetOf};
 ghost use Rattle.run_signal.specs.SentKeys.{SentKeys};
 ghost use Rattle.run_step.specs.{Runs.AreDelayed, LaneBox.lane_box};
 ghost use Rattle.judge_verdict.specs.boxes.Spans.{span_ends};
@@ -22,7 +21,7 @@ use crate::map::spans::cell_spans;
 use judge_verdict::boxes::{Spans64, Terns64};
 use model_line::{Kind, Line, Memory, Script};
 use model_timing::Step;
-use net_gates::Net;
+use net_gates::Compiled;
 use run_changes::changes::run_tracks;
 use std::alloc::Global;
 
@@ -30,21 +29,20 @@ use std::alloc::Global;
 /// script serves 64 cells and all terminals.
 pub fn cells(
     alloc: Global,
-    line: &Line,
-    net: &Net,
+    compiled: &Compiled<'_>,
     scripts: &[Script],
     axes: &Axes,
 ) -> Result<Vec<Cell>, Memory>
-    requires of_line { IsNetOf line.now net.now }
-    requires fit { All (Fits line.now) scripts.now }
-    requires axes { AreAxes line.now axes.now }
-    requires can { CanMoveBoth line.now axes.now }
-    ensures { IfOk result (λ cells. AreCells line.now scripts.now axes.now cells.items) }
+    requires fit { All (Fits compiled.now.line.now) scripts.now }
+    requires axes { AreAxes compiled.now.line.now axes.now }
+    requires can { CanMoveBoth compiled.now.line.now axes.now }
+    ensures { IfOk result (λ cells. AreCells compiled.now.line.now scripts.now axes.now
+        cells.items) }
 {
-    let count = axes.cells(line) as usize;
+    let count = axes.cells(compiled.line) as usize;
     let mut cells = Vec::with_capacity(alloc, count)?;
     'next_block: while cells.len() < count {
-        next_cells(alloc, line, net, scripts, axes, &mut cells)?;
+        next_cells(alloc, compiled, scripts, axes, &mut cells)?;
     }
     Ok(cells)
 }
@@ -52,27 +50,26 @@ pub fn cells(
 // Up to 64 cells more.
 fn next_cells(
     alloc: Global,
-    line: &Line,
-    net: &Net,
+    compiled: &Compiled<'_>,
     scripts: &[Script],
     axes: &Axes,
     cells: &mut Vec<Cell>,
 ) -> Result<(), Memory>
-    requires of_line { IsNetOf line.now net.now }
-    requires fit { All (Fits line.now) scripts.now }
-    requires axes { AreAxes line.now axes.now }
-    requires can { CanMoveBoth line.now axes.now }
+    requires fit { All (Fits compiled.now.line.now) scripts.now }
+    requires axes { AreAxes compiled.now.line.now axes.now }
+    requires can { CanMoveBoth compiled.now.line.now axes.now }
     requires left { length cells.old.items < cell_count axes.now }
-    requires so_far { AreCellsBelow line.now scripts.now axes.now (length cells.old.items)
+    requires so_far { AreCellsBelow compiled.now.line.now scripts.now axes.now
+        (length cells.old.items)
         cells.old.items }
     ensures more { OnOk result (length cells.old.items < length cells.new.items) }
     ensures within { OnOk result (length cells.new.items ≤ cell_count axes.now) }
-    ensures so_far { OnOk result (AreCellsBelow line.now scripts.now axes.now
+    ensures so_far { OnOk result (AreCellsBelow compiled.now.line.now scripts.now axes.now
         (length cells.new.items) cells.new.items) }
 {
     let first = cells.len() as u32;
-    let ruled = ruled_block(alloc, line, net, scripts, axes, first)?;
-    let lanes = (axes.cells(line) - first).min(64);
+    let ruled = ruled_block(alloc, compiled, scripts, axes, first)?;
+    let lanes = (axes.cells(compiled.line) - first).min(64);
     for lane in 0..lanes {
         let cell = cell_in_lane(alloc, &ruled, lane)?;
         cells.push(cell)?;
@@ -83,26 +80,25 @@ fn next_cells(
 // What each obligation's trip comes to in the 64 cells from one on.
 fn ruled_block(
     alloc: Global,
-    line: &Line,
-    net: &Net,
+    compiled: &Compiled<'_>,
     scripts: &[Script],
     axes: &Axes,
     first: u32,
 ) -> Result<Vec<Ruled>, Memory>
-    requires of_line { IsNetOf line.now net.now }
-    requires fit { All (Fits line.now) scripts.now }
-    requires axes { AreAxes line.now axes.now }
-    requires can { CanMoveBoth line.now axes.now }
+    requires fit { All (Fits compiled.now.line.now) scripts.now }
+    requires axes { AreAxes compiled.now.line.now axes.now }
+    requires can { CanMoveBoth compiled.now.line.now axes.now }
     requires first { first < cell_count axes.now }
-    ensures { IfOk result (λ ruled. AreRuled line.now scripts.now
-        (lane_cell line.now axes.now first) (length scripts.now * terminal_count line.now)
+    ensures { IfOk result (λ ruled. AreRuled compiled.now.line.now scripts.now
+        (lane_cell compiled.now.line.now axes.now first)
+        (length scripts.now * terminal_count compiled.now.line.now)
         ruled.items) }
 {
     laws_below();
-    let spans = cell_spans(alloc, line, axes, first)?;
+    let spans = cell_spans(alloc, compiled.line, axes, first)?;
     let mut ruled = Vec::new(alloc);
     for s in 0..scripts.len() {
-        rule_script(alloc, line, net, scripts, s, &spans, &mut ruled)?;
+        rule_script(alloc, compiled, scripts, s, &spans, &mut ruled)?;
     }
     Ok(ruled)
 }
@@ -110,30 +106,30 @@ fn ruled_block(
 // Those of one script more.
 fn rule_script(
     alloc: Global,
-    line: &Line,
-    net: &Net,
+    compiled: &Compiled<'_>,
     scripts: &[Script],
     s: usize,
     spans: &[Spans64],
     ruled: &mut Vec<Ruled>,
 ) -> Result<(), Memory>
-    requires of_line { IsNetOf line.now net.now }
-    requires fit { All (Fits line.now) scripts.now }
+    requires fit { All (Fits compiled.now.line.now) scripts.now }
     requires script { s < length scripts.now }
-    requires spans { length spans.now ≡ param_count line.now }
-    requires delayed { AreDelayed 64 span_ends line.now spans.now [] }
-    requires so_far { AreRuled line.now scripts.now (lane_box span_ends line.now spans.now [])
-        (s * terminal_count line.now) ruled.old.items }
-    ensures { OnOk result (AreRuled line.now scripts.now
-        (lane_box span_ends line.now spans.now []) ((s + 1) * terminal_count line.now)
+    requires spans { length spans.now ≡ param_count compiled.now.line.now }
+    requires delayed { AreDelayed 64 span_ends compiled.now.line.now spans.now [] }
+    requires so_far { AreRuled compiled.now.line.now scripts.now
+        (lane_box span_ends compiled.now.line.now spans.now [])
+        (s * terminal_count compiled.now.line.now) ruled.old.items }
+    ensures { OnOk result (AreRuled compiled.now.line.now scripts.now
+        (lane_box span_ends compiled.now.line.now spans.now [])
+        ((s + 1) * terminal_count compiled.now.line.now)
         ruled.new.items) }
 {
     laws_below();
     let script = &scripts[s];
     let steps: [Step<Spans64>; 0] = [];
-    let tracks = run_tracks::<Terns64>(alloc, net, line, script, spans, &steps)?;
-    let ticks = ticks_of(line, script);
-    for k in 0..line.terminals.len() {
+    let tracks = run_tracks::<Terns64>(alloc, compiled, script, spans, &steps)?;
+    let ticks = ticks_of(compiled.line, script);
+    for k in 0..compiled.line.terminals.len() {
         let tripped = tripped_in(&tracks.trips[k], ticks);
         ruled.push(Ruled {
             kind: script.kind,

@@ -1,14 +1,13 @@
 //! Obligations of one script.
 
 use judge_report::Lost;
-use model_line::{Line, Script};
-use net_gates::Net;
+use model_line::Script;
+use net_gates::Compiled;
 
-/// Obligations of the script of this number, one or more, of a line that has this net.
+/// Obligations of the script of this number, one or more, of this line.
 #[derive(Clone, Copy)]
 pub struct Group<'a> {
-    pub line: &'a Line,
-    pub net: &'a Net,
+    pub compiled: Compiled<'a>,
     pub scripts: &'a [Script],
     pub script: u32,
     pub these: &'a [Lost],

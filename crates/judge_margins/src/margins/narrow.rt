@@ -4,7 +4,6 @@ ghost use Rattle.std.specs.Prelude.{◌≡◌, ◌≤◌, ◌<◌, ◌*◌, ℕ,
 ghost use Rattle.std.specs.List.{All, slice_range};
 ghost use Rattle.model_line.specs.{Parameters.param_count, Fits.Fits};
 ghost use Rattle.model_logic.specs.Choice.{declared_box};
-ghost use Rattle.net_gates.specs.NetOf.{IsNetOf};
 ghost use Rattle.judge_report.specs.declared.upper_end.Lost.{Lost as LostOf};
 ghost use Rattle.judge_margins.specs.margins.Ends.{AreEnds, AreLimits, HaveRoom, limit_of};
 ghost use Rattle.judge_margins.specs.margins.Brackets.{AreBrackets, AreBracketsOf, AreNarrowed, left_of};
@@ -20,7 +19,7 @@ use crate::margins::probe::probe;
 use crate::margins::widened::{param_at, room, side_at};
 use judge_report::Lost;
 use model_line::{Line, Memory, Script};
-use net_gates::Net;
+use net_gates::Compiled;
 use std::alloc::Global;
 
 /// Both ends of each parameter, in order: how far each can be moved outward, all else as declared,
@@ -28,28 +27,27 @@ use std::alloc::Global;
 /// them that is lost one tick further.
 pub fn margins(
     alloc: Global,
-    line: &Line,
-    net: &Net,
+    compiled: &Compiled<'_>,
     scripts: &[Script],
     obligations: &[Lost],
 ) -> Result<Vec<End>, Memory>
-    requires of_line { IsNetOf line.now net.now }
-    requires fit { All (Fits line.now) scripts.now }
-    requires exist { AreObligations line.now scripts.now obligations.now }
-    requires held { AreKept line.now scripts.now (declared_box line.now) obligations.now
+    requires fit { All (Fits compiled.now.line.now) scripts.now }
+    requires exist { AreObligations compiled.now.line.now scripts.now obligations.now }
+    requires held { AreKept compiled.now.line.now scripts.now (declared_box compiled.now.line.now)
+        obligations.now
         (length obligations.now) }
     ensures ends { IfOk result (λ ends.
-        AreEnds line.now scripts.now obligations.now (length obligations.now) ends.items) }
-    ensures room { IfOk result (λ ends. HaveRoom line.now ends.items) }
+        AreEnds compiled.now.line.now scripts.now obligations.now (length obligations.now)
+        ends.items) }
+    ensures room { IfOk result (λ ends. HaveRoom compiled.now.line.now ends.items) }
 {
     laws_below();
-    let mut ends = limits(alloc, line)?;
+    let mut ends = limits(alloc, compiled.line)?;
     let mut first = 0;
     'next_script: while first < obligations.len() {
         let next = next_script(obligations, first);
         let of = Group {
-            line,
-            net,
+            compiled: *compiled,
             scripts,
             script: obligation_at(obligations, first).script,
             these: between(obligations, first, next),
@@ -126,7 +124,7 @@ fn limit_at(line: &Line, place: usize) -> End
 // The ends over the obligations of one more script.
 fn narrowed(alloc: Global, of: &Group, ends: &[End]) -> Result<Vec<End>, Memory>
     requires group { IsGroup of.now }
-    requires room { HaveRoom of.now.line.now ends.now }
+    requires room { HaveRoom of.now.compiled.line.now ends.now }
     ensures { IfOk result (λ more. AreNarrowed of.now ends.now more.items) }
 {
     let brackets = closed_brackets(alloc, of, ends)?;
@@ -136,7 +134,7 @@ fn narrowed(alloc: Global, of: &Group, ends: &[End]) -> Result<Vec<End>, Memory>
 // How far each end can be moved so that the obligations are held, no further than its slack.
 fn closed_brackets(alloc: Global, of: &Group, ends: &[End]) -> Result<Vec<Bracket>, Memory>
     requires group { IsGroup of.now }
-    requires room { HaveRoom of.now.line.now ends.now }
+    requires room { HaveRoom of.now.compiled.line.now ends.now }
     ensures { IfOk result (λ brackets. AreBrackets of.now ends.now 0 brackets.items) }
 {
     laws_below();
@@ -159,7 +157,7 @@ fn narrower(
     whole: bool,
 ) -> Result<Vec<Bracket>, Memory>
     requires group { IsGroup of.now }
-    requires room { HaveRoom of.now.line.now ends.now }
+    requires room { HaveRoom of.now.compiled.line.now ends.now }
     requires brackets { AreBracketsOf of.now ends.now brackets.now }
     ensures { IfOk result (λ halves. (width : ℕ) →
         AreBrackets of.now ends.now width brackets.now →

@@ -15,7 +15,7 @@ use std::alloc::Global;
 /// the obligations.
 pub fn probe(alloc: Global, of: &Group, asks: &[Ask]) -> Result<Vec<Option<Lost>>, Memory>
     requires group { IsGroup of.now }
-    requires asks { AreAsks of.now.line.now asks.now }
+    requires asks { AreAsks of.now.compiled.line.now asks.now }
     ensures { IfOk result (λ told. AreTold of.now asks.now told.items (length asks.now)) }
 {
     let mut told = Vec::with_capacity(alloc, asks.len())?;
@@ -33,7 +33,7 @@ fn tell_block(
     told: &mut Vec<Option<Lost>>,
 ) -> Result<(), Memory>
     requires group { IsGroup of.now }
-    requires asks { AreAsks of.now.line.now asks.now }
+    requires asks { AreAsks of.now.compiled.line.now asks.now }
     requires left { length told.old.items < length asks.now }
     requires so_far { AreTold of.now asks.now told.old.items (length told.old.items) }
     ensures more { OnOk result (length told.old.items < length told.new.items) }

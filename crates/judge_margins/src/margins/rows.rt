@@ -26,20 +26,20 @@ use std::alloc::Global;
 /// from one on.
 pub fn rows(alloc: Global, of: &Group, asks: &[Ask], first: usize) -> Result<Vec<Lanes64>, Memory>
     requires group { IsGroup of.now }
-    requires asks { AreAsks of.now.line.now asks.now }
+    requires asks { AreAsks of.now.compiled.line.now asks.now }
     requires first { first < length asks.now }
     ensures { IfOk result (λ rows.
         AreRows of.now asks.now first (length of.now.these.now) rows.items) }
 {
     laws_below();
     let script = script_of(of);
-    let spans = ask_spans(alloc, of.line, asks, first)?;
+    let spans = ask_spans(alloc, of.compiled.line, asks, first)?;
     let steps: [Step<Spans64>; 0] = [];
-    let tracks = run_tracks::<Terns64>(alloc, of.net, of.line, script, &spans, &steps)?;
+    let tracks = run_tracks::<Terns64>(alloc, &of.compiled, script, &spans, &steps)?;
     let mut rows = Vec::new(alloc);
     for i in 0..of.these.len() {
         let trip = &tracks.trips[terminal_at(of, i)];
-        rows.push(held_lanes(of.line, script, trip))?;
+        rows.push(held_lanes(of.compiled.line, script, trip))?;
     }
     Ok(rows)
 }
@@ -56,7 +56,7 @@ fn terminal_at(of: &Group, i: usize) -> usize
     requires place { i < length of.now.these.now }
     ensures terminal { (o : LostOf) → slice_get of.now.these.now i ≡ Some o →
         result ≡ o.terminal }
-    ensures exists { result < terminal_count of.now.line.now }
+    ensures exists { result < terminal_count of.now.compiled.line.now }
 {
     of.these[i].terminal as usize
 }

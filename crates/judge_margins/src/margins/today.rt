@@ -4,7 +4,6 @@ ghost use Rattle.std.specs.Prelude.{◌≡◌, ◌≤◌, ◌<◌, ◌+◌, Deci
 ghost use Rattle.std.specs.List.{All};
 ghost use Rattle.model_line.specs.{Parameters.terminal_count, Fits.Fits};
 ghost use Rattle.model_logic.specs.{Choice.declared_box, Rule.rule_of, Rule.Held};
-ghost use Rattle.net_gates.specs.NetOf.{IsNetOf};
 ghost use Rattle.run_step.specs.Runs.{IsTheHistory};
 ghost use Rattle.judge_verdict.specs.verdict.PairWavesOf.{pair_history};
 ghost use Rattle.judge_margins.specs.margins.Today.{AreToday, is_held as is_held_now};
@@ -14,7 +13,7 @@ use crate::margins::known::laws_below;
 use judge_report::Lost;
 use judge_verdict::verdict::{PairWaves, Rule, analyse, judge};
 use model_line::{Line, Memory, Script};
-use net_gates::Net;
+use net_gates::Compiled;
 use std::alloc::Global;
 
 /// The obligations whose rule is held over the declared intervals, and those whose rule is not,
@@ -28,25 +27,25 @@ pub struct Today {
 /// Which obligations are held today.
 pub fn held_today(
     alloc: Global,
-    line: &Line,
-    net: &Net,
+    compiled: &Compiled<'_>,
     scripts: &[Script],
 ) -> Result<Today, Memory>
-    requires of_line { IsNetOf line.now net.now }
-    requires fit { All (Fits line.now) scripts.now }
+    requires fit { All (Fits compiled.now.line.now) scripts.now }
     requires few { length scripts.now ≤ 64 }
-    ensures today { IfOk result (λ today. AreToday line.now scripts.now (length scripts.now) 0
+    ensures today { IfOk result (λ today. AreToday compiled.now.line.now scripts.now
+        (length scripts.now) 0
         today.held.items today.others.items) }
     // So those that are held are obligations, and are held over the declared intervals.
     ensures exist { IfOk result (λ today.
-        AreObligations line.now scripts.now today.held.items) }
-    ensures held { IfOk result (λ today. AreKept line.now scripts.now (declared_box line.now)
+        AreObligations compiled.now.line.now scripts.now today.held.items) }
+    ensures held { IfOk result (λ today. AreKept compiled.now.line.now scripts.now
+        (declared_box compiled.now.line.now)
         today.held.items (length today.held.items)) }
 {
     let mut held = Vec::new(alloc);
     let mut others = Vec::new(alloc);
     for s in 0..scripts.len() {
-        of_script(alloc, line, net, scripts, s, &mut held, &mut others)?;
+        of_script(alloc, compiled, scripts, s, &mut held, &mut others)?;
     }
     Ok(Today { held, others })
 }
@@ -54,30 +53,29 @@ pub fn held_today(
 // Those of one script more.
 fn of_script(
     alloc: Global,
-    line: &Line,
-    net: &Net,
+    compiled: &Compiled<'_>,
     scripts: &[Script],
     s: usize,
     held: &mut Vec<Lost>,
     others: &mut Vec<Lost>,
 ) -> Result<(), Memory>
-    requires of_line { IsNetOf line.now net.now }
-    requires fit { All (Fits line.now) scripts.now }
+    requires fit { All (Fits compiled.now.line.now) scripts.now }
     requires few { length scripts.now ≤ 64 }
     requires script { s < length scripts.now }
-    requires before { AreToday line.now scripts.now s 0 held.old.items others.old.items }
-    ensures { OnOk result (AreToday line.now scripts.now (s + 1) 0 held.new.items
+    requires before { AreToday compiled.now.line.now scripts.now s 0 held.old.items
+        others.old.items }
+    ensures { OnOk result (AreToday compiled.now.line.now scripts.now (s + 1) 0 held.new.items
         others.new.items) }
 {
     laws_below();
     let script = &scripts[s];
-    let waves = analyse(alloc, net, line, script)?;
-    for k in 0..line.terminals.len() {
+    let waves = analyse(alloc, compiled, script)?;
+    for k in 0..compiled.line.terminals.len() {
         let obligation = Lost {
             script: s as u32,
             terminal: k as u32,
         };
-        if is_held(line, script, &waves, k as u32) {
+        if is_held(compiled.line, script, &waves, k as u32) {
             held.push(obligation)?;
         } else {
             others.push(obligation)?;

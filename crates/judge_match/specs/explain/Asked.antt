@@ -5,7 +5,6 @@ use Rattle.model_line.specs.{declared.line.Line.Line, declared.script.Script.Scr
 use Rattle.model_line.specs.Parameters.{param_count, terminal_count}
 use Rattle.model_logic.specs.Choice.{LeastFromOne}
 use Rattle.model_logic.specs.Histories.{History}
-use Rattle.net_gates.specs.NetOf.{IsNetOf}
 use Rattle.run_signal.specs.{declared.tern.Tern.Tern, Terns.tern_rails}
 use Rattle.run_signal.specs.SentKeys.{SentKeys}
 use Rattle.run_changes.specs.changes.Tracks.{pair_of}
@@ -43,11 +42,10 @@ pub record AreRecorded (line : Line) (within : ℕ) (u : ℕ → ℕ → Bool) (
 abbrev pub recorded_of : Question → History
 recorded_of q = seen_history q.seen.now
 
--- the net is the line's, and so it is kept of each key and each trip
+-- so it is kept of each key and each trip
 pub record IsQuestion (q : Question) : Type 0 where
-  pub of_line : IsNetOf q.line.now q.net.now
-  pub keys : AreRecorded q.line.now q.within (recorded_of q).key q.keys.items
-  pub trips : AreRecorded q.line.now q.within (recorded_of q).trip q.trips.items
+  pub keys : AreRecorded q.compiled.line.now q.within (recorded_of q).key q.keys.items
+  pub trips : AreRecorded q.compiled.line.now q.within (recorded_of q).trip q.trips.items
 
 -- an interval for each parameter, of a delay from 1 on
 pub record IsPart (line : Line) (part : List Ends) : Type 0 where

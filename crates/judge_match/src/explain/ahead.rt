@@ -35,7 +35,7 @@ pub fn planned(
     budget: &mut Budget,
 ) -> Result<Vec<Cut>, Memory>
     requires question { IsQuestion q.now }
-    requires part { IsPart q.now.line.now part.now }
+    requires part { IsPart q.now.compiled.line.now part.now }
 {
     let mut part = Vec::from_slice(alloc, part)?;
     let mut plan = Plan {
@@ -43,7 +43,7 @@ pub fn planned(
         best: None,
         open: u32::MAX,
     };
-    for param in 0..q.line.param_count() {
+    for param in 0..q.compiled.line.param_count() {
         if budget.is_spent() {
             return plan.cuts();
         }
@@ -84,18 +84,18 @@ fn halved(
     budget: &mut Budget,
 ) -> Result<Vec<Within>, Memory>
     requires question { IsQuestion q.now }
-    requires part { IsPart q.now.line.now part.items }
-    ensures { IfOk result (λ part. IsPart q.now.line.now part.items) }
+    requires part { IsPart q.now.compiled.line.now part.items }
+    ensures { IfOk result (λ part. IsPart q.now.compiled.line.now part.items) }
 {
     let mut part = part;
     for _halving in 0..HALVINGS {
         let mid = middle(&part, param);
-        if !can_part(q.line, &part, param, mid) {
+        if !can_part(q.compiled.line, &part, param, mid) {
             return Ok(part);
         }
         budget.count(2);
-        let lower = lower_part(alloc, q.line, &part, param, mid)?;
-        let upper = upper_part(alloc, q.line, &part, param, mid)?;
+        let lower = lower_part(alloc, q.compiled.line, &part, param, mid)?;
+        let upper = upper_part(alloc, q.compiled.line, &part, param, mid)?;
         let below = look_at(alloc, q, &lower)?;
         let above = look_at(alloc, q, &upper)?;
         note(param, mid, below, above, plan)?;
@@ -125,7 +125,7 @@ fn middle(part: &[Within], param: u32) -> u32 {
 // What is seen of a part.
 fn look_at(alloc: Global, q: &Question, part: &[Within]) -> Result<Outlook, Memory>
     requires question { IsQuestion q.now }
-    requires part { IsPart q.now.line.now part.now }
+    requires part { IsPart q.now.compiled.line.now part.now }
 {
     let tracks = run_part(alloc, q, part)?;
     Ok(outlook_of(q, &tracks))

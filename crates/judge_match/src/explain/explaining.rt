@@ -3,7 +3,6 @@
 ghost use Rattle.std.specs.Prelude.{ℕ, IfOk};
 ghost use Rattle.model_line.specs.{declared.line.Line.Line, declared.script.Script.Script};
 ghost use Rattle.model_logic.specs.Histories.{History};
-ghost use Rattle.net_gates.specs.NetOf.{IsNetOf};
 ghost use Rattle.judge_match.specs.matching.Seen.{AreSeen, seen_history};
 ghost use Rattle.judge_match.specs.explain.Answers.{IsExplanation};
 ghost use Rattle.judge_match.specs.explain.Asked.{IsQuestion, recorded_of};
@@ -22,7 +21,7 @@ use crate::explain::tree::PartNode;
 use crate::matching::Seen;
 use model_line::{Line, Memory, Script};
 use model_timing::Timing;
-use net_gates::Net;
+use net_gates::Compiled;
 use std::alloc::Global;
 
 /// How many cuts stand above one another at most.
@@ -33,23 +32,22 @@ const DEPTH: u32 = 1024;
 /// and timings it is left open.
 pub fn explain(
     alloc: Global,
-    line: &Line,
-    net: &Net,
+    compiled: &Compiled<'_>,
     script: &Script,
     seen: &Seen,
     within: u32,
     analyses: u32,
 ) -> Result<Explanation, Memory>
-    requires of_line { IsNetOf line.now net.now }
-    requires seen { AreSeen line.now seen.now }
-    ensures { IfOk result (IsExplanation line.now script.now within (seen_history seen.now)) }
+    requires seen { AreSeen compiled.now.line.now seen.now }
+    ensures { IfOk result
+        (IsExplanation compiled.now.line.now script.now within (seen_history seen.now)) }
 {
-    let q = Question::new(alloc, line, net, script, seen, within)?;
+    let q = Question::new(alloc, compiled, script, seen, within)?;
     let mut budget = Budget::new(analyses);
     if let Some(timing) = guessed(alloc, &q, &mut budget)? {
         return explained(alloc, &q, timing);
     }
-    let part = declared_part(alloc, line)?;
+    let part = declared_part(alloc, compiled.line)?;
     let plan = Vec::new(alloc);
     match search_part(alloc, &q, &part, plan, DEPTH, &mut budget)? {
         Found::Explained(timing) => explained(alloc, &q, timing),
@@ -61,9 +59,9 @@ pub fn explain(
 // The answer where a timing explains the record.
 fn explained(alloc: Global, q: &Question, timing: Timing) -> Result<Explanation, Memory>
     requires question { IsQuestion q.now }
-    requires explains { IsExplaining q.now.line.now q.now.script.now q.now.within
+    requires explains { IsExplaining q.now.compiled.line.now q.now.script.now q.now.within
         (recorded_of q.now) timing }
-    ensures { IfOk result (IsExplanation q.now.line.now q.now.script.now q.now.within
+    ensures { IfOk result (IsExplanation q.now.compiled.line.now q.now.script.now q.now.within
         (recorded_of q.now)) }
 {
     let rows = rows(alloc, q, &timing)?;

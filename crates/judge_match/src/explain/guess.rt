@@ -21,10 +21,10 @@ const ROUNDS: u32 = 64;
 /// A timing that explains the record, if one is found on the way.
 pub fn guessed(alloc: Global, q: &Question, budget: &mut Budget) -> Result<Option<Timing>, Memory>
     requires question { IsQuestion q.now }
-    ensures { IfOk result (λ found. IfSome found (λ timing. IsExplaining q.now.line.now
+    ensures { IfOk result (λ found. IfSome found (λ timing. IsExplaining q.now.compiled.line.now
         q.now.script.now q.now.within (recorded_of q.now) timing)) }
 {
-    let mut part = declared_part(alloc, q.line)?;
+    let mut part = declared_part(alloc, q.compiled.line)?;
     for _round in 0..ROUNDS {
         if let Some(timing) = tried(alloc, q, &part, budget)? {
             return Ok(Some(timing));
@@ -33,7 +33,7 @@ pub fn guessed(alloc: Global, q: &Question, budget: &mut Budget) -> Result<Optio
         if cuts.is_empty() || budget.is_spent() {
             return Ok(None);
         }
-        part = narrowed(alloc, q.line, part, &cuts)?;
+        part = narrowed(alloc, q.compiled.line, part, &cuts)?;
     }
     Ok(None)
 }

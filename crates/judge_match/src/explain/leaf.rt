@@ -21,28 +21,32 @@ use std::alloc::Global;
 /// Whether the interval rules over a part exclude the record.
 pub fn is_excluded(alloc: Global, q: &Question, part: &[Within]) -> Result<bool, Memory>
     requires question { IsQuestion q.now }
-    requires part { IsPart q.now.line.now part.now }
-    ensures { IfOk result (λ out. IsTrue out → IsExcludedByRails q.now.line.now q.now.script.now
+    requires part { IsPart q.now.compiled.line.now part.now }
+    ensures { IfOk result (λ out. IsTrue out →
+        IsExcludedByRails q.now.compiled.line.now q.now.script.now
         q.now.within (recorded_of q.now) part.now) }
 {
     let tracks = run_part(alloc, q, part)?;
-    Ok(is_out(q.line, &q.keys, &tracks.keys) || is_out(q.line, &q.trips, &tracks.trips))
+    Ok(
+        is_out(q.compiled.line, &q.keys, &tracks.keys)
+            || is_out(q.compiled.line, &q.trips, &tracks.trips),
+    )
 }
 
 /// The interval history over a part.
 pub fn run_part(alloc: Global, q: &Question, part: &[Within]) -> Result<Tracks<Tern>, Memory>
     requires question { IsQuestion q.now }
-    requires part { IsPart q.now.line.now part.now }
-    ensures keys { IfOk result (λ tracks. AreSent (terminal_count q.now.line.now)
-        q.now.line.now.horizon q.now.line.now.horizon tracks.keys.items) }
-    ensures trips { IfOk result (λ tracks. AreSent (terminal_count q.now.line.now)
-        q.now.line.now.horizon q.now.line.now.horizon tracks.trips.items) }
-    ensures history { IfOk result (λ tracks. IsTheHistory q.now.line.now q.now.script.now
-        (part_box q.now.line.now part.now)
+    requires part { IsPart q.now.compiled.line.now part.now }
+    ensures keys { IfOk result (λ tracks. AreSent (terminal_count q.now.compiled.line.now)
+        q.now.compiled.line.now.horizon q.now.compiled.line.now.horizon tracks.keys.items) }
+    ensures trips { IfOk result (λ tracks. AreSent (terminal_count q.now.compiled.line.now)
+        q.now.compiled.line.now.horizon q.now.compiled.line.now.horizon tracks.trips.items) }
+    ensures history { IfOk result (λ tracks. IsTheHistory q.now.compiled.line.now q.now.script.now
+        (part_box q.now.compiled.line.now part.now)
         (tracks_history (λ x _. tern_rails x) 0 tracks.keys.items tracks.trips.items)) }
 {
     let steps: [Step<Within>; 0] = [];
-    run_tracks::<Tern>(alloc, q.net, q.line, q.script, part, &steps)
+    run_tracks::<Tern>(alloc, &q.compiled, q.script, part, &steps)
 }
 
 // Whether one of these tracks is out somewhere.

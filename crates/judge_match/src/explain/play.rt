@@ -26,8 +26,9 @@ use std::alloc::Global;
 /// Whether a timing explains the record.
 pub fn explains(alloc: Global, q: &Question, timing: &Timing) -> Result<bool, Memory>
     requires question { IsQuestion q.now }
-    requires inside { IsTimingInside q.now.line.now timing.now }
-    ensures { IfOk result (λ yes. IsTrue yes ↔ Explains q.now.line.now q.now.script.now q.now.within
+    requires inside { IsTimingInside q.now.compiled.line.now timing.now }
+    ensures { IfOk result (λ yes.
+        IsTrue yes ↔ Explains q.now.compiled.line.now q.now.script.now q.now.within
         (recorded_of q.now) timing.now) }
 {
     let tracks = play(alloc, q, timing)?;
@@ -40,14 +41,15 @@ pub fn explains(alloc: Global, q: &Question, timing: &Timing) -> Result<bool, Me
 /// The changes of the record and of the play of a timing, side by side.
 pub fn rows(alloc: Global, q: &Question, timing: &Timing) -> Result<Vec<Paired>, Memory>
     requires question { IsQuestion q.now }
-    requires inside { IsTimingInside q.now.line.now timing.now }
+    requires inside { IsTimingInside q.now.compiled.line.now timing.now }
     ensures { IfOk result (λ rows. (h : History) →
-        IsLineHistory q.now.line.now q.now.script.now (timing_choice q.now.line.now timing.now) h →
-        rows.items ≡ paired_changes q.now.line.now (recorded_of q.now) h) }
+        IsLineHistory q.now.compiled.line.now q.now.script.now
+        (timing_choice q.now.compiled.line.now timing.now) h →
+        rows.items ≡ paired_changes q.now.compiled.line.now (recorded_of q.now) h) }
 {
     let tracks = play(alloc, q, timing)?;
     let mut rows = Vec::new(alloc);
-    for k in 0..q.line.terminals.len() {
+    for k in 0..q.compiled.line.terminals.len() {
         push_terminal(alloc, q, &tracks, k, &mut rows)?;
     }
     Ok(rows)
@@ -62,12 +64,14 @@ fn push_terminal(
     rows: &mut Vec<Paired>,
 ) -> Result<(), Memory>
     requires question { IsQuestion q.now }
-    requires terminal { k < terminal_count q.now.line.now }
-    requires keys { AreSent (terminal_count q.now.line.now) q.now.line.now.horizon
-        q.now.line.now.horizon tracks.now.keys.items }
-    requires trips { AreSent (terminal_count q.now.line.now) q.now.line.now.horizon
-        q.now.line.now.horizon tracks.now.trips.items }
-    ensures { OnOk result (rows.new.items ≡ rows.old.items ++ paired_terminal q.now.line.now
+    requires terminal { k < terminal_count q.now.compiled.line.now }
+    requires keys { AreSent (terminal_count q.now.compiled.line.now) q.now.compiled.line.now.horizon
+        q.now.compiled.line.now.horizon tracks.now.keys.items }
+    requires trips { AreSent
+        (terminal_count q.now.compiled.line.now) q.now.compiled.line.now.horizon
+        q.now.compiled.line.now.horizon tracks.now.trips.items }
+    ensures { OnOk result (rows.new.items ≡ rows.old.items
+        ++ paired_terminal q.now.compiled.line.now
         (recorded_of q.now) (played tracks.now.keys.items tracks.now.trips.items) k) }
 {
     let keys = track_changes(alloc, &tracks.keys[k])?;
@@ -79,19 +83,20 @@ fn push_terminal(
 // Plays a timing.
 fn play(alloc: Global, q: &Question, timing: &Timing) -> Result<Tracks<Level>, Memory>
     requires question { IsQuestion q.now }
-    requires inside { IsTimingInside q.now.line.now timing.now }
-    ensures keys { IfOk result (λ tracks. AreSent (terminal_count q.now.line.now)
-        q.now.line.now.horizon q.now.line.now.horizon tracks.keys.items) }
-    ensures trips { IfOk result (λ tracks. AreSent (terminal_count q.now.line.now)
-        q.now.line.now.horizon q.now.line.now.horizon tracks.trips.items) }
-    ensures history { IfOk result (λ tracks. IsPlayed q.now.line.now q.now.script.now timing.now
+    requires inside { IsTimingInside q.now.compiled.line.now timing.now }
+    ensures keys { IfOk result (λ tracks. AreSent (terminal_count q.now.compiled.line.now)
+        q.now.compiled.line.now.horizon q.now.compiled.line.now.horizon tracks.keys.items) }
+    ensures trips { IfOk result (λ tracks. AreSent (terminal_count q.now.compiled.line.now)
+        q.now.compiled.line.now.horizon q.now.compiled.line.now.horizon tracks.trips.items) }
+    ensures history { IfOk result (λ tracks.
+        IsPlayed q.now.compiled.line.now q.now.script.now timing.now
         (played tracks.keys.items tracks.trips.items)) }
 {
     line_laws();
     a_timing_is_one_choice();
     let values = timing.values();
     let steps = timing.steps();
-    run_tracks::<Level>(alloc, q.net, q.line, q.script, values, steps)
+    run_tracks::<Level>(alloc, &q.compiled, q.script, values, steps)
 }
 
 // Whether each of these tracks has the changes that were recorded.
@@ -101,12 +106,13 @@ fn are_all_near(
     tracks: &[Track<Level>],
     all: &[Recorded],
 ) -> Result<bool, Memory>
-    requires tracks { AreSent (terminal_count q.now.line.now) q.now.line.now.horizon
-        q.now.line.now.horizon tracks.now }
-    requires all { length all.now ≡ terminal_count q.now.line.now }
+    requires tracks { AreSent
+        (terminal_count q.now.compiled.line.now) q.now.compiled.line.now.horizon
+        q.now.compiled.line.now.horizon tracks.now }
+    requires all { length all.now ≡ terminal_count q.now.compiled.line.now }
     ensures { IfOk result (λ yes. (u : ℕ → ℕ → Bool) →
-        AreRecorded q.now.line.now q.now.within u all.now →
-        IsTrue yes ↔ AreNearEach q.now.line.now q.now.within u (is_shown tracks.now)) }
+        AreRecorded q.now.compiled.line.now q.now.within u all.now →
+        IsTrue yes ↔ AreNearEach q.now.compiled.line.now q.now.within u (is_shown tracks.now)) }
 {
     for k in 0..tracks.len() {
         let played = track_changes(alloc, &tracks[k])?;

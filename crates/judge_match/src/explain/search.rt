@@ -48,8 +48,8 @@ pub fn search_part(
     budget: &mut Budget,
 ) -> Result<Found, Memory>
     requires question { IsQuestion q.now }
-    requires part { IsPart q.now.line.now part.now }
-    ensures { IfOk result (IsFound q.now.line.now q.now.script.now q.now.within
+    requires part { IsPart q.now.compiled.line.now part.now }
+    ensures { IfOk result (IsFound q.now.compiled.line.now q.now.script.now q.now.within
         (recorded_of q.now) part.now) }
 {
     let mut cuts = match looked(alloc, q, part, plan, budget)? {
@@ -59,11 +59,11 @@ pub fn search_part(
     let Some(cut) = cuts.pop() else {
         return Ok(Found::Open);
     };
-    if depth == 0 || !can_part(q.line, part, cut.param, cut.mid) {
+    if depth == 0 || !can_part(q.compiled.line, part, cut.param, cut.mid) {
         return Ok(Found::Open);
     }
-    let lower = lower_part(alloc, q.line, part, cut.param, cut.mid)?;
-    let upper = upper_part(alloc, q.line, part, cut.param, cut.mid)?;
+    let lower = lower_part(alloc, q.compiled.line, part, cut.param, cut.mid)?;
+    let upper = upper_part(alloc, q.compiled.line, part, cut.param, cut.mid)?;
     let (lower_plan, upper_plan) = shared(alloc, cut, cuts);
     let below = match search_part(alloc, q, &lower, lower_plan, depth - 1, budget)? {
         Found::Explained(timing) => return Ok(Found::Explained(timing)),
@@ -121,8 +121,8 @@ fn looked(
     budget: &mut Budget,
 ) -> Result<Look, Memory>
     requires question { IsQuestion q.now }
-    requires part { IsPart q.now.line.now part.now }
-    ensures { IfOk result (IsLookOf q.now.line.now q.now.script.now q.now.within
+    requires part { IsPart q.now.compiled.line.now part.now }
+    ensures { IfOk result (IsLookOf q.now.compiled.line.now q.now.script.now q.now.within
         (recorded_of q.now) part.now) }
 {
     if !plan.is_empty() {

@@ -24,7 +24,7 @@ pub fn tried(
     budget: &mut Budget,
 ) -> Result<Option<Timing>, Memory>
     requires question { IsQuestion q.now }
-    ensures { IfOk result (λ found. IfSome found (λ timing. IsExplaining q.now.line.now
+    ensures { IfOk result (λ found. IfSome found (λ timing. IsExplaining q.now.compiled.line.now
         q.now.script.now q.now.within (recorded_of q.now) timing)) }
 {
     for number in 0..TRIES {
@@ -44,11 +44,11 @@ fn tried_at(
     number: u32,
 ) -> Result<Option<Timing>, Memory>
     requires question { IsQuestion q.now }
-    ensures { IfOk result (λ found. IfSome found (λ timing. IsExplaining q.now.line.now
+    ensures { IfOk result (λ found. IfSome found (λ timing. IsExplaining q.now.compiled.line.now
         q.now.script.now q.now.within (recorded_of q.now) timing)) }
 {
     let timing = Timing::new(values_at(alloc, part, number)?);
-    if !inside(q.line, &timing) {
+    if !inside(q.compiled.line, &timing) {
         return Ok(None);
     }
     if explains(alloc, q, &timing)? {
@@ -60,15 +60,16 @@ fn tried_at(
 /// Whether one timing alone lies in the part, and it does not explain the record.
 pub fn excluded_by_play(alloc: Global, q: &Question, part: &[Within]) -> Result<bool, Memory>
     requires question { IsQuestion q.now }
-    requires part { IsPart q.now.line.now part.now }
-    ensures { IfOk result (λ out. IsTrue out → IsExcludedByPlay q.now.line.now q.now.script.now
+    requires part { IsPart q.now.compiled.line.now part.now }
+    ensures { IfOk result (λ out. IsTrue out →
+        IsExcludedByPlay q.now.compiled.line.now q.now.script.now
         q.now.within (recorded_of q.now) part.now) }
 {
     if !is_point(part) {
         return Ok(false);
     }
     let timing = Timing::new(least(alloc, part)?);
-    if !inside(q.line, &timing) {
+    if !inside(q.compiled.line, &timing) {
         return Ok(false);
     }
     let explained = explains(alloc, q, &timing)?;

@@ -2,7 +2,6 @@
 
 ghost use Rattle.std.specs.Prelude.{◌≡◌, ◌<◌, ◌||◌, length, map, slice_get, IfOk, Some};
 ghost use Rattle.std.specs.List.{All};
-ghost use Rattle.net_gates.specs.NetOf.{IsNetOf};
 ghost use Rattle.judge_match.specs.matching.Answer.{IsHead, IsMatchAnswer, is_impossible as impossible};
 ghost use Rattle.judge_match.specs.matching.Answer.{is_unsettled as unsettled};
 ghost use Rattle.judge_match.specs.{matching.Seen.AreSeen, matching.Waves.seen_values};
@@ -10,8 +9,8 @@ ghost use Rattle.judge_match.specs.{matching.Seen.AreSeen, matching.Waves.seen_v
 use crate::matching::seen::{Match, Seen};
 use crate::matching::settling::settle;
 use crate::matching::text::match_text;
-use model_line::{Line, Memory, Script};
-use net_gates::Net;
+use model_line::{Memory, Script};
+use net_gates::Compiled;
 use std::alloc::Global;
 
 /// A line for each record, in file order; whether some record is impossible, and whether some is
@@ -26,22 +25,20 @@ pub struct MatchAnswer {
 /// Settles the records of a file.
 pub fn match_answer(
     alloc: Global,
-    line: &Line,
-    net: &Net,
+    compiled: &Compiled<'_>,
     scripts: &[Script],
     records: &[Seen],
 ) -> Result<MatchAnswer, Memory>
-    requires of_line { IsNetOf line.now net.now }
-    requires seen { All (λ seen. AreSeen line.now seen) records.now }
+    requires seen { All (λ seen. AreSeen compiled.now.line.now seen) records.now }
     requires named { All (λ seen. seen.script < length scripts.now) records.now }
-    ensures { IfOk result (λ said. IsMatchAnswer line.now scripts.now
+    ensures { IfOk result (λ said. IsMatchAnswer compiled.now.line.now scripts.now
         (map seen_values records.now) said.impossible said.unsettled said.text.items) }
 {
     let mut text = Vec::new(alloc);
     let mut impossible = false;
     let mut unsettled = false;
     for seen in records {
-        let head = settled_head(alloc, line, net, scripts, seen)?;
+        let head = settled_head(alloc, compiled, scripts, seen)?;
         text.extend_from_slice(&head.text)?;
         impossible = either(impossible, is_impossible(&head.settled));
         unsettled = either(unsettled, is_unsettled(&head.settled));
@@ -62,20 +59,18 @@ struct SettledHead {
 
 fn settled_head(
     alloc: Global,
-    line: &Line,
-    net: &Net,
+    compiled: &Compiled<'_>,
     scripts: &[Script],
     seen: &Seen,
 ) -> Result<SettledHead, Memory>
-    requires of_line { IsNetOf line.now net.now }
-    requires seen { AreSeen line.now seen.now }
+    requires seen { AreSeen compiled.now.line.now seen.now }
     requires named { seen.now.script < length scripts.now }
-    ensures { IfOk result (λ head. IsHead line.now scripts.now (seen_values seen.now)
+    ensures { IfOk result (λ head. IsHead compiled.now.line.now scripts.now (seen_values seen.now)
         (record { settled = head.settled; text = head.text.items })) }
 {
     let script = script_at(scripts, seen.script);
-    let settled = settle(alloc, line, net, script, seen)?;
-    let text = match_text(alloc, line, script, &settled)?;
+    let settled = settle(alloc, compiled, script, seen)?;
+    let text = match_text(alloc, compiled.line, script, &settled)?;
     Ok(SettledHead { settled, text })
 }
 

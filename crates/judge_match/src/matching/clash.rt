@@ -2,7 +2,6 @@
 
 ghost use Rattle.std.specs.Prelude.{◌≡◌, ◌<◌, length, MatchOption};
 ghost use Rattle.model_line.specs.{declared.script.Script.Script, Parameters.terminal_count};
-ghost use Rattle.net_gates.specs.NetOf.{IsNetOf};
 ghost use Rattle.run_waves.specs.waves.Waves.{AreWaves};
 ghost use Rattle.run_waves.specs.derived.Claims.{AreGateWaves, pairs_of};
 ghost use Rattle.judge_match.specs.matching.Signal.{IsSignalChecked};
@@ -10,8 +9,7 @@ ghost use Rattle.judge_match.specs.{matching.Seen.AreSeen, matching.Clash.AllAll
 ghost use Rattle.judge_match.specs.{matching.Clash.IsTerminalClash, matching.Clash.IsFirstClash};
 
 use crate::matching::seen::Seen;
-use model_line::Line;
-use net_gates::Net;
+use net_gates::Compiled;
 use run_signal::{Signal, Tern};
 use run_waves::derived::{first_uncovered_tick, nth};
 use run_waves::waves::Runs;
@@ -27,17 +25,19 @@ pub struct Clash {
 }
 
 /// The first such place: by terminal, the key before the trip, then by tick.
-pub fn first_clash(line: &Line, net: &Net, seen: &Seen, waves: &[Runs]) -> Option<Clash>
-    requires of_line { IsNetOf line.now net.now }
-    requires seen { AreSeen line.now seen.now }
-    requires waves { AreWaves (length net.now.gates) line.now.horizon waves.now }
+pub fn first_clash(compiled: &Compiled<'_>, seen: &Seen, waves: &[Runs]) -> Option<Clash>
+    requires seen { AreSeen compiled.now.line.now seen.now }
+    requires waves { AreWaves
+        (length compiled.now.net.now.gates) compiled.now.line.now.horizon waves.now }
     ensures { (script : Script) →
-        AreGateWaves line.now script net.now.gates (pairs_of seen.now.keys.items) waves.now →
-        MatchOption result (AllAllowed line.now script seen.now)
-        (λ c. IsFirstClash line.now script seen.now c.terminal c.trip c.tick c.level c.derived) }
+        AreGateWaves compiled.now.line.now script compiled.now.net.now.gates
+        (pairs_of seen.now.keys.items) waves.now →
+        MatchOption result (AllAllowed compiled.now.line.now script seen.now)
+        (λ c. IsFirstClash compiled.now.line.now script seen.now c.terminal c.trip c.tick c.level
+        c.derived) }
 {
-    for k in 0..line.terminals.len() {
-        if let Some(clash) = terminal_clash(line, net, seen, waves, k as u32) {
+    for k in 0..compiled.line.terminals.len() {
+        if let Some(clash) = terminal_clash(compiled, seen, waves, k as u32) {
             return Some(clash);
         }
     }
@@ -46,28 +46,29 @@ pub fn first_clash(line: &Line, net: &Net, seen: &Seen, waves: &[Runs]) -> Optio
 
 // The first such place of a terminal.
 fn terminal_clash(
-    line: &Line,
-    net: &Net,
+    compiled: &Compiled<'_>,
     seen: &Seen,
     waves: &[Runs],
     terminal: u32,
 ) -> Option<Clash>
-    requires of_line { IsNetOf line.now net.now }
-    requires seen { AreSeen line.now seen.now }
-    requires waves { AreWaves (length net.now.gates) line.now.horizon waves.now }
-    requires terminal { terminal < terminal_count line.now }
+    requires seen { AreSeen compiled.now.line.now seen.now }
+    requires waves { AreWaves
+        (length compiled.now.net.now.gates) compiled.now.line.now.horizon waves.now }
+    requires terminal { terminal < terminal_count compiled.now.line.now }
     ensures { (script : Script) →
-        AreGateWaves line.now script net.now.gates (pairs_of seen.now.keys.items) waves.now →
-        MatchOption result (IsTerminalAllowed line.now script seen.now terminal)
-        (λ c. (c.terminal ≡ terminal) × IsTerminalClash line.now script seen.now terminal
+        AreGateWaves compiled.now.line.now script compiled.now.net.now.gates
+        (pairs_of seen.now.keys.items) waves.now →
+        MatchOption result (IsTerminalAllowed compiled.now.line.now script seen.now terminal)
+        (λ c. (c.terminal ≡ terminal) × IsTerminalClash compiled.now.line.now script seen.now
+        terminal
         c.trip c.tick c.level c.derived) }
 {
-    let key = nth(waves, net.key_gate(terminal).0);
+    let key = nth(waves, compiled.net.key_gate(terminal).0);
     let seen_key = nth(seen.keys.as_slice(), terminal);
     if let Some(clash) = signal_clash(key, seen_key, terminal, false) {
         return Some(clash);
     }
-    let trip = nth(waves, net.trip_gate(terminal).0);
+    let trip = nth(waves, compiled.net.trip_gate(terminal).0);
     let seen_trip = nth(seen.trips.as_slice(), terminal);
     signal_clash(trip, seen_trip, terminal, true)
 }

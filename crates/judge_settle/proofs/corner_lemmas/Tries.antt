@@ -113,7 +113,7 @@ left_without line t j there = record {
 pub round_none : (of : Obligation) (t : TimingValues) → IsFailed of t → IsRound of t t false
 round_none of t fails = record {
   fails = fails;
-  left = left_itself of.line.now t;
+  left = left_itself of.compiled.line.now t;
   less = λ on. absurd (cc);
   same = λ off. refl;
 }
@@ -122,34 +122,37 @@ pub round_after : (of : Obligation) (a b c : TimingValues) (x y z : Bool) → Is
     → IsRound of b c y → z ≡ (x || y) → IsRound of a c z
 round_after of a b c false false z one other is = record {
   fails = other.fails;
-  left = left_of_left of.line.now a b c one.left other.left;
+  left = left_of_left of.compiled.line.now a b c one.left other.left;
   less = λ on. absurd (cc);
   same = λ off. other.same refl ∙ one.same refl;
 }
 round_after of a b c false true z one other is = record {
   fails = other.fails;
-  left = left_of_left of.line.now a b c one.left other.left;
-  less = λ on. subst (λ (t : TimingValues). weight of.line.now c < weight of.line.now t)
+  left = left_of_left of.compiled.line.now a b c one.left other.left;
+  less = λ on. subst (λ (t : TimingValues). weight of.compiled.line.now c < weight
+      of.compiled.line.now t)
       (one.same refl) (other.less refl);
   same = λ off. absurd (cc);
 }
 round_after of a b c true false z one other is = record {
   fails = other.fails;
-  left = left_of_left of.line.now a b c one.left other.left;
-  less = λ on. subst (λ (t : TimingValues). weight of.line.now t < weight of.line.now a)
+  left = left_of_left of.compiled.line.now a b c one.left other.left;
+  less = λ on. subst (λ (t : TimingValues). weight of.compiled.line.now t < weight
+      of.compiled.line.now a)
       (sym (other.same refl)) (one.less refl);
   same = λ off. absurd (cc);
 }
 round_after of a b c true true z one other is = record {
   fails = other.fails;
-  left = left_of_left of.line.now a b c one.left other.left;
+  left = left_of_left of.compiled.line.now a b c one.left other.left;
   less = λ on. let first = one.less refl in let second = other.less refl in omega (arith, first, second);
   same = λ off. absurd (cc);
 }
 
 pub round_of_try : (of : Obligation) (old tried new : TimingValues) (taken : Bool)
-    → IsFailed of old → IsLeftOf of.line.now old tried
-    → weight of.line.now tried < weight of.line.now old → IsTried of old tried new taken
+    → IsFailed of old → IsLeftOf of.compiled.line.now old tried
+    → weight of.compiled.line.now tried < weight of.compiled.line.now old → IsTried of old tried new
+    taken
     → IsRound of old new taken
 round_of_try of old tried new true fails left less is =
     rw (is.taken_is refl)
@@ -163,7 +166,8 @@ round_of_try of old tried new false fails left less is =
     rw (is.kept refl) (round_none of old fails)
 
 -- a try that was made
-pub try_of : (of : Obligation) (old tried : TimingValues) → IsTimingInside of.line.now tried
+pub try_of : (of : Obligation) (old tried : TimingValues) → IsTimingInside of.compiled.line.now
+    tried
     → (told : Bool) → IsTold of tried told → told ≡ true → IsTried of old tried tried true
 try_of of old tried inside told tells is = record {
   taken_is = λ on. refl;
@@ -183,11 +187,12 @@ try_kept of old tried told tells is = record {
 
 -- a number put to the middle, or to the least
 pub put_to_nominal : (of : Obligation) (cut new : TimingValues) (p : ℕ) (taken : Bool)
-    → p < param_count of.line.now → IsFailed of cut
-    → number cut p ≢ nominal_of of.line.now p
-    → IsTried of cut (with_number cut p (nominal_of of.line.now p)) new taken → IsRound of cut new taken
+    → p < param_count of.compiled.line.now → IsFailed of cut
+    → number cut p ≢ nominal_of of.compiled.line.now p
+    → IsTried of cut (with_number cut p (nominal_of of.compiled.line.now p)) new taken → IsRound of
+    cut new taken
 put_to_nominal of cut new p taken there fails apart tried =
-    let line = of.line.now in
+    let line = of.compiled.line.now in
     let within : p < length cut.values = omega (arith, there, fails.inside.count) in
     round_of_try of cut (with_number cut p (nominal_of line p)) new taken fails
     (left_with line cut p (nominal_of line p) within (inl refl))
@@ -195,11 +200,13 @@ put_to_nominal of cut new p taken there fails apart tried =
     (less_at_nominal (nominal_of line p) (least_of line p) (number cut p) apart)) tried
 
 pub put_to_least : (of : Obligation) (cut new : TimingValues) (p : ℕ) (taken : Bool)
-    → p < param_count of.line.now → IsFailed of cut
-    → number cut p ≢ nominal_of of.line.now p → number cut p ≢ least_of of.line.now p
-    → IsTried of cut (with_number cut p (least_of of.line.now p)) new taken → IsRound of cut new taken
+    → p < param_count of.compiled.line.now → IsFailed of cut
+    → number cut p ≢ nominal_of of.compiled.line.now p → number cut p ≢ least_of
+    of.compiled.line.now p
+    → IsTried of cut (with_number cut p (least_of of.compiled.line.now p)) new taken → IsRound of
+    cut new taken
 put_to_least of cut new p taken there fails apart other tried =
-    let line = of.line.now in
+    let line = of.compiled.line.now in
     let within : p < length cut.values = omega (arith, there, fails.inside.count) in
     round_of_try of cut (with_number cut p (least_of line p)) new taken fails
     (left_with line cut p (least_of line p) within (inr refl))
@@ -211,7 +218,8 @@ pub step_left : (of : Obligation) (cut new : TimingValues) (j : ℕ) (taken : Bo
     → IsRound of cut new taken
 step_left of cut new j taken there fails tried =
     round_of_try of cut (without_step cut j) new taken fails
-    (left_without of.line.now cut j there) (weight_without of.line.now cut j there) tried
+    (left_without of.compiled.line.now cut j there)
+    (weight_without of.compiled.line.now cut j there) tried
 
 pub neither_one : (x y z : Bool) → z ≡ (x || y) → z ≡ false → (x ≡ false) × (y ≡ false)
 neither_one false false z is off = (refl, refl)

@@ -32,6 +32,6 @@ pub record IsTried (of : Obligation) (old tried new : TimingValues) (taken : Boo
 -- anything was changed
 pub record IsRound (of : Obligation) (old new : TimingValues) (changed : Bool) : Type 0 where
   pub fails : IsFailed of new
-  pub left : IsLeftOf of.line.now old new
-  pub less : IsTrue changed → weight of.line.now new < weight of.line.now old
+  pub left : IsLeftOf of.compiled.line.now old new
+  pub less : IsTrue changed → weight of.compiled.line.now new < weight of.compiled.line.now old
   pub same : IsFalse changed → new ≡ old

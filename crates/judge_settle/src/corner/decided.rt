@@ -3,7 +3,6 @@
 ghost use Rattle.std.specs.Prelude.{◌≡◌, ◌<◌, ◌↔◌, IfOk, IfSome, IsSome};
 ghost use Rattle.model_line.specs.{Fits.Fits, Parameters.terminal_count};
 ghost use Rattle.model_logic.specs.Rule.{is_held as is_rule_held};
-ghost use Rattle.net_gates.specs.NetOf.{IsNetOf};
 ghost use Rattle.model_settle.specs.Schemes.{IsOneRailedBy};
 ghost use Rattle.judge_verdict.specs.verdict.PairWavesOf.{pair_history};
 ghost use Rattle.judge_settle.specs.corner.Decided.{OneTimingDecides, IsTheWorst, held_by};
@@ -18,7 +17,7 @@ use model_settle::polarity_laws::the_worst_choice_decides;
 use model_timing::{
     Timing, same_choices_have_the_same_histories, timings_inside_are_choices_inside,
 };
-use net_gates::Net;
+use net_gates::Compiled;
 use std::alloc::Global;
 
 /// The worst timing of a script, and for each terminal whether its obligation is held: met by every
@@ -33,32 +32,30 @@ pub struct Decided {
 /// where it does not.
 pub fn decide(
     alloc: Global,
-    line: &Line,
-    net: &Net,
+    compiled: &Compiled<'_>,
     script: &Script,
 ) -> Result<Option<Decided>, Memory>
-    requires of_line { IsNetOf line.now net.now }
-    requires fits { Fits line.now script.now }
+    requires fits { Fits compiled.now.line.now script.now }
     // PUTT, DTT, DCB, and POTT without weak ends are decided, and no other line is.
     ensures one_railed { IfOk result (λ decided.
-        IsSome decided ↔ IsOneRailedBy line.now.scheme line.now) }
+        IsSome decided ↔ IsOneRailedBy compiled.now.line.now.scheme compiled.now.line.now) }
     // Every choice inside meets the obligation, or this one timing inside fails it.
     ensures one_timing_decides { IfOk result (λ decided. IfSome decided (λ d.
-        OneTimingDecides line.now script.now d.timing d.held.items)) }
+        OneTimingDecides compiled.now.line.now script.now d.timing d.held.items)) }
     // Over the run the timing is the worst choice over the interval history.
     ensures worst { IfOk result (λ decided. IfSome decided (λ d.
-        IsTheWorst line.now script.now d.timing)) }
+        IsTheWorst compiled.now.line.now script.now d.timing)) }
 {
     line_laws();
     the_worst_choice_decides();
     timings_inside_are_choices_inside();
     same_choices_have_the_same_histories();
-    if !is_one_railed(line) {
+    if !is_one_railed(compiled.line) {
         return Ok(None);
     }
-    let waves = analyse(alloc, net, line, script)?;
-    let timing = worst_timing(alloc, line, &waves, deciding(script.kind))?;
-    let held = are_held(alloc, line, script, &waves)?;
+    let waves = analyse(alloc, compiled, script)?;
+    let timing = worst_timing(alloc, compiled.line, &waves, deciding(script.kind))?;
+    let held = are_held(alloc, compiled.line, script, &waves)?;
     Ok(Some(Decided { timing, held }))
 }
 

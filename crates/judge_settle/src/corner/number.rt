@@ -22,10 +22,10 @@ pub fn put_numbers(alloc: Global, of: &Obligation, cut: &mut Timing) -> Result<b
     requires fails { IsFailed of.now cut.old }
     ensures round { IfOk result (IsRound of.now cut.old cut.new) }
     ensures matter { IfOk result (λ moved. IsFalse moved → MatterIn of.now cut.new
-        (param_count of.now.line.now)) }
+        (param_count of.now.compiled.line.now)) }
 {
     let mut moved = false;
-    for param in 0..of.line.param_count() {
+    for param in 0..of.compiled.line.param_count() {
         let put = put_number(alloc, of, cut, param)?;
         moved = either(moved, put);
     }
@@ -37,13 +37,16 @@ pub fn put_numbers(alloc: Global, of: &Obligation, cut: &mut Timing) -> Result<b
 fn put_number(alloc: Global, of: &Obligation, cut: &mut Timing, param: u32) -> Result<bool, Memory>
     requires of { IsObligation of.now }
     requires fails { IsFailed of.now cut.old }
-    requires param { param < param_count of.now.line.now }
+    requires param { param < param_count of.now.compiled.line.now }
     ensures round { IfOk result (IsRound of.now cut.old cut.new) }
     ensures matters { IfOk result (λ moved. IsFalse moved → MattersIn of.now cut.new param) }
 {
     declared_intervals_are_in_order();
     let number = number_of(cut, param);
-    let (middle, least) = (nominal(of.line, param), of.line.least(param));
+    let (middle, least) = (
+        nominal(of.compiled.line, param),
+        of.compiled.line.least(param),
+    );
     if number == middle {
         return Ok(false);
     }
@@ -67,8 +70,8 @@ fn try_number(
 ) -> Result<bool, Memory>
     requires of { IsObligation of.now }
     requires fails { IsFailed of.now cut.old }
-    requires param { param < param_count of.now.line.now }
-    requires number { IsIn number (declared_ends of.now.line.now param) }
+    requires param { param < param_count of.now.compiled.line.now }
+    requires number { IsIn number (declared_ends of.now.compiled.line.now param) }
     ensures { IfOk result (IsTried of.now cut.old (number_changed cut.old param number) cut.new) }
 {
     declared_intervals_are_in_order();

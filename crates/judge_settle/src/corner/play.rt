@@ -20,16 +20,16 @@ use std::alloc::Global;
 /// Whether the history at a timing inside the declared intervals fails the obligation.
 pub fn fails(alloc: Global, of: &Obligation, timing: &Timing) -> Result<bool, Memory>
     requires of { IsObligation of.now }
-    requires inside { IsTimingInside of.now.line.now timing.now }
+    requires inside { IsTimingInside of.now.compiled.line.now timing.now }
     ensures { IfOk result (IsTold of.now timing.now) }
 {
     a_timing_is_one_choice();
     each_choice_has_one_history();
     deadlines_are_below_the_horizon();
     let (values, steps) = (timing.values(), timing.steps());
-    let tracks = run_tracks::<Level>(alloc, of.net, of.line, of.script, values, steps)?;
+    let tracks = run_tracks::<Level>(alloc, &of.compiled, of.script, values, steps)?;
     let trip = &tracks.trips[of.terminal as usize];
-    Ok(!meets(trip, of.script, of.line.horizon))
+    Ok(!meets(trip, of.script, of.compiled.line.horizon))
 }
 
 // Whether a trip meets its obligation.

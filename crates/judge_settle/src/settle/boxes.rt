@@ -14,6 +14,7 @@ use judge_ahead::{
 use judge_cases::View;
 use model_line::Memory;
 use model_timing::Timing;
+use net_gates::Compiled;
 use std::alloc::Global;
 
 /// What is seen of a view.
@@ -34,15 +35,16 @@ pub fn side_in(
 /// is tried, since the box is as before.
 pub fn failing_in(
     alloc: Global,
+    compiled: &Compiled<'_>,
     scene: &Scene,
     view: &View,
     last: Option<Case>,
     budget: &mut Budget,
 ) -> Result<Option<Timing>, Memory>
-    requires { CanSearch scene.now.line.now scene.now.net.now scene.now.script.now
+    requires { CanSearch compiled.now.line.now scene.now.script.now
         scene.now.terminal }
     ensures found { IfOk result (λ found. IfSome found (λ timing.
-        IsFailing scene.now.line.now scene.now.script.now scene.now.terminal timing)) }
+        IsFailing compiled.now.line.now scene.now.script.now scene.now.terminal timing)) }
     ensures cuts { budget.new.cuts ≡ budget.old.cuts }
 {
     if last.is_some() {
@@ -53,14 +55,7 @@ pub fn failing_in(
         return Ok(None);
     };
     let terminal = scene.terminal;
-    if fails(
-        alloc,
-        scene.line,
-        scene.net,
-        scene.script,
-        terminal,
-        &timing,
-    )? {
+    if fails(alloc, compiled, scene.script, terminal, &timing)? {
         return Ok(Some(timing));
     }
     Ok(None)

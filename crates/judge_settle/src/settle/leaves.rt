@@ -15,6 +15,7 @@ use judge_cases::laws::a_view_stands_for_its_box;
 use judge_cases::{View, analyse};
 use model_line::Memory;
 use model_line::laws::deadlines_are_below_the_horizon;
+use net_gates::Compiled;
 use run_signal::{Lanes64, Signal};
 use std::alloc::Global;
 
@@ -36,22 +37,23 @@ pub fn taken_leaf(alloc: Global, view: View, leaves: &mut Vec<View>) -> Result<G
 /// tree says nothing: it is one undecided leaf.
 pub fn confirmed(
     alloc: Global,
+    compiled: &Compiled<'_>,
     scene: &Scene,
     found: Found,
     leaves: &[View],
 ) -> Result<Found, Memory>
-    requires can { CanSearch scene.now.line.now scene.now.net.now scene.now.script.now
+    requires can { CanSearch compiled.now.line.now scene.now.script.now
         scene.now.terminal }
-    requires views { AreViews scene.now.line.now leaves.now }
+    requires views { AreViews compiled.now.line.now leaves.now }
     ensures { IfOk result (λ sure. (size : Size) (view : View) →
-        IsFoundWith scene.now.line.now scene.now.script.now scene.now.terminal size view
+        IsFoundWith compiled.now.line.now scene.now.script.now scene.now.terminal size view
         leaves.now found →
-        IsFound scene.now.line.now scene.now.script.now scene.now.terminal size view sure) }
+        IsFound compiled.now.line.now scene.now.script.now scene.now.terminal size view sure) }
 {
     match found {
         Found::Fails(timing) => Ok(Found::Fails(timing)),
         Found::Tree(tree) => {
-            let all = all_shown(alloc, scene, leaves)?;
+            let all = all_shown(alloc, compiled, scene, leaves)?;
             if all {
                 Ok(Found::Tree(tree))
             } else {
@@ -63,17 +65,22 @@ pub fn confirmed(
 }
 
 // Whether the obligation is shown over each of these views. One run serves 64 of them.
-fn all_shown(alloc: Global, scene: &Scene, views: &[View]) -> Result<bool, Memory>
-    requires can { CanSearch scene.now.line.now scene.now.net.now scene.now.script.now
+fn all_shown(
+    alloc: Global,
+    compiled: &Compiled<'_>,
+    scene: &Scene,
+    views: &[View],
+) -> Result<bool, Memory>
+    requires can { CanSearch compiled.now.line.now scene.now.script.now
         scene.now.terminal }
-    requires views { AreViews scene.now.line.now views.now }
+    requires views { AreViews compiled.now.line.now views.now }
     ensures { IfOk result (λ all. IsTrue all →
-        AreAllShown scene.now.line.now scene.now.script.now scene.now.terminal views.now) }
+        AreAllShown compiled.now.line.now scene.now.script.now scene.now.terminal views.now) }
 {
     let mut first = 0;
     'next_block: while first < views.len() {
         let next = views.len().min(first + 64);
-        let all = is_block_shown(alloc, scene, &views[first..next])?;
+        let all = is_block_shown(alloc, compiled, scene, &views[first..next])?;
         if !all {
             return Ok(false);
         }
@@ -83,18 +90,23 @@ fn all_shown(alloc: Global, scene: &Scene, views: &[View]) -> Result<bool, Memor
 }
 
 // Whether the obligation is shown over each of up to 64 views.
-fn is_block_shown(alloc: Global, scene: &Scene, views: &[View]) -> Result<bool, Memory>
-    requires can { CanSearch scene.now.line.now scene.now.net.now scene.now.script.now
+fn is_block_shown(
+    alloc: Global,
+    compiled: &Compiled<'_>,
+    scene: &Scene,
+    views: &[View],
+) -> Result<bool, Memory>
+    requires can { CanSearch compiled.now.line.now scene.now.script.now
         scene.now.terminal }
     requires some { 1 ≤ length views.now }
     requires few { length views.now ≤ 64 }
-    requires views { AreViews scene.now.line.now views.now }
+    requires views { AreViews compiled.now.line.now views.now }
     ensures { IfOk result (λ all. IsTrue all →
-        AreAllShown scene.now.line.now scene.now.script.now scene.now.terminal views.now) }
+        AreAllShown compiled.now.line.now scene.now.script.now scene.now.terminal views.now) }
 {
     deadlines_are_below_the_horizon();
-    let analysis = analyse(alloc, scene.line, scene.net, scene.script, views)?;
-    let shown = analysis.shown(scene.line, scene.net, scene.script, scene.terminal);
+    let analysis = analyse(alloc, compiled, scene.script, views)?;
+    let shown = analysis.shown(compiled, scene.script, scene.terminal);
     Ok(are_on(shown, views.len()))
 }
 

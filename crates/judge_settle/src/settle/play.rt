@@ -3,15 +3,14 @@
 ghost use Rattle.std.specs.Prelude.{◌≡◌, ◌≤◌, ◌<◌, ◌↔◌, length, IfOk, IsTrue, IsFalse};
 ghost use Rattle.model_line.specs.{Fits.Fits, Parameters.terminal_count};
 ghost use Rattle.model_logic.specs.Histories.{MeetsBy};
-ghost use Rattle.net_gates.specs.NetOf.{IsNetOf};
 ghost use Rattle.model_timing.specs.Inside.{IsTimingInside};
 ghost use Rattle.run_changes.specs.changes.PlayedTracks.{is_on};
 ghost use Rattle.judge_settle.specs.{settle.Trees.IsFailing, settle.Trips.SomeTickIsOn};
 
 use model_line::laws::deadlines_are_below_the_horizon;
-use model_line::{Kind, Line, Memory, Script};
+use model_line::{Kind, Memory, Script};
 use model_timing::{Timing, inside};
-use net_gates::Net;
+use net_gates::Compiled;
 use run_changes::changes::run_tracks;
 use run_signal::{Level, Signal, Track};
 use run_step::laws::a_timing_is_one_choice;
@@ -21,48 +20,44 @@ use std::alloc::Global;
 /// terminal.
 pub fn fails(
     alloc: Global,
-    line: &Line,
-    net: &Net,
+    compiled: &Compiled<'_>,
     script: &Script,
     terminal: u32,
     timing: &Timing,
 ) -> Result<bool, Memory>
-    requires of_line { IsNetOf line.now net.now }
-    requires fits { Fits line.now script.now }
-    requires terminal { terminal < terminal_count line.now }
+    requires fits { Fits compiled.now.line.now script.now }
+    requires terminal { terminal < terminal_count compiled.now.line.now }
     ensures { IfOk result (λ failed. IsTrue failed →
-        IsFailing line.now script.now terminal timing.now) }
+        IsFailing compiled.now.line.now script.now terminal timing.now) }
 {
-    if !inside(line, timing) {
+    if !inside(compiled.line, timing) {
         return Ok(false);
     }
-    let met = is_met(alloc, line, net, script, terminal, timing)?;
+    let met = is_met(alloc, compiled, script, terminal, timing)?;
     Ok(!met)
 }
 
 // Whether the history of a timing inside meets the obligation.
 fn is_met(
     alloc: Global,
-    line: &Line,
-    net: &Net,
+    compiled: &Compiled<'_>,
     script: &Script,
     terminal: u32,
     timing: &Timing,
 ) -> Result<bool, Memory>
-    requires of_line { IsNetOf line.now net.now }
-    requires fits { Fits line.now script.now }
-    requires terminal { terminal < terminal_count line.now }
-    requires inside { IsTimingInside line.now timing.now }
+    requires fits { Fits compiled.now.line.now script.now }
+    requires terminal { terminal < terminal_count compiled.now.line.now }
+    requires inside { IsTimingInside compiled.now.line.now timing.now }
     ensures { IfOk result (λ met. IsFalse met →
-        IsFailing line.now script.now terminal timing.now) }
+        IsFailing compiled.now.line.now script.now terminal timing.now) }
 {
     a_timing_is_one_choice();
     deadlines_are_below_the_horizon();
     let values = timing.values();
     let steps = timing.steps();
-    let tracks = run_tracks::<Level>(alloc, net, line, script, values, steps)?;
+    let tracks = run_tracks::<Level>(alloc, compiled, script, values, steps)?;
     let trip = &tracks.trips[terminal as usize];
-    Ok(meets(trip, script, line.horizon))
+    Ok(meets(trip, script, compiled.line.horizon))
 }
 
 // Whether a trip meets its obligation.

@@ -14,6 +14,7 @@ use judge_ahead::{Case, Cut, Scene};
 use judge_cases::View;
 use model_line::Memory;
 use model_timing::Timing;
+use net_gates::Compiled;
 use std::alloc::Global;
 
 /// A tree, or a timing that fails.
@@ -29,6 +30,7 @@ pub enum Found {
 /// cut.
 pub fn search_view(
     alloc: Global,
+    compiled: &Compiled<'_>,
     scene: &Scene,
     branch: Branch,
     last: Option<Case>,
@@ -36,17 +38,17 @@ pub fn search_view(
     budget: &mut Budget,
     leaves: &mut Vec<View>,
 ) -> Result<Found, Memory>
-    requires can { CanSearch scene.now.line.now scene.now.net.now scene.now.script.now
+    requires can { CanSearch compiled.now.line.now scene.now.script.now
         scene.now.terminal }
-    requires view { IsView scene.now.line.now branch.view }
-    requires leaves { AreViews scene.now.line.now leaves.old.items }
+    requires view { IsView compiled.now.line.now branch.view }
+    requires leaves { AreViews compiled.now.line.now leaves.old.items }
     // The tree has at most so many cuts above one another, and no more of them than were spent.
-    ensures found { IfOk result (λ found. IsFoundWith scene.now.line.now scene.now.script.now
+    ensures found { IfOk result (λ found. IsFoundWith compiled.now.line.now scene.now.script.now
         scene.now.terminal (record { depth = depth; cuts = budget.old.cuts - budget.new.cuts })
         branch.view leaves.new.items found) }
     ensures spent { IfOk result (λ _. budget.new.cuts ≤ budget.old.cuts) }
     ensures leaves { IfOk result (λ _.
-        AreMoreViews scene.now.line.now leaves.old.items leaves.new.items) }
+        AreMoreViews compiled.now.line.now leaves.old.items leaves.new.items) }
 {
     if branch.side.met {
         let Branch { view, side: _side } = branch;
@@ -55,14 +57,14 @@ pub fn search_view(
     if depth == 0 || budget.is_spent() {
         return Ok(Found::Tree(leaf(alloc, false)?));
     }
-    if let Some(timing) = failing_in(alloc, scene, &branch.view, last, budget)? {
+    if let Some(timing) = failing_in(alloc, compiled, scene, &branch.view, last, budget)? {
         return Ok(Found::Fails(timing));
     }
     let Some(chosen) = choose_in(alloc, scene, &branch, last, budget)? else {
         return Ok(Found::Tree(leaf(alloc, false)?));
     };
     let cut = chosen.cut;
-    let Some(branches) = branches_of(alloc, scene.line, &branch.view, chosen)? else {
+    let Some(branches) = branches_of(alloc, compiled.line, &branch.view, chosen)? else {
         return Ok(Found::Tree(leaf(alloc, false)?));
     };
     let Branches {
@@ -71,11 +73,29 @@ pub fn search_view(
         other,
     } = branches;
     let next = case_of(cut);
-    let worse_tree = match search_view(alloc, scene, worse, next, depth - 1, budget, leaves)? {
+    let worse_tree = match search_view(
+        alloc,
+        compiled,
+        scene,
+        worse,
+        next,
+        depth - 1,
+        budget,
+        leaves,
+    )? {
         Found::Tree(tree) => tree,
         Found::Fails(timing) => return Ok(Found::Fails(timing)),
     };
-    let other_tree = match search_view(alloc, scene, other, next, depth - 1, budget, leaves)? {
+    let other_tree = match search_view(
+        alloc,
+        compiled,
+        scene,
+        other,
+        next,
+        depth - 1,
+        budget,
+        leaves,
+    )? {
         Found::Tree(tree) => tree,
         Found::Fails(timing) => return Ok(Found::Fails(timing)),
     };

@@ -6,7 +6,6 @@ ghost use Rattle.model_line.specs.{Fits.Fits, Parameters.terminal_count};
 ghost use Rattle.model_logic.specs.Choice.{declared_box};
 ghost use Rattle.model_logic.specs.HeldOver.{IsHeldOver};
 ghost use Rattle.model_settle.specs.{Schemes.IsOneRailedBy, Choices.EveryChoiceMeets};
-ghost use Rattle.net_gates.specs.NetOf.{IsNetOf};
 ghost use Rattle.judge_cases.specs.{declared.view.View.View, Views.Views};
 ghost use Rattle.judge_settle.specs.corner.Decided.{OneTimingDecides};
 ghost use Rattle.judge_settle.specs.{settle.Answers.IsAnswer, settle.Trees.IsFound};
@@ -30,7 +29,7 @@ use model_logic::laws::{each_line_has_a_choice_inside, line_laws};
 use model_settle::case_laws::{each_box_has_one_history_under, sound_trees_meet};
 use model_settle::polarity_laws::the_worst_choice_decides;
 use model_timing::Timing;
-use net_gates::Net;
+use net_gates::Compiled;
 use std::alloc::Global;
 
 /// How many cuts stand above one another at most, as in a text.
@@ -41,34 +40,41 @@ const DEPTH: u32 = 1024;
 /// splits the declared box and tells cases of echoes apart, until so many analyses were made.
 pub fn settle(
     alloc: Global,
-    line: &Line,
-    net: &Net,
+    compiled: &Compiled<'_>,
     script: &Script,
     terminal: u32,
     analyses: u32,
 ) -> Result<Settled, Memory>
-    requires of_line { IsNetOf line.now net.now }
-    requires fits { Fits line.now script.now }
-    requires terminal { terminal < terminal_count line.now }
+    requires fits { Fits compiled.now.line.now script.now }
+    requires terminal { terminal < terminal_count compiled.now.line.now }
     ensures { IfOk result (λ settled.
-        IsAnswer line.now script.now terminal settled.answer) }
+        IsAnswer compiled.now.line.now script.now terminal settled.answer) }
 {
     deadlines_are_below_the_horizon();
-    match decide(alloc, line, net, script)? {
-        Some(decided) => return by_corner(alloc, line, script, terminal, decided),
+    match decide(alloc, compiled, script)? {
+        Some(decided) => return by_corner(alloc, compiled.line, script, terminal, decided),
         None => {}
     }
-    if let Some(settled) = by_certificate(alloc, line, net, script, terminal)? {
+    if let Some(settled) = by_certificate(alloc, compiled, script, terminal)? {
         return Ok(settled);
     }
-    let scene = Scene::new(alloc, line, net, script, terminal)?;
+    let scene = Scene::new(alloc, compiled.line, compiled.net, script, terminal)?;
     let mut budget = Budget::new(analyses);
-    let view = declared_view(alloc, line)?;
+    let view = declared_view(alloc, compiled.line)?;
     let side = side_in(alloc, &scene, &view, &mut budget)?;
     let root = Branch { view, side };
     let mut leaves = Vec::new(alloc);
-    let found = search_view(alloc, &scene, root, None, DEPTH, &mut budget, &mut leaves)?;
-    let sure = confirmed(alloc, &scene, found, leaves.as_slice())?;
+    let found = search_view(
+        alloc,
+        compiled,
+        &scene,
+        root,
+        None,
+        DEPTH,
+        &mut budget,
+        &mut leaves,
+    )?;
+    let sure = confirmed(alloc, compiled, &scene, found, leaves.as_slice())?;
     let answer = answer_of(sure);
     let by = by(&answer, &budget);
     Ok(Settled {
@@ -127,18 +133,16 @@ fn held_at_once(alloc: Global) -> Result<Settled, Memory>
 // that fails the obligation, if one of them settles it.
 fn by_certificate(
     alloc: Global,
-    line: &Line,
-    net: &Net,
+    compiled: &Compiled<'_>,
     script: &Script,
     terminal: u32,
 ) -> Result<Option<Settled>, Memory>
-    requires of_line { IsNetOf line.now net.now }
-    requires fits { Fits line.now script.now }
-    requires terminal { terminal < terminal_count line.now }
+    requires fits { Fits compiled.now.line.now script.now }
+    requires terminal { terminal < terminal_count compiled.now.line.now }
     ensures { IfOk result (λ found. IfSome found (λ settled.
-        IsAnswer line.now script.now terminal settled.answer)) }
+        IsAnswer compiled.now.line.now script.now terminal settled.answer)) }
 {
-    let said = certify(alloc, line, net, script)?;
+    let said = certify(alloc, compiled, script)?;
     let mut verdicts = said.verdicts;
     if is_yes(&verdicts[terminal as usize]) {
         let settled = held_at_once(alloc)?;
@@ -147,7 +151,7 @@ fn by_certificate(
     let Verdict::No(timing) = verdicts.swap_remove(terminal as usize) else {
         return Ok(None);
     };
-    if fails(alloc, line, net, script, terminal, &timing)? {
+    if fails(alloc, compiled, script, terminal, &timing)? {
         return Ok(Some(Settled {
             answer: Answer::Fails(timing),
             by: By::Candidate,

@@ -7,7 +7,6 @@ ghost use Rattle.run_signal.specs.SentKeys.{SentKeys};
 ghost use Rattle.model_line.specs.Parameters.{param_count, terminal_count};
 ghost use Rattle.model_line.specs.{declared.line.Line.Line, SetBounds.SameButParams};
 ghost use Rattle.model_logic.specs.Rule.{is_held};
-ghost use Rattle.net_gates.specs.NetOf.{IsNetOf};
 ghost use Rattle.judge_verdict.specs.boxes.Terns.{terns_rails};
 ghost use Rattle.judge_verdict.specs.boxes.Held.{AreParts, TellHeld, TellBlock, TellBlocks, part_in};
 ghost use Rattle.judge_verdict.specs.boxes.Held.{IsPartSpan, ArePartSpans, trip_rails, must_trip, may_trip};
@@ -19,7 +18,7 @@ use model_line::{Kind, Line, Memory, Script};
 use model_logic::interval_laws::the_rule_over_a_box;
 use model_logic::laws::line_laws;
 use model_timing::Step;
-use net_gates::Net;
+use net_gates::Compiled;
 use run_changes::changes::run_tracks;
 use run_signal::{Lanes64, Signal, Tick, Ticks64, Track};
 use std::alloc::Global;
@@ -28,19 +27,17 @@ use std::alloc::Global;
 /// which differ from the line in their intervals alone. One run serves 64 of them.
 pub fn held_each(
     alloc: Global,
-    line: &Line,
-    net: &Net,
+    compiled: &Compiled<'_>,
     script: &Script,
     terminal: u32,
     parts: &[Line],
 ) -> Result<Vec<bool>, Memory>
-    requires of_line { IsNetOf line.now net.now }
-    requires deadline { script.now.deadline < line.now.horizon }
-    requires terminal { terminal < terminal_count line.now }
-    requires parts { AreParts line.now parts.now }
+    requires deadline { script.now.deadline < compiled.now.line.now.horizon }
+    requires terminal { terminal < terminal_count compiled.now.line.now }
+    requires parts { AreParts compiled.now.line.now parts.now }
     ensures { IfOk result (λ held. TellHeld script.now terminal parts.now held.items) }
 {
-    let blocks = held_blocks(alloc, line, net, script, terminal, parts)?;
+    let blocks = held_blocks(alloc, compiled, script, terminal, parts)?;
     let mut held = Vec::new(alloc);
     for i in 0..parts.len() {
         let on = is_on(&blocks, i);
@@ -61,23 +58,21 @@ fn is_on(blocks: &[Lanes64], i: usize) -> bool
 // The blocks of 64 parts.
 fn held_blocks(
     alloc: Global,
-    line: &Line,
-    net: &Net,
+    compiled: &Compiled<'_>,
     script: &Script,
     terminal: u32,
     parts: &[Line],
 ) -> Result<Vec<Lanes64>, Memory>
-    requires of_line { IsNetOf line.now net.now }
-    requires deadline { script.now.deadline < line.now.horizon }
-    requires terminal { terminal < terminal_count line.now }
-    requires parts { AreParts line.now parts.now }
+    requires deadline { script.now.deadline < compiled.now.line.now.horizon }
+    requires terminal { terminal < terminal_count compiled.now.line.now }
+    requires parts { AreParts compiled.now.line.now parts.now }
     ensures all { IfOk result (λ blocks. length parts.now ≤ 64 * length blocks.items) }
     ensures tell { IfOk result (λ blocks. TellBlocks script.now terminal parts.now blocks.items) }
 {
     let mut blocks = Vec::new(alloc);
     let mut first = 0;
     'next_block: while first < parts.len() {
-        let lanes = held_block(alloc, line, net, script, terminal, parts, first)?;
+        let lanes = held_block(alloc, compiled, script, terminal, parts, first)?;
         blocks.push(lanes)?;
         first += 64;
     }
@@ -87,27 +82,25 @@ fn held_blocks(
 // The lanes of a block whose parts the obligation is held over.
 fn held_block(
     alloc: Global,
-    line: &Line,
-    net: &Net,
+    compiled: &Compiled<'_>,
     script: &Script,
     terminal: u32,
     parts: &[Line],
     first: usize,
 ) -> Result<Lanes64, Memory>
-    requires of_line { IsNetOf line.now net.now }
-    requires deadline { script.now.deadline < line.now.horizon }
-    requires terminal { terminal < terminal_count line.now }
-    requires parts { AreParts line.now parts.now }
+    requires deadline { script.now.deadline < compiled.now.line.now.horizon }
+    requires terminal { terminal < terminal_count compiled.now.line.now }
+    requires parts { AreParts compiled.now.line.now parts.now }
     requires first { first < length parts.now }
     ensures { IfOk result (λ bits. TellBlock script.now terminal parts.now first bits) }
 {
     line_laws();
     counts_do_not_rest_on_the_intervals();
     the_rule_over_a_box();
-    let spans = part_spans(alloc, line, parts, first)?;
+    let spans = part_spans(alloc, compiled.line, parts, first)?;
     let steps: [Step<Spans64>; 0] = [];
-    let tracks = run_tracks::<Terns64>(alloc, net, line, script, &spans, &steps)?;
-    Ok(held_lanes(line, script, &tracks.trips[terminal as usize]))
+    let tracks = run_tracks::<Terns64>(alloc, compiled, script, &spans, &steps)?;
+    Ok(held_lanes(compiled.line, script, &tracks.trips[terminal as usize]))
 }
 
 // A span for each parameter.

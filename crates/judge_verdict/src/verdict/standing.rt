@@ -4,7 +4,6 @@ ghost use Rattle.std.specs.Prelude.{◌≡◌, ◌≢◌, ◌<◌, ◌+◌, ℕ,
 ghost use Rattle.std.specs.Prelude.{IsFalse};
 ghost use Rattle.model_line.specs.Parameters.{terminal_count};
 ghost use Rattle.model_logic.specs.Histories.{PairHistory};
-ghost use Rattle.net_gates.specs.NetOf.{IsNetOf};
 ghost use Rattle.judge_verdict.specs.verdict.PairWavesOf.{pair_history};
 ghost use Rattle.model_timing.specs.Candidates.{candidate_count as count_of};
 ghost use Rattle.judge_verdict.specs.verdict.Candidates.{IsBlockRun};
@@ -19,7 +18,7 @@ use crate::verdict::verdict::Verdict;
 use model_line::laws::parameters_are_numbered;
 use model_line::{Line, Memory, Script};
 use model_timing::{candidate, candidate_count, candidate_in};
-use net_gates::Net;
+use net_gates::Compiled;
 use run_changes::changes::Tracks;
 use run_signal::Lanes64;
 use std::alloc::Global;
@@ -70,28 +69,27 @@ fn by_rule(line: &Line, script: &Script, waves: &PairWaves, terminal: u32) -> St
 /// obligation is open.
 pub fn after_candidates(
     alloc: Global,
-    line: &Line,
-    net: &Net,
+    compiled: &Compiled<'_>,
     script: &Script,
     by_rules: Vec<Standing>,
 ) -> Result<Vec<Standing>, Memory>
-    requires of_line { IsNetOf line.now net.now }
-    requires deadline { script.now.deadline < line.now.horizon }
-    requires terminals { length by_rules.items ≡ terminal_count line.now }
+    requires deadline { script.now.deadline < compiled.now.line.now.horizon }
+    requires terminals { length by_rules.items ≡ terminal_count compiled.now.line.now }
     ensures { IfOk result (λ standings. (w : PairHistory) →
-        AllStand line.now script.now w 0 by_rules.items →
-        AllStand line.now script.now w (count_of line.now) standings.items) }
+        AllStand compiled.now.line.now script.now w 0 by_rules.items →
+        AllStand compiled.now.line.now script.now w (count_of compiled.now.line.now)
+        standings.items) }
 {
     parameters_are_numbered();
-    let count = candidate_count(line);
+    let count = candidate_count(compiled.line);
     let mut standings = by_rules;
     let mut first = 0;
     'next_block: while first < count {
         if !some_open(&standings) {
             return Ok(standings);
         }
-        let tracks = run_block(alloc, line, net, script, first)?;
-        let after = after_block(alloc, line, script, &tracks, first, &standings)?;
+        let tracks = run_block(alloc, compiled, script, first)?;
+        let after = after_block(alloc, compiled.line, script, &tracks, first, &standings)?;
         standings = after;
         first += 64;
     }

@@ -7,7 +7,6 @@ ghost use Rattle.run_signal.specs.Tracks.{StaysUntil};
 ghost use Rattle.model_line.specs.{declared.script.Script.Script, Parameters.param_count};
 ghost use Rattle.model_line.specs.Parameters.{terminal_count};
 ghost use Rattle.model_logic.specs.Choice.{Choice};
-ghost use Rattle.net_gates.specs.NetOf.{IsNetOf};
 ghost use Rattle.model_timing.specs.Timing.{ascend};
 ghost use Rattle.run_changes.specs.changes.Agreeing.{AgreeIn, AllAgreeIn, IsOnlyHistory, LaneAgrees};
 ghost use Rattle.run_changes.specs.changes.Agreeing.{own_pairs};
@@ -24,7 +23,7 @@ use model_history::laws::history_laws;
 use model_line::{Line, Memory, Script};
 use model_logic::laws::line_laws;
 use model_timing::Step;
-use net_gates::Net;
+use net_gates::Compiled;
 use net_gates::laws::gates_stand_for_their_trees;
 use run_signal::{Carried, Level, Signal, Timed, Track};
 use std::alloc::Global;
@@ -34,69 +33,79 @@ use std::alloc::Global;
 /// tick up to the horizon.
 pub fn agreeing_lanes<V: Timed + Carried>(
     alloc: Global,
-    net: &Net,
-    line: &Line,
+    compiled: &Compiled<'_>,
     script: &Script,
     spans: &[V::Span],
     steps: &[Step<V::Span>],
     recorded: &Tracks<Level>,
 ) -> Result<V, Memory>
-    requires of_line { IsNetOf line.now net.now }
-    requires spans { length spans.now ≡ param_count line.now }
+    requires spans { length spans.now ≡ param_count compiled.now.line.now }
     requires ascending { IsTrue (ascend steps.now) }
-    requires delayed { AreDelayed V.LANES V.ends line.now spans.now steps.now }
-    requires keys { AreSent (terminal_count line.now) line.now.horizon line.now.horizon
+    requires delayed { AreDelayed V.LANES V.ends compiled.now.line.now spans.now steps.now }
+    requires keys { AreSent (terminal_count compiled.now.line.now) compiled.now.line.now.horizon
+        compiled.now.line.now.horizon
         recorded.now.keys.items }
-    requires trips { AreSent (terminal_count line.now) line.now.horizon line.now.horizon
+    requires trips { AreSent (terminal_count compiled.now.line.now) compiled.now.line.now.horizon
+        compiled.now.line.now.horizon
         recorded.now.trips.items }
     // Where the lane's box holds one choice alone, the lane tells whether what is recorded is the
     // history at that choice.
     ensures agreeing { IfOk result (λ lanes. (lane : ℕ) (choice : Choice) → lane < V.LANES →
-        IsPoint line.now (lane_box V.ends line.now spans.now steps.now lane) choice →
-        (IsTrue (V.rails lanes lane).must ↔ IsOnlyHistory line.now script.now choice
+        IsPoint compiled.now.line.now (lane_box V.ends compiled.now.line.now spans.now steps.now
+        lane) choice →
+        (IsTrue (V.rails lanes lane).must ↔ IsOnlyHistory compiled.now.line.now script.now choice
         (played recorded.now.keys.items recorded.now.trips.items))) }
 {
     line_laws();
     gates_stand_for_their_trees();
-    let mut kept = fresh_kept::<V>(alloc, net, line, script, spans)?;
-    let lanes = take_agreeing::<V>(net, line, spans, steps, &mut kept, recorded);
+    let mut kept = fresh_kept::<V>(alloc, compiled, script, spans)?;
+    let lanes = take_agreeing::<V>(compiled, spans, steps, &mut kept, recorded);
     Ok(lanes)
 }
 
 // Takes ticks up to the horizon as long as some lane is as recorded.
 fn take_agreeing<V: Timed + Carried>(
-    net: &Net,
-    line: &Line,
+    compiled: &Compiled<'_>,
     spans: &[V::Span],
     steps: &[Step<V::Span>],
     kept: &mut Kept<V::Cells, V, V::Span>,
     recorded: &Tracks<Level>,
 ) -> V
-    requires can { CanRun V.LANES V.ends line.now net.now spans.now steps.now }
-    requires kept { CanTake V.LANES V.ends line.now net.now spans.now steps.now 0 kept.old }
-    requires keys { AreSent (terminal_count line.now) line.now.horizon line.now.horizon
+    requires can { CanRun V.LANES V.ends compiled.now.line.now spans.now steps.now }
+    requires kept { CanTake V.LANES V.ends compiled.now.line.now compiled.now.net.now spans.now
+        steps.now 0 kept.old }
+    requires keys { AreSent (terminal_count compiled.now.line.now) compiled.now.line.now.horizon
+        compiled.now.line.now.horizon
         recorded.now.keys.items }
-    requires trips { AreSent (terminal_count line.now) line.now.horizon line.now.horizon
+    requires trips { AreSent (terminal_count compiled.now.line.now) compiled.now.line.now.horizon
+        compiled.now.line.now.horizon
         recorded.now.trips.items }
     ensures { (script : Script) →
-        IsKeptOf V.LANES V.stands_for V.ends V.rails line.now script spans.now steps.now net.now
+        IsKeptOf V.LANES V.stands_for V.ends V.rails compiled.now.line.now script spans.now
+        steps.now compiled.now.net.now
         0 kept.old →
         (lane : ℕ) → lane < V.LANES → (IsTrue (V.rails result lane).must ↔
-        LaneAgrees V.ends line.now script spans.now steps.now net.now lane
-        recorded.now.keys.items recorded.now.trips.items line.now.horizon) }
+        LaneAgrees V.ends compiled.now.line.now script spans.now steps.now compiled.now.net.now lane
+        recorded.now.keys.items recorded.now.trips.items compiled.now.line.now.horizon) }
 {
     history_laws();
     let mut lanes = V::known(true);
     let mut t = 0;
-    while t < line.horizon {
+    while t < compiled.line.horizon {
         if !some_left(lanes) {
             return lanes;
         }
-        let stays = take_stretch::<V>(net, line, spans, steps, kept, t);
+        let stays = take_stretch::<V>(compiled, spans, steps, kept, t);
         let end = t + stays;
-        let keys = agreeing_tracks(line, kept.keys.as_slice(), recorded.keys.as_slice(), t, end);
+        let keys = agreeing_tracks(
+            compiled.line,
+            kept.keys.as_slice(),
+            recorded.keys.as_slice(),
+            t,
+            end,
+        );
         let trips = agreeing_tracks(
-            line,
+            compiled.line,
             kept.trips.as_slice(),
             recorded.trips.as_slice(),
             t,

@@ -11,34 +11,36 @@ use crate::changes::marks::quiet_ticks;
 use crate::changes::trace::trace;
 use model_history::laws::history_laws;
 use model_history::recorded_laws::recorded_ticks_suffice;
-use model_line::Line;
 use model_logic::laws::line_laws;
 use model_timing::Step;
-use net_gates::Net;
+use net_gates::Compiled;
 use net_gates::laws::gates_stand_for_their_trees;
 use run_signal::{Carried, Timed, elements_stay_in_a_stretch};
 use run_step::{Moment, renew_delays, send_all};
 
 /// Takes the ticks from this one on until some gate is due, and answers how many.
 pub fn take_stretch<V: Timed + Carried>(
-    net: &Net,
-    line: &Line,
+    compiled: &Compiled<'_>,
     spans: &[V::Span],
     steps: &[Step<V::Span>],
     kept: &mut Kept<V::Cells, V, V::Span>,
     t: u32,
 ) -> u32
-    requires can { CanRun V.LANES V.ends line.now net.now spans.now steps.now }
-    requires tick { t < line.now.horizon }
-    requires kept { CanTake V.LANES V.ends line.now net.now spans.now steps.now t kept.old }
+    requires can { CanRun V.LANES V.ends compiled.now.line.now spans.now steps.now }
+    requires tick { t < compiled.now.line.now.horizon }
+    requires kept { CanTake V.LANES V.ends compiled.now.line.now compiled.now.net.now spans.now
+        steps.now t kept.old }
     ensures some { 1 ≤ result }
-    ensures fits { t + result ≤ line.now.horizon }
-    ensures kept { CanTake V.LANES V.ends line.now net.now spans.now steps.now (t + result)
+    ensures fits { t + result ≤ compiled.now.line.now.horizon }
+    ensures kept { CanTake V.LANES V.ends compiled.now.line.now compiled.now.net.now spans.now
+        steps.now (t + result)
         kept.new }
     ensures stands { (script : Script) →
-        IsKeptOf V.LANES V.stands_for V.ends V.rails line.now script spans.now steps.now net.now
+        IsKeptOf V.LANES V.stands_for V.ends V.rails compiled.now.line.now script spans.now
+        steps.now compiled.now.net.now
         t kept.old →
-        IsKeptOf V.LANES V.stands_for V.ends V.rails line.now script spans.now steps.now net.now
+        IsKeptOf V.LANES V.stands_for V.ends V.rails compiled.now.line.now script spans.now
+        steps.now compiled.now.net.now
         (t + result) kept.new }
 {
     line_laws();
@@ -46,16 +48,16 @@ pub fn take_stretch<V: Timed + Carried>(
     gates_stand_for_their_trees();
     elements_stay_in_a_stretch();
     recorded_ticks_suffice();
-    renew_delays::<V>(line, spans, steps, &mut kept.delays, t);
+    renew_delays::<V>(compiled.line, spans, steps, &mut kept.delays, t);
     let moment = Moment {
-        line,
+        line: compiled.line,
         delays: kept.delays.list.as_slice(),
         sent: kept.keys.as_slice(),
         t,
     };
-    trace::<V>(net, &kept.shown, &moment, &mut kept.gates);
+    trace::<V>(compiled.net, &kept.shown, &moment, &mut kept.gates);
     hear::<V>(
-        net,
+        compiled.net,
         kept.gates.column.as_slice(),
         &moment,
         &mut kept.gates.dues,
@@ -63,18 +65,18 @@ pub fn take_stretch<V: Timed + Carried>(
     );
     let stays = quiet_ticks(&mut kept.gates.marks, t);
     send_all(
-        net.key_gates(),
+        compiled.net.key_gates(),
         kept.gates.column.as_slice(),
         &mut kept.keys,
-        line.horizon,
+        compiled.line.horizon,
         t,
         stays,
     );
     send_all(
-        net.trip_gates(),
+        compiled.net.trip_gates(),
         kept.gates.column.as_slice(),
         &mut kept.trips,
-        line.horizon,
+        compiled.line.horizon,
         t,
         stays,
     );

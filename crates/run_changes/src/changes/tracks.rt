@@ -3,7 +3,6 @@
 ghost use Rattle.std.specs.Prelude.{◌≡◌, ℕ, ◌<◌, ◌≤◌, length, IfOk, IsTrue};
 ghost use Rattle.model_line.specs.{declared.script.Script.Script, Parameters.param_count};
 ghost use Rattle.model_logic.specs.Choice.{Choice};
-ghost use Rattle.net_gates.specs.NetOf.{IsNetOf};
 ghost use Rattle.model_timing.specs.Timing.{ascend};
 ghost use Rattle.run_step.specs.Runs.{CanRun, AreDelayed, IsTheHistory, IsPoint, IsExactAt};
 ghost use Rattle.run_changes.specs.changes.Tracks.{CanTake, IsKeptOf, tracks_history};
@@ -14,10 +13,10 @@ use crate::changes::kept::Kept;
 use crate::changes::start::fresh_kept;
 use crate::changes::stretch::take_stretch;
 use model_history::laws::history_laws;
-use model_line::{Line, Memory, Script};
+use model_line::{Memory, Script};
 use model_logic::laws::line_laws;
 use model_timing::Step;
-use net_gates::Net;
+use net_gates::Compiled;
 use net_gates::laws::gates_stand_for_their_trees;
 use run_signal::{Carried, Signal, Timed, Track};
 use std::alloc::Global;
@@ -35,36 +34,38 @@ pub struct Tracks<V: Signal> {
 /// greatest `from` not after the tick, else its own.
 pub fn run_tracks<V: Timed + Carried>(
     alloc: Global,
-    net: &Net,
-    line: &Line,
+    compiled: &Compiled<'_>,
     script: &Script,
     spans: &[V::Span],
     steps: &[Step<V::Span>],
 ) -> Result<Tracks<V>, Memory>
-    requires of_line { IsNetOf line.now net.now }
-    requires spans { length spans.now ≡ param_count line.now }
+    requires spans { length spans.now ≡ param_count compiled.now.line.now }
     requires ascending { IsTrue (ascend steps.now) }
-    requires delayed { AreDelayed V.LANES V.ends line.now spans.now steps.now }
+    requires delayed { AreDelayed V.LANES V.ends compiled.now.line.now spans.now steps.now }
     // There is a value for each terminal and tick.
     ensures keys { IfOk result (λ tracks.
-        AreSent (length net.now.keys) line.now.horizon line.now.horizon tracks.keys.items) }
+        AreSent (length compiled.now.net.now.keys) compiled.now.line.now.horizon
+        compiled.now.line.now.horizon tracks.keys.items) }
     ensures trips { IfOk result (λ tracks.
-        AreSent (length net.now.trips) line.now.horizon line.now.horizon tracks.trips.items) }
+        AreSent (length compiled.now.net.now.trips) compiled.now.line.now.horizon
+        compiled.now.line.now.horizon tracks.trips.items) }
     // In each lane keys and trips are the one interval history over the lane's box,
     ensures history { IfOk result (λ tracks. (lane : ℕ) → lane < V.LANES →
-        IsTheHistory line.now script.now (lane_box V.ends line.now spans.now steps.now lane)
+        IsTheHistory compiled.now.line.now script.now (lane_box V.ends compiled.now.line.now
+        spans.now steps.now lane)
         (tracks_history V.rails lane tracks.keys.items tracks.trips.items)) }
     // and where it holds one choice alone, they are the history at that choice.
     ensures exact { IfOk result (λ tracks. (lane : ℕ) (choice : Choice) → lane < V.LANES →
-        IsPoint line.now (lane_box V.ends line.now spans.now steps.now lane) choice →
-        IsExactAt line.now script.now choice
+        IsPoint compiled.now.line.now (lane_box V.ends compiled.now.line.now spans.now steps.now
+        lane) choice →
+        IsExactAt compiled.now.line.now script.now choice
         (tracks_history V.rails lane tracks.keys.items tracks.trips.items)) }
 {
     line_laws();
     gates_stand_for_their_trees();
     history_laws();
-    let mut kept = fresh_kept::<V>(alloc, net, line, script, spans)?;
-    take_until::<V>(net, line, spans, steps, &mut kept, line.horizon);
+    let mut kept = fresh_kept::<V>(alloc, compiled, script, spans)?;
+    take_until::<V>(compiled, spans, steps, &mut kept, compiled.line.horizon);
     Ok(Tracks {
         keys: kept.keys,
         trips: kept.trips,
@@ -74,33 +75,33 @@ pub fn run_tracks<V: Timed + Carried>(
 /// Runs as `run_tracks` does, at least up to a tick: keys and trips at the ticks below it.
 pub fn run_tracks_until<V: Timed + Carried>(
     alloc: Global,
-    net: &Net,
-    line: &Line,
+    compiled: &Compiled<'_>,
     script: &Script,
     spans: &[V::Span],
     steps: &[Step<V::Span>],
     until: u32,
 ) -> Result<Tracks<V>, Memory>
-    requires of_line { IsNetOf line.now net.now }
-    requires spans { length spans.now ≡ param_count line.now }
+    requires spans { length spans.now ≡ param_count compiled.now.line.now }
     requires ascending { IsTrue (ascend steps.now) }
-    requires delayed { AreDelayed V.LANES V.ends line.now spans.now steps.now }
-    requires inside { until ≤ line.now.horizon }
+    requires delayed { AreDelayed V.LANES V.ends compiled.now.line.now spans.now steps.now }
+    requires inside { until ≤ compiled.now.line.now.horizon }
     // There is a value for each terminal and each tick below.
-    ensures keys { IfOk result (λ tracks. ReachTick (length net.now.keys) until tracks.keys.items) }
+    ensures keys { IfOk result (λ tracks. ReachTick (length compiled.now.net.now.keys) until
+        tracks.keys.items) }
     ensures trips { IfOk result (λ tracks.
-        ReachTick (length net.now.trips) until tracks.trips.items) }
+        ReachTick (length compiled.now.net.now.trips) until tracks.trips.items) }
     // Where a lane's box holds one choice alone, at these ticks they are each history at it.
     ensures exact { IfOk result (λ tracks. (lane : ℕ) (choice : Choice) → lane < V.LANES →
-        IsPoint line.now (lane_box V.ends line.now spans.now steps.now lane) choice →
-        AreExactBelow line.now script.now choice until
+        IsPoint compiled.now.line.now (lane_box V.ends compiled.now.line.now spans.now steps.now
+        lane) choice →
+        AreExactBelow compiled.now.line.now script.now choice until
         (tracks_history V.rails lane tracks.keys.items tracks.trips.items)) }
 {
     line_laws();
     gates_stand_for_their_trees();
     history_laws();
-    let mut kept = fresh_kept::<V>(alloc, net, line, script, spans)?;
-    take_until::<V>(net, line, spans, steps, &mut kept, until);
+    let mut kept = fresh_kept::<V>(alloc, compiled, script, spans)?;
+    take_until::<V>(compiled, spans, steps, &mut kept, until);
     Ok(Tracks {
         keys: kept.keys,
         trips: kept.trips,
@@ -109,28 +110,31 @@ pub fn run_tracks_until<V: Timed + Carried>(
 
 // Takes ticks until this one is reached, and answers the tick that comes next.
 fn take_until<V: Timed + Carried>(
-    net: &Net,
-    line: &Line,
+    compiled: &Compiled<'_>,
     spans: &[V::Span],
     steps: &[Step<V::Span>],
     kept: &mut Kept<V::Cells, V, V::Span>,
     until: u32,
 ) -> u32
-    requires can { CanRun V.LANES V.ends line.now net.now spans.now steps.now }
-    requires kept { CanTake V.LANES V.ends line.now net.now spans.now steps.now 0 kept.old }
-    requires inside { until ≤ line.now.horizon }
+    requires can { CanRun V.LANES V.ends compiled.now.line.now spans.now steps.now }
+    requires kept { CanTake V.LANES V.ends compiled.now.line.now compiled.now.net.now spans.now
+        steps.now 0 kept.old }
+    requires inside { until ≤ compiled.now.line.now.horizon }
     ensures reached { until ≤ result }
-    ensures fits { result ≤ line.now.horizon }
-    ensures kept { CanTake V.LANES V.ends line.now net.now spans.now steps.now result kept.new }
+    ensures fits { result ≤ compiled.now.line.now.horizon }
+    ensures kept { CanTake V.LANES V.ends compiled.now.line.now compiled.now.net.now spans.now
+        steps.now result kept.new }
     ensures stands { (script : Script) →
-        IsKeptOf V.LANES V.stands_for V.ends V.rails line.now script spans.now steps.now net.now
+        IsKeptOf V.LANES V.stands_for V.ends V.rails compiled.now.line.now script spans.now
+        steps.now compiled.now.net.now
         0 kept.old →
-        IsKeptOf V.LANES V.stands_for V.ends V.rails line.now script spans.now steps.now net.now
+        IsKeptOf V.LANES V.stands_for V.ends V.rails compiled.now.line.now script spans.now
+        steps.now compiled.now.net.now
         result kept.new }
 {
     let mut t = 0;
     while t < until {
-        t += take_stretch::<V>(net, line, spans, steps, kept, t);
+        t += take_stretch::<V>(compiled, spans, steps, kept, t);
     }
     t
 }

@@ -3,7 +3,6 @@
 ghost use Rattle.std.specs.Prelude.{◌≡◌, ◌<◌, ◌+◌, ◌++◌, OnOk, IfOk};
 ghost use Rattle.model_logic.specs.Histories.{History, IsLineHistory};
 ghost use Rattle.model_line.specs.Parameters.{terminal_count};
-ghost use Rattle.net_gates.specs.NetOf.{IsNetOf};
 ghost use Rattle.model_timing.specs.{Inside.IsTimingInside, Choice.timing_choice};
 ghost use Rattle.run_changes.specs.rows.PlayRows.{terminal_rows, tick_rows, run_rows};
 ghost use Rattle.run_changes.specs.rows.StandingLaws.{AllStand, PairStands};
@@ -15,7 +14,7 @@ use crate::rows::rows::{RowNames, push_signal};
 use crate::rows::standing::{Pair, fresh_pairs, next_change};
 use model_line::{Line, Memory, Script};
 use model_timing::NamedTiming;
-use net_gates::Net;
+use net_gates::Compiled;
 use run_signal::Level;
 use run_step::laws::a_timing_is_one_choice;
 use std::alloc::Global;
@@ -29,27 +28,26 @@ const ROOM: usize = 1024;
 /// the script, and one alone, is the law `a_timing_is_one_choice`.
 pub fn play_rows(
     alloc: Global,
-    line: &Line,
-    net: &Net,
+    compiled: &Compiled<'_>,
     script: &Script,
     timing: &NamedTiming,
 ) -> Result<Vec<u8>, Memory>
-    requires of_line { IsNetOf line.now net.now }
-    requires inside { IsTimingInside line.now timing.now.timing }
+    requires inside { IsTimingInside compiled.now.line.now timing.now.timing }
     ensures { IfOk result (λ text. (h : History) →
-        IsLineHistory line.now script.now (timing_choice line.now timing.now.timing) h →
-        text.items ≡ run_rows timing.now.name script.now.name line.now h) }
+        IsLineHistory compiled.now.line.now script.now (timing_choice compiled.now.line.now
+        timing.now.timing) h →
+        text.items ≡ run_rows timing.now.name script.now.name compiled.now.line.now h) }
 {
     a_timing_is_one_choice();
     let values = timing.timing.values();
     let steps = timing.timing.steps();
-    let tracks = run_tracks::<Level>(alloc, net, line, script, values, steps)?;
+    let tracks = run_tracks::<Level>(alloc, compiled, script, values, steps)?;
     let names = RowNames {
         timing: timing.name,
         script: script.name,
     };
     let mut text = Vec::with_capacity(alloc, ROOM)?;
-    push_run(alloc, &mut text, &names, line, &tracks)?;
+    push_run(alloc, &mut text, &names, compiled.line, &tracks)?;
     Ok(text)
 }
 

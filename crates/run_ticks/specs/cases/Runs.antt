@@ -6,17 +6,16 @@ use Rattle.model_line.specs.{declared.line.Line.Line}
 use Rattle.model_logic.specs.Choice.{LeastFromOne}
 use Rattle.model_logic.specs.{Logic.key_tree, PairMean.PairSignals, PairMean.PairWorld, Tree.Tree}
 use Rattle.model_settle.specs.Under.{pair_under, own_pair}
-use Rattle.net_gates.specs.{NetOf.NetOf, NetOf.IsNetOf, Formulas.formula_of}
+use Rattle.net_gates.specs.{NetOf.NetOf, Formulas.formula_of}
 use Rattle.run_ticks.specs.cases.Given.{span_box}
 use Rattle.run_ticks.specs.cases.Masks.{HaveRows, Levels, PutLevels, AreOfTimers}
 use Rattle.run_ticks.specs.cases.UnderWaves.{UnderWavesOf, wave_pair, own_wave}
 use Rattle.run_ticks.specs.declared.cases.mask.Masks.{Masks}
 
--- a run is of a net of the line, with a span for each parameter that leaves every delay one tick at
--- least, and with rows of masks
+-- a run has a span for each parameter of the line that leaves every delay one tick at least, and
+-- rows of masks for its net
 pub record CanRunUnder {V S : Type 0} (lanes : ℕ) (ends : S → ℕ → Ends) (line : Line) (net : NetOf)
     (spans : List S) (masks : Masks V) : Type 0 where
-  pub of_line : IsNetOf line net
   pub one_each : length spans ≡ param_count line
   pub delayed : (lane : ℕ) → lane < lanes → LeastFromOne line (span_box ends line spans lane)
   pub rows : HaveRows (length net.gates) line.horizon masks

@@ -9,8 +9,8 @@ ghost use Rattle.run_ticks.specs.cases.Runs.{CanRunUnder, PutUnder, AreKeysUnder
 use crate::cases::mask::Masks;
 use crate::cases::ticks::run_ticks;
 use crate::cases::waves::UnderWaves;
-use model_line::{Line, Memory, Script};
-use net_gates::Net;
+use model_line::{Memory, Script};
+use net_gates::Compiled;
 use run_signal::{Carried, Timed};
 use std::alloc::Global;
 
@@ -19,24 +19,32 @@ use std::alloc::Global;
 /// with what the mask of the tick puts, wherever it is read.
 pub fn run_under<V: Timed + Carried>(
     alloc: Global,
-    net: &Net,
-    line: &Line,
+    compiled: &Compiled<'_>,
     script: &Script,
     spans: &[V::Span],
     masks: &Masks<V>,
 ) -> Result<UnderWaves<V>, Memory>
-    requires { CanRunUnder V.LANES V.ends line.now net.now spans.now masks.now }
-    ensures width { IfOk result (λ waves. waves.width ≡ length net.now.gates) }
-    ensures horizon { IfOk result (λ waves. waves.horizon ≡ line.now.horizon) }
+    requires { CanRunUnder V.LANES V.ends compiled.now.line.now compiled.now.net.now spans.now
+        masks.now }
+    ensures width { IfOk result (λ waves. waves.width ≡ length compiled.now.net.now.gates) }
+    ensures horizon { IfOk result (λ waves. waves.horizon ≡ compiled.now.line.now.horizon) }
     // In each lane each gate has the pairs of its tree over the lane's box, under the levels that
     // the masks put, wherever the keys are pairs of theirs.
     ensures pairs { IfOk result (λ waves. (lane : ℕ) (level : Levels) (keys : PairSignals) →
-        lane < V.LANES → PutUnder V.rails V.LANES level line.now net.now masks.now →
+        lane < V.LANES → PutUnder V.rails V.LANES level compiled.now.line.now compiled.now.net.now
+        masks.now →
         let w : PairWorld
-        = pair_world_of line.now script.now (span_box V.ends line.now spans.now lane) in
-        AreKeysUnder line.now (level lane) w keys →
-        ArePairsUnder V.rails lane (level lane) w keys line.now net.now waves) }
+        = pair_world_of compiled.now.line.now script.now (span_box V.ends compiled.now.line.now
+        spans.now lane) in
+        AreKeysUnder compiled.now.line.now (level lane) w keys →
+        ArePairsUnder V.rails lane (level lane) w keys compiled.now.line.now compiled.now.net.now
+        waves) }
 {
-    let told = run_ticks::<V>(alloc, net, line, script, spans, masks)?;
-    Ok(UnderWaves::new(net.len(), line.horizon, told.values, told.owns))
+    let told = run_ticks::<V>(alloc, compiled, script, spans, masks)?;
+    Ok(UnderWaves::new(
+        compiled.net.len(),
+        compiled.line.horizon,
+        told.values,
+        told.owns,
+    ))
 }

@@ -11,8 +11,8 @@ use crate::cases::delays::fresh_delays;
 use crate::cases::mask::Masks;
 use crate::cases::present::show_at;
 use crate::cases::walk::walk;
-use model_line::{Line, Memory, Script};
-use net_gates::Net;
+use model_line::{Memory, Script};
+use net_gates::Compiled;
 use net_gates::laws::gates_stand_for_their_trees;
 use run_signal::{Carried, Timed};
 use run_step::{extend_within, fresh_cells, fresh_tracks, send_all};
@@ -28,56 +28,64 @@ pub struct Told<V: Copy> {
 /// Runs all ticks. All memory is taken before the first tick.
 pub fn run_ticks<V: Timed + Carried>(
     alloc: Global,
-    net: &Net,
-    line: &Line,
+    compiled: &Compiled<'_>,
     script: &Script,
     spans: &[V::Span],
     masks: &Masks<V>,
 ) -> Result<Told<V>, Memory>
-    requires { CanRunUnder V.LANES V.ends line.now net.now spans.now masks.now }
+    requires { CanRunUnder V.LANES V.ends compiled.now.line.now compiled.now.net.now spans.now
+        masks.now }
     ensures count { IfOk result (λ told.
-        length told.values.items ≡ line.now.horizon * length net.now.gates) }
+        length told.values.items ≡ compiled.now.line.now.horizon * length
+        compiled.now.net.now.gates) }
     ensures own_count { IfOk result (λ told.
-        length told.owns.items ≡ line.now.horizon * length net.now.gates) }
+        length told.owns.items ≡ compiled.now.line.now.horizon * length
+        compiled.now.net.now.gates) }
     ensures told { IfOk result (λ told. (lane : ℕ) (level : Levels) (keys : PairSignals) →
-        lane < V.LANES → PutUnder V.rails V.LANES level line.now net.now masks.now →
+        lane < V.LANES → PutUnder V.rails V.LANES level compiled.now.line.now compiled.now.net.now
+        masks.now →
         let w : PairWorld
-        = pair_world_of line.now script.now (span_box V.ends line.now spans.now lane) in
-        AreKeysUnder line.now (level lane) w keys →
-        ValuesTold V.rails lane (under_pairs (level lane) w keys net.now.gates)
-        (length net.now.gates) told.values.items
-        × ValuesTold V.rails lane (own_pairs (level lane) w keys net.now.gates)
-        (length net.now.gates) told.owns.items) }
+        = pair_world_of compiled.now.line.now script.now (span_box V.ends compiled.now.line.now
+        spans.now lane) in
+        AreKeysUnder compiled.now.line.now (level lane) w keys →
+        ValuesTold V.rails lane (under_pairs (level lane) w keys compiled.now.net.now.gates)
+        (length compiled.now.net.now.gates) told.values.items
+        × ValuesTold V.rails lane (own_pairs (level lane) w keys compiled.now.net.now.gates)
+        (length compiled.now.net.now.gates) told.owns.items) }
 {
     gates_stand_for_their_trees();
-    let width = net.len() as usize;
-    let mut cells = fresh_cells::<V>(alloc, net, line, spans)?;
-    let delays = fresh_delays::<V>(alloc, line, spans)?;
+    let width = compiled.net.len() as usize;
+    let mut cells = fresh_cells::<V>(alloc, compiled.net, compiled.line, spans)?;
+    let delays = fresh_delays::<V>(alloc, compiled.line, spans)?;
     let mut present = Vec::with_capacity(alloc, script.spans.len())?;
-    let mut sent = fresh_tracks::<V>(alloc, net.key_gates().len() as u32, line.horizon)?;
+    let mut sent = fresh_tracks::<V>(
+        alloc,
+        compiled.net.key_gates().len() as u32,
+        compiled.line.horizon,
+    )?;
     let mut own_column: Vec<V> = Vec::with_capacity(alloc, width)?;
     let mut column: Vec<V> = Vec::with_capacity(alloc, width)?;
-    let mut owns: Vec<V> = Vec::with_capacity(alloc, line.horizon as usize * width)?;
-    let mut values: Vec<V> = Vec::with_capacity(alloc, line.horizon as usize * width)?;
-    for t in 0..line.horizon {
+    let mut owns: Vec<V> = Vec::with_capacity(alloc, compiled.line.horizon as usize * width)?;
+    let mut values: Vec<V> = Vec::with_capacity(alloc, compiled.line.horizon as usize * width)?;
+    for t in 0..compiled.line.horizon {
         show_at(&script.spans, &mut present, t);
         walk::<V>(
-            net,
+            compiled.net,
             masks,
             &mut cells,
             &mut own_column,
             &mut column,
-            line,
+            compiled.line,
             present.as_slice(),
             delays.as_slice(),
             sent.as_slice(),
             t,
         );
         send_all(
-            net.key_gates(),
+            compiled.net.key_gates(),
             column.as_slice(),
             &mut sent,
-            line.horizon,
+            compiled.line.horizon,
             t,
             1,
         );

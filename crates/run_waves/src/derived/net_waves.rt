@@ -2,15 +2,14 @@
 
 ghost use Rattle.std.specs.Prelude.{IfOk};
 ghost use Rattle.model_line.specs.Parameters.{terminal_count};
-ghost use Rattle.net_gates.specs.NetOf.{IsNetOf};
 ghost use Rattle.run_waves.specs.waves.Waves.{AreWaves};
 ghost use Rattle.run_waves.specs.derived.Claims.{AreGateWaves, pairs_of};
 
 use crate::derived::gate::gate_wave;
 use crate::waves::Runs;
 use model_history::rails_laws::rails_read_the_past;
-use model_line::{Line, Memory, Script};
-use net_gates::{GateId, Net};
+use model_line::{Memory, Script};
+use net_gates::{Compiled, GateId};
 use run_step::laws::gates_have_their_kind;
 use std::alloc::Global;
 
@@ -19,22 +18,22 @@ use std::alloc::Global;
 /// are received are those handed in, one wave for each terminal.
 pub fn gate_waves(
     alloc: Global,
-    net: &Net,
-    line: &Line,
+    compiled: &Compiled<'_>,
     script: &Script,
     keys: &[Runs],
 ) -> Result<Vec<Runs>, Memory>
-    requires of_line { IsNetOf line.now net.now }
-    requires keys { AreWaves (terminal_count line.now) line.now.horizon keys.now }
+    requires keys { AreWaves (terminal_count compiled.now.line.now) compiled.now.line.now.horizon
+        keys.now }
     ensures { IfOk result (λ waves.
-        AreGateWaves line.now script.now net.now.gates (pairs_of keys.now) waves.items) }
+        AreGateWaves compiled.now.line.now script.now compiled.now.net.now.gates (pairs_of
+        keys.now) waves.items) }
 {
     rails_read_the_past();
     gates_have_their_kind();
-    let mut waves = Vec::with_capacity(alloc, net.len() as usize)?;
-    for i in 0..net.len() {
-        let gate = net.gate(GateId(i));
-        let wave = gate_wave(alloc, gate, line, script, keys, waves.as_slice())?;
+    let mut waves = Vec::with_capacity(alloc, compiled.net.len() as usize)?;
+    for i in 0..compiled.net.len() {
+        let gate = compiled.net.gate(GateId(i));
+        let wave = gate_wave(alloc, gate, compiled.line, script, keys, waves.as_slice())?;
         waves.push(wave)?;
     }
     Ok(waves)

@@ -5,8 +5,8 @@ use Rattle.call_facts.proofs.drawings.bands.Goals as goal
 
 pub returns : goal.returns
 returns c = record {
-  net = c.args.net.now;
-  of_line = c.requires.of_line;
+  net = c.args.compiled.now.net.now;
+  of_line = c.args.compiled.now.of_line;
   history = waves_history (λ x _. tern_rails x) 0 c.in_ok-waves.waves;
   one = c.in_ok-waves.ensures.history;
   gates = wave_pair (λ x _. tern_rails x) 0 c.in_ok-waves.waves;

@@ -19,7 +19,6 @@ returns-in_err-scripts c =
 pub returns : goal.returns
 returns c = (
   record {
-    of_line = c.in_ok-net.ensures;
     fit = c.in_ok-scripts.ensures.fits;
     few = simp length-map at c.in_ok-scripts.ensures.one_file.few;
   },

@@ -5,17 +5,19 @@ use Rattle.call_facts.specs.Drawings.{IsBandsOf}
 use Rattle.call_page.proofs.There.{at_read}
 use Rattle.call_page.proofs.fault.fault.Goals as goal
 
-pub bands-requires-clause-fits : goal.bands-requires-clause-fits
-bands-requires-clause-fits c =
+pub bands-requires : goal.bands-requires
+bands-requires c =
     let study = c.args.known.now.study.now in
     let i : ℕ = c.args.part.start + c.shown.result in
     let script : Script = c.index-scripts-part.result in
     let there : i < length study.scripts.items =
     omega (arith, c.requires.within, c.shown.ensures.among) in
-    subst (Fits study.line)
-    (sym (subst (λ (ss : List Script). script ≡ get_or ss i script)
-    c.as_slice-scripts.ensures.value c.index-scripts-part.is))
-    (c.requires.known.study.fit i script there)
+    record {
+      fits = subst (Fits study.line)
+          (sym (subst (λ (ss : List Script). script ≡ get_or ss i script)
+          c.as_slice-scripts.ensures.value c.index-scripts-part.is))
+          (c.requires.known.study.fit i script there);
+    }
 
 pub returns : goal.returns
 returns c =

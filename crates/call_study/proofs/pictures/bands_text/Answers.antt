@@ -7,8 +7,8 @@ use Rattle.call_study.proofs.pictures.bands_text.Goals as goal
 
 pub returns-clause-drawn : goal.returns-clause-drawn
 returns-clause-drawn c = record {
-  net = c.args.net.now;
-  of_line = c.requires.of_line;
+  net = c.args.compiled.now.net.now;
+  of_line = c.args.compiled.now.of_line;
   history = waves_history (λ x _. tern_rails x) 0 c.in_ok-waves.waves;
   one = c.in_ok-waves.ensures.history;
   gates = wave_pair (λ x _. tern_rails x) 0 c.in_ok-waves.waves;

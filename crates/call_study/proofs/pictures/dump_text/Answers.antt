@@ -3,7 +3,7 @@ use Rattle.call_study.proofs.pictures.dump_text.Goals as goal
 
 pub returns : goal.returns
 returns c =
-    let line = c.args.line.now in
+    let line = c.args.compiled.now.line.now in
     let timing = c.args.timing.now.timing in
     let choice = timing_choice line timing in
     let inside = c.timings_inside_are_choices_inside.ensures line timing c.requires.inside in
@@ -12,7 +12,7 @@ returns c =
     record {
       history = h.0;
       is_history = h.1;
-      net = c.args.net.now;
-      of_line = c.requires.of_line;
+      net = c.args.compiled.now.net.now;
+      of_line = c.args.compiled.now.of_line;
       printed = c.in_ok-text.ensures h.0 h.1;
     }

@@ -3,7 +3,7 @@ use Rattle.call_study.proofs.pictures.record_data.Goals as goal
 
 pub returns : goal.returns
 returns c =
-    let line = c.args.line.now in
+    let line = c.args.compiled.now.line.now in
     let timing = c.args.timing.now.timing in
     let choice = timing_choice line timing in
     let inside = c.timings_inside_are_choices_inside.ensures line timing c.requires.inside in

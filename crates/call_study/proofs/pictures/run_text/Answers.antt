@@ -8,8 +8,8 @@ use Rattle.call_study.proofs.pictures.run_text.Goals as goal
 
 pub returns-clause-drawn : goal.returns-clause-drawn
 returns-clause-drawn c = record {
-  net = c.args.net.now;
-  of_line = c.requires.of_line;
+  net = c.args.compiled.now.net.now;
+  of_line = c.args.compiled.now.of_line;
   history = played c.in_ok-waves.waves;
   one = c.in_ok-waves.ensures.played;
   gates = is_on c.in_ok-waves.waves;
@@ -17,7 +17,7 @@ returns-clause-drawn c = record {
   diagram = c.in_ok-diagram.diagram;
   shows =
       subst (λ (steps : List (Step ℕ)).
-      IsDiagramOf c.args.line.now c.args.net.now.gates c.args.script.now
+      IsDiagramOf c.args.compiled.now.line.now c.args.compiled.now.net.now.gates c.args.script.now
       (pairs_shown (known_history (played c.in_ok-waves.waves))
       (λ gate t. both (is_on c.in_ok-waves.waves gate t)))
       steps c.args.which c.in_ok-diagram.diagram)

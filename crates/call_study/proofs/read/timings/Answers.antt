@@ -37,8 +37,6 @@ failing_said-requires-clause-study c =
     let line = c.in_ok-loaded.loaded.study.line in
     let only = c.in_ok-study.ensures.script script at in
     record {
-      of_line = rw (c.in_ok-study.ensures.line, c.in_ok-study.ensures.net)
-          c.in_ok-loaded.ensures.0.of_line;
       fit = rw (only, c.in_ok-study.ensures.line)
           (All-cons (Fits line) script []
           (all_at (Fits line) scripts c.in-Some.i script c.in_ok-loaded.ensures.0.fit at)

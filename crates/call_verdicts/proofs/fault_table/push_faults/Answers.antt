@@ -5,7 +5,7 @@ use Rattle.call_verdicts.proofs.fault_table.push_faults.Goals as goal
 
 pub loop-group-preserved : goal.loop-group-preserved
 loop-group-preserved c =
-    let line = c.args.cases.now.line.now in
+    let line = c.args.cases.now.compiled.line.now in
     let scripts = c.args.cases.now.scripts.now in
     record {
       within = omega (arith, c.end_of-end.ensures);

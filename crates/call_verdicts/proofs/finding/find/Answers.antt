@@ -11,7 +11,7 @@ use Rattle.call_verdicts.proofs.finding.find.Goals as goal
 
 pub returns : goal.returns
 returns c =
-    let line : Line = c.args.cases.now.line.now in
+    let line : Line = c.args.cases.now.compiled.line.now in
     let scripts : List Script = c.args.cases.now.scripts.now in
     let k : ℕ = c.args.terminal in
     let script : Script = c.index-cases-i.result in

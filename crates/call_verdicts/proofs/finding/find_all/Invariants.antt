@@ -6,5 +6,5 @@ use Rattle.call_verdicts.proofs.finding.find_all.Given as goal
 
 abbrev pub invariant-loop-i : goal.invariant-loop-i
 invariant-loop-i l =
-    OneEach (IsFinding l.cases.line.now l.cases.scripts.now)
-    (l.i * terminal_count l.cases.line.now) l.found.items
+    OneEach (IsFinding l.cases.compiled.line.now l.cases.scripts.now)
+    (l.i * terminal_count l.cases.compiled.line.now) l.found.items

@@ -11,7 +11,7 @@ use Rattle.call_verdicts.proofs.finding.push_script.Goals as goal
 
 pub find-requires : goal.find-requires
 find-requires c =
-    let line : Line = c.args.cases.now.line.now in
+    let line : Line = c.args.cases.now.compiled.line.now in
     let scripts : List Script = c.args.cases.now.scripts.now in
     record {
       cases = c.requires.cases;
@@ -28,14 +28,14 @@ find-requires c =
 
 pub loop-k-init : goal.loop-k-init
 loop-k-init c =
-    let line : Line = c.args.cases.now.line.now in
+    let line : Line = c.args.cases.now.compiled.line.now in
     let before : ℕ = c.args.i * terminal_count line in
     all_there (IsFinding line c.args.cases.now.scripts.now) before (before + 0)
     c.args.found.now.items (omega arith) c.requires.before
 
 pub loop-k-preserved : goal.loop-k-preserved
 loop-k-preserved c =
-    let line = c.args.cases.now.line.now in
+    let line = c.args.cases.now.compiled.line.now in
     let before : ℕ = c.args.i * terminal_count line in
     one_next (IsFinding line c.args.cases.now.scripts.now) (before + c.loop-k.k)
     (before + (c.loop-k.k + 1)) c.loop-k.found.items c.push.new.self.items c.in_ok-one.one
@@ -43,7 +43,7 @@ loop-k-preserved c =
 
 pub returns : goal.returns
 returns c =
-    let line : Line = c.args.cases.now.line.now in
+    let line : Line = c.args.cases.now.compiled.line.now in
     let before : ℕ = c.args.i * terminal_count line in
     all_there (IsFinding line c.args.cases.now.scripts.now) (before + c.loop-k.k)
     (before + terminal_count line) c.loop-k.found.items (omega arith) c.loop-k.invariant

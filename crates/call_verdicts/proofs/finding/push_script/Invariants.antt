@@ -6,5 +6,5 @@ use Rattle.call_verdicts.proofs.finding.push_script.Given as goal
 
 abbrev pub invariant-loop-k : goal.invariant-loop-k
 invariant-loop-k l =
-    OneEach (IsFinding l.cases.line.now l.cases.scripts.now)
-    (l.i * terminal_count l.cases.line.now + l.k) l.found.items
+    OneEach (IsFinding l.cases.compiled.line.now l.cases.scripts.now)
+    (l.i * terminal_count l.cases.compiled.line.now + l.k) l.found.items

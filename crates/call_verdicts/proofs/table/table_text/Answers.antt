@@ -12,10 +12,10 @@ loop-one-init c =
 
 pub push_finding-requires-clause-script : goal.push_finding-requires-clause-script
 push_finding-requires-clause-script c =
-    script_exists c.args.cases.now.line.now c.args.cases.now.scripts.now c.args.found.now
+    script_exists c.args.cases.now.compiled.line.now c.args.cases.now.scripts.now c.args.found.now
     c.loop-one.one-index _ c.requires c.loop-one-test.true
 
 pub push_finding-requires-clause-terminal : goal.push_finding-requires-clause-terminal
 push_finding-requires-clause-terminal c =
-    terminal_exists c.args.cases.now.line.now c.args.cases.now.scripts.now c.args.found.now
+    terminal_exists c.args.cases.now.compiled.line.now c.args.cases.now.scripts.now c.args.found.now
     c.loop-one.one-index _ c.requires c.loop-one-test.true

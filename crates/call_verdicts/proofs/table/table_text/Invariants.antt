@@ -5,4 +5,5 @@ use Rattle.call_verdicts.proofs.table.table_text.Given as goal
 abbrev pub invariant-loop-one : goal.invariant-loop-one
 invariant-loop-one l =
     l.text.items
-    ≡ verdicts_text l.cases.line.now l.cases.scripts.now l.cases.groups.now (take l.one-index l.found)
+    ≡ verdicts_text l.cases.compiled.line.now l.cases.scripts.now l.cases.groups.now
+    (take l.one-index l.found)

@@ -20,7 +20,8 @@ check_result-requires-clause-terminal c =
 pub check_result-requires-clause-said : goal.check_result-requires-clause-said
 check_result-requires-clause-said c =
     each_mapped result_in c.args.results.now c.loop-i.i c.index-results-i.result
-    (omega (arith, c.loop-i-test.true)) c.index-results-i.is (IsSettleResult c.args.line.now)
+    (omega (arith, c.loop-i-test.true)) c.index-results-i.is
+    (IsSettleResult c.args.compiled.now.line.now)
     c.requires.one_each.each
 
 pub loop-i-preserved : goal.loop-i-preserved
@@ -29,7 +30,7 @@ loop-i-preserved c =
     let i : ℕ = c.loop-i.i in
     let item : TreeClaim = c.index-results-i.result in
     let inside : i < length results = omega (arith, c.loop-i-test.true) in
-    one_more (IsSupported c.args.line.now c.args.script.now) (map result_in results) i
+    one_more (IsSupported c.args.compiled.now.line.now c.args.script.now) (map result_in results) i
     (result_in item) (slice_mapped result_in results i item inside c.index-results-i.is)
     c.loop-i.invariant c.in_ok-check_result.ensures
 
@@ -53,7 +54,7 @@ returns-in_err-check_result c =
 
 pub returns : goal.returns
 returns c =
-    let line = c.args.line.now in
+    let line = c.args.compiled.now.line.now in
     let script = c.args.script.now in
     let results : List SettleResult = map result_in c.args.results.now in
     let many = length-map c.args.results.now result_in in

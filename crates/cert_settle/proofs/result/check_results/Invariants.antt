@@ -5,4 +5,4 @@ use Rattle.cert_settle.specs.Results.{IsSupported}
 use Rattle.cert_settle.proofs.result.check_results.Given as goal
 
 abbrev pub invariant-loop-i : goal.invariant-loop-i
-invariant-loop-i l = EachOf (IsSupported l.line l.script) (map result_in l.results) l.i
+invariant-loop-i l = EachOf (IsSupported l.compiled.line.now l.script) (map result_in l.results) l.i

@@ -7,13 +7,14 @@ use Rattle.cert_settle.proofs.ResultLaws.{tree_few, whole_fault}
 use Rattle.cert_settle.proofs.result.check_tree.Goals as goal
 
 pub walk-requires-clause-few : goal.walk-requires-clause-few
-walk-requires-clause-few c = tree_few c.args.of.now.line.now c.args.nodes.now c.requires.tree
+walk-requires-clause-few c = tree_few c.args.of.now.compiled.line.now c.args.nodes.now
+    c.requires.tree
 
 pub walk-requires-clause-tree : goal.walk-requires-clause-tree
 walk-requires-clause-tree c =
     let r = c.requires.tree in
     record {
-      part = whole_part c.args.of.now.line.now;
+      part = whole_part c.args.of.now.compiled.line.now;
       is_view = c.in_ok-view.ensures;
       tree = r.tree;
       after = [];
@@ -24,7 +25,7 @@ walk-requires-clause-tree c =
 pub returns-in_err-walk : goal.returns-in_err-walk
 returns-in_err-walk c =
     let p = err_from_is_err_and c.from_residual-in_err-walk.result c.from_residual-in_err-walk.ensures.1 in
-    let line = c.args.of.now.line.now in
+    let line = c.args.of.now.compiled.line.now in
     let r = c.requires.tree in
     rw (p.1, p.2) (whole_fault line c.args.of.now.script.now c.args.of.now.terminal c.args.nodes.now r.tree
     c.in_err-walk.field-0.0 r.are
@@ -33,7 +34,7 @@ returns-in_err-walk c =
 
 pub returns : goal.returns
 returns c =
-    let line = c.args.of.now.line.now in
+    let line = c.args.of.now.compiled.line.now in
     let r = c.requires.tree in
     record {
       tree = r.tree;

@@ -14,7 +14,7 @@ use Rattle.cert_settle.proofs.timing.met_at.Goals as goal
 
 pub run_tracks-requires-clause-delayed : goal.run_tracks-requires-clause-delayed
 run_tracks-requires-clause-delayed c =
-    let line = c.args.line.now in
+    let line = c.args.compiled.now.line.now in
     let steps : List (Step ℕ) = c.args.steps.now in
     let P : List ℕ → Type 0 = λ l. AreDelayed 1 ends_of_tick line l steps in
     subst P (sym (c.as_slice.ensures.value ∙ c.in_ok-numbers.ensures))
@@ -23,7 +23,7 @@ run_tracks-requires-clause-delayed c =
 
 pub returns : goal.returns
 returns c =
-    let line = c.args.line.now in
+    let line = c.args.compiled.now.line.now in
     let script = c.args.script.now in
     let values : List ℕ = c.args.values.now in
     let steps : List (Step ℕ) = c.args.steps.now in
@@ -38,8 +38,8 @@ returns c =
     let track = c.index-trip.result.now in
     let at : slice_get trips c.args.terminal ≡ Some track =
     slice_get_read trips (terminal_count line) c.args.terminal track
-    (sym (c.in_ok-tracks.ensures.trips.count ∙ c.requires.of_line.laws.same
-    ∙ c.requires.of_line.terminals)) c.requires.terminal c.index-trip.ensures in
+    (sym (c.in_ok-tracks.ensures.trips.count ∙ c.args.compiled.now.of_line.laws.same
+    ∙ c.args.compiled.now.of_line.terminals)) c.requires.terminal c.index-trip.ensures in
     let told = subst
     (λ (u : ℕ → Bool). MatchOption c.met_tick.result
     (¬ (MeetsBy script.kind script.deadline line.horizon u))

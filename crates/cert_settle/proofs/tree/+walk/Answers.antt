@@ -33,7 +33,8 @@ views_below-requires-clause-stands t c =
     let nodes : List CaseNode = c.args.nodes.now in
     let at : ℕ = c.args.passed.nodes in
     let root : CaseNode = slice_index_or nodes at node.Yes in
-    can_stand c.args.of.now.line.now r.part c.args.view.now r.tree root r.is_view r.branches
+    can_stand c.args.of.now.compiled.line.now r.part c.args.view.now r.tree root r.is_view
+    r.branches
     (root_at r.tree r.after nodes at node.Yes root r.are refl)
 
 -- ---- leaves
@@ -46,7 +47,8 @@ returns-in_err-check_leaf t c =
     let nodes : List CaseNode = c.args.nodes.now in
     let at : ℕ = c.args.passed.nodes in
     let root : CaseNode = slice_index_or nodes at node.Yes in
-    fault_leaf c.args.of.now.line.now c.args.of.now.script.now c.args.of.now.terminal tree part root
+    fault_leaf c.args.of.now.compiled.line.now c.args.of.now.script.now c.args.of.now.terminal tree
+    part root
     c.args.passed.leaves c.in_err-check_leaf.field-0.0
     (root_at tree after nodes at node.Yes root are refl) (c.in_err-check_leaf.ensures part is))
 
@@ -61,7 +63,8 @@ returns-in_default t c = λ part tree after is branches are.
     let nodes : List CaseNode = c.args.nodes.now in
     let at : ℕ = c.args.passed.nodes in
     let root : CaseNode = slice_index_or nodes at node.Yes in
-    walked_leaf c.args.of.now.line.now c.args.of.now.script.now c.args.of.now.terminal tree part root
+    walked_leaf c.args.of.now.compiled.line.now c.args.of.now.script.now c.args.of.now.terminal tree
+    part root
     c.args.passed c.after_leaf.result (root_at tree after nodes at node.Yes root are refl)
     (rw c.in_default.is at (c.in_ok-first.ensures part is)) (c.in_ok-check_leaf.ensures part is)
     c.after_leaf.ensures.nodes c.after_leaf.ensures.leaves
@@ -71,7 +74,7 @@ returns-in_default t c = λ part tree after is branches are.
 pub walk-requires : goal.walk-requires
 walk-requires t c =
     let r = c.requires.tree in
-    let line = c.args.of.now.line.now in
+    let line = c.args.of.now.compiled.line.now in
     let nodes : List CaseNode = c.args.nodes.now in
     let at : ℕ = c.args.passed.nodes in
     let root : CaseNode = slice_index_or nodes at node.Yes in
@@ -81,31 +84,28 @@ walk-requires t c =
     r.are (root_at r.tree r.after nodes at node.Yes root r.are refl) views.are in (
       omega (arith, inside, c.after_branch.ensures.nodes, c.decreases),
       (
-        c.requires.of_line,
+        c.requires.fits,
         (
-          c.requires.fits,
+          c.requires.terminal,
           (
-            c.requires.terminal,
+            c.requires.few,
             (
-              c.requires.few,
-              (
-                omega (
-                  arith,
-                  c.after_branch.ensures.nodes,
-                  c.after_branch.ensures.leaves,
-                  c.requires.leaves,
-                ),
-                record {
-                  part = views.first;
-                  is_view = views.at_first;
-                  tree = two.first;
-                  after = preorder two.second ++ r.after;
-                  are = subst (λ (n : ℕ).
-                      drop n nodes ≡ preorder two.first ++ (preorder two.second ++ r.after))
-                      (sym c.after_branch.ensures.nodes) two.first_next;
-                  branches = two.lower;
-                },
+              omega (
+                arith,
+                c.after_branch.ensures.nodes,
+                c.after_branch.ensures.leaves,
+                c.requires.leaves,
               ),
+              record {
+                part = views.first;
+                is_view = views.at_first;
+                tree = two.first;
+                after = preorder two.second ++ r.after;
+                are = subst (λ (n : ℕ).
+                    drop n nodes ≡ preorder two.first ++ (preorder two.second ++ r.after))
+                    (sym c.after_branch.ensures.nodes) two.first_next;
+                branches = two.lower;
+              },
             ),
           ),
         ),
@@ -117,7 +117,7 @@ returns-in_err-between t c =
     let p = err_from_is_err_and c.from_residual-in_err-between.result
     c.from_residual-in_err-between.ensures.1 in
     rw (p.1, p.2) (λ part tree after is branches are.
-    let line = c.args.of.now.line.now in
+    let line = c.args.of.now.compiled.line.now in
     let script = c.args.of.now.script.now in
     let k : ℕ = c.args.of.now.terminal in
     let nodes : List CaseNode = c.args.nodes.now in
@@ -139,7 +139,7 @@ returns-in_err-between t c =
 pub walk-requires-2 : goal.walk-requires-2
 walk-requires-2 t c =
     let r = c.requires.tree in
-    let line = c.args.of.now.line.now in
+    let line = c.args.of.now.compiled.line.now in
     let nodes : List CaseNode = c.args.nodes.now in
     let at : ℕ = c.args.passed.nodes in
     let root : CaseNode = slice_index_or nodes at node.Yes in
@@ -157,33 +157,30 @@ walk-requires-2 t c =
     omega (arith, one.nodes, c.after_branch.ensures.nodes) in (
       omega (arith, inside, past, c.decreases),
       (
-        c.requires.of_line,
+        c.requires.fits,
         (
-          c.requires.fits,
+          c.requires.terminal,
           (
-            c.requires.terminal,
+            c.requires.few,
             (
-              c.requires.few,
-              (
-                omega (
-                  arith,
-                  one.nodes,
-                  one.leaves,
-                  few,
-                  c.after_branch.ensures.nodes,
-                  c.after_branch.ensures.leaves,
-                  c.requires.leaves,
-                ),
-                record {
-                  part = views.second;
-                  is_view = views.at_second;
-                  tree = two.second;
-                  after = r.after;
-                  are = subst (λ (n : ℕ). drop n nodes ≡ preorder two.second ++ r.after) past
-                      two.second_next;
-                  branches = two.upper;
-                },
+              omega (
+                arith,
+                one.nodes,
+                one.leaves,
+                few,
+                c.after_branch.ensures.nodes,
+                c.after_branch.ensures.leaves,
+                c.requires.leaves,
               ),
+              record {
+                part = views.second;
+                is_view = views.at_second;
+                tree = two.second;
+                after = r.after;
+                are = subst (λ (n : ℕ). drop n nodes ≡ preorder two.second ++ r.after) past
+                    two.second_next;
+                branches = two.upper;
+              },
             ),
           ),
         ),
@@ -192,7 +189,7 @@ walk-requires-2 t c =
 
 pub returns : goal.returns
 returns t c = λ part tree after is branches are.
-    let line = c.args.of.now.line.now in
+    let line = c.args.of.now.compiled.line.now in
     let script = c.args.of.now.script.now in
     let k : ℕ = c.args.of.now.terminal in
     let nodes : List CaseNode = c.args.nodes.now in

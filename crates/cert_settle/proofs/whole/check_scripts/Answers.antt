@@ -15,12 +15,12 @@ check_results-requires-clause-fits c =
     let scripts : List Script = c.args.scripts.now in
     let i : ℕ = c.loop-i.i in
     let inside : i < length scripts = omega (arith, c.loop-i-test.true) in
-    subst (Fits c.args.line.now) (sym c.index-scripts-i.is)
+    subst (Fits c.args.compiled.now.line.now) (sym c.index-scripts-i.is)
     (c.requires.fits i c.index-scripts-i.result inside)
 
 pub check_results-requires-clause-one_each : goal.check_results-requires-clause-one_each
 check_results-requires-clause-one_each c =
-    let line = c.args.line.now in
+    let line = c.args.compiled.now.line.now in
     let parts : List (Vec TreeClaim Global) = c.args.parts.now in
     let i : ℕ = c.loop-i.i in
     let item : Vec TreeClaim Global = c.index-parts-i.result in
@@ -31,7 +31,7 @@ check_results-requires-clause-one_each c =
 
 pub loop-i-preserved : goal.loop-i-preserved
 loop-i-preserved c =
-    let line = c.args.line.now in
+    let line = c.args.compiled.now.line.now in
     let scripts : List Script = c.args.scripts.now in
     let parts : List (Vec TreeClaim Global) = c.args.parts.now in
     let i : ℕ = c.loop-i.i in
@@ -52,7 +52,7 @@ loop-i-preserved c =
 
 pub returns-in-Err : goal.returns-in-Err
 returns-in-Err c =
-    let line = c.args.line.now in
+    let line = c.args.compiled.now.line.now in
     let scripts : List Script = c.args.scripts.now in
     let parts : List (Vec TreeClaim Global) = c.args.parts.now in
     let i : ℕ = c.loop-i.i in
@@ -81,7 +81,11 @@ returns-in-Err c =
 pub counts_of-requires : goal.counts_of-requires
 counts_of-requires c = record {
   few = omega (arith, c.requires.few, c.requires.many);
-  each = λ k d lt. omega (arith, (c.requires.one_each k d lt).many, c.args.line.now.two_or_three.1);
+  each = λ k d lt. omega (
+    arith,
+    (c.requires.one_each k d lt).many,
+    c.args.compiled.now.line.now.two_or_three.1,
+  );
 }
 
 pub returns : goal.returns

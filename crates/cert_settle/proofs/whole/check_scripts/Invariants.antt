@@ -6,6 +6,6 @@ use Rattle.cert_settle.proofs.whole.check_scripts.Given as goal
 
 abbrev pub invariant-loop-i : goal.invariant-loop-i
 invariant-loop-i l = record {
-  supported : EachBelow (AreSupported l.line) l.scripts (map results_in l.parts) l.i;
-  told : EachBelow (AreTold l.line) l.scripts (map results_in l.parts) l.i;
+  supported : EachBelow (AreSupported l.compiled.line.now) l.scripts (map results_in l.parts) l.i;
+  told : EachBelow (AreTold l.compiled.line.now) l.scripts (map results_in l.parts) l.i;
 }

@@ -9,13 +9,12 @@ use Rattle.cert_settle.proofs.whole.check_settle.Goals as goal
 
 pub check_scripts-requires : goal.check_scripts-requires
 check_scripts-requires c =
-    let line = c.args.line.now in
+    let line = c.args.compiled.now.line.now in
     let parts : List (Vec TreeClaim Global) = c.as_slice.result.now in
     let P : List (Vec TreeClaim Global) → Type 0 = λ l.
     IsSettleText line c.args.scripts.now (map results_in l) c.args.cert.now in
     let is : P parts = subst P (sym c.as_slice.ensures.value) c.in-Ok.ensures in
     record {
-      of_line = c.requires.of_line;
       fits = c.requires.fits;
       few = c.requires.few;
       many = sym (length-map parts results_in) ∙ is.many;
@@ -24,7 +23,7 @@ check_scripts-requires c =
 
 pub returns-in-Ok : goal.returns-in-Ok
 returns-in-Ok c =
-    let line = c.args.line.now in
+    let line = c.args.compiled.now.line.now in
     let scripts = c.args.scripts.now in
     let bytes = c.args.cert.now in
     let parts : List (Vec TreeClaim Global) = c.as_slice.result.now in

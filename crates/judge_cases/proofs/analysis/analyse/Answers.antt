@@ -10,13 +10,12 @@ use Rattle.judge_cases.proofs.analysis.analyse.Goals as goal
 
 pub run_under-requires : goal.run_under-requires
 run_under-requires c =
-    let line = c.args.line.now in
+    let line = c.args.compiled.now.line.now in
     let views = c.args.views.now in
     let own : AreViewSpans line views c.deref.result.now =
     subst (λ (s : List SpanLists). AreViewSpans line views s) (sym c.deref.ensures.value)
     c.in_ok-spans.ensures in
     record {
-      of_line = c.requires.of_line;
       one_each = own.count;
       delayed = views_delayed line views c.requires.views c.deref.result.now own c.requires.some;
       rows = c.in_ok-masks.ensures.rows;
@@ -28,8 +27,8 @@ returns c = record {
   horizon = c.in_ok-waves.ensures.horizon;
   few = c.requires.few;
   tells = λ lane view w at history.
-      let line = c.args.line.now in
-      let net = c.args.net.now in
+      let line = c.args.compiled.now.line.now in
+      let net = c.args.compiled.now.net.now in
       let script = c.args.script.now in
       let views = c.args.views.now in
       let waves = c.in_ok-waves.waves in
@@ -52,7 +51,8 @@ returns c = record {
         pairs = pairs.pairs;
         owns = pairs.owns;
         excluded = excluded_decided c.gates_stand_for_their_trees.ensures.kinds line net
-            c.requires.of_line script view (c.requires.views.each lane view at).cases lane w waves
+            c.args.compiled.now.of_line script view (c.requires.views.each lane view at).cases lane
+            w waves
             pairs (bit_on c.excluded_lanes-excluded.result lane)
             (c.excluded_lanes-excluded.ensures lane view at);
       };

@@ -16,8 +16,8 @@ one_view views i x y e f = cc
 
 pub loop-lane-preserved : goal.loop-lane-preserved
 loop-lane-preserved c = λ k view lt at.
-    let line = c.args.line.now in
-    let net = c.args.net.now in
+    let line = c.args.compiled.now.line.now in
+    let net = c.args.compiled.now.net.now in
     let views = c.args.views.now in
     let waves = c.args.waves.now in
     let n = c.loop-lane.lane in

@@ -6,4 +6,5 @@ use Rattle.judge_cases.proofs.analysis.excluded_lanes.Given as goal
 
 abbrev pub invariant-loop-lane : goal.invariant-loop-lane
 invariant-loop-lane l = (k : ℕ) (view : View) → k < l.lane → slice_get l.views k ≡ Some view
-    → Decides (bit_on l.lanes k) (OneIsExcluded l.line l.net view k l.waves)
+    → Decides (bit_on l.lanes k) (OneIsExcluded l.compiled.line.now l.compiled.net.now view k
+    l.waves)

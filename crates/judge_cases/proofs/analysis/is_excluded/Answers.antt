@@ -22,7 +22,8 @@ loop-i-preserved c = λ j a lt at excluded.
     ap (slice_get assumed) same ∙ at in
     let one : a ≡ c.index-assumed-i.result = one_value a c.index-assumed-i.result here now in
     let on = c.is_one_excluded.ensures.1
-    (subst (ExcludedIn c.args.line.now c.args.net.now c.args.lane c.args.waves.now) one excluded) in
+    (subst (ExcludedIn c.args.compiled.now.line.now c.args.compiled.now.net.now c.args.lane
+    c.args.waves.now) one excluded) in
     let off = c.if-is_one_excluded.false in
     absurd (cc))
     (cases_lt j c.loop-i.i)

@@ -12,7 +12,7 @@ use Rattle.judge_cases.proofs.analysis.is_one_excluded.Goals as goal
 
 pub returns : goal.returns
 returns c =
-    let net = c.args.net.now in
+    let net = c.args.compiled.now.net.now in
     let lane = c.args.lane in
     let a = c.args.assumed in
     let gate = c.wanted_gate-gate.result.0 in
@@ -20,15 +20,15 @@ returns c =
     let is : own_wave terns_rails lane waves gate a.tick ≡ terns_rails c.own-own.result lane =
     ap (own_wave terns_rails lane waves gate) (sym c.tick.ensures)
     ∙ ap (pair_in terns_rails lane) c.own-own.ensures in
-    let want : formula_of net.gates gate ≡ wanted c.args.line.now a.terminal =
-    c.wanted_gate-gate.ensures.is ∙ ap (wanted c.args.line.now) c.terminal.ensures in
+    let want : formula_of net.gates gate ≡ wanted c.args.compiled.now.line.now a.terminal =
+    c.wanted_gate-gate.ensures.is ∙ ap (wanted c.args.compiled.now.line.now) c.terminal.ensures in
     let tells : Decides c.excludes.result (Excludes (terns_rails c.own-own.result lane) a.level) =
     subst (λ (b : Bool). Decides c.excludes.result
     (Excludes (terns_rails c.own-own.result lane) b)) c.level.ensures c.excludes.ensures in (
       λ on other inside stands.
           let same : gate ≡ other =
           sym (one_gate net.gates c.gates_stand_for_their_trees.ensures.kinds
-          c.requires.of_line.laws.gates other gate inside c.wanted_gate-gate.ensures.exists
+          c.args.compiled.now.of_line.laws.gates other gate inside c.wanted_gate-gate.ensures.exists
           (stands ∙ sym want)) in
           subst (λ (g : ℕ). Excludes (own_wave terns_rails lane waves g a.tick) a.level) same
           (subst (λ (r : Rails). Excludes r a.level) (sym is) (tells.0 on)),

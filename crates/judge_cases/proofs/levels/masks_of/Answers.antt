@@ -20,21 +20,21 @@ use Rattle.judge_cases.proofs.levels.masks_of.Goals as goal
 
 pub loop-lane-init : goal.loop-lane-init
 loop-lane-init c =
-    let line = c.args.line.now in
+    let line = c.args.compiled.now.line.now in
     record {
       count = c.in_ok-masks.ensures.count
           ∙ ap (λ (n : ℕ). line.horizon * n) c.terminals-count.ensures.count;
       puts = λ k low i row t mask early ri at.
           subst (λ (l : List Assumption). IsMask terns_rails k
-          (assumed_level line l (formula_of c.args.net.now.gates i) t) mask)
+          (assumed_level line l (formula_of c.args.compiled.now.net.now.gates i) t) mask)
           (sym (below_none c.args.views.now 0 k (omega arith)))
           (c.in_ok-masks.ensures.none (t * terminal_count line + row) mask at k low);
     }
 
 pub loop-lane-preserved : goal.loop-lane-preserved
 loop-lane-preserved c =
-    let line = c.args.line.now in
-    let net = c.args.net.now in
+    let line = c.args.compiled.now.line.now in
+    let net = c.args.compiled.now.net.now in
     let views = c.args.views.now in
     let rows : List (Option ℕ) = c.in_ok-rows.rows.items in
     let shown : List (Option ℕ) = c.deref.result.now in
@@ -81,13 +81,14 @@ returns-clause-rows c = record {
       subst (λ (m : ℕ). row < m) (sym c.terminals-count.ensures.count)
       (c.in_ok-rows.ensures.some i row at).0;
   count = c.loop-lane.invariant.count
-      ∙ ap (λ (m : ℕ). c.args.line.now.horizon * m) (sym c.terminals-count.ensures.count);
+      ∙ ap (λ (m : ℕ). c.args.compiled.now.line.now.horizon * m)
+      (sym c.terminals-count.ensures.count);
 }
 
 pub returns-clause-put : goal.returns-clause-put
 returns-clause-put c =
-    let line = c.args.line.now in
-    let net = c.args.net.now in
+    let line = c.args.compiled.now.line.now in
+    let net = c.args.compiled.now.net.now in
     let views = c.args.views.now in
     let rows : List (Option ℕ) = c.in_ok-rows.rows.items in
     let masks : List (Mask Terns64) = c.loop-lane.masks.items in
@@ -99,7 +100,7 @@ returns-clause-put c =
         none = λ i lane t inside early at.
             none_put line net rows c.same_trees_are_equal.ensures
             (λ a b la lb e. one_gate net.gates c.gates_stand_for_their_trees.ensures.kinds
-            c.requires.of_line.laws.gates a b la lb e) c.in_ok-rows.ensures i t at
+            c.args.compiled.now.of_line.laws.gates a b la lb e) c.in_ok-rows.ensures i t at
             (assumed_of (slice_get views lane)) (cases_of line views c.requires.views lane);
         some = λ i row lane t mask inside early ri at.
             let puts : PutIn line net rows (terminal_count line) line.horizon masks lane
@@ -118,7 +119,7 @@ returns-clause-put c =
 
 pub put_view-requires-clause-cases : goal.put_view-requires-clause-cases
 put_view-requires-clause-cases c =
-    let line = c.args.line.now in
+    let line = c.args.compiled.now.line.now in
     let views = c.args.views.now in
     let lane : ℕ = c.loop-lane.lane in
     let view : View = c.index-views-lane.result in

@@ -5,9 +5,10 @@ use Rattle.judge_cases.proofs.levels.masks_of.Given as goal
 
 abbrev pub invariant-loop-lane : goal.invariant-loop-lane
 invariant-loop-lane l =
-    let n = terminal_count l.line in
+    let n = terminal_count l.compiled.line.now in
     record {
-      count : length l.masks.items ≡ l.line.horizon * n;
-      puts : (k : ℕ) → k < 64 → PutIn l.line l.net l.rows.items n l.line.horizon l.masks.items k
+      count : length l.masks.items ≡ l.compiled.line.now.horizon * n;
+      puts : (k : ℕ) → k < 64 → PutIn l.compiled.line.now l.compiled.net.now l.rows.items n
+          l.compiled.line.now.horizon l.masks.items k
           (assumed_below l.views l.lane k);
     }

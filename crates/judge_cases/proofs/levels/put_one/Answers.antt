@@ -16,7 +16,7 @@ use Rattle.judge_cases.proofs.levels.put_one.Goals as goal
 use Rattle.judge_cases.proofs.levels.put_one.Goals.{After-terminals-count, After-tick}
 
 abbrev row_place : After-terminals-count → ℕ
-row_place c = c.args.assumed.tick * terminal_count c.args.line.now + c.in-Some.row
+row_place c = c.args.assumed.tick * terminal_count c.args.compiled.now.line.now + c.in-Some.row
 
 has : (c : After-terminals-count)
     → slice_get c.args.rows.now c.wanted_gate-gate.result.0 ≡ Some (Some c.in-Some.row)
@@ -29,12 +29,13 @@ has c =
 place_there : (c : After-terminals-count) → row_place c < length c.args.masks.now.items
 place_there c =
     let below = (c.requires.rows.some c.wanted_gate-gate.result.0 c.in-Some.row (has c)).0 in
-    let lt = mul-add-lt c.args.assumed.tick (terminal_count c.args.line.now) c.in-Some.row
-    c.args.line.now.horizon c.requires.case.run below in
+    let lt = mul-add-lt c.args.assumed.tick (terminal_count c.args.compiled.now.line.now)
+    c.in-Some.row
+    c.args.compiled.now.line.now.horizon c.requires.case.run below in
     omega (arith, lt, c.requires.count)
 
 place_is : (c : After-tick) → c.tick.result * c.terminals-count.result + c.in-Some.row
-    ≡ c.args.assumed.tick * terminal_count c.args.line.now + c.in-Some.row
+    ≡ c.args.assumed.tick * terminal_count c.args.compiled.now.line.now + c.in-Some.row
 place_is c =
     ap (λ (t : ℕ). t * c.terminals-count.result + c.in-Some.row) c.tick.ensures
     ∙ ap (λ (n : ℕ). c.args.assumed.tick * n + c.in-Some.row) c.terminals-count.ensures.count
@@ -57,8 +58,8 @@ pub returns-in-Some-clause-lane : goal.returns-in-Some-clause-lane
 returns-in-Some-clause-lane c = λ before puts.
     let here = (goal.at.returns-in-Some-clause-lane c).After-terminals-count in
     let now = (goal.at.returns-in-Some-clause-lane c).After-tick in
-    let line = c.args.line.now in
-    let net = c.args.net.now in
+    let line = c.args.compiled.now.line.now in
+    let net = c.args.compiled.now.net.now in
     let a = c.args.assumed in
     let new = c.with_level-new.result in
     subst (λ (l : List (Mask Terns64)). PutIn line net c.args.rows.now (terminal_count line)
@@ -67,7 +68,7 @@ returns-in-Some-clause-lane c = λ before puts.
     ∙ ap (λ (p : ℕ). slice_set c.args.masks.now.items p new) (place_is now)))
     (put_more line net c.args.rows.now c.same_trees_are_equal.ensures
     (λ i j li lj e. one_gate net.gates c.gates_stand_for_their_trees.ensures.kinds
-    c.requires.of_line.laws.gates i j li lj e) c.requires.rows c.args.lane a before
+    c.args.compiled.now.of_line.laws.gates i j li lj e) c.requires.rows c.args.lane a before
     c.args.masks.now.items c.wanted_gate-gate.result.0 c.in-Some.row new
     (c.wanted_gate-gate.ensures.is ∙ ap (wanted line) c.terminal.ensures) (has here)
     (subst (λ (b : Bool). IsMask terns_rails c.args.lane (Some b) new) c.level.ensures
@@ -77,8 +78,8 @@ pub returns-in-Some-clause-others : goal.returns-in-Some-clause-others
 returns-in-Some-clause-others c = λ k before low ne puts.
     let here = (goal.at.returns-in-Some-clause-others c).After-terminals-count in
     let now = (goal.at.returns-in-Some-clause-others c).After-tick in
-    let line = c.args.line.now in
-    let net = c.args.net.now in
+    let line = c.args.compiled.now.line.now in
+    let net = c.args.compiled.now.net.now in
     let new = c.with_level-new.result in
     let old = c.mask_in-old.result in
     let items = c.args.masks.now.items in
@@ -93,7 +94,8 @@ returns-in-Some-clause-others c = λ k before low ne puts.
     ∙ ap (λ (p : ℕ). slice_set items p new) (place_is now)))
     (put_other line net c.args.rows.now c.same_trees_are_equal.ensures
     (λ i j li lj e. one_gate net.gates c.gates_stand_for_their_trees.ensures.kinds
-    c.requires.of_line.laws.gates i j li lj e) c.requires.rows k (row_place here) before items old
+    c.args.compiled.now.of_line.laws.gates i j li lj e) c.requires.rows k (row_place here) before
+    items old
     new at (c.with_level-new.ensures.off k low ne) (c.with_level-new.ensures.on k low ne) puts)
 
 -- the gate has a row
@@ -110,4 +112,4 @@ returns-in_default-clause-lane c =
     absurd (no_row (get_or rows gate None) c.in_default.not-Some
     (λ e. c.requires.rows.none gate c.args.assumed.terminal
     (slice_get-get_or rows gate None there ∙ ap Some e) c.requires.case.exists c.requires.case.weak
-    (c.wanted_gate-gate.ensures.is ∙ ap (wanted c.args.line.now) c.terminal.ensures)))
+    (c.wanted_gate-gate.ensures.is ∙ ap (wanted c.args.compiled.now.line.now) c.terminal.ensures)))

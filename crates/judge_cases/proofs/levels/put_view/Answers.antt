@@ -9,7 +9,7 @@ use Rattle.judge_cases.proofs.levels.put_view.Goals as goal
 
 pub loop-back-preserved : goal.loop-back-preserved
 loop-back-preserved c =
-    let line = c.args.line.now in
+    let line = c.args.compiled.now.line.now in
     let all = c.args.assumed.now in
     let back = c.loop-back.back in
     let a = c.index-assumed-assumed.result in
@@ -24,7 +24,8 @@ loop-back-preserved c =
     record {
       count = c.put_one.ensures.count;
       lane = λ start.
-          subst (PutIn line c.args.net.now c.args.rows.now (terminal_count line) line.horizon
+          subst (PutIn line c.args.compiled.now.net.now c.args.rows.now (terminal_count line)
+          line.horizon
           c.put_one.new.masks.items c.args.lane) step
           (c.put_one.ensures.lane (drop (length all - back) all)
           (c.loop-back.invariant.lane start));

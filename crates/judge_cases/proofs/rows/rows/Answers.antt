@@ -5,7 +5,8 @@ use Rattle.judge_cases.proofs.rows.rows.Goals as goal
 
 pub loop-terminal-init : goal.loop-terminal-init
 loop-terminal-init c =
-    rows_none c.args.line.now c.args.net.now c.len.result c.in_ok-rows.rows.items c.len.ensures.len
+    rows_none c.args.compiled.now.line.now c.args.compiled.now.net.now
+    c.len.result c.in_ok-rows.rows.items c.len.ensures.len
     c.in_ok-rows.ensures
 
 pub returns : goal.returns
@@ -14,8 +15,11 @@ returns c =
     c.loop-terminal-test.false in
     let under : c.loop-terminal.terminal ≤ length c.as_slice-terminals.result.now =
     c.loop-terminal.auto.terminal-end in
-    let len : length c.as_slice-terminals.result.now ≡ length c.args.line.now.terminals.items =
+    let len : length c.as_slice-terminals.result.now ≡ length
+    c.args.compiled.now.line.now.terminals.items =
     ap length c.as_slice-terminals.ensures.value in
-    let last : c.loop-terminal.terminal ≡ length c.args.line.now.terminals.items = omega arith in
-    subst (λ (n : ℕ). AreRows c.args.line.now c.args.net.now n c.loop-terminal.rows.items) last
+    let last : c.loop-terminal.terminal ≡ length
+    c.args.compiled.now.line.now.terminals.items = omega arith in
+    subst (λ (n : ℕ). AreRows c.args.compiled.now.line.now c.args.compiled.now.net.now n
+    c.loop-terminal.rows.items) last
     c.loop-terminal.invariant

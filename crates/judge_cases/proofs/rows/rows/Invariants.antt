@@ -2,4 +2,4 @@ use Rattle.judge_cases.specs.Rows.{AreRows}
 use Rattle.judge_cases.proofs.rows.rows.Given as goal
 
 abbrev pub invariant-loop-terminal : goal.invariant-loop-terminal
-invariant-loop-terminal l = AreRows l.line l.net l.terminal l.rows.items
+invariant-loop-terminal l = AreRows l.compiled.line.now l.compiled.net.now l.terminal l.rows.items

@@ -18,7 +18,7 @@ is_shown-requires-clause-view c =
 
 pub loop-i-preserved : goal.loop-i-preserved
 loop-i-preserved c =
-    let line = c.args.line.now in
+    let line = c.args.compiled.now.line.now in
     let script = c.args.script.now in
     let k = c.args.terminal in
     let views = c.args.views.now in

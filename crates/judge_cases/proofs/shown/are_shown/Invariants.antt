@@ -7,5 +7,6 @@ abbrev pub invariant-loop-i : goal.invariant-loop-i
 invariant-loop-i l = record {
   count : length l.shown.items ≡ l.i;
   each : (j : ℕ) (b : Bool) → slice_get l.shown.items j ≡ Some b → (view : View)
-      → slice_get l.views j ≡ Some view → Decides b (IsShownOf l.line l.script l.terminal view);
+      → slice_get l.views j ≡ Some view → Decides b
+      (IsShownOf l.compiled.line.now l.script l.terminal view);
 }

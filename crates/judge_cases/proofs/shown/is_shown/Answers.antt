@@ -13,9 +13,9 @@ one_view line view is zero other e = let same : view ≡ other = cc in subst (Is
 one_view line view is (suc i) other e = absurd (cc)
 
 told : (c : After-must) → Decides c.must.result
-    (IsShownOf c.args.line.now c.args.script.now c.args.terminal c.args.view.now)
+    (IsShownOf c.args.compiled.now.line.now c.args.script.now c.args.terminal c.args.view.now)
 told c =
-    let line = c.args.line.now in
+    let line = c.args.compiled.now.line.now in
     let view = c.args.view.now in
     let views = c.from_ref.result.now in
     let are : AreViews line views =
@@ -33,6 +33,7 @@ returns-clause-shown c = told (goal.at.returns-clause-shown c).After-must
 pub returns-clause-boxes : goal.returns-clause-boxes
 returns-clause-boxes c = λ box assumed views.
     let d = told (goal.at.returns-clause-boxes c).After-must in
-    let law = c.a_view_stands_for_its_box.ensures c.args.line.now c.args.script.now c.args.terminal
+    let law = c.a_view_stands_for_its_box.ensures c.args.compiled.now.line.now c.args.script.now
+    c.args.terminal
     box assumed c.args.view.now views in
     (λ on. law.0 (d.0 on), λ under. d.1 (law.1 under))

@@ -7,14 +7,14 @@ use Rattle.judge_cases.proofs.wanted.wanted_gate.Goals as goal
 
 pub returns-clause-is : goal.returns-clause-is
 returns-clause-is c =
-    let line = c.args.line.now in
+    let line = c.args.compiled.now.line.now in
     let k = c.args.terminal in
     let weak = c.requires.weak in
-    let gates = c.args.net.now.gates in
+    let gates = c.args.compiled.now.net.now.gates in
     let want : Tree = wanted line k in
     let echo : Tree = And want (still line k weak want) in
     let key : formula_of gates c.key_gate.result.0 ≡ Or (ahead line k weak) echo =
     ap (formula_of gates) c.key_gate.ensures.is
-    ∙ c.requires.of_line.keys k (weak_exists line k weak) ∙ weak_key line k weak in
+    ∙ c.args.compiled.now.of_line.keys k (weak_exists line k weak) ∙ weak_key line k weak in
     c.first_of_and.ensures.first want (still line k weak want)
     (c.second_of_or-echo.ensures.second (ahead line k weak) echo key)

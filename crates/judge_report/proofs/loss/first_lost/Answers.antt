@@ -8,7 +8,7 @@ use Rattle.judge_report.proofs.loss.first_lost.Goals as goal
 
 pub returns-in-Some : goal.returns-in-Some
 returns-in-Some c =
-    let line = c.args.line.now in
+    let line = c.args.compiled.now.line.now in
     record {
       script = c.index-scripts-s.result;
       at = at_index c.args.scripts.now c.loop-s.s c.index-scripts-s.result c.loop-s-test.true
@@ -22,7 +22,7 @@ returns-in-Some c =
 
 pub loop-s-preserved : goal.loop-s-preserved
 loop-s-preserved c =
-    let line = c.args.line.now in
+    let line = c.args.compiled.now.line.now in
     one_script_more line c.args.scripts.now (declared_box line) c.loop-s.s
     c.index-scripts-s.result
     (at_index c.args.scripts.now c.loop-s.s c.index-scripts-s.result c.loop-s-test.true
@@ -35,5 +35,6 @@ loop-s-preserved c =
 
 pub returns : goal.returns
 returns c =
-    all_scripts c.args.line.now c.args.scripts.now (declared_box c.args.line.now) c.loop-s.s
+    all_scripts c.args.compiled.now.line.now c.args.scripts.now
+    (declared_box c.args.compiled.now.line.now) c.loop-s.s
     c.loop-s-test.false c.loop-s.invariant

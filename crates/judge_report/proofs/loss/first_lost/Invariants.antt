@@ -3,4 +3,4 @@ use Rattle.judge_report.specs.Lost.{AreHeld}
 use Rattle.judge_report.proofs.loss.first_lost.Given as goal
 
 abbrev pub invariant-loop-s : goal.invariant-loop-s
-invariant-loop-s l = AreHeld l.line l.scripts (declared_box l.line) l.s
+invariant-loop-s l = AreHeld l.compiled.line.now l.scripts (declared_box l.compiled.line.now) l.s

@@ -6,7 +6,7 @@ use Rattle.judge_report.proofs.loss.first_terminal.Goals as goal
 
 pub loop-k-preserved : goal.loop-k-preserved
 loop-k-preserved c =
-    let line = c.args.line.now in
+    let line = c.args.compiled.now.line.now in
     let script = c.args.script.now in
     let known = c.laws_below.ensures in
     one_terminal_more line script (declared_box line) c.loop-k.k c.loop-k.invariant

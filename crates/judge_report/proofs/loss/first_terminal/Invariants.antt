@@ -3,4 +3,5 @@ use Rattle.judge_report.specs.Lost.{IsScriptHeld}
 use Rattle.judge_report.proofs.loss.first_terminal.Given as goal
 
 abbrev pub invariant-loop-k : goal.invariant-loop-k
-invariant-loop-k l = IsScriptHeld l.line l.script (declared_box l.line) l.k
+invariant-loop-k l = IsScriptHeld l.compiled.line.now l.script (declared_box l.compiled.line.now)
+    l.k

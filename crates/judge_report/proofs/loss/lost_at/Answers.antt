@@ -8,7 +8,7 @@ use Rattle.judge_report.proofs.loss.lost_at.Goals as goal
 
 pub returns : goal.returns
 returns c =
-    let line = c.args.line.now in
+    let line = c.args.compiled.now.line.now in
     let scripts = c.args.scripts.now in
     let other = c.in_ok-other.other in
     IfOk-weaker c.first_lost.result (λ (o : Option Lost). IsLoss other scripts (declared_box other) o)

@@ -6,7 +6,7 @@ use Rattle.judge_report.proofs.report.report_rows.Goals as goal
 
 pub returns : goal.returns
 returns c = λ w is_w.
-    let line = c.args.line.now in
+    let line = c.args.compiled.now.line.now in
     let script = c.args.script.now in
     let own = pair_history c.in_ok-waves.waves in
     c.in_ok-push_rows.ensures

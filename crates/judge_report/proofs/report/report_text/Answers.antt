@@ -14,7 +14,7 @@ loop-script-preserved c = λ histories are.
     let scripts = c.args.scripts.now in
     let i = c.loop-script.script-index in
     let script = c.script-item.result in
-    let f : Script → List ℕ = λ s. script_rows c.args.line.now s (histories s) in
+    let f : Script → List ℕ = λ s. script_rows c.args.compiled.now.line.now s (histories s) in
     grown report_header c.loop-script.text.items c.extend_from_slice.new.self.items
     (concat (map f (take i scripts))) _ (f script) (c.loop-script.invariant histories are)
     c.in_ok-extend_from_slice.ensures.items
@@ -25,7 +25,7 @@ loop-script-preserved c = λ histories are.
 
 pub returns-clause-is : goal.returns-clause-is
 returns-clause-is c =
-    let line = c.args.line.now in
+    let line = c.args.compiled.now.line.now in
     let scripts = c.args.scripts.now in
     let one : (script : Script)
     → (w : PairHistory) × IsPairHistory line script (declared_box line) w =

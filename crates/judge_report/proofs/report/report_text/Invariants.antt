@@ -6,5 +6,5 @@ use Rattle.judge_report.proofs.report.report_text.Given as goal
 
 abbrev pub invariant-loop-script : goal.invariant-loop-script
 invariant-loop-script l =
-    (histories : Script → PairHistory) → AreHistories l.line histories
-    → l.text.items ≡ report_text_of l.line (take l.script-index l.scripts) histories
+    (histories : Script → PairHistory) → AreHistories l.compiled.line.now histories
+    → l.text.items ≡ report_text_of l.compiled.line.now (take l.script-index l.scripts) histories

@@ -4,9 +4,11 @@ use Rattle.judge_report.proofs.searching.between.Goals as goal
 
 pub returns : goal.returns
 returns c = (
-  bracket_margin c.laws_below.ensures c.args.line.now c.args.scripts.now c.args.param c.requires.fit c.halving.low
+  bracket_margin c.laws_below.ensures c.args.compiled.now.line.now c.args.scripts.now c.args.param
+      c.requires.fit c.halving.low
       c.halving.high c.halving.lost c.halving.invariant (omega (arith, c.halving-test.false)),
-  bracket_lost c.laws_below.ensures c.args.line.now c.args.scripts.now c.args.param c.requires.fit c.halving.low
+  bracket_lost c.laws_below.ensures c.args.compiled.now.line.now c.args.scripts.now c.args.param
+      c.requires.fit c.halving.low
       c.halving.high c.halving.lost c.halving.invariant
       (omega (arith, c.halving-test.false)),
 )

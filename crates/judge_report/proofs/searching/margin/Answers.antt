@@ -55,7 +55,7 @@ module _ (known : Known) (line : Line) (scripts : List Script) (param : ℕ)
 
 pub returns-in-Some-clause-margin : goal.returns-in-Some-clause-margin
 returns-in-Some-clause-margin c =
-    let line = c.args.line.now in
+    let line = c.args.compiled.now.line.now in
     let scripts = c.args.scripts.now in
     let param = c.args.param in
     let at : IsLostAt line scripts param (declared_ends line param).least c.in-Some.lost =
@@ -66,7 +66,7 @@ returns-in-Some-clause-margin c =
 
 pub between-requires-clause-bracket : goal.between-requires-clause-bracket
 between-requires-clause-bracket c =
-    let line = c.args.line.now in
+    let line = c.args.compiled.now.line.now in
     let scripts = c.args.scripts.now in
     let param = c.args.param in
     let least = c.least-least.result in
@@ -79,7 +79,7 @@ between-requires-clause-bracket c =
 
 pub returns-in-Some-2-clause-met : goal.returns-in-Some-2-clause-met
 returns-in-Some-2-clause-met c =
-    let line = c.args.line.now in
+    let line = c.args.compiled.now.line.now in
     let scripts = c.args.scripts.now in
     let param = c.args.param in
     IfOk-weaker c.between.result (λ (end : UpperEnd). IsUpperEnd line scripts param end)

@@ -16,20 +16,22 @@ corners-requires c = ap length c.deref-2.ensures.value ∙ c.in_ok-wide.ensures
 
 pub held_each-requires-clause-deadline : goal.held_each-requires-clause-deadline
 held_each-requires-clause-deadline c =
-    c.laws_below.ensures.lines.deadlines c.args.line.now c.args.script.now c.requires.fits
+    c.laws_below.ensures.lines.deadlines c.args.compiled.now.line.now c.args.script.now
+    c.requires.fits
 
 pub held_each-requires-clause-parts : goal.held_each-requires-clause-parts
 held_each-requires-clause-parts c =
-    subst (λ (l : List Line). AreParts c.args.line.now l) (sym c.deref-3.ensures.value)
+    subst (λ (l : List Line). AreParts c.args.compiled.now.line.now l) (sym c.deref-3.ensures.value)
     (record { each = c.in_ok-boxes.ensures.rest })
 
 pub held_each-requires-2-clause-deadline : goal.held_each-requires-2-clause-deadline
 held_each-requires-2-clause-deadline c =
-    c.laws_below.ensures.lines.deadlines c.args.line.now c.args.script.now c.requires.fits
+    c.laws_below.ensures.lines.deadlines c.args.compiled.now.line.now c.args.script.now
+    c.requires.fits
 
 pub held_each-requires-2-clause-parts : goal.held_each-requires-2-clause-parts
 held_each-requires-2-clause-parts c =
-    subst (λ (l : List Line). AreParts c.args.line.now l) (sym c.deref-5.ensures.value)
+    subst (λ (l : List Line). AreParts c.args.compiled.now.line.now l) (sym c.deref-5.ensures.value)
     c.in_ok-parts.ensures.parts
 
 pub nodes_at-requires-clause-wide : goal.nodes_at-requires-clause-wide
@@ -37,7 +39,7 @@ nodes_at-requires-clause-wide c = ap length c.deref-6.ensures.value ∙ c.in_ok-
 
 pub nodes_at-requires-clause-parts : goal.nodes_at-requires-clause-parts
 nodes_at-requires-clause-parts c =
-    subst (λ (l : List Line). AreParts c.args.line.now l) (sym c.deref-7.ensures.value)
+    subst (λ (l : List Line). AreParts c.args.compiled.now.line.now l) (sym c.deref-7.ensures.value)
     c.in_ok-parts.ensures.parts
 
 pub nodes_at-requires-clause-held : goal.nodes_at-requires-clause-held
@@ -55,7 +57,8 @@ nodes_at-requires-2-clause-wide c = ap length c.deref-9.ensures.value ∙ c.in_o
 
 pub nodes_at-requires-2-clause-parts : goal.nodes_at-requires-2-clause-parts
 nodes_at-requires-2-clause-parts c =
-    subst (λ (l : List Line). AreParts c.args.line.now l) (sym c.deref-10.ensures.value)
+    subst (λ (l : List Line). AreParts c.args.compiled.now.line.now l)
+    (sym c.deref-10.ensures.value)
     c.in_ok-parts.ensures.parts
 
 pub nodes_at-requires-2-clause-held : goal.nodes_at-requires-2-clause-held
@@ -73,7 +76,7 @@ middle-mid-requires c = c.requires.widest.exists
 
 pub returns : goal.returns
 returns c =
-    let line = c.args.line.now in
+    let line = c.args.compiled.now.line.now in
     let script = c.args.script.now in
     let k = c.args.terminal in
     let param = c.args.param in

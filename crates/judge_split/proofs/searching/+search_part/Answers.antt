@@ -16,21 +16,16 @@ at_depth script k n line found some is =
     let e : suc (n - 1) ≡ n = omega arith in
     subst (λ (m : ℕ). IsSearch script k m line found) e is
 
-pub verdict_at-requires-clause-of_line : goal.verdict_at-requires-clause-of_line
-verdict_at-requires-clause-of_line t c = c.requires.of_line
-
 pub verdict_at-requires-clause-fits : goal.verdict_at-requires-clause-fits
 verdict_at-requires-clause-fits t c = c.requires.fits
-
-pub quick-requires-clause-of_line : goal.quick-requires-clause-of_line
-quick-requires-clause-of_line t c = c.requires.of_line
 
 pub quick-requires-clause-fits : goal.quick-requires-clause-fits
 quick-requires-clause-fits t c = c.requires.fits
 
 pub quick-requires-clause-undecided : goal.quick-requires-clause-undecided
 quick-requires-clause-undecided t c =
-    subst (λ (v : Verdict). IsVerdictOf c.args.line.now c.args.script.now c.args.terminal v)
+    subst (λ (v : Verdict). IsVerdictOf c.args.compiled.now.line.now c.args.script.now
+    c.args.terminal v)
     c.in-Undecided.is c.in_ok-verdict_at.ensures
 
 pub quick-requires-clause-widest : goal.quick-requires-clause-widest
@@ -39,7 +34,8 @@ quick-requires-clause-widest t c = c.in-Some.ensures
 pub returns-in-Some-2 : goal.returns-in-Some-2
 returns-in-Some-2 t c =
     if_some_is c.in_ok-nodes.field-0 c.in-Some-2.nodes
-    (λ nodes. AreNodes c.args.line.now c.args.script.now c.args.terminal c.args.depth nodes.items)
+    (λ nodes. AreNodes c.args.compiled.now.line.now c.args.script.now c.args.terminal c.args.depth
+    nodes.items)
     c.in-Some-2.is c.in_ok-nodes.ensures
 
 pub halves-requires : goal.halves-requires
@@ -50,13 +46,10 @@ search_part-requires t c =
     let rest = c.in_ok-lower_line.ensures.0.rest in (
       omega (arith, c.decreases, c.if-depth-eq0.false),
       (
-        c.nets_do_not_rest_on_the_intervals.ensures c.args.line.now _ c.args.net.now rest
-            c.requires.of_line,
-        (
-          c.scripts_fit_whatever_the_intervals.ensures c.args.line.now _ c.args.script.now rest
-              c.requires.fits,
-          omega (arith, c.requires.terminal, ap length rest.terminals),
-        ),
+        c.scripts_fit_whatever_the_intervals.ensures c.args.compiled.now.line.now _
+            c.args.script.now rest
+            c.requires.fits,
+        omega (arith, c.requires.terminal, ap length rest.terminals),
       ),
     )
 
@@ -65,13 +58,10 @@ search_part-requires-2 t c =
     let rest = c.in_ok-lower_line.ensures.1.rest in (
       omega (arith, c.decreases, c.if-depth-eq0.false),
       (
-        c.nets_do_not_rest_on_the_intervals.ensures c.args.line.now _ c.args.net.now rest
-            c.requires.of_line,
-        (
-          c.scripts_fit_whatever_the_intervals.ensures c.args.line.now _ c.args.script.now rest
-              c.requires.fits,
-          omega (arith, c.requires.terminal, ap length rest.terminals),
-        ),
+        c.scripts_fit_whatever_the_intervals.ensures c.args.compiled.now.line.now _
+            c.args.script.now rest
+            c.requires.fits,
+        omega (arith, c.requires.terminal, ap length rest.terminals),
       ),
     )
 
@@ -80,7 +70,7 @@ middle-mid-requires t c = c.in-Some.ensures.exists
 
 pub returns-in-Yes : goal.returns-in-Yes
 returns-in-Yes t c =
-    let line = c.args.line.now in
+    let line = c.args.compiled.now.line.now in
     let script = c.args.script.now in
     let k = c.args.terminal in
     yes_nodes script k c.args.depth line _ c.in_ok-leaf-in-Yes.ensures
@@ -88,7 +78,7 @@ returns-in-Yes t c =
 
 pub returns-in-No : goal.returns-in-No
 returns-in-No t c =
-    let line = c.args.line.now in
+    let line = c.args.compiled.now.line.now in
     let script = c.args.script.now in
     no c.args.depth line c.in-No.timing
     (subst (λ (v : Verdict). IsVerdictOf line script c.args.terminal v) c.in-No.is
@@ -96,7 +86,7 @@ returns-in-No t c =
 
 pub returns-in_default : goal.returns-in_default
 returns-in_default t c =
-    let line = c.args.line.now in
+    let line = c.args.compiled.now.line.now in
     let script = c.args.script.now in
     let k = c.args.terminal in
     narrow_nodes script k c.args.depth line _ c.in_ok-leaf.ensures
@@ -105,7 +95,7 @@ returns-in_default t c =
 
 pub returns-then-depth-eq0 : goal.returns-then-depth-eq0
 returns-then-depth-eq0 t c =
-    let line = c.args.line.now in
+    let line = c.args.compiled.now.line.now in
     let script = c.args.script.now in
     let k = c.args.terminal in
     deepest_nodes script k c.args.depth line _ c.in_ok-leaf-2.ensures c.if-depth-eq0.true
@@ -113,7 +103,7 @@ returns-then-depth-eq0 t c =
 
 pub returns-in-Fails : goal.returns-in-Fails
 returns-in-Fails t c =
-    let line = c.args.line.now in
+    let line = c.args.compiled.now.line.now in
     let script = c.args.script.now in
     let k = c.args.terminal in
     let at : IsSplitAt line script k c.in-Some.param = record {
@@ -129,7 +119,7 @@ returns-in-Fails t c =
 
 pub returns-in-Fails-2 : goal.returns-in-Fails-2
 returns-in-Fails-2 t c =
-    let line = c.args.line.now in
+    let line = c.args.compiled.now.line.now in
     let script = c.args.script.now in
     let k = c.args.terminal in
     let at : IsSplitAt line script k c.in-Some.param = record {
@@ -150,7 +140,7 @@ returns-in-Fails-2 t c =
 
 pub returns : goal.returns
 returns t c =
-    let line = c.args.line.now in
+    let line = c.args.compiled.now.line.now in
     let script = c.args.script.now in
     let k = c.args.terminal in
     let param = c.in-Some.param in

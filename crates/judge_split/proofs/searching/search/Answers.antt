@@ -12,7 +12,7 @@ use Rattle.judge_split.proofs.searching.search.Goals as goal
 
 pub returns-clause-yes : goal.returns-clause-yes
 returns-clause-yes c =
-    let line = c.args.line.now in
+    let line = c.args.compiled.now.line.now in
     let script = c.args.script.now in
     let k = c.args.terminal in
     IfOk-weaker c.search_part.result (λ (o : Outcome). IsFound line script k c.args.depth o)
@@ -24,7 +24,7 @@ returns-clause-yes c =
 
 pub returns-clause-no : goal.returns-clause-no
 returns-clause-no c =
-    let line = c.args.line.now in
+    let line = c.args.compiled.now.line.now in
     let script = c.args.script.now in
     let k = c.args.terminal in
     IfOk-weaker c.search_part.result (λ (o : Outcome). IsFound line script k c.args.depth o)

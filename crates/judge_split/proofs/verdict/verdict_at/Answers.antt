@@ -16,5 +16,6 @@ pub returns : goal.returns
 returns c = λ w is.
     let are = c.in_ok-said.ensures.verdicts w is in
     are.each c.args.terminal c.swap_remove.result
-    (slice_get_read c.in_ok-said.said.verdicts.items (terminal_count c.args.line.now) c.args.terminal
+    (slice_get_read c.in_ok-said.said.verdicts.items (terminal_count c.args.compiled.now.line.now)
+    c.args.terminal
     c.swap_remove.result (sym are.count) c.requires.terminal c.swap_remove.ensures.value)

@@ -4,4 +4,5 @@ use Rattle.net_compile.proofs.text.put_gates.Given as goal
 
 abbrev pub invariant-loop-i : goal.invariant-loop-i
 invariant-loop-i l =
-    l.text.items ≡ l.initial.text.items ++ lines_below (gate_line l.line l.net.gates) l.i
+    l.text.items ≡ l.initial.text.items ++ lines_below (gate_line l.compiled.line.now
+    l.compiled.net.now.gates) l.i

@@ -4,4 +4,5 @@ use Rattle.net_compile.proofs.text.put_terminals.Given as goal
 
 abbrev pub invariant-loop-k : goal.invariant-loop-k
 invariant-loop-k l =
-    l.text.items ≡ l.initial.text.items ++ lines_below (terminal_lines l.line l.net) l.k
+    l.text.items ≡ l.initial.text.items ++ lines_below (terminal_lines l.compiled.line.now
+    l.compiled.net.now) l.k

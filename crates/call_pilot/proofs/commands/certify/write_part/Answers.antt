@@ -9,7 +9,7 @@ returns-in_err-put_text-clause-writes g c =
     let said = c.in_ok-said.said in
     rw (p.1, p.2) (record {
       claims = claims_of said.keys.items said.verdicts.items;
-      certified = c.answers_are_certified.ensures c.args.line.now c.args.script.now
+      certified = c.answers_are_certified.ensures c.args.compiled.now.line.now c.args.script.now
           said.keys.items said.verdicts.items c.in_ok-said.ensures.certified.keys
           c.in_ok-said.ensures.certified.verdicts;
       writes = rw (c.as_slice.ensures.value, c.in_ok-piece.ensures) at c.in_err-put_text.ensures;
@@ -21,7 +21,7 @@ returns-clause-writes g c =
     let said = c.in_ok-said.said in
     record {
       claims = claims_of said.keys.items said.verdicts.items;
-      certified = c.answers_are_certified.ensures c.args.line.now c.args.script.now
+      certified = c.answers_are_certified.ensures c.args.compiled.now.line.now c.args.script.now
           said.keys.items said.verdicts.items c.in_ok-said.ensures.certified.keys
           c.in_ok-said.ensures.certified.verdicts;
       writes = rw (c.as_slice.ensures.value, c.in_ok-piece.ensures) at c.in_ok-put_text.ensures;

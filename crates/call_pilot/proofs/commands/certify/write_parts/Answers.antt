@@ -9,7 +9,8 @@ pub loop-script-preserved : goal.loop-script-preserved
 loop-script-preserved g c = (
   grew_once _ _ _ c.loop-script.script-index c.loop-script.invariant.0
       c.in_ok-more.ensures.asked,
-  parts_more c.args.line.now c.args.scripts.now c.loop-script.script-index c.script-item.result
+  parts_more c.args.compiled.now.line.now c.args.scripts.now c.loop-script.script-index
+      c.script-item.result
       c.loop-script-test.true (sym c.script-item.is)
       (sink_view g.O.Sink.written g.O.Sink.faults c.args.out.now)
       (sink_view g.O.Sink.written g.O.Sink.faults c.loop-script.out)
@@ -22,19 +23,21 @@ loop-script-preserved g c = (
 pub returns-in_err-more-clause-writes : goal.returns-in_err-more-clause-writes
 returns-in_err-more-clause-writes g c =
     let p = err_from_is_err_and c.from_residual.result c.from_residual.ensures.1 in
-    rw (p.1, p.2) (parts_stop c.args.line.now c.args.scripts.now c.loop-script.script-index
+    rw (p.1, p.2) (parts_stop c.args.compiled.now.line.now c.args.scripts.now
+    c.loop-script.script-index
     c.script-item.result c.loop-script-test.true (sym c.script-item.is)
     (sink_view g.O.Sink.written g.O.Sink.faults c.args.out.now)
     (sink_view g.O.Sink.written g.O.Sink.faults c.loop-script.out)
     (sink_view g.O.Sink.written g.O.Sink.faults c.write_part.new.out)
     c.loop-script.found c.in_err-more.field-0.0
-    (c.a_certificate_is_made_of_parts.ensures.scripts c.args.line.now) c.requires.fit
+    (c.a_certificate_is_made_of_parts.ensures.scripts c.args.compiled.now.line.now) c.requires.fit
     c.loop-script.invariant.1 c.in_err-more.ensures.writes)
 
 pub loop-script-init : goal.loop-script-init
 loop-script-init g c = (
   grew_nothing _ 0 refl,
-  parts_none c.args.line.now (sink_view g.O.Sink.written g.O.Sink.faults c.args.out.now) _ refl
+  parts_none c.args.compiled.now.line.now
+      (sink_view g.O.Sink.written g.O.Sink.faults c.args.out.now) _ refl
       refl,
   none_fell_same (g.G.Engine.calls c.args.engine.now),
 )

@@ -11,7 +11,7 @@ returns-in_err-write_run g c =
     rw (p.1, p.2) (record {
       asked = tt;
       writes = λ text is.
-          written_stops (IsRunText c.args.line.now (values_of c.args.timing.now))
+          written_stops (IsRunText c.args.compiled.now.line.now (values_of c.args.timing.now))
           c.args.scripts.now c.loop-script.script-index c.script-item.result
           c.loop-script-test.true (sym c.script-item.is) c.in_err-write_run.ensures.writes
           (c.loop-script.invariant.1 text is);
@@ -22,7 +22,8 @@ loop-script-preserved g c = (
   grew_once _ _ _ c.loop-script.script-index c.loop-script.invariant.0
       c.in_ok-write_run.ensures.asked,
   λ text is.
-      written_more (IsRunText c.args.line.now (values_of c.args.timing.now)) c.args.scripts.now
+      written_more (IsRunText c.args.compiled.now.line.now (values_of c.args.timing.now))
+      c.args.scripts.now
       c.loop-script.script-index c.script-item.result c.loop-script-test.true
       (sym c.script-item.is) c.in_ok-write_run.ensures.writes
       (c.loop-script.invariant.1 text is),

@@ -8,8 +8,9 @@ use Rattle.call_pilot.proofs.commands.play.write_timing.Given as goal
 
 abbrev pub invariant-loop-script : goal.invariant-loop-script
 invariant-loop-script g l =
-    AskedPlays l.line l.script-index (g.G.Engine.calls l.fn.engine) (g.G.Engine.calls l.engine)
-    × ((text : List ℕ) → IsTimingText l.line l.scripts (values_of l.timing) text
-    → Written (IsRunText l.line (values_of l.timing)) l.scripts
+    AskedPlays l.compiled.line.now l.script-index (g.G.Engine.calls l.fn.engine)
+    (g.G.Engine.calls l.engine)
+    × ((text : List ℕ) → IsTimingText l.compiled.line.now l.scripts (values_of l.timing) text
+    → Written (IsRunText l.compiled.line.now (values_of l.timing)) l.scripts
     (sink_view g.O.Sink.written g.O.Sink.faults l.fn.out)
     (sink_view g.O.Sink.written g.O.Sink.faults l.out) text l.script-index)

@@ -14,7 +14,7 @@ returns-in_err-write_timing g c =
     rw (p.1, p.2) (record {
       asked = tt;
       writes = λ text is.
-          written_stops (IsTimingText c.args.line.now c.args.scripts.now)
+          written_stops (IsTimingText c.args.compiled.now.line.now c.args.scripts.now)
           (map values_of c.args.timings.now)
           c.loop-timing.timing-index (values_of c.timing-item.result) lt
           (get_or-map values_of c.args.timings.now c.loop-timing.timing-index c.timing-item.result
@@ -30,7 +30,7 @@ loop-timing-preserved g c =
       grew_round _ _ _ c.loop-timing.timing-index (length c.args.scripts.now)
           c.loop-timing.invariant.0 c.in_ok-write_timing.ensures.asked,
       λ text is.
-          written_more (IsTimingText c.args.line.now c.args.scripts.now)
+          written_more (IsTimingText c.args.compiled.now.line.now c.args.scripts.now)
           (map values_of c.args.timings.now)
           c.loop-timing.timing-index (values_of c.timing-item.result) lt
           (get_or-map values_of c.args.timings.now c.loop-timing.timing-index c.timing-item.result

@@ -8,10 +8,11 @@ use Rattle.call_pilot.proofs.commands.play.write_timings.Given as goal
 
 abbrev pub invariant-loop-timing : goal.invariant-loop-timing
 invariant-loop-timing g l =
-    AskedPlays l.line (l.timing-index * length l.scripts) (g.G.Engine.calls l.fn.engine)
+    AskedPlays l.compiled.line.now (l.timing-index * length l.scripts)
+    (g.G.Engine.calls l.fn.engine)
     (g.G.Engine.calls l.engine)
     × ((text : List ℕ)
-    → Pieces (IsTimingText l.line l.scripts) (map values_of l.timings) text
-    → Written (IsTimingText l.line l.scripts) (map values_of l.timings)
+    → Pieces (IsTimingText l.compiled.line.now l.scripts) (map values_of l.timings) text
+    → Written (IsTimingText l.compiled.line.now l.scripts) (map values_of l.timings)
     (sink_view g.O.Sink.written g.O.Sink.faults l.fn.out)
     (sink_view g.O.Sink.written g.O.Sink.faults l.out) text l.timing-index)

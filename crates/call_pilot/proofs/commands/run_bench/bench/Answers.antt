@@ -3,9 +3,11 @@ use Rattle.file_line.specs.Lines.{line_values}
 use Rattle.call_pilot.proofs.commands_lemmas.Counts.{grew_all, grew_kept, rose_later}
 use Rattle.call_pilot.proofs.commands.run_bench.bench.Goals as goal
 
-pub certified_text-requires-clause-fit : goal.certified_text-requires-clause-fit
-certified_text-requires-clause-fit g c =
-    rw c.as_slice.ensures.value (c.in_ok-scripts.ensures.fit c.in_ok-line.line c.in_ok-line.ensures)
+pub certified_text-requires : goal.certified_text-requires
+certified_text-requires g c = record {
+  fit = rw c.as_slice.ensures.value
+      (c.in_ok-scripts.ensures.fit c.in_ok-line.line c.in_ok-line.ensures);
+}
 
 pub check-requires-clause-fits : goal.check-requires-clause-fits
 check-requires-clause-fits g c =

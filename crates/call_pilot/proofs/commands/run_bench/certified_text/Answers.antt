@@ -10,7 +10,7 @@ pub loop-script-init : goal.loop-script-init
 loop-script-init g c = (
   grew_nothing _ 0 refl,
   none_fell_same (g.G.Engine.calls c.args.engine.now),
-  begun_none c.args.line.now c.in_ok-text.text.items c.in_ok-text.ensures.items,
+  begun_none c.args.compiled.now.line.now c.in_ok-text.text.items c.in_ok-text.ensures.items,
 )
 
 pub loop-script-preserved : goal.loop-script-preserved
@@ -18,10 +18,10 @@ loop-script-preserved g c = (
   grew_once _ _ _ c.loop-script.script-index c.loop-script.invariant.0
       c.in_ok-push_certified.ensures.asked,
   none_fell_both _ _ _ c.loop-script.invariant.1 c.in_ok-push_certified.ensures.kept,
-  begun_more c.args.line.now
-      (c.a_certificate_grows_by_parts.ensures.text c.args.line.now)
-      (c.a_certificate_grows_by_parts.ensures.claims c.args.line.now)
-      (c.a_certificate_grows_by_parts.ensures.many c.args.line.now)
+  begun_more c.args.compiled.now.line.now
+      (c.a_certificate_grows_by_parts.ensures.text c.args.compiled.now.line.now)
+      (c.a_certificate_grows_by_parts.ensures.claims c.args.compiled.now.line.now)
+      (c.a_certificate_grows_by_parts.ensures.many c.args.compiled.now.line.now)
       c.args.scripts.now c.loop-script.script-index c.script-item.result
       c.loop-script.text.items c.push_certified.new.text.items c.loop-script-test.true
       (sym c.script-item.is) c.loop-script.invariant.2 c.in_ok-push_certified.ensures.text,
@@ -33,12 +33,13 @@ returns-in_err-push_certified-clause-kept g c =
 
 pub returns-clause-text : goal.returns-clause-text
 returns-clause-text g c =
-    ended c.args.line.now
-    (c.a_certificate_grows_by_parts.ensures.text c.args.line.now)
-    (c.a_certificate_grows_by_parts.ensures.claims c.args.line.now)
-    (c.a_certificate_grows_by_parts.ensures.many c.args.line.now)
+    ended c.args.compiled.now.line.now
+    (c.a_certificate_grows_by_parts.ensures.text c.args.compiled.now.line.now)
+    (c.a_certificate_grows_by_parts.ensures.claims c.args.compiled.now.line.now)
+    (c.a_certificate_grows_by_parts.ensures.many c.args.compiled.now.line.now)
     (λ script claims is.
-    (c.what_is_certified_is_accepted.ensures.written c.args.line.now script claims is).each)
-    (c.a_certificate_is_its_parts.ensures.parts c.args.line.now)
+    (c.what_is_certified_is_accepted.ensures.written c.args.compiled.now.line.now script claims
+    is).each)
+    (c.a_certificate_is_its_parts.ensures.parts c.args.compiled.now.line.now)
     c.args.scripts.now c.loop-script.script-index c.loop-script.text.items _
     c.loop-script-test.false c.in_ok-extend_from_slice.ensures.items c.loop-script.invariant.2

@@ -7,7 +7,7 @@ returns-clause-text g c =
     let said = c.in_ok-said.said in
     record {
       claims = claims_of said.keys.items said.verdicts.items;
-      certified = c.answers_are_certified.ensures c.args.line.now c.args.script.now
+      certified = c.answers_are_certified.ensures c.args.compiled.now.line.now c.args.script.now
           said.keys.items said.verdicts.items c.in_ok-said.ensures.certified.keys
           c.in_ok-said.ensures.certified.verdicts;
       text_is = c.in_ok-extend_from_slice.ensures.items

@@ -6,5 +6,5 @@ use Rattle.call_pilot.proofs.commands.split.outcomes.Given as goal
 
 abbrev pub invariant-loop-k : goal.invariant-loop-k
 invariant-loop-k l =
-    OneEach (λ k outcome. IsFound l.line l.script k l.depth outcome) l.k l.all.items
-    × All (IsPrintable l.line) l.all.items
+    OneEach (λ k outcome. IsFound l.compiled.line.now l.script k l.depth outcome) l.k l.all.items
+    × All (IsPrintable l.compiled.line.now) l.all.items

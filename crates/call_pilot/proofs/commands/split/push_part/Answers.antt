@@ -13,6 +13,7 @@ returns c =
       text_is = c.in_ok-extend_from_slice.ensures.items
           ∙ ap (λ z. c.args.text.now.items ++ z) (c.as_slice-2.ensures.value
           ∙ c.in_ok-piece.ensures
-          ∙ ap (λ found. part_text c.args.line.now c.args.script.now (map written_as found))
+          ∙ ap (λ found. part_text c.args.compiled.now.line.now c.args.script.now
+          (map written_as found))
           c.as_slice.ensures.value);
     }

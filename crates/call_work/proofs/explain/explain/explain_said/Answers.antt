@@ -18,12 +18,13 @@ bounds-asked-seen c =
     (subst (λ (xs : List Seen). Contains xs c.in-Ok-pick.seen.now) c.deref.ensures.value
     c.in-Ok-pick.ensures.among)
 
-pub explain-requires-clause-seen : goal.explain-requires-clause-seen
-explain-requires-clause-seen c =
-    All-contains (λ (s : Seen). AreSeen c.args.asked.now.line.now s)
-    c.in-Ok.records.items c.in-Ok-pick.seen.now c.in-Ok.ensures.seen
-    (subst (λ (xs : List Seen). Contains xs c.in-Ok-pick.seen.now) c.deref.ensures.value
-    c.in-Ok-pick.ensures.among)
+pub explain-requires : goal.explain-requires
+explain-requires c = record {
+  seen = All-contains (λ (s : Seen). AreSeen c.args.asked.now.compiled.line.now s)
+      c.in-Ok.records.items c.in-Ok-pick.seen.now c.in-Ok.ensures.seen
+      (subst (λ (xs : List Seen). Contains xs c.in-Ok-pick.seen.now) c.deref.ensures.value
+      c.in-Ok-pick.ensures.among);
+}
 
 pub returns : goal.returns
 returns c =
@@ -43,7 +44,8 @@ returns c =
           c.in-Ok-pick.ensures.among))
           ∙ ap Some (sym c.index-asked-seen.is);
       explanation = c.in_ok-explanation.explanation;
-      is = subst (λ (s : Script). IsExplanation asked.line.now s asked.within (seen_history seen)
+      is = subst (λ (s : Script). IsExplanation asked.compiled.line.now s asked.within
+          (seen_history seen)
           c.in_ok-explanation.explanation) (sym c.index-asked-seen.is)
           c.in_ok-explanation.ensures;
       status_is = c.in_ok-said_of.ensures.status;

@@ -14,7 +14,6 @@ returns-in_err-study c =
 pub returns : goal.returns
 returns c = (
   record {
-    of_line = c.in_ok-study.ensures.0.of_line;
     fit = c.in_ok-study.ensures.0.fit;
     once = once_in_file c.in_ok-study.study.scripts.items
         (c.a_file_says_scripts_of_one_file.ensures _ _ _ c.in_ok-study.ensures.1.scripts_are);

@@ -6,5 +6,6 @@ use Rattle.cert_claims.proofs.check.cover.first_uncovered.Given as goal
 
 abbrev pub invariant-loop-k : goal.invariant-loop-k
 invariant-loop-k l =
-    (script : Script) → AreGateWaves l.line script l.net.gates (pairs_of l.keys) l.waves
-    → (k : ℕ) → k < l.k → IsKeyCovered l.line script (pairs_of l.keys) k
+    (script : Script) → AreGateWaves l.compiled.line.now script l.compiled.net.now.gates
+    (pairs_of l.keys) l.waves
+    → (k : ℕ) → k < l.k → IsKeyCovered l.compiled.line.now script (pairs_of l.keys) k

@@ -14,16 +14,13 @@ use Rattle.cert_claims.proofs.check.refutation.met_at.Goals as goal
 pub ticks_of-requires : goal.ticks_of-requires
 ticks_of-requires c = c.requires.inside
 
-pub run_tracks-requires-clause-of_line : goal.run_tracks-requires-clause-of_line
-run_tracks-requires-clause-of_line c = c.requires.of_line
-
 pub run_tracks-requires-clause-spans : goal.run_tracks-requires-clause-spans
 run_tracks-requires-clause-spans c =
     ap length (c.as_slice.ensures.value ∙ c.in_ok-numbers.ensures) ∙ c.requires.inside.count
 
 pub run_tracks-requires-clause-delayed : goal.run_tracks-requires-clause-delayed
 run_tracks-requires-clause-delayed c =
-    let line = c.args.line.now in
+    let line = c.args.compiled.now.line.now in
     let P : List ℕ → Type 0 = λ l. AreDelayed 1 ends_of_tick line l [] in
     subst P (sym (c.as_slice.ensures.value ∙ c.in_ok-numbers.ensures))
     (c.a_timing_is_one_choice.ensures.delayed line (steady_timing c.args.values.now) 1
@@ -34,8 +31,8 @@ index-trip-requires c =
     omega (
       arith,
       c.requires.terminal,
-      c.requires.of_line.terminals,
-      c.requires.of_line.laws.same,
+      c.args.compiled.now.of_line.terminals,
+      c.args.compiled.now.of_line.laws.same,
       c.in_ok-tracks.ensures.trips.count,
       c.in_ok-tracks.tracks.trips.ok.0,
     )
@@ -44,18 +41,20 @@ pub met_tick-requires-clause-horizon : goal.met_tick-requires-clause-horizon
 met_tick-requires-clause-horizon c =
     let track = c.index-trip.result.now in
     let at : slice_get c.in_ok-tracks.tracks.trips.items c.args.terminal ≡ Some track =
-    slice_get_read c.in_ok-tracks.tracks.trips.items (terminal_count c.args.line.now) c.args.terminal
-    track (sym (c.in_ok-tracks.ensures.trips.count ∙ c.requires.of_line.laws.same
-    ∙ c.requires.of_line.terminals)) c.requires.terminal c.index-trip.ensures in
+    slice_get_read c.in_ok-tracks.tracks.trips.items (terminal_count c.args.compiled.now.line.now)
+    c.args.terminal
+    track (sym (c.in_ok-tracks.ensures.trips.count ∙ c.args.compiled.now.of_line.laws.same
+    ∙ c.args.compiled.now.of_line.terminals)) c.requires.terminal c.index-trip.ensures in
     (c.in_ok-tracks.ensures.trips.each c.args.terminal track at).0
 
 pub met_tick-requires-clause-deadline : goal.met_tick-requires-clause-deadline
 met_tick-requires-clause-deadline c =
-    c.deadlines_are_below_the_horizon.ensures c.args.line.now c.args.script.now c.requires.fits
+    c.deadlines_are_below_the_horizon.ensures c.args.compiled.now.line.now c.args.script.now
+    c.requires.fits
 
 pub returns : goal.returns
 returns c =
-    let line = c.args.line.now in
+    let line = c.args.compiled.now.line.now in
     let script = c.args.script.now in
     let values : List ℕ = c.args.values.now in
     let timing : TimingValues = steady_timing values in
@@ -69,8 +68,8 @@ returns c =
     let track = c.index-trip.result.now in
     let at : slice_get trips c.args.terminal ≡ Some track =
     slice_get_read trips (terminal_count line) c.args.terminal track
-    (sym (c.in_ok-tracks.ensures.trips.count ∙ c.requires.of_line.laws.same
-    ∙ c.requires.of_line.terminals)) c.requires.terminal c.index-trip.ensures in
+    (sym (c.in_ok-tracks.ensures.trips.count ∙ c.args.compiled.now.of_line.laws.same
+    ∙ c.args.compiled.now.of_line.terminals)) c.requires.terminal c.index-trip.ensures in
     let told = subst
     (λ (u : ℕ → Bool). MatchOption c.met_tick.result
     (¬ (MeetsBy script.kind script.deadline line.horizon u))

@@ -10,7 +10,7 @@ use Rattle.cert_claims.proofs.check.script_check.check_claim.Goals as goal
 
 pub returns-then-is_held : goal.returns-then-is_held
 returns-then-is_held c = λ pairs same.
-    let line = c.args.line.now in
+    let line = c.args.compiled.now.line.now in
     let script = c.args.script.now in
     let trip = wave_at c.args.trip.now in
     let P : ℕ → Type 0 = λ n. IsHeld script.kind script.deadline n trip in
@@ -23,7 +23,7 @@ returns-then-is_held c = λ pairs same.
 
 pub returns-else-is_held : goal.returns-else-is_held
 returns-else-is_held c = λ pairs same.
-    let line = c.args.line.now in
+    let line = c.args.compiled.now.line.now in
     let script = c.args.script.now in
     let k : ℕ = c.args.terminal in
     let trip = wave_at c.args.trip.now in

@@ -14,39 +14,43 @@ use Rattle.cert_claims.proofs.check.script_check.check_claims.Goals as goal
 
 pub returns-in-Some-clause-exact : goal.returns-in-Some-clause-exact
 returns-in-Some-clause-exact c =
-    let line = c.args.line.now in
+    let line = c.args.compiled.now.line.now in
     let script = c.args.script.now in
     let keys : List (List Tern) = c.as_slice-keys.result.now in
     let P : List (List Tern) → Type 0 = λ l.
     IsFirstUncovered line script (pairs_of l) c.in-Some.uncovered in
     subst P c.as_slice-keys.ensures.value
     (c.in-Some.ensures script
-    (subst (λ (l : List (List Tern)). AreGateWaves line script c.args.net.now.gates (pairs_of keys) l)
+    (subst (λ (l : List (List Tern)). AreGateWaves line script c.args.compiled.now.net.now.gates
+    (pairs_of keys) l)
     (sym c.as_slice.ensures.value) c.in_ok-waves.ensures))
 
 covered : (c : goal.After-drop-waves-2)
-    → AreCovered c.args.line.now c.args.script.now (declared_box c.args.line.now)
+    → AreCovered c.args.compiled.now.line.now c.args.script.now
+    (declared_box c.args.compiled.now.line.now)
     (pairs_of c.args.said.now.keys.items)
 covered c =
-    let line = c.args.line.now in
+    let line = c.args.compiled.now.line.now in
     let script = c.args.script.now in
     let keys : List (List Tern) = c.as_slice-keys.result.now in
     let P : List (List Tern) → Type 0 = λ l.
     AreCovered line script (declared_box line) (pairs_of l) in
     subst P c.as_slice-keys.ensures.value
     (c.in_default.ensures script
-    (subst (λ (l : List (List Tern)). AreGateWaves line script c.args.net.now.gates (pairs_of keys) l)
+    (subst (λ (l : List (List Tern)). AreGateWaves line script c.args.compiled.now.net.now.gates
+    (pairs_of keys) l)
     (sym c.as_slice.ensures.value) c.in_ok-waves.ensures))
 
 told : (c : goal.After-drop-waves-2) → MatchResult c.check_verdicts.result
-    (λ _. AreSupported c.args.line.now c.args.script.now (pairs_of c.args.said.now.keys.items)
+    (λ _. AreSupported c.args.compiled.now.line.now c.args.script.now
+    (pairs_of c.args.said.now.keys.items)
     (map verdict_in c.args.said.now.verdicts.items))
-    (λ fault. IsVerdictFault c.args.line.now c.args.script.now
+    (λ fault. IsVerdictFault c.args.compiled.now.line.now c.args.script.now
     (pairs_of c.args.said.now.keys.items) (map verdict_in c.args.said.now.verdicts.items) fault)
 told c =
-    let line = c.args.line.now in
+    let line = c.args.compiled.now.line.now in
     let script = c.args.script.now in
-    let gates = c.args.net.now.gates in
+    let gates = c.args.compiled.now.net.now.gates in
     let claims : PairSignals = pairs_of c.args.said.now.keys.items in
     let P : List (List Tern) → Type 0 = λ l.
     AreGateWaves line script gates (pairs_of l) c.as_slice-2.result.now in
@@ -61,12 +65,12 @@ told c =
 
 pub returns-clause-exact : goal.returns-clause-exact
 returns-clause-exact c =
-    with_keys c.args.line.now c.args.script.now (claims_in c.args.said.now) (covered c)
+    with_keys c.args.compiled.now.line.now c.args.script.now (claims_in c.args.said.now) (covered c)
     c.check_verdicts.result (told c)
 
 pub returns-clause-yes : goal.returns-clause-yes
 returns-clause-yes c =
-    let line = c.args.line.now in
+    let line = c.args.compiled.now.line.now in
     let script = c.args.script.now in
     let said : Claims = claims_in c.args.said.now in
     let claims : PairSignals = pairs_of said.keys in

@@ -15,9 +15,9 @@ use Rattle.cert_claims.proofs.check.script_check.check_verdicts.Goals as goal
 
 pub loop-i-preserved : goal.loop-i-preserved
 loop-i-preserved c = λ claims are.
-    let line = c.args.line.now in
+    let line = c.args.compiled.now.line.now in
     let script = c.args.script.now in
-    let gates = c.args.net.now.gates in
+    let gates = c.args.compiled.now.net.now.gates in
     let verdicts : List Claim = c.args.verdicts.now in
     let i : ℕ = c.loop-i.i in
     let item : Claim = c.index-verdicts-i.result in
@@ -30,21 +30,22 @@ loop-i-preserved c = λ claims are.
     (c.in_ok-check_claim.ensures (derived_trip line script claims i)
     (tree_pairs line script gates claims c.args.waves.now c.trip_gate.result.0 (trip_tree line i)
     c.nth-trip.result.now are c.trip_gate.ensures.exists
-    (ap (formula_of gates) c.trip_gate.ensures.is ∙ c.requires.of_line.trips i there)
+    (ap (formula_of gates) c.trip_gate.ensures.is ∙ c.args.compiled.now.of_line.trips i there)
     c.nth-trip.ensures))
 
 pub check_claim-requires-clause-numbers : goal.check_claim-requires-clause-numbers
 check_claim-requires-clause-numbers c =
     each_mapped (λ x. verdict_in x) c.args.verdicts.now c.loop-i.i c.index-verdicts-i.result
-    (omega (arith, c.loop-i-test.true)) c.index-verdicts-i.is (HasNumbers c.args.line.now)
+    (omega (arith, c.loop-i-test.true)) c.index-verdicts-i.is
+    (HasNumbers c.args.compiled.now.line.now)
     c.requires.numbers
 
 pub returns-in_err-check_claim : goal.returns-in_err-check_claim
 returns-in_err-check_claim c =
     let p = err_from_is_err_and c.from_residual.result c.from_residual.ensures.1 in
-    let line = c.args.line.now in
+    let line = c.args.compiled.now.line.now in
     let script = c.args.script.now in
-    let gates = c.args.net.now.gates in
+    let gates = c.args.compiled.now.net.now.gates in
     let verdicts : List Claim = c.args.verdicts.now in
     let i : ℕ = c.loop-i.i in
     let item : Claim = c.index-verdicts-i.result in
@@ -58,7 +59,7 @@ returns-in_err-check_claim c =
       wrong = c.in_err-check_claim.ensures (derived_trip line script claims i)
           (tree_pairs line script gates claims c.args.waves.now c.trip_gate.result.0
           (trip_tree line i) c.nth-trip.result.now are c.trip_gate.ensures.exists
-          (ap (formula_of gates) c.trip_gate.ensures.is ∙ c.requires.of_line.trips i there)
+          (ap (formula_of gates) c.trip_gate.ensures.is ∙ c.args.compiled.now.of_line.trips i there)
           c.nth-trip.ensures);
     })
 

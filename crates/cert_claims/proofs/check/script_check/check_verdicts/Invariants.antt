@@ -8,6 +8,8 @@ use Rattle.cert_claims.proofs.check.script_check.check_verdicts.Given as goal
 
 abbrev pub invariant-loop-i : goal.invariant-loop-i
 invariant-loop-i l =
-    (claims : PairSignals) → AreGateWaves l.line l.script l.net.gates claims l.waves
+    (claims : PairSignals) → AreGateWaves l.compiled.line.now l.script l.compiled.net.now.gates
+    claims l.waves
     → (k : ℕ) (verdict : Verdict) → k < l.i → slice_get (map verdict_in l.verdicts) k ≡ Some verdict
-    → IsSupported l.line l.script k (derived_trip l.line l.script claims k) verdict
+    → IsSupported l.compiled.line.now l.script k
+    (derived_trip l.compiled.line.now l.script claims k) verdict

@@ -7,13 +7,12 @@ use Rattle.cert_claims.proofs.check.whole.check.Goals as goal
 
 pub check_scripts-requires : goal.check_scripts-requires
 check_scripts-requires c =
-    let line = c.args.line.now in
+    let line = c.args.compiled.now.line.now in
     let claims : List ScriptClaims = c.as_slice.result.now in
     let P : List ScriptClaims → Type 0 = λ l.
     IsCertificate line c.args.scripts.now (map claims_in l) c.args.cert.now in
     let is : P claims = subst P (sym c.as_slice.ensures.value) c.in-Ok.ensures in
     record {
-      of_line = c.requires.of_line;
       fits = c.requires.fits;
       few = c.requires.few;
       many = sym (length-map claims (λ x. claims_in x)) ∙ is.many;
@@ -23,7 +22,7 @@ check_scripts-requires c =
 
 pub returns-in-Ok : goal.returns-in-Ok
 returns-in-Ok c =
-    let line = c.args.line.now in
+    let line = c.args.compiled.now.line.now in
     let scripts = c.args.scripts.now in
     let bytes = c.args.cert.now in
     let claims : List ScriptClaims = c.as_slice.result.now in

@@ -14,17 +14,16 @@ check_claims-requires c =
     let i : ℕ = c.loop-i.i in
     let inside : i < length scripts = omega (arith, c.loop-i-test.true) in
     record {
-      of_line = c.requires.of_line;
-      fits = subst (Fits c.args.line.now) (sym c.index-scripts-i.is)
+      fits = subst (Fits c.args.compiled.now.line.now) (sym c.index-scripts-i.is)
           (c.requires.fits i c.index-scripts-i.result inside);
       written = each_mapped (λ x. claims_in x) claims i c.index-claims-i.result
           (omega (arith, inside, c.requires.many)) c.index-claims-i.is
-          (CanBeWritten c.args.line.now) c.requires.written;
+          (CanBeWritten c.args.compiled.now.line.now) c.requires.written;
     }
 
 pub loop-i-preserved : goal.loop-i-preserved
 loop-i-preserved c =
-    let line = c.args.line.now in
+    let line = c.args.compiled.now.line.now in
     let scripts : List Script = c.args.scripts.now in
     let claims : List ScriptClaims = c.args.claims.now in
     let i : ℕ = c.loop-i.i in
@@ -41,7 +40,7 @@ loop-i-preserved c =
 
 pub returns-in-Err : goal.returns-in-Err
 returns-in-Err c =
-    let line = c.args.line.now in
+    let line = c.args.compiled.now.line.now in
     let scripts : List Script = c.args.scripts.now in
     let claims : List ScriptClaims = c.args.claims.now in
     let i : ℕ = c.loop-i.i in
@@ -67,7 +66,11 @@ returns-in-Err c =
 pub counts_of-requires : goal.counts_of-requires
 counts_of-requires c = record {
   few = omega (arith, c.requires.few, c.requires.many);
-  each = λ k d lt. omega (arith, (c.requires.written k d lt).each.verdicts, c.args.line.now.two_or_three.1);
+  each = λ k d lt. omega (
+    arith,
+    (c.requires.written k d lt).each.verdicts,
+    c.args.compiled.now.line.now.two_or_three.1,
+  );
 }
 
 pub returns : goal.returns

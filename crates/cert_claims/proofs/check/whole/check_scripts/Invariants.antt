@@ -5,6 +5,6 @@ use Rattle.cert_claims.proofs.check.whole.check_scripts.Given as goal
 
 abbrev pub invariant-loop-i : goal.invariant-loop-i
 invariant-loop-i l = record {
-  accepted : EachBelow (AreAccepted l.line) l.scripts (map claims_in l.claims) l.i;
-  sound : EachBelow (AreSound l.line) l.scripts (map claims_in l.claims) l.i;
+  accepted : EachBelow (AreAccepted l.compiled.line.now) l.scripts (map claims_in l.claims) l.i;
+  sound : EachBelow (AreSound l.compiled.line.now) l.scripts (map claims_in l.claims) l.i;
 }

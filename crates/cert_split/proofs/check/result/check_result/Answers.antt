@@ -7,7 +7,7 @@ use Rattle.cert_split.proofs.check.result.check_result.Goals as goal
 
 pub returns-in-Tree : goal.returns-in-Tree
 returns-in-Tree c =
-    let line = c.args.line.now in
+    let line = c.args.compiled.now.line.now in
     let script = c.args.script.now in
     let k : ℕ = c.args.terminal in
     subst (λ (x : SplitClaim). MatchResult c.check_tree.result

@@ -7,11 +7,11 @@ use Rattle.cert_split.proofs.{check_lemmas.ResultLaws.tree_few, check_lemmas.Res
 use Rattle.cert_split.proofs.check.result.check_tree.Goals as goal
 
 pub walk-requires-clause-few : goal.walk-requires-clause-few
-walk-requires-clause-few c = tree_few c.args.line.now c.args.nodes.now c.requires.tree
+walk-requires-clause-few c = tree_few c.args.compiled.now.line.now c.args.nodes.now c.requires.tree
 
 pub walk-requires-clause-tree : goal.walk-requires-clause-tree
 walk-requires-clause-tree c =
-    let line = c.args.line.now in
+    let line = c.args.compiled.now.line.now in
     let r = c.requires.tree in
     record {
       line = line;
@@ -26,7 +26,7 @@ walk-requires-clause-tree c =
 pub returns-in_err-walk : goal.returns-in_err-walk
 returns-in_err-walk c =
     let p = err_from_is_err_and c.from_residual.result c.from_residual.ensures.1 in
-    let line = c.args.line.now in
+    let line = c.args.compiled.now.line.now in
     let r = c.requires.tree in
     rw (p.1, p.2) (whole_fault line c.args.script.now c.args.terminal c.args.nodes.now r.tree
     c.in_err-walk.field-0.0 r.are
@@ -36,7 +36,7 @@ returns-in_err-walk c =
 
 pub returns : goal.returns
 returns c =
-    let line = c.args.line.now in
+    let line = c.args.compiled.now.line.now in
     let r = c.requires.tree in
     record {
       tree = r.tree;

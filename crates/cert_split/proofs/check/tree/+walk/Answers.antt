@@ -40,9 +40,9 @@ returns-in_err-check_leaf-in-Yes t c =
     rw (p.1, p.2) (λ line box tree after is_part splits are.
     let script = c.args.script.now in
     let k : ℕ = c.args.terminal in
-    fault_leaf line script k c.args.part.now tree box c.args.passed.leaves
+    fault_leaf line script k c.args.part.now.line.now tree box c.args.passed.leaves
     c.in_err-check_leaf-in-Yes.field-0.0
-    (c.a_part_stands_for_its_box.ensures.held line c.args.part.now box script k is_part).1
+    (c.a_part_stands_for_its_box.ensures.held line c.args.part.now.line.now box script k is_part).1
     (root_at tree after c.args.nodes.now c.args.passed.nodes node.Yes node.Yes are c.in-Yes.is)
     c.in_err-check_leaf-in-Yes.ensures)
 
@@ -52,7 +52,7 @@ returns-in_ok-check_leaf-in-Yes t c = λ line box tree after is_part splits are.
     let k : ℕ = c.args.terminal in
     walked_yes line script k tree box c.args.passed c.after_leaf.result
     (root_at tree after c.args.nodes.now c.args.passed.nodes node.Yes node.Yes are c.in-Yes.is)
-    ((c.a_part_stands_for_its_box.ensures.held line c.args.part.now box script k is_part).0
+    ((c.a_part_stands_for_its_box.ensures.held line c.args.part.now.line.now box script k is_part).0
     c.in_ok-check_leaf-in-Yes.ensures)
     c.after_leaf.ensures.nodes c.after_leaf.ensures.leaves
 
@@ -72,48 +72,50 @@ lower_part-requires t c =
     let here = split_next r.line r.box r.tree r.after c.args.nodes.now c.args.passed.nodes
     c.in-Split.param c.in-Split.mid r.splits r.are
     (root_at r.tree r.after c.args.nodes.now c.args.passed.nodes node.Yes _ r.are c.in-Split.is) in
-    (c.a_part_stands_for_its_box.ensures.split r.line c.args.part.now r.box c.in-Split.param
+    (c.a_part_stands_for_its_box.ensures.split r.line c.args.part.now.line.now r.box
+    c.in-Split.param
     c.in-Split.mid r.is_part).1 here.can
 
 pub walk-requires : goal.walk-requires
 walk-requires t c =
     let r = c.requires.tree in
-    let part = c.args.part.now in
+    let part = c.args.part.now.line.now in
     let nodes : List Node = c.args.nodes.now in
-    let lower = c.in_ok-lower-in-Split.lower in
+    let lower = c.in_ok-lower_line-in-Split.lower_line in
     let inside = within r.tree r.after nodes c.args.passed.nodes r.are in
     let here = split_next r.line r.box r.tree r.after nodes c.args.passed.nodes c.in-Split.param
     c.in-Split.mid r.splits r.are
     (root_at r.tree r.after nodes c.args.passed.nodes node.Yes _ r.are c.in-Split.is) in
-    let half = c.in_ok-lower-in-Split.ensures.part part (declared_box part)
+    let half = c.in_ok-lower_line-in-Split.ensures.part part (declared_box part)
     (c.a_part_stands_for_its_box.ensures.own part part (same_line part)) in (
       omega (arith, inside, c.after_split.ensures.nodes, c.decreases),
       (
-        c.nets_do_not_rest_on_the_intervals.ensures part lower c.args.net.now half.rest
-            c.requires.of_part,
+        c.scripts_fit_whatever_the_intervals.ensures part lower c.args.script.now half.rest
+            c.requires.fits,
         (
-          c.scripts_fit_whatever_the_intervals.ensures part lower c.args.script.now half.rest
-              c.requires.fits,
+          subst (λ (n : ℕ). c.args.terminal < n)
+              (sym (c.counts_do_not_rest_on_the_intervals.ensures.terminals part lower half.rest))
+              c.requires.terminal,
           (
-            subst (λ (n : ℕ). c.args.terminal < n)
-                (sym (c.counts_do_not_rest_on_the_intervals.ensures.terminals part lower half.rest))
-                c.requires.terminal,
+            c.requires.few,
             (
-              c.requires.few,
-              (
-                omega (arith, c.after_split.ensures.nodes, c.after_split.ensures.leaves, c.requires.leaves),
-                record {
-                  line = r.line;
-                  box = lower_half r.box c.in-Split.param c.in-Split.mid;
-                  is_part = c.in_ok-lower-in-Split.ensures.part r.line r.box r.is_part;
-                  tree = here.first;
-                  after = preorder here.second ++ r.after;
-                  are = subst (λ (n : ℕ).
-                      drop n nodes ≡ preorder here.first ++ (preorder here.second ++ r.after))
-                      (sym c.after_split.ensures.nodes) here.first_next;
-                  splits = here.lower;
-                },
+              omega (
+                arith,
+                c.after_split.ensures.nodes,
+                c.after_split.ensures.leaves,
+                c.requires.leaves,
               ),
+              record {
+                line = r.line;
+                box = lower_half r.box c.in-Split.param c.in-Split.mid;
+                is_part = c.in_ok-lower_line-in-Split.ensures.part r.line r.box r.is_part;
+                tree = here.first;
+                after = preorder here.second ++ r.after;
+                are = subst (λ (n : ℕ).
+                    drop n nodes ≡ preorder here.first ++ (preorder here.second ++ r.after))
+                    (sym c.after_split.ensures.nodes) here.first_next;
+                splits = here.lower;
+              },
             ),
           ),
         ),
@@ -134,7 +136,8 @@ returns-in_err-between-in-Split t c =
     let here = split_next line box tree after nodes c.args.passed.nodes param mid splits are
     (root_at tree after nodes c.args.passed.nodes node.Yes _ are c.in-Split.is) in
     let found = c.in_err-between-in-Split.ensures line (lower_half box param mid) here.first
-    (preorder here.second ++ after) (c.in_ok-lower-in-Split.ensures.part line box is_part) here.lower
+    (preorder here.second ++ after) (c.in_ok-lower_line-in-Split.ensures.part line box is_part)
+    here.lower
     (subst (λ (n : ℕ). drop n nodes ≡ preorder here.first ++ (preorder here.second ++ after))
     (sym c.after_split.ensures.nodes) here.first_next) in
     subst (λ (x : SplitTree). IsWalkFault line script k box x c.args.passed.leaves fault)
@@ -149,25 +152,26 @@ upper_part-requires t c =
     let here = split_next r.line r.box r.tree r.after c.args.nodes.now c.args.passed.nodes
     c.in-Split.param c.in-Split.mid r.splits r.are
     (root_at r.tree r.after c.args.nodes.now c.args.passed.nodes node.Yes _ r.are c.in-Split.is) in
-    (c.a_part_stands_for_its_box.ensures.split r.line c.args.part.now r.box c.in-Split.param
+    (c.a_part_stands_for_its_box.ensures.split r.line c.args.part.now.line.now r.box
+    c.in-Split.param
     c.in-Split.mid r.is_part).1 here.can
 
 pub walk-requires-in-Split : goal.walk-requires-in-Split
 walk-requires-in-Split t c =
     let r = c.requires.tree in
-    let part = c.args.part.now in
+    let part = c.args.part.now.line.now in
     let nodes : List Node = c.args.nodes.now in
-    let upper = c.in_ok-upper-in-Split.upper in
+    let upper = c.in_ok-upper_line-in-Split.upper_line in
     let between : Passed = c.in_ok-between-in-Split.between in
     let inside = within r.tree r.after nodes c.args.passed.nodes r.are in
     let here = split_next r.line r.box r.tree r.after nodes c.args.passed.nodes c.in-Split.param
     c.in-Split.mid r.splits r.are
     (root_at r.tree r.after nodes c.args.passed.nodes node.Yes _ r.are c.in-Split.is) in
-    let half = c.in_ok-upper-in-Split.ensures.part part (declared_box part)
+    let half = c.in_ok-upper_line-in-Split.ensures.part part (declared_box part)
     (c.a_part_stands_for_its_box.ensures.own part part (same_line part)) in
     let walked = c.in_ok-between-in-Split.ensures r.line
     (lower_half r.box c.in-Split.param c.in-Split.mid) here.first (preorder here.second ++ r.after)
-    (c.in_ok-lower-in-Split.ensures.part r.line r.box r.is_part) here.lower
+    (c.in_ok-lower_line-in-Split.ensures.part r.line r.box r.is_part) here.lower
     (subst (λ (n : ℕ). drop n nodes ≡ preorder here.first ++ (preorder here.second ++ r.after))
     (sym c.after_split.ensures.nodes) here.first_next) in
     let few = few_leaves here.first (lower_half r.box c.in-Split.param c.in-Split.mid) in
@@ -175,46 +179,42 @@ walk-requires-in-Split t c =
     omega (arith, walked.nodes, c.after_split.ensures.nodes) in (
       omega (arith, inside, past, c.decreases),
       (
-        c.nets_do_not_rest_on_the_intervals.ensures part upper c.args.net.now half.rest
-            c.requires.of_part,
+        c.scripts_fit_whatever_the_intervals.ensures part upper c.args.script.now half.rest
+            c.requires.fits,
         (
-          c.scripts_fit_whatever_the_intervals.ensures part upper c.args.script.now half.rest
-              c.requires.fits,
+          subst (λ (n : ℕ). c.args.terminal < n)
+              (sym (c.counts_do_not_rest_on_the_intervals.ensures.terminals part upper half.rest))
+              c.requires.terminal,
           (
-            subst (λ (n : ℕ). c.args.terminal < n)
-                (sym (c.counts_do_not_rest_on_the_intervals.ensures.terminals part upper half.rest))
-                c.requires.terminal,
+            c.requires.few,
             (
-              c.requires.few,
-              (
-                omega (
-                  arith,
-                  walked.nodes,
-                  walked.leaves,
-                  few.1,
-                  c.after_split.ensures.nodes,
-                  c.after_split.ensures.leaves,
-                  c.requires.leaves,
-                ),
-                record {
-                  line = r.line;
-                  box = upper_half r.box c.in-Split.param c.in-Split.mid;
-                  is_part = c.in_ok-upper-in-Split.ensures.part r.line r.box r.is_part;
-                  tree = here.second;
-                  after = r.after;
-                  are = subst (λ (n : ℕ). drop n nodes ≡ preorder here.second ++ r.after) past
-                      here.second_next;
-                  splits = here.upper;
-                },
+              omega (
+                arith,
+                walked.nodes,
+                walked.leaves,
+                few.1,
+                c.after_split.ensures.nodes,
+                c.after_split.ensures.leaves,
+                c.requires.leaves,
               ),
+              record {
+                line = r.line;
+                box = upper_half r.box c.in-Split.param c.in-Split.mid;
+                is_part = c.in_ok-upper_line-in-Split.ensures.part r.line r.box r.is_part;
+                tree = here.second;
+                after = r.after;
+                are = subst (λ (n : ℕ). drop n nodes ≡ preorder here.second ++ r.after) past
+                    here.second_next;
+                splits = here.upper;
+              },
             ),
           ),
         ),
       ),
     )
 
-pub returns-in_ok-upper-in-Split : goal.returns-in_ok-upper-in-Split
-returns-in_ok-upper-in-Split t c = λ line box tree after is_part splits are.
+pub returns-in_ok-upper_line-in-Split : goal.returns-in_ok-upper_line-in-Split
+returns-in_ok-upper_line-in-Split t c = λ line box tree after is_part splits are.
     let script = c.args.script.now in
     let k : ℕ = c.args.terminal in
     let nodes : List Node = c.args.nodes.now in
@@ -225,13 +225,14 @@ returns-in_ok-upper-in-Split t c = λ line box tree after is_part splits are.
     let here = split_next line box tree after nodes c.args.passed.nodes param mid splits are
     (root_at tree after nodes c.args.passed.nodes node.Yes _ are c.in-Split.is) in
     let lower = c.in_ok-between-in-Split.ensures line (lower_half box param mid) here.first
-    (preorder here.second ++ after) (c.in_ok-lower-in-Split.ensures.part line box is_part) here.lower
+    (preorder here.second ++ after) (c.in_ok-lower_line-in-Split.ensures.part line box is_part)
+    here.lower
     (subst (λ (n : ℕ). drop n nodes ≡ preorder here.first ++ (preorder here.second ++ after))
     (sym c.after_split.ensures.nodes) here.first_next) in
     let past : (c.args.passed.nodes + 1) + length (preorder here.first) ≡ between.nodes =
     omega (arith, lower.nodes, c.after_split.ensures.nodes) in
     let upper = c.walk-in-Split.ensures line (upper_half box param mid) here.second after
-    (c.in_ok-upper-in-Split.ensures.part line box is_part) here.upper
+    (c.in_ok-upper_line-in-Split.ensures.part line box is_part) here.upper
     (subst (λ (n : ℕ). drop n nodes ≡ preorder here.second ++ after) past here.second_next) in
     MatchResult-weaker c.walk-in-Split.result upper
     (λ walked above.

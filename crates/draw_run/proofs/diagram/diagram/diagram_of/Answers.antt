@@ -8,8 +8,8 @@ use Rattle.draw_run.proofs.diagram.diagram.diagram_of.Goals as goal
 
 pub shown_window-window-requires-clause-changes : goal.shown_window-window-requires-clause-changes
 shown_window-window-requires-clause-changes g c =
-    let line = c.args.line.now in
-    let horizon = c.args.line.now.horizon in
+    let line = c.args.compiled.now.line.now in
+    let horizon = c.args.compiled.now.line.now.horizon in
     let script = c.args.script.now in
     let pairs = g.H.Shown.pairs c.args.shown.now in
     subst (λ (rows : List Row). All (ChangesBelow horizon) rows) (sym c.as_slice.ensures.value)

@@ -16,12 +16,13 @@ more (Err e) P Q f h = h
 
 pub run-requires-clause-delayed : goal.run-requires-clause-delayed
 run-requires-clause-delayed c =
-    spans_delayed c.args.line.now c.deref.result.now (c.deref.ensures.value ∙ c.in_ok-spans.ensures)
-    (c.each_line_has_a_choice_inside.ensures.declared c.args.line.now)
+    spans_delayed c.args.compiled.now.line.now c.deref.result.now
+    (c.deref.ensures.value ∙ c.in_ok-spans.ensures)
+    (c.each_line_has_a_choice_inside.ensures.declared c.args.compiled.now.line.now)
 
 pub returns-clause-history : goal.returns-clause-history
 returns-clause-history c =
-    let line = c.args.line.now in
+    let line = c.args.compiled.now.line.now in
     let script = c.args.script.now in
     let spans : c.deref.result.now ≡ declared_spans line =
     c.deref.ensures.value ∙ c.in_ok-spans.ensures in
@@ -33,9 +34,9 @@ returns-clause-history c =
 
 pub returns-clause-gates : goal.returns-clause-gates
 returns-clause-gates c =
-    let line = c.args.line.now in
+    let line = c.args.compiled.now.line.now in
     let script = c.args.script.now in
-    let net = c.args.net.now in
+    let net = c.args.compiled.now.net.now in
     let spans : c.deref.result.now ≡ declared_spans line =
     c.deref.ensures.value ∙ c.in_ok-spans.ensures in
     more c.run.result _ _

@@ -7,4 +7,4 @@ abbrev pub invariant-loop-role : goal.invariant-loop-role
 invariant-loop-role l =
     l.all.items
     ≡ l.initial.all.items
-    ++ flat_map (logic_of l.line l.net.gates) (take l.role-index l.roles)
+    ++ flat_map (logic_of l.compiled.line.now l.compiled.net.now.gates) (take l.role-index l.roles)

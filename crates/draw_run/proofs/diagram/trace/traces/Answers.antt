@@ -7,8 +7,8 @@ use Rattle.draw_run.proofs.diagram.trace.traces.Goals as goal
 
 pub returns-clause-of_line : goal.returns-clause-of_line
 returns-clause-of_line c =
-    let line = c.args.line.now in
-    let gates = c.args.net.now.gates in
+    let line = c.args.compiled.now.line.now in
+    let gates = c.args.compiled.now.net.now.gates in
     let count : c.loop-k.k ≡ terminal_count line =
     omega (arith, c.len-k-end.ensures, c.loop-k-test.false, c.loop-k.auto.k-end) in
     subst (All (IsTraceOf line (length gates)))

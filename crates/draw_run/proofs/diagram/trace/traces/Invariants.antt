@@ -3,4 +3,5 @@ use Rattle.draw_run.specs.diagram.Traces.{traces_at, each_of}
 use Rattle.draw_run.proofs.diagram.trace.traces.Given as goal
 
 abbrev pub invariant-loop-k : goal.invariant-loop-k
-invariant-loop-k l = l.all.items ≡ each_of l.k (traces_at l.line l.net.gates)
+invariant-loop-k l = l.all.items
+    ≡ each_of l.k (traces_at l.compiled.line.now l.compiled.net.now.gates)

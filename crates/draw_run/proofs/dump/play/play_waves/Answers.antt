@@ -27,7 +27,7 @@ run-requires-clause-ascending c =
 
 pub run-requires-clause-delayed : goal.run-requires-clause-delayed
 run-requires-clause-delayed c =
-    let line : Line = c.args.line.now in
+    let line : Line = c.args.compiled.now.line.now in
     let timing : TimingValues = c.args.timing.now.timing in
     of_lists (λ v s. AreDelayed 1 ends_of_tick line v s) c.values-values.result.now
     c.steps-steps.result.now timing c.values-values.ensures c.steps-steps.ensures.same
@@ -35,7 +35,7 @@ run-requires-clause-delayed c =
 
 pub returns-clause-played : goal.returns-clause-played
 returns-clause-played c =
-    let line : Line = c.args.line.now in
+    let line : Line = c.args.compiled.now.line.now in
     let timing : TimingValues = c.args.timing.now.timing in
     let choice : Choice = timing_choice line timing in
     let point = of_lists
@@ -51,7 +51,7 @@ returns-clause-played c =
 
 pub returns-clause-gates : goal.returns-clause-gates
 returns-clause-gates c =
-    let line : Line = c.args.line.now in
+    let line : Line = c.args.compiled.now.line.now in
     let timing : TimingValues = c.args.timing.now.timing in
     let choice : Choice = timing_choice line timing in
     let box = lane_box ends_of_tick line c.values-values.result.now c.steps-steps.result.now 0 in
@@ -61,6 +61,6 @@ returns-clause-gates c =
     (c.a_timing_is_one_choice.ensures.point line timing 0 c.requires.inside) in
     if_ok_more c.run.result _ _
     (λ waves covers h is_h gate t lt early.
-    levels_are line c.args.script.now box choice c.args.net.now waves point
+    levels_are line c.args.script.now box choice c.args.compiled.now.net.now waves point
     (covers 0 (omega arith)) h is_h gate t lt early)
     c.run.ensures.covers

@@ -7,4 +7,6 @@ use Rattle.draw_run.proofs.dump.variables.is_named.Given as goal
 abbrev pub invariant-loop-k : goal.invariant-loop-k
 invariant-loop-k l =
     l.named
-    ≡ some_below (λ k. is_some (role_among l.line l.net.gates l.i (roles_at l.line k))) l.k
+    ≡ some_below (λ k. is_some
+    (role_among l.compiled.line.now l.compiled.net.now.gates l.i (roles_at l.compiled.line.now k)))
+    l.k

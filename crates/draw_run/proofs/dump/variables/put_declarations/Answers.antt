@@ -9,8 +9,8 @@ use Rattle.draw_run.proofs.dump.variables.put_declarations.Goals as goal
 pub returns : goal.returns
 unfolding declarations
 returns c =
-    let line = c.args.line.now in
-    let net = c.args.net.now in
+    let line = c.args.compiled.now.line.now in
+    let net = c.args.compiled.now.net.now in
     let old : List ℕ = c.args.text.now.items in
     let terminals : List ℕ = each_below (terminal_count line) (terminal_scope line net) in
     let scope : List ℕ = scope_text (codes "gates$") in

@@ -5,4 +5,5 @@ use Rattle.draw_run.proofs.dump.variables.put_steps.Given as goal
 
 abbrev pub invariant-loop-i : goal.invariant-loop-i
 invariant-loop-i l =
-    l.text.items ≡ l.initial.text.items ++ each_below l.i (variable_of l.line l.net.gates)
+    l.text.items ≡ l.initial.text.items
+    ++ each_below l.i (variable_of l.compiled.line.now l.compiled.net.now.gates)

@@ -11,8 +11,8 @@ use Rattle.draw_run.proofs.dump.variables.put_terminal.Goals as goal
 pub returns : goal.returns
 unfolding terminal_scope
 returns c =
-    let line = c.args.line.now in
-    let net = c.args.net.now in
+    let line = c.args.compiled.now.line.now in
+    let net = c.args.compiled.now.net.now in
     let k = c.args.k in
     let old : List ℕ = c.args.text.now.items in
     let name : List ℕ = name_at line.terminals.items k in

@@ -5,4 +5,5 @@ use Rattle.draw_run.proofs.dump.variables.put_terminals.Given as goal
 
 abbrev pub invariant-loop-k : goal.invariant-loop-k
 invariant-loop-k l =
-    l.text.items ≡ l.initial.text.items ++ each_below l.k (terminal_scope l.line l.net)
+    l.text.items ≡ l.initial.text.items
+    ++ each_below l.k (terminal_scope l.compiled.line.now l.compiled.net.now)

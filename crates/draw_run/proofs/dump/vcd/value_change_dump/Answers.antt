@@ -11,8 +11,8 @@ more mid new a b first second = second ∙ ap (λ (l : List ℕ). l ++ b) first
 pub returns : goal.returns
 unfolding dump_text
 returns c =
-    let line = c.args.line.now in
-    let net = c.args.net.now in
+    let line = c.args.compiled.now.line.now in
+    let net = c.args.compiled.now.net.now in
     let levels = is_on c.args.waves.now in
     let a1 : List ℕ = codes "$comment timing " in
     let a2 : List ℕ = a1 ++ c.args.timing in

@@ -8,9 +8,9 @@ use Rattle.draw_run.proofs.dump.vcd.vcd_text.Goals as goal
 
 pub returns : goal.returns
 returns c =
-    let line = c.args.line.now in
+    let line = c.args.compiled.now.line.now in
     let script = c.args.script.now in
-    let net = c.args.net.now in
+    let net = c.args.compiled.now.net.now in
     let choice : Choice = timing_choice line c.args.timing.now.timing in
     if_ok_more c.value_change_dump.result _ _
     (λ text is h is_h.

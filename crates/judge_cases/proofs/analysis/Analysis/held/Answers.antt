@@ -21,11 +21,12 @@ returns-in-Internal c = λ views is. record {
       let inside : lane < 64 = omega arith in
       let next : script.deadline + 1 ≡ suc script.deadline = omega arith in
       let u : ℕ → Rails = λ t. wave_pair terns_rails lane a.waves gate t in
-      held_told c.line_laws.ensures c.args.line.now c.args.net.now c.requires.of_line script
+      held_told c.line_laws.ensures c.args.compiled.now.line.now c.args.compiled.now.net.now
+      c.args.compiled.now.of_line script
       c.args.terminal c.requires.terminal c.requires.deadline views a is gate
       c.trip_gate-trip.ensures.is lane view w at history (bit_on c.some_of.result.must lane)
       (c.some_of.ensures.must lane inside ∙ ap (some_below (λ t. (u t).must)) next
-      ∙ ap (λ (kind : Kind). is_held kind script.deadline c.args.line.now.horizon u)
+      ∙ ap (λ (kind : Kind). is_held kind script.deadline c.args.compiled.now.line.now.horizon u)
       (sym c.in-Internal.is));
 }
 
@@ -39,11 +40,12 @@ returns-in-External c = λ views is. record {
       let few : length views ≤ 64 = is.few in
       let inside : lane < 64 = omega arith in
       let u : ℕ → Rails = λ t. wave_pair terns_rails lane a.waves gate t in
-      held_told c.line_laws.ensures c.args.line.now c.args.net.now c.requires.of_line script
+      held_told c.line_laws.ensures c.args.compiled.now.line.now c.args.compiled.now.net.now
+      c.args.compiled.now.of_line script
       c.args.terminal c.requires.terminal c.requires.deadline views a is gate
       c.trip_gate-trip.ensures.is lane view w at history (bit_on c.not.result lane)
       (ap must_of (c.not.ensures lane inside) ∙ ap not (c.possible.ensures lane inside)
       ∙ ap not (c.some_of-in-External.ensures.may lane inside)
-      ∙ ap (λ (kind : Kind). is_held kind script.deadline c.args.line.now.horizon u)
+      ∙ ap (λ (kind : Kind). is_held kind script.deadline c.args.compiled.now.line.now.horizon u)
       (sym c.in-External.is));
 }

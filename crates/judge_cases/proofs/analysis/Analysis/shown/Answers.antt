@@ -12,7 +12,7 @@ use Rattle.judge_cases.proofs.analysis.Analysis.shown.Goals as goal
 pub returns : goal.returns
 returns c = λ views are is. record {
   each = λ lane view at.
-      let line = c.args.line.now in
+      let line = c.args.compiled.now.line.now in
       let script = c.args.script.now in
       let k = c.args.terminal in
       let within : lane < length views = slice_get_within views lane view at in

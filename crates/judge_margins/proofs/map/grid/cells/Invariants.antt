@@ -5,7 +5,7 @@ use Rattle.judge_margins.proofs.map.grid.cells.Given as goal
 abbrev pub invariant-next_block : goal.invariant-next_block
 invariant-next_block l = record {
   within : length l.cells.items ≤ cell_count l.axes;
-  cells : AreCellsBelow l.line l.scripts l.axes (length l.cells.items) l.cells.items;
+  cells : AreCellsBelow l.compiled.line.now l.scripts l.axes (length l.cells.items) l.cells.items;
 }
 
 abbrev pub decreases-next_block : goal.decreases-next_block

@@ -9,7 +9,7 @@ use Rattle.judge_margins.proofs.map.grid.next_cells.Goals as goal
 
 pub loop-lane-preserved : goal.loop-lane-preserved
 loop-lane-preserved c =
-    let line = c.args.line.now in
+    let line = c.args.compiled.now.line.now in
     let scripts = c.args.scripts.now in
     let axes = c.args.axes.now in
     let first : ℕ = c.len-first.result in

@@ -15,7 +15,7 @@ use Rattle.judge_margins.proofs.map.grid.rule_script.Goals as goal
 
 pub loop-k-preserved : goal.loop-k-preserved
 loop-k-preserved c =
-    let line = c.args.line.now in
+    let line = c.args.compiled.now.line.now in
     let scripts = c.args.scripts.now in
     let script = c.index-scripts-s.result in
     let k : ℕ = c.loop-k.k in
@@ -24,8 +24,8 @@ loop-k-preserved c =
     let kn : k < terminal_count line = omega (arith, c.loop-k-test.true, c.len-k-end.ensures) in
     let at : slice_get trips k ≡ Some c.index.result.now =
     slice_get_read trips (terminal_count line) k c.index.result.now
-    (sym (c.in_ok-tracks.ensures.trips.count ∙ c.requires.of_line.laws.same
-    ∙ c.requires.of_line.terminals)) kn c.index.ensures in
+    (sym (c.in_ok-tracks.ensures.trips.count ∙ c.args.compiled.now.of_line.laws.same
+    ∙ c.args.compiled.now.of_line.terminals)) kn c.index.ensures in
     ruled_more line scripts (lane_box span_ends line c.args.spans.now []) c.args.s k script
     c.loop-k.ruled.items c.push.new.self.items (record { kind = script.kind; tripped = c.tripped_in-tripped.result })
     (slice_get_read scripts (length scripts) c.args.s script refl c.requires.script c.index-scripts-s.is)
@@ -50,9 +50,6 @@ bounds-scripts-s c = c.requires.script
 pub offset_bounds-scripts-s : goal.offset_bounds-scripts-s
 offset_bounds-scripts-s c = omega (arith, c.requires.script)
 
-pub run_tracks-requires-clause-of_line : goal.run_tracks-requires-clause-of_line
-run_tracks-requires-clause-of_line c = c.requires.of_line
-
 pub run_tracks-requires-clause-spans : goal.run_tracks-requires-clause-spans
 run_tracks-requires-clause-spans c = c.requires.spans
 
@@ -64,7 +61,7 @@ run_tracks-requires-clause-delayed c = c.requires.delayed
 
 pub ticks_of-ticks-requires : goal.ticks_of-ticks-requires
 ticks_of-ticks-requires c =
-    let fits = Fits c.args.line.now in
+    let fits = Fits c.args.compiled.now.line.now in
     subst fits (sym c.index-scripts-s.is)
     (All-get_or fits c.args.scripts.now c.args.s _ c.requires.script c.requires.fit)
 
@@ -75,8 +72,8 @@ index-requires c =
       c.loop-k-test.true,
       c.len-k-end.ensures,
       c.in_ok-tracks.ensures.trips.count,
-      c.requires.of_line.laws.same,
-      c.requires.of_line.terminals,
+      c.args.compiled.now.of_line.laws.same,
+      c.args.compiled.now.of_line.terminals,
       c.in_ok-tracks.tracks.trips.ok.0,
     )
 
@@ -84,17 +81,17 @@ pub tripped_in-tripped-requires : goal.tripped_in-tripped-requires
 tripped_in-tripped-requires c =
     let k : ℕ = c.loop-k.k in
     let trips = c.in_ok-tracks.tracks.trips.items in
-    let kn : k < terminal_count c.args.line.now =
+    let kn : k < terminal_count c.args.compiled.now.line.now =
     omega (arith, c.loop-k-test.true, c.len-k-end.ensures) in
     let keys = c.in_ok-tracks.ensures.trips.each k c.index.result.now
-    (slice_get_read trips (terminal_count c.args.line.now) k c.index.result.now
-    (sym (c.in_ok-tracks.ensures.trips.count ∙ c.requires.of_line.laws.same
-    ∙ c.requires.of_line.terminals)) kn c.index.ensures) in
+    (slice_get_read trips (terminal_count c.args.compiled.now.line.now) k c.index.result.now
+    (sym (c.in_ok-tracks.ensures.trips.count ∙ c.args.compiled.now.of_line.laws.same
+    ∙ c.args.compiled.now.of_line.terminals)) kn c.index.ensures) in
     omega (arith, keys.0, c.ticks_of-ticks.ensures.within)
 
 pub loop-k-init : goal.loop-k-init
 loop-k-init c =
-    let line = c.args.line.now in
+    let line = c.args.compiled.now.line.now in
     let n : ℕ = c.args.s * terminal_count line in
     let none : n ≡ n + 0 = omega arith in
     subst (λ (m : ℕ). AreRuled line c.args.scripts.now
@@ -102,7 +99,7 @@ loop-k-init c =
 
 pub returns : goal.returns
 returns c =
-    let line = c.args.line.now in
+    let line = c.args.compiled.now.line.now in
     let n : ℕ = terminal_count line in
     let last : c.loop-k.k ≡ n = omega (arith, c.len-k-end.ensures) in
     let all : c.args.s * n + c.loop-k.k ≡ (c.args.s + 1) * n = omega (arith, last) in

@@ -7,5 +7,5 @@ use Rattle.judge_margins.proofs.map.grid.rule_script.Given as goal
 
 abbrev pub invariant-loop-k : goal.invariant-loop-k
 invariant-loop-k l =
-    AreRuled l.line l.scripts (lane_box span_ends l.line l.spans [])
-    (l.s * terminal_count l.line + l.k) l.ruled.items
+    AreRuled l.compiled.line.now l.scripts (lane_box span_ends l.compiled.line.now l.spans [])
+    (l.s * terminal_count l.compiled.line.now + l.k) l.ruled.items

@@ -8,7 +8,7 @@ use Rattle.judge_margins.proofs.map.grid.ruled_block.Goals as goal
 
 pub rule_script-requires-clause-delayed : goal.rule_script-requires-clause-delayed
 rule_script-requires-clause-delayed c =
-    let line = c.args.line.now in
+    let line = c.args.compiled.now.line.now in
     let spans = c.in_ok-spans.spans.items in
     subst (λ (l : List SpanLists). AreDelayed 64 span_ends line l []) (sym c.deref.ensures.value)
     (cells_delayed c.laws_below.ensures line c.args.axes.now c.args.first spans c.in_ok-spans.ensures
@@ -16,7 +16,7 @@ rule_script-requires-clause-delayed c =
 
 pub returns : goal.returns
 returns c =
-    let line = c.args.line.now in
+    let line = c.args.compiled.now.line.now in
     let scripts = c.args.scripts.now in
     let axes = c.args.axes.now in
     let spans = c.in_ok-spans.spans.items in

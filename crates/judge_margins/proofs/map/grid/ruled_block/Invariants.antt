@@ -7,5 +7,5 @@ use Rattle.judge_margins.proofs.map.grid.ruled_block.Given as goal
 
 abbrev pub invariant-loop-s : goal.invariant-loop-s
 invariant-loop-s l =
-    AreRuled l.line l.scripts (lane_box span_ends l.line l.spans.items [])
-    (l.s * terminal_count l.line) l.ruled.items
+    AreRuled l.compiled.line.now l.scripts (lane_box span_ends l.compiled.line.now l.spans.items [])
+    (l.s * terminal_count l.compiled.line.now) l.ruled.items

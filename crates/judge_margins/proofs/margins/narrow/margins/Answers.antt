@@ -9,15 +9,16 @@ use Rattle.judge_margins.proofs.margins.narrow.margins.Goals as goal
 pub narrowed-requires-clause-group : goal.narrowed-requires-clause-group
 narrowed-requires-clause-group c =
     group_is _ c.args.obligations.now c.next_script.first c.next_script-next.result
-    c.obligation_at.result c.requires.of_line c.requires.fit c.requires.exist c.requires.held
+    c.obligation_at.result c.requires.fit c.requires.exist c.requires.held
     c.next_script-next.ensures.same c.obligation_at.ensures refl
     (omega (arith, c.next_script-next.ensures.later)) c.next_script-next.ensures.within
     c.between.ensures
 
 pub narrowed-requires-clause-room : goal.narrowed-requires-clause-room
 narrowed-requires-clause-room c =
-    subst (λ (l : List End). HaveRoom c.args.line.now l) (sym c.deref.ensures.value)
-    (found_room c.args.line.now c.args.scripts.now c.args.obligations.now c.next_script.first
+    subst (λ (l : List End). HaveRoom c.args.compiled.now.line.now l) (sym c.deref.ensures.value)
+    (found_room c.args.compiled.now.line.now c.args.scripts.now c.args.obligations.now
+    c.next_script.first
     c.next_script.ends.items c.next_script.invariant.found)
 
 pub next_script-preserved : goal.next_script-preserved
@@ -26,8 +27,7 @@ next_script-preserved c =
     let first : ℕ = c.next_script.first in
     let next : ℕ = c.next_script-next.result in
     let of : Group = record {
-      line = c.args.line;
-      net = c.args.net;
+      compiled = c.args.compiled.now;
       scripts = c.args.scripts;
       script = c.obligation_at.result.script;
       these = c.between.result;
@@ -48,7 +48,7 @@ next_script-preserved c =
 
 pub returns-clause-ends : goal.returns-clause-ends
 returns-clause-ends c =
-    let line = c.args.line.now in
+    let line = c.args.compiled.now.line.now in
     let scripts = c.args.scripts.now in
     let obligations = c.args.obligations.now in
     let same : c.next_script.first ≡ length obligations =
@@ -59,5 +59,6 @@ returns-clause-ends c =
 
 pub returns-clause-room : goal.returns-clause-room
 returns-clause-room c =
-    found_room c.args.line.now c.args.scripts.now c.args.obligations.now c.next_script.first
+    found_room c.args.compiled.now.line.now c.args.scripts.now c.args.obligations.now
+    c.next_script.first
     c.next_script.ends.items c.next_script.invariant.found

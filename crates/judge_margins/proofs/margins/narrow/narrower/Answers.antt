@@ -20,7 +20,7 @@ asked-requires-clause-small c =
 
 pub probe-requires-clause-asks : goal.probe-requires-clause-asks
 probe-requires-clause-asks c =
-    subst (λ (l : List Ask). AreAsks c.args.of.now.line.now l) (sym c.deref.ensures.value)
+    subst (λ (l : List Ask). AreAsks c.args.of.now.compiled.line.now l) (sym c.deref.ensures.value)
     (asks_are c.args.of.now c.args.ends.now c.args.whole c.args.brackets.now
     c.in_ok-slots.slots.asks.items c.requires.room c.requires.brackets c.in_ok-slots.ensures.asks)
 

@@ -18,16 +18,13 @@ ask_spans-requires-clause-asks c = c.requires.asks
 pub ask_spans-requires-clause-first : goal.ask_spans-requires-clause-first
 ask_spans-requires-clause-first c = c.requires.first
 
-pub run_tracks-requires-clause-of_line : goal.run_tracks-requires-clause-of_line
-run_tracks-requires-clause-of_line c = c.requires.group.of_line
-
 pub run_tracks-requires-clause-spans : goal.run_tracks-requires-clause-spans
 run_tracks-requires-clause-spans c =
     ap length c.deref.ensures.value ∙ c.in_ok-spans.ensures.count
 
 pub run_tracks-requires-clause-delayed : goal.run_tracks-requires-clause-delayed
 run_tracks-requires-clause-delayed c =
-    let line = c.args.of.now.line.now in
+    let line = c.args.of.now.compiled.line.now in
     asks_delayed c.laws_below.ensures line c.args.asks.now c.requires.asks c.args.first
     c.deref.result.now
     (subst (λ (s : List SpanLists). AreAskSpans line c.args.asks.now c.args.first s)
@@ -49,8 +46,8 @@ index-trip-requires c =
       arith,
       c.terminal_at.ensures.exists,
       c.in_ok-tracks.ensures.trips.count,
-      c.requires.group.of_line.laws.same,
-      c.requires.group.of_line.terminals,
+      c.args.of.now.compiled.of_line.laws.same,
+      c.args.of.now.compiled.of_line.terminals,
       c.in_ok-tracks.tracks.trips.ok.0,
     )
 
@@ -58,8 +55,8 @@ pub held_lanes-requires-clause-deadline : goal.held_lanes-requires-clause-deadli
 held_lanes-requires-clause-deadline c =
     let of = c.args.of.now in
     let script = c.script_of-script.result.now in
-    c.laws_below.ensures.lines.deadlines of.line.now script
-    (one_of_all (Fits of.line.now) of.scripts.now of.script script c.requires.group.fit
+    c.laws_below.ensures.lines.deadlines of.compiled.line.now script
+    (one_of_all (Fits of.compiled.line.now) of.scripts.now of.script script c.requires.group.fit
     c.script_of-script.ensures)
 
 pub held_lanes-requires-clause-horizon : goal.held_lanes-requires-clause-horizon
@@ -68,14 +65,15 @@ held_lanes-requires-clause-horizon c =
     let k : ℕ = c.terminal_at.result in
     let trip = c.index-trip.result.now in
     (c.in_ok-tracks.ensures.trips.each k trip
-    (slice_get_read trips (terminal_count c.args.of.now.line.now) k trip
-    (sym (c.in_ok-tracks.ensures.trips.count ∙ c.requires.group.of_line.laws.same
-    ∙ c.requires.group.of_line.terminals)) c.terminal_at.ensures.exists c.index-trip.ensures)).0
+    (slice_get_read trips (terminal_count c.args.of.now.compiled.line.now) k trip
+    (sym (c.in_ok-tracks.ensures.trips.count ∙ c.args.of.now.compiled.of_line.laws.same
+    ∙ c.args.of.now.compiled.of_line.terminals)) c.terminal_at.ensures.exists
+    c.index-trip.ensures)).0
 
 pub loop-i-preserved : goal.loop-i-preserved
 loop-i-preserved c =
     let of = c.args.of.now in
-    let line = of.line.now in
+    let line = of.compiled.line.now in
     let asks = c.args.asks.now in
     let first : ℕ = c.args.first in
     let script = c.script_of-script.result.now in
@@ -87,8 +85,9 @@ loop-i-preserved c =
     let k : ℕ = c.terminal_at.result in
     let at_trip : slice_get trips k ≡ Some c.index-trip.result.now =
     slice_get_read trips (terminal_count line) k c.index-trip.result.now
-    (sym (c.in_ok-tracks.ensures.trips.count ∙ c.requires.group.of_line.laws.same
-    ∙ c.requires.group.of_line.terminals)) c.terminal_at.ensures.exists c.index-trip.ensures in
+    (sym (c.in_ok-tracks.ensures.trips.count ∙ c.args.of.now.compiled.of_line.laws.same
+    ∙ c.args.of.now.compiled.of_line.terminals)) c.terminal_at.ensures.exists c.index-trip.ensures
+    in
     one_more (λ _ (o : Lost) (bits : ℕ). IsRow of asks first o bits) of.these.now
     c.loop-i.rows.items c.push.new.self.items c.held_lanes.result c.loop-i.i c.loop-i.invariant
     c.in_ok-push.ensures.items

@@ -12,7 +12,7 @@ use Rattle.judge_margins.proofs.margins.today.of_script.Goals.{else-is_held+in_o
 
 pub loop-k-preserved : goal.loop-k-preserved
 loop-k-preserved c =
-    let line = c.args.line.now in
+    let line = c.args.compiled.now.line.now in
     let scripts = c.args.scripts.now in
     let s = c.args.s in
     let k : ℕ = c.loop-k.k in
@@ -48,7 +48,7 @@ loop-k-preserved c =
 
 pub returns : goal.returns
 returns c =
-    let line = c.args.line.now in
+    let line = c.args.compiled.now.line.now in
     let scripts = c.args.scripts.now in
     let full : terminal_count line ≤ c.loop-k.k =
     omega (arith, c.loop-k-test.false, c.len-k-end.ensures) in record {

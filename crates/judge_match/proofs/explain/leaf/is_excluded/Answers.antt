@@ -10,7 +10,7 @@ use Rattle.judge_match.proofs.explain.leaf.is_excluded.Goals.{then-is_out, else-
 pub returns : goal.returns
 returns c = λ on.
     let q = c.args.q.now in
-    let line = q.line.now in
+    let line = q.compiled.line.now in
     let rec = recorded_of q in
     let keys : List (SentKeys Tern) = c.in_ok-tracks.tracks.keys.items in
     let trips : List (SentKeys Tern) = c.in_ok-tracks.tracks.trips.items in

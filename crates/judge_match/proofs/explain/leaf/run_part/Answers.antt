@@ -12,12 +12,12 @@ use Rattle.judge_match.proofs.explain.leaf.run_part.Goals as goal
 
 pub run_tracks-requires-clause-delayed : goal.run_tracks-requires-clause-delayed
 run_tracks-requires-clause-delayed c = λ lane below.
-    subst (LeastFromOne c.args.q.now.line.now)
-    (sym (box_is c.args.q.now.line.now c.args.part.now lane)) c.requires.part.delays
+    subst (LeastFromOne c.args.q.now.compiled.line.now)
+    (sym (box_is c.args.q.now.compiled.line.now c.args.part.now lane)) c.requires.part.delays
 
 pub returns-clause-history : goal.returns-clause-history
 returns-clause-history c =
-    let line = c.args.q.now.line.now in
+    let line = c.args.q.now.compiled.line.now in
     let script = c.args.q.now.script.now in
     let part = c.args.part.now in
     ok_weaker (λ tracks. (lane : ℕ) → lane < 1

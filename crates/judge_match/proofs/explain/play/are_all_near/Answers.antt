@@ -16,7 +16,8 @@ loop-k-preserved c = λ u are j below.
     let there : c.loop-k.k < length all =
     omega (arith, inside, c.requires.all, c.requires.tracks.count) in
     let told =
-    one_near q.line.now q.within u all tracks c.loop-k.k c.index-all-k.result c.index-tracks-k.result
+    one_near q.compiled.line.now q.within u all tracks c.loop-k.k c.index-all-k.result
+    c.index-tracks-k.result
     c.deref.result.now c.deref-in-loop-k.result.now are c.requires.tracks
     (indexed all c.loop-k.k c.index-all-k.result there c.index-all-k.is)
     (indexed tracks c.loop-k.k c.index-tracks-k.result inside c.index-tracks-k.is)
@@ -26,7 +27,8 @@ loop-k-preserved c = λ u are j below.
     (λ (early : j < c.loop-k.k). c.loop-k.invariant u are j early)
     (λ (late : c.loop-k.k ≤ j).
     let e : c.loop-k.k ≡ j = omega arith in
-    subst (λ (i : ℕ). HaveSameChanges q.within q.line.now.horizon (u i) (is_shown tracks i)) e
+    subst (λ (i : ℕ). HaveSameChanges q.within q.compiled.line.now.horizon (u i)
+    (is_shown tracks i)) e
     (told.0 (c.are_near.ensures.0 c.if-not-are_near.false)))
     (cases_lt j c.loop-k.k)
 
@@ -39,7 +41,8 @@ returns-then-not-are_near c = λ u are.
     let there : c.loop-k.k < length all =
     omega (arith, inside, c.requires.all, c.requires.tracks.count) in
     let told =
-    one_near q.line.now q.within u all tracks c.loop-k.k c.index-all-k.result c.index-tracks-k.result
+    one_near q.compiled.line.now q.within u all tracks c.loop-k.k c.index-all-k.result
+    c.index-tracks-k.result
     c.deref.result.now c.deref-in-loop-k.result.now are c.requires.tracks
     (indexed all c.loop-k.k c.index-all-k.result there c.index-all-k.is)
     (indexed tracks c.loop-k.k c.index-tracks-k.result inside c.index-tracks-k.is)

@@ -11,7 +11,7 @@ use Rattle.judge_match.proofs.explain.play.explains.Goals.{then-branch+in_ok-are
 pub returns : goal.returns
 returns c =
     let q = c.args.q.now in
-    let line = q.line.now in
+    let line = q.compiled.line.now in
     let rec = recorded_of q in
     let keys : List (SentKeys Level) = c.in_ok-tracks.tracks.keys.items in
     let trips : List (SentKeys Level) = c.in_ok-tracks.tracks.trips.items in

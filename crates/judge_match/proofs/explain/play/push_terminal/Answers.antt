@@ -13,7 +13,7 @@ use Rattle.judge_match.proofs.explain.play.push_terminal.Goals as goal
 pub returns : goal.returns
 returns c =
     let q = c.args.q.now in
-    let line = q.line.now in
+    let line = q.compiled.line.now in
     let rec = recorded_of q in
     let k : ℕ = c.args.k in
     let keys : List (SentKeys Level) = c.args.tracks.now.keys.items in

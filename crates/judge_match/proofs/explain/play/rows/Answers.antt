@@ -8,7 +8,7 @@ use Rattle.judge_match.proofs.explain.play.rows.Goals as goal
 
 pub loop-k-preserved : goal.loop-k-preserved
 loop-k-preserved c =
-    let f = paired_terminal c.args.q.now.line.now (recorded_of c.args.q.now)
+    let f = paired_terminal c.args.q.now.compiled.line.now (recorded_of c.args.q.now)
     (played c.in_ok-tracks.tracks.keys.items c.in_ok-tracks.tracks.trips.items) in
     c.in_ok-push_terminal.ensures
     ∙ ap (λ l. l ++ f c.loop-k.k) c.loop-k.invariant
@@ -16,7 +16,7 @@ loop-k-preserved c =
 
 pub returns : goal.returns
 returns c = λ h is.
-    let line = c.args.q.now.line.now in
+    let line = c.args.q.now.compiled.line.now in
     let rec = recorded_of c.args.q.now in
     let now = played c.in_ok-tracks.tracks.keys.items c.in_ok-tracks.tracks.trips.items in
     let all : c.loop-k.k ≡ terminal_count line =

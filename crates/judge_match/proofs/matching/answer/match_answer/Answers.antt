@@ -8,11 +8,12 @@ use Rattle.judge_match.proofs.matching.answer.match_answer.Goals as goal
 
 pub loop-seen-init : goal.loop-seen-init
 loop-seen-init c =
-    answer_none c.args.line.now c.args.scripts.now c.new-text.result.items c.new-text.ensures.items
+    answer_none c.args.compiled.now.line.now c.args.scripts.now c.new-text.result.items
+    c.new-text.ensures.items
 
 pub settled_head-requires-clause-seen : goal.settled_head-requires-clause-seen
 settled_head-requires-clause-seen c =
-    subst (λ (x : Seen). AreSeen c.args.line.now x) (sym c.seen-item.is)
+    subst (λ (x : Seen). AreSeen c.args.compiled.now.line.now x) (sym c.seen-item.is)
     (c.requires.seen c.loop-seen.seen-index c.seen-item.result c.loop-seen-test.true)
 
 pub settled_head-requires-clause-named : goal.settled_head-requires-clause-named
@@ -29,7 +30,8 @@ loop-seen-preserved c =
     let text : List ℕ = c.loop-seen.text.items in
     let head : Head =
     record { settled = c.in_ok-head.head.settled; text = c.in_ok-head.head.text.items } in
-    answer_more c.args.line.now c.args.scripts.now before (map seen_values (take (i + 1) records))
+    answer_more c.args.compiled.now.line.now c.args.scripts.now before
+    (map seen_values (take (i + 1) records))
     (seen_values item) head c.loop-seen.impossible c.loop-seen.unsettled _ _ text _
     (ap (map seen_values) (take_more records i item c.loop-seen-test.true)
     ∙ map-append seen_values (take i records) (get_or records i item ∷ [])

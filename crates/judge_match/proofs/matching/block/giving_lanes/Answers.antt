@@ -7,7 +7,7 @@ use Rattle.judge_match.proofs.matching.block.giving_lanes.Goals as goal
 
 pub agreeing_lanes-requires-clause-delayed : goal.agreeing_lanes-requires-clause-delayed
 agreeing_lanes-requires-clause-delayed c =
-    let line = c.args.line.now in
+    let line = c.args.compiled.now.line.now in
     block_delayed c.parameters_are_numbered.ensures line c.args.first c.deref.result.now
     (subst (AreBlockSpans line c.args.first (param_count line)) (sym c.deref.ensures.value)
     c.in_ok-spans.ensures)
@@ -18,7 +18,7 @@ agreeing_lanes-requires-clause-delayed c =
 
 pub returns : goal.returns
 returns c = λ seen same lane inside.
-    let line = c.args.line.now in
+    let line = c.args.compiled.now.line.now in
     let spans : AreBlockSpans line c.args.first (param_count line) c.deref.result.now =
     subst (AreBlockSpans line c.args.first (param_count line)) (sym c.deref.ensures.value)
     c.in_ok-spans.ensures in

@@ -7,7 +7,7 @@ use Rattle.judge_match.proofs.matching.clash.first_clash.Goals as goal
 pub returns-in-Some : goal.returns-in-Some
 returns-in-Some c = λ script derived.
     let told = c.in-Some.ensures script derived in
-    first_of_all c.args.line.now script c.args.seen.now c.loop-k.k c.in-Some.clash
+    first_of_all c.args.compiled.now.line.now script c.args.seen.now c.loop-k.k c.in-Some.clash
     (omega arith) (c.loop-k.invariant script derived) told.0 told.1
 
 pub loop-k-preserved : goal.loop-k-preserved
@@ -15,7 +15,7 @@ loop-k-preserved c = λ script derived k lt.
     ⊎_elim (λ earlier. c.loop-k.invariant script derived k earlier)
     (λ last.
     let e : c.loop-k.k ≡ k = omega arith in
-    subst (λ (j : ℕ). IsTerminalAllowed c.args.line.now script c.args.seen.now j) e
+    subst (λ (j : ℕ). IsTerminalAllowed c.args.compiled.now.line.now script c.args.seen.now j) e
     (c.in_default.ensures script derived))
     (cases_lt k c.loop-k.k)
 

@@ -6,5 +6,6 @@ use Rattle.judge_match.proofs.matching.clash.first_clash.Given as goal
 
 abbrev pub invariant-loop-k : goal.invariant-loop-k
 invariant-loop-k l =
-    (script : Script) → AreGateWaves l.line script l.net.gates (pairs_of l.seen.keys.items) l.waves
-    → (k : ℕ) → k < l.k → IsTerminalAllowed l.line script l.seen k
+    (script : Script) → AreGateWaves l.compiled.line.now script l.compiled.net.now.gates
+    (pairs_of l.seen.keys.items) l.waves
+    → (k : ℕ) → k < l.k → IsTerminalAllowed l.compiled.line.now script l.seen k

@@ -8,14 +8,15 @@ use Rattle.judge_match.proofs.matching.clash.terminal_clash.Goals as goal
 
 pub returns-in-Some : goal.returns-in-Some
 returns-in-Some c = λ script derived.
-    let line = c.args.line.now in
+    let line = c.args.compiled.now.line.now in
     let k = c.args.terminal in
     let waves = c.args.waves.now in
     let seen = c.args.seen.now in
-    signal_clashes line script c.args.net.now seen waves c.requires.of_line c.requires.seen derived
+    signal_clashes line script c.args.compiled.now.net.now seen waves c.args.compiled.now.of_line
+    c.requires.seen derived
     false k c.requires.terminal (λ on. absurd (cc)) c.in-Some.clash
     (checked_same c.nth-key.result.now c.nth-seen_key.result.now
-    (get_or waves (key_of c.args.net.now k) []) (get_or seen.keys.items k []) k false
+    (get_or waves (key_of c.args.compiled.now.net.now k) []) (get_or seen.keys.items k []) k false
     (Some c.in-Some.clash)
     (c.nth-key.ensures ∙ ap (λ (n : ℕ). get_or waves n []) c.key_gate.ensures.is)
     (c.nth-seen_key.ensures
@@ -25,16 +26,19 @@ returns-in-Some c = λ script derived.
 
 pub returns : goal.returns
 returns c = λ script derived.
-    let line = c.args.line.now in
+    let line = c.args.compiled.now.line.now in
     let k = c.args.terminal in
     let waves = c.args.waves.now in
     let seen = c.args.seen.now in
-    terminal_told line script c.args.net.now seen waves c.requires.of_line c.requires.seen derived
+    terminal_told line script c.args.compiled.now.net.now seen waves c.args.compiled.now.of_line
+    c.requires.seen derived
     k c.requires.terminal
-    (signal_allowed line script c.args.net.now seen waves c.requires.of_line c.requires.seen
+    (signal_allowed line script c.args.compiled.now.net.now seen waves c.args.compiled.now.of_line
+    c.requires.seen
     derived false k c.requires.terminal
     (checked_same c.nth-key.result.now c.nth-seen_key.result.now
-    (get_or waves (key_of c.args.net.now k) []) (get_or seen.keys.items k []) k false None
+    (get_or waves (key_of c.args.compiled.now.net.now k) [])
+    (get_or seen.keys.items k []) k false None
     (c.nth-key.ensures ∙ ap (λ (n : ℕ). get_or waves n []) c.key_gate.ensures.is)
     (c.nth-seen_key.ensures
     ∙ ap (λ (xs : List (List Tern)). get_or xs k []) c.as_slice.ensures.value)
@@ -42,7 +46,7 @@ returns c = λ script derived.
     false o) c.in_default.is c.signal_clash.ensures)))
     c.signal_clash-2.result
     (checked_same c.nth-trip.result.now c.nth-seen_trip.result.now
-    (get_or waves (trip_of c.args.net.now k) []) (get_or seen.trips.items k []) k true
+    (get_or waves (trip_of c.args.compiled.now.net.now k) []) (get_or seen.trips.items k []) k true
     c.signal_clash-2.result
     (c.nth-trip.ensures ∙ ap (λ (n : ℕ). get_or waves n []) c.trip_gate.ensures.is)
     (c.nth-seen_trip.ensures

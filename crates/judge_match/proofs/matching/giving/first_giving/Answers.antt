@@ -9,18 +9,19 @@ next_block-init c = λ i less there gives. absurd (omega arith)
 
 pub overflow_add-first : goal.overflow_add-first
 overflow_add-first c =
-    let few = few_candidates c.parameters_are_numbered.ensures c.args.line.now in omega arith
+    let few = few_candidates c.parameters_are_numbered.ensures c.args.compiled.now.line.now in
+    omega arith
 
 pub next_block-preserved : goal.next_block-preserved
 next_block-preserved c =
-    block_differs c.args.line.now c.args.script.now c.args.seen.now c.next_block.first
+    block_differs c.args.compiled.now.line.now c.args.script.now c.args.seen.now c.next_block.first
     c.in_ok-lanes.lanes
     (c.in_ok-lanes.ensures c.args.seen.now c.in_ok-recorded.ensures.same) c.next_block.invariant
     (λ l inside. let past = c.if-lane-lt64.false in c.first-lane.ensures.off l inside (omega arith))
 
 pub returns-then-lane-lt64 : goal.returns-then-lane-lt64
 returns-then-lane-lt64 c =
-    let line = c.args.line.now in
+    let line = c.args.compiled.now.line.now in
     let lane = c.first-lane.result in
     let inside = c.if-lane-lt64.true in
     let told = c.in_ok-lanes.ensures c.args.seen.now c.in_ok-recorded.ensures.same in

@@ -9,8 +9,8 @@ rounds-init c =
     let of = c.args.of.now in
     record {
       fails = subst (IsFailed of) (sym c.in_ok-cut.ensures) c.requires.fails;
-      left = subst (IsLeftOf of.line.now c.args.timing.now) (sym c.in_ok-cut.ensures)
-          (left_itself of.line.now c.args.timing.now);
+      left = subst (IsLeftOf of.compiled.line.now c.args.timing.now) (sym c.in_ok-cut.ensures)
+          (left_itself of.compiled.line.now c.args.timing.now);
       matters = λ off. absurd (cc);
     }
 
@@ -19,7 +19,7 @@ rounds-preserved c =
     let of = c.args.of.now in
     record {
       fails = c.in_ok-more.ensures.round.fails;
-      left = left_of_left of.line.now c.args.timing.now c.rounds.cut c.round.new.cut
+      left = left_of_left of.compiled.line.now c.args.timing.now c.rounds.cut c.round.new.cut
           c.rounds.invariant.left c.in_ok-more.ensures.round.left;
       matters = c.in_ok-more.ensures.matters;
     }

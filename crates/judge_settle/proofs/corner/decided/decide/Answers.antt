@@ -12,17 +12,20 @@ use Rattle.judge_settle.proofs.corner.decided.decide.Goals.{After-drop-waves-ins
 
 -- the timing is the worst choice on the rail that decides
 is_worst : (c : After-drop-waves-inside-3)
-    → IsSameChoice c.args.line.now (timing_choice c.args.line.now c.in_ok-timing.timing)
-    (corner c.args.line.now (deciding c.args.script.now.kind) (pair_history c.in_ok-waves.waves))
+    → IsSameChoice c.args.compiled.now.line.now
+    (timing_choice c.args.compiled.now.line.now c.in_ok-timing.timing)
+    (corner c.args.compiled.now.line.now (deciding c.args.script.now.kind)
+    (pair_history c.in_ok-waves.waves))
 is_worst c =
-    subst (λ (rail : Rail). IsSameChoice c.args.line.now
-    (timing_choice c.args.line.now c.in_ok-timing.timing)
-    (corner c.args.line.now rail (pair_history c.in_ok-waves.waves))) c.deciding.ensures
+    subst (λ (rail : Rail). IsSameChoice c.args.compiled.now.line.now
+    (timing_choice c.args.compiled.now.line.now c.in_ok-timing.timing)
+    (corner c.args.compiled.now.line.now rail (pair_history c.in_ok-waves.waves)))
+    c.deciding.ensures
     c.in_ok-timing.ensures.worst
 
 pub returns-clause-one_timing_decides : goal.returns-clause-one_timing_decides
 returns-clause-one_timing_decides c =
-    let line : Line = c.args.line.now in
+    let line : Line = c.args.compiled.now.line.now in
     let script : Script = c.args.script.now in
     let w : PairHistory = pair_history c.in_ok-waves.waves in
     let early : script.deadline < line.horizon =

@@ -14,7 +14,7 @@ returns-then-number-middle-clause-round c =
 pub returns-then-branch-clause-round : goal.returns-then-branch-clause-round
 returns-then-branch-clause-round c =
     let of = c.args.of.now in
-    let line = of.line.now in
+    let line = of.compiled.line.now in
     let p : ℕ = c.args.param in
     let cut : TimingValues = c.args.cut.now in
     let new : TimingValues = c.try_number.new.cut in
@@ -34,7 +34,7 @@ returns-then-branch-clause-round c =
 pub returns-then-number-least-clause-round : goal.returns-then-number-least-clause-round
 returns-then-number-least-clause-round c =
     let of = c.args.of.now in
-    let line = of.line.now in
+    let line = of.compiled.line.now in
     let p : ℕ = c.args.param in
     let cut : TimingValues = c.args.cut.now in
     let new : TimingValues = c.try_number.new.cut in
@@ -54,7 +54,7 @@ returns-then-number-least-clause-round c =
 pub returns-clause-round : goal.returns-clause-round
 returns-clause-round c =
     let of = c.args.of.now in
-    let line = of.line.now in
+    let line = of.compiled.line.now in
     let p : ℕ = c.args.param in
     let cut : TimingValues = c.args.cut.now in
     let new : TimingValues = c.try_number-2.new.cut in
@@ -84,7 +84,7 @@ returns-clause-round c =
 pub returns-clause-matters : goal.returns-clause-matters
 returns-clause-matters c = λ off.
     let of = c.args.of.now in
-    let line = of.line.now in
+    let line = of.compiled.line.now in
     let p : ℕ = c.args.param in
     let cut : TimingValues = c.args.cut.now in
     let new : TimingValues = c.try_number-2.new.cut in

@@ -13,7 +13,7 @@ use Rattle.judge_settle.proofs.corner.play.fails.Goals as goal
 
 pub run_tracks-requires-clause-delayed : goal.run_tracks-requires-clause-delayed
 run_tracks-requires-clause-delayed c =
-    let line = c.args.of.now.line.now in
+    let line = c.args.of.now.compiled.line.now in
     let timing : TimingValues = c.args.timing.now in
     subst (λ (values : List ℕ). AreDelayed 1 ends_of_tick line values c.steps-steps.result.now)
     (sym c.values-values.ensures)
@@ -23,7 +23,7 @@ run_tracks-requires-clause-delayed c =
 
 pub returns : goal.returns
 returns c =
-    let line : Line = c.args.of.now.line.now in
+    let line : Line = c.args.of.now.compiled.line.now in
     let script : Script = c.args.of.now.script.now in
     let k : ℕ = c.args.of.now.terminal in
     let timing : TimingValues = c.args.timing.now in
@@ -43,8 +43,8 @@ returns c =
     let track = c.index-trip.result.now in
     let at : slice_get trips k ≡ Some track =
     slice_get_read trips (terminal_count line) k track
-    (sym (c.in_ok-tracks.ensures.trips.count ∙ c.requires.of.of_line.laws.same
-    ∙ c.requires.of.of_line.terminals)) c.requires.of.terminal c.index-trip.ensures in
+    (sym (c.in_ok-tracks.ensures.trips.count ∙ c.args.of.now.compiled.of_line.laws.same
+    ∙ c.args.of.now.compiled.of_line.terminals)) c.requires.of.terminal c.index-trip.ensures in
     record {
       fails = λ told. record {
         history = played keys trips;

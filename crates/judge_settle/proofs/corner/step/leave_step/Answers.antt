@@ -6,14 +6,14 @@ use Rattle.judge_settle.proofs.corner.step.leave_step.Goals as goal
 
 pub fails-requires-clause-inside : goal.fails-requires-clause-inside
 fails-requires-clause-inside c =
-    let line = c.args.of.now.line.now in
+    let line = c.args.of.now.compiled.line.now in
     subst (IsTimingInside line) (sym c.in_ok-tried.ensures)
     (inside_without line c.args.cut.now c.args.j c.requires.fails.inside c.requires.step)
 
 pub returns-then-branch : goal.returns-then-branch
 returns-then-branch c =
     let of = c.args.of.now in
-    let line = of.line.now in
+    let line = of.compiled.line.now in
     let cut = c.args.cut.now in
     let tried = c.in_ok-tried.tried in
     subst (λ (t : TimingValues). IsTried of cut t tried true) c.in_ok-tried.ensures

@@ -5,13 +5,13 @@ use Rattle.judge_settle.proofs.settle.leaves.all_shown.Goals as goal
 
 pub is_block_shown-requires-clause-views : goal.is_block_shown-requires-clause-views
 is_block_shown-requires-clause-views c =
-    block_views c.args.scene.now.line.now c.args.views.now c.next_block.first c.min-next.result
+    block_views c.args.compiled.now.line.now c.args.views.now c.next_block.first c.min-next.result
     c.requires.views
 
 pub next_block-preserved : goal.next_block-preserved
 next_block-preserved c = record {
   inside = omega (arith, c.min-next.ensures);
-  so_far = block_shown c.args.scene.now.line.now c.args.scene.now.script.now
+  so_far = block_shown c.args.compiled.now.line.now c.args.scene.now.script.now
       c.args.scene.now.terminal c.args.views.now c.next_block.first c.min-next.result
       c.next_block.invariant.so_far (c.in_ok-all.ensures c.if-not-all.false);
 }

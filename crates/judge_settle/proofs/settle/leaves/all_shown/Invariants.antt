@@ -7,7 +7,7 @@ abbrev pub invariant-next_block : goal.invariant-next_block
 invariant-next_block l = record {
   inside : l.first ≤ length l.views;
   so_far : (i : ℕ) (view : View) → i < l.first → slice_get l.views i ≡ Some view
-      → IsShownOf l.scene.line.now l.scene.script.now l.scene.terminal view;
+      → IsShownOf l.compiled.line.now l.scene.script.now l.scene.terminal view;
 }
 
 abbrev pub decreases-next_block : goal.decreases-next_block

@@ -11,7 +11,7 @@ use Rattle.judge_settle.proofs.settle.play.is_met.Goals as goal
 
 pub run_tracks-requires-clause-delayed : goal.run_tracks-requires-clause-delayed
 run_tracks-requires-clause-delayed c =
-    let line = c.args.line.now in
+    let line = c.args.compiled.now.line.now in
     let timing : TimingValues = c.args.timing.now in
     subst (λ (values : List ℕ). AreDelayed 1 ends_of_tick line values c.steps-steps.result.now)
     (sym c.values-values.ensures)
@@ -21,7 +21,7 @@ run_tracks-requires-clause-delayed c =
 
 pub returns : goal.returns
 returns c = λ not_met.
-    let line = c.args.line.now in
+    let line = c.args.compiled.now.line.now in
     let script = c.args.script.now in
     let timing : TimingValues = c.args.timing.now in
     let choice : Choice = timing_choice line timing in
@@ -39,8 +39,8 @@ returns c = λ not_met.
     let track = c.index-trip.result.now in
     let at : slice_get trips c.args.terminal ≡ Some track =
     slice_get_read trips (terminal_count line) c.args.terminal track
-    (sym (c.in_ok-tracks.ensures.trips.count ∙ c.requires.of_line.laws.same
-    ∙ c.requires.of_line.terminals)) c.requires.terminal c.index-trip.ensures in
+    (sym (c.in_ok-tracks.ensures.trips.count ∙ c.args.compiled.now.of_line.laws.same
+    ∙ c.args.compiled.now.of_line.terminals)) c.requires.terminal c.index-trip.ensures in
     record {
       inside = c.requires.inside;
       ascending = c.steps-steps.ensures.ascending;

@@ -10,7 +10,7 @@ use Rattle.judge_settle.proofs.settle.search.+search_view.Goals as goal
 
 pub search_view-requires : goal.search_view-requires
 search_view-requires t c =
-    let line = c.args.scene.now.line.now in
+    let line = c.args.compiled.now.line.now in
     let view = c.args.branch.view in
     let are : AreBranches line view c.in-Some-2.chosen.cut c.in-Some-3.branches =
     subst (λ (o : Option Branches). IfSome o (AreBranches line view c.in-Some-2.chosen.cut))
@@ -23,7 +23,7 @@ search_view-requires t c =
 
 pub search_view-requires-2 : goal.search_view-requires-2
 search_view-requires-2 t c =
-    let line = c.args.scene.now.line.now in
+    let line = c.args.compiled.now.line.now in
     let view = c.args.branch.view in
     let are : AreBranches line view c.in-Some-2.chosen.cut c.in-Some-3.branches =
     subst (λ (o : Option Branches). IfSome o (AreBranches line view c.in-Some-2.chosen.cut))
@@ -36,7 +36,7 @@ search_view-requires-2 t c =
 
 pub returns-clause-found : goal.returns-clause-found
 returns-clause-found t c = λ shown.
-    let line = c.args.scene.now.line.now in
+    let line = c.args.compiled.now.line.now in
     let script = c.args.scene.now.script.now in
     let k = c.args.scene.now.terminal in
     let view = c.args.branch.view in
@@ -82,10 +82,12 @@ returns-clause-found t c = λ shown.
 
 pub returns-in-Fails-2-clause-leaves : goal.returns-in-Fails-2-clause-leaves
 returns-in-Fails-2-clause-leaves t c =
-    more_and_more c.args.scene.now.line.now c.args.leaves.now.items c.search_view.new.leaves.items
+    more_and_more c.args.compiled.now.line.now c.args.leaves.now.items
+    c.search_view.new.leaves.items
     c.search_view-2.new.leaves.items c.in_ok-tree.ensures.leaves c.in_ok-tree-2.ensures.leaves
 
 pub returns-clause-leaves : goal.returns-clause-leaves
 returns-clause-leaves t c =
-    more_and_more c.args.scene.now.line.now c.args.leaves.now.items c.search_view.new.leaves.items
+    more_and_more c.args.compiled.now.line.now c.args.leaves.now.items
+    c.search_view.new.leaves.items
     c.search_view-2.new.leaves.items c.in_ok-tree.ensures.leaves c.in_ok-tree-2.ensures.leaves

@@ -7,7 +7,7 @@ use Rattle.judge_settle.proofs.settle.settling.by_certificate.Goals as goal
 
 pub returns-then-is_yes : goal.returns-then-is_yes
 returns-then-is_yes c =
-    let line = c.args.line.now in
+    let line = c.args.compiled.now.line.now in
     let script = c.args.script.now in
     let k = c.args.terminal in
     let verdicts = c.in_ok-said.said.verdicts.items in

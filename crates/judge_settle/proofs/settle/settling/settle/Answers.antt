@@ -1,6 +1,6 @@
 use Rattle.std.proofs.Common.{ℕ, ◌-◌, ◌≤◌, Option, subst, arith}
 use Rattle.std.specs.Prelude.{IsSome}
-use Rattle.model_line.specs.{declared.line.Line.Line, declared.script.Script.Script}
+use Rattle.model_line.specs.declared.script.Script.{Script}
 use Rattle.judge_settle.specs.declared.corner.decided.Decided.{Decided}
 use Rattle.model_settle.specs.Schemes.{IsOneRailedBy}
 use Rattle.judge_settle.specs.settle.Trees.{IsFound, Size, size_of_text}
@@ -8,7 +8,7 @@ use Rattle.judge_settle.proofs.settle.settling.settle.Goals as goal
 
 pub returns : goal.returns
 returns c =
-    let line = c.args.line.now in
+    let line = c.args.compiled.now.line.now in
     let script = c.args.script.now in
     let k = c.args.terminal in
     let view = c.in_ok-view.view in
@@ -25,10 +25,7 @@ returns c =
     absurd (cc) in
     let over_line : IsFound line c.in_ok-scene.scene.script.now c.in_ok-scene.scene.terminal size
     view found =
-    subst (λ (l : Line). IsFound l c.in_ok-scene.scene.script.now c.in_ok-scene.scene.terminal size
-    view found) scene.line
-    ((rw c.as_slice.ensures.value at c.in_ok-sure.ensures) size view
-    c.in_ok-found.ensures.found) in
+    (rw c.as_slice.ensures.value at c.in_ok-sure.ensures) size view c.in_ok-found.ensures.found in
     let over_script : IsFound line script c.in_ok-scene.scene.terminal size view found =
     subst (λ (s : Script). IsFound line s c.in_ok-scene.scene.terminal size view found) scene.script
     over_line in

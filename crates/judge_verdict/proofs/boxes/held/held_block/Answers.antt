@@ -9,7 +9,7 @@ use Rattle.judge_verdict.proofs.boxes.held.held_block.Goals as goal
 
 pub run_tracks-requires-clause-delayed : goal.run_tracks-requires-clause-delayed
 run_tracks-requires-clause-delayed c =
-    let line = c.args.line.now in
+    let line = c.args.compiled.now.line.now in
     parts_delayed c.line_laws.ensures c.counts_do_not_rest_on_the_intervals.ensures line
     c.args.parts.now c.requires.parts c.args.first c.deref.result.now
     (subst (λ (s : List SpanLists). ArePartSpans line c.args.parts.now c.args.first s)
@@ -18,7 +18,7 @@ run_tracks-requires-clause-delayed c =
 
 pub returns : goal.returns
 returns c =
-    let line = c.args.line.now in
+    let line = c.args.compiled.now.line.now in
     let script = c.args.script.now in
     let trips = c.in_ok-tracks.tracks.trips.items in
     let spans : ArePartSpans line c.args.parts.now c.args.first c.deref.result.now =
@@ -26,8 +26,8 @@ returns c =
     (sym c.deref.ensures.value) c.in_ok-spans.ensures in
     let at : slice_get trips c.args.terminal ≡ Some c.index.result.now =
     slice_get_read trips (terminal_count line) c.args.terminal c.index.result.now
-    (sym (c.in_ok-tracks.ensures.trips.count ∙ c.requires.of_line.laws.same
-    ∙ c.requires.of_line.terminals))
+    (sym (c.in_ok-tracks.ensures.trips.count ∙ c.args.compiled.now.of_line.laws.same
+    ∙ c.args.compiled.now.of_line.terminals))
     c.requires.terminal c.index.ensures in
     record {
       each = λ lane part inside here.

@@ -14,7 +14,7 @@ use Rattle.judge_verdict.proofs.verdict.block.run_block.Goals as goal
 
 pub run_tracks_until-requires-clause-delayed : goal.run_tracks_until-requires-clause-delayed
 run_tracks_until-requires-clause-delayed c =
-    let line = c.args.line.now in
+    let line = c.args.compiled.now.line.now in
     block_delayed c.parameters_are_numbered.ensures line c.args.first c.deref.result.now
     (subst (AreBlockSpans line c.args.first (param_count line)) (sym c.deref.ensures.value)
     c.in_ok-spans.ensures)
@@ -25,7 +25,7 @@ run_tracks_until-requires-clause-delayed c =
 
 pub returns : goal.returns
 returns c =
-    let line = c.args.line.now in
+    let line = c.args.compiled.now.line.now in
     let script = c.args.script.now in
     let trips = c.in_ok-tracks.tracks.trips.items in
     let until = c.looked_ticks-until.result in
@@ -36,7 +36,7 @@ returns c =
     record {
       sent = subst (λ (m : ℕ). ReachTick (terminal_count line) m trips) is
           (subst (λ (n : ℕ). ReachTick n until trips)
-          (c.requires.of_line.laws.same ∙ c.requires.of_line.terminals)
+          (c.args.compiled.now.of_line.laws.same ∙ c.args.compiled.now.of_line.terminals)
           c.in_ok-tracks.ensures.trips);
       exact = λ lane h inside is_h k t trip at kn lt.
           let below = c.in_ok-tracks.ensures.exact lane

@@ -24,54 +24,61 @@ use Rattle.judge_verdict.proofs.verdict.certification.certify.Goals as goal
 pub verdicts-requires : goal.verdicts-requires
 verdicts-requires c = λ k s at.
     let v : PairHistory = pair_history c.in_ok-waves.waves in
-    standing_of_line c.args.line.now c.args.script.now v k (candidate_count c.args.line.now) s
+    standing_of_line c.args.compiled.now.line.now c.args.script.now v k
+    (candidate_count c.args.compiled.now.line.now) s
     ((c.in_ok-standings.ensures v c.in_ok-rules.ensures).each k s
     (ap (λ (xs : List Standing). slice_get xs k) (sym c.deref.ensures.value) ∙ at))
 
 -- the verdicts over the waves that were analysed
 said : (c : goal.After-drop-waves-inside-3)
-    → AreVerdicts c.args.line.now c.args.script.now (pair_history c.in_ok-waves.waves)
+    → AreVerdicts c.args.compiled.now.line.now c.args.script.now (pair_history c.in_ok-waves.waves)
     c.in_ok-verdicts.verdicts.items
 said c =
     let v : PairHistory = pair_history c.in_ok-waves.waves in
-    verdicts_at_end c.args.line.now c.args.script.now v c.in_ok-standings.standings.items
+    verdicts_at_end c.args.compiled.now.line.now c.args.script.now v
+    c.in_ok-standings.standings.items
     c.in_ok-verdicts.verdicts.items
     (c.in_ok-verdicts.ensures
-    ∙ ap (λ (xs : List Standing). map (verdict_as c.args.line.now) xs) c.deref.ensures.value)
+    ∙ ap (λ (xs : List Standing). map (verdict_as c.args.compiled.now.line.now) xs)
+    c.deref.ensures.value)
     (c.in_ok-standings.ensures v c.in_ok-rules.ensures)
 
 there : (c : goal.After-drop-waves-inside-3) (k : ℕ) (verdict : Verdict)
     → slice_get c.in_ok-verdicts.verdicts.items k ≡ Some verdict
-    → k < terminal_count c.args.line.now
+    → k < terminal_count c.args.compiled.now.line.now
 there c k verdict at =
     let inside = slice_get_within c.in_ok-verdicts.verdicts.items k verdict at in
     let count = (said c).count in
     omega arith
 
 inside_choice : (c : goal.After-drop-waves-inside-3) (number : ℕ)
-    → number < candidate_count c.args.line.now
-    → IsInside c.args.line.now (timing_choice c.args.line.now (candidate c.args.line.now number))
+    → number < candidate_count c.args.compiled.now.line.now
+    → IsInside c.args.compiled.now.line.now
+    (timing_choice c.args.compiled.now.line.now (candidate c.args.compiled.now.line.now number))
 inside_choice c number below =
-    c.timings_inside_are_choices_inside.ensures c.args.line.now (candidate c.args.line.now number)
-    (c.candidates_are_inside.ensures c.args.line.now number below)
+    c.timings_inside_are_choices_inside.ensures c.args.compiled.now.line.now
+    (candidate c.args.compiled.now.line.now number)
+    (c.candidates_are_inside.ensures c.args.compiled.now.line.now number below)
 
 from_one : (c : goal.After-drop-waves-inside-3) (number : ℕ)
-    → number < candidate_count c.args.line.now
-    → DelaysFromOne c.args.line.now
-    (timing_choice c.args.line.now (candidate c.args.line.now number))
+    → number < candidate_count c.args.compiled.now.line.now
+    → DelaysFromOne c.args.compiled.now.line.now
+    (timing_choice c.args.compiled.now.line.now (candidate c.args.compiled.now.line.now number))
 from_one c number below =
-    c.each_line_has_a_choice_inside.ensures.choices c.args.line.now
-    (timing_choice c.args.line.now (candidate c.args.line.now number))
+    c.each_line_has_a_choice_inside.ensures.choices c.args.compiled.now.line.now
+    (timing_choice c.args.compiled.now.line.now (candidate c.args.compiled.now.line.now number))
     (inside_choice c number below)
 
 -- where the rule is broken, candidate 0 fails
 never : (c : goal.After-drop-waves-inside-3) (k : ℕ) (w : PairHistory)
-    → k < terminal_count c.args.line.now
-    → IsPairHistory c.args.line.now c.args.script.now (declared_box c.args.line.now) w
-    → rule_of c.args.line.now c.args.script.now (w.trip k) ≡ Broken
-    → PassesAt c.args.line.now c.args.script.now k (candidate c.args.line.now 0) → ⊥
+    → k < terminal_count c.args.compiled.now.line.now
+    → IsPairHistory c.args.compiled.now.line.now c.args.script.now
+    (declared_box c.args.compiled.now.line.now) w
+    → rule_of c.args.compiled.now.line.now c.args.script.now (w.trip k) ≡ Broken
+    → PassesAt c.args.compiled.now.line.now c.args.script.now k
+    (candidate c.args.compiled.now.line.now 0) → ⊥
 never c k w here is_w broken passes =
-    let line = c.args.line.now in
+    let line = c.args.compiled.now.line.now in
     let script = c.args.script.now in
     let some : 0 < candidate_count line = omega arith in
     let choice : Choice = timing_choice line (candidate line 0) in
@@ -84,19 +91,20 @@ never c k w here is_w broken passes =
 
 pub returns-clause-keys : goal.returns-clause-keys
 returns-clause-keys c = λ w is_w.
-    keys_same c.args.line.now c.args.script.now (pair_history c.in_ok-waves.waves) w
+    keys_same c.args.compiled.now.line.now c.args.script.now (pair_history c.in_ok-waves.waves) w
     (c.in_ok-waves.ensures.history.only w is_w) c.in_ok-keys.keys.items c.in_ok-keys.ensures
 
 pub returns-clause-verdicts : goal.returns-clause-verdicts
 returns-clause-verdicts c = λ w is_w.
-    verdicts_same c.args.line.now c.args.script.now (pair_history c.in_ok-waves.waves) w
+    verdicts_same c.args.compiled.now.line.now c.args.script.now (pair_history c.in_ok-waves.waves)
+    w
     (c.in_ok-waves.ensures.history.only w is_w)
-    (deadline_early c.args.line.now c.args.script.now c.requires.fits)
+    (deadline_early c.args.compiled.now.line.now c.args.script.now c.requires.fits)
     c.in_ok-verdicts.verdicts.items (said c)
 
 pub returns-clause-yes : goal.returns-clause-yes
 returns-clause-yes c = λ k at choice h inside is_h.
-    let line = c.args.line.now in
+    let line = c.args.compiled.now.line.now in
     let script = c.args.script.now in
     c.the_rule_speaks_for_every_choice.ensures.held line script (declared_box line)
     (pair_history c.in_ok-waves.waves) k (deadline_early line script c.requires.fits)
@@ -105,7 +113,7 @@ returns-clause-yes c = λ k at choice h inside is_h.
 
 pub returns-clause-no : goal.returns-clause-no
 returns-clause-no c = λ k timing at.
-    let line = c.args.line.now in
+    let line = c.args.compiled.now.line.now in
     let script = c.args.script.now in
     let refuted : IsRefuted line script k (pair_history c.in_ok-waves.waves) timing =
     (said c).each k (No timing) at in
@@ -127,7 +135,7 @@ returns-clause-no c = λ k timing at.
 
 pub returns-clause-broken : goal.returns-clause-broken
 returns-clause-broken c = λ k w here is_w broken.
-    let line = c.args.line.now in
+    let line = c.args.compiled.now.line.now in
     let script = c.args.script.now in
     let v : PairHistory = pair_history c.in_ok-waves.waves in
     let early : script.deadline < line.horizon = deadline_early line script c.requires.fits in
@@ -143,7 +151,7 @@ returns-clause-broken c = λ k w here is_w broken.
 
 pub returns-clause-undecided : goal.returns-clause-undecided
 returns-clause-undecided c = λ k w at is_w.
-    let line = c.args.line.now in
+    let line = c.args.compiled.now.line.now in
     let script = c.args.script.now in
     let is_open : IsOpen line script k w =
     (returns-clause-verdicts c w is_w).each k Undecided at in
@@ -153,8 +161,9 @@ returns-clause-undecided c = λ k w at is_w.
 
 pub returns-clause-printable : goal.returns-clause-printable
 returns-clause-printable c = record {
-  keys = printable_keys c.args.line.now (pair_history c.in_ok-waves.waves) c.in_ok-keys.keys.items
+  keys = printable_keys c.args.compiled.now.line.now (pair_history c.in_ok-waves.waves)
+      c.in_ok-keys.keys.items
       c.in_ok-keys.ensures;
-  verdicts = printable_verdicts c.args.line.now c.args.script.now
+  verdicts = printable_verdicts c.args.compiled.now.line.now c.args.script.now
       (pair_history c.in_ok-waves.waves) c.in_ok-verdicts.verdicts.items (said c);
 }

@@ -15,8 +15,9 @@ use Rattle.judge_verdict.proofs.verdict.interval_history.analyse.Goals as goal
 
 pub run_tracks-requires-clause-delayed : goal.run_tracks-requires-clause-delayed
 run_tracks-requires-clause-delayed c =
-    spans_delayed c.args.line.now c.deref.result.now (c.deref.ensures.value ∙ c.in_ok-spans.ensures)
-    (c.each_line_has_a_choice_inside.ensures.declared c.args.line.now)
+    spans_delayed c.args.compiled.now.line.now c.deref.result.now
+    (c.deref.ensures.value ∙ c.in_ok-spans.ensures)
+    (c.each_line_has_a_choice_inside.ensures.declared c.args.compiled.now.line.now)
 
 -- each track reaches to the horizon
 pub track_waves-requires-clause-long : goal.track_waves-requires-clause-long
@@ -41,13 +42,15 @@ of_terminals m terminals horizon all tracks waves same sent count are =
 
 pub new-requires : goal.new-requires
 new-requires c =
-    let n = terminal_count c.args.line.now in
-    let horizon = c.args.line.now.horizon in
+    let n = terminal_count c.args.compiled.now.line.now in
+    let horizon = c.args.compiled.now.line.now.horizon in
     let are_keys = of_terminals _ n horizon _ c.deref-2.result.now c.in_ok-keys.keys.items
-    c.deref-2.ensures.value c.in_ok-tracks.ensures.keys c.requires.terminals c.in_ok-keys.ensures in
+    c.deref-2.ensures.value c.in_ok-tracks.ensures.keys c.args.compiled.now.of_line.terminals
+    c.in_ok-keys.ensures in
     let are_trips = of_terminals _ n horizon _ c.deref-3.result.now c.in_ok-trips.trips.items
     c.deref-3.ensures.value c.in_ok-tracks.ensures.trips
-    (c.requires.laws.same ∙ c.requires.terminals) c.in_ok-trips.ensures in
+    (c.args.compiled.now.of_line.laws.same ∙ c.args.compiled.now.of_line.terminals)
+    c.in_ok-trips.ensures in
     let terminals = c.in_ok-keys.keys.items in
     record {
       keys = are_long (length terminals) n horizon _ c.in_ok-keys.keys.items (sym are_keys.count)
@@ -57,26 +60,30 @@ new-requires c =
     }
 
 keys_are : (c : goal.After-drop-spans-2)
-    → AreWavesOf (terminal_count c.args.line.now) c.args.line.now.horizon
+    → AreWavesOf (terminal_count c.args.compiled.now.line.now) c.args.compiled.now.line.now.horizon
     (track_pairs c.in_ok-tracks.tracks.keys.items) c.in_ok-keys.keys.items
 keys_are c =
-    of_terminals _ (terminal_count c.args.line.now) c.args.line.now.horizon _ c.deref-2.result.now
+    of_terminals _ (terminal_count c.args.compiled.now.line.now)
+    c.args.compiled.now.line.now.horizon _ c.deref-2.result.now
     c.in_ok-keys.keys.items c.deref-2.ensures.value c.in_ok-tracks.ensures.keys
-    c.requires.terminals c.in_ok-keys.ensures
+    c.args.compiled.now.of_line.terminals c.in_ok-keys.ensures
 
 trips_are : (c : goal.After-drop-spans-2)
-    → AreWavesOf (terminal_count c.args.line.now) c.args.line.now.horizon
+    → AreWavesOf (terminal_count c.args.compiled.now.line.now) c.args.compiled.now.line.now.horizon
     (track_pairs c.in_ok-tracks.tracks.trips.items) c.in_ok-trips.trips.items
 trips_are c =
-    of_terminals _ (terminal_count c.args.line.now) c.args.line.now.horizon _ c.deref-3.result.now
+    of_terminals _ (terminal_count c.args.compiled.now.line.now)
+    c.args.compiled.now.line.now.horizon _ c.deref-3.result.now
     c.in_ok-trips.trips.items c.deref-3.ensures.value c.in_ok-tracks.ensures.trips
-    (c.requires.laws.same ∙ c.requires.terminals) c.in_ok-trips.ensures
+    (c.args.compiled.now.of_line.laws.same ∙ c.args.compiled.now.of_line.terminals)
+    c.in_ok-trips.ensures
 
 is_history : (c : goal.After-drop-spans-2)
-    → IsPairHistory c.args.line.now c.args.script.now (declared_box c.args.line.now)
+    → IsPairHistory c.args.compiled.now.line.now c.args.script.now
+    (declared_box c.args.compiled.now.line.now)
     (pair_history c.new.result)
 is_history c =
-    let line = c.args.line.now in
+    let line = c.args.compiled.now.line.now in
     let script = c.args.script.now in
     let n : ℕ = terminal_count line in
     let h : PairHistory = tracks_history (λ x _. tern_rails x) 0
@@ -101,13 +108,16 @@ pub returns-clause-history : goal.returns-clause-history
 returns-clause-history c = record {
   is = is_history c;
   only = λ others is_others.
-      c.each_box_has_one_interval_history.ensures.only c.args.line.now c.args.script.now
-      (declared_box c.args.line.now) (pair_history c.new.result) others
-      (c.each_line_has_a_choice_inside.ensures.declared c.args.line.now) (is_history c) is_others;
+      c.each_box_has_one_interval_history.ensures.only c.args.compiled.now.line.now
+      c.args.script.now
+      (declared_box c.args.compiled.now.line.now) (pair_history c.new.result) others
+      (c.each_line_has_a_choice_inside.ensures.declared c.args.compiled.now.line.now) (is_history c)
+      is_others;
 }
 
 pub returns-clause-covers : goal.returns-clause-covers
 returns-clause-covers c = λ choice h inside is_h.
-    c.a_wider_box_covers.ensures.choices c.args.line.now c.args.script.now
-    (declared_box c.args.line.now) choice (pair_history c.new.result) h
-    (c.each_line_has_a_choice_inside.ensures.declared c.args.line.now) inside (is_history c) is_h
+    c.a_wider_box_covers.ensures.choices c.args.compiled.now.line.now c.args.script.now
+    (declared_box c.args.compiled.now.line.now) choice (pair_history c.new.result) h
+    (c.each_line_has_a_choice_inside.ensures.declared c.args.compiled.now.line.now) inside
+    (is_history c) is_h

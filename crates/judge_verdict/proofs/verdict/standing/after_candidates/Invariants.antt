@@ -6,9 +6,9 @@ use Rattle.judge_verdict.proofs.verdict.standing.after_candidates.Given as goal
 
 abbrev pub invariant-next_block : goal.invariant-next_block
 invariant-next_block l = record {
-  terminals : length l.standings.items ≡ terminal_count l.line;
-  stand : (w : PairHistory) → AllStand l.line l.script w 0 l.fn.by_rules.items
-      → AllStand l.line l.script w l.first l.standings.items;
+  terminals : length l.standings.items ≡ terminal_count l.compiled.line.now;
+  stand : (w : PairHistory) → AllStand l.compiled.line.now l.script w 0 l.fn.by_rules.items
+      → AllStand l.compiled.line.now l.script w l.first l.standings.items;
 }
 
 abbrev pub decreases-next_block : goal.decreases-next_block

@@ -5,13 +5,15 @@ use Rattle.run_changes.proofs.changes.agreeing.agreeing_lanes.Goals as goal
 pub returns : goal.returns
 returns g c = record {
   agreeing = λ lane choice inside point.
-      let line = c.args.line.now in
+      let line = c.args.compiled.now.line.now in
       let script = c.args.script.now in
       let spans = c.args.spans.now in
       let steps = c.args.steps.now in
       only_told c.line_laws.ensures c.gates_stand_for_their_trees.ensures line script
-      (lane_box g.V.Signal.ends line spans steps lane) (c.requires.delayed lane inside) c.args.net.now
-      c.requires.of_line choice point c.args.recorded.now.keys.items c.args.recorded.now.trips.items
+      (lane_box g.V.Signal.ends line spans steps lane) (c.requires.delayed lane inside)
+      c.args.compiled.now.net.now
+      c.args.compiled.now.of_line choice point c.args.recorded.now.keys.items
+      c.args.recorded.now.trips.items
       (g.V.Signal.rails c.take_agreeing-lanes.result lane)
       (c.take_agreeing-lanes.ensures script (c.in_ok-kept.ensures.stands steps) lane inside);
 }

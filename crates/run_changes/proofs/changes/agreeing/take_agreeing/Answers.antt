@@ -19,42 +19,43 @@ loop-t-init g c = record {
   kept = c.requires.kept;
   stands = λ script given. given;
   agree = λ script given lane inside.
-      let line = c.args.line.now in
+      let line = c.args.compiled.now.line.now in
       let ends = g.V.Signal.ends in
       let spans = c.args.spans.now in
       let steps = c.args.steps.now in
       let w : PairWorld = lane_world ends line script spans steps lane in
       let u : GateSignals =
-      line_pairs line script (lane_box ends line spans steps lane) c.args.net.now in
-      before_none (terminal_count line) (the_keys w (key_tree line)) (trips_of c.args.net.now u)
+      line_pairs line script (lane_box ends line spans steps lane) c.args.compiled.now.net.now in
+      before_none (terminal_count line) (the_keys w (key_tree line)) (trips_of
+      c.args.compiled.now.net.now u)
       c.args.recorded.now.keys.items c.args.recorded.now.trips.items
       (g.V.Signal.rails c.known-lanes.result lane) (c.known-lanes.ensures lane inside);
 }
 
 pub agreeing_tracks-keys-requires-clause-tracks : goal.agreeing_tracks-keys-requires-clause-tracks
 agreeing_tracks-keys-requires-clause-tracks g c =
-    let h = c.args.line.now.horizon in
-    let n : length c.args.net.now.keys ≡ terminal_count c.args.line.now =
-    c.requires.can.of_line.terminals in
-    subst (λ (l : List (SentKeys _)). AreSent (terminal_count c.args.line.now) h
+    let h = c.args.compiled.now.line.now.horizon in
+    let n : length c.args.compiled.now.net.now.keys ≡ terminal_count c.args.compiled.now.line.now =
+    c.args.compiled.now.of_line.terminals in
+    subst (λ (l : List (SentKeys _)). AreSent (terminal_count c.args.compiled.now.line.now) h
     (c.loop-t.t + c.take_stretch-stays.result) l) (sym c.as_slice.ensures.value)
     (subst (λ (m : ℕ). AreSent m h (c.loop-t.t + c.take_stretch-stays.result)
     c.take_stretch-stays.new.kept.keys.items) n c.take_stretch-stays.ensures.kept.keys)
 
 pub agreeing_tracks-trips-requires-clause-tracks : goal.agreeing_tracks-trips-requires-clause-tracks
 agreeing_tracks-trips-requires-clause-tracks g c =
-    let h = c.args.line.now.horizon in
-    let n : length c.args.net.now.trips ≡ terminal_count c.args.line.now =
-    c.requires.can.of_line.laws.same ∙ c.requires.can.of_line.terminals in
-    subst (λ (l : List (SentKeys _)). AreSent (terminal_count c.args.line.now) h
+    let h = c.args.compiled.now.line.now.horizon in
+    let n : length c.args.compiled.now.net.now.trips ≡ terminal_count c.args.compiled.now.line.now =
+    c.args.compiled.now.of_line.laws.same ∙ c.args.compiled.now.of_line.terminals in
+    subst (λ (l : List (SentKeys _)). AreSent (terminal_count c.args.compiled.now.line.now) h
     (c.loop-t.t + c.take_stretch-stays.result) l) (sym c.as_slice-in-loop-t-2.ensures.value)
     (subst (λ (m : ℕ). AreSent m h (c.loop-t.t + c.take_stretch-stays.result)
     c.take_stretch-stays.new.kept.trips.items) n c.take_stretch-stays.ensures.kept.trips)
 
 pub loop-t-preserved : goal.loop-t-preserved
 loop-t-preserved g c =
-    let line = c.args.line.now in
-    let net = c.args.net.now in
+    let line = c.args.compiled.now.line.now in
+    let net = c.args.compiled.now.net.now in
     let ends = g.V.Signal.ends in
     let rails = g.V.Signal.rails in
     let spans = c.args.spans.now in
@@ -64,7 +65,7 @@ loop-t-preserved g c =
     let end : ℕ = t + c.take_stretch-stays.result in
     let kept = c.take_stretch-stays.new.kept in
     let recorded = c.args.recorded.now in
-    let of_line = c.requires.can.of_line in
+    let of_line = c.args.compiled.now.of_line in
     record {
       fits = c.take_stretch-stays.ensures.fits;
       kept = c.take_stretch-stays.ensures.kept;
@@ -107,14 +108,15 @@ loop-t-preserved g c =
 
 pub returns-then-not-some_left : goal.returns-then-not-some_left
 returns-then-not-some_left g c = λ script given lane inside.
-    let line = c.args.line.now in
+    let line = c.args.compiled.now.line.now in
     let ends = g.V.Signal.ends in
     let spans = c.args.spans.now in
     let steps = c.args.steps.now in
     let w : PairWorld = lane_world ends line script spans steps lane in
     let u : GateSignals =
-    line_pairs line script (lane_box ends line spans steps lane) c.args.net.now in
-    none_left (terminal_count line) (the_keys w (key_tree line)) (trips_of c.args.net.now u)
+    line_pairs line script (lane_box ends line spans steps lane) c.args.compiled.now.net.now in
+    none_left (terminal_count line) (the_keys w (key_tree line)) (trips_of
+    c.args.compiled.now.net.now u)
     c.args.recorded.now.keys.items c.args.recorded.now.trips.items c.loop-t.t line.horizon
     (g.V.Signal.rails c.loop-t.lanes lane) c.loop-t.invariant.fits
     (c.some_left.ensures c.if-not-some_left.true lane inside)
@@ -122,11 +124,12 @@ returns-then-not-some_left g c = λ script given lane inside.
 
 pub returns : goal.returns
 returns g c = λ script given lane inside.
-    let line = c.args.line.now in
+    let line = c.args.compiled.now.line.now in
     let h = line.horizon in
     let fits : c.loop-t.t ≤ h = c.loop-t.invariant.fits in
     let last : c.loop-t.t ≡ h = omega (arith, fits, c.loop-t-test.false) in
     subst (λ (m : ℕ). IsTrue (g.V.Signal.rails c.loop-t.lanes lane).must
-    ↔ LaneAgrees g.V.Signal.ends line script c.args.spans.now c.args.steps.now c.args.net.now lane
+    ↔ LaneAgrees g.V.Signal.ends line script c.args.spans.now c.args.steps.now
+    c.args.compiled.now.net.now lane
     c.args.recorded.now.keys.items c.args.recorded.now.trips.items m) last
     (c.loop-t.invariant.agree script given lane inside)

@@ -9,21 +9,21 @@ use Rattle.run_changes.proofs.changes.start.fresh_kept.Goals as goal
 
 pub overflow_cast-key_gates : goal.overflow_cast-key_gates
 overflow_cast-key_gates g c =
-    let few = c.args.line.now.two_or_three.1 in
+    let few = c.args.compiled.now.line.now.two_or_three.1 in
     let keys = ap length c.key_gates.ensures in
-    record { fits = omega (arith, keys, c.requires.of_line.terminals, few) }
+    record { fits = omega (arith, keys, c.args.compiled.now.of_line.terminals, few) }
 
 pub overflow_cast-trip_gates : goal.overflow_cast-trip_gates
 overflow_cast-trip_gates g c =
-    let few = c.args.line.now.two_or_three.1 in
-    let net = c.requires.of_line in
+    let few = c.args.compiled.now.line.now.two_or_three.1 in
+    let net = c.args.compiled.now.of_line in
     record {
       fits = omega (arith, ap length c.trip_gates.ensures, net.laws.same, net.terminals, few);
     }
 
 pub returns-clause-can : goal.returns-clause-can
 returns-clause-can g c = λ steps.
-    let h = c.args.line.now.horizon in
+    let h = c.args.compiled.now.line.now.horizon in
     let keys = c.in_ok-keys.keys.items in
     let trips = c.in_ok-trips.trips.items in
     record {
@@ -44,10 +44,10 @@ returns-clause-can g c = λ steps.
 pub returns-clause-stands : goal.returns-clause-stands
 unfolding pair_world_of lane_box
 returns-clause-stands g c = λ steps.
-    let line = c.args.line.now in
+    let line = c.args.compiled.now.line.now in
     let h = line.horizon in
     let rails = g.V.Signal.rails in
-    let net = c.args.net.now in
+    let net = c.args.compiled.now.net.now in
     let p : ℕ → LanePairs =
     λ l. line_lane g.V.Signal.ends line c.args.script.now c.args.spans.now steps net l in
     record {

@@ -29,9 +29,9 @@ use Rattle.run_changes.proofs.changes.stretch.take_stretch.Goals as goal
 pub trace-requires-clause-can : goal.trace-requires-clause-can
 trace-requires-clause-can g c =
     let t = c.args.t in
-    let line = c.args.line.now in
-    let net = c.args.net.now in
-    let of_line = c.requires.can.of_line in
+    let line = c.args.compiled.now.line.now in
+    let net = c.args.compiled.now.net.now in
+    let of_line = c.args.compiled.now.of_line in
     let delays = c.renew_delays.new.delays.list.items in
     record {
       laws = of_line.laws;
@@ -59,15 +59,18 @@ hear-requires-clause-column g c =
 pub hear-requires-clause-moment : goal.hear-requires-clause-moment
 hear-requires-clause-moment g c = record {
   tick = c.requires.tick;
-  delays = subst (CanReceive g.V.Signal.LANES g.V.Signal.ends c.args.line.now)
+  delays = subst (CanReceive g.V.Signal.LANES g.V.Signal.ends c.args.compiled.now.line.now)
       (sym c.as_slice.ensures.value)
-      (can_receive g.V.Signal.LANES g.V.Signal.ends c.args.line.now c.args.spans.now c.args.steps.now
+      (can_receive g.V.Signal.LANES g.V.Signal.ends c.args.compiled.now.line.now c.args.spans.now
+      c.args.steps.now
       c.renew_delays.new.delays.list.items c.args.t c.renew_delays.ensures.delays c.renew_delays.ensures.stand
       c.renew_delays.ensures.set c.requires.tick c.requires.can.delayed);
-  sent = subst (λ l. AreSent (terminal_count c.args.line.now) c.args.line.now.horizon c.args.t l)
+  sent = subst (λ l. AreSent (terminal_count c.args.compiled.now.line.now)
+      c.args.compiled.now.line.now.horizon c.args.t l)
       (sym c.as_slice-2.ensures.value)
-      (subst (λ (m : ℕ). AreSent m c.args.line.now.horizon c.args.t c.args.kept.now.keys.items)
-      c.requires.can.of_line.terminals c.requires.kept.keys);
+      (subst (λ (m : ℕ). AreSent m c.args.compiled.now.line.now.horizon c.args.t
+      c.args.kept.now.keys.items)
+      c.args.compiled.now.of_line.terminals c.requires.kept.keys);
 }
 
 pub hear-requires-clause-soonest : goal.hear-requires-clause-soonest
@@ -92,13 +95,14 @@ quiet_ticks-stays-requires-clause-room g c = c.hear.ensures.marks.room
 pub send_all-requires-clause-gates : goal.send_all-requires-clause-gates
 send_all-requires-clause-gates g c =
     subst (λ ids. AreGatesOf ids (length c.as_slice-4.result.now)) (sym c.key_gates.ensures)
-    (subst (AreGatesOf c.args.net.now.keys)
+    (subst (AreGatesOf c.args.compiled.now.net.now.keys)
     (sym (ap length c.as_slice-4.ensures.value ∙ c.trace.ensures.gates.column))
-    c.requires.can.of_line.laws.keys)
+    c.args.compiled.now.of_line.laws.keys)
 
 pub send_all-requires-clause-sent : goal.send_all-requires-clause-sent
 send_all-requires-clause-sent g c =
-    subst (λ ids. AreSent (length ids) c.args.line.now.horizon c.args.t c.args.kept.now.keys.items)
+    subst (λ ids. AreSent (length ids) c.args.compiled.now.line.now.horizon c.args.t
+    c.args.kept.now.keys.items)
     (sym c.key_gates.ensures) c.requires.kept.keys
 
 pub send_all-requires-clause-room : goal.send_all-requires-clause-room
@@ -114,13 +118,14 @@ send_all-requires-clause-room g c =
 pub send_all-requires-2-clause-gates : goal.send_all-requires-2-clause-gates
 send_all-requires-2-clause-gates g c =
     subst (λ ids. AreGatesOf ids (length c.as_slice-5.result.now)) (sym c.trip_gates.ensures)
-    (subst (AreGatesOf c.args.net.now.trips)
+    (subst (AreGatesOf c.args.compiled.now.net.now.trips)
     (sym (ap length c.as_slice-5.ensures.value ∙ c.trace.ensures.gates.column))
-    c.requires.can.of_line.laws.trips)
+    c.args.compiled.now.of_line.laws.trips)
 
 pub send_all-requires-2-clause-sent : goal.send_all-requires-2-clause-sent
 send_all-requires-2-clause-sent g c =
-    subst (λ ids. AreSent (length ids) c.args.line.now.horizon c.args.t c.args.kept.now.trips.items)
+    subst (λ ids. AreSent (length ids) c.args.compiled.now.line.now.horizon c.args.t
+    c.args.kept.now.trips.items)
     (sym c.trip_gates.ensures) c.requires.kept.trips
 
 pub send_all-requires-2-clause-room : goal.send_all-requires-2-clause-room
@@ -146,8 +151,8 @@ returns-clause-fits g c =
 pub returns-clause-kept : goal.returns-clause-kept
 returns-clause-kept g c =
     let t = c.args.t in
-    let h = c.args.line.now.horizon in
-    let net = c.args.net.now in
+    let h = c.args.compiled.now.line.now.horizon in
+    let net = c.args.compiled.now.net.now in
     let n = c.quiet_ticks-stays.result in
     let at = c.trace.ensures.gates in
     let some : 1 ≤ n = c.quiet_ticks-stays.ensures.some in
@@ -178,11 +183,11 @@ pub returns-clause-stands : goal.returns-clause-stands
 unfolding pair_world_of lane_box
 returns-clause-stands g c = λ script before.
     let t = c.args.t in
-    let line = c.args.line.now in
+    let line = c.args.compiled.now.line.now in
     let spans = c.args.spans.now in
     let steps = c.args.steps.now in
-    let net = c.args.net.now in
-    let of_line = c.requires.can.of_line in
+    let net = c.args.compiled.now.net.now in
+    let of_line = c.args.compiled.now.of_line in
     let ends = g.V.Signal.ends in
     let rails = g.V.Signal.rails in
     let lanes = g.V.Signal.LANES in
@@ -193,7 +198,7 @@ returns-clause-stands g c = λ script before.
     let column = traced.column.items in
     let dues = c.hear.new.dues.items in
     let moment : Moment _ _ _ = record {
-      line = c.args.line;
+      line = c.args.compiled.now.line;
       delays = c.as_slice.result;
       sent = c.as_slice-2.result;
       t = t;

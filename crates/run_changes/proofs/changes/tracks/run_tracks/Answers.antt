@@ -10,31 +10,33 @@ use Rattle.run_changes.proofs.changes.tracks.run_tracks.Goals as goal
 
 pub returns-clause-keys : goal.returns-clause-keys
 returns-clause-keys g c =
-    let h = c.args.line.now.horizon in
+    let h = c.args.compiled.now.line.now.horizon in
     let last : c.take_until.result ≡ h =
     omega (arith, c.take_until.ensures.reached, c.take_until.ensures.fits) in
     subst
-    (λ (m : ℕ). AreSent (length c.args.net.now.keys) h m c.take_until.new.kept.keys.items)
+    (λ (m : ℕ). AreSent (length c.args.compiled.now.net.now.keys) h m
+    c.take_until.new.kept.keys.items)
     last c.take_until.ensures.kept.keys
 
 pub returns-clause-trips : goal.returns-clause-trips
 returns-clause-trips g c =
-    let h = c.args.line.now.horizon in
+    let h = c.args.compiled.now.line.now.horizon in
     let last : c.take_until.result ≡ h =
     omega (arith, c.take_until.ensures.reached, c.take_until.ensures.fits) in
     subst
-    (λ (m : ℕ). AreSent (length c.args.net.now.trips) h m c.take_until.new.kept.trips.items)
+    (λ (m : ℕ). AreSent (length c.args.compiled.now.net.now.trips) h m
+    c.take_until.new.kept.trips.items)
     last c.take_until.ensures.kept.trips
 
 pub returns-clause-history : goal.returns-clause-history
 unfolding pair_world_of lane_box
 returns-clause-history g c = λ lane inside.
-    let line = c.args.line.now in
+    let line = c.args.compiled.now.line.now in
     let script = c.args.script.now in
     let spans = c.args.spans.now in
     let steps = c.args.steps.now in
-    let net = c.args.net.now in
-    let of_line = c.requires.of_line in
+    let net = c.args.compiled.now.net.now in
+    let of_line = c.args.compiled.now.of_line in
     let h = line.horizon in
     let last : c.take_until.result ≡ h =
     omega (arith, c.take_until.ensures.reached, c.take_until.ensures.fits) in
@@ -60,7 +62,8 @@ returns-clause-history g c = λ lane inside.
 
 pub returns-clause-exact : goal.returns-clause-exact
 returns-clause-exact g c = λ lane choice inside point.
-    exact_at c.line_laws.ensures c.args.line.now c.args.script.now _ (c.requires.delayed lane inside) choice point _
+    exact_at c.line_laws.ensures c.args.compiled.now.line.now c.args.script.now _
+    (c.requires.delayed lane inside) choice point _
     (returns-clause-history g c lane inside).is
 
 pub take_until-requires-clause-kept : goal.take_until-requires-clause-kept

@@ -29,12 +29,12 @@ returns-clause-trips g c = record {
 pub returns-clause-exact : goal.returns-clause-exact
 unfolding pair_world_of lane_box
 returns-clause-exact g c = λ lane choice inside point.
-    let line = c.args.line.now in
+    let line = c.args.compiled.now.line.now in
     let script = c.args.script.now in
     let spans = c.args.spans.now in
     let steps = c.args.steps.now in
-    let net = c.args.net.now in
-    let of_line = c.requires.of_line in
+    let net = c.args.compiled.now.net.now in
+    let of_line = c.args.compiled.now.of_line in
     let h = line.horizon in
     let n = c.take_until.result in
     let ends = g.V.Signal.ends in

@@ -23,7 +23,7 @@ run_tracks-requires-clause-ascending c =
 -- the lists that are handed on are the timing's
 pub run_tracks-requires-clause-delayed : goal.run_tracks-requires-clause-delayed
 run_tracks-requires-clause-delayed c =
-    let line = c.args.line.now in
+    let line = c.args.compiled.now.line.now in
     let timing : TimingValues = c.args.timing.now.timing in
     subst (λ (x : List ℕ). AreDelayed 1 ends_of_tick line x c.steps-steps.result.now)
     (sym c.values-values.ensures)
@@ -34,18 +34,21 @@ run_tracks-requires-clause-delayed c =
 pub push_run-requires-clause-keys : goal.push_run-requires-clause-keys
 push_run-requires-clause-keys c =
     subst
-    (λ (n : ℕ). AreSent n c.args.line.now.horizon c.args.line.now.horizon c.in_ok-tracks.tracks.keys.items)
-    c.requires.of_line.terminals c.in_ok-tracks.ensures.keys
+    (λ (n : ℕ). AreSent n c.args.compiled.now.line.now.horizon c.args.compiled.now.line.now.horizon
+    c.in_ok-tracks.tracks.keys.items)
+    c.args.compiled.now.of_line.terminals c.in_ok-tracks.ensures.keys
 
 pub push_run-requires-clause-trips : goal.push_run-requires-clause-trips
 push_run-requires-clause-trips c =
     subst
-    (λ (n : ℕ). AreSent n c.args.line.now.horizon c.args.line.now.horizon c.in_ok-tracks.tracks.trips.items)
-    (c.requires.of_line.laws.same ∙ c.requires.of_line.terminals) c.in_ok-tracks.ensures.trips
+    (λ (n : ℕ). AreSent n c.args.compiled.now.line.now.horizon c.args.compiled.now.line.now.horizon
+    c.in_ok-tracks.tracks.trips.items)
+    (c.args.compiled.now.of_line.laws.same ∙ c.args.compiled.now.of_line.terminals)
+    c.in_ok-tracks.ensures.trips
 
 pub returns : goal.returns
 returns c = λ h is_h.
-    let line = c.args.line.now in
+    let line = c.args.compiled.now.line.now in
     let script = c.args.script.now in
     let timing : TimingValues = c.args.timing.now.timing in
     let choice : Choice = timing_choice line timing in

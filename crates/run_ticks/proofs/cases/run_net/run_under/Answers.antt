@@ -7,13 +7,13 @@ use Rattle.run_ticks.proofs.cases.run_net.run_under.Goals as goal
 
 pub new-requires : goal.new-requires
 new-requires g c =
-    let horizon = c.args.line.now.horizon in
-    let width : c.len.result ≡ length c.args.net.now.gates = c.len.ensures.len in
+    let horizon = c.args.compiled.now.line.now.horizon in
+    let width : c.len.result ≡ length c.args.compiled.now.net.now.gates = c.len.ensures.len in
     record {
       count = c.in_ok-told.ensures.count ∙ ap (λ (m : ℕ). horizon * m) (sym width);
       owns = c.in_ok-told.ensures.own_count ∙ ap (λ (m : ℕ). horizon * m) (sym width);
       narrow = c.len.ensures.few;
-      short = c.args.line.now.horizon_in_range.1;
+      short = c.args.compiled.now.line.now.horizon_in_range.1;
     }
 
 pub returns-clause-width : goal.returns-clause-width
@@ -24,8 +24,8 @@ returns-clause-horizon g c = ap (λ w. w.horizon) c.new.ensures
 
 pub returns-clause-pairs : goal.returns-clause-pairs
 returns-clause-pairs g c = λ lane level keys inside put are.
-    let net = c.args.net.now in
-    let line = c.args.line.now in
+    let net = c.args.compiled.now.net.now in
+    let line = c.args.compiled.now.line.now in
     let n = length net.gates in
     let waves = c.new.result in
     let rails = g.V.Signal.rails in

@@ -49,24 +49,24 @@ fits_once t horizon early = omega (arith, early)
 
 pub fresh_cells-requires : goal.fresh_cells-requires
 fresh_cells-requires g c =
-    record { names = c.requires.of_line.named; spans = c.requires.one_each }
+    record { names = c.args.compiled.now.of_line.named; spans = c.requires.one_each }
 
 pub fresh_delays-requires : goal.fresh_delays-requires
 fresh_delays-requires g c = record { spans = c.requires.one_each }
 
 pub fresh_tracks-requires : goal.fresh_tracks-requires
-fresh_tracks-requires g c = c.args.line.now.horizon_in_range.1
+fresh_tracks-requires g c = c.args.compiled.now.line.now.horizon_in_range.1
 
-pub overflow_mul-line : goal.overflow_mul-line
-overflow_mul-line g c =
-    let most : c.args.line.now.horizon * c.len-width.result ≤ 4000 * 512 =
-    mul-le-mul c.args.line.now.horizon_in_range.1 c.len-width.ensures.few in
+pub overflow_mul-compiled : goal.overflow_mul-compiled
+overflow_mul-compiled g c =
+    let most : c.args.compiled.now.line.now.horizon * c.len-width.result ≤ 4000 * 512 =
+    mul-le-mul c.args.compiled.now.line.now.horizon_in_range.1 c.len-width.ensures.few in
     record { fits = omega (arith, most) }
 
-pub overflow_mul-line-2 : goal.overflow_mul-line-2
-overflow_mul-line-2 g c =
-    let most : c.args.line.now.horizon * c.len-width.result ≤ 4000 * 512 =
-    mul-le-mul c.args.line.now.horizon_in_range.1 c.len-width.ensures.few in
+pub overflow_mul-compiled-2 : goal.overflow_mul-compiled-2
+overflow_mul-compiled-2 g c =
+    let most : c.args.compiled.now.line.now.horizon * c.len-width.result ≤ 4000 * 512 =
+    mul-le-mul c.args.compiled.now.line.now.horizon_in_range.1 c.len-width.ensures.few in
     record { fits = omega (arith, most) }
 
 pub overflow_cast-key_gates : goal.overflow_cast-key_gates
@@ -75,20 +75,20 @@ overflow_cast-key_gates g c =
       fits = omega (
         arith,
         ap length c.key_gates.ensures,
-        c.requires.of_line.terminals,
-        c.args.line.now.two_or_three.1,
+        c.args.compiled.now.of_line.terminals,
+        c.args.compiled.now.line.now.two_or_three.1,
       );
     }
 
 pub loop-t-init : goal.loop-t-init
 unfolding pair_world_of
 loop-t-init g c =
-    let line = c.args.line.now in
-    let net = c.args.net.now in
+    let line = c.args.compiled.now.line.now in
+    let net = c.args.compiled.now.net.now in
     let n = length net.gates in
     let count = length c.key_gates.result.now in
     let all : count ≡ terminal_count line =
-    ap length c.key_gates.ensures ∙ c.requires.of_line.terminals in
+    ap length c.key_gates.ensures ∙ c.args.compiled.now.of_line.terminals in
     let width : c.len-width.result ≡ n = c.len-width.ensures.len in
     let all_ticks : line.horizon * c.len-width.result ≡ line.horizon * n =
     ap (λ (m : ℕ). line.horizon * m) width in
@@ -135,7 +135,7 @@ pub walk-requires-clause-own_room : goal.walk-requires-clause-own_room
 walk-requires-clause-own_room g c = c.loop-t.invariant.own_column_room
 
 pub walk-requires-clause-names : goal.walk-requires-clause-names
-walk-requires-clause-names g c = c.requires.of_line.named
+walk-requires-clause-names g c = c.args.compiled.now.of_line.named
 
 pub walk-requires-clause-cells : goal.walk-requires-clause-cells
 walk-requires-clause-cells g c = c.loop-t.invariant.cells
@@ -148,41 +148,41 @@ walk-requires-clause-tick g c = c.loop-t-test.true
 
 pub walk-requires-clause-sent : goal.walk-requires-clause-sent
 walk-requires-clause-sent g c =
-    let line = c.args.line.now in
+    let line = c.args.compiled.now.line.now in
     subst (AreSent (terminal_count line) line.horizon c.loop-t.t)
     (sym c.as_slice-in-loop-t-2.ensures.value) c.loop-t.invariant.sent
 
 pub walk-requires-clause-delays : goal.walk-requires-clause-delays
 walk-requires-clause-delays g c =
-    let line = c.args.line.now in
+    let line = c.args.compiled.now.line.now in
     subst (CanReceive g.V.Signal.LANES g.V.Signal.ends line) (sym c.as_slice-in-loop-t.ensures.value)
     (can_receive g.V.Signal.ends line c.args.spans.now c.in_ok-delays.delays.items
     c.in_ok-delays.ensures g.V.Signal.LANES c.loop-t.t c.loop-t-test.true c.requires.delayed)
 
 pub send_all-requires-clause-gates : goal.send_all-requires-clause-gates
 send_all-requires-clause-gates g c =
-    let net = c.args.net.now in
+    let net = c.args.compiled.now.net.now in
     let wide : length c.as_slice-in-loop-t-3.result.now ≡ length net.gates =
     ap length c.as_slice-in-loop-t-3.ensures.value ∙ c.walk.ensures.count in
     subst (λ ids. AreGatesOf ids (length c.as_slice-in-loop-t-3.result.now))
     (sym c.key_gates-in-loop-t.ensures)
-    (subst (λ (n : ℕ). AreGatesOf net.keys n) (sym wide) c.requires.of_line.laws.keys)
+    (subst (λ (n : ℕ). AreGatesOf net.keys n) (sym wide) c.args.compiled.now.of_line.laws.keys)
 
 pub send_all-requires-clause-room : goal.send_all-requires-clause-room
 send_all-requires-clause-room g c =
-    fits_once c.loop-t.t c.args.line.now.horizon c.loop-t-test.true
+    fits_once c.loop-t.t c.args.compiled.now.line.now.horizon c.loop-t-test.true
 
 pub send_all-requires-clause-sent : goal.send_all-requires-clause-sent
 send_all-requires-clause-sent g c =
-    subst (λ (m : ℕ). AreSent m c.args.line.now.horizon c.loop-t.t c.loop-t.sent.items)
-    (sym (ap length c.key_gates-in-loop-t.ensures ∙ c.requires.of_line.terminals))
+    subst (λ (m : ℕ). AreSent m c.args.compiled.now.line.now.horizon c.loop-t.t c.loop-t.sent.items)
+    (sym (ap length c.key_gates-in-loop-t.ensures ∙ c.args.compiled.now.of_line.terminals))
     c.loop-t.invariant.sent
 
 pub loop-t-preserved : goal.loop-t-preserved
 loop-t-preserved g c =
     let t = c.loop-t.t in
-    let net = c.args.net.now in
-    let line = c.args.line.now in
+    let net = c.args.compiled.now.net.now in
+    let line = c.args.compiled.now.line.now in
     let script = c.args.script.now in
     let spans = c.args.spans.now in
     let ends = g.V.Signal.ends in
@@ -224,7 +224,7 @@ loop-t-preserved g c =
       cells = c.walk.ensures.cells;
       sent =
           subst (λ (m : ℕ). AreSent m line.horizon (t + 1) c.send_all.new.tracks.items)
-          (ap length c.key_gates-in-loop-t.ensures ∙ c.requires.of_line.terminals)
+          (ap length c.key_gates-in-loop-t.ensures ∙ c.args.compiled.now.of_line.terminals)
           c.send_all.ensures.count;
       lanes = λ lane level keys inside put are.
           let w : PairWorld = pair_world_of line script (span_box ends line spans lane) in
@@ -239,7 +239,7 @@ loop-t-preserved g c =
           record {
             told = gates_told (level lane) w keys (put.timers lane inside)
                 c.gates_stand_for_their_trees.ensures.kinds net.gates t
-                c.requires.of_line.laws.gates;
+                c.args.compiled.now.of_line.laws.gates;
             sent = sent;
             stand = before.cells_stand;
           } in
@@ -256,8 +256,9 @@ loop-t-preserved g c =
           subst (ValuesAgree rails lane u t) (sym c.as_slice-in-loop-t-3.ensures.value) agree.0 in
           let are_keys : (k : ℕ) → k < length net.keys → u (key_of net k) t ≡ keys k t =
           λ k kn. let kn' : k < terminal_count line =
-          subst (λ (m : ℕ). k < m) c.requires.of_line.terminals kn in
-          ap (λ (x : Tree). pair_under (level lane) w keys x t) (c.requires.of_line.keys k kn')
+          subst (λ (m : ℕ). k < m) c.args.compiled.now.of_line.terminals kn in
+          ap (λ (x : Tree). pair_under (level lane) w keys x t) (c.args.compiled.now.of_line.keys k
+          kn')
           ∙ sym (are k t kn' c.loop-t-test.true) in
           subst (λ (m : ℕ). LaneStands g.V.Timed.stands_for ends rails lane w keys u v m
           net.gates c.send_all.new.tracks.items c.walk.new.cells.items
@@ -281,26 +282,30 @@ loop-t-preserved g c =
 
 pub extend_within-requires : goal.extend_within-requires
 extend_within-requires g c =
-    tick_has_room c.loop-t.t c.args.line.now.horizon (length c.args.net.now.gates) _ _ _ _
+    tick_has_room c.loop-t.t c.args.compiled.now.line.now.horizon (length
+    c.args.compiled.now.net.now.gates) _ _ _ _
     c.loop-t-test.true c.loop-t.invariant.own_count
     (ap length c.as_slice-in-loop-t-4.ensures.value) c.walk.ensures.own_count
     c.loop-t.invariant.owns_room
 
 pub extend_within-requires-in-loop-t : goal.extend_within-requires-in-loop-t
 extend_within-requires-in-loop-t g c =
-    tick_has_room c.loop-t.t c.args.line.now.horizon (length c.args.net.now.gates) _ _ _ _
+    tick_has_room c.loop-t.t c.args.compiled.now.line.now.horizon (length
+    c.args.compiled.now.net.now.gates) _ _ _ _
     c.loop-t-test.true c.loop-t.invariant.count
     (ap length c.as_slice-in-loop-t-5.ensures.value) c.walk.ensures.count
     c.loop-t.invariant.values_room
 
 pub returns-clause-count : goal.returns-clause-count
 returns-clause-count g c =
-    all_told c.loop-t.t c.args.line.now.horizon (length c.args.net.now.gates) _
+    all_told c.loop-t.t c.args.compiled.now.line.now.horizon (length
+    c.args.compiled.now.net.now.gates) _
     c.loop-t-test.false c.loop-t.auto.t-end c.loop-t.invariant.count
 
 pub returns-clause-own_count : goal.returns-clause-own_count
 returns-clause-own_count g c =
-    all_told c.loop-t.t c.args.line.now.horizon (length c.args.net.now.gates) _
+    all_told c.loop-t.t c.args.compiled.now.line.now.horizon (length
+    c.args.compiled.now.net.now.gates) _
     c.loop-t-test.false c.loop-t.auto.t-end c.loop-t.invariant.own_count
 
 pub returns-clause-told : goal.returns-clause-told

@@ -10,21 +10,24 @@ use Rattle.run_ticks.proofs.cases.ticks.run_ticks.Given as goal
 
 abbrev pub invariant-loop-t : goal.invariant-loop-t
 invariant-loop-t g l =
-    let gates = l.net.gates in
-    let w = λ (lane : ℕ). pair_world_of l.line l.script (span_box g.V.Signal.ends l.line l.spans lane) in
+    let gates = l.compiled.net.now.gates in
+    let w = λ (lane : ℕ). pair_world_of l.compiled.line.now l.script (span_box g.V.Signal.ends
+    l.compiled.line.now l.spans lane) in
     record {
       count : length l.values.items ≡ l.t * length gates;
       own_count : length l.owns.items ≡ l.t * length gates;
       column_room : length gates ≤ vec_capacity l.column;
       own_column_room : length gates ≤ vec_capacity l.own_column;
       present_room : length l.script.spans.items ≤ vec_capacity l.present;
-      values_room : l.line.horizon * length gates ≤ vec_capacity l.values;
-      owns_room : l.line.horizon * length gates ≤ vec_capacity l.owns;
+      values_room : l.compiled.line.now.horizon * length gates ≤ vec_capacity l.values;
+      owns_room : l.compiled.line.now.horizon * length gates ≤ vec_capacity l.owns;
       cells : HaveCells gates l.cells.items;
-      sent : AreSent (terminal_count l.line) l.line.horizon l.t l.sent.items;
+      sent : AreSent (terminal_count l.compiled.line.now) l.compiled.line.now.horizon l.t
+          l.sent.items;
       lanes : (lane : ℕ) (level : Levels) (keys : PairSignals) → lane < g.V.Signal.LANES
-          → PutUnder g.V.Signal.rails g.V.Signal.LANES level l.line l.net l.masks
-          → AreKeysUnder l.line (level lane) (w lane) keys
+          → PutUnder g.V.Signal.rails g.V.Signal.LANES level l.compiled.line.now l.compiled.net.now
+          l.masks
+          → AreKeysUnder l.compiled.line.now (level lane) (w lane) keys
           → LaneStands g.V.Timed.stands_for g.V.Signal.ends g.V.Signal.rails lane (w lane) keys
           (under_pairs (level lane) (w lane) keys gates) (own_pairs (level lane) (w lane) keys gates)
           l.t gates l.sent.items l.cells.items l.values.items l.owns.items;

@@ -13,13 +13,14 @@ use Rattle.run_ticks.proofs.net.run_net.run.Goals.{In_ok-values}
 abbrev made : (g : Over) → In_ok-values g → WavesOf g.row.V.Denot
 made g c = record {
   width = c.len-width.result;
-  horizon = c.args.line.now.horizon;
+  horizon = c.args.compiled.now.line.now.horizon;
   values = c.in_ok-values.values.items;
   keys = c.in_ok-keys.keys.items;
   trips = c.in_ok-trips.trips.items;
 }
 
-made_of : (g : Over) (c : In_ok-values g) → AreWavesOf c.args.net.now c.args.line.now (made g c)
+made_of : (g : Over) (c : In_ok-values g) → AreWavesOf c.args.compiled.now.net.now
+    c.args.compiled.now.line.now (made g c)
 made_of g c = record {
   width = c.len-width.ensures.len;
   horizon = refl;
@@ -29,18 +30,19 @@ made_of g c = record {
 
 pub new-requires : goal.new-requires
 new-requires g c =
-    made_waves c.args.line.now c.args.net.now (made g c) c.requires.of_line.laws
-    c.args.line.now.horizon_in_range.1 (made_of g c) c.in_ok-values.ensures.count
+    made_waves c.args.compiled.now.line.now c.args.compiled.now.net.now (made g c)
+    c.args.compiled.now.of_line.laws
+    c.args.compiled.now.line.now.horizon_in_range.1 (made_of g c) c.in_ok-values.ensures.count
 
 pub returns-clause-waves : goal.returns-clause-waves
 returns-clause-waves g c =
-    subst (AreWavesOf c.args.net.now c.args.line.now) (sym c.new.ensures)
+    subst (AreWavesOf c.args.compiled.now.net.now c.args.compiled.now.line.now) (sym c.new.ensures)
     (made_of g (goal.at.returns-clause-waves g c).In_ok-values)
 
 pub returns-clause-pairs : goal.returns-clause-pairs
 returns-clause-pairs g c = λ lane inside.
-    let net = c.args.net.now in
-    let line = c.args.line.now in
+    let net = c.args.compiled.now.net.now in
+    let line = c.args.compiled.now.line.now in
     let script = c.args.script.now in
     let waves : WavesOf g.row.V.Denot = c.new.result in
     let of : AreWavesOf net line waves = returns-clause-waves g c in
@@ -49,28 +51,33 @@ returns-clause-pairs g c = λ lane inside.
     let count : length waves.values ≡ line.horizon * length net.gates =
     ap length values ∙ c.in_ok-values.ensures.count in
     let are : AreWaves waves =
-    made_waves line net waves c.requires.of_line.laws line.horizon_in_range.1 of count in
+    made_waves line net waves c.args.compiled.now.of_line.laws line.horizon_in_range.1 of count in
     let box : Box = lane_box g.V.Signal.ends line c.args.spans.now c.args.steps.now lane in
-    run_pairs c.line_laws.ensures c.gates_stand_for_their_trees.ensures line script box (c.requires.delayed lane inside) net c.requires.of_line
+    run_pairs c.line_laws.ensures c.gates_stand_for_their_trees.ensures line script box
+    (c.requires.delayed lane inside) net c.args.compiled.now.of_line
     g.V.Signal.rails lane waves of are
     (subst (ValuesTold g.V.Signal.rails lane (line_pairs line script box net) (length net.gates))
     (sym values) (c.in_ok-values.ensures.told lane inside))
 
 pub returns-clause-history : goal.returns-clause-history
 returns-clause-history g c = λ lane inside.
-    run_history c.line_laws.ensures c.gates_stand_for_their_trees.ensures c.args.line.now c.args.script.now _ (c.requires.delayed lane inside)
-    c.args.net.now c.requires.of_line g.V.Signal.rails lane c.new.result
+    run_history c.line_laws.ensures c.gates_stand_for_their_trees.ensures
+    c.args.compiled.now.line.now c.args.script.now _ (c.requires.delayed lane inside)
+    c.args.compiled.now.net.now c.args.compiled.now.of_line g.V.Signal.rails lane c.new.result
     (returns-clause-waves g c) (returns-clause-pairs g c lane inside)
 
 pub returns-clause-covers : goal.returns-clause-covers
 returns-clause-covers g c = λ lane inside.
-    run_covers c.line_laws.ensures c.gates_stand_for_their_trees.ensures c.args.line.now c.args.script.now _ (c.requires.delayed lane inside)
-    c.args.net.now c.requires.of_line g.V.Signal.rails lane c.new.result
+    run_covers c.line_laws.ensures c.gates_stand_for_their_trees.ensures
+    c.args.compiled.now.line.now c.args.script.now _ (c.requires.delayed lane inside)
+    c.args.compiled.now.net.now c.args.compiled.now.of_line g.V.Signal.rails lane c.new.result
     (returns-clause-waves g c) (returns-clause-pairs g c lane inside)
 
 pub returns-clause-exact : goal.returns-clause-exact
 returns-clause-exact g c = λ lane choice inside point.
-    exact_at c.line_laws.ensures c.args.line.now c.args.script.now _ (c.requires.delayed lane inside) choice point _
-    (own_history c.line_laws.ensures c.gates_stand_for_their_trees.ensures c.args.line.now c.args.script.now _ (c.requires.delayed lane inside)
-    c.args.net.now c.requires.of_line g.V.Signal.rails lane c.new.result
+    exact_at c.line_laws.ensures c.args.compiled.now.line.now c.args.script.now _
+    (c.requires.delayed lane inside) choice point _
+    (own_history c.line_laws.ensures c.gates_stand_for_their_trees.ensures
+    c.args.compiled.now.line.now c.args.script.now _ (c.requires.delayed lane inside)
+    c.args.compiled.now.net.now c.args.compiled.now.of_line g.V.Signal.rails lane c.new.result
     (returns-clause-waves g c) (returns-clause-pairs g c lane inside))

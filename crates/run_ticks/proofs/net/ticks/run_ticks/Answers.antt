@@ -22,12 +22,12 @@ use Rattle.run_step.specs.{GatePairLaws.gate_pairs-kind, RunLaws.key_pair}
 use Rattle.run_ticks.proofs.net.ticks.run_ticks.Goals as goal
 
 pub fresh_tracks-requires : goal.fresh_tracks-requires
-fresh_tracks-requires g c = c.args.line.now.horizon_in_range.1
+fresh_tracks-requires g c = c.args.compiled.now.line.now.horizon_in_range.1
 
-pub overflow_mul-line : goal.overflow_mul-line
-overflow_mul-line g c =
-    let most : c.args.line.now.horizon * c.len-width.result ≤ 4000 * 512 =
-    mul-le-mul c.args.line.now.horizon_in_range.1 c.len-width.ensures.few in
+pub overflow_mul-compiled : goal.overflow_mul-compiled
+overflow_mul-compiled g c =
+    let most : c.args.compiled.now.line.now.horizon * c.len-width.result ≤ 4000 * 512 =
+    mul-le-mul c.args.compiled.now.line.now.horizon_in_range.1 c.len-width.ensures.few in
     record { fits = omega (arith, most) }
 
 pub overflow_cast-key_gates : goal.overflow_cast-key_gates
@@ -36,20 +36,20 @@ overflow_cast-key_gates g c =
       fits = omega (
         arith,
         ap length c.key_gates.ensures,
-        c.requires.of_line.terminals,
-        c.args.line.now.two_or_three.1,
+        c.args.compiled.now.of_line.terminals,
+        c.args.compiled.now.line.now.two_or_three.1,
       );
     }
 
 pub loop-t-init : goal.loop-t-init
 unfolding pair_world_of lane_box
 loop-t-init g c =
-    let line = c.args.line.now in
-    let net = c.args.net.now in
+    let line = c.args.compiled.now.line.now in
+    let net = c.args.compiled.now.net.now in
     let n = length net.gates in
     let count = length c.key_gates.result.now in
     let all : count ≡ terminal_count line =
-    ap length c.key_gates.ensures ∙ c.requires.of_line.terminals in
+    ap length c.key_gates.ensures ∙ c.args.compiled.now.of_line.terminals in
     let width : c.len-width.result ≡ n = c.len-width.ensures.len in
     let column : vec_capacity c.in_ok-column.column ≡ c.len-width.result =
     c.in_ok-column.ensures.exact in
@@ -94,7 +94,7 @@ turn-requires-clause-ascending g c = c.requires.ascending
 
 pub turn-requires-clause-early : goal.turn-requires-clause-early
 turn-requires-clause-early g c =
-    omega (arith, c.loop-t-test.true, c.args.line.now.horizon_in_range.1)
+    omega (arith, c.loop-t-test.true, c.args.compiled.now.line.now.horizon_in_range.1)
 
 pub turn-requires-clause-delays : goal.turn-requires-clause-delays
 turn-requires-clause-delays g c = c.loop-t.invariant.delays
@@ -106,14 +106,14 @@ pub walk-requires-clause-room : goal.walk-requires-clause-room
 walk-requires-clause-room g c = c.loop-t.invariant.column_room
 
 pub walk-requires-clause-names : goal.walk-requires-clause-names
-walk-requires-clause-names g c = c.requires.of_line.named
+walk-requires-clause-names g c = c.args.compiled.now.of_line.named
 
 pub walk-requires-clause-cells : goal.walk-requires-clause-cells
 walk-requires-clause-cells g c = c.loop-t.invariant.cells
 
 pub walk-requires-clause-moment : goal.walk-requires-clause-moment
 walk-requires-clause-moment g c =
-    let line = c.args.line.now in
+    let line = c.args.compiled.now.line.now in
     record {
       tick = c.loop-t-test.true;
       delays = subst (CanReceive g.V.Signal.LANES g.V.Signal.ends line)
@@ -127,27 +127,27 @@ walk-requires-clause-moment g c =
 
 pub send_all-requires-clause-gates : goal.send_all-requires-clause-gates
 send_all-requires-clause-gates g c =
-    let net = c.args.net.now in
+    let net = c.args.compiled.now.net.now in
     let wide : length c.as_slice-in-loop-t-2.result.now ≡ length net.gates =
     ap length c.as_slice-in-loop-t-2.ensures.value ∙ c.walk.ensures.count in
     subst (λ ids. AreGatesOf ids (length c.as_slice-in-loop-t-2.result.now))
     (sym c.key_gates-in-loop-t.ensures)
-    (subst (λ (n : ℕ). AreGatesOf net.keys n) (sym wide) c.requires.of_line.laws.keys)
+    (subst (λ (n : ℕ). AreGatesOf net.keys n) (sym wide) c.args.compiled.now.of_line.laws.keys)
 
 pub send_all-requires-clause-room : goal.send_all-requires-clause-room
 send_all-requires-clause-room g c = omega (arith, c.loop-t-test.true)
 
 pub send_all-requires-clause-sent : goal.send_all-requires-clause-sent
 send_all-requires-clause-sent g c =
-    subst (λ (m : ℕ). AreSent m c.args.line.now.horizon c.loop-t.t c.loop-t.sent.items)
-    (sym (ap length c.key_gates-in-loop-t.ensures ∙ c.requires.of_line.terminals))
+    subst (λ (m : ℕ). AreSent m c.args.compiled.now.line.now.horizon c.loop-t.t c.loop-t.sent.items)
+    (sym (ap length c.key_gates-in-loop-t.ensures ∙ c.args.compiled.now.of_line.terminals))
     c.loop-t.invariant.sent
 
 pub loop-t-preserved : goal.loop-t-preserved
 loop-t-preserved g c =
     let t = c.loop-t.t in
-    let net = c.args.net.now in
-    let line = c.args.line.now in
+    let net = c.args.compiled.now.net.now in
+    let line = c.args.compiled.now.line.now in
     let script = c.args.script.now in
     let spans = c.args.spans.now in
     let steps = c.args.steps.now in
@@ -178,7 +178,7 @@ loop-t-preserved g c =
       cells = c.walk.ensures.cells;
       sent =
           subst (λ (m : ℕ). AreSent m line.horizon (t + 1) c.send_all.new.tracks.items)
-          (ap length c.key_gates-in-loop-t.ensures ∙ c.requires.of_line.terminals)
+          (ap length c.key_gates-in-loop-t.ensures ∙ c.args.compiled.now.of_line.terminals)
           c.send_all.ensures.count;
       lanes = λ lane inside.
           let w : PairWorld = lane_world ends line script spans steps lane in
@@ -188,7 +188,7 @@ loop-t-preserved g c =
           let before = c.loop-t.invariant.lanes lane inside in
           let told : AreTold w keys u t net.gates =
           λ i gate at. gate_pairs-kind c.gates_stand_for_their_trees.ensures.kinds w keys net.gates
-          i gate t c.requires.of_line.laws.gates at in
+          i gate t c.args.compiled.now.of_line.laws.gates at in
           let sent : KeysSent rails lane keys t c.as_slice-in-loop-t.result.now =
           subst (KeysSent rails lane keys t) (sym c.as_slice-in-loop-t.ensures.value) before.keys_sent in
           let ready : IsReady g.V.Timed.stands_for ends rails lane w keys u t net.gates
@@ -209,8 +209,8 @@ loop-t-preserved g c =
           subst (ValuesAgree rails lane u t) (sym c.as_slice-in-loop-t-2.ensures.value) agree in
           let are_keys : (k : ℕ) → k < length net.keys → u (key_of net k) t ≡ keys k t =
           λ k kn. key_pair c.line_laws.ensures c.gates_stand_for_their_trees.ensures line script
-          box (c.requires.delayed lane inside) net c.requires.of_line k t
-          (subst (λ (m : ℕ). k < m) c.requires.of_line.terminals kn) c.loop-t-test.true in
+          box (c.requires.delayed lane inside) net c.args.compiled.now.of_line k t
+          (subst (λ (m : ℕ). k < m) c.args.compiled.now.of_line.terminals kn) c.loop-t-test.true in
           subst (λ (m : ℕ). LaneStands g.V.Timed.stands_for ends rails lane w keys u m
           net.gates c.send_all.new.tracks.items c.walk.new.cells.items
           c.extend_within.new.list.items) next
@@ -229,23 +229,23 @@ loop-t-preserved g c =
 
 pub extend_within-requires : goal.extend_within-requires
 extend_within-requires g c =
-    let n = length c.args.net.now.gates in
+    let n = length c.args.compiled.now.net.now.gates in
     let long : length c.loop-t.values.items ≡ c.loop-t.t * n = c.loop-t.invariant.count in
     let wide : length c.walk.new.column.items ≡ n = c.walk.ensures.count in
     let same : length c.as_slice-in-loop-t-3.result.now ≡ length c.walk.new.column.items =
     ap length c.as_slice-in-loop-t-3.ensures.value in
-    let room : c.args.line.now.horizon * n ≤ vec_capacity c.loop-t.values =
+    let room : c.args.compiled.now.line.now.horizon * n ≤ vec_capacity c.loop-t.values =
     c.loop-t.invariant.values_room in
-    let fits : c.loop-t.t * n + n ≤ c.args.line.now.horizon * n =
-    tick_fits c.loop-t.t c.args.line.now.horizon n c.loop-t-test.true in
+    let fits : c.loop-t.t * n + n ≤ c.args.compiled.now.line.now.horizon * n =
+    tick_fits c.loop-t.t c.args.compiled.now.line.now.horizon n c.loop-t-test.true in
     omega (arith, long, wide, same, room, fits)
 
 pub returns-clause-count : goal.returns-clause-count
 returns-clause-count g c =
-    let over : c.args.line.now.horizon ≤ c.loop-t.t = c.loop-t-test.false in
-    let under : c.loop-t.t ≤ c.args.line.now.horizon = c.loop-t.auto.t-end in
-    let last : c.loop-t.t ≡ c.args.line.now.horizon = omega arith in
-    c.loop-t.invariant.count ∙ ap (λ (m : ℕ). m * length c.args.net.now.gates) last
+    let over : c.args.compiled.now.line.now.horizon ≤ c.loop-t.t = c.loop-t-test.false in
+    let under : c.loop-t.t ≤ c.args.compiled.now.line.now.horizon = c.loop-t.auto.t-end in
+    let last : c.loop-t.t ≡ c.args.compiled.now.line.now.horizon = omega arith in
+    c.loop-t.invariant.count ∙ ap (λ (m : ℕ). m * length c.args.compiled.now.net.now.gates) last
 
 pub returns-clause-told : goal.returns-clause-told
 returns-clause-told g c = λ lane inside. (c.loop-t.invariant.lanes lane inside).told

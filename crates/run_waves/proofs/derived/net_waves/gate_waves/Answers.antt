@@ -10,9 +10,9 @@ use Rattle.run_waves.proofs.derived.net_waves.gate_waves.Goals as goal
 
 pub loop-i-preserved : goal.loop-i-preserved
 loop-i-preserved c =
-    let line = c.args.line.now in
+    let line = c.args.compiled.now.line.now in
     let i : ℕ = c.loop-i.i in
-    let gates = c.args.net.now.gates in
+    let gates = c.args.compiled.now.net.now.gates in
     let waves : List (List Tern) = c.loop-i.waves.items in
     let new : List (List Tern) = c.push.new.self.items in
     let wave : List Tern = c.in_ok-wave.wave in
@@ -26,7 +26,8 @@ loop-i-preserved c =
     (λ t. kind_pair w keys (pairs_of l) c.gate-gate.result.now t)) c.as_slice.ensures.value
     c.in_ok-wave.ensures in
     let now : IsWaveOf wave line.horizon (value i) =
-    tree_wave c.rails_read_the_past.ensures c.gates_have_their_kind.ensures w keys gates c.requires.of_line.laws.gates waves i line.horizon
+    tree_wave c.rails_read_the_past.ensures c.gates_have_their_kind.ensures w keys gates
+    c.args.compiled.now.of_line.laws.gates waves i line.horizon
     c.loop-i.invariant.each c.gate-gate.result.now wave c.gate-gate.ensures.is kind in
     record {
       many = omega (

@@ -9,7 +9,8 @@ use Rattle.run_waves.proofs.derived.net_waves.gate_waves.Given as goal
 abbrev pub invariant-loop-i : goal.invariant-loop-i
 invariant-loop-i l = record {
   many : length l.waves.items ≡ l.i;
-  each : (gate : ℕ) → gate < l.i → IsWaveOf (get_or l.waves.items gate []) l.line.horizon
-      (λ t. pair_mean (declared_world l.line l.script) (pairs_of l.keys)
-      (formula_of l.net.gates gate) t);
+  each : (gate : ℕ) → gate < l.i → IsWaveOf (get_or l.waves.items gate [])
+      l.compiled.line.now.horizon
+      (λ t. pair_mean (declared_world l.compiled.line.now l.script) (pairs_of l.keys)
+      (formula_of l.compiled.net.now.gates gate) t);
 }

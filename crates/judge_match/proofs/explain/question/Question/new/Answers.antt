@@ -6,11 +6,10 @@ use Rattle.judge_match.proofs.explain.question.Question.new.Goals as goal
 
 pub returns-clause-question : goal.returns-clause-question
 returns-clause-question c = record {
-  of_line = c.requires.of_line;
-  keys = subst (λ (xs : List (List Tern)). AreRecorded c.args.line.now c.args.within
+  keys = subst (λ (xs : List (List Tern)). AreRecorded c.args.compiled.now.line.now c.args.within
       (λ k t. (pairs_of xs k t).must) c.in_ok-keys.keys.items) c.deref.ensures.value
       c.in_ok-keys.ensures;
-  trips = subst (λ (xs : List (List Tern)). AreRecorded c.args.line.now c.args.within
+  trips = subst (λ (xs : List (List Tern)). AreRecorded c.args.compiled.now.line.now c.args.within
       (λ k t. (pairs_of xs k t).must) c.in_ok-trips.trips.items) c.deref-2.ensures.value
       c.in_ok-trips.ensures;
 }
